@@ -1,0 +1,5 @@
+pub mod Bijection
+pub mod CallWords
+pub mod Halves
+pub mod Numerals
+pub mod Written

@@ -1,0 +1,42 @@
+-- The parts of an answer (Linux uapi seccomp.h), and which of two answers goes first (seccomp(2)).
+use Rattle.std.specs.Prelude.{ℕ, ℤ, ◌+◌, ◌*◌, ◌/◌, ◌%◌, ◌^◌, ◌==◌, List, [], ◌∷◌, unwrap_or}
+use Rattle.std.specs.List.{find}
+use Rattle.std.specs.Int.{w16, cast_signed}
+use Rattle.scf_insn.specs.declared.answer.Action.{Action}
+use Rattle.scf_insn.specs.declared.answer.Action.TheVariants.{KillProcess, KillThread, Trap, Errno, UserNotif, Trace, Log, Allow, Other}
+
+-- the high half, which names the action
+abbrev pub action_half : ℕ → ℕ
+action_half answer = answer / 2 ^ 16
+
+-- the low half, the data
+abbrev pub data_half : ℕ → ℕ
+data_half answer = answer % 2 ^ 16
+
+-- the high half of an action
+abbrev pub half_of : Action → ℕ
+half_of KillProcess = 0x8000
+half_of KillThread = 0x0000
+half_of Trap = 0x0003
+half_of Errno = 0x0005
+half_of UserNotif = 0x7fc0
+half_of Trace = 0x7ff0
+half_of Log = 0x7ffc
+half_of Allow = 0x7fff
+half_of (Other half) = half
+
+-- the actions that have a name, in the order of precedence
+abbrev pub named_actions : List Action
+named_actions = KillProcess ∷ KillThread ∷ Trap ∷ Errno ∷ UserNotif ∷ Trace ∷ Log ∷ Allow ∷ []
+
+-- the action that a high half names
+abbrev pub action_of : ℕ → Action
+action_of half = unwrap_or (find (λ action. half == half_of action) named_actions) (Other half)
+
+-- the answer of an action with its data
+abbrev pub answer_of : Action → ℕ → ℕ
+answer_of action detail = half_of action * 2 ^ 16 + detail
+
+-- the high half read as a signed number: the least goes first
+abbrev pub rank_of : ℕ → ℤ
+rank_of answer = cast_signed w16 (action_half answer)

@@ -1,0 +1,110 @@
+//! Instructions in a file (Linux uapi filter.h): 8 bytes each, one after another.
+
+ghost use Rattle.std.specs.Prelude.{◌≡◌, ◌≢◌, ◌%◌, Err, length, IfOk, OnOk, IfSome};
+ghost use Rattle.std.specs.Io.KnownBytes.{IsAtEnd};
+ghost use Rattle.scf_insn.specs.Insn.{program_bytes};
+ghost use Rattle.scf_insn.specs.Streams.{HasFailed, Writes};
+ghost use Rattle.scf_insn.specs.Readings.{IsReading};
+
+use crate::input::{InputFault, read_input};
+use crate::insn::Insn;
+use crate::stream::{Sink, Source};
+use std::alloc::{AllocError, Global};
+use thiserror::Error;
+
+/// Why no instructions were read.
+#[derive(Clone, Copy, Debug, PartialEq, Eq, Error)]
+pub enum ReadFault {
+    #[error("the input can't be read")]
+    Read,
+    #[error("the instruction at byte {offset} is cut")]
+    Truncated { offset: usize },
+    #[error("the input has more than 32768 bytes")]
+    TooLong,
+    #[error("out of memory")]
+    Memory,
+}
+
+impl From<AllocError> for ReadFault {
+    ghost use Rattle.std.specs.Prelude.{◌≡◌};
+    ghost use Rattle.scf_insn.specs.declared.encoding.ReadFault.TheVariants.{Memory};
+
+    ghost from_gives = { λ _ e. e ≡ Memory };
+
+    fn from(_e: AllocError) -> ReadFault {
+        ReadFault::Memory
+    }
+}
+
+impl From<InputFault> for ReadFault {
+    ghost use Rattle.scf_insn.specs.Readings.{read_fault};
+    ghost use Rattle.std.specs.Prelude.{◌≡◌};
+
+    ghost from_gives = { λ fault e. e ≡ read_fault fault };
+
+    fn from(fault: InputFault) -> ReadFault {
+        match fault {
+            InputFault::Read => ReadFault::Read,
+            InputFault::TooLong => ReadFault::TooLong,
+            InputFault::Memory => ReadFault::Memory,
+        }
+    }
+}
+
+/// Why bytes were not written.
+#[derive(Clone, Copy, Debug, PartialEq, Eq, Error)]
+pub enum WriteFault {
+    #[error("the output can't be written")]
+    Write,
+}
+
+/// The most bytes that a file of instructions has: those of 4096 instructions.
+const MAX_FILE_LEN: usize = 32768;
+
+/// The instructions whose bytes these are.
+fn decode(alloc: Global, bytes: &[u8]) -> Result<Vec<Insn>, AllocError>
+    requires { length bytes.now % 8 ≡ 0 }
+    ensures { IfOk result (λ v. bytes.now ≡ program_bytes v.items) }
+{
+    let mut insns = Vec::new(alloc);
+    let mut rest = bytes;
+    while let [b0, b1, b2, b3, b4, b5, b6, b7, after @ ..] = rest {
+        insns.push(Insn::from_bytes([*b0, *b1, *b2, *b3, *b4, *b5, *b6, *b7]))?;
+        rest = after;
+    }
+    Ok(insns)
+}
+
+/// Reads the instructions of a file to its end, however the source cuts it.
+///
+/// `Truncated` has the place of the first byte of an instruction that is cut. Where the source fails or memory is
+/// refused before the end, that is answered.
+pub fn read_program<S: Source>(alloc: Global, source: &mut S) -> Result<Vec<Insn>, ReadFault>
+    ensures reading { IfSome (S.remaining source.old) (λ bytes. IsReading (λ v. v.items) bytes result) }
+    // The source came to its end.
+    ensures whole { OnOk result (IsAtEnd (S.remaining source.new)) }
+    ensures no_failure { result ≢ Err ReadFault.Read → S.failures source.new ≡ S.failures source.old }
+    ensures failure { result ≡ Err ReadFault.Read → HasFailed (S.failures source.old) (S.failures source.new) }
+{
+    let bytes = read_input(alloc, source, MAX_FILE_LEN)?;
+    let cut = bytes.len() % 8;
+    if cut != 0 {
+        let offset = bytes.len() - cut;
+        return Err(ReadFault::Truncated { offset });
+    }
+    Ok(decode(alloc, &bytes)?)
+}
+
+/// Writes all bytes, or fails after a beginning of them.
+pub fn write_whole<S: Sink>(sink: &mut S, bytes: &[u8]) -> Result<(), WriteFault>
+    ensures { Writes S.contents S.failures sink.old bytes.now result sink.new }
+{
+    let mut rest = bytes;
+    while !rest.is_empty() {
+        match sink.write(rest) {
+            Ok(count) => rest = &rest[count..],
+            Err(_) => return Err(WriteFault::Write),
+        }
+    }
+    Ok(())
+}

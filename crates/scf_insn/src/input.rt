@@ -1,0 +1,74 @@
+//! Whole inputs, up to a limit.
+
+ghost use Rattle.std.specs.Prelude.{◌≡◌, ◌≢◌, Err, OnOk, IfSome};
+ghost use Rattle.std.specs.Io.KnownBytes.{IsAtEnd};
+ghost use Rattle.scf_insn.specs.Streams.{HasFailed};
+ghost use Rattle.scf_insn.specs.Readings.{IsInput};
+
+use crate::stream::{Failed, Source};
+use std::alloc::{AllocError, Global};
+use thiserror::Error;
+
+/// Why an input was not read.
+#[derive(Clone, Copy, Debug, PartialEq, Eq, Error)]
+pub enum InputFault {
+    #[error("the input can't be read")]
+    Read,
+    #[error("the input is too long")]
+    TooLong,
+    #[error("out of memory")]
+    Memory,
+}
+
+impl From<AllocError> for InputFault {
+    ghost use Rattle.std.specs.Prelude.{◌≡◌};
+    ghost use Rattle.scf_insn.specs.declared.input.InputFault.TheVariants.{Memory};
+
+    ghost from_gives = { λ _ e. e ≡ Memory };
+
+    fn from(_e: AllocError) -> InputFault {
+        InputFault::Memory
+    }
+}
+
+impl From<Failed> for InputFault {
+    ghost use Rattle.std.specs.Prelude.{◌≡◌};
+    ghost use Rattle.scf_insn.specs.declared.input.InputFault.TheVariants.{Read};
+
+    ghost from_gives = { λ _ e. e ≡ Read };
+
+    fn from(_e: Failed) -> InputFault {
+        InputFault::Read
+    }
+}
+
+/// How many bytes are asked for at a time.
+const CHUNK: usize = 4096;
+
+/// Reads all bytes of a source, which may have `limit` of them.
+///
+/// `Read` comes only where the source failed during the call, `TooLong` only where a byte past the limit came.
+pub fn read_input<S: Source>(
+    alloc: Global,
+    source: &mut S,
+    limit: usize,
+) -> Result<Vec<u8>, InputFault>
+    ensures input { IfSome (S.remaining source.old) (λ bytes. IsInput (λ v. v.items) limit bytes result) }
+    // The source came to its end.
+    ensures whole { OnOk result (IsAtEnd (S.remaining source.new)) }
+    ensures no_failure { result ≢ Err InputFault.Read → S.failures source.new ≡ S.failures source.old }
+    ensures failure { result ≡ Err InputFault.Read → HasFailed (S.failures source.old) (S.failures source.new) }
+{
+    let mut bytes = Vec::new(alloc);
+    let mut chunk = [0; CHUNK];
+    'chunks: loop {
+        let count = source.read(&mut chunk)?;
+        if count == 0 {
+            return Ok(bytes);
+        }
+        if count > limit - bytes.len() {
+            return Err(InputFault::TooLong);
+        }
+        bytes.extend_from_slice(&chunk[..count])?;
+    }
+}

@@ -1,0 +1,22 @@
+//! What every part of scf speaks of: instructions, call records and answers, and the readers and writers of their bytes.
+#![tactic(auto)]
+
+mod answer;
+mod encoding;
+mod input;
+mod insn;
+mod memory;
+mod number;
+mod operation;
+mod record;
+mod stream;
+
+pub use answer::{Action, Answer};
+pub use encoding::{ReadFault, WriteFault, read_program, write_whole};
+pub use input::{InputFault, read_input};
+pub use insn::Insn;
+pub use memory::Memory;
+pub use number::{NumberError, parse_number};
+pub use operation::{Operand, Operation, Test};
+pub use record::CallRecord;
+pub use stream::{Counted, Failed, Sink, Source};

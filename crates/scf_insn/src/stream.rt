@@ -1,0 +1,112 @@
+//! Readers and writers that count their failures.
+
+ghost use Rattle.std.specs.Prelude.{◌≡◌, ◌<◌, ◌≤◌, ℕ, List, Option, None, length, IfOk, OnOk, OnErr};
+ghost use Rattle.std.specs.Io.KnownBytes.{ReadConsumes, WriteAppends};
+ghost use Rattle.scf_insn.specs.Streams.{count_after};
+
+use std::io::{Read, Write};
+use thiserror::Error;
+
+/// A read or a write failed. The count of its reader or writer has risen.
+#[derive(Clone, Copy, Debug, PartialEq, Eq, Error)]
+#[error("a read or a write failed")]
+pub struct Failed;
+
+/// A reader.
+pub trait Source {
+    /// The bytes still to come, where they are known.
+    ghost remaining: { Self → Option (List ℕ) } = { λ _. None };
+
+    /// How many reads have failed, up to 2^64-1, where the count stays.
+    ghost failures: { Self → ℕ };
+
+    /// Reads bytes to the front of the buffer, and says how many. None come only at the end, or where there is
+    /// no room.
+    fn read(&mut self, buffer: &mut [u8]) -> Result<usize, Failed>
+        ensures bound { IfOk result (λ n. n ≤ length buffer.new) }
+        ensures bytes { ReadConsumes (remaining self.old) (remaining self.new) result buffer.new }
+        ensures ok { OnOk result (failures self.new ≡ failures self.old) }
+        ensures err { OnErr result (failures self.new ≡ count_after (failures self.old)) };
+}
+
+/// A writer.
+pub trait Sink {
+    /// The bytes that were taken so far, where they are known.
+    ghost contents: { Self → Option (List ℕ) } = { λ _. None };
+
+    /// How many writes have failed, up to 2^64-1, where the count stays.
+    ghost failures: { Self → ℕ };
+
+    /// Writes a beginning of the bytes, and says how many. Of some bytes it takes one at least.
+    fn write(&mut self, bytes: &[u8]) -> Result<usize, Failed>
+        ensures bound { IfOk result (λ n. n ≤ length bytes.now) }
+        ensures some { IfOk result (λ n. 0 < length bytes.now → 0 < n) }
+        ensures bytes { WriteAppends (contents self.old) (contents self.new) result bytes.now }
+        ensures ok { OnOk result (failures self.new ≡ failures self.old) }
+        ensures err { OnErr result (failures self.new ≡ count_after (failures self.old)) };
+}
+
+/// A reader or a writer of std, with a count of its failures.
+///
+/// Each error adds one to the count, an interruption too, and so does a write that takes no byte of some. A call
+/// asks the inner reader or writer once, whatever it answers.
+#[derive(Drop)]
+pub struct Counted<T> {
+    inner: T,
+    failures: u64,
+}
+
+impl<T> Counted<T> {
+    ghost use Rattle.scf_insn.specs.Counted.{inner_of, failures_of};
+
+    /// Nothing has failed so far.
+    pub fn new(inner: T) -> Counted<T>
+        ensures inner { inner_of result ≡ inner }
+        ensures failures { failures_of result ≡ 0 }
+    {
+        Counted { inner, failures: 0 }
+    }
+
+    /// How many reads or writes have failed, up to 2^64-1.
+    pub fn failures(&self) -> u64
+        ensures { result ≡ failures_of self.now }
+    {
+        self.failures
+    }
+}
+
+impl<R: Read> Source for Counted<R> {
+    ghost use Rattle.scf_insn.specs.Counted.{inner_of, failures_of};
+
+    ghost remaining = { λ s. R.remaining (inner_of s) };
+
+    ghost failures = { λ s. failures_of s };
+
+    fn read(&mut self, buffer: &mut [u8]) -> Result<usize, Failed> {
+        match self.inner.read(buffer) {
+            Ok(count) => Ok(count),
+            Err(_) => {
+                self.failures = self.failures.saturating_add(1);
+                Err(Failed)
+            }
+        }
+    }
+}
+
+impl<W: Write> Sink for Counted<W> {
+    ghost use Rattle.scf_insn.specs.Counted.{inner_of, failures_of};
+
+    ghost contents = { λ s. W.contents (inner_of s) };
+
+    ghost failures = { λ s. failures_of s };
+
+    fn write(&mut self, bytes: &[u8]) -> Result<usize, Failed> {
+        match self.inner.write(bytes) {
+            Ok(count) if count > 0 || bytes.is_empty() => Ok(count),
+            _ => {
+                self.failures = self.failures.saturating_add(1);
+                Err(Failed)
+            }
+        }
+    }
+}

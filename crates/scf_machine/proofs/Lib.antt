@@ -1,0 +1,4 @@
+pub mod Loop
+pub mod Refusals
+pub mod Runs
+pub mod Steps

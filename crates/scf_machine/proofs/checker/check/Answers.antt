@@ -1,0 +1,16 @@
+use Rattle.std.proofs.Common.{refl}
+use Rattle.scf_machine.proofs.Refusals.{only_where}
+use Rattle.scf_machine.proofs.Runs.{runs_safely}
+use Rattle.scf_machine.proofs.checker.check.Goals as goal
+
+pub invariant_of-result : goal.invariant_of-result
+invariant_of-result c = rw c.deref.ensures.value at c.in-Ok.ensures.ok
+
+pub returns-in-Ok-clause-accepted : goal.returns-in-Ok-clause-accepted
+returns-in-Ok-clause-accepted c = (refl, rw c.deref.ensures.value at c.in-Ok.ensures.ok)
+
+pub returns-in-Ok-clause-safe : goal.returns-in-Ok-clause-safe
+returns-in-Ok-clause-safe c = λ words. runs_safely c.args.insns.items words (rw c.deref.ensures.value at c.in-Ok.ensures.ok)
+
+pub returns-in-Err-clause-only_where : goal.returns-in-Err-clause-only_where
+returns-in-Err-clause-only_where c = λ valid. only_where c.args.insns.items c.in-Err.fault (rw c.deref.ensures.value at c.in-Err.ensures.err) valid

@@ -1,0 +1,5 @@
+use Rattle.scf_machine.proofs.Runs.{runs_safely}
+use Rattle.scf_machine.proofs.program.Program.insns.Goals as goal
+
+pub returns-clause-safe : goal.returns-clause-safe
+returns-clause-safe c = λ words. rw (← c.self.view_is) (runs_safely _ words c.self.invariant)

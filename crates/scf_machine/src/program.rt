@@ -1,0 +1,52 @@
+//! Filters that were checked.
+
+ghost use Rattle.std.specs.Prelude.{◌≡◌, ℕ, List, length};
+ghost use Rattle.scf_machine.specs.Machine.{RunsSafely};
+ghost use Rattle.scf_machine.specs.Rules.{IsValidList};
+
+use scf_insn::Insn;
+use std::marker::Model;
+
+/// A list of instructions that was accepted. Only `check` makes one.
+#[derive(Drop)]
+pub struct Program {
+    pub(crate) list: Vec<Insn>,
+}
+
+impl Model for Program {
+    ghost use Rattle.std.specs.Prelude.{List};
+    ghost use Rattle.scf_insn.specs.declared.insn.Insn.{Insn};
+    ghost use Rattle.scf_machine.specs.Rules.{IsValidList};
+
+    ghost Value = { List Insn };
+
+    ghost view = { λ p. p.list.items };
+
+    ghost invariant = { λ p. IsValidList p.list.items };
+}
+
+impl Program {
+    /// The instructions. They are a valid list, and each run of them ends in an answer within its length.
+    pub fn insns(&self) -> &[Insn]
+        ensures same { result.now ≡ self.now }
+        ensures valid { IsValidList self.now }
+        ensures safe { (words : List ℕ) → RunsSafely self.now words }
+    {
+        &self.list
+    }
+
+    /// How many instructions there are.
+    pub fn len(&self) -> usize
+        ensures { result ≡ length self.now }
+    {
+        self.list.len()
+    }
+
+    /// The list that was checked.
+    pub fn into_insns(self) -> Vec<Insn>
+        ensures { result.items ≡ self }
+    {
+        let Program { list } = self;
+        list
+    }
+}

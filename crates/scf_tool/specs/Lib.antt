@@ -1,0 +1,5 @@
+pub mod Lines
+pub mod Options
+pub mod Pieces
+pub mod Replies
+pub mod Statuses

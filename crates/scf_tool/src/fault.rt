@@ -1,0 +1,164 @@
+//! Why a command ends early, as the program prints it.
+
+ghost use Rattle.std.specs.List.{flat_map};
+ghost use Rattle.scf_insn.specs.Streams.{Writes};
+ghost use Rattle.scf_tool.specs.Lines.{field_text, kind_text, fault_line};
+
+use crate::options::NumberFault;
+use crate::pieces::{Piece, write_pieces};
+use crate::status::Status;
+use scf_insn::{ReadFault, Sink, WriteFault, write_whole};
+use scf_machine::CheckFault;
+
+/// A number that a fault names.
+#[derive(Clone, Copy, Debug, PartialEq, Eq)]
+pub(crate) struct Field {
+    pub name: &'static str,
+    pub number: u64,
+}
+
+/// What a fault is of, its kind and its numbers, and the exit status that goes with it.
+#[derive(Clone, Copy, Debug, PartialEq, Eq)]
+pub(crate) struct Fault {
+    pub status: Status,
+    pub source: &'static str,
+    pub kind: &'static str,
+    pub fields: [Option<Field>; 3],
+}
+
+/// No numbers.
+const NONE: [Option<Field>; 3] = [None, None, None];
+
+fn named(name: &'static str, number: usize) -> Option<Field> {
+    Some(Field {
+        name,
+        number: number as u64,
+    })
+}
+
+fn one(name: &'static str, number: usize) -> [Option<Field>; 3] {
+    [named(name, number), None, None]
+}
+
+impl Fault {
+    /// Memory was refused.
+    pub(crate) fn memory(source: &'static str) -> Fault {
+        Fault {
+            status: Status::Failed,
+            source,
+            kind: "Memory",
+            fields: NONE,
+        }
+    }
+}
+
+impl From<NumberFault> for Fault {
+    fn from(fault: NumberFault) -> Fault {
+        Fault {
+            status: Status::CommandLine,
+            source: "number",
+            kind: fault.name,
+            fields: NONE,
+        }
+    }
+}
+
+impl From<ReadFault> for Fault {
+    ghost use Rattle.std.specs.Prelude.{◌≡◌};
+    ghost use Rattle.scf_tool.specs.declared.status.Status.TheVariants.{Failed};
+
+    ghost from_gives = { λ _ fault. fault.status ≡ Failed };
+
+    fn from(fault: ReadFault) -> Fault {
+        let (kind, fields) = match fault {
+            ReadFault::Read => ("Read", NONE),
+            ReadFault::Truncated { offset } => ("Truncated", one("offset", offset)),
+            ReadFault::TooLong => ("TooLong", NONE),
+            ReadFault::Memory => ("Memory", NONE),
+        };
+        Fault {
+            status: Status::Failed,
+            source: "filter",
+            kind,
+            fields,
+        }
+    }
+}
+
+impl From<CheckFault> for Fault {
+    fn from(fault: CheckFault) -> Fault {
+        let (kind, fields) = match fault {
+            CheckFault::Empty => ("Empty", NONE),
+            CheckFault::TooLong => ("TooLong", NONE),
+            CheckFault::Code { at } => ("Code", one("at", at)),
+            CheckFault::Load { at } => ("Load", one("at", at)),
+            CheckFault::Scratch { at } => ("Scratch", one("at", at)),
+            CheckFault::Divisor { at } => ("Divisor", one("at", at)),
+            CheckFault::Shift { at } => ("Shift", one("at", at)),
+            CheckFault::Jump { at } => ("Jump", one("at", at)),
+            CheckFault::LastNotReturn => ("LastNotReturn", NONE),
+            CheckFault::Unset { at, word } => (
+                "Unset",
+                [named("at", at), named("word", usize::from(word)), None],
+            ),
+            CheckFault::Memory => return Fault::memory("filter"),
+        };
+        Fault {
+            status: Status::Refused,
+            source: "filter",
+            kind,
+            fields,
+        }
+    }
+}
+
+fn write_field<S: Sink>(sink: &mut S, field: Option<Field>) -> Result<(), WriteFault>
+    ensures { Writes S.contents S.failures sink.old (field_text field) result sink.new }
+{
+    match field {
+        Some(field) => write_pieces(
+            sink,
+            &[
+                Piece::Text(" "),
+                Piece::Text(field.name),
+                Piece::Text(" "),
+                Piece::Decimal(field.number),
+            ],
+        ),
+        None => Ok(()),
+    }
+}
+
+/// Writes the numbers of a fault.
+fn write_fields<S: Sink>(sink: &mut S, fields: &[Option<Field>]) -> Result<(), WriteFault>
+    ensures { Writes S.contents S.failures sink.old (flat_map field_text fields.now) result sink.new }
+{
+    for field in fields {
+        write_field(sink, *field)?;
+    }
+    Ok(())
+}
+
+/// Writes what a fault is of, and its kind.
+fn write_kind<S: Sink>(sink: &mut S, fault: Fault) -> Result<(), WriteFault>
+    ensures { Writes S.contents S.failures sink.old (kind_text fault) result sink.new }
+{
+    write_pieces(
+        sink,
+        &[
+            Piece::Text("fault "),
+            Piece::Text(fault.source),
+            Piece::Text(" "),
+            Piece::Text(fault.kind),
+        ],
+    )
+}
+
+/// Writes the line of a fault, without memory.
+pub(crate) fn write_fault<S: Sink>(sink: &mut S, fault: Fault) -> Result<(), WriteFault>
+    ensures { Writes S.contents S.failures sink.old (fault_line fault) result sink.new }
+{
+    write_kind(sink, fault)?;
+    write_fields(sink, &fault.fields)?;
+    write_whole(sink, b"\n")
+}

@@ -1,0 +1,54 @@
+//! What the program prints, and its exit status.
+
+ghost use Rattle.std.specs.Prelude.{◌≡◌, ◌++◌};
+ghost use Rattle.scf_insn.specs.Streams.{Writes};
+ghost use Rattle.scf_tool.specs.Lines.{answer_text, steps_text};
+ghost use Rattle.scf_tool.specs.Replies.{reply_text, status_of};
+
+use crate::fault::{Fault, write_fault};
+use crate::lines::{write_answer, write_steps};
+use crate::status::Status;
+use scf_insn::{Sink, WriteFault, write_whole};
+use scf_machine::Ran;
+
+/// What a command found, ready to be printed: printing it takes no memory.
+#[derive(Debug, Drop)]
+pub(crate) enum Reply {
+    /// The text of the command line's reader: help, the version, or what is wrong with the words.
+    CommandLine { text: String, status: Status },
+    /// A filter was run.
+    Ran(Ran),
+    /// The command ended early.
+    Fault(Fault),
+}
+
+impl Reply {
+    /// The exit status that goes with it.
+    pub(crate) fn status(&self) -> Status
+        ensures { result ≡ status_of self.now }
+    {
+        match self {
+            Reply::CommandLine { status, .. } => *status,
+            Reply::Ran(_) => Status::Well,
+            Reply::Fault(fault) => fault.status,
+        }
+    }
+}
+
+fn write_ran<S: Sink>(sink: &mut S, ran: Ran) -> Result<(), WriteFault>
+    ensures { Writes S.contents S.failures sink.old (answer_text ran.answer.0 ++ steps_text ran.steps) result sink.new }
+{
+    write_answer(sink, ran.answer)?;
+    write_steps(sink, ran.steps)
+}
+
+/// Writes a reply, or fails after a beginning of its text.
+pub(crate) fn write_reply<S: Sink>(sink: &mut S, reply: &Reply) -> Result<(), WriteFault>
+    ensures { Writes S.contents S.failures sink.old (reply_text reply.now) result sink.new }
+{
+    match reply {
+        Reply::CommandLine { text, .. } => write_whole(sink, text.as_bytes()),
+        Reply::Ran(ran) => write_ran(sink, *ran),
+        Reply::Fault(fault) => write_fault(sink, *fault),
+    }
+}

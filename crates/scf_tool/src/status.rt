@@ -1,0 +1,34 @@
+//! Exit statuses.
+
+ghost use Rattle.std.specs.Prelude.{◌≡◌};
+ghost use Rattle.scf_tool.specs.Statuses.{status_code};
+
+/// What the exit status of the program says.
+#[derive(Clone, Copy, Debug, PartialEq, Eq)]
+pub(crate) enum Status {
+    /// All is well.
+    Well,
+    /// A filter, text, table, profile or stack is refused, or two answers differ.
+    Refused,
+    /// The command line is refused.
+    CommandLine,
+    /// The input can't be read, the output can't be written, or memory is refused.
+    Failed,
+    /// Whether the answers differ is left open.
+    Open,
+}
+
+impl Status {
+    /// The number of the status.
+    pub(crate) fn code(self) -> u8
+        ensures { result ≡ status_code self }
+    {
+        match self {
+            Status::Well => 0,
+            Status::Refused => 1,
+            Status::CommandLine => 2,
+            Status::Failed => 3,
+            Status::Open => 4,
+        }
+    }
+}
