@@ -4,5 +4,6 @@ pub mod Counted
 pub mod Insn
 pub mod Numbers
 pub mod Readings
+pub mod SimpleMask
 pub mod Streams
 pub mod Words

@@ -1,6 +1,7 @@
--- Call records and their words (Linux uapi seccomp.h, struct seccomp_data).
+-- Call records, their words and their bytes (Linux uapi seccomp.h, struct seccomp_data), little-endian.
 use Rattle.std.specs.Prelude.{◌≡◌, ℕ, ◌+◌, ◌*◌, ◌/◌, ◌%◌, ◌^◌, ◌<◌, List, [], ◌∷◌, ◌++◌, length, slice_index}
 use Rattle.std.specs.List.{flat_map, AllByRecursion}
+use Rattle.std.specs.Int.{w32, to_le_bytes}
 use Rattle.scf_insn.specs.declared.record.CallRecord.{CallRecord}
 
 -- each field of the record fits its width, and there are six arguments
@@ -29,6 +30,10 @@ words_of call = call.nr ∷ call.arch ∷ halves call.ip ++ flat_map halves call
 -- the argument at an index
 abbrev pub argument : CallRecord → ℕ → ℕ
 argument call i = slice_index call.args i
+
+-- the 64 bytes of a record
+abbrev pub record_bytes : CallRecord → List ℕ
+record_bytes call = flat_map (to_le_bytes w32) (words_of call)
 
 -- sixteen numbers below 2^32
 pub record IsWords (words : List ℕ) : Type 0 where

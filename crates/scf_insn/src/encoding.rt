@@ -51,7 +51,7 @@ impl From<InputFault> for ReadFault {
     }
 }
 
-/// Why bytes were not written.
+/// Why instructions were not written.
 #[derive(Clone, Copy, Debug, PartialEq, Eq, Error)]
 pub enum WriteFault {
     #[error("the output can't be written")]
@@ -105,6 +105,16 @@ pub fn write_whole<S: Sink>(sink: &mut S, bytes: &[u8]) -> Result<(), WriteFault
             Ok(count) => rest = &rest[count..],
             Err(_) => return Err(WriteFault::Write),
         }
+    }
+    Ok(())
+}
+
+/// Writes the bytes of instructions, or fails after a beginning of them.
+pub fn write_program<S: Sink>(insns: &[Insn], sink: &mut S) -> Result<(), WriteFault>
+    ensures { Writes S.contents S.failures sink.old (program_bytes insns.now) result sink.new }
+{
+    for insn in insns {
+        write_whole(sink, &insn.to_bytes())?;
     }
     Ok(())
 }

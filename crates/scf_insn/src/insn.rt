@@ -1,10 +1,10 @@
 //! One instruction (Linux uapi filter.h, struct sock_filter).
 
-ghost use Rattle.std.specs.Prelude.{◌≡◌};
-ghost use Rattle.scf_insn.specs.Insn.{insn_bytes};
+ghost use Rattle.std.specs.Prelude.{◌≡◌, ◌≢◌, ◌<◌, ◌^◌};
+ghost use Rattle.scf_insn.specs.Insn.{IsInsn, insn_bytes};
 ghost use Rattle.scf_insn.specs.Codes.{operation_of};
 
-use crate::operation::{Operand, Operation, Test};
+use crate::operation::{Arithmetic, Operand, Operation, Register, Test};
 
 /// One instruction: a code, two jump offsets and a constant. Any numbers may stand in it.
 #[derive(Clone, Copy, Debug, PartialEq, Eq)]
@@ -15,7 +15,21 @@ pub struct Insn {
     pub k: u32,
 }
 
+fn known(_code: u16, _jt: u8, _jf: u8, _k: u32)
+    ensures code { _code < 2 ^ 16 }
+    ensures jt { _jt < 2 ^ 8 }
+    ensures jf { _jf < 2 ^ 8 }
+    ensures k { _k < 2 ^ 32 }
+{}
+
 impl Insn {
+    /// Each field is within its width: a law for proofs, which does nothing.
+    pub fn within_widths(&self)
+        ensures { IsInsn self.now }
+    {
+        known(self.code, self.jt, self.jf, self.k);
+    }
+
     /// The instruction that these bytes are, its numbers little-endian.
     pub fn from_bytes(bytes: [u8; 8]) -> Insn
         ensures { insn_bytes result ≡ bytes }
@@ -38,16 +52,70 @@ impl Insn {
         [code_low, code_high, self.jt, self.jf, k0, k1, k2, k3]
     }
 
-    /// What its code asks for, or `None` where the code isn't in the table of codes.
+    /// What its code asks for, or `None` where the code isn't one of the 41.
+    ///
+    /// The codes that most filters are made of are tested first, so that these don't wait for a jump table.
     #[tactic(auto, unfolding(crate::specs::Codes::operation_of, crate::specs::Codes::code_table))]
+    #[inline(always)]
     pub fn operation(&self) -> Option<Operation>
         ensures { result ≡ operation_of self.now.code }
     {
+        match self.code {
+            0x15 => Some(Operation::JumpIf(Test::Equal, Operand::Constant)),
+            0x20 => Some(Operation::LoadWord),
+            0x06 => Some(Operation::ReturnConstant),
+            _ => self.other_operation(),
+        }
+    }
+
+    /// What another code asks for.
+    #[tactic(auto, unfolding(crate::specs::Codes::operation_of, crate::specs::Codes::code_table))]
+    #[inline(never)]
+    fn other_operation(&self) -> Option<Operation>
+        requires not_jeq { self.now.code ≢ 0x15 }
+        requires not_ld { self.now.code ≢ 0x20 }
+        requires not_ret { self.now.code ≢ 0x06 }
+        ensures { result ≡ operation_of self.now.code }
+    {
         let operation = match self.code {
-            0x20 => Operation::LoadWord,
+            0x80 => Operation::LoadLength(Register::A),
+            0x81 => Operation::LoadLength(Register::X),
+            0x00 => Operation::LoadConstant(Register::A),
+            0x01 => Operation::LoadConstant(Register::X),
+            0x60 => Operation::LoadScratch(Register::A),
+            0x61 => Operation::LoadScratch(Register::X),
+            0x02 => Operation::StoreScratch(Register::A),
+            0x03 => Operation::StoreScratch(Register::X),
+            0x04 => Operation::Compute(Arithmetic::Add, Operand::Constant),
+            0x0c => Operation::Compute(Arithmetic::Add, Operand::Index),
+            0x14 => Operation::Compute(Arithmetic::Sub, Operand::Constant),
+            0x1c => Operation::Compute(Arithmetic::Sub, Operand::Index),
+            0x24 => Operation::Compute(Arithmetic::Mul, Operand::Constant),
+            0x2c => Operation::Compute(Arithmetic::Mul, Operand::Index),
+            0x34 => Operation::Compute(Arithmetic::Div, Operand::Constant),
+            0x3c => Operation::Compute(Arithmetic::Div, Operand::Index),
+            0x44 => Operation::Compute(Arithmetic::Or, Operand::Constant),
+            0x4c => Operation::Compute(Arithmetic::Or, Operand::Index),
+            0x54 => Operation::Compute(Arithmetic::And, Operand::Constant),
+            0x5c => Operation::Compute(Arithmetic::And, Operand::Index),
+            0x64 => Operation::Compute(Arithmetic::Lsh, Operand::Constant),
+            0x6c => Operation::Compute(Arithmetic::Lsh, Operand::Index),
+            0x74 => Operation::Compute(Arithmetic::Rsh, Operand::Constant),
+            0x7c => Operation::Compute(Arithmetic::Rsh, Operand::Index),
+            0xa4 => Operation::Compute(Arithmetic::Xor, Operand::Constant),
+            0xac => Operation::Compute(Arithmetic::Xor, Operand::Index),
+            0x84 => Operation::Negate,
             0x05 => Operation::Jump,
-            0x15 => Operation::JumpIf(Test::Equal, Operand::Constant),
-            0x06 => Operation::ReturnConstant,
+            0x1d => Operation::JumpIf(Test::Equal, Operand::Index),
+            0x25 => Operation::JumpIf(Test::Greater, Operand::Constant),
+            0x2d => Operation::JumpIf(Test::Greater, Operand::Index),
+            0x35 => Operation::JumpIf(Test::GreaterOrEqual, Operand::Constant),
+            0x3d => Operation::JumpIf(Test::GreaterOrEqual, Operand::Index),
+            0x45 => Operation::JumpIf(Test::CommonBit, Operand::Constant),
+            0x4d => Operation::JumpIf(Test::CommonBit, Operand::Index),
+            0x16 => Operation::ReturnAccumulator,
+            0x07 => Operation::CopyToIndex,
+            0x87 => Operation::CopyToAccumulator,
             _ => return None,
         };
         Some(operation)

@@ -12,11 +12,11 @@ mod record;
 mod stream;
 
 pub use answer::{Action, Answer};
-pub use encoding::{ReadFault, WriteFault, read_program, write_whole};
+pub use encoding::{ReadFault, WriteFault, read_program, write_program, write_whole};
 pub use input::{InputFault, read_input};
 pub use insn::Insn;
 pub use memory::Memory;
-pub use number::{NumberError, parse_number};
-pub use operation::{Operand, Operation, Test};
-pub use record::CallRecord;
+pub use number::{NumberError, parse_number, parse_numeral};
+pub use operation::{Arithmetic, Operand, Operation, Register, Test};
+pub use record::{CallRecord, high_half, low_half};
 pub use stream::{Counted, Failed, Sink, Source};

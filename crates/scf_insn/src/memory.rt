@@ -1,6 +1,6 @@
 //! The error of a call that fails for want of memory alone.
 
-use std::alloc::AllocError;
+use std::alloc::{AllocError, AllocFailed};
 use thiserror::Error;
 
 /// Memory was refused.
@@ -10,6 +10,12 @@ pub struct Memory;
 
 impl From<AllocError> for Memory {
     fn from(_e: AllocError) -> Memory {
+        Memory
+    }
+}
+
+impl<T: Drop> From<AllocFailed<T>> for Memory {
+    fn from(_e: AllocFailed<T>) -> Memory {
         Memory
     }
 }

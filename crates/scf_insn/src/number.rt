@@ -25,7 +25,7 @@ fn with_digit(value: Option<u64>, radix: u32, digit: u32) -> Option<u64>
 }
 
 /// The number that digits of a radix write, the most significant first. Leading zeros are allowed, and any length.
-fn parse_numeral(digits: &[u8], radix: u32) -> Result<u64, NumberError>
+pub fn parse_numeral(digits: &[u8], radix: u32) -> Result<u64, NumberError>
     requires low { 2 ≤ radix }
     requires high { radix ≤ 36 }
     ensures { ReadsNumber (numeral radix digits.now) result }

@@ -1,7 +1,8 @@
 //! The record of a call (Linux uapi seccomp.h, struct seccomp_data).
 
-ghost use Rattle.std.specs.Prelude.{◌≡◌, ◌+◌, ◌<◌, ◌*◌, ◌^◌, ℕ, slice_index};
-ghost use Rattle.scf_insn.specs.Words.{low, high, words_of, call_of, IsRecord};
+ghost use Rattle.std.specs.Prelude.{◌≡◌, ◌+◌, ◌<◌, ◌≤◌, ◌*◌, ◌^◌, ◌++◌, ℕ, length, take, drop, slice_index};
+ghost use Rattle.std.specs.Int.{w32, to_le_bytes};
+ghost use Rattle.scf_insn.specs.Words.{low, high, words_of, record_bytes, call_of, IsRecord};
 
 /// What a filter sees of a call: its number, the architecture, the instruction pointer and six arguments.
 #[derive(Clone, Copy, Debug, PartialEq, Eq)]
@@ -12,16 +13,26 @@ pub struct CallRecord {
     pub args: [u64; 6],
 }
 
-fn low_half(n: u64) -> u32
+/// The low 32 bits of a number.
+pub fn low_half(n: u64) -> u32
     ensures { result ≡ low n }
 {
     (n & 0xffff_ffff) as u32
 }
 
-fn high_half(n: u64) -> u32
+/// The high 32 bits of a number.
+pub fn high_half(n: u64) -> u32
     ensures { result ≡ high n }
 {
     (n >> 32) as u32
+}
+
+/// The four bytes at a place as a number.
+fn word_at(bytes: &[u8], at: usize) -> u32
+    requires { at + 4 ≤ length bytes.now }
+    ensures { to_le_bytes w32 result ≡ take 4 (drop at bytes.now) }
+{
+    u32::from_le_bytes([bytes[at], bytes[at + 1], bytes[at + 2], bytes[at + 3]])
 }
 
 /// The number with this low and this high half.
@@ -29,6 +40,14 @@ fn joined(low_word: u32, high_word: u32) -> u64
     ensures { result ≡ low_word + 2 ^ 32 * high_word }
 {
     u64::from(low_word) + 0x1_0000_0000 * u64::from(high_word)
+}
+
+/// The eight bytes at a place as a number.
+fn number_at(bytes: &[u8], at: usize) -> u64
+    requires { at + 8 ≤ length bytes.now }
+    ensures { to_le_bytes w32 (low result) ++ to_le_bytes w32 (high result) ≡ take 8 (drop at bytes.now) }
+{
+    joined(word_at(bytes, at), word_at(bytes, at + 4))
 }
 
 fn known(_nr: u32, _arch: u32, _ip: u64)
@@ -86,6 +105,38 @@ impl CallRecord {
                 joined(words[10], words[11]),
                 joined(words[12], words[13]),
                 joined(words[14], words[15]),
+            ],
+        }
+    }
+
+    /// Its 64 bytes: the words in order, each little-endian.
+    pub fn to_bytes(&self) -> [u8; 64]
+        ensures { result ≡ record_bytes self.now }
+    {
+        let _args = self.args;
+        let mut bytes = [0; 64];
+        for i in 0..16u8 {
+            let at = 4 * i as usize;
+            bytes[at..at + 4].copy_from_slice(&self.word(i).to_le_bytes());
+        }
+        bytes
+    }
+
+    /// The record that these bytes are.
+    pub fn from_bytes(bytes: [u8; 64]) -> CallRecord
+        ensures { record_bytes result ≡ bytes }
+    {
+        CallRecord {
+            nr: word_at(&bytes, 0),
+            arch: word_at(&bytes, 4),
+            ip: number_at(&bytes, 8),
+            args: [
+                number_at(&bytes, 16),
+                number_at(&bytes, 24),
+                number_at(&bytes, 32),
+                number_at(&bytes, 40),
+                number_at(&bytes, 48),
+                number_at(&bytes, 56),
             ],
         }
     }

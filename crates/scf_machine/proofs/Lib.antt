@@ -1,4 +1,9 @@
+pub mod Bounds
+pub mod Chains
 pub mod Loop
-pub mod Refusals
+pub mod Masks
+pub mod Meets
+pub mod Moves
 pub mod Runs
 pub mod Steps
+pub mod Refusals

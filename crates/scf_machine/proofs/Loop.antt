@@ -1,62 +1,73 @@
 -- The loop of a run.
-use Rattle.std.proofs.Common.{◌≡◌, ℕ, ◌+◌, ◌<◌, ◌≤◌, List, [], ◌∷◌, Option, None, Some, refl, ap, sym, subst, ◌∙◌, arith, length, get_or}
-use Rattle.std.specs.List.{slice_get}
-use Rattle.std.proofs.lemmas.Option.{slice_get_read}
-use Rattle.scf_insn.specs.Codes.{operation_of}
+use Rattle.std.proofs.Common.{◌≡◌, ℕ, ◌+◌, ◌<◌, ◌≤◌, List, [], ◌∷◌, Option, None, Some, refl, ap, sym, subst, ◌∙◌, arith, length}
 use Rattle.scf_insn.specs.declared.insn.Insn.{Insn}
 use Rattle.scf_insn.specs.declared.answer.Answer.{Answer}
 use Rattle.scf_insn.specs.declared.operation.Operation.{Operation}
-use Rattle.scf_insn.specs.declared.operation.Operation.TheVariants.{Jump, JumpIf}
 use Rattle.scf_machine.specs.declared.machine.Registers.{Registers}
-use Rattle.scf_machine.specs.Machine.{State, Outcome, Goes, Ends, Faults, start, effect, step, IsChain, IsRun}
-use Rattle.scf_machine.specs.Registers.{state_of, Agrees}
-use Rattle.scf_machine.specs.Rules.{IsValidList, IsFine, IsFineAt, Stands}
-use Rattle.scf_machine.proofs.Runs.{chain_inside, chain_slow, run_length, same_insn, step_forward, step_is}
+use Rattle.scf_machine.specs.Machine.{State, start, Outcome, Goes, Ends, Faults, effect, step, IsChain, IsRun}
+use Rattle.std.specs.List.{slice_get}
+use Rattle.std.proofs.Common.{get_or}
+use Rattle.std.proofs.lemmas.Option.{slice_get_read}
+use Rattle.scf_insn.specs.Codes.{operation_of}
+use Rattle.scf_insn.specs.declared.operation.Operand.{Operand}
+use Rattle.scf_insn.specs.declared.operation.Operand.TheVariants.{Constant}
+use Rattle.scf_insn.specs.declared.operation.Arithmetic.{Arithmetic}
+use Rattle.scf_insn.specs.declared.operation.Arithmetic.TheVariants.{Div, Lsh, Rsh}
+use Rattle.scf_insn.specs.declared.operation.Operation.TheVariants.{Compute, Jump, JumpIf}
+use Rattle.scf_machine.specs.Rules.{IsValidList, IsFine, IsFineAt, Stands, KeepsScratchRule}
+use Rattle.scf_machine.specs.Registers.{StandFor, Agrees}
+use Rattle.scf_machine.proofs.Runs.{chain_inside, chain_slow, edge_forward, step_edge, step_is, never_faults, run_length, same_insn}
 
 -- The registers stand for a state that a chain of so many steps comes to.
 pub record IsAt (insns : List Insn) (words : List ℕ) (registers : Registers) (steps : ℕ) : Type 0 where
+  pub state : State
   pub earlier : List State
-  pub chain : IsChain insns words start (state_of registers) earlier
+  pub chain : IsChain insns words start state earlier
+  pub stand : StandFor registers state
   pub count : steps ≡ length earlier
 
-pub at_start : (insns : List Insn) (words : List ℕ) (registers : Registers) → state_of registers ≡ start → IsAt insns words registers 0
-at_start insns words registers e = record { earlier = []; chain = e; count = refl }
+pub at_start : (insns : List Insn) (words : List ℕ) (registers : Registers) → StandFor registers start → IsAt insns words registers 0
+at_start insns words registers stand = record { state = start; earlier = []; chain = refl; stand = stand; count = refl }
 
 pub at_inside : (insns : List Insn) (words : List ℕ) (registers : Registers) (steps : ℕ) → IsValidList insns → IsAt insns words registers steps → (registers.place < length insns) × (steps ≤ registers.place) × (length insns ≤ 4096)
 at_inside insns words registers steps valid at =
-    let slow = chain_slow insns words (state_of registers) at.earlier valid at.chain in let count = at.count in
-    (chain_inside insns words (state_of registers) at.earlier valid at.chain, omega arith, valid.few)
+    let inside = chain_inside insns words at.state at.earlier valid at.chain in
+    let slow = chain_slow insns words at.state at.earlier at.chain in
+    let e = at.stand.place in let count = at.count in
+    (omega arith, omega arith, valid.few)
 
 -- What a step leaves.
 pub record Next (insns : List Insn) (words : List ℕ) (old new : Registers) (steps : ℕ) : Type 0 where
   pub at : IsAt insns words new (steps + 1)
   pub forward : old.place < new.place
 
-module _ (insns : List Insn) (words : List ℕ) (old new : Registers) (steps : ℕ) (valid : IsValidList insns) (at : IsAt insns words old steps) where
-  goes : (o : Outcome) → step insns words (state_of old) ≡ o → Agrees o None new → Next insns words old new steps
+module _ (insns : List Insn) (words : List ℕ) (old new : Registers) (steps : ℕ) (valid : IsValidList insns) (rule : KeepsScratchRule insns) (at : IsAt insns words old steps) where
+  goes : (o : Outcome) → step insns words at.state ≡ o → Agrees o None new → Next insns words old new steps
   goes (Goes t) e agrees =
-      let inside = chain_inside insns words (state_of old) at.earlier valid at.chain in
-      let moved : step insns words (state_of old) ≡ Goes (state_of new) = e ∙ ap Goes agrees in
-      let count = at.count in
+      let forward = edge_forward insns at.state.place t.place (step_edge insns words at.state t e) in
+      let a = at.stand.place in let b = agrees.place in let count = at.count in
       record {
-        at = record { earlier = state_of old ∷ at.earlier; chain = (moved, at.chain); count = omega arith };
-        forward = (step_forward insns words (state_of old) (state_of new) valid inside moved).forward;
+        at = record { state = t; earlier = at.state ∷ at.earlier; chain = (e, at.chain); stand = agrees; count = omega arith };
+        forward = omega arith;
       }
   goes (Ends n) e agrees = absurd agrees
-  goes (Faults fault) e agrees = absurd agrees
+  goes (Faults fault) e agrees = absurd (never_faults insns words valid rule at.state at.earlier fault at.chain e)
 
-  ends : (o : Outcome) (answer : Answer) → step insns words (state_of old) ≡ o → Agrees o (Some answer) new → IsRun insns words answer.0 (steps + 1)
+  ends : (o : Outcome) (answer : Answer) → step insns words at.state ≡ o → Agrees o (Some answer) new → IsRun insns words answer.0 (steps + 1)
   ends (Goes t) answer e agrees = absurd agrees
-  ends (Ends n) answer e agrees = record { last = state_of old; earlier = at.earlier; chain = at.chain; answers = e ∙ ap Ends (sym agrees); count = ap (λ (k : ℕ). k + 1) at.count }
-  ends (Faults fault) answer e agrees = absurd agrees
+  ends (Ends n) answer e agrees = record { last = at.state; earlier = at.earlier; chain = at.chain; answers = e ∙ ap Ends (sym agrees); count = ap (λ (k : ℕ). k + 1) at.count }
+  ends (Faults fault) answer e agrees = absurd (never_faults insns words valid rule at.state at.earlier fault at.chain e)
 
-  pub next_of : (i : Insn) (operation : Operation) → Stands insns old.place i operation → Agrees (effect operation i words (state_of old)) None new → Next insns words old new steps
-  next_of i operation stands agrees = goes (effect operation i words (state_of old)) (step_is insns words (state_of old) i operation stands) agrees
+  stands_at : (i : Insn) (operation : Operation) → Stands insns old.place i operation → Stands insns at.state.place i operation
+  stands_at i operation stands = subst (λ (p : ℕ). Stands insns p i operation) (sym at.stand.place) stands
 
-  pub run_of : (i : Insn) (operation : Operation) (answer : Answer) → Stands insns old.place i operation → Agrees (effect operation i words (state_of old)) (Some answer) new → IsRun insns words answer.0 (steps + 1) × (steps + 1 ≤ length insns)
+  pub next_of : (i : Insn) (operation : Operation) → Stands insns old.place i operation → Agrees (effect operation i words at.state) None new → Next insns words old new steps
+  next_of i operation stands agrees = goes (effect operation i words at.state) (step_is insns words at.state i operation (stands_at i operation stands)) agrees
+
+  pub run_of : (i : Insn) (operation : Operation) (answer : Answer) → Stands insns old.place i operation → Agrees (effect operation i words at.state) (Some answer) new → IsRun insns words answer.0 (steps + 1) × (steps + 1 ≤ length insns)
   run_of i operation answer stands agrees =
-      let long = run_length insns words valid (state_of old) at.earlier at.chain in let count = at.count in
-      (ends (effect operation i words (state_of old)) answer (step_is insns words (state_of old) i operation stands) agrees, omega arith)
+      let long = run_length insns words valid at.state at.earlier at.chain in let count = at.count in
+      (ends (effect operation i words at.state) answer (step_is insns words at.state i operation (stands_at i operation stands)) agrees, omega arith)
 
 -- what was read at a place stands there
 pub read_here : (insns : List Insn) (p : ℕ) (i : Insn) → p < length insns → i ≡ get_or insns p i → slice_get insns p ≡ Some i
@@ -68,7 +79,14 @@ always_known insns p i found fine here e none =
     let known : operation_of i.code ≡ Some fine.operation = subst (λ (j : Insn). operation_of j.code ≡ Some fine.operation) is_i fine.stands.known in
     cc
 
+wider_compute : (len p : ℕ) (i : Insn) (arithmetic : Arithmetic) (operand : Operand) → IsFine len p i (Compute arithmetic operand) → IsFine 4096 p i (Compute arithmetic operand)
+wider_compute len p i Div Constant fine = fine
+wider_compute len p i Lsh Constant fine = fine
+wider_compute len p i Rsh Constant fine = fine
+wider_compute len p i arithmetic operand fine = tt
+
 pub wider : (len p : ℕ) (i : Insn) (operation : Operation) → len ≤ 4096 → IsFine len p i operation → IsFine 4096 p i operation
 wider len p i Jump few fine = let bound : p + 1 + i.k < len = fine in omega arith
 wider len p i (JumpIf test operand) few fine = let a = fine.0 in let b = fine.1 in (omega arith, omega arith)
+wider len p i (Compute arithmetic operand) few fine = wider_compute len p i arithmetic operand fine
 wider len p i operation few fine = fine

@@ -1,67 +1,91 @@
--- One step of the running machine, and what it does to a state.
-use Rattle.std.proofs.Common.{◌≡◌, ℕ, ◌+◌, ◌/◌, ◌%◌, ◌<◌, nat_lt, nat_eq, ◌&&◌, Bool, true, false, None, if◌then◌else◌, arith}
-use Rattle.std.specs.Prelude.{slice_index, List}
+-- One step of the running machine.
+use Rattle.std.proofs.Common.{◌≡◌, ℕ, ◌%◌, ◌<◌, nat_lt, nat_eq, ◌&&◌, Bool, true, false, not, cond, [], None, Some, refl, sym, subst, arith, eq-eqb}
 use Rattle.std.proofs.lemmas.Bool.Decides.{nat_tests}
 use Rattle.scf_insn.specs.declared.insn.Insn.{Insn}
-use Rattle.scf_insn.specs.declared.operation.Operation.{Operation}
-use Rattle.scf_insn.specs.declared.operation.Operation.TheVariants.{LoadWord, Jump, JumpIf, ReturnConstant}
+use Rattle.scf_insn.specs.declared.operation.Register.{Register}
+use Rattle.scf_insn.specs.declared.operation.Register.TheVariants.{A}
+use Rattle.scf_insn.specs.declared.operation.Operand.{Operand}
+use Rattle.scf_insn.specs.declared.operation.Operand.TheVariants.{Constant, Index}
+use Rattle.scf_insn.specs.declared.operation.Arithmetic.{Arithmetic}
+use Rattle.scf_insn.specs.declared.operation.Arithmetic.TheVariants.{Add, Sub, Mul, Div, Or, And, Lsh, Rsh, Xor}
+use Rattle.scf_insn.specs.declared.operation.Operation.TheVariants.{Compute}
 use Rattle.scf_machine.specs.declared.machine.Registers.{Registers}
-use Rattle.scf_machine.specs.Machine.{State, Outcome, Goes, Ends, Faults, Fault, LoadOutsideRecord, unless, sets, holds, operand_of, effect}
-use Rattle.scf_machine.specs.Registers.{state_of, Agrees}
-use Rattle.scf_machine.specs.Rules.{IsFine, IsReturn}
+use Rattle.scf_machine.specs.Machine.{State, sets, Goes, Ends, Fault, unless, computation, value_computed, operand_in_computation}
+use Rattle.scf_machine.specs.Registers.{StandFor, Agrees}
+use Rattle.scf_machine.specs.Rules.{IsFine}
 
-pub agrees_unless : (b : Bool) (f : Fault) (t : State) (new : Registers) → b ≡ true → t ≡ state_of new → Agrees (unless b f (Goes t)) None new
+pub agrees_unless : (b : Bool) (f : Fault) (t : State) (new : Registers) → b ≡ true → StandFor new t → Agrees (unless b f (Goes t)) None new
 agrees_unless true f t new e h = h
 agrees_unless false f t new e h = cc
+
+pub stand_with : (new : Registers) (s : State) (r : Register) (m n : ℕ) → m ≡ n → StandFor new (sets r s m) → StandFor new (sets r s n)
+stand_with new s r m n e h = subst (λ (k : ℕ). StandFor new (sets r s k)) e h
 
 pub word_test : (k : ℕ) → (k < 64) × (k % 4 ≡ 0) → (nat_lt k 64 && nat_eq (k % 4) 0) ≡ true
 word_test k h = let a = h.0 in let b = h.1 in grind (arith, nat_tests)
 
--- ---- where a step leads
+pub lt_test : (k n : ℕ) → k < n → nat_lt k n ≡ true
+lt_test k n h = grind (arith, nat_tests)
 
-abbrev pub IfGoes : (State → Type 0) → Outcome → Type 0
-IfGoes P (Goes s) = P s
-IfGoes P (Ends n) = Unit {0}
-IfGoes P (Faults f) = Unit {0}
+pub not_zero_test : (k : ℕ) → (k ≡ 0 → ⊥) → not (nat_eq k 0) ≡ true
+not_zero_test k h = grind (arith, nat_tests)
 
-if_unless : (P : State → Type 0) (b : Bool) (f : Fault) (o : Outcome) → IfGoes P o → IfGoes P (unless b f o)
-if_unless P true f o h = h
-if_unless P false f o h = tt
+not_zero : (k : ℕ) → (k ≡ 0 → ⊥) → nat_eq k 0 ≡ false
+not_zero k h = grind (arith, nat_tests)
 
-branch_forward : (p jt jf : ℕ) (b : Bool) → p < p + 1 + (if b then jt else jf)
-branch_forward p jt jf true = omega arith
-branch_forward p jt jf false = omega arith
+goes_past : (b : Bool) (t : State) (new : Registers) → b ≡ false → StandFor new t → Agrees (cond b (Ends 0) (Goes t)) None new
+goes_past true t new e h = cc
+goes_past false t new e h = h
 
--- a step goes forward
-pub effect_forward : (operation : Operation) (i : Insn) (words : List ℕ) (s : State) → IfGoes (λ t. s.place < t.place) (effect operation i words s)
-effect_forward LoadWord i words s = if_unless (λ t. s.place < t.place) (nat_lt i.k 64 && nat_eq (i.k % 4) 0) LoadOutsideRecord (Goes (sets s (slice_index words (i.k / 4)))) (omega arith)
-effect_forward Jump i words s = omega arith
-effect_forward (JumpIf test operand) i words s = branch_forward s.place i.jt i.jf (holds test s.a (operand_of operand i))
-effect_forward ReturnConstant i words s = tt
+answers_zero : (b : Bool) (t : State) (new : Registers) → b ≡ true → Agrees (cond b (Ends 0) (Goes t)) (Some (record { 0 = 0 })) new
+answers_zero true t new e = refl
+answers_zero false t new e = cc
 
-branch_inside : (len p jt jf : ℕ) (b : Bool) → p + 1 + jt < len → p + 1 + jf < len → p + 1 + (if b then jt else jf) < len
-branch_inside len p jt jf true h g = h
-branch_inside len p jt jf false h g = g
+pub computes : (arithmetic : Arithmetic) (operand : Operand) (i : Insn) (s : State) (new : Registers) (p : ℕ) → IsFine 4096 p i (Compute arithmetic operand)
+    → (arithmetic ≡ Div → operand_in_computation arithmetic operand i s ≡ 0 → ⊥)
+    → StandFor new (sets A s (value_computed arithmetic s.a (operand_in_computation arithmetic operand i s)))
+    → Agrees (computation arithmetic operand i s) None new
+computes Div Constant i s new p fine apart h = agrees_unless _ _ _ _ (not_zero_test i.k fine) h
+computes Div Index i s new p fine apart h = goes_past (nat_eq s.x 0) _ new (not_zero s.x (apart refl)) h
+computes Lsh Constant i s new p fine apart h = agrees_unless _ _ _ _ (lt_test i.k 32 fine) h
+computes Rsh Constant i s new p fine apart h = agrees_unless _ _ _ _ (lt_test i.k 32 fine) h
+computes arithmetic operand i s new p fine apart h = h
 
--- a step of an instruction that isn't the last, or jumps, stays inside the list
-pub effect_inside : (len : ℕ) (operation : Operation) (i : Insn) (words : List ℕ) (s : State) → IsFine len s.place i operation → s.place + 1 < len → IfGoes (λ t. t.place < len) (effect operation i words s)
-effect_inside len LoadWord i words s fine next = if_unless (λ t. t.place < len) (nat_lt i.k 64 && nat_eq (i.k % 4) 0) LoadOutsideRecord (Goes (sets s (slice_index words (i.k / 4)))) next
-effect_inside len Jump i words s fine next = fine
-effect_inside len (JumpIf test operand) i words s fine next = branch_inside len s.place i.jt i.jf (holds test s.a (operand_of operand i)) fine.0 fine.1
-effect_inside len ReturnConstant i words s fine next = tt
+-- the bound of a shift's second operand
+pub shift_left_bound : (arithmetic : Arithmetic) (operand : Operand) (i : Insn) (s : State) (p : ℕ) → IsFine 4096 p i (Compute arithmetic operand) → arithmetic ≡ Lsh → operand_in_computation arithmetic operand i s < 32
+shift_left_bound Lsh Constant i s p fine e = fine
+shift_left_bound Lsh Index i s p fine e = omega arith
+shift_left_bound Add operand i s p fine e = absurd (cc)
+shift_left_bound Sub operand i s p fine e = absurd (cc)
+shift_left_bound Mul operand i s p fine e = absurd (cc)
+shift_left_bound Div operand i s p fine e = absurd (cc)
+shift_left_bound Or operand i s p fine e = absurd (cc)
+shift_left_bound And operand i s p fine e = absurd (cc)
+shift_left_bound Rsh operand i s p fine e = absurd (cc)
+shift_left_bound Xor operand i s p fine e = absurd (cc)
 
--- a return answers
-pub return_ends : (operation : Operation) (i : Insn) (words : List ℕ) (s t : State) → IsReturn operation → effect operation i words s ≡ Goes t → ⊥
-return_ends ReturnConstant i words s t h e = cc
-return_ends operation i words s t h e = h
+pub shift_right_bound : (arithmetic : Arithmetic) (operand : Operand) (i : Insn) (s : State) (p : ℕ) → IsFine 4096 p i (Compute arithmetic operand) → arithmetic ≡ Rsh → operand_in_computation arithmetic operand i s < 32
+shift_right_bound Rsh Constant i s p fine e = fine
+shift_right_bound Rsh Index i s p fine e = omega arith
+shift_right_bound Add operand i s p fine e = absurd (cc)
+shift_right_bound Sub operand i s p fine e = absurd (cc)
+shift_right_bound Mul operand i s p fine e = absurd (cc)
+shift_right_bound Div operand i s p fine e = absurd (cc)
+shift_right_bound Or operand i s p fine e = absurd (cc)
+shift_right_bound And operand i s p fine e = absurd (cc)
+shift_right_bound Lsh operand i s p fine e = absurd (cc)
+shift_right_bound Xor operand i s p fine e = absurd (cc)
 
--- an instruction that keeps the rules doesn't fault
-pub effect_passes : (len : ℕ) (operation : Operation) (i : Insn) (words : List ℕ) (s : State) (f : Fault) → IsFine len s.place i operation → effect operation i words s ≡ Faults f → ⊥
-effect_passes len LoadWord i words s f fine e = passes (nat_lt i.k 64 && nat_eq (i.k % 4) 0) (word_test i.k fine) e
+-- a division by 0 is one by the index register, and answers 0
+pub divides_by_zero : (arithmetic : Arithmetic) (operand : Operand) (i : Insn) (s : State) (new : Registers) (p : ℕ) → IsFine 4096 p i (Compute arithmetic operand) → arithmetic ≡ Div → operand_in_computation arithmetic operand i s ≡ 0 → Agrees (computation arithmetic operand i s) (Some (record { 0 = 0 })) new
+divides_by_zero arithmetic Constant i s new p fine e zero_value = absurd (no_constant arithmetic fine e zero_value)
   where
-    passes : (b : Bool) → b ≡ true → unless b LoadOutsideRecord (Goes (sets s (slice_index words (i.k / 4)))) ≡ Faults f → ⊥
-    passes true h e = cc
-    passes false h e = cc
-effect_passes len Jump i words s f fine e = cc
-effect_passes len (JumpIf test operand) i words s f fine e = cc
-effect_passes len ReturnConstant i words s f fine e = cc
+    no_constant : (arithmetic : Arithmetic) → IsFine 4096 p i (Compute arithmetic Constant) → arithmetic ≡ Div → operand_in_computation arithmetic Constant i s ≡ 0 → ⊥
+    no_constant arithmetic fine e zero_value = let is_fine : IsFine 4096 p i (Compute Div Constant) = subst (λ (a : Arithmetic). IsFine 4096 p i (Compute a Constant)) e fine in is_fine (subst (λ (a : Arithmetic). operand_in_computation a Constant i s ≡ 0) e zero_value)
+divides_by_zero arithmetic Index i s new p fine e zero_value =
+    let is_zero : s.x ≡ 0 = subst (λ (a : Arithmetic). operand_in_computation a Index i s ≡ 0) e zero_value in
+    subst (λ (a : Arithmetic). Agrees (computation a Index i s) (Some (record { 0 = 0 })) new) (sym e) (answers_zero (nat_eq s.x 0) _ new (eq-eqb s.x 0 is_zero))
+
+-- the registers stand for some state
+pub some_state : (r : Registers) → StandFor r (record { place = r.place; a = r.a; x = r.x; scratch = [] })
+some_state r = record { place = refl; a = refl; x = refl; scratch = λ n value below none. absurd (cc) }

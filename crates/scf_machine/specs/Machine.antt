@@ -1,27 +1,43 @@
 -- The machine that runs a filter over the words of a call record (Linux uapi filter.h and seccomp.h).
-use Rattle.std.specs.Prelude.{◌≡◌, ℕ, ◌+◌, ◌/◌, ◌%◌, ◌≤◌, ◌==◌, nat_lt, ◌&&◌, Bool, List, [], ◌∷◌, length, Option, None, Some, if◌then◌else◌, slice_get, slice_index}
+use Rattle.std.specs.Prelude.{◌≡◌, ℕ, ◌+◌, ◌-◌, ◌*◌, ◌/◌, ◌%◌, ◌^◌, ◌≤◌, ◌==◌, nat_lt, not, ◌&&◌, Bool, List, [], ◌∷◌, length, Option, None, Some, if◌then◌else◌, bit_and, bit_or, bit_xor, slice_get, slice_index}
+use Rattle.std.specs.Map.{lookup}
 use Rattle.scf_insn.specs.declared.insn.Insn.{Insn}
+use Rattle.scf_insn.specs.declared.operation.Register.{Register}
+use Rattle.scf_insn.specs.declared.operation.Register.TheVariants.{A, X}
 use Rattle.scf_insn.specs.declared.operation.Operand.{Operand}
-use Rattle.scf_insn.specs.declared.operation.Operand.TheVariants.{Constant}
+use Rattle.scf_insn.specs.declared.operation.Operand.TheVariants.{Constant, Index}
+use Rattle.scf_insn.specs.declared.operation.Arithmetic.{Arithmetic}
+use Rattle.scf_insn.specs.declared.operation.Arithmetic.TheVariants.{Add, Sub, Mul, Div, Or, And, Lsh, Rsh, Xor}
 use Rattle.scf_insn.specs.declared.operation.Test.{Test}
-use Rattle.scf_insn.specs.declared.operation.Test.TheVariants.{Equal}
+use Rattle.scf_insn.specs.declared.operation.Test.TheVariants.{Equal, Greater, GreaterOrEqual, CommonBit}
 use Rattle.scf_insn.specs.declared.operation.Operation.{Operation}
-use Rattle.scf_insn.specs.declared.operation.Operation.TheVariants.{LoadWord, Jump, JumpIf, ReturnConstant}
+use Rattle.scf_insn.specs.declared.operation.Operation.TheVariants.{LoadWord, LoadLength, LoadConstant, LoadScratch, StoreScratch, Compute, Negate, Jump, JumpIf, ReturnConstant, ReturnAccumulator, CopyToIndex, CopyToAccumulator}
 use Rattle.scf_insn.specs.Codes.{operation_of}
 
--- A state: the place of the next instruction, and the accumulator a.
+-- a scratch word that was stored: its index and its value
+abbrev pub Stored : Type 0
+Stored = ℕ × ℕ
+
+-- A state: the place of the next instruction, the accumulator a, the index register x, and the scratch words
+-- that were stored, the newest first.
 pub record State : Type 0 where
   pub place : ℕ
   pub a : ℕ
+  pub x : ℕ
+  pub scratch : List Stored
 
 abbrev pub start : State
-start = record { place = 0; a = 0 }
+start = record { place = 0; a = 0; x = 0; scratch = [] }
 
 -- Why a machine can't go on.
 pub data Fault : Type 0 where
   NoInstruction : Fault
   UnknownCode : Fault
   LoadOutsideRecord : Fault
+  NoSuchScratchWord : Fault
+  UnsetScratchWord : Fault
+  DivisionByZero : Fault
+  ShiftTooFar : Fault
 
 -- What one step leads to.
 pub data Outcome : Type 0 where
@@ -29,33 +45,92 @@ pub data Outcome : Type 0 where
   Ends : ℕ → Outcome
   Faults : Fault → Outcome
 
--- the next state, at the next instruction, with the accumulator set
-abbrev pub sets : State → ℕ → State
-sets s n = record { place = s.place + 1; a = n }
+-- the scratch word of an index, None where none was stored
+abbrev pub word_at : List Stored → ℕ → Option ℕ
+word_at scratch n = lookup (λ index. index == n) scratch
+
+abbrev pub value_of : Register → State → ℕ
+value_of A s = s.a
+value_of X s = s.x
+
+-- the next state, at the next instruction, with a register set
+abbrev pub sets : Register → State → ℕ → State
+sets A s n = record s { place = s.place + 1; a = n }
+sets X s n = record s { place = s.place + 1; x = n }
+
+-- the next state, at the next instruction, with a scratch word stored
+abbrev pub stores : State → ℕ → ℕ → State
+stores s n value = record s { place = s.place + 1; scratch = (n, value) ∷ s.scratch }
 
 -- the state at the target of a jump
 abbrev pub jumps_to : State → ℕ → State
 jumps_to s target = record s { place = target }
 
--- the second operand of a test
-abbrev pub operand_of : Operand → Insn → ℕ
-operand_of Constant i = i.k
+-- the second operand of a test: the constant k, or the index register
+abbrev pub operand_of : Operand → Insn → State → ℕ
+operand_of Constant i s = i.k
+operand_of Index i s = s.x
 
--- whether a test of two numbers holds
+-- the second operand of a computation: of a shift by the index register, its low five bits
+abbrev pub operand_in_computation : Arithmetic → Operand → Insn → State → ℕ
+operand_in_computation arithmetic Constant i s = i.k
+operand_in_computation Lsh Index i s = s.x % 32
+operand_in_computation Rsh Index i s = s.x % 32
+operand_in_computation arithmetic Index i s = s.x
+
+-- what a computation on two numbers gives
+abbrev pub value_computed : Arithmetic → ℕ → ℕ → ℕ
+value_computed Add a v = (a + v) % 2 ^ 32
+value_computed Sub a v = (a + 2 ^ 32 - v) % 2 ^ 32
+value_computed Mul a v = (a * v) % 2 ^ 32
+value_computed Div a v = a / v
+value_computed Or a v = bit_or a v
+value_computed And a v = bit_and a v
+value_computed Lsh a v = (a * 2 ^ v) % 2 ^ 32
+value_computed Rsh a v = a / 2 ^ v
+value_computed Xor a v = bit_xor a v
+
+-- whether a test of two unsigned numbers holds
 abbrev pub holds : Test → ℕ → ℕ → Bool
 holds Equal a v = a == v
+holds Greater a v = nat_lt v a
+holds GreaterOrEqual a v = not (nat_lt a v)
+holds CommonBit a v = not (bit_and a v == 0)
 
 -- the outcome where the condition holds, else a fault
 abbrev pub unless : Bool → Fault → Outcome → Outcome
 unless condition fault outcome = (if condition then outcome else Faults fault)
 
+-- a computation: a constant divisor of 0 or a constant shift past 31 is a fault, and a division by an index
+-- register of 0 answers 0
+abbrev pub computation : Arithmetic → Operand → Insn → State → Outcome
+computation Div Constant i s = unless (not (i.k == 0)) DivisionByZero (Goes (sets A s (value_computed Div s.a i.k)))
+computation Div Index i s = (if s.x == 0 then Ends 0 else Goes (sets A s (value_computed Div s.a s.x)))
+computation Lsh Constant i s = unless (nat_lt i.k 32) ShiftTooFar (Goes (sets A s (value_computed Lsh s.a i.k)))
+computation Rsh Constant i s = unless (nat_lt i.k 32) ShiftTooFar (Goes (sets A s (value_computed Rsh s.a i.k)))
+computation arithmetic operand i s = Goes (sets A s (value_computed arithmetic s.a (operand_in_computation arithmetic operand i s)))
+
+-- loads a scratch word, which must be stored
+abbrev pub loads : Register → State → Option ℕ → Outcome
+loads r s None = Faults UnsetScratchWord
+loads r s (Some value) = Goes (sets r s value)
+
 -- what an operation of an instruction does to a state, over the words of a record
 abbrev pub effect : Operation → Insn → List ℕ → State → Outcome
-effect LoadWord i words s = unless (nat_lt i.k 64 && (i.k % 4 == 0)) LoadOutsideRecord (Goes (sets s (slice_index words (i.k / 4))))
+effect LoadWord i words s = unless (nat_lt i.k 64 && (i.k % 4 == 0)) LoadOutsideRecord (Goes (sets A s (slice_index words (i.k / 4))))
+effect (LoadLength r) i words s = Goes (sets r s 64)
+effect (LoadConstant r) i words s = Goes (sets r s i.k)
+effect (LoadScratch r) i words s = unless (nat_lt i.k 16) NoSuchScratchWord (loads r s (word_at s.scratch i.k))
+effect (StoreScratch r) i words s = unless (nat_lt i.k 16) NoSuchScratchWord (Goes (stores s i.k (value_of r s)))
+effect (Compute arithmetic operand) i words s = computation arithmetic operand i s
+effect Negate i words s = Goes (sets A s ((2 ^ 32 - s.a) % 2 ^ 32))
 effect Jump i words s = Goes (jumps_to s (s.place + 1 + i.k))
 effect (JumpIf test operand) i words s =
-    Goes (jumps_to s (s.place + 1 + (if holds test s.a (operand_of operand i) then i.jt else i.jf)))
+    Goes (jumps_to s (s.place + 1 + (if holds test s.a (operand_of operand i s) then i.jt else i.jf)))
 effect ReturnConstant i words s = Ends i.k
+effect ReturnAccumulator i words s = Ends s.a
+effect CopyToIndex i words s = Goes (sets X s s.a)
+effect CopyToAccumulator i words s = Goes (sets A s s.x)
 
 abbrev pub effect_of_insn : Insn → List ℕ → State → Option Operation → Outcome
 effect_of_insn i words s None = Faults UnknownCode

@@ -1,8 +1,12 @@
 -- What makes a list of instructions a filter (Linux uapi filter.h; seccomp(2)).
-use Rattle.std.specs.Prelude.{◌≡◌, ℕ, ◌+◌, ◌-◌, ◌%◌, ◌<◌, ◌≤◌, List, length, Some, slice_get}
+use Rattle.std.specs.Prelude.{◌≡◌, ◌≢◌, ℕ, ◌+◌, ◌-◌, ◌%◌, ◌<◌, ◌≤◌, ◌==◌, ◌⊎◌, Bool, false, List, [], ◌∷◌, length, Option, None, Some, slice_get, IsTrue}
+use Rattle.std.specs.List.{list_any}
 use Rattle.scf_insn.specs.declared.insn.Insn.{Insn}
+use Rattle.scf_insn.specs.declared.operation.Register.{Register}
+use Rattle.scf_insn.specs.declared.operation.Operand.TheVariants.{Constant}
+use Rattle.scf_insn.specs.declared.operation.Arithmetic.TheVariants.{Div, Lsh, Rsh}
 use Rattle.scf_insn.specs.declared.operation.Operation.{Operation}
-use Rattle.scf_insn.specs.declared.operation.Operation.TheVariants.{LoadWord, Jump, JumpIf, ReturnConstant}
+use Rattle.scf_insn.specs.declared.operation.Operation.TheVariants.{LoadWord, LoadScratch, StoreScratch, Compute, Jump, JumpIf, ReturnConstant, ReturnAccumulator}
 use Rattle.scf_insn.specs.Codes.{operation_of}
 
 -- At a place of the list stands this instruction, whose code asks for this operation.
@@ -10,10 +14,15 @@ pub record Stands (insns : List Insn) (place : ℕ) (i : Insn) (operation : Oper
   pub here : slice_get insns place ≡ Some i
   pub known : operation_of i.code ≡ Some operation
 
--- What the rules ask of an instruction at a place, in a list of a length: a load within the record, and jump
--- targets inside the list.
+-- What the rules ask of an instruction at a place, in a list of a length: a load within the record, a scratch
+-- index below 16, a divisor that isn't 0, a shift below 32, and jump targets inside the list.
 abbrev pub IsFine : ℕ → ℕ → Insn → Operation → Type 0
 IsFine len place i LoadWord = (i.k < 64) × (i.k % 4 ≡ 0)
+IsFine len place i (LoadScratch r) = i.k < 16
+IsFine len place i (StoreScratch r) = i.k < 16
+IsFine len place i (Compute Div Constant) = i.k ≢ 0
+IsFine len place i (Compute Lsh Constant) = i.k < 32
+IsFine len place i (Compute Rsh Constant) = i.k < 32
 IsFine len place i Jump = place + 1 + i.k < len
 IsFine len place i (JumpIf test operand) = (place + 1 + i.jt < len) × (place + 1 + i.jf < len)
 IsFine len place i _ = Unit {0}
@@ -27,11 +36,64 @@ pub record IsFineAt (insns : List Insn) (place : ℕ) : Type 0 where
 
 abbrev pub IsReturn : Operation → Type 0
 IsReturn ReturnConstant = Unit {0}
+IsReturn ReturnAccumulator = Unit {0}
 IsReturn _ = ⊥
 
--- A valid list: 1 to 4096 instructions, each known and within the rules, the last one a return.
+-- The rules on each place: 1 to 4096 instructions, each fine, the last one a return.
 pub record IsValidList (insns : List Insn) : Type 0 where
   pub some : 0 < length insns
   pub few : length insns ≤ 4096
   pub each : (place : ℕ) → place < length insns → IsFineAt insns place
   pub last : (i : Insn) (operation : Operation) → Stands insns (length insns - 1) i operation → IsReturn operation
+
+-- An edge goes from a place to each jump target of its instruction, and from every other instruction, a return
+-- and an unknown code included, to the next place.
+abbrev pub GoesTo : Option Operation → Insn → ℕ → ℕ → Type 0
+GoesTo (Some Jump) i place target = target ≡ place + 1 + i.k
+GoesTo (Some (JumpIf test operand)) i place target = (target ≡ place + 1 + i.jt) ⊎ (target ≡ place + 1 + i.jf)
+GoesTo _ i place target = target ≡ place + 1
+
+pub record Edge (insns : List Insn) (place target : ℕ) : Type 0 where
+  pub insn : Insn
+  pub here : slice_get insns place ≡ Some insn
+  pub goes : GoesTo (operation_of insn.code) insn place target
+
+-- A path: it comes to a place through earlier ones, the latest first, from place 0 by edges.
+abbrev pub IsPath : List Insn → ℕ → List ℕ → Type 0
+IsPath insns place [] = place ≡ 0
+IsPath insns place (before ∷ earlier) = Edge insns before place × IsPath insns before earlier
+
+-- the operation stores the scratch word n, of an instruction with this constant
+abbrev pub stores_word : Operation → ℕ → ℕ → Bool
+stores_word (StoreScratch r) k n = k == n
+stores_word _ k n = false
+
+abbrev pub stores_word_of : Option Operation → ℕ → ℕ → Bool
+stores_word_of None k n = false
+stores_word_of (Some operation) k n = stores_word operation k n
+
+abbrev pub insn_stores_word : Option Insn → ℕ → Bool
+insn_stores_word None n = false
+insn_stores_word (Some i) n = stores_word_of (operation_of i.code) i.k n
+
+-- the instruction at a place stores the scratch word n
+unfoldable pub stores_at : List Insn → ℕ → ℕ → Bool
+stores_at insns n place = insn_stores_word (slice_get insns place) n
+
+-- The instruction at a place loads the scratch word n.
+pub record LoadsAt (insns : List Insn) (place n : ℕ) : Type 0 where
+  pub insn : Insn
+  pub register : Register
+  pub stands : Stands insns place insn (LoadScratch register)
+  pub index : insn.k ≡ n
+
+-- On every path to a load of a scratch word, an earlier place stores that word.
+abbrev pub KeepsScratchRule : List Insn → Type 0
+KeepsScratchRule insns = (place n : ℕ) (earlier : List ℕ) → LoadsAt insns place n → IsPath insns place earlier → IsTrue (list_any (stores_at insns n) earlier)
+
+-- A path leads to a load of the scratch word n on which no earlier place stores it.
+pub record IsUnsetAt (insns : List Insn) (place n : ℕ) : Type 0 where
+  pub loads : LoadsAt insns place n
+  pub earlier : List ℕ
+  pub path : IsPath insns place earlier
+  pub unset : list_any (stores_at insns n) earlier ≡ false

@@ -1,17 +1,21 @@
 //! The checker of filters.
 
-ghost use Rattle.std.specs.Prelude.{◌≡◌, ◌+◌, ◌<◌, ◌≤◌, ◌↔◌, ℕ, List, length, IsTrue, IfOk, IfErr, OnOk};
+ghost use Rattle.std.specs.Prelude.{◌≡◌, ◌≢◌, ◌+◌, ◌-◌, ◌<◌, ◌≤◌, ◌↔◌, ℕ, List, length, IsTrue, IfOk, IfErr, OnOk, if◌then◌else◌, slice_get, Some};
+ghost use Rattle.std.specs.Int.{bit_at};
+ghost use Rattle.std.specs.List.{AllByRecursion};
+ghost use Rattle.scf_insn.specs.Insn.{IsInsn};
 ghost use Rattle.scf_insn.specs.declared.insn.Insn.{Insn};
 ghost use Rattle.scf_machine.specs.Checks.{IsFirstFault, IsFineBelow};
 ghost use Rattle.scf_machine.specs.Machine.{RunsSafely};
-ghost use Rattle.scf_machine.specs.Rules.{IsFine, IsFineAt, IsValidList, Stands};
+ghost use Rattle.scf_machine.specs.Masks.{Joins, MasksAt};
+ghost use Rattle.scf_machine.specs.Rules.{IsFine, IsFineAt, IsValidList, Stands, GoesTo, KeepsScratchRule, stores_word};
 
 use crate::program::Program;
-use scf_insn::{Insn, Operation};
-use std::alloc::Global;
+use scf_insn::{Arithmetic, Insn, Operand, Operation};
+use std::alloc::{AllocError, Global};
 use thiserror::Error;
 
-/// Why a list of instructions is refused.
+/// Why a list of instructions is refused. `at` is the place of an instruction, from 0 on.
 #[derive(Clone, Copy, Debug, PartialEq, Eq, Error)]
 pub enum CheckFault {
     #[error("the program is empty")]
@@ -38,8 +42,30 @@ pub enum CheckFault {
     Memory,
 }
 
+impl From<AllocError> for CheckFault {
+    ghost use Rattle.std.specs.Prelude.{◌≡◌};
+    ghost use Rattle.scf_machine.specs.declared.checker.CheckFault.TheVariants.{Memory};
+
+    ghost from_gives = { λ _ e. e ≡ Memory };
+
+    fn from(_e: AllocError) -> CheckFault {
+        CheckFault::Memory
+    }
+}
+
 /// The most instructions that a filter has.
 const MAX_INSNS: usize = 4096;
+
+/// Whether a constant operand is one that the computation may have.
+fn is_fine_constant(arithmetic: Arithmetic, len: usize, at: usize, insn: Insn) -> bool
+    ensures { IsTrue result ↔ IsFine len at insn (Operation.Compute arithmetic Operand.Constant) }
+{
+    match arithmetic {
+        Arithmetic::Div => insn.k != 0,
+        Arithmetic::Lsh | Arithmetic::Rsh => insn.k < 32,
+        _ => true,
+    }
+}
 
 /// Whether an instruction keeps the rule of its operation.
 fn is_fine(len: usize, at: usize, insn: Insn, operation: Operation) -> bool
@@ -48,6 +74,10 @@ fn is_fine(len: usize, at: usize, insn: Insn, operation: Operation) -> bool
 {
     match operation {
         Operation::LoadWord => insn.k < 64 && insn.k % 4 == 0,
+        Operation::LoadScratch(_) | Operation::StoreScratch(_) => insn.k < 16,
+        Operation::Compute(arithmetic, Operand::Constant) => {
+            is_fine_constant(arithmetic, len, at, insn)
+        }
         Operation::Jump => at + 1 + (insn.k as usize) < len,
         Operation::JumpIf(_, _) => {
             at + 1 + (insn.jt as usize) < len && at + 1 + (insn.jf as usize) < len
@@ -63,6 +93,9 @@ fn fault_of(operation: Operation, at: usize) -> CheckFault
 {
     match operation {
         Operation::LoadWord => CheckFault::Load { at },
+        Operation::LoadScratch(_) | Operation::StoreScratch(_) => CheckFault::Scratch { at },
+        Operation::Compute(Arithmetic::Div, _) => CheckFault::Divisor { at },
+        Operation::Compute(_, _) => CheckFault::Shift { at },
         _ => CheckFault::Jump { at },
     }
 }
@@ -104,14 +137,114 @@ fn check_last(insns: &[Insn]) -> Result<(), CheckFault>
     let last = insns[insns.len() - 1];
     match last.operation() {
         Some(Operation::ReturnConstant) => Ok(()),
+        Some(Operation::ReturnAccumulator) => Ok(()),
         _ => Err(CheckFault::LastNotReturn),
     }
 }
 
-fn find_fault(insns: &[Insn]) -> Result<(), CheckFault>
-    ensures ok { OnOk result (IsValidList insns.now) }
+/// Whether the scratch word is in the mask.
+fn is_stored(mask: u16, word: u32) -> bool
+    requires { word < 16 }
+    ensures { IsTrue result ↔ (bit_at mask word ≡ 1) }
+{
+    (mask >> word) & 1 == 1
+}
+
+/// The mask with the scratch word that an instruction stores.
+fn mask_after(mask: u16, insn: Insn, operation: Operation) -> u16
+    requires { IsTrue (stores_word operation insn.k insn.k) → insn.k < 16 }
+    ensures { (n : ℕ) → n < 16 → bit_at result n ≡ (if stores_word operation insn.k n then 1 else bit_at mask n) }
+{
+    match operation {
+        Operation::StoreScratch(_) => mask | 1 << insn.k,
+        _ => mask,
+    }
+}
+
+/// The mask of a place loses the bits that a mask lacks.
+fn join_at(masks: &mut [u16], target: usize, mask: u16)
+    requires { target < length masks.old }
+    ensures { Joins masks.old masks.new (λ p. p ≡ target) mask }
+{
+    masks[target] &= mask;
+}
+
+/// The masks of the places that an instruction leads to lose the bits that a mask lacks.
+fn join(masks: &mut [u16], at: usize, insn: Insn, operation: Operation, mask: u16)
+    requires inside { at < length masks.old }
+    requires fine { IsFine (length masks.old) at insn operation }
+    ensures { Joins masks.old masks.new (GoesTo (Some operation) insn at) mask }
+{
+    match operation {
+        Operation::Jump => join_at(masks, at + 1 + insn.k as usize, mask),
+        Operation::JumpIf(_, _) => {
+            join_at(masks, at + 1 + insn.jt as usize, mask);
+            join_at(masks, at + 1 + insn.jf as usize, mask);
+        }
+        _ => {
+            if at + 1 < masks.len() {
+                join_at(masks, at + 1, mask);
+            }
+        }
+    }
+}
+
+/// Refuses the first load of a scratch word that some path to it doesn't store.
+fn find_unset(insns: &[Insn], masks: &mut [u16]) -> Result<(), CheckFault>
+    requires valid { IsValidList insns.now }
+    requires start { MasksAt insns.now masks.old 0 }
+    ensures ok { OnOk result (KeepsScratchRule insns.now) }
     ensures err { IfErr result (IsFirstFault insns.now) }
 {
+    for at in 0..insns.len() {
+        let insn = insns[at];
+        let Some(operation) = insn.operation() else {
+            unreachable!();
+        };
+        let mask = masks[at];
+        if let Operation::LoadScratch(_) = operation {
+            if !is_stored(mask, insn.k) {
+                let word = insn.k as u8;
+                return Err(CheckFault::Unset { at, word });
+            }
+        }
+        join(
+            masks,
+            at,
+            insn,
+            operation,
+            mask_after(mask, insn, operation),
+        );
+    }
+    Ok(())
+}
+
+/// Looks at each load of a scratch word. The mask of a place has the words that each path to it stores; no path
+/// was seen at first but the one to place 0.
+fn check_scratch(alloc: Global, insns: &[Insn]) -> Result<(), CheckFault>
+    requires { IsValidList insns.now }
+    ensures ok { OnOk result (KeepsScratchRule insns.now) }
+    ensures err { IfErr result (IsFirstFault insns.now) }
+{
+    let mut masks = vec![in alloc; u16::MAX; insns.len()]?;
+    masks[0] = 0;
+    find_unset(insns, &mut masks)
+}
+
+/// The fields of each instruction are within their widths.
+fn note_widths(insns: &[Insn])
+    ensures { AllByRecursion IsInsn insns.now }
+{
+    for insn in insns {
+        insn.within_widths();
+    }
+}
+
+fn find_fault(alloc: Global, insns: &[Insn]) -> Result<(), CheckFault>
+    ensures ok { OnOk result (AllByRecursion IsInsn insns.now × IsValidList insns.now × KeepsScratchRule insns.now) }
+    ensures err { IfErr result (IsFirstFault insns.now) }
+{
+    note_widths(insns);
     if insns.is_empty() {
         return Err(CheckFault::Empty);
     }
@@ -119,22 +252,24 @@ fn find_fault(insns: &[Insn]) -> Result<(), CheckFault>
         return Err(CheckFault::TooLong);
     }
     check_places(insns)?;
-    check_last(insns)
+    check_last(insns)?;
+    check_scratch(alloc, insns)
 }
 
 /// Accepts a list of instructions, or says why not and hands the list back.
 ///
-/// The faults come in this order: `Empty`, `TooLong`; then the lowest place with one of `Code`, `Load` and `Jump`;
-/// then `LastNotReturn`. No other comes, since none of the known codes can cause it and nothing grows.
-pub fn check(_alloc: Global, insns: Vec<Insn>) -> Result<Program, (CheckFault, Vec<Insn>)>
-    ensures accepted { IfOk result (λ program. (program ≡ insns.items) × IsValidList program) }
+/// The faults come in this order: `Empty`, `TooLong`; then the lowest place with one of `Code`, `Load`, `Scratch`,
+/// `Divisor`, `Shift` and `Jump`; then `LastNotReturn`; then `Memory`, at the one growth; then `Unset` at the lowest
+/// place that some path comes to without a store of the word that is loaded there.
+pub fn check(alloc: Global, insns: Vec<Insn>) -> Result<Program, (CheckFault, Vec<Insn>)>
+    ensures accepted { IfOk result (λ program. (program ≡ insns.items) × IsValidList program × KeepsScratchRule program) }
     // Each run of an accepted program ends in an answer within its length, and none faults.
     ensures safe { IfOk result (λ program. (words : List ℕ) → RunsSafely program words) }
     ensures refused { IfErr result (λ e. IsFirstFault insns.items e.0) }
-    ensures only_where { IfErr result (λ e. IsValidList insns.items → ⊥) }
+    ensures only_where { IfErr result (λ e. e.0 ≢ CheckFault.Memory → IsValidList insns.items → KeepsScratchRule insns.items → ⊥) }
     ensures handed_back { IfErr result (λ e. e.1.items ≡ insns.items) }
 {
-    match find_fault(&insns) {
+    match find_fault(alloc, &insns) {
         Ok(()) => Ok(Program { list: insns }),
         Err(fault) => Err((fault, insns)),
     }

@@ -1,13 +1,14 @@
 //! The machine that runs a filter.
 
-ghost use Rattle.std.specs.Prelude.{◌≡◌, ◌+◌, ◌<◌, ◌≤◌, length};
+ghost use Rattle.std.specs.Prelude.{◌≡◌, ◌≢◌, ◌⊎◌, ℕ, ◌+◌, ◌<◌, ◌≤◌, ◌^◌, length, Some, slice_get, IsTrue, ◌↔◌};
+ghost use Rattle.scf_insn.specs.Codes.{operation_of};
 ghost use Rattle.scf_insn.specs.Words.{words_of};
-ghost use Rattle.scf_machine.specs.Machine.{start, sets, operand_of, holds, effect, IsRun, RunsSafely};
-ghost use Rattle.scf_machine.specs.Registers.{state_of, Agrees};
+ghost use Rattle.scf_machine.specs.Machine.{State, value_of, sets, stores, operand_of, operand_in_computation, value_computed, computation, holds, effect, IsRun, RunsSafely, start};
 ghost use Rattle.scf_machine.specs.Rules.{IsFine};
+ghost use Rattle.scf_machine.specs.Registers.{StandFor, Agrees};
 
 use crate::program::Program;
-use scf_insn::{Answer, CallRecord, Insn, Operand, Operation, Test};
+use scf_insn::{Answer, Arithmetic, CallRecord, Insn, Operand, Operation, Register, Test};
 
 /// The answer of a run, and how many instructions it executed.
 #[derive(Clone, Copy, Debug, PartialEq, Eq)]
@@ -16,11 +17,35 @@ pub struct Ran {
     pub steps: u32,
 }
 
-/// The registers of a running machine: the place of the next instruction and the accumulator.
+/// How many bytes a record has.
+const RECORD_LEN: u32 = 64;
+
+/// The registers and scratch words of a running machine.
 #[derive(Clone, Copy)]
 struct Registers {
     place: usize,
     a: u32,
+    x: u32,
+    scratch: [u32; 16],
+}
+
+fn compute(arithmetic: Arithmetic, a: u32, value: u32) -> u32
+    requires divisor { arithmetic ≡ Arithmetic.Div → value ≢ 0 }
+    requires left { arithmetic ≡ Arithmetic.Lsh → value < 32 }
+    requires right { arithmetic ≡ Arithmetic.Rsh → value < 32 }
+    ensures { result ≡ value_computed arithmetic a value }
+{
+    match arithmetic {
+        Arithmetic::Add => a.wrapping_add(value),
+        Arithmetic::Sub => a.wrapping_sub(value),
+        Arithmetic::Mul => a.wrapping_mul(value),
+        Arithmetic::Div => a / value,
+        Arithmetic::Or => a | value,
+        Arithmetic::And => a & value,
+        Arithmetic::Lsh => a << value,
+        Arithmetic::Rsh => a >> value,
+        Arithmetic::Xor => a ^ value,
+    }
 }
 
 fn holds_of(test: Test, a: u32, value: u32) -> bool
@@ -28,45 +53,115 @@ fn holds_of(test: Test, a: u32, value: u32) -> bool
 {
     match test {
         Test::Equal => a == value,
-    }
-}
-
-/// The second operand of a test.
-fn operand_in(insn: Insn, operand: Operand) -> u32
-    ensures { result ≡ operand_of operand insn }
-{
-    match operand {
-        Operand::Constant => insn.k,
+        Test::Greater => a > value,
+        Test::GreaterOrEqual => a >= value,
+        Test::CommonBit => a & value != 0,
     }
 }
 
 impl Registers {
     fn new() -> Registers
-        ensures { state_of result ≡ start }
+        ensures { StandFor result start }
     {
-        Registers { place: 0, a: 0 }
+        Registers {
+            place: 0,
+            a: 0,
+            x: 0,
+            scratch: [0; 16],
+        }
     }
 
-    /// Goes on to the next instruction with the accumulator set.
-    fn set(&mut self, value: u32)
-        requires { self.old.place < 4096 }
-        ensures { state_of self.new ≡ sets (state_of self.old) value }
+    fn get(&self, register: Register) -> u32
+        ensures { (s : State) → StandFor self.now s → result ≡ value_of register s }
     {
-        self.a = value;
+        match register {
+            Register::A => self.a,
+            Register::X => self.x,
+        }
+    }
+
+    /// Goes on to the next instruction with a register set.
+    fn set(&mut self, register: Register, value: u32)
+        requires { self.old.place < 4096 }
+        ensures { (s : State) → StandFor self.old s → StandFor self.new (sets register s value) }
+    {
+        match register {
+            Register::A => self.a = value,
+            Register::X => self.x = value,
+        }
         self.place += 1;
+    }
+
+    /// Goes on to the next instruction with a scratch word stored.
+    fn store(&mut self, index: u8, value: u32)
+        requires place { self.old.place < 4096 }
+        requires index { index < 16 }
+        ensures { (s : State) → StandFor self.old s → StandFor self.new (stores s index value) }
+    {
+        self.scratch[index as usize] = value;
+        self.place += 1;
+    }
+
+    /// The second operand.
+    fn operand(&self, operand: Operand, insn: Insn) -> u32
+        ensures { (s : State) → StandFor self.now s → result ≡ operand_of operand insn s }
+    {
+        match operand {
+            Operand::Constant => insn.k,
+            Operand::Index => self.x,
+        }
+    }
+
+    /// The second operand of a computation: of a shift by the index register, its low five bits.
+    fn operand_in_computation(&self, arithmetic: Arithmetic, operand: Operand, insn: Insn) -> u32
+        ensures { (s : State) → StandFor self.now s → result ≡ operand_in_computation arithmetic operand insn s }
+    {
+        match operand {
+            Operand::Constant => insn.k,
+            Operand::Index => match arithmetic {
+                Arithmetic::Lsh => self.x % 32,
+                Arithmetic::Rsh => self.x % 32,
+                _ => self.x,
+            },
+        }
+    }
+
+    /// Executes a computation, which answers 0 where it divides by an index register of 0.
+    fn compute(&mut self, arithmetic: Arithmetic, operand: Operand, insn: Insn) -> Option<Answer>
+        requires place { self.old.place < 4096 }
+        requires fine { IsFine 4096 self.old.place insn (Operation.Compute arithmetic operand) }
+        ensures { (s : State) → StandFor self.old s → Agrees (computation arithmetic operand insn s) result self.new }
+    {
+        let value = self.operand_in_computation(arithmetic, operand, insn);
+        if matches!(arithmetic, Arithmetic::Div) && value == 0 {
+            return Some(Answer(0));
+        }
+        self.set(Register::A, compute(arithmetic, self.a, value));
+        None
     }
 
     /// Executes one instruction.
     fn step(&mut self, insn: Insn, operation: Operation, call: &CallRecord) -> Option<Answer>
         requires place { self.old.place < 4096 }
         requires fine { IsFine 4096 self.old.place insn operation }
-        ensures { Agrees (effect operation insn (words_of call.now) (state_of self.old)) result self.new }
+        ensures { (s : State) → StandFor self.old s → Agrees (effect operation insn (words_of call.now) s) result self.new }
     {
         match operation {
-            Operation::LoadWord => self.set(call.word((insn.k / 4) as u8)),
+            Operation::LoadWord => self.set(Register::A, call.word((insn.k / 4) as u8)),
+            Operation::LoadLength(register) => self.set(register, RECORD_LEN),
+            Operation::LoadConstant(register) => self.set(register, insn.k),
+            Operation::LoadScratch(register) => {
+                self.set(register, self.scratch[insn.k as usize]);
+            }
+            Operation::StoreScratch(register) => self.store(insn.k as u8, self.get(register)),
+            Operation::Compute(arithmetic, operand) => {
+                return self.compute(arithmetic, operand, insn);
+            }
+            Operation::Negate => self.set(Register::A, 0u32.wrapping_sub(self.a)),
             Operation::Jump => self.place += 1 + insn.k as usize,
             Operation::JumpIf(test, operand) => {
-                let offset = if holds_of(test, self.a, operand_in(insn, operand)) {
+                let value = self.operand(operand, insn);
+                let offset = if holds_of(test, self.a, value) {
                     insn.jt
                 } else {
                     insn.jf
@@ -74,12 +169,15 @@ impl Registers {
                 self.place += 1 + offset as usize;
             }
             Operation::ReturnConstant => return Some(Answer(insn.k)),
+            Operation::ReturnAccumulator => return Some(Answer(self.a)),
+            Operation::CopyToIndex => self.set(Register::X, self.a),
+            Operation::CopyToAccumulator => self.set(Register::A, self.x),
         }
         None
     }
 }
 
-/// Runs a filter over the record of a call: its one run's answer and length.
+/// Runs a filter over the record of a call: the answer and the length of its one run.
 pub fn run(program: &Program, call: &CallRecord) -> Ran
     ensures run { IsRun program.now (words_of call.now) result.answer.0 result.steps }
     ensures bound { result.steps ≤ length program.now }
@@ -87,7 +185,7 @@ pub fn run(program: &Program, call: &CallRecord) -> Ran
 {
     let insns = &program.list;
     let mut registers = Registers::new();
-    let mut steps = 0;
+    let mut steps = 0u32;
     loop {
         let insn = insns[registers.place];
         steps += 1;

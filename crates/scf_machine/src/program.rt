@@ -1,8 +1,10 @@
 //! Filters that were checked.
 
 ghost use Rattle.std.specs.Prelude.{◌≡◌, ℕ, List, length};
+ghost use Rattle.std.specs.List.{AllByRecursion};
+ghost use Rattle.scf_insn.specs.Insn.{IsInsn};
 ghost use Rattle.scf_machine.specs.Machine.{RunsSafely};
-ghost use Rattle.scf_machine.specs.Rules.{IsValidList};
+ghost use Rattle.scf_machine.specs.Rules.{IsValidList, KeepsScratchRule};
 
 use scf_insn::Insn;
 use std::marker::Model;
@@ -16,20 +18,24 @@ pub struct Program {
 impl Model for Program {
     ghost use Rattle.std.specs.Prelude.{List};
     ghost use Rattle.scf_insn.specs.declared.insn.Insn.{Insn};
-    ghost use Rattle.scf_machine.specs.Rules.{IsValidList};
+    ghost use Rattle.std.specs.List.{AllByRecursion};
+    ghost use Rattle.scf_insn.specs.Insn.{IsInsn};
+    ghost use Rattle.scf_machine.specs.Rules.{IsValidList, KeepsScratchRule};
 
     ghost Value = { List Insn };
 
     ghost view = { λ p. p.list.items };
 
-    ghost invariant = { λ p. IsValidList p.list.items };
+    ghost invariant = { λ p. AllByRecursion IsInsn p.list.items × IsValidList p.list.items × KeepsScratchRule p.list.items };
 }
 
 impl Program {
-    /// The instructions. They are a valid list, and each run of them ends in an answer within its length.
+    /// The instructions. They keep the rules of filters, and each run of them ends in an answer within its length.
     pub fn insns(&self) -> &[Insn]
         ensures same { result.now ≡ self.now }
+        ensures widths { AllByRecursion IsInsn self.now }
         ensures valid { IsValidList self.now }
+        ensures stored { KeepsScratchRule self.now }
         ensures safe { (words : List ℕ) → RunsSafely self.now words }
     {
         &self.list

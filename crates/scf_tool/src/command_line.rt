@@ -41,8 +41,9 @@ fn on_call<'a>(alloc: Global, name: &'a str, about: &'a str) -> Result<Command<'
 fn program<'a>(alloc: Global) -> Result<Command<'a>, AllocError> {
     Command::new(alloc, "scf")
         .version(VERSION)
-        .about("Runs seccomp filters for x86-64. Filters come on standard input.")
+        .about("Checks and runs seccomp filters for x86-64. Filters come on standard input.")
         .subcommand_required(true)
+        .subcommand(Command::new(alloc, "check").about("Checks a filter"))?
         .subcommand(on_call(alloc, "run", "Runs a filter on a call")?)
 }
 

@@ -11,7 +11,7 @@ use crate::fault::Fault;
 use crate::reply::{Reply, write_reply};
 use crate::status::Status;
 use clap::ArgMatches;
-use filter::run_filter;
+use filter::{check_filter, run_filter};
 use scf_insn::{Sink, Source};
 use std::alloc::Global;
 use std::convert::AsStr;
@@ -25,6 +25,7 @@ fn dispatch<R: Source>(
     ensures { IsQuiet R.failures input.old result input.new }
 {
     match matches.subcommand() {
+        Some(("check", _)) => check_filter(alloc, input),
         Some(("run", options)) => run_filter(alloc, options, input),
         _ => usage(alloc),
     }

@@ -1,12 +1,14 @@
 //! What the program prints, and its exit status.
 
-ghost use Rattle.std.specs.Prelude.{◌≡◌, ◌++◌};
+ghost use Rattle.std.specs.Prelude.{◌≡◌, ◌++◌, codes};
+ghost use Rattle.std.specs.Fmt.{decimal};
 ghost use Rattle.scf_insn.specs.Streams.{Writes};
 ghost use Rattle.scf_tool.specs.Lines.{answer_text, steps_text};
 ghost use Rattle.scf_tool.specs.Replies.{reply_text, status_of};
 
 use crate::fault::{Fault, write_fault};
 use crate::lines::{write_answer, write_steps};
+use crate::pieces::{Piece, write_pieces};
 use crate::status::Status;
 use scf_insn::{Sink, WriteFault, write_whole};
 use scf_machine::Ran;
@@ -16,6 +18,8 @@ use scf_machine::Ran;
 pub(crate) enum Reply {
     /// The text of the command line's reader: help, the version, or what is wrong with the words.
     CommandLine { text: String, status: Status },
+    /// A filter of this many instructions is accepted.
+    Accepted(usize),
     /// A filter was run.
     Ran(Ran),
     /// The command ended early.
@@ -29,10 +33,23 @@ impl Reply {
     {
         match self {
             Reply::CommandLine { status, .. } => *status,
-            Reply::Ran(_) => Status::Well,
+            Reply::Accepted(_) | Reply::Ran(_) => Status::Well,
             Reply::Fault(fault) => fault.status,
         }
     }
+}
+
+fn write_accepted<S: Sink>(sink: &mut S, count: usize) -> Result<(), WriteFault>
+    ensures { Writes S.contents S.failures sink.old (codes "accepted " ++ decimal count ++ codes "\n") result sink.new }
+{
+    write_pieces(
+        sink,
+        &[
+            Piece::Text("accepted "),
+            Piece::Decimal(count as u64),
+            Piece::Text("\n"),
+        ],
+    )
 }
 
 fn write_ran<S: Sink>(sink: &mut S, ran: Ran) -> Result<(), WriteFault>
@@ -48,6 +65,7 @@ pub(crate) fn write_reply<S: Sink>(sink: &mut S, reply: &Reply) -> Result<(), Wr
 {
     match reply {
         Reply::CommandLine { text, .. } => write_whole(sink, text.as_bytes()),
+        Reply::Accepted(count) => write_accepted(sink, *count),
         Reply::Ran(ran) => write_ran(sink, *ran),
         Reply::Fault(fault) => write_fault(sink, *fault),
     }

@@ -21,6 +21,14 @@ fn read_filter<R: Source>(alloc: Global, input: &mut R) -> Result<Program, Fault
     }
 }
 
+/// `check`: whether a filter is accepted.
+pub(super) fn check_filter<R: Source>(alloc: Global, input: &mut R) -> Result<Reply, Fault>
+    ensures { IsQuiet R.failures input.old result input.new }
+{
+    let program = read_filter(alloc, input)?;
+    Ok(Reply::Accepted(program.len()))
+}
+
 /// `run`: what a filter answers to a call.
 pub(super) fn run_filter<R: Source>(
     alloc: Global,
