@@ -2,16 +2,21 @@
 #![tactic(auto)]
 
 use scf_insn::Counted;
-use scf_tool::run_command;
+use scf_tool::{refuse_words, run_command};
 use std::process::ExitCode;
 use std::{env, io};
 
+fn words_of(rt: &HostRuntime) -> io::Result<Vec<String>> {
+    Ok(env::args(rt)?.collect(rt.alloc())?)
+}
+
 /// Hands the words, standard input and standard output on, and answers the exit status.
-fn main(rt: HostRuntime) -> io::Result<ExitCode> {
-    let alloc = rt.alloc();
-    let words: Vec<String> = env::args(&rt)?.collect(alloc)?;
+fn main(rt: HostRuntime) -> ExitCode {
     let mut input = Counted::new(rt.reader());
     let mut out = Counted::new(io::writer(&rt));
-    let status = run_command(alloc, words.as_slice(), &mut input, &mut out);
-    Ok(ExitCode::from(status))
+    let status = match words_of(&rt) {
+        Ok(words) => run_command(rt.alloc(), words.as_slice(), &mut input, &mut out),
+        Err(error) => refuse_words(&error, &mut out),
+    };
+    ExitCode::from(status)
 }

@@ -5,5 +5,6 @@ pub mod Masks
 pub mod Meets
 pub mod Moves
 pub mod Runs
+pub mod Stacks
 pub mod Steps
 pub mod Refusals

@@ -3,6 +3,8 @@ pub mod Checks
 pub mod Machine
 pub mod Masks
 pub mod Parts
+pub mod Plain
+pub mod Precedence
 pub mod Registers
 pub mod Rules
 pub mod Stack

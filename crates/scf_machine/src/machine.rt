@@ -29,7 +29,8 @@ struct Registers {
     scratch: [u32; 16],
 }
 
-fn compute(arithmetic: Arithmetic, a: u32, value: u32) -> u32
+/// What a computation on two numbers gives.
+pub fn compute(arithmetic: Arithmetic, a: u32, value: u32) -> u32
     requires divisor { arithmetic ≡ Arithmetic.Div → value ≢ 0 }
     requires left { arithmetic ≡ Arithmetic.Lsh → value < 32 }
     requires right { arithmetic ≡ Arithmetic.Rsh → value < 32 }
@@ -48,7 +49,8 @@ fn compute(arithmetic: Arithmetic, a: u32, value: u32) -> u32
     }
 }
 
-fn holds_of(test: Test, a: u32, value: u32) -> bool
+/// Whether a test of two unsigned numbers holds.
+pub fn holds_of(test: Test, a: u32, value: u32) -> bool
     ensures { result ≡ holds test a value }
 {
     match test {

@@ -274,25 +274,72 @@ fn push(stack: &mut FilterStack, filter: Program) -> bool {
     }
 }
 
-/// Whether the program is the one that answers this to each call.
-fn is_answering(program: &Program, answer: u32) -> bool {
-    program.len() == 1 && run(program, &CALL).answer == Answer(answer)
+/// What two filters decide, the older one first.
+fn decided(alloc: Global, older: u32, newer: u32) -> Option<Answer> {
+    let mut stack = FilterStack::new(alloc);
+    let pushed = push(&mut stack, answering(alloc, older, 1)?)
+        && push(&mut stack, answering(alloc, newer, 1)?);
+    if pushed {
+        Some(stack.decide(&CALL))
+    } else {
+        Some(Answer(!0))
+    }
 }
 
 #[test]
-fn stacks(rt: HostRuntime) {
+fn precedence(rt: HostRuntime) {
+    assert_eq!(rt; FilterStack::new(rt.alloc()).decide(&CALL), Answer(ALLOW));
+    for (older, newer, wanted) in [
+        (0x0000_0000, 0x8000_0000, 0x8000_0000),
+        (0x8000_0000, 0x0000_0000, 0x8000_0000),
+        (0x0005_0005, 0x0005_0001, 0x0005_0001),
+        (0x0005_0001, 0x0005_0005, 0x0005_0005),
+        (0x0003_0000, 0x0001_0000, 0x0001_0000),
+        (0x0001_0000, 0x0003_0000, 0x0001_0000),
+        (0x0000_0000, ALLOW, 0x0000_0000),
+    ] {
+        if let Some(found) = decided(rt.alloc(), older, newer) {
+            assert_eq!(rt; found, Answer(wanted));
+        }
+    }
+}
+
+/// Whether a push of so many instructions is refused with this total, the filter handed back and the stack as before.
+fn overflows(stack: &mut FilterStack, filter: Program, total: usize) -> bool {
+    let len = filter.len();
+    let before = stack.len();
+    match stack.push(filter) {
+        Ok(()) => false,
+        Err((fault, back)) => {
+            fault == PushFault::TooMany { total } && back.len() == len && stack.len() == before
+        }
+    }
+}
+
+#[test]
+fn full_stack(rt: HostRuntime) {
     let mut stack = FilterStack::new(rt.alloc());
-    assert_eq!(rt; stack.decide(&CALL), Answer(ALLOW));
-    for (len, answer) in [(0, 0x0005_0001), (1, 0x0003_0000)] {
-        let Some(program) = answering(rt.alloc(), answer, 1) else {
+    for len in 0..7 {
+        assert_eq!(rt; stack.len(), len);
+        let Some(filter) = answering(rt.alloc(), ALLOW, 4096) else {
             return;
         };
-        assert_eq!(rt; stack.len(), len);
-        assert!(rt; push(&mut stack, program));
-        assert!(rt; stack.get(len).is_some_and(|filter| is_answering(filter, answer)));
+        assert!(rt; push(&mut stack, filter));
     }
-    assert!(rt; stack.get(2).is_none());
-    assert_eq!(rt; stack.decide(&CALL), Answer(0x0003_0000));
+    for (len, total) in [(4096, 32796), (4069, 32769)] {
+        let Some(filter) = answering(rt.alloc(), ALLOW, len) else {
+            return;
+        };
+        assert!(rt; overflows(&mut stack, filter, total), "a filter of {len}");
+    }
+    let Some(filter) = answering(rt.alloc(), 0, 4068) else {
+        return;
+    };
+    assert!(rt; push(&mut stack, filter));
+    assert_eq!(rt; stack.len(), 8);
+    assert!(rt; stack.get(7).is_some_and(|filter| filter.len() == 4068));
+    assert!(rt; stack.get(8).is_none());
+    assert_eq!(rt; stack.decide(&CALL), Answer(0));
 }
 
 #[test]

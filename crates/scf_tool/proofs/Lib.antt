@@ -1,1 +1,3 @@
+pub mod BundleLemmas
 mod DigitLemmas
+pub mod HeaderLemmas

@@ -1,12 +1,19 @@
 //! The words that the program takes.
 
-use crate::fault::Fault;
+ghost use Rattle.std.specs.Prelude.{◌≡◌, ◌≢◌, ◌⊎◌};
+
+use crate::fault::{Fault, write_fault};
 use crate::reply::Reply;
 use crate::status::Status;
 use clap::error::ErrorKind;
 use clap::{Arg, ArgMatches, Command, Error};
+use scf_insn::{Sink, write_whole};
 use std::alloc::{AllocError, Global};
 use std::convert::AsStr;
+use std::io;
+
+/// What is printed where a word isn't UTF-8.
+const NOT_UTF8: &[u8] = b"error: invalid UTF-8 was detected in one or more arguments\n";
 
 /// The version that `--version` prints.
 const VERSION: &str = "0.1.0";
@@ -41,10 +48,15 @@ fn on_call<'a>(alloc: Global, name: &'a str, about: &'a str) -> Result<Command<'
 fn program<'a>(alloc: Global) -> Result<Command<'a>, AllocError> {
     Command::new(alloc, "scf")
         .version(VERSION)
-        .about("Checks and runs seccomp filters for x86-64. Filters come on standard input.")
+        .about(
+            "Checks, runs, lists and assembles seccomp filters for x86-64. Input comes on standard input.",
+        )
         .subcommand_required(true)
         .subcommand(Command::new(alloc, "check").about("Checks a filter"))?
-        .subcommand(on_call(alloc, "run", "Runs a filter on a call")?)
+        .subcommand(on_call(alloc, "run", "Runs a filter on a call")?)?
+        .subcommand(on_call(alloc, "decide", "Runs a bundle of filters on a call")?)?
+        .subcommand(Command::new(alloc, "dis").about("Lists a filter, which isn't checked"))?
+        .subcommand(Command::new(alloc, "asm").about("Assembles a text, which isn't checked"))
 }
 
 fn help(alloc: Global) -> Result<String, AllocError> {
@@ -83,4 +95,19 @@ pub(crate) fn explain(alloc: Global, error: &Error) -> Result<Reply, Fault> {
         return Err(Fault::memory("command"));
     }
     reply_with(alloc, error).map_err(|_| Fault::memory("command"))
+}
+
+/// Says why the program's words can't be had: one isn't UTF-8, or memory was refused. The answer is the exit status.
+pub fn refuse_words<W: Sink>(error: &io::Error, out: &mut W) -> u8
+    ensures status { (result ≡ 2) ⊎ (result ≡ 3) }
+    ensures output { result ≢ 3 → W.failures out.new ≡ W.failures out.old }
+{
+    let (written, status) = match error.kind() {
+        io::ErrorKind::InvalidData => (write_whole(out, NOT_UTF8), Status::CommandLine),
+        _ => (write_fault(out, Fault::memory("command")), Status::Failed),
+    };
+    match written {
+        Ok(()) => status.code(),
+        Err(_) => Status::Failed.code(),
+    }
 }

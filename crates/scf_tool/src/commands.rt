@@ -5,6 +5,8 @@ ghost use Rattle.scf_tool.specs.Replies.{status_of};
 ghost use Rattle.scf_tool.specs.Statuses.{IsQuiet};
 
 mod filter;
+mod stack;
+mod text;
 
 use crate::command_line::{explain, parse, usage};
 use crate::fault::Fault;
@@ -13,8 +15,13 @@ use crate::status::Status;
 use clap::ArgMatches;
 use filter::{check_filter, run_filter};
 use scf_insn::{Sink, Source};
+use stack::decide_stack;
 use std::alloc::Global;
 use std::convert::AsStr;
+use text::{assemble_text, list_filter};
+
+/// The most bytes of standard input, where it isn't one filter.
+const MAX_INPUT: usize = 16_777_216;
 
 /// The reply of the command that the matches name.
 fn dispatch<R: Source>(
@@ -25,7 +32,10 @@ fn dispatch<R: Source>(
     ensures { IsQuiet R.failures input.old result input.new }
 {
     match matches.subcommand() {
+        Some(("asm", _)) => assemble_text(alloc, input),
         Some(("check", _)) => check_filter(alloc, input),
+        Some(("decide", options)) => decide_stack(alloc, options, input),
+        Some(("dis", _)) => list_filter(alloc, input),
         Some(("run", options)) => run_filter(alloc, options, input),
         _ => usage(alloc),
     }

@@ -4,11 +4,13 @@ ghost use Rattle.std.specs.List.{flat_map};
 ghost use Rattle.scf_insn.specs.Streams.{Writes};
 ghost use Rattle.scf_tool.specs.Lines.{field_text, kind_text, fault_line};
 
+use crate::bundle::BundleFault;
 use crate::options::NumberFault;
 use crate::pieces::{Piece, write_pieces};
 use crate::status::Status;
-use scf_insn::{ReadFault, Sink, WriteFault, write_whole};
-use scf_machine::CheckFault;
+use scf_insn::{InputFault, ReadFault, Sink, WriteFault, write_whole};
+use scf_machine::{CheckFault, PushFault};
+use scf_text::TextFault;
 
 /// A number that a fault names.
 #[derive(Clone, Copy, Debug, PartialEq, Eq)]
@@ -52,6 +54,37 @@ impl Fault {
     }
 }
 
+impl Fault {
+    ghost use Rattle.std.specs.Prelude.{◌≡◌};
+
+    /// An input of this source wasn't read.
+    pub(crate) fn of_input(source: &'static str, fault: InputFault) -> Fault
+        ensures { result.status ≡ Status.Failed }
+    {
+        let kind = match fault {
+            InputFault::Read => "Read",
+            InputFault::TooLong => "TooLong",
+            InputFault::Memory => "Memory",
+        };
+        Fault {
+            status: Status::Failed,
+            source,
+            kind,
+            fields: NONE,
+        }
+    }
+
+    /// The parts of a bundle aren't those that a command takes.
+    pub(crate) fn parts() -> Fault {
+        Fault {
+            status: Status::Failed,
+            source: "bundle",
+            kind: "Parts",
+            fields: NONE,
+        }
+    }
+}
+
 impl From<NumberFault> for Fault {
     fn from(fault: NumberFault) -> Fault {
         Fault {
@@ -81,6 +114,68 @@ impl From<ReadFault> for Fault {
             source: "filter",
             kind,
             fields,
+        }
+    }
+}
+
+impl From<InputFault> for Fault {
+    ghost use Rattle.std.specs.Prelude.{◌≡◌};
+    ghost use Rattle.scf_tool.specs.declared.status.Status.TheVariants.{Failed};
+
+    ghost from_gives = { λ _ fault. fault.status ≡ Failed };
+
+    fn from(fault: InputFault) -> Fault {
+        Fault::of_input("input", fault)
+    }
+}
+
+impl From<BundleFault> for Fault {
+    fn from(fault: BundleFault) -> Fault {
+        let (kind, fields) = match fault {
+            BundleFault::Header { offset } => ("Header", one("offset", offset)),
+            BundleFault::Short { offset } => ("Short", one("offset", offset)),
+            BundleFault::Memory => ("Memory", NONE),
+        };
+        Fault {
+            status: Status::Failed,
+            source: "bundle",
+            kind,
+            fields,
+        }
+    }
+}
+
+impl From<TextFault> for Fault {
+    fn from(fault: TextFault) -> Fault {
+        let (kind, line) = match fault {
+            TextFault::NotAscii { line } => ("NotAscii", line),
+            TextFault::Mnemonic { line } => ("Mnemonic", line),
+            TextFault::Operand { line } => ("Operand", line),
+            TextFault::NumberRange { line } => ("NumberRange", line),
+            TextFault::Label { line } => ("Label", line),
+            TextFault::JumpTooFar { line } => ("JumpTooFar", line),
+            TextFault::TooLong { line } => ("TooLong", line),
+            TextFault::Memory => return Fault::memory("text"),
+        };
+        Fault {
+            status: Status::Refused,
+            source: "text",
+            kind,
+            fields: one("line", line),
+        }
+    }
+}
+
+impl From<PushFault> for Fault {
+    fn from(fault: PushFault) -> Fault {
+        match fault {
+            PushFault::TooMany { total } => Fault {
+                status: Status::Refused,
+                source: "stack",
+                kind: "TooMany",
+                fields: one("total", total),
+            },
+            PushFault::Memory => Fault::memory("stack"),
         }
     }
 }

@@ -1,6 +1,7 @@
 //! The program `scf`: its command line, what it reads and what it prints.
 #![tactic(auto)]
 
+mod bundle;
 mod command_line;
 mod commands;
 mod fault;
@@ -10,5 +11,7 @@ mod pieces;
 mod reply;
 mod status;
 
+pub use bundle::{BundleFault, Part, PartKind, split};
+pub use command_line::refuse_words;
 pub use commands::run_command;
 pub use options::{NumberFault, record_of};

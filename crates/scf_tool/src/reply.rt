@@ -10,8 +10,9 @@ use crate::fault::{Fault, write_fault};
 use crate::lines::{write_answer, write_steps};
 use crate::pieces::{Piece, write_pieces};
 use crate::status::Status;
-use scf_insn::{Sink, WriteFault, write_whole};
+use scf_insn::{Answer, Insn, Sink, WriteFault, write_program, write_whole};
 use scf_machine::Ran;
+use scf_text::disassemble;
 
 /// What a command found, ready to be printed: printing it takes no memory.
 #[derive(Debug, Drop)]
@@ -22,6 +23,12 @@ pub(crate) enum Reply {
     Accepted(usize),
     /// A filter was run.
     Ran(Ran),
+    /// A stack of filters was asked.
+    Decided(Answer),
+    /// Instructions, to be written as text.
+    Listing(Vec<Insn>),
+    /// Instructions, to be written as they are.
+    Filter(Vec<Insn>),
     /// The command ended early.
     Fault(Fault),
 }
@@ -33,7 +40,11 @@ impl Reply {
     {
         match self {
             Reply::CommandLine { status, .. } => *status,
-            Reply::Accepted(_) | Reply::Ran(_) => Status::Well,
+            Reply::Accepted(_)
+            | Reply::Ran(_)
+            | Reply::Decided(_)
+            | Reply::Listing(_)
+            | Reply::Filter(_) => Status::Well,
             Reply::Fault(fault) => fault.status,
         }
     }
@@ -59,6 +70,13 @@ fn write_ran<S: Sink>(sink: &mut S, ran: Ran) -> Result<(), WriteFault>
     write_steps(sink, ran.steps)
 }
 
+fn write_decided<S: Sink>(sink: &mut S, answer: Answer) -> Result<(), WriteFault>
+    ensures { Writes S.contents S.failures sink.old (answer_text answer.0 ++ codes "\n") result sink.new }
+{
+    write_answer(sink, answer)?;
+    write_whole(sink, b"\n")
+}
+
 /// Writes a reply, or fails after a beginning of its text.
 pub(crate) fn write_reply<S: Sink>(sink: &mut S, reply: &Reply) -> Result<(), WriteFault>
     ensures { Writes S.contents S.failures sink.old (reply_text reply.now) result sink.new }
@@ -67,6 +85,9 @@ pub(crate) fn write_reply<S: Sink>(sink: &mut S, reply: &Reply) -> Result<(), Wr
         Reply::CommandLine { text, .. } => write_whole(sink, text.as_bytes()),
         Reply::Accepted(count) => write_accepted(sink, *count),
         Reply::Ran(ran) => write_ran(sink, *ran),
+        Reply::Decided(answer) => write_decided(sink, *answer),
+        Reply::Listing(insns) => disassemble(insns, sink),
+        Reply::Filter(insns) => write_program(insns, sink),
         Reply::Fault(fault) => write_fault(sink, *fault),
     }
 }

@@ -11,7 +11,7 @@ use scf_machine::{Program, check, run};
 use std::alloc::Global;
 
 /// The accepted filter whose bytes the input is.
-fn read_filter<R: Source>(alloc: Global, input: &mut R) -> Result<Program, Fault>
+pub(super) fn read_filter<R: Source>(alloc: Global, input: &mut R) -> Result<Program, Fault>
     ensures { IsQuiet R.failures input.old result input.new }
 {
     let insns = read_program(alloc, input)?;

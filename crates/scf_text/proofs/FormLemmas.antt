@@ -1,0 +1,119 @@
+-- The forms of the codes, one by one and all together.
+use Rattle.std.proofs.Common.{◌≡◌, ℕ, ◌+◌, ◌<◌, ◌≤◌, arith, Bool, true, false, ◌||◌, eqb, ltb, List, [], ◌∷◌, map, Option, Some, None, refl, sym, ap, subst, ◌∙◌, inl, inr}
+use Rattle.std.specs.Option.{option_map, option_or}
+use Rattle.std.specs.List.{AllByRecursion, list_all, list_any}
+use Rattle.std.specs.Map.{lookup}
+use Rattle.std.proofs.lemmas.Bool.{cases_Bool, cases_lt, eqb-true, ltb-true, and_parts}
+use Rattle.scf_insn.specs.Codes.{Row, code_table, operation_of}
+use Rattle.scf_insn.specs.declared.operation.Operation.{Operation}
+use Rattle.scf_text.specs.declared.form.Form.{Form}
+use Rattle.scf_text.specs.Forms.{form_of, known_forms, form_of_code, raw, forms}
+use Rattle.scf_text.specs.Drafts.{Draft, has_mnemonic, read_in, read_by}
+use Rattle.scf_text.specs.Views.{read_as, is_mnemonic_of}
+use Rattle.scf_text.proofs.OneForm.{IsRead, only_reading}
+
+the_form : (code : ℕ) (o : Option Operation) (f : Form) → option_map (form_of code) o ≡ Some f → f.code ≡ code
+the_form code None f h = absurd cc
+the_form code (Some operation) f h = let same : f ≡ form_of code operation = cc in ap (λ (g : Form). g.code) same
+
+-- the form of a code has the code
+pub same_code : (code : ℕ) (f : Form) → form_of_code code ≡ Some f → f.code ≡ code
+same_code code f h = the_form code (operation_of code) f h
+
+-- what holds of each of the known forms holds of the form of a code
+found : (P : Form → Type 0) (table : List Row) (code : ℕ) (f : Form) → AllByRecursion P (map (λ (known : Row). form_of known.0 known.1) table) → option_map (form_of code) (lookup (λ known. eqb known code) table) ≡ Some f → P f
+found P [] code f all h = absurd cc
+found P (row ∷ table) code f all h =
+    elim (cases_Bool (eqb row.0 code)) [
+      | inl here ↦
+          let one : option_map (form_of code) (lookup (λ known. eqb known code) (row ∷ table)) ≡ Some (form_of code row.1) = rw here refl in
+          let is : Some (form_of code row.1) ≡ Some f = sym one ∙ h in
+          let form : form_of row.0 row.1 ≡ f = ap (λ c. form_of c row.1) (eqb-true row.0 code here) ∙ cc in
+          subst P form all.0
+      | inr other ↦
+          let rest : option_map (form_of code) (lookup (λ known. eqb known code) (row ∷ table)) ≡ option_map (form_of code) (lookup (λ known. eqb known code) table) = rw other refl in
+          found P table code f all.1 (sym rest ∙ h)
+    ]
+
+pub all_to_one : (P : Form → Type 0) → AllByRecursion P known_forms → (code : ℕ) (f : Form) → form_of_code code ≡ Some f → P f
+unfolding known_forms operation_of
+all_to_one P all code f h = found P code_table code f all h
+
+-- each of the known forms is that of its code, which is below 256
+abbrev IsOfItsCode : Form → Type 0
+IsOfItsCode f = form_of_code f.code ≡ Some f
+
+of_their_codes : AllByRecursion IsOfItsCode known_forms
+unfolding known_forms code_table operation_of
+of_their_codes = (refl, (refl, (refl, (refl, (refl, (refl, (refl, (refl, (refl, (refl, (refl, (refl, (refl, (refl, (refl, (refl, (refl, (refl, (refl, (refl, (refl, (refl, (refl, (refl, (refl, (refl, (refl, (refl, (refl, (refl, (refl, (refl, (refl, (refl, (refl, (refl, (refl, (refl, (refl, (refl, (refl, tt)))))))))))))))))))))))))))))))))))))))))
+
+codes_small : list_all (λ f. ltb f.code 256) known_forms ≡ true
+unfolding known_forms code_table
+codes_small = refl
+
+-- reading by the codes in turn
+
+pub reads_raw : (number : List ℕ → Option ℕ) (t : List ℕ) (ts : List (List ℕ)) (d : Draft) → read_in number raw t ts ≡ Some d → read_by number forms t ts ≡ Some d
+reads_raw number t ts d h = (only_reading number).0 t ts d h
+
+read_known : (number : List ℕ → Option ℕ) (t : List ℕ) (ts : List (List ℕ)) (d : Draft) (o : Option Form) → ((f : Form) → o ≡ Some f → IsRead number forms f) → read_as number t ts o ≡ Some d → read_by number forms t ts ≡ Some d
+read_known number t ts d None known h = absurd cc
+read_known number t ts d (Some f) known h = known f refl t ts d h
+
+pub reads_code : (number : List ℕ → Option ℕ) (t : List ℕ) (ts : List (List ℕ)) (d : Draft) (code : ℕ) → read_as number t ts (form_of_code code) ≡ Some d → read_by number forms t ts ≡ Some d
+reads_code number t ts d code h = read_known number t ts d (form_of_code code) (all_to_one (IsRead number forms) (only_reading number).1 code) h
+
+none_of : (number : List ℕ → Option ℕ) (t : List ℕ) (ts : List (List ℕ)) (fs : List Form) → AllByRecursion IsOfItsCode fs → list_all (λ f. ltb f.code 256) fs ≡ true
+    → ((code : ℕ) → code < 256 → read_as number t ts (form_of_code code) ≡ None) → read_by number fs t ts ≡ None
+none_of number t ts [] codes small none = refl
+none_of number t ts (f ∷ fs) codes small none =
+    let both = and_parts (ltb f.code 256) (list_all (λ f. ltb f.code 256) fs) small in
+    let one : read_in number f t ts ≡ None = ap (read_as number t ts) (sym codes.0) ∙ none f.code (ltb-true f.code 256 both.0) in
+    rw one (none_of number t ts fs codes.1 both.1 none)
+
+pub reads_none : (number : List ℕ → Option ℕ) (t : List ℕ) (ts : List (List ℕ)) → read_in number raw t ts ≡ None
+    → ((code : ℕ) → code < 256 → read_as number t ts (form_of_code code) ≡ None) → read_by number forms t ts ≡ None
+reads_none number t ts first none = rw first (none_of number t ts known_forms of_their_codes codes_small none)
+
+-- the mnemonics in turn
+
+list_any_yes : (t : List ℕ) (fs : List Form) → AllByRecursion (λ f. has_mnemonic t f ≡ true → list_any (has_mnemonic t) fs ≡ true) fs
+list_any_yes t [] = tt
+list_any_yes t (f ∷ fs) = (λ h. rw h refl, later fs (list_any_yes t fs)) where
+  step : (b : Bool) → list_any (has_mnemonic t) fs ≡ true → (b || list_any (has_mnemonic t) fs) ≡ true
+  step true h = refl
+  step false h = h
+
+  later : (gs : List Form) → AllByRecursion (λ g. has_mnemonic t g ≡ true → list_any (has_mnemonic t) fs ≡ true) gs → AllByRecursion (λ g. has_mnemonic t g ≡ true → list_any (has_mnemonic t) (f ∷ fs) ≡ true) gs
+  later [] all = tt
+  later (g ∷ gs) all = (λ h. step (has_mnemonic t f) (all.0 h), later gs all.1)
+
+pub known_raw : (t : List ℕ) → has_mnemonic t raw ≡ true → list_any (has_mnemonic t) forms ≡ true
+known_raw t h = (list_any_yes t forms).0 h
+
+known_one : (t : List ℕ) (o : Option Form) → ((f : Form) → o ≡ Some f → has_mnemonic t f ≡ true → list_any (has_mnemonic t) forms ≡ true) → is_mnemonic_of t o ≡ true → list_any (has_mnemonic t) forms ≡ true
+known_one t None known h = absurd cc
+known_one t (Some f) known h = known f refl h
+
+pub known_code : (t : List ℕ) (code : ℕ) → is_mnemonic_of t (form_of_code code) ≡ true → list_any (has_mnemonic t) forms ≡ true
+known_code t code h = known_one t (form_of_code code) (all_to_one (λ f. has_mnemonic t f ≡ true → list_any (has_mnemonic t) forms ≡ true) (list_any_yes t forms).1 code) h
+
+no_mnemonic : (t : List ℕ) (fs : List Form) → AllByRecursion IsOfItsCode fs → list_all (λ f. ltb f.code 256) fs ≡ true
+    → ((code : ℕ) → code < 256 → is_mnemonic_of t (form_of_code code) ≡ false) → list_any (has_mnemonic t) fs ≡ false
+no_mnemonic t [] codes small none = refl
+no_mnemonic t (f ∷ fs) codes small none =
+    let both = and_parts (ltb f.code 256) (list_all (λ f. ltb f.code 256) fs) small in
+    let one : has_mnemonic t f ≡ false = ap (is_mnemonic_of t) (sym codes.0) ∙ none f.code (ltb-true f.code 256 both.0) in
+    rw one (no_mnemonic t fs codes.1 both.1 none)
+
+pub unknown : (t : List ℕ) → has_mnemonic t raw ≡ false
+    → ((code : ℕ) → code < 256 → is_mnemonic_of t (form_of_code code) ≡ false) → list_any (has_mnemonic t) forms ≡ false
+unknown t first none = rw first (no_mnemonic t known_forms of_their_codes codes_small none)
+
+-- what holds below a place and at it
+pub below_next : (P : ℕ → Type 0) (n : ℕ) → ((k : ℕ) → k < n → P k) → P n → (k : ℕ) → k < n + 1 → P k
+below_next P n all here k lt =
+    elim (cases_lt k n) [
+      | inl below ↦ all k below
+      | inr ge ↦ let same : n ≡ k = omega arith in subst P same here
+    ]

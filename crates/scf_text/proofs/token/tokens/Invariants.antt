@@ -1,0 +1,12 @@
+use Rattle.std.proofs.Common.{◌≡◌, ◌+◌, ◌++◌, length}
+use Rattle.scf_text.specs.Tokens.{lexemes_of_lines, lines_of, tokens_of, lexemes}
+use Rattle.scf_text.proofs.token.tokens.Given as goal
+
+abbrev pub invariant-lines : goal.invariant-lines
+invariant-lines l = record {
+  place : l.start + length l.rest ≡ length l.text;
+  told : lexemes l.found.items ++ lexemes_of_lines l.start (lines_of l.rest) ≡ tokens_of l.text;
+}
+
+abbrev pub decreases-lines : goal.decreases-lines
+decreases-lines l = length l.rest

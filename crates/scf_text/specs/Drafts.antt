@@ -1,0 +1,100 @@
+-- What the tokens of an instruction say.
+use Rattle.std.specs.Prelude.{◌≡◌, ℕ, ◌&&◌, ◌^◌, Bool, true, false, List, [], ◌∷◌, Option, Some, None, nat_lt, codes, if◌then◌else◌}
+use Rattle.std.specs.Option.{option_map, option_and_then, option_or}
+use Rattle.std.specs.List.{list_any}
+use Rattle.std.specs.Str.{bytes_eq}
+use Rattle.scf_insn.specs.Numbers.{number_of}
+use Rattle.scf_text.specs.declared.form.Piece.{Piece}
+use Rattle.scf_text.specs.declared.form.Piece.TheVariants as p
+use Rattle.scf_text.specs.declared.form.Field.{Field}
+use Rattle.scf_text.specs.declared.form.Field.TheVariants.{Code, Jt, Jf, K}
+use Rattle.scf_text.specs.declared.form.Form.{Form}
+use Rattle.scf_text.specs.Characters.{is_name_start}
+use Rattle.scf_text.specs.Forms.{mnemonic_text, pieces_of, forms}
+
+-- what stands for a field: a number, or the name of a place
+pub data Written : Type 0 where
+  Number : (n : ℕ) → Written
+  Label : (name : List ℕ) → Written
+
+-- an instruction as it is written
+pub record Draft : Type 0 where
+  pub code : ℕ
+  pub jt : Written
+  pub jf : Written
+  pub k : Written
+
+-- a token is a name where it begins with a letter or `_`
+abbrev pub is_name : List ℕ → Bool
+is_name [] = false
+is_name (b ∷ bs) = is_name_start b
+
+abbrev pub with_field : Field → Written → Draft → Draft
+with_field Code (Number n) d = record { code = n; jt = d.jt; jf = d.jf; k = d.k }
+with_field Code (Label name) d = d
+with_field Jt o d = record { code = d.code; jt = o; jf = d.jf; k = d.k }
+with_field Jf o d = record { code = d.code; jt = d.jt; jf = o; k = d.k }
+with_field K o d = record { code = d.code; jt = d.jt; jf = d.jf; k = o }
+
+-- the tokens that may stand for a piece that is no field
+abbrev pub spellings : Piece → List (List ℕ)
+spellings (p.Mark b) = (b ∷ []) ∷ []
+spellings p.Len = codes "len" ∷ []
+spellings p.Memory = codes "M" ∷ []
+spellings p.Accumulator = codes "a" ∷ codes "A" ∷ []
+spellings p.Index = codes "x" ∷ codes "X" ∷ []
+spellings (p.Number field style) = []
+spellings (p.Target field) = []
+
+-- How tokens are read, given what number a token is.
+module _ (number : List ℕ → Option ℕ) where
+  -- the draft after a token stands for a piece
+  abbrev pub put_by : Piece → List ℕ → Draft → Option Draft
+  put_by (p.Number field style) t d = option_map (λ n. with_field field (Number n) d) (number t)
+  put_by (p.Target field) t d = if is_name t then Some (with_field field (Label t) d) else option_map (λ n. with_field field (Number n) d) (number t)
+  put_by piece t d = if list_any (bytes_eq t) (spellings piece) then Some d else None
+
+  abbrev pub fill_by : List Piece → List (List ℕ) → Draft → Option Draft
+  fill_by [] [] d = Some d
+  fill_by [] (t ∷ ts) d = None
+  fill_by (piece ∷ pieces) [] d = None
+  fill_by (piece ∷ pieces) (t ∷ ts) d = option_and_then (fill_by pieces ts) (put_by piece t d)
+
+-- before any field is named
+abbrev pub blank : Form → Draft
+blank form = record { code = form.code; jt = Number 0; jf = Number 0; k = Number 0 }
+
+abbrev pub has_mnemonic : List ℕ → Form → Bool
+has_mnemonic t form = bytes_eq t (mnemonic_text form.mnemonic)
+
+module _ (number : List ℕ → Option ℕ) where
+  -- what a mnemonic and the tokens behind it say in this form
+  abbrev pub read_in : Form → List ℕ → List (List ℕ) → Option Draft
+  read_in form t ts = if has_mnemonic t form then fill_by number (pieces_of form.shape) ts (blank form) else None
+
+  -- in the first of the forms that they have
+  abbrev pub read_by : List Form → List ℕ → List (List ℕ) → Option Draft
+  read_by [] t ts = None
+  read_by (form ∷ rest) t ts = option_or (read_in form t ts) (read_by rest t ts)
+
+-- what a mnemonic and the tokens behind it say
+unfoldable pub draft_of : List ℕ → List (List ℕ) → Option Draft
+draft_of t ts = read_by number_of forms t ts
+
+-- what a mnemonic and the tokens behind it say in this form is what they say
+abbrev pub IsOnlyReading : Form → Type 0
+IsOnlyReading form = (t : List ℕ) (ts : List (List ℕ)) (d : Draft) → read_in number_of form t ts ≡ Some d → draft_of t ts ≡ Some d
+
+abbrev pub limit_of : Field → ℕ
+limit_of Code = 2 ^ 16
+limit_of Jt = 2 ^ 8
+limit_of Jf = 2 ^ 8
+limit_of K = 2 ^ 32
+
+abbrev pub is_below : ℕ → Written → Bool
+is_below limit (Number n) = nat_lt n limit
+is_below limit (Label name) = true
+
+-- each number fits its field
+abbrev pub is_in_range : Draft → Bool
+is_in_range d = nat_lt d.code (limit_of Code) && (is_below (limit_of Jt) d.jt && (is_below (limit_of Jf) d.jf && is_below (limit_of K) d.k))

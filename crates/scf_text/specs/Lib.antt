@@ -1,0 +1,10 @@
+pub mod Characters
+pub mod Tokens
+pub mod Forms
+pub mod Listing
+pub mod Drafts
+pub mod Statements
+pub mod Spelling
+pub mod Faults
+pub mod Views
+pub mod Reading

@@ -1,0 +1,50 @@
+-- The canonical text of instructions.
+use Rattle.std.specs.Prelude.{ℕ, ◌/◌, ◌%◌, ◌==◌, false, List, [], ◌∷◌, ◌++◌, codes, if◌then◌else◌}
+use Rattle.std.specs.List.{flat_map}
+use Rattle.std.specs.Fmt.{decimal, digits, digit_glyph}
+use Rattle.scf_insn.specs.declared.insn.Insn.{Insn}
+use Rattle.scf_text.specs.declared.form.Piece.{Piece}
+use Rattle.scf_text.specs.declared.form.Piece.TheVariants.{Mark, Len, Memory, Accumulator, Index, Number, Target}
+use Rattle.scf_text.specs.declared.form.Style.{Style}
+use Rattle.scf_text.specs.declared.form.Style.TheVariants.{Decimal, Hexadecimal, FourDigits}
+use Rattle.scf_text.specs.declared.form.Form.{Form}
+use Rattle.scf_text.specs.Characters.{line_feed, space, comma}
+use Rattle.scf_text.specs.Forms.{mnemonic_text, pieces_of, field_of, form_for}
+
+-- the last four hexadecimal digits
+abbrev pub four_digits : ℕ → List ℕ
+four_digits n = digit_glyph false (n / 4096 % 16) ∷ digit_glyph false (n / 256 % 16) ∷ digit_glyph false (n / 16 % 16) ∷ digit_glyph false (n % 16) ∷ []
+
+abbrev pub number_text : Style → ℕ → List ℕ
+number_text Decimal n = decimal n
+number_text Hexadecimal n = codes "0x" ++ digits 16 false n
+number_text FourDigits n = codes "0x" ++ four_digits n
+
+-- One blank stands after a comma.
+abbrev pub mark_text : ℕ → List ℕ
+mark_text b = if b == comma then codes ", " else b ∷ []
+
+abbrev pub piece_text : Insn → Piece → List ℕ
+piece_text i (Mark b) = mark_text b
+piece_text i Len = codes "len"
+piece_text i Memory = codes "M"
+piece_text i Accumulator = codes "a"
+piece_text i Index = codes "x"
+piece_text i (Number field style) = number_text style (field_of i field)
+piece_text i (Target field) = decimal (field_of i field)
+
+-- the operands, behind a blank where there are any
+abbrev pub operands_text : Insn → List Piece → List ℕ
+operands_text i [] = []
+operands_text i (p ∷ ps) = space ∷ flat_map (piece_text i) (p ∷ ps)
+
+abbrev pub line_in : Form → Insn → List ℕ
+line_in form i = mnemonic_text form.mnemonic ++ (operands_text i (pieces_of form.shape) ++ line_feed ∷ [])
+
+-- a line, with its end
+abbrev pub line_of : Insn → List ℕ
+line_of i = line_in (form_for i) i
+
+-- the canonical text
+abbrev pub text_of : List Insn → List ℕ
+text_of is = flat_map line_of is

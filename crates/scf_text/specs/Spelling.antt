@@ -1,0 +1,41 @@
+-- Which instructions a text spells.
+use Rattle.std.specs.Prelude.{◌≡◌, ℕ, ◌+◌, ◌<◌, ◌≤◌, List, [], ◌∷◌, ◌++◌, length, Some, None}
+use Rattle.std.specs.List.{AllByRecursion}
+use Rattle.scf_insn.specs.Insn.{IsInsn}
+use Rattle.scf_insn.specs.declared.insn.Insn.{Insn}
+use Rattle.scf_text.specs.Drafts.{Written, Number, Label, Draft}
+use Rattle.scf_text.specs.Statements.{Statement, Labels, Places, place_of, statements_of, labels_of, drafts_of, instruction_in, IsRead}
+
+-- What is written says the number. A name says how far its place is behind the next instruction.
+abbrev pub Says : Places → ℕ → Written → ℕ → Type 0
+Says places at (Number n) value = value ≡ n
+Says places at (Label name) value = places name ≡ Some (at + 1 + value)
+
+-- what is written at this place says the instruction
+pub record SaysInsn (places : Places) (at : ℕ) (d : Draft) (i : Insn) : Type 0 where
+  pub code : i.code ≡ d.code
+  pub jt : Says places at d.jt i.jt
+  pub jf : Says places at d.jf i.jf
+  pub k : Says places at d.k i.k
+
+-- These say the instructions in order, the first at this place.
+abbrev pub SaysEach : Places → ℕ → List (ℕ × Draft) → List Insn → Type 0
+SaysEach places at [] [] = Unit {0}
+SaysEach places at [] (i ∷ is) = ⊥
+SaysEach places at (d ∷ ds) [] = ⊥
+SaysEach places at (d ∷ ds) (i ∷ is) = SaysInsn places at d.1 i × SaysEach places (at + 1) ds is
+
+-- each of the names is new: no earlier label has it
+abbrev pub AreNew : Labels → Labels → Type 0
+AreNew earlier [] = Unit {0}
+AreNew earlier (l ∷ ls) = (place_of earlier l.0 ≡ None) × AreNew (earlier ++ l ∷ []) ls
+
+-- The text is ASCII and no name is given twice. What stands behind the labels of its statements are forms of
+-- instructions, and they say the list, which has at most 4096.
+pub record Spells (text : List ℕ) (is : List Insn) : Type 0 where
+  pub ascii : AllByRecursion (λ b. b < 128) text
+  pub distinct : AreNew [] (labels_of text)
+  pub few : length is ≤ 4096
+  pub fields : AllByRecursion IsInsn is
+  pub read : AllByRecursion (λ (s : Statement). IsRead (instruction_in s.tokens)) (statements_of text)
+  pub each : SaysEach (place_of (labels_of text)) 0 (drafts_of text) is

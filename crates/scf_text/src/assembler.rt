@@ -1,0 +1,168 @@
+//! Text as instructions.
+ghost use Rattle.std.specs.Prelude.{◌≡◌, ◌≢◌, ◌^◌, ◌<◌, [], ℕ, List, IsTrue, IfOk, IfErr, MatchResult};
+ghost use Rattle.std.specs.List.{AllByRecursion};
+ghost use Rattle.scf_insn.specs.declared.insn.Insn.{Insn};
+ghost use Rattle.scf_insn.specs.Insn.{IsInsn};
+ghost use Rattle.scf_text.specs.Drafts.{is_below};
+ghost use Rattle.scf_text.specs.Views.{written_view, draft_view};
+ghost use Rattle.scf_text.specs.Statements.{place_of, statements_of, labels_of, drafts_of};
+ghost use Rattle.scf_text.specs.Spelling.{Says, SaysInsn, SaysEach, Spells};
+ghost use Rattle.scf_text.specs.Faults.{IsFault, ascii_fault, target_fault, targets_fault, all_targets_fault, fault_in, fault_of};
+ghost use Rattle.scf_text.specs.Reading.{places_view, drafts_view, HasRead, ReadsMore};
+
+use crate::draft::{Draft, Written};
+use crate::fault::TextFault;
+use crate::line::Line;
+use crate::statement::{Places, add_line, find_place};
+use crate::token::{first_line, push_tokens};
+use scf_insn::Insn;
+use std::alloc::Global;
+use std::collections::BTreeMap;
+
+/// The first byte that isn't ASCII.
+fn check_ascii(text: &[u8]) -> Result<(), TextFault>
+    ensures { MatchResult result (λ _. ascii_fault 1 text.now ≡ None) (λ e. ascii_fault 1 text.now ≡ Some e) }
+{
+    let mut line = 1;
+    for byte in text {
+        if !byte.is_ascii() {
+            return Err(TextFault::NotAscii { line });
+        }
+        if *byte == b'\n' {
+            line += 1;
+        }
+    }
+    Ok(())
+}
+
+/// Adds the statements of a text.
+fn read_text<'a>(
+    alloc: Global,
+    places: &mut Places<'a>,
+    lines: &mut Vec<Line<'a>>,
+    text: &'a [u8],
+) -> Result<(), TextFault>
+    ensures { HasRead [] (places_view places.old) (drafts_view lines.old.items) → ReadsMore result [] (statements_of text.now) (places_view places.new) (drafts_view lines.new.items) }
+{
+    let mut tokens = Vec::new(alloc);
+    let mut rest = text;
+    let mut number = 1;
+    'lines: loop {
+        let (line, after) = first_line(rest);
+        tokens.clear();
+        push_tokens(&mut tokens, 0, line)?;
+        add_line(places, lines, &tokens, number)?;
+        match after {
+            None => return Ok(()),
+            Some(next) => {
+                rest = next;
+                number += 1;
+            }
+        }
+    }
+}
+
+/// The number that is written, or the offset to the label, below the limit.
+fn value_of<'a>(
+    places: &Places<'a>,
+    written: Written<'a>,
+    at: usize,
+    limit: u64,
+    line: usize,
+) -> Result<u64, TextFault>
+    requires { IsTrue (is_below limit (written_view written)) }
+    ensures { MatchResult result
+        (λ value. (target_fault (places_view places.now) at line limit (written_view written.entry) ≡ None) × Says (places_view places.now) at (written_view written.entry) value × (value < limit))
+        (λ e. target_fault (places_view places.now) at line limit (written_view written.entry) ≡ Some e) }
+{
+    match written {
+        Written::Number(number) => Ok(number),
+        Written::Label(name) => {
+            let Some(place) = find_place(places, name) else {
+                return Err(TextFault::Label { line });
+            };
+            if place <= at {
+                return Err(TextFault::JumpTooFar { line });
+            }
+            let offset = (place - at - 1) as u64;
+            if offset >= limit {
+                return Err(TextFault::JumpTooFar { line });
+            }
+            Ok(offset)
+        }
+    }
+}
+
+/// The instruction that is written, at this place.
+fn resolve<'a>(places: &Places<'a>, written: &Line<'a>, at: usize) -> Result<Insn, TextFault>
+    ensures { MatchResult result
+        (λ i. (targets_fault (places_view places.now) at written.now.line (draft_view written.now.draft) ≡ None) × SaysInsn (places_view places.now) at (draft_view written.now.draft) i × IsInsn i)
+        (λ e. targets_fault (places_view places.now) at written.now.line (draft_view written.now.draft) ≡ Some e) }
+{
+    let line = written.line;
+    let draft = written.draft;
+    let jt = value_of(places, draft.jt, at, 1 << 8, line)?;
+    let jf = value_of(places, draft.jf, at, 1 << 8, line)?;
+    let k = value_of(places, draft.k, at, 1 << 32, line)?;
+    Ok(Insn {
+        code: draft.code as u16,
+        jt: jt as u8,
+        jf: jf as u8,
+        k: k as u32,
+    })
+}
+
+/// The instructions that are written.
+fn resolve_all<'a>(
+    alloc: Global,
+    places: &Places<'a>,
+    lines: &[Line<'a>],
+) -> Result<Vec<Insn>, TextFault>
+    ensures { MatchResult result
+        (λ insns. (all_targets_fault (places_view places.now) 0 (drafts_view lines.now) ≡ None) × SaysEach (places_view places.now) 0 (drafts_view lines.now) insns.items × AllByRecursion IsInsn insns.items)
+        (λ e. IsFault e (all_targets_fault (places_view places.now) 0 (drafts_view lines.now))) }
+{
+    let mut insns = Vec::new(alloc);
+    for (at, line) in lines.iter().enumerate() {
+        insns.push(resolve(places, line, at)?)?;
+    }
+    Ok(insns)
+}
+
+/// What the statements of an ASCII text say.
+fn read_all(alloc: Global, text: &[u8]) -> Result<Vec<Insn>, TextFault>
+    ensures { MatchResult result
+        (λ insns. (fault_in text.now ≡ None) × SaysEach (place_of (labels_of text.now)) 0 (drafts_of text.now) insns.items × AllByRecursion IsInsn insns.items)
+        (λ e. IsFault e (fault_in text.now)) }
+{
+    let mut places = BTreeMap::new(alloc);
+    let mut lines = Vec::new(alloc);
+    read_text(alloc, &mut places, &mut lines, text)?;
+    resolve_all(alloc, &places, &lines)
+}
+
+/// What a text says.
+fn read_ascii(alloc: Global, text: &[u8]) -> Result<Vec<Insn>, TextFault>
+    ensures { MatchResult result
+        (λ insns. (fault_of text.now ≡ None) × SaysEach (place_of (labels_of text.now)) 0 (drafts_of text.now) insns.items × AllByRecursion IsInsn insns.items)
+        (λ e. IsFault e (fault_of text.now)) }
+{
+    check_ascii(text)?;
+    read_all(alloc, text)
+}
+
+/// The instructions that a text spells.
+///
+/// Where it spells none, the first of its faults is answered: first of all a byte that isn't ASCII; then the first
+/// statement with a label given before, no mnemonic, operands that its mnemonic doesn't have, a number that doesn't fit,
+/// or the 4097th instruction; then the first jump to a label that isn't given or isn't reached. `Memory` comes where
+/// memory was refused.
+pub fn assemble(alloc: Global, text: &[u8]) -> Result<Vec<Insn>, TextFault>
+    ensures spelled { IfOk result (λ insns. Spells text.now insns.items) }
+    // A refusal is for memory, or the first fault of the text.
+    ensures fault { IfErr result (λ e. IsFault e (fault_of text.now)) }
+    // A text with a fault spells nothing.
+    ensures none { IfErr result (λ e. e ≢ TextFault.Memory → (insns : List Insn) → Spells text.now insns → ⊥) }
+{
+    read_ascii(alloc, text)
+}

@@ -1,0 +1,50 @@
+//! Why a text spells no instructions.
+ghost use Rattle.std.specs.Prelude.{◌≡◌};
+ghost use Rattle.scf_text.specs.declared.fault.TextFault.TheVariants.{Memory};
+
+use std::alloc::{AllocError, AllocFailed};
+use thiserror::Error;
+
+/// The first fault of a text, with its line, or want of memory. Lines count from 1.
+#[derive(Clone, Copy, Debug, PartialEq, Eq, Error)]
+pub enum TextFault {
+    /// A byte of 0x80 or more stands in the line.
+    #[error("line {line}: a byte that is not ASCII")]
+    NotAscii { line: usize },
+    /// What stands where an instruction begins is no mnemonic.
+    #[error("line {line}: not a mnemonic")]
+    Mnemonic { line: usize },
+    /// What stands behind the mnemonic has none of its forms.
+    #[error("line {line}: not the operands of this mnemonic")]
+    Operand { line: usize },
+    /// A number doesn't fit its field.
+    #[error("line {line}: a number that does not fit its field")]
+    NumberRange { line: usize },
+    /// The label was given before, or a jump names a label that no statement gives.
+    #[error("line {line}: a label given twice, or not at all")]
+    Label { line: usize },
+    /// The label of a jump stands at or before it, or farther than its field reaches.
+    #[error("line {line}: a label that this jump does not reach")]
+    JumpTooFar { line: usize },
+    /// The line has the instruction after the 4096th.
+    #[error("line {line}: more than 4096 instructions")]
+    TooLong { line: usize },
+    #[error("out of memory")]
+    Memory,
+}
+
+impl From<AllocError> for TextFault {
+    ghost from_gives = { λ _ e. e ≡ Memory };
+
+    fn from(_e: AllocError) -> TextFault {
+        TextFault::Memory
+    }
+}
+
+impl<T: Drop> From<AllocFailed<T>> for TextFault {
+    ghost from_gives = { λ _ e. e ≡ Memory };
+
+    fn from(_e: AllocFailed<T>) -> TextFault {
+        TextFault::Memory
+    }
+}

@@ -1,0 +1,150 @@
+//! The statements of a text.
+ghost use Rattle.std.specs.Prelude.{◌≡◌, ◌≤◌, ◌++◌, ◌∷◌, [], List, IsTrue, length, MatchResult};
+ghost use Rattle.std.specs.Option.{option_map};
+ghost use Rattle.std.specs.List.{position_or_len};
+ghost use Rattle.scf_text.specs.Drafts.{draft_of, is_in_range};
+ghost use Rattle.scf_text.specs.Views.{draft_view, texts};
+ghost use Rattle.scf_text.specs.Statements.{Statement, is_semicolon, label_in, instruction_in, drafts_by, place_after};
+ghost use Rattle.scf_text.specs.Faults.{IsFault, instruction_fault, label_fault};
+ghost use Rattle.scf_text.specs.Reading.{places_view, with_label, drafts_view, line_statements, HasRead, ReadsMore};
+
+use crate::draft::{Draft, is_mnemonic, is_token_name, read};
+use crate::fault::TextFault;
+use crate::line::Line;
+use crate::token::Token;
+use std::collections::BTreeMap;
+
+/// The most instructions that a text may have.
+const MAX_INSNS: usize = 4096;
+
+/// The instruction that a mnemonic and operands are, in this line and behind as many others.
+fn read_instruction<'a>(
+    mnemonic: &[u8],
+    operands: &[Token<'a>],
+    at: usize,
+    line: usize,
+) -> Result<Draft<'a>, TextFault>
+    ensures { MatchResult result
+        (λ d. IsTrue (is_in_range (draft_view d)) × (instruction_fault at line (mnemonic.now ∷ texts operands.now) ≡ None) × (draft_of mnemonic.now (texts operands.now) ≡ Some (draft_view d)))
+        (λ e. instruction_fault at line (mnemonic.now ∷ texts operands.now) ≡ Some e) }
+{
+    if !is_mnemonic(mnemonic) {
+        return Err(TextFault::Mnemonic { line });
+    }
+    let Some(draft) = read(mnemonic, operands) else {
+        return Err(TextFault::Operand { line });
+    };
+    if !draft.is_in_range() {
+        Err(TextFault::NumberRange { line })
+    } else if at >= MAX_INSNS {
+        Err(TextFault::TooLong { line })
+    } else {
+        Ok(draft)
+    }
+}
+
+/// The places of labels.
+pub(crate) type Places<'a> = BTreeMap<&'a [u8], usize>;
+
+/// The place that the name stands for.
+pub(crate) fn find_place<'a>(places: &Places<'a>, name: &'a [u8]) -> Option<usize>
+    ensures { result ≡ places_view places.now name.now }
+{
+    places.get(&name).copied()
+}
+
+/// The label in front, and the tokens of the instruction.
+fn split_label<'a, 't>(tokens: &'t [Token<'a>]) -> (Option<&'a [u8]>, &'t [Token<'a>])
+    ensures label { option_map (λ name. name.now) result.0 ≡ label_in (texts tokens.now) }
+    ensures rest { texts result.1.now ≡ instruction_in (texts tokens.now) }
+{
+    if let [name, mark, rest @ ..] = tokens {
+        if is_token_name(name.text) && mark.text == b":".as_slice() {
+            return (Some(name.text), rest);
+        }
+    }
+    (None, tokens)
+}
+
+/// Adds a label, which stands for this place.
+fn add_label<'a>(
+    places: &mut Places<'a>,
+    label: Option<&'a [u8]>,
+    place: usize,
+    line: usize,
+) -> Result<(), TextFault>
+    ensures { MatchResult result
+        (λ _. (label_fault (places_view places.old) line (option_map (λ name. name.now) label.entry) ≡ None) × (places_view places.new ≡ with_label (places_view places.old) place (option_map (λ name. name.now) label.entry)))
+        (λ e. IsFault e (label_fault (places_view places.old) line (option_map (λ name. name.now) label.entry))) }
+{
+    if let Some(name) = label {
+        if places.insert(name, place)?.is_some() {
+            return Err(TextFault::Label { line });
+        }
+    }
+    Ok(())
+}
+
+/// Adds an instruction, if there is one.
+fn add_instruction<'a>(
+    lines: &mut Vec<Line<'a>>,
+    tokens: &[Token<'a>],
+    line: usize,
+) -> Result<(), TextFault>
+    ensures { MatchResult result
+        (λ _. (instruction_fault (length (drafts_view lines.old.items)) line (texts tokens.now) ≡ None) × (drafts_view lines.new.items ≡ drafts_view lines.old.items ++ drafts_by line (texts tokens.now)) × (length (drafts_view lines.new.items) ≡ place_after (length (drafts_view lines.old.items)) (texts tokens.now)))
+        (λ e. IsFault e (instruction_fault (length (drafts_view lines.old.items)) line (texts tokens.now))) }
+{
+    if let [mnemonic, operands @ ..] = tokens {
+        let draft = read_instruction(mnemonic.text, operands, lines.len(), line)?;
+        lines.push(Line { line, draft })?;
+    }
+    Ok(())
+}
+
+/// Adds the label and the instruction of a statement.
+fn add_statement<'a>(
+    places: &mut Places<'a>,
+    lines: &mut Vec<Line<'a>>,
+    tokens: &[Token<'a>],
+    line: usize,
+) -> Result<(), TextFault>
+    ensures { (before : List Statement) → HasRead before (places_view places.old) (drafts_view lines.old.items) → ReadsMore result before ((record { line = line; tokens = texts tokens.now }) ∷ []) (places_view places.new) (drafts_view lines.new.items) }
+{
+    let (label, instruction) = split_label(tokens);
+    add_label(places, label, lines.len(), line)?;
+    add_instruction(lines, instruction, line)
+}
+
+/// How many tokens are in front of the first `;`.
+fn statement_len(tokens: &[Token]) -> usize
+    ensures value { result ≡ position_or_len is_semicolon (texts tokens.now) }
+    ensures within { result ≤ length tokens.now }
+{
+    for (len, token) in tokens.iter().enumerate() {
+        if token.text == b";".as_slice() {
+            return len;
+        }
+    }
+    tokens.len()
+}
+
+/// Adds the statements of a line.
+pub(crate) fn add_line<'a>(
+    places: &mut Places<'a>,
+    lines: &mut Vec<Line<'a>>,
+    tokens: &[Token<'a>],
+    line: usize,
+) -> Result<(), TextFault>
+    ensures { (before : List Statement) → HasRead before (places_view places.old) (drafts_view lines.old.items) → ReadsMore result before (line_statements line (texts tokens.now)) (places_view places.new) (drafts_view lines.new.items) }
+{
+    let mut start = 0;
+    'statements: loop {
+        let end = start + statement_len(&tokens[start..]);
+        add_statement(places, lines, &tokens[start..end], line)?;
+        if end == tokens.len() {
+            return Ok(());
+        }
+        start = end + 1;
+    }
+}

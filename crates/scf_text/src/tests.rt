@@ -1,0 +1,486 @@
+use super::*;
+use scf_insn::{Failed, Insn, Sink, WriteFault};
+use std::alloc::Global;
+use std::test::*;
+
+fn insn(code: u16, jt: u8, jf: u8, k: u32) -> Insn {
+    Insn { code, jt, jf, k }
+}
+
+/// Whether this refusal of memory is the first: a run may meet one, where one growth is refused.
+fn once(refused: &mut bool) -> bool {
+    let first = !*refused;
+    *refused = true;
+    first
+}
+
+/// Whether the text spells these instructions.
+fn spells(alloc: Global, text: &[u8], wanted: &[Insn], refused: &mut bool) -> bool {
+    match assemble(alloc, text) {
+        Ok(insns) => insns.as_slice() == wanted,
+        Err(TextFault::Memory) => once(refused),
+        Err(_) => false,
+    }
+}
+
+/// Whether this is the fault of the text.
+fn fails(alloc: Global, text: &[u8], wanted: TextFault, refused: &mut bool) -> bool {
+    match assemble(alloc, text) {
+        Ok(_) => false,
+        Err(TextFault::Memory) => once(refused),
+        Err(fault) => fault == wanted,
+    }
+}
+
+/// A writer that takes one byte a time, and none once its room is full.
+#[derive(Drop)]
+struct Slow {
+    taken: [u8; 128],
+    len: usize,
+    room: usize,
+    failures: u64,
+}
+
+impl Slow {
+    fn new(room: usize) -> Slow {
+        Slow {
+            taken: [0; 128],
+            len: 0,
+            room,
+            failures: 0,
+        }
+    }
+
+    fn has_taken(&self, wanted: Option<&[u8]>) -> bool {
+        self.taken.get(..self.len) == wanted
+    }
+}
+
+impl Sink for Slow {
+    ghost failures = { λ s. s.failures };
+
+    fn write(&mut self, bytes: &[u8]) -> Result<usize, Failed> {
+        let Some(byte) = bytes.first() else {
+            return Ok(0);
+        };
+        if self.len < self.room && self.len < self.taken.len() {
+            self.taken[self.len] = *byte;
+            self.len += 1;
+            Ok(1)
+        } else {
+            self.failures = self.failures.saturating_add(1);
+            Err(Failed)
+        }
+    }
+}
+
+/// A writer that keeps all that it is given.
+#[derive(Drop)]
+struct Kept {
+    text: Vec<u8>,
+    failures: u64,
+}
+
+impl Sink for Kept {
+    ghost failures = { λ s. s.failures };
+
+    fn write(&mut self, bytes: &[u8]) -> Result<usize, Failed> {
+        if self.text.extend_from_slice(bytes).is_ok() {
+            Ok(bytes.len())
+        } else {
+            self.failures = self.failures.saturating_add(1);
+            Err(Failed)
+        }
+    }
+}
+
+/// An instruction of each of the 41 codes, and its line.
+static CODES: [(u16, u8, u8, u32, &'static str); 41] = [
+    (0x20, 0, 0, 60, "ld [60]\n"),
+    (0x80, 0, 0, 0, "ld len\n"),
+    (0x81, 0, 0, 0, "ldx len\n"),
+    (0x00, 0, 0, 0, "ld #0x0\n"),
+    (0x01, 0, 0, 0xffff_ffff, "ldx #0xffffffff\n"),
+    (0x60, 0, 0, 15, "ld M[15]\n"),
+    (0x61, 0, 0, 0, "ldx M[0]\n"),
+    (0x02, 0, 0, 16, "st M[16]\n"),
+    (0x03, 0, 0, 7, "stx M[7]\n"),
+    (0x04, 0, 0, 10, "add #0xa\n"),
+    (0x0c, 0, 0, 0, "add x\n"),
+    (0x14, 0, 0, 16, "sub #0x10\n"),
+    (0x1c, 0, 0, 0, "sub x\n"),
+    (0x24, 0, 0, 1, "mul #0x1\n"),
+    (0x2c, 0, 0, 0, "mul x\n"),
+    (0x34, 0, 0, 0, "div #0x0\n"),
+    (0x3c, 0, 0, 0, "div x\n"),
+    (0x44, 0, 0, 0xabc, "or #0xabc\n"),
+    (0x4c, 0, 0, 0, "or x\n"),
+    (0x54, 0, 0, 0x7e02_0000, "and #0x7e020000\n"),
+    (0x5c, 0, 0, 0, "and x\n"),
+    (0x64, 0, 0, 31, "lsh #0x1f\n"),
+    (0x6c, 0, 0, 0, "lsh x\n"),
+    (0x74, 0, 0, 32, "rsh #0x20\n"),
+    (0x7c, 0, 0, 0, "rsh x\n"),
+    (0xa4, 0, 0, 0x8000_0000, "xor #0x80000000\n"),
+    (0xac, 0, 0, 0, "xor x\n"),
+    (0x84, 0, 0, 0, "neg\n"),
+    (0x05, 0, 0, 4294967295, "ja 4294967295\n"),
+    (0x15, 1, 0, 0xc000_003e, "jeq #0xc000003e, 1, 0\n"),
+    (0x1d, 0, 255, 0, "jeq x, 0, 255\n"),
+    (0x25, 10, 9, 2, "jgt #0x2, 10, 9\n"),
+    (0x2d, 1, 2, 0, "jgt x, 1, 2\n"),
+    (0x35, 0, 1, 0x4000_0000, "jge #0x40000000, 0, 1\n"),
+    (0x3d, 3, 4, 0, "jge x, 3, 4\n"),
+    (0x45, 5, 6, 0xff, "jset #0xff, 5, 6\n"),
+    (0x4d, 7, 8, 0, "jset x, 7, 8\n"),
+    (0x06, 0, 0, 0x7fff_0000, "ret #0x7fff0000\n"),
+    (0x16, 0, 0, 0, "ret a\n"),
+    (0x07, 0, 0, 0, "tax\n"),
+    (0x87, 0, 0, 0, "txa\n"),
+];
+
+/// Whether an instruction is listed as this line, and the line is read as the instruction.
+fn is_line(alloc: Global, insn: Insn, line: &str, refused: &mut bool) -> bool {
+    let mut sink = Slow::new(128);
+    disassemble(&[insn], &mut sink).is_ok()
+        && sink.has_taken(Some(line.as_bytes()))
+        && spells(alloc, line.as_bytes(), &[insn], refused)
+}
+
+#[test]
+fn lines_of_instructions(rt: HostRuntime) {
+    let mut refused = false;
+    for (code, jt, jf, k, line) in &CODES {
+        assert!(rt;
+            is_line(rt.alloc(), insn(*code, *jt, *jf, *k), line, &mut refused),
+            "{line}"
+        );
+    }
+    // a code that is not known, and fields that the code doesn't use
+    for (code, jt, jf, k, line) in [
+        (0x94, 0, 0, 5, "raw 0x0094, 0, 0, 0x5\n"),
+        (
+            0xffff,
+            255,
+            255,
+            0xffff_ffff,
+            "raw 0xffff, 255, 255, 0xffffffff\n",
+        ),
+        (0x87, 0, 0, 1, "raw 0x0087, 0, 0, 0x1\n"),
+        (0x06, 1, 0, 0, "raw 0x0006, 1, 0, 0x0\n"),
+        (0x20, 0, 1, 4, "raw 0x0020, 0, 1, 0x4\n"),
+        (0x1d, 1, 1, 1, "raw 0x001d, 1, 1, 0x1\n"),
+    ] {
+        assert!(rt;
+            is_line(rt.alloc(), insn(code, jt, jf, k), line, &mut refused),
+            "{line}"
+        );
+    }
+}
+
+#[test]
+fn texts_that_spell(rt: HostRuntime) {
+    let mut refused = false;
+    assert!(rt; spells(rt.alloc(), b"", &[], &mut refused));
+    assert!(rt;
+        spells(
+            rt.alloc(),
+            b"ja end; end:",
+            &[insn(5, 0, 0, 0)],
+            &mut refused
+        )
+    );
+    assert!(rt;
+        spells(
+            rt.alloc(),
+            b"ld [0] // number\njeq #39, yes, no\nno: ret #0x50001\nyes: ret #0x7fff0000\n",
+            &[
+                insn(0x20, 0, 0, 0),
+                insn(0x15, 1, 0, 0x27),
+                insn(6, 0, 0, 0x50001),
+                insn(6, 0, 0, 0x7fff0000),
+            ],
+            &mut refused,
+        )
+    );
+    // other spellings of registers, numbers and blanks, a comment with `;`, and a statement without instruction
+    assert!(rt;
+        spells(
+            rt.alloc(),
+            b";;\tret A;jeq X , 0X1,00000000000000000000000000000000000000\r\n// x; y\nldx#0xaF//z",
+            &[
+                insn(0x16, 0, 0, 0),
+                insn(0x1d, 1, 0, 0),
+                insn(1, 0, 0, 0xaf)
+            ],
+            &mut refused,
+        )
+    );
+    // names of registers and mnemonics as labels, and two labels of one place
+    assert!(rt;
+        spells(
+            rt.alloc(),
+            b"jset #1, len, ret; ret: ja a\na:\nlen: add x",
+            &[insn(0x45, 1, 0, 1), insn(5, 0, 0, 0), insn(0x0c, 0, 0, 0)],
+            &mut refused,
+        )
+    );
+}
+
+#[test]
+fn faults(rt: HostRuntime) {
+    let mut refused = false;
+    for (text, wanted) in [
+        ("bad\n// \u{e9}", TextFault::NotAscii { line: 2 }),
+        ("ret a\nmod #3\nld [0", TextFault::Mnemonic { line: 2 }),
+        ("ret a; LD [0]", TextFault::Mnemonic { line: 1 }),
+        ("ret a\r\nbad\r\n", TextFault::Mnemonic { line: 2 }),
+        ("\na: b: ret a", TextFault::Mnemonic { line: 2 }),
+        ("\n12: ret a", TextFault::Mnemonic { line: 2 }),
+        (
+            "ret a;; ret a\nld [0\nmod #3",
+            TextFault::Operand { line: 2 },
+        ),
+        ("ret a\rbad", TextFault::Operand { line: 1 }),
+        ("ld #12ab; ld #4294967296", TextFault::Operand { line: 1 }),
+        ("\nld #0x", TextFault::Operand { line: 2 }),
+        ("ret a $", TextFault::Operand { line: 1 }),
+        ("jeq #1, 1", TextFault::Operand { line: 1 }),
+        ("raw 6, up, 0, 0; up:", TextFault::Operand { line: 1 }),
+        (
+            "ret a\nld #4294967296; bad",
+            TextFault::NumberRange { line: 2 },
+        ),
+        ("jeq #1, 256, lost", TextFault::NumberRange { line: 1 }),
+        ("raw 0x10000, 0, 0, 0", TextFault::NumberRange { line: 1 }),
+        (
+            "\nld #1000000000000000000000000000000000000000000000000000000000000",
+            TextFault::NumberRange { line: 2 },
+        ),
+        ("p: ret a\np: ret a", TextFault::Label { line: 2 }),
+        ("p: ret a\nq:\np: bad", TextFault::Label { line: 3 }),
+        ("ret a\njeq #1, q, 0", TextFault::Label { line: 2 }),
+        (
+            "back: ret a\njeq #1, lost, back",
+            TextFault::Label { line: 2 },
+        ),
+        (
+            "back: ret a\njeq #1, back, lost",
+            TextFault::JumpTooFar { line: 2 },
+        ),
+        (
+            "ret a\nback: ja back\nja lost",
+            TextFault::JumpTooFar { line: 2 },
+        ),
+    ] {
+        assert!(rt;
+            fails(rt.alloc(), text.as_bytes(), wanted, &mut refused),
+            "{text}"
+        );
+    }
+}
+
+/// A line, then another line a number of times, then a last one; `None` where memory was refused.
+fn repeated(
+    alloc: Global,
+    first: &[u8],
+    line: &[u8],
+    times: usize,
+    last: &[u8],
+) -> Option<Vec<u8>> {
+    let mut text = Vec::new(alloc);
+    text.extend_from_slice(first).ok()?;
+    for _ in 0..times {
+        text.extend_from_slice(line).ok()?;
+    }
+    text.extend_from_slice(last).ok()?;
+    Some(text)
+}
+
+#[test]
+fn limits(rt: HostRuntime) {
+    let mut refused = false;
+    for (times, reached) in [(255, true), (256, false)] {
+        let Some(text) = repeated(
+            rt.alloc(),
+            b"jeq #1, far, 0\n",
+            b"ld #0\n",
+            times,
+            b"far: ret a",
+        ) else {
+            assert!(rt; once(&mut refused));
+            return;
+        };
+        match assemble(rt.alloc(), &text) {
+            Ok(insns) => {
+                assert!(rt; reached);
+                assert!(rt; insns.first() == Some(&insn(0x15, 255, 0, 1)));
+            }
+            Err(TextFault::Memory) => assert!(rt; once(&mut refused)),
+            Err(fault) => {
+                assert!(rt; !reached && fault == TextFault::JumpTooFar { line: 1 });
+            }
+        }
+    }
+    for (times, fits) in [(4096, true), (4097, false)] {
+        let Some(text) = repeated(rt.alloc(), b"", b"ret a\n", times, b"end:") else {
+            assert!(rt; once(&mut refused));
+            return;
+        };
+        match assemble(rt.alloc(), &text) {
+            Ok(insns) => assert!(rt; fits && insns.len() == 4096),
+            Err(TextFault::Memory) => assert!(rt; once(&mut refused)),
+            Err(fault) => assert!(rt; !fits && fault == TextFault::TooLong { line: 4097 }),
+        }
+    }
+}
+
+/// Whether the tokens of a text are these, with their starts.
+fn are_tokens(alloc: Global, text: &[u8], wanted: &[(usize, &[u8])], refused: &mut bool) -> bool {
+    let Ok(found) = tokens(alloc, text) else {
+        return once(refused);
+    };
+    for (token, (start, word)) in found.iter().zip(wanted.iter()) {
+        if token.start != *start || token.text != *word {
+            return false;
+        }
+    }
+    found.len() == wanted.len()
+}
+
+#[test]
+fn pieces_of_a_text(rt: HostRuntime) {
+    let mut refused = false;
+    assert!(rt;
+        are_tokens(
+            rt.alloc(),
+            b"ld [4];x: // y",
+            &[
+                (0, b"ld"),
+                (3, b"["),
+                (4, b"4"),
+                (5, b"]"),
+                (6, b";"),
+                (7, b"x"),
+                (8, b":"),
+            ],
+            &mut refused,
+        )
+    );
+    assert!(rt;
+        are_tokens(
+            rt.alloc(),
+            b"/ a_1\xc3\t0xZ//\n,\r\n",
+            &[
+                (0, b"/"),
+                (2, b"a_1"),
+                (5, b"\xc3"),
+                (7, b"0xZ"),
+                (13, b",")
+            ],
+            &mut refused,
+        )
+    );
+}
+
+/// The next of a fixed row of numbers.
+fn next(state: &mut u64) -> u32 {
+    *state = state
+        .wrapping_mul(6364136223846793005)
+        .wrapping_add(1442695040888963407);
+    (*state >> 32) as u32
+}
+
+/// An instruction of that row: mostly of a known code, and often with fields of 0.
+fn any_insn(state: &mut u64) -> Insn {
+    let choice = next(state);
+    let code = match CODES.get((choice % 64) as usize) {
+        Some((code, _, _, _, _)) => *code,
+        None => (choice >> 16) as u16,
+    };
+    let [chance, jt, jf, _] = next(state).to_le_bytes();
+    let (jt, jf) = if chance % 4 == 0 { (jt, jf) } else { (0, 0) };
+    let k = if next(state) % 2 == 0 { next(state) } else { 0 };
+    insn(code, jt, jf, k)
+}
+
+#[test]
+fn listing_of_4096_is_read_back(rt: HostRuntime) {
+    let mut refused = false;
+    let mut insns = Vec::new(rt.alloc());
+    let mut state = 20;
+    for _ in 0..4096 {
+        if insns.push(any_insn(&mut state)).is_err() {
+            assert!(rt; once(&mut refused));
+            return;
+        }
+    }
+    let mut sink = Kept {
+        text: Vec::new(rt.alloc()),
+        failures: 0,
+    };
+    if disassemble(&insns, &mut sink).is_err() {
+        assert!(rt; once(&mut refused));
+        return;
+    }
+    assert!(rt; spells(rt.alloc(), &sink.text, &insns, &mut refused));
+}
+
+#[test]
+fn writers_that_fail(rt: HostRuntime) {
+    let insns = [
+        insn(0x20, 0, 0, 4),
+        insn(0x15, 1, 0, 0xc000_003e),
+        insn(0x94, 0, 0, 5),
+        insn(0x16, 0, 0, 0),
+    ];
+    let text = b"ld [4]\njeq #0xc000003e, 1, 0\nraw 0x0094, 0, 0, 0x5\nret a\n";
+    for room in 0..=text.len() {
+        let mut sink = Slow::new(room);
+        let answer = disassemble(&insns, &mut sink);
+        let wanted = if room < text.len() {
+            Err(WriteFault::Write)
+        } else {
+            Ok(())
+        };
+        assert!(rt; answer == wanted, "{room}");
+        assert!(rt; sink.has_taken(text.get(..room)), "{room}");
+    }
+}
+
+#[test]
+fn messages(rt: HostRuntime) {
+    for (fault, wanted) in [
+        (
+            TextFault::NotAscii { line: 2 },
+            "line 2: a byte that is not ASCII",
+        ),
+        (TextFault::Mnemonic { line: 3 }, "line 3: not a mnemonic"),
+        (
+            TextFault::Operand { line: 4 },
+            "line 4: not the operands of this mnemonic",
+        ),
+        (
+            TextFault::NumberRange { line: 5 },
+            "line 5: a number that does not fit its field",
+        ),
+        (
+            TextFault::Label { line: 6 },
+            "line 6: a label given twice, or not at all",
+        ),
+        (
+            TextFault::JumpTooFar { line: 7 },
+            "line 7: a label that this jump does not reach",
+        ),
+        (
+            TextFault::TooLong { line: 4097 },
+            "line 4097: more than 4096 instructions",
+        ),
+        (TextFault::Memory, "out of memory"),
+    ] {
+        let Ok(shown) = format!(in rt.alloc(); "{fault}") else {
+            return;
+        };
+        assert!(rt; shown.as_str() == wanted, "{wanted}");
+    }
+}

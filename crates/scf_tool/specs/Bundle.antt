@@ -1,0 +1,79 @@
+-- Files one after another, each behind a header.
+use Rattle.std.specs.Prelude.{◌≡◌, ◌≢◌, ℕ, ◌+◌, ◌<◌, ◌≤◌, List, [], ◌∷◌, ◌++◌, length, take, drop, codes, Some}
+use Rattle.scf_insn.specs.Numbers.{numeral}
+use Rattle.scf_tool.specs.declared.bundle.PartKind.{PartKind}
+use Rattle.scf_tool.specs.declared.bundle.PartKind.TheVariants.{Filter, Profile, Table}
+use Rattle.scf_tool.specs.declared.bundle.Part.{Part}
+use Rattle.scf_tool.specs.declared.bundle.BundleFault.{BundleFault}
+use Rattle.scf_tool.specs.declared.bundle.BundleFault.TheVariants.{Header, Short, Memory}
+
+abbrev pub kind_word : PartKind → List ℕ
+kind_word Filter = codes "filter"
+kind_word Profile = codes "profile"
+kind_word Table = codes "table"
+
+-- one to eight decimal digits that write a count
+abbrev pub IsCount : List ℕ → ℕ → Type 0
+IsCount digits count = (length digits ≤ 8) × (numeral 10 digits ≡ Some count)
+
+-- The header of a part: the word of its kind, one space, the count of the bytes that follow, LF.
+pub record IsHeader (header : List ℕ) (kind : PartKind) (count : ℕ) : Type 0 where
+  pub digits : List ℕ
+  pub is_count : IsCount digits count
+  pub text : header ≡ (kind_word kind ++ (codes " " ++ digits)) ++ codes "\n"
+
+-- A header stands in front.
+pub record HasHeader (bytes : List ℕ) (kind : PartKind) (count : ℕ) : Type 0 where
+  pub header : List ℕ
+  pub rest : List ℕ
+  pub is_header : IsHeader header kind count
+  pub whole : bytes ≡ header ++ rest
+
+-- Bytes are a part of a bundle, from an offset on: a header, and as many bytes as it says.
+pub record IsPart (offset : ℕ) (part : Part) (bytes : List ℕ) : Type 0 where
+  pub header : List ℕ
+  pub content : List ℕ
+  pub whole : bytes ≡ header ++ content
+  pub is_header : IsHeader header part.kind (length content)
+  pub start : part.start ≡ offset + length header
+  pub size : part.length ≡ length content
+
+-- Bytes from an offset on spell parts: they are these parts, one after another, and nothing else.
+abbrev pub SpellsFrom : ℕ → List ℕ → List Part → Type 0
+SpellsFrom offset bytes [] = bytes ≡ []
+SpellsFrom offset bytes (part ∷ parts) =
+    (own : List ℕ) × (rest : List ℕ) × (bytes ≡ own ++ rest) × IsPart offset part own × SpellsFrom (offset + length own) rest parts
+
+-- the bytes of a bundle spell its parts
+abbrev pub Spells : List ℕ → List Part → Type 0
+Spells bytes parts = SpellsFrom 0 bytes parts
+
+-- No header stands in front, and this isn't the end.
+pub record LacksHeader (bytes : List ℕ) : Type 0 where
+  pub more : bytes ≢ []
+  pub none : (kind : PartKind) (count : ℕ) → HasHeader bytes kind count → ⊥
+
+-- A header stands in front, and fewer bytes follow than it says.
+pub record IsShort (bytes : List ℕ) : Type 0 where
+  pub kind : PartKind
+  pub count : ℕ
+  pub found : HasHeader bytes kind count
+  pub fewer : length found.rest < count
+
+-- The bytes from an offset on begin with no whole part, for this reason. Want of memory may come anywhere.
+abbrev pub IsFaultAt : List ℕ → ℕ → BundleFault → Type 0
+IsFaultAt bytes at (Header offset) = (offset ≡ at) × LacksHeader bytes
+IsFaultAt bytes at (Short offset) = (offset ≡ at) × IsShort bytes
+IsFaultAt bytes at Memory = ⊥
+
+-- Behind whole parts this is what stands at the offset.
+pub record BreaksAt (bytes : List ℕ) (fault : BundleFault) : Type 0 where
+  pub offset : ℕ
+  pub parts : List Part
+  pub before : Spells (take offset bytes) parts
+  pub here : IsFaultAt (drop offset bytes) offset fault
+
+-- why bytes are refused
+abbrev pub IsBundleFault : List ℕ → BundleFault → Type 0
+IsBundleFault bytes Memory = Unit {0}
+IsBundleFault bytes fault = BreaksAt bytes fault
