@@ -1,0 +1,6 @@
+use Rattle.std.proofs.Common.{◌≡◌, All, take, false}
+use Rattle.scf_profile.specs.Table.{is_blank as blank}
+use Rattle.scf_profile.proofs.table_line.first_field.Given as goal
+
+abbrev pub invariant-loop-i : goal.invariant-loop-i
+invariant-loop-i l = All (λ b. blank b ≡ false) (take l.i l.rest)

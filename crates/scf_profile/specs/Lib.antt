@@ -1,0 +1,11 @@
+pub mod EntryRanges
+pub mod JsonMembers
+pub mod Loading
+pub mod Names
+pub mod Policy
+pub mod Rule
+pub mod ShortArrays
+pub mod Stated
+pub mod StatedProfile
+pub mod Steps
+pub mod Table

@@ -1,0 +1,10 @@
+-- What was read of a text, as it is loaded.
+use Rattle.scf_profile.specs.declared.profile_text.Stated.{Stated}
+use Rattle.scf_profile.specs.declared.loaded.Loaded.{Loaded}
+
+abbrev pub loaded_of : Stated → Loaded
+loaded_of s = record {
+  profile = record { default_answer = s.default_answer; rules = s.rules.items };
+  skipped = s.skipped;
+  other_architectures = s.other_architectures;
+}

@@ -1,0 +1,220 @@
+-- What a JSON value and a call table state as a profile (OCI runtime specification, config-linux.md, seccomp): the tests in
+-- their order, each a function to what is stated or to its fault. A fault carries the place of the entry of `syscalls`
+-- in which it stands, and none where it stands outside of them.
+use Rattle.std.specs.Prelude.{ℕ, ◌+◌, Bool, true, false, not, ◌&&◌, ◌==◌, List, [], ◌∷◌, ◌++◌, codes, length, ℤ, pos, negsuc, Option, Some, None, Result, Ok, Err, nat_lt, if◌then◌else◌, is_none, option_map, ⊤}
+use Rattle.std.specs.List.{list_any, filter, flat_map, filter_map}
+use Rattle.std.specs.Str.{bytes_eq}
+use Rattle.std.specs.FinMap.{get}
+use Rattle.std.specs.Option.{option_map_or}
+use Rattle.scf_insn.specs.declared.answer.Answer.{Answer}
+use Rattle.scf_insn.specs.declared.answer.Action.{Action}
+use Rattle.scf_insn.specs.declared.answer.Action.TheVariants as actions
+use Rattle.scf_insn.specs.Answers.{answer_of}
+use Rattle.serde_json.specs.Data.{Data, Items, no_items}
+use Rattle.serde_json.specs.Find.{as_array, as_object, as_str}
+use Rattle.scf_profile.specs.declared.rule.Rule.{Rule}
+use Rattle.scf_profile.specs.declared.entry.Entry.{Entry}
+use Rattle.scf_profile.specs.declared.load_fault.LoadFault.{LoadFault}
+use Rattle.scf_profile.specs.declared.load_fault.LoadFault.TheVariants as faults
+use Rattle.scf_profile.specs.declared.loaded.Loaded.{Loaded}
+use Rattle.scf_profile.specs.Steps.{◌>>=◌, some_or, refused_if}
+use Rattle.scf_profile.specs.JsonMembers.{member, whole_number, has_items, has_members, each}
+use Rattle.scf_profile.specs.Table.{Names}
+
+-- ---- an action and its answer
+
+-- the nine names of the eight actions
+abbrev pub action_named : List ℕ → Option Action
+action_named name =
+    if bytes_eq name (codes "SCMP_ACT_KILL") then Some actions.KillThread
+    else if bytes_eq name (codes "SCMP_ACT_KILL_THREAD") then Some actions.KillThread
+    else if bytes_eq name (codes "SCMP_ACT_KILL_PROCESS") then Some actions.KillProcess
+    else if bytes_eq name (codes "SCMP_ACT_TRAP") then Some actions.Trap
+    else if bytes_eq name (codes "SCMP_ACT_ERRNO") then Some actions.Errno
+    else if bytes_eq name (codes "SCMP_ACT_NOTIFY") then Some actions.UserNotif
+    else if bytes_eq name (codes "SCMP_ACT_TRACE") then Some actions.Trace
+    else if bytes_eq name (codes "SCMP_ACT_LOG") then Some actions.Log
+    else if bytes_eq name (codes "SCMP_ACT_ALLOW") then Some actions.Allow
+    else None
+
+unfoldable pub action_in : Option ℕ → List ℕ → Data → Result Action LoadFault
+action_in entry name d = do
+  found ← some_or (member name d) (faults.Missing entry)
+  text ← some_or (as_str found) (faults.Kind entry)
+  some_or (action_named text) (faults.Action entry)
+
+-- the actions that have an errno as their data
+abbrev pub takes_errno : Action → Bool
+takes_errno actions.Errno = true
+takes_errno actions.Trace = true
+takes_errno action = false
+
+abbrev pub errno_in_range : ℤ → Option ℕ
+errno_in_range (pos n) = if nat_lt n 65536 then Some n else None
+errno_in_range (negsuc n) = None
+
+-- an errno that is there
+unfoldable pub errno_of : Option ℕ → Action → Data → Result ℕ LoadFault
+errno_of entry action d = do
+  number ← some_or (whole_number d) (faults.Kind entry)
+  _ ← refused_if (not (takes_errno action)) (faults.Errno entry)
+  some_or (errno_in_range number) (faults.ErrnoRange entry)
+
+-- the data of an action: 1 (EPERM) where it takes an errno and has none
+abbrev pub errno_or_default : Option ℕ → Action → Option Data → Result ℕ LoadFault
+errno_or_default entry action None = Ok (if takes_errno action then 1 else 0)
+errno_or_default entry action (Some d) = errno_of entry action d
+
+unfoldable pub answer_in : Option ℕ → Action → List ℕ → Data → Result Answer LoadFault
+answer_in entry action name d = do
+  errno ← errno_or_default entry action (member name d)
+  Ok (record { 0 = answer_of action errno })
+
+-- ---- what depends on an engine, and texts
+
+-- an empty object or an empty array
+abbrev pub is_empty : Data → Bool
+is_empty d = option_map_or (λ ds. not (has_items ds)) (as_array d) (option_map_or (λ ms. not (has_members ms)) (as_object d) false)
+
+abbrev pub absent_or_empty : Option ℕ → Option Data → Result ⊤ LoadFault
+absent_or_empty entry None = Ok tt
+absent_or_empty entry (Some d) = refused_if (not (is_empty d)) (faults.EngineForm entry)
+
+-- the member has to be absent or empty, of whatever kind it is
+unfoldable pub no_engine_form : Option ℕ → List ℕ → Data → Result ⊤ LoadFault
+no_engine_form entry name d = absent_or_empty entry (member name d)
+
+-- the texts of an array
+abbrev pub text_of : Option ℕ → Data → Result (List ℕ) LoadFault
+text_of entry d = some_or (as_str d) (faults.Kind entry)
+
+abbrev pub texts_of : Option ℕ → Items → Result (List (List ℕ)) LoadFault
+texts_of entry items = each (λ before. text_of entry) [] items
+
+-- the items of an array that may be absent
+abbrev pub items_or_none : Option ℕ → Option Data → Result Items LoadFault
+items_or_none entry None = Ok no_items
+items_or_none entry (Some d) = some_or (as_array d) (faults.Kind entry)
+
+-- no member of `args`
+unfoldable pub no_args : Option ℕ → Data → Result ⊤ LoadFault
+no_args entry d = do
+  items ← items_or_none entry (member (codes "args") d)
+  refused_if (has_items items) (faults.Kind entry)
+
+-- ---- an entry of `syscalls`
+
+unfoldable pub names_in : Option ℕ → Data → Result (List (List ℕ)) LoadFault
+names_in entry d = do
+  found ← some_or (member (codes "names") d) (faults.Missing entry)
+  items ← some_or (as_array found) (faults.Kind entry)
+  _ ← refused_if (not (has_items items)) (faults.EmptyNames entry)
+  texts_of entry items
+
+unfoldable pub entry_of : ℕ → Data → Result Entry LoadFault
+entry_of place d = do
+  _ ← some_or (as_object d) (faults.Kind (Some place))
+  _ ← no_engine_form (Some place) (codes "includes") d
+  _ ← no_engine_form (Some place) (codes "excludes") d
+  names ← names_in (Some place) d
+  action ← action_in (Some place) (codes "action") d
+  answer ← answer_in (Some place) action (codes "errnoRet") d
+  _ ← no_args (Some place) d
+  Ok (record { names = names; answer = answer })
+
+-- an entry's place is how many stand before it
+abbrev pub next_entry : List Entry → Data → Result Entry LoadFault
+next_entry before d = entry_of (length before) d
+
+unfoldable pub entries_in : Data → Result (List Entry) LoadFault
+entries_in d = do
+  items ← items_or_none None (member (codes "syscalls") d)
+  each next_entry [] items
+
+-- ---- the seccomp object
+
+abbrev pub x86_64 : List ℕ
+x86_64 = codes "SCMP_ARCH_X86_64"
+
+-- not empty, and without x86-64
+abbrev pub lacks_x86_64 : List (List ℕ) → Bool
+lacks_x86_64 names = nat_lt 0 (length names) && not (list_any (bytes_eq x86_64) names)
+
+-- an architecture beside x86-64
+abbrev pub is_other_architecture : List ℕ → Bool
+is_other_architecture name = not (bytes_eq x86_64 name)
+
+unfoldable pub architectures_in : Data → Result (List (List ℕ)) LoadFault
+architectures_in d = do
+  items ← items_or_none None (member (codes "architectures") d)
+  names ← texts_of None items
+  _ ← refused_if (lacks_x86_64 names) (faults.NoX8664 None)
+  Ok names
+
+-- what stands in a whole config as linux.seccomp
+unfoldable pub seccomp_in : Data → Result Data LoadFault
+seccomp_in linux = do
+  _ ← some_or (as_object linux) (faults.Kind None)
+  seccomp ← some_or (member (codes "seccomp") linux) (faults.Missing None)
+  _ ← some_or (as_object seccomp) (faults.Kind None)
+  Ok seccomp
+
+abbrev pub root_or_linux : Data → Option Data → Option Data → Result Data LoadFault
+root_or_linux root (Some action) linux = Ok root
+root_or_linux root None None = Ok root
+root_or_linux root None (Some linux) = seccomp_in linux
+
+-- the root, where it has a `defaultAction` or has no `linux`, or what stands in it as linux.seccomp
+unfoldable pub seccomp_of : Data → Result Data LoadFault
+seccomp_of root = do
+  _ ← some_or (as_object root) (faults.Kind None)
+  root_or_linux root (member (codes "defaultAction") root) (member (codes "linux") root)
+
+-- ---- with the call table
+
+-- the rule that an entry at a place states for a number
+abbrev pub rule_for : ℕ → Entry → ℕ → Rule
+rule_for place e number = record { number = number; answer = e.answer; entry = place }
+
+-- one rule for each occurrence of a name that the table has
+abbrev pub rules_named : Names → ℕ → Entry → List (List ℕ) → List Rule
+rules_named table place e names = filter_map (λ name. option_map (rule_for place e) (get table name)) names
+
+-- those of the entries from this place on
+abbrev pub rules_from : Names → ℕ → List Entry → List Rule
+rules_from table place [] = []
+rules_from table place (e ∷ es) = rules_named table place e e.names ++ rules_from table (place + 1) es
+
+-- the table lacks the name
+abbrev pub is_skipped : Names → List ℕ → Bool
+is_skipped table name = is_none (get table name)
+
+-- each occurrence of such a name
+abbrev pub skipped_names : Names → List Entry → List (List ℕ)
+skipped_names table entries = filter (is_skipped table) (flat_map (λ e. e.names) entries)
+
+unfoldable pub rules_in : Names → List Entry → Result (List Rule) LoadFault
+rules_in table entries = do
+  _ ← refused_if (nat_lt 4096 (length (rules_from table 0 entries))) faults.TooMany
+  Ok (rules_from table 0 entries)
+
+-- what the seccomp object states
+unfoldable pub object_states : Names → Data → Result Loaded LoadFault
+object_states table d = do
+  action ← action_in None (codes "defaultAction") d
+  default_answer ← answer_in None action (codes "defaultErrnoRet") d
+  architectures ← architectures_in d
+  _ ← no_engine_form None (codes "archMap") d
+  entries ← entries_in d
+  rules ← rules_in table entries
+  Ok (record {
+    profile = record { default_answer = default_answer; rules = rules };
+    skipped = skipped_names table entries;
+    other_architectures = filter is_other_architecture architectures;
+  })
+
+-- what the root states
+unfoldable pub profile_of : Names → Data → Result Loaded LoadFault
+profile_of table root = do
+  seccomp ← seccomp_of root
+  object_states table seccomp

@@ -1,0 +1,84 @@
+//! Actions by name, and the answers that they make.
+
+ghost use Rattle.std.specs.Prelude.{◌≡◌, ◌<◌, ◌^◌, IfOk};
+ghost use Rattle.serde_json.specs.View.{view};
+ghost use Rattle.scf_profile.specs.StatedProfile.{action_named, takes_errno as errno_taken, action_in, errno_of as errno_stated, answer_in};
+
+use crate::json_members::member_of;
+use crate::load_fault::LoadFault;
+use scf_insn::{Action, Answer};
+use serde_json::Value;
+
+fn action_of(name: &str) -> Option<Action>
+    ensures { result ≡ action_named name.now }
+{
+    match name {
+        "SCMP_ACT_KILL" => Some(Action::KillThread),
+        "SCMP_ACT_KILL_THREAD" => Some(Action::KillThread),
+        "SCMP_ACT_KILL_PROCESS" => Some(Action::KillProcess),
+        "SCMP_ACT_TRAP" => Some(Action::Trap),
+        "SCMP_ACT_ERRNO" => Some(Action::Errno),
+        "SCMP_ACT_NOTIFY" => Some(Action::UserNotif),
+        "SCMP_ACT_TRACE" => Some(Action::Trace),
+        "SCMP_ACT_LOG" => Some(Action::Log),
+        "SCMP_ACT_ALLOW" => Some(Action::Allow),
+        _ => None,
+    }
+}
+
+/// Whether an action has an errno as its data.
+fn takes_errno(action: Action) -> bool
+    ensures { result ≡ errno_taken action }
+{
+    matches!(action, Action::Errno | Action::Trace)
+}
+
+/// The action that a member of the object names.
+#[tactic(auto, unfolding(crate::specs::StatedProfile::action_in))]
+pub(crate) fn find_action(
+    entry: Option<u32>,
+    name: &str,
+    object: &Value,
+) -> Result<Action, LoadFault>
+    ensures { result ≡ action_in entry name.now (view object.now) }
+{
+    let found = member_of(object, name).ok_or(LoadFault::Missing { entry })?;
+    let text = found.as_str().ok_or(LoadFault::Kind { entry })?;
+    action_of(text).ok_or(LoadFault::Action { entry })
+}
+
+/// The errno that a value is, beside an action.
+#[tactic(auto, unfolding(crate::specs::StatedProfile::errno_of))]
+fn errno_of(entry: Option<u32>, action: Action, value: &Value) -> Result<u16, LoadFault>
+    ensures { result ≡ errno_stated entry action (view value.now) }
+{
+    let number = value.as_u64();
+    if number.is_none() && !value.is_i64() {
+        return Err(LoadFault::Kind { entry });
+    }
+    if !takes_errno(action) {
+        return Err(LoadFault::Errno { entry });
+    }
+    match number {
+        Some(errno) if errno < 65536 => Ok(errno as u16),
+        _ => Err(LoadFault::ErrnoRange { entry }),
+    }
+}
+
+/// The answer of an action with the errno in a member of the object, EPERM where there is none.
+#[tactic(auto, unfolding(crate::specs::StatedProfile::answer_in))]
+pub(crate) fn find_answer(
+    entry: Option<u32>,
+    action: Action,
+    name: &str,
+    object: &Value,
+) -> Result<Answer, LoadFault>
+    ensures value { result ≡ answer_in entry action name.now (view object.now) }
+    ensures range { IfOk result (λ answer. answer.0 < 2 ^ 32) }
+{
+    let errno = match member_of(object, name) {
+        None => u16::from(takes_errno(action)),
+        Some(found) => errno_of(entry, action, found)?,
+    };
+    Ok(Answer::new(action, errno))
+}

@@ -1,0 +1,45 @@
+//! Entries of `syscalls`.
+
+ghost use Rattle.std.specs.Prelude.{◌≡◌, [], IfOk};
+ghost use Rattle.serde_json.specs.View.{view, items_view};
+ghost use Rattle.scf_profile.specs.declared.load_fault.LoadFault.TheVariants.{Memory};
+ghost use Rattle.scf_profile.specs.Steps.{Gives, result_map};
+
+use crate::action::{find_action, find_answer};
+use crate::forms::{check_no_args, check_no_engine_form, find_names};
+use crate::load_fault::LoadFault;
+use crate::texts::BorrowedTexts;
+use scf_insn::Answer;
+use serde_json::Value;
+use std::alloc::Global;
+
+/// What an entry states: its names and its answer.
+#[derive(Drop)]
+pub(crate) struct Entry<'v> {
+    pub(crate) names: BorrowedTexts<'v>,
+    pub(crate) answer: Answer,
+}
+
+impl<'v> Entry<'v> {
+    ghost use Rattle.scf_profile.specs.EntryRanges.{IsEntry};
+    ghost use Rattle.scf_profile.specs.StatedProfile.{entry_of as entry_stated};
+
+    /// What the entry at a place states.
+    #[tactic(auto, unfolding(crate::specs::StatedProfile::entry_of))]
+    pub(crate) fn read(alloc: Global, place: u32, object: &'v Value) -> Result<Entry<'v>, LoadFault>
+        ensures value { Gives Memory result (entry_stated place (view object.now)) }
+        ensures range { IfOk result IsEntry }
+    {
+        let entry = Some(place);
+        if !object.is_object() {
+            return Err(LoadFault::Kind { entry });
+        }
+        check_no_engine_form(entry, "includes", object)?;
+        check_no_engine_form(entry, "excludes", object)?;
+        let names = find_names(alloc, entry, object)?;
+        let action = find_action(entry, "action", object)?;
+        let answer = find_answer(entry, action, "errnoRet", object)?;
+        check_no_args(entry, object)?;
+        Ok(Entry { names, answer })
+    }
+}

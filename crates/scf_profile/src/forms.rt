@@ -1,0 +1,95 @@
+//! Texts in arrays, and forms that depend on a container engine.
+
+ghost use Rattle.std.specs.Prelude.{◌≡◌};
+ghost use Rattle.serde_json.specs.View.{view, items_view};
+ghost use Rattle.scf_profile.specs.declared.load_fault.LoadFault.TheVariants.{Memory};
+ghost use Rattle.scf_profile.specs.StatedProfile.{is_empty as empty_value, no_engine_form, no_args, text_of as text_stated, texts_of as texts_stated, names_in};
+ghost use Rattle.scf_profile.specs.Steps.{Gives, result_map};
+
+use crate::json_members::{has_items, has_members, member_of};
+use crate::load_fault::LoadFault;
+use crate::texts::BorrowedTexts;
+use serde_json::Value;
+use std::alloc::Global;
+
+/// Whether a value is an empty array or an empty object.
+fn is_empty(value: &Value) -> bool
+    ensures { result ≡ empty_value (view value.now) }
+{
+    match value.as_array() {
+        Some(items) => !has_items(items),
+        None => match value.as_object() {
+            Some(members) => !has_members(members),
+            None => false,
+        },
+    }
+}
+
+/// Refuses a member of the object that is there and isn't empty.
+#[tactic(auto, unfolding(crate::specs::StatedProfile::no_engine_form))]
+pub(crate) fn check_no_engine_form(
+    entry: Option<u32>,
+    name: &str,
+    object: &Value,
+) -> Result<(), LoadFault>
+    ensures { result ≡ no_engine_form entry name.now (view object.now) }
+{
+    match member_of(object, name) {
+        Some(found) if !is_empty(found) => Err(LoadFault::EngineForm { entry }),
+        _ => Ok(()),
+    }
+}
+
+/// Refuses an `args` that isn't an array, or has a member.
+#[tactic(auto, unfolding(crate::specs::StatedProfile::no_args))]
+pub(crate) fn check_no_args(entry: Option<u32>, object: &Value) -> Result<(), LoadFault>
+    ensures { result ≡ no_args entry (view object.now) }
+{
+    let Some(found) = member_of(object, "args") else {
+        return Ok(());
+    };
+    let members = found.as_array().ok_or(LoadFault::Kind { entry })?;
+    if has_items(members) {
+        return Err(LoadFault::Kind { entry });
+    }
+    Ok(())
+}
+
+fn text_of(entry: Option<u32>, value: &Value) -> Result<&str, LoadFault>
+    ensures { result_map (λ s. s.now) result ≡ text_stated entry (view value.now) }
+{
+    value.as_str().ok_or(LoadFault::Kind { entry })
+}
+
+/// The texts of an array.
+pub(crate) fn texts_of<'v>(
+    alloc: Global,
+    entry: Option<u32>,
+    items: &'v [Value],
+) -> Result<BorrowedTexts<'v>, LoadFault>
+    ensures { Gives Memory result (texts_stated entry (items_view items.now)) }
+{
+    let mut texts = BorrowedTexts::new(alloc);
+    for item in items {
+        let text = text_of(entry, item)?;
+        texts.push(text)?;
+    }
+    Ok(texts)
+}
+
+/// The names of an entry.
+#[tactic(auto, unfolding(crate::specs::StatedProfile::names_in))]
+pub(crate) fn find_names<'v>(
+    alloc: Global,
+    entry: Option<u32>,
+    object: &'v Value,
+) -> Result<BorrowedTexts<'v>, LoadFault>
+    ensures { Gives Memory result (names_in entry (view object.now)) }
+{
+    let found = member_of(object, "names").ok_or(LoadFault::Missing { entry })?;
+    let names = found.as_array().ok_or(LoadFault::Kind { entry })?;
+    if !has_items(names) {
+        return Err(LoadFault::EmptyNames { entry });
+    }
+    texts_of(alloc, entry, names)
+}

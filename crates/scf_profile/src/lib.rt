@@ -1,0 +1,30 @@
+//! Call tables, and profiles without conditions: how one is read from JSON.
+#![tactic(auto)]
+
+mod action;
+mod entry;
+mod expand;
+mod forms;
+mod json_members;
+mod load_fault;
+mod loaded;
+mod object;
+mod profile;
+mod profile_text;
+mod rule;
+mod table;
+mod table_fault;
+mod table_line;
+mod texts;
+
+pub use load_fault::LoadFault;
+pub use loaded::Loaded;
+pub use profile::Profile;
+pub use profile_text::load;
+pub use rule::Rule;
+pub use table::CallTable;
+pub use table_fault::TableFault;
+pub use texts::Texts;
+
+#[cfg(test)]
+mod tests;

@@ -1,0 +1,54 @@
+//! Why a text is loaded as no profile.
+
+ghost use Rattle.std.specs.Prelude.{◌≡◌};
+ghost use Rattle.scf_profile.specs.declared.load_fault.LoadFault.TheVariants.{Memory};
+
+use std::alloc::{AllocError, AllocFailed};
+use thiserror::Error;
+
+/// The fault of the first test that fails. `entry` is the place from 0 of the entry of `syscalls` in which it stands, None
+/// where it stands outside of them.
+#[derive(Clone, Copy, Debug, PartialEq, Eq, Error)]
+pub enum LoadFault {
+    /// The text is no UTF-8, or no JSON that is nested at most 127 deep.
+    #[error("no JSON, or nested more than 127 deep")]
+    Json,
+    #[error("a member is missing")]
+    Missing { entry: Option<u32> },
+    #[error("a value of the wrong kind")]
+    Kind { entry: Option<u32> },
+    #[error("no name of an action")]
+    Action { entry: Option<u32> },
+    #[error("an entry without names")]
+    EmptyNames { entry: Option<u32> },
+    #[error("an errno beside an action that takes none")]
+    Errno { entry: Option<u32> },
+    #[error("an errno outside 0 to 65535")]
+    ErrnoRange { entry: Option<u32> },
+    #[error("x86-64 is not among the architectures")]
+    NoX8664 { entry: Option<u32> },
+    /// A non-empty `archMap`, `includes` or `excludes`, whose meaning depends on a container engine.
+    #[error("a form of container engines")]
+    EngineForm { entry: Option<u32> },
+    /// More than 4194304 bytes of text, or more than 4096 rules.
+    #[error("more than 4194304 bytes, or more than 4096 rules")]
+    TooMany,
+    #[error("out of memory")]
+    Memory,
+}
+
+impl From<AllocError> for LoadFault {
+    ghost from_gives = { λ _ e. e ≡ Memory };
+
+    fn from(_refused: AllocError) -> LoadFault {
+        LoadFault::Memory
+    }
+}
+
+impl<T: Drop> From<AllocFailed<T>> for LoadFault {
+    ghost from_gives = { λ _ e. e ≡ Memory };
+
+    fn from(_refused: AllocFailed<T>) -> LoadFault {
+        LoadFault::Memory
+    }
+}

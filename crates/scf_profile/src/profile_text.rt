@@ -1,0 +1,96 @@
+//! From a text and a call table to a profile.
+
+ghost use Rattle.std.specs.Prelude.{◌≡◌, ◌<◌, ◌^◌, IfOk, IfErr};
+ghost use Rattle.serde_json.specs.View.{view};
+ghost use Rattle.scf_profile.specs.declared.load_fault.LoadFault.TheVariants.{Memory};
+ghost use Rattle.scf_profile.specs.EntryRanges.{AreStatedRules};
+ghost use Rattle.scf_profile.specs.Loading.{IsText, Loads, Refuses, ParseRefuses};
+ghost use Rattle.scf_profile.specs.ShortArrays.{HasShortArrays};
+ghost use Rattle.scf_profile.specs.Stated.{loaded_of};
+ghost use Rattle.scf_profile.specs.StatedProfile.{object_states};
+ghost use Rattle.scf_profile.specs.Steps.{Gives, result_map};
+
+use crate::action::{find_action, find_answer};
+use crate::expand::{other_architectures, rules_of, skipped_of};
+use crate::forms::check_no_engine_form;
+use crate::load_fault::LoadFault;
+use crate::loaded::Loaded;
+use crate::object::{find_architectures, find_entries, find_seccomp};
+use crate::profile::Profile;
+use crate::rule::Rule;
+use crate::table::CallTable;
+use crate::texts::Texts;
+use scf_insn::Answer;
+use serde_json::Value;
+use std::alloc::Global;
+
+/// How many bytes the text of a profile has at most.
+const TEXT_LIMIT: usize = 4_194_304;
+
+/// The JSON value of a text.
+fn parse(alloc: Global, text: &[u8]) -> Result<Value, LoadFault>
+    ensures ok { IfOk result (λ v. IsText text.now (view v)) }
+    ensures err { IfErr result (λ e. ParseRefuses text.now e) }
+{
+    if text.len() > TEXT_LIMIT {
+        return Err(LoadFault::TooMany);
+    }
+    match Value::from_slice(alloc, text) {
+        Ok(value) => Ok(value),
+        Err(e) => {
+            if e.is_memory() {
+                Err(LoadFault::Memory)
+            } else {
+                Err(LoadFault::Json)
+            }
+        }
+    }
+}
+
+/// What the seccomp object and a table state.
+#[derive(Drop)]
+struct Stated {
+    default_answer: Answer,
+    rules: Vec<Rule>,
+    skipped: Texts,
+    other_architectures: Texts,
+}
+
+#[tactic(auto, unfolding(crate::specs::StatedProfile::object_states))]
+fn read_object(alloc: Global, table: &CallTable, object: &Value) -> Result<Stated, LoadFault>
+    requires { HasShortArrays 0xffff_ffff (view object.now) }
+    ensures value { Gives Memory (result_map loaded_of result) (object_states table.now (view object.now)) }
+    ensures range { IfOk result (λ s. AreStatedRules s.rules.items) }
+    ensures default_range { IfOk result (λ s. s.default_answer.0 < 2 ^ 32) }
+{
+    let action = find_action(None, "defaultAction", object)?;
+    let default_answer = find_answer(None, action, "defaultErrnoRet", object)?;
+    let architectures = find_architectures(alloc, object)?;
+    check_no_engine_form(None, "archMap", object)?;
+    let entries = find_entries(alloc, object)?;
+    let rules = rules_of(alloc, table, &entries)?;
+    let skipped = skipped_of(alloc, table, &entries)?;
+    let other_architectures = other_architectures(alloc, architectures.as_slice())?;
+    table.within_range();
+    Ok(Stated {
+        default_answer,
+        rules,
+        skipped,
+        other_architectures,
+    })
+}
+
+/// The profile that a text states, whose names get their numbers from a call table. The first test that fails is answered.
+pub fn load(alloc: Global, text: &[u8], table: &CallTable) -> Result<Loaded, LoadFault>
+    ensures ok { IfOk result (λ loaded. Loads text.now table.now loaded) }
+    ensures err { IfErr result (λ fault. Refuses text.now table.now fault) }
+{
+    let value = parse(alloc, text)?;
+    let object = find_seccomp(&value)?;
+    let stated = read_object(alloc, table, object)?;
+    Ok(Loaded {
+        profile: Profile::new(stated.default_answer, stated.rules),
+        skipped: stated.skipped,
+        other_architectures: stated.other_architectures,
+    })
+}

@@ -1,0 +1,89 @@
+//! The call table: numbers of calls by name, read from a text.
+
+ghost use Rattle.std.specs.Prelude.{◌≡◌, ◌≢◌, ◌<◌, ◌^◌, IfSome, OnOk, IfErr, OnErr, Ok, Err};
+ghost use Rattle.std.specs.FinMap.{get};
+ghost use Rattle.scf_profile.specs.declared.table_fault.TableFault.TheVariants.{Memory};
+ghost use Rattle.scf_profile.specs.Steps.{Gives};
+ghost use Rattle.scf_profile.specs.Table.{AreCallNumbers, table_of, with_line};
+
+use crate::table_fault::TableFault;
+use crate::table_line::{entry_on, first_line};
+use std::alloc::Global;
+use std::collections::BTreeMap;
+use std::marker::Model;
+
+/// Numbers of calls by name. Each is below 0x40000000.
+#[derive(Drop)]
+pub struct CallTable {
+    numbers: BTreeMap<String, u32>,
+}
+
+impl Model for CallTable {
+    ghost use Rattle.std.specs.FinMap as map;
+    ghost use Rattle.std.specs.Coded.{coded_ℕ, coded_list};
+    ghost use Rattle.scf_profile.specs.Table.{Names, AreCallNumbers};
+
+    ghost Value = { Names };
+
+    ghost coded = { map.code (coded_list coded_ℕ) coded_ℕ };
+
+    ghost use Rattle.scf_profile.specs.Names.{names_of};
+
+    ghost view = { λ t. names_of t.numbers.entries };
+
+    ghost invariant = { λ t. AreCallNumbers (names_of t.numbers.entries) };
+}
+
+impl CallTable {
+    /// The table that a text states: on each line a name and a decimal number, divided by blanks; blank lines and those that
+    /// begin with `#` aside. The first fault of the first faulty line is answered.
+    pub fn read(alloc: Global, text: &[u8]) -> Result<CallTable, TableFault>
+        ensures { Gives Memory result (table_of text.now) }
+    {
+        let mut table = CallTable {
+            numbers: BTreeMap::new(alloc),
+        };
+        let mut rest = text;
+        let mut number: usize = 0;
+        while !rest.is_empty() {
+            let (line, after) = first_line(rest);
+            number += 1;
+            table.add_line(alloc, number, line)?;
+            rest = after;
+        }
+        Ok(table)
+    }
+
+    /// The number of a call, where the table has its name.
+    pub fn number_of(&self, name: &str) -> Option<u32>
+        ensures value { result ≡ get self.now name.now }
+        ensures range { IfSome result (λ n. n < 2 ^ 30) }
+    {
+        self.numbers.get(name).copied()
+    }
+
+    // Its numbers are call numbers: a law for proofs, which does nothing.
+    pub(crate) fn within_range(&self)
+        ensures { AreCallNumbers self.now }
+    {
+        let _numbers = &self.numbers;
+    }
+
+    // Adds what a line states. An `Err` changes nothing.
+    #[tactic(auto, unfolding(crate::specs::Table::with_line))]
+    fn add_line(&mut self, alloc: Global, line: usize, text: &[u8]) -> Result<(), TableFault>
+        ensures ok { OnOk result (with_line line self.old text.now ≡ Ok self.new) }
+        ensures err { IfErr result (λ e. e ≢ Memory → with_line line self.old text.now ≡ Err e) }
+        ensures kept { OnErr result (self.new ≡ self.old) }
+    {
+        let Some((name, number)) = entry_on(line, text)? else {
+            return Ok(());
+        };
+        if self.numbers.contains_key(name) {
+            return Err(TableFault::Repeated { line });
+        }
+        let key = String::from_str(alloc, name)?;
+        self.numbers.insert(key, number)?;
+        Ok(())
+    }
+}

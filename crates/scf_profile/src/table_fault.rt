@@ -1,0 +1,41 @@
+//! Why a text is no call table.
+
+ghost use Rattle.std.specs.Prelude.{◌≡◌};
+ghost use Rattle.scf_profile.specs.declared.table_fault.TableFault.TheVariants.{Memory};
+
+use std::alloc::{AllocError, AllocFailed};
+use thiserror::Error;
+
+/// The first fault of the first faulty line. Lines count from 1.
+#[derive(Clone, Copy, Debug, PartialEq, Eq, Error)]
+pub enum TableFault {
+    /// The line doesn't have two fields.
+    #[error("line {line}: not a name and a number")]
+    Form { line: usize },
+    /// The first field isn't a letter or `_` followed by letters, digits and `_`.
+    #[error("line {line}: no name of a call")]
+    Name { line: usize },
+    /// The second field isn't a decimal number below 0x40000000.
+    #[error("line {line}: no number of a call")]
+    Number { line: usize },
+    #[error("line {line}: the name stands on an earlier line")]
+    Repeated { line: usize },
+    #[error("out of memory")]
+    Memory,
+}
+
+impl From<AllocError> for TableFault {
+    ghost from_gives = { λ _ e. e ≡ Memory };
+
+    fn from(_refused: AllocError) -> TableFault {
+        TableFault::Memory
+    }
+}
+
+impl<T: Drop> From<AllocFailed<T>> for TableFault {
+    ghost from_gives = { λ _ e. e ≡ Memory };
+
+    fn from(_refused: AllocFailed<T>) -> TableFault {
+        TableFault::Memory
+    }
+}

@@ -1,0 +1,132 @@
+//! The lines of a call table, and the name and the number on one.
+
+ghost use Rattle.std.specs.Prelude.{◌≡◌, ◌<◌, ◌≤◌, ◌^◌, [], ◌∷◌, length, nat_lt, if◌then◌else◌, slice_index, false, option_map, IfOk, IfSome};
+ghost use Rattle.std.specs.List.{list_all};
+ghost use Rattle.std.specs.Str.Lines.{lines, strip_carriage_return as without_carriage_return};
+ghost use Rattle.scf_profile.specs.Steps.{result_map};
+ghost use Rattle.scf_profile.specs.Table.{is_blank as blank, fields, begins_name as name_begins, is_in_name as in_name, is_name as name_is, call_number as number_stated, entry_in};
+
+use crate::table_fault::TableFault;
+use scf_insn::parse_numeral;
+
+/// The first number that no call of x86-64 has.
+const FOREIGN_NUMBERS: u64 = 0x4000_0000;
+
+fn strip_carriage_return(line: &[u8]) -> &[u8]
+    ensures { result.now ≡ without_carriage_return line.now }
+{
+    match line {
+        [front @ .., b'\r'] => front,
+        _ => line,
+    }
+}
+
+/// The first line, and the text behind it.
+pub(crate) fn first_line(text: &[u8]) -> (&[u8], &[u8])
+    requires { 0 < length text.now }
+    ensures lines { lines text.now ≡ result.0.now ∷ lines result.1.now }
+    ensures shorter { length result.1.now < length text.now }
+{
+    for (i, byte) in text.iter().enumerate() {
+        if *byte == b'\n' {
+            return (strip_carriage_return(&text[..i]), &text[i + 1..]);
+        }
+    }
+    (text, &[])
+}
+
+fn is_blank(byte: u8) -> bool
+    ensures { result ≡ blank byte }
+{
+    byte == b' ' || byte == b'\t'
+}
+
+/// The text from its first byte that isn't blank on.
+fn trimmed(text: &[u8]) -> &[u8]
+    ensures fields { fields result.now ≡ fields text.now }
+    ensures shorter { length result.now ≤ length text.now }
+    ensures begins { 0 < length result.now → blank (slice_index result.now 0) ≡ false }
+{
+    let mut rest = text;
+    while let [first, after @ ..] = rest {
+        if !is_blank(*first) {
+            return rest;
+        }
+        rest = after;
+    }
+    rest
+}
+
+/// The first field, and the text behind it. The field is empty where there is none.
+fn first_field(text: &[u8]) -> (&[u8], &[u8])
+    ensures { fields text.now ≡ (if nat_lt 0 (length result.0.now) then result.0.now ∷ fields result.1.now else []) }
+{
+    let rest = trimmed(text);
+    for (i, byte) in rest.iter().enumerate() {
+        if is_blank(*byte) {
+            return rest.split_at(i);
+        }
+    }
+    (rest, &[])
+}
+
+fn begins_name(byte: u8) -> bool
+    ensures { result ≡ name_begins byte }
+{
+    byte.is_ascii_alphabetic() || byte == b'_'
+}
+
+fn is_in_name(byte: u8) -> bool
+    ensures { result ≡ in_name byte }
+{
+    begins_name(byte) || byte.is_ascii_digit()
+}
+
+fn are_in_name(text: &[u8]) -> bool
+    ensures { result ≡ list_all in_name text.now }
+{
+    text.iter().all(|byte| is_in_name(*byte))
+}
+
+/// A letter or an underscore, and then letters, digits and underscores.
+fn is_name(text: &[u8]) -> bool
+    ensures { result ≡ name_is text.now }
+{
+    !text.is_empty() && begins_name(text[0]) && are_in_name(text)
+}
+
+/// The value of decimal digits, where it is a call number.
+fn call_number(digits: &[u8]) -> Option<u32>
+    ensures value { result ≡ number_stated digits.now }
+    ensures range { IfSome result (λ n. n < 2 ^ 30) }
+{
+    match parse_numeral(digits, 10) {
+        Ok(number) if number < FOREIGN_NUMBERS => Some(number as u32),
+        _ => None,
+    }
+}
+
+/// The name and the number on a line, where it has them.
+#[tactic(auto, unfolding(crate::specs::Table::pair_of))]
+pub(crate) fn entry_on(line: usize, text: &[u8]) -> Result<Option<(&str, u32)>, TableFault>
+    ensures value { result_map (option_map (λ e. (e.0.now, e.1))) result ≡ entry_in line (fields text.now) }
+    ensures range { IfOk result (λ found. IfSome found (λ e. e.1 < 2 ^ 30)) }
+{
+    let (name, rest) = first_field(text);
+    if name.is_empty() || name[0] == b'#' {
+        return Ok(None);
+    }
+    let (digits, rest) = first_field(rest);
+    let (third, _) = first_field(rest);
+    if digits.is_empty() || !third.is_empty() {
+        return Err(TableFault::Form { line });
+    }
+    if !is_name(name) {
+        return Err(TableFault::Name { line });
+    }
+    let number = call_number(digits).ok_or(TableFault::Number { line })?;
+    let Ok(name) = str::from_utf8(name) else {
+        unreachable!()
+    };
+    Ok(Some((name, number)))
+}

@@ -1,0 +1,107 @@
+//! Lists of texts.
+
+ghost use Rattle.std.specs.Prelude.{◌≡◌, ◌++◌, ◌∷◌, [], map, string_bytes, OnOk, if◌then◌else◌};
+
+use std::alloc::{AllocError, Global};
+use std::marker::Model;
+
+/// Texts in an order, each seen as its bytes.
+#[derive(Debug, Drop)]
+pub struct Texts {
+    list: Vec<String>,
+}
+
+impl Model for Texts {
+    ghost use Rattle.std.specs.Prelude.{List, ℕ, map, string_bytes};
+
+    ghost Value = { List (List ℕ) };
+
+    ghost view = { λ t. map string_bytes t.list.items };
+}
+
+impl Texts {
+    /// These texts.
+    pub fn from_vec(list: Vec<String>) -> Texts
+        ensures { result ≡ map string_bytes list.items }
+    {
+        Texts { list }
+    }
+
+    /// No texts.
+    pub(crate) fn new(alloc: Global) -> Texts
+        ensures { result ≡ [] }
+    {
+        Texts {
+            list: Vec::new(alloc),
+        }
+    }
+
+    /// Adds a text at the end, where it is wanted.
+    pub(crate) fn push_if(
+        &mut self,
+        alloc: Global,
+        wanted: bool,
+        text: &str,
+    ) -> Result<(), AllocError>
+        ensures { OnOk result (self.new ≡ self.old ++ (if wanted then text.now ∷ [] else [])) }
+    {
+        if wanted {
+            self.list.push(String::from_str(alloc, text)?)?;
+        }
+        Ok(())
+    }
+
+    /// The texts in their order.
+    pub fn into_vec(self) -> Vec<String>
+        ensures { map string_bytes result.items ≡ self }
+    {
+        self.list
+    }
+
+    /// The texts in their order.
+    pub fn as_slice(&self) -> &[String]
+        ensures { map string_bytes result.now ≡ self.now }
+    {
+        &self.list
+    }
+}
+
+/// Texts that lie elsewhere, in an order.
+#[derive(Drop)]
+pub(crate) struct BorrowedTexts<'v> {
+    list: Vec<&'v str>,
+}
+
+impl<'v> Model for BorrowedTexts<'v> {
+    ghost use Rattle.std.specs.Prelude.{List, ℕ, map};
+
+    ghost Value = { List (List ℕ) };
+
+    ghost view = { λ t. map (λ s. s.now) t.list.items };
+}
+
+impl<'v> BorrowedTexts<'v> {
+    /// No texts.
+    pub(crate) fn new(alloc: Global) -> BorrowedTexts<'v>
+        ensures { result ≡ [] }
+    {
+        BorrowedTexts {
+            list: Vec::new(alloc),
+        }
+    }
+
+    /// Adds a text at the end.
+    pub(crate) fn push(&mut self, text: &'v str) -> Result<(), AllocError>
+        ensures { OnOk result (self.new ≡ self.old ++ text.now ∷ []) }
+    {
+        self.list.push(text)?;
+        Ok(())
+    }
+
+    /// The texts in their order.
+    pub(crate) fn as_slice(&self) -> &[&'v str]
+        ensures { map (λ s. s.now) result.now ≡ self.now }
+    {
+        &self.list
+    }
+}
