@@ -1,8 +1,7 @@
 -- An array has no more items than its text has bytes.
-use Rattle.std.proofs.Common.{◌≡◌, ℕ, zero, suc, ◌+◌, ◌<◌, ◌≤◌, Bool, true, false, List, [], ◌∷◌, length, Option, Some, None, Result, Ok, Err, refl, sym, ap, ◌∙◌, subst, arith}
-use Rattle.std.specs.Prelude.{IfSome, IfOk, codes, option_map, option_and_then, is_some, ⊤}
+use Rattle.std.proofs.Common.{◌≡◌, ℕ, zero, suc, ◌<◌, ◌≤◌, Bool, true, false, List, [], ◌∷◌, length, Option, Some, None, Result, Ok, Err, refl, sym, ap, subst, arith}
+use Rattle.std.specs.Prelude.{IfSome, IfOk, codes, option_map, option_and_then, ⊤}
 use Rattle.std.proofs.lemmas.Result.{IfOk-at_ok}
-use Rattle.std.specs.declared.cmp.Ordering.{Ordering}
 use Rattle.std.specs.declared.cmp.Ordering.TheVariants.{Less, Equal, Greater}
 use Rattle.std.specs.Ordering.{nat_cmp, match_ordering}
 use Rattle.std.specs.Cmp.Lexicographic.{slice_cmp}
@@ -10,9 +9,9 @@ use Rattle.json.specs.Token.{Token}
 use Rattle.json.specs.Token as token
 use Rattle.json.specs.Lex as lexer
 use Rattle.json.specs.Json as json
-use Rattle.serde_json.specs.Data.{Data, Items, no_items, item, Members, no_members, member, put, null, boolean, number, string, array, object}
+use Rattle.serde_json.specs.Data.{Data, Items, item, Members, no_members, member, put, null, boolean, number, string, array, object}
 use Rattle.serde_json.specs.Events.{items_len}
-use Rattle.serde_json.specs.Find.{get, get_member, as_null, as_array, as_object}
+use Rattle.serde_json.specs.Find.{get, get_member, as_array, as_object}
 use Rattle.serde_json.specs.Read.{of_json, of_items, of_members, number_of, read, max_depth}
 use Rattle.scf_profile.specs.JsonMembers.{unless_null}
 use Rattle.scf_profile.specs.JsonMembers as members

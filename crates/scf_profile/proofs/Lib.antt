@@ -1,7 +1,11 @@
+pub mod Answering
 pub mod ArrayLengths
+pub mod ConditionLists
 pub mod Cuts
+pub mod LeastClash
 pub mod Loops
 pub mod NamesOf
+pub mod Numbers
 pub mod StatedRules
 pub mod TableLines
 pub mod TestFaults

@@ -1,20 +1,21 @@
 -- The rules that entries state: their ranges, and one answer for each entry.
-use Rattle.std.proofs.Common.{◌≡◌, ℕ, true, false, zero, suc, ◌+◌, ◌<◌, ◌≤◌, ◌^◌, ◌⊎◌, List, [], ◌∷◌, ◌++◌, length, take, drop, get_or, Option, Some, None, Result, Ok, Err, All, refl, sym, ap, ◌∙◌, subst, arith, inl, inr, append_assoc, append-nil, length-append, add-one, map, Bor}
-use Rattle.std.specs.Prelude.{Contains, nat_lt, option_map, IfSome}
-use Rattle.std.specs.List.{filter_map, cons_option, filter, flat_map}
+use Rattle.std.proofs.Common.{◌≡◌, ℕ, true, false, suc, ◌+◌, ◌<◌, ◌≤◌, ◌^◌, ◌⊎◌, List, [], ◌∷◌, ◌++◌, length, take, drop, get_or, Some, None, Ok, Err, All, refl, sym, ap, ◌∙◌, subst, arith, inl, inr, append_assoc, append-nil, length-append, add-one, map, Bor}
+use Rattle.std.specs.Prelude.{Contains, nat_lt, option_map}
+use Rattle.std.specs.List.{cons_option, filter, flat_map}
 use Rattle.std.specs.FinMap.{get}
 use Rattle.std.proofs.Math.Seq.{drop-cons}
 use Rattle.std.proofs.lemmas.Bool.{cases_lt, cases_order, lt-ltb, le-ltb}
 use Rattle.std.proofs.lemmas.List.{drop_all, map_more, take-append-drop, map-append}
 use Rattle.std.proofs.lemmas.List.Elements.{recursion_from_All, All-nil, All-cons, All-append, All-head, All-tail, All-contains, Contains-append_cases, filter_map-append, filter-append}
 use Rattle.scf_profile.specs.declared.entry.Entry.{Entry}
-use Rattle.scf_profile.specs.declared.load_fault.LoadFault.{LoadFault}
 use Rattle.scf_profile.specs.declared.load_fault.LoadFault.TheVariants as faults
 use Rattle.scf_profile.specs.declared.rule.Rule.{Rule}
 use Rattle.scf_profile.specs.EntryRanges.{IsEntry, AreStatedRules}
 use Rattle.scf_insn.specs.declared.answer.Answer.{Answer}
-use Rattle.scf_profile.specs.Policy.{IsProfile}
+use Rattle.scf_profile.specs.Loading.{EntriesConflict}
+use Rattle.scf_profile.specs.Policy.{IsProfile, HaveNoConflict}
 use Rattle.scf_profile.specs.Rule.{IsRule}
+use Rattle.scf_profile.proofs.Answering.{conflicts_both_ways}
 use Rattle.scf_profile.specs.Table.{Names, AreCallNumbers}
 use Rattle.scf_profile.specs.StatedProfile.{rule_for, rules_named, rules_from, rules_in, is_skipped, skipped_names}
 
@@ -33,8 +34,35 @@ all_rules table below place [] h = All-nil IsRule
 all_rules table below place (e ∷ es) h =
     let here : IsEntry e = All-head IsEntry e es h in
     All-append IsRule (rules_named table place e e.names) (rules_from table (place + 1) es)
-    (all_named IsRule table place e (λ name number is. record { number = below name number is; answer = here.answer }) e.names)
+    (all_named IsRule table place e (λ name number is. record { number = below name number is; answer = here.answer; conditions = here.conditions }) e.names)
     (all_rules table below (place + 1) es (All-tail IsEntry e es h))
+
+-- rules of entries from a place on
+from_place : (table : Names) (place : ℕ) (es : List Entry) → All (λ r. place ≤ r.entry) (rules_from table place es)
+from_place table place [] = All-nil (λ r. place ≤ r.entry)
+from_place table place (e ∷ es) =
+    All-append (λ r. place ≤ r.entry) (rules_named table place e e.names) (rules_from table (place + 1) es)
+    (all_named (λ r. place ≤ r.entry) table place e (λ name number is. omega arith) e.names)
+    (λ k d lt. let h = from_place table (place + 1) es k d lt in omega arith)
+
+module _ (table : Names) (place : ℕ) (e : Entry) (es : List Entry) (r s : Rule) (same : r.entry ≡ s.entry) (more : Contains (rules_from table (place + 1) es) r → Contains (rules_from table (place + 1) es) s → r.answer ≡ s.answer) where
+  here : (x : Rule) → Contains (rules_named table place e e.names) x → (x.entry ≡ place) × (x.answer ≡ e.answer)
+  here x c = All-contains (λ x. (x.entry ≡ place) × (x.answer ≡ e.answer)) _ x (all_named (λ x. (x.entry ≡ place) × (x.answer ≡ e.answer)) table place e (λ name number is. (refl, refl)) e.names) c
+
+  later : (x : Rule) → Contains (rules_from table (place + 1) es) x → place + 1 ≤ x.entry
+  later x c = All-contains (λ x. place + 1 ≤ x.entry) _ x (from_place table (place + 1) es) c
+
+  either_answer : Contains (rules_named table place e e.names) r ⊎ Contains (rules_from table (place + 1) es) r → Contains (rules_named table place e e.names) s ⊎ Contains (rules_from table (place + 1) es) s → r.answer ≡ s.answer
+  either_answer (inl a) (inl b) = (here r a).1 ∙ sym (here s b).1
+  either_answer (inl a) (inr b) = absurd (let x = (here r a).0 in let y = later s b in omega arith)
+  either_answer (inr a) (inl b) = absurd (let x = later r a in let y = (here s b).0 in omega arith)
+  either_answer (inr a) (inr b) = more a b
+
+pub one_answer_each : (table : Names) (place : ℕ) (es : List Entry) (r s : Rule) → Contains (rules_from table place es) r → Contains (rules_from table place es) s → r.entry ≡ s.entry → r.answer ≡ s.answer
+one_answer_each table place [] r s h k same = absurd (let lt : h.0 < 0 = h.1 in omega arith)
+one_answer_each table place (e ∷ es) r s h k same =
+    either_answer table place e es r s same (λ a b. one_answer_each table (place + 1) es r s a b same)
+    (Contains-append_cases (rules_named table place e e.names) (rules_from table (place + 1) es) r h) (Contains-append_cases (rules_named table place e e.names) (rules_from table (place + 1) es) s k)
 
 -- ---- the loops over names and entries
 
@@ -111,7 +139,7 @@ stated_rules table es rules below each is =
           let test : nat_lt 4096 (length (rules_from table 0 es)) ≡ false = le-ltb 4096 (length (rules_from table 0 es)) few in
           let fine = rw test at is in
           let same : rules_from table 0 es ≡ rules = cc in
-          subst AreStatedRules same (record { few = few; each = all_rules table below 0 es each })
+          subst AreStatedRules same (record { few = few; each = all_rules table below 0 es each; one_answer = one_answer_each table 0 es })
     ]
 
 -- ---- names that the table lacks
@@ -124,5 +152,14 @@ skipped_more table es i e old new lt is one so_far =
     ∙ filter-append (is_skipped table) e.names (flat_map (λ x. x.names) (drop (suc i) es)) ∙ ap (λ (n : ℕ). filter (is_skipped table) e.names ++ skipped_names table (drop n es)) (sym (add-one i)) in
     ap (λ (l : List (List ℕ)). l ++ skipped_names table (drop (i + 1) es)) one ∙ append_assoc old _ _ ∙ ap (λ (l : List (List ℕ)). old ++ l) (sym here) ∙ so_far
 
-pub profile_of_rules : (default_answer : Answer) (rules : List Rule) → default_answer.0 < 2 ^ 32 → AreStatedRules rules → IsProfile (record { default_answer = default_answer; rules = rules })
-profile_of_rules default_answer rules fits stated = record { default_answer = fits; few = stated.few; each = recursion_from_All IsRule rules stated.each }
+-- rules of which no two entries conflict
+pub have_no_conflict : (rules : List Rule) → AreStatedRules rules → ((first second number : ℕ) → EntriesConflict rules first second number → ⊥) → HaveNoConflict rules
+have_no_conflict rules stated none r s has_r has_s conflict =
+    elim (cases_order r.entry s.entry) [
+      | inl same ↦ conflict.answer (stated.one_answer r s has_r has_s same)
+      | inr (inl before) ↦ none r.entry s.entry r.number (record { rule = r; later = s; has_rule = has_r; has_later = has_s; entry = refl; later_entry = refl; order = before; rule_number = refl; conflict = conflict })
+      | inr (inr after) ↦ none s.entry r.entry s.number (record { rule = s; later = r; has_rule = has_s; has_later = has_r; entry = refl; later_entry = refl; order = after; rule_number = refl; conflict = conflicts_both_ways r s conflict })
+    ]
+
+pub profile_of_rules : (default_answer : Answer) (rules : List Rule) → default_answer.0 < 2 ^ 32 → AreStatedRules rules → ((first second number : ℕ) → EntriesConflict rules first second number → ⊥) → IsProfile (record { default_answer = default_answer; rules = rules })
+profile_of_rules default_answer rules fits stated none = record { default_answer = fits; few = stated.few; each = recursion_from_All IsRule rules stated.each; no_conflict = have_no_conflict rules stated none }

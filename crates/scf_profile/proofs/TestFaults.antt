@@ -1,24 +1,26 @@
--- The tests of a value give neither `Json` nor `Memory`.
-use Rattle.std.proofs.Common.{◌≡◌, ◌≢◌, ◌⊎◌, ◌==◌, not, length, sym, ◌∙◌, ap, subst, inl, ℕ, Bool, true, false, List, [], ◌∷◌, ◌++◌, Option, Some, None, Result, Ok, Err, refl, inr}
+-- The tests of a value give neither `Json` nor `Conflict`, and not `Memory`.
+use Rattle.std.proofs.Common.{◌≡◌, ◌≢◌, ◌⊎◌, ◌==◌, not, length, sym, subst, inl, ℕ, Bool, true, false, List, [], ◌∷◌, ◌++◌, Option, Some, None, Result, Ok, Err, refl, inr}
 use Rattle.std.specs.Prelude.{IfErr, codes, nat_lt}
 use Rattle.std.specs.List.{list_any}
 use Rattle.std.proofs.lemmas.Result.{IfErr-at_err}
 use Rattle.scf_insn.specs.declared.answer.Action.{Action}
 use Rattle.serde_json.specs.Data.{Data, Items, no_items, item}
 use Rattle.serde_json.specs.Find.{as_array, as_object, as_str}
+use Rattle.scf_profile.specs.declared.condition.Condition.{Condition}
 use Rattle.scf_profile.specs.declared.entry.Entry.{Entry}
 use Rattle.scf_profile.specs.declared.load_fault.LoadFault.{LoadFault}
 use Rattle.scf_profile.specs.declared.load_fault.LoadFault.TheVariants as faults
 use Rattle.scf_profile.specs.declared.loaded.Loaded.{Loaded}
-use Rattle.scf_profile.specs.Loading.{IsText, Refuses, FailsFirst}
+use Rattle.scf_profile.specs.Loading.{IsText, Refuses, FailsFirst, NamesLeastConflict}
 use Rattle.scf_profile.specs.Table.{Names}
 use Rattle.scf_profile.specs.Steps.{◌>>=◌, some_or, refused_if}
 use Rattle.scf_profile.specs.JsonMembers.{member, whole_number, unsigned_number, has_items, each}
-use Rattle.scf_profile.specs.StatedProfile.{action_named, takes_errno, errno_in_range, is_empty, lacks_x86_64, rules_from, action_in, errno_of, errno_or_default, answer_in, absent_or_empty, no_engine_form, text_of, items_or_none, no_args, names_in, entry_of, next_entry, entries_in, architectures_in, seccomp_in, root_or_linux, seccomp_of, rules_in, object_states, profile_of}
+use Rattle.scf_profile.specs.StatedProfile.{action_named, takes_errno, errno_in_range, is_empty, argument_index, operator_named, lacks_x86_64, rules_from, action_in, errno_of, errno_or_default, answer_in, absent_or_empty, no_engine_form, text_of, items_or_none, index_in, operator_in, value_in, number_or_zero, value_two_in, condition_of, conditions_in, names_in, entry_of, next_entry, entries_in, architectures_in, seccomp_in, root_or_linux, seccomp_of, rules_in, object_states, profile_of}
 
 abbrev pub IsTestFault : LoadFault → Type 0
 IsTestFault faults.Json = ⊥
 IsTestFault faults.Memory = ⊥
+IsTestFault (faults.Conflict number first second) = ⊥
 IsTestFault fault = Unit {0}
 
 -- a result that has no other fault
@@ -77,9 +79,35 @@ module _ (entry : Option ℕ) where
   texts_test : (before : List (List ℕ)) (items : Items) → IsTest (each (λ before. text_of entry) before items)
   texts_test before items = each_test (λ before. text_of entry) (λ before d. some_test (as_str d) (faults.Kind entry) tt) before items
 
-  args_test : (d : Data) → IsTest (no_args entry d)
-  unfolding no_args
-  args_test d = then_test _ _ (items_test (member (codes "args") d)) (λ items. refused_test (has_items items) (faults.Kind entry) tt)
+  index_test : (d : Data) → IsTest (index_in entry d)
+  unfolding index_in
+  index_test d = then_test _ _ (some_test (member (codes "index") d) (faults.Missing entry) tt) (λ found. then_test _ _ (some_test (whole_number found) (faults.Kind entry) tt) (λ number. some_test (argument_index number) (faults.Index entry) tt))
+
+  operator_test : (d : Data) → IsTest (operator_in entry d)
+  unfolding operator_in
+  operator_test d = then_test _ _ (some_test (member (codes "op") d) (faults.Missing entry) tt) (λ found. then_test _ _ (some_test (as_str found) (faults.Kind entry) tt) (λ name. some_test (operator_named name) (faults.Operator entry) tt))
+
+  value_test : (d : Data) → IsTest (value_in entry d)
+  unfolding value_in
+  value_test d = then_test _ _ (some_test (member (codes "value") d) (faults.Missing entry) tt) (λ found. some_test (unsigned_number found) (faults.Kind entry) tt)
+
+  number_test : (o : Option Data) → IsTest (number_or_zero entry o)
+  number_test None = ok_test _
+  number_test (Some d) = some_test (unsigned_number d) (faults.Kind entry) tt
+
+  value_two_test : (d : Data) → IsTest (value_two_in entry d)
+  unfolding value_two_in
+  value_two_test d = number_test (member (codes "valueTwo") d)
+
+  condition_test : (earlier : List Condition) (d : Data) → IsTest (condition_of entry earlier d)
+  unfolding condition_of
+  condition_test earlier d =
+      then_test _ _ (some_test (as_object d) (faults.Kind entry) tt) (λ _. then_test _ _ (index_test d) (λ index. then_test _ _ (operator_test d) (λ op.
+      then_test _ _ (value_test d) (λ value. then_test _ _ (value_two_test d) (λ value_two. then_test _ _ (refused_test (list_any (λ c. c.index == index) earlier) (faults.RepeatedIndex entry) tt) (λ _. ok_test _))))))
+
+  conditions_test : (d : Data) → IsTest (conditions_in entry d)
+  unfolding conditions_in
+  conditions_test d = then_test _ _ (items_test (member (codes "args") d)) (λ items. each_test (condition_of entry) condition_test [] items)
 
   names_test : (d : Data) → IsTest (names_in entry d)
   unfolding names_in
@@ -90,7 +118,7 @@ unfolding entry_of
 entry_test place d =
     then_test _ _ (some_test (as_object d) (faults.Kind (Some place)) tt) (λ _. then_test _ _ (engine_form_test (Some place) (codes "includes") d) (λ _. then_test _ _ (engine_form_test (Some place) (codes "excludes") d) (λ _.
     then_test _ _ (names_test (Some place) d) (λ names. then_test _ _ (action_test (Some place) (codes "action") d) (λ action. then_test _ _ (answer_test (Some place) action (codes "errnoRet") d) (λ answer.
-    then_test _ _ (args_test (Some place) d) (λ _. ok_test _)))))))
+    then_test _ _ (conditions_test (Some place) d) (λ conditions. ok_test _)))))))
 
 entries_test : (d : Data) → IsTest (entries_in d)
 unfolding entries_in
@@ -132,10 +160,14 @@ profile_test table root = then_test _ _ (seccomp_test root) (λ seccomp. object_
 refuses_of_test : (text : List ℕ) (table : Names) (e : LoadFault) → IsTestFault e → FailsFirst text table e → Refuses text table e
 refuses_of_test text table faults.Json h f = absurd h
 refuses_of_test text table faults.Memory h f = tt
+refuses_of_test text table (faults.Conflict number first second) h f = absurd h
 refuses_of_test text table (faults.Missing entry) h f = f
 refuses_of_test text table (faults.Kind entry) h f = f
 refuses_of_test text table (faults.Action entry) h f = f
+refuses_of_test text table (faults.Operator entry) h f = f
 refuses_of_test text table (faults.EmptyNames entry) h f = f
+refuses_of_test text table (faults.Index entry) h f = f
+refuses_of_test text table (faults.RepeatedIndex entry) h f = f
 refuses_of_test text table (faults.Errno entry) h f = f
 refuses_of_test text table (faults.ErrnoRange entry) h f = f
 refuses_of_test text table (faults.NoX8664 entry) h f = f
@@ -145,10 +177,14 @@ refuses_of_test text table faults.TooMany h f = inr f
 memory_or_not : (e : LoadFault) → (e ≡ faults.Memory) ⊎ (e ≢ faults.Memory)
 memory_or_not faults.Json = inr (λ h. cc)
 memory_or_not faults.Memory = inl refl
+memory_or_not (faults.Conflict number first second) = inr (λ h. cc)
 memory_or_not (faults.Missing entry) = inr (λ h. cc)
 memory_or_not (faults.Kind entry) = inr (λ h. cc)
 memory_or_not (faults.Action entry) = inr (λ h. cc)
+memory_or_not (faults.Operator entry) = inr (λ h. cc)
 memory_or_not (faults.EmptyNames entry) = inr (λ h. cc)
+memory_or_not (faults.Index entry) = inr (λ h. cc)
+memory_or_not (faults.RepeatedIndex entry) = inr (λ h. cc)
 memory_or_not (faults.Errno entry) = inr (λ h. cc)
 memory_or_not (faults.ErrnoRange entry) = inr (λ h. cc)
 memory_or_not (faults.NoX8664 entry) = inr (λ h. cc)
@@ -162,3 +198,21 @@ refuses_of_fault text table d e is_text fails =
       | inl memory ↦ subst (λ (f : LoadFault). Refuses text table f) (sym memory) tt
       | inr other ↦ refuses_of_test text table e (IfErr-at_err IsTestFault (fails other) (profile_test table d).fault) (record { value = d; is_text = is_text; fails = fails other })
     ]
+
+-- the least conflict of what the value of a text states
+pub refuses_of_conflict : (text : List ℕ) (table : Names) (d : Data) (loaded : Loaded) → IsText text d → profile_of table d ≡ Ok loaded → (e : LoadFault) → NamesLeastConflict loaded.profile.rules e → Refuses text table e
+refuses_of_conflict text table d loaded is_text stated (faults.Conflict number first second) k = record { value = d; is_text = is_text; but_for_conflicts = loaded; stated = stated; least = k }
+refuses_of_conflict text table d loaded is_text stated faults.Json k = absurd k
+refuses_of_conflict text table d loaded is_text stated faults.Memory k = absurd k
+refuses_of_conflict text table d loaded is_text stated (faults.Missing entry) k = absurd k
+refuses_of_conflict text table d loaded is_text stated (faults.Kind entry) k = absurd k
+refuses_of_conflict text table d loaded is_text stated (faults.Action entry) k = absurd k
+refuses_of_conflict text table d loaded is_text stated (faults.Operator entry) k = absurd k
+refuses_of_conflict text table d loaded is_text stated (faults.EmptyNames entry) k = absurd k
+refuses_of_conflict text table d loaded is_text stated (faults.Index entry) k = absurd k
+refuses_of_conflict text table d loaded is_text stated (faults.RepeatedIndex entry) k = absurd k
+refuses_of_conflict text table d loaded is_text stated (faults.Errno entry) k = absurd k
+refuses_of_conflict text table d loaded is_text stated (faults.ErrnoRange entry) k = absurd k
+refuses_of_conflict text table d loaded is_text stated (faults.NoX8664 entry) k = absurd k
+refuses_of_conflict text table d loaded is_text stated (faults.EngineForm entry) k = absurd k
+refuses_of_conflict text table d loaded is_text stated faults.TooMany k = absurd k

@@ -1,13 +1,15 @@
 -- The ranges of what entries and rules hold.
-use Rattle.std.specs.Prelude.{◌<◌, ◌≤◌, ◌^◌, List, length, All}
+use Rattle.std.specs.Prelude.{◌≡◌, ◌<◌, ◌≤◌, ◌^◌, List, length, All, Contains}
 use Rattle.scf_profile.specs.declared.entry.Entry.{Entry}
 use Rattle.scf_profile.specs.declared.rule.Rule.{Rule}
-use Rattle.scf_profile.specs.Rule.{IsRule}
+use Rattle.scf_profile.specs.Rule.{AreConditions, IsRule}
 
 pub record IsEntry (e : Entry) : Type 0 where
+  pub conditions : AreConditions e.conditions
   pub answer : e.answer.0 < 2 ^ 32
 
--- rules that entries state: few enough, and each within its ranges
+-- rules that entries state: few enough, each within its ranges, and those of one entry with one answer
 pub record AreStatedRules (rules : List Rule) : Type 0 where
   pub few : length rules ≤ 4096
   pub each : All IsRule rules
+  pub one_answer : (r s : Rule) → Contains rules r → Contains rules s → r.entry ≡ s.entry → r.answer ≡ s.answer

@@ -1,9 +1,15 @@
+pub mod Clashes
+pub mod Condition
 pub mod EntryRanges
 pub mod JsonMembers
 pub mod Loading
 pub mod Names
+pub mod PlainProfile
 pub mod Policy
+pub mod ProfileAnswers
 pub mod Rule
+pub mod RulesByNumber
+pub mod SameAnswers
 pub mod ShortArrays
 pub mod Stated
 pub mod StatedProfile

@@ -1,17 +1,28 @@
 -- What a profile holds.
-use Rattle.std.specs.Prelude.{◌<◌, ◌≤◌, ◌^◌, List, length}
+use Rattle.std.specs.Prelude.{◌≡◌, ◌<◌, ◌≤◌, ◌^◌, List, length, Contains}
 use Rattle.std.specs.List.{AllByRecursion}
 use Rattle.scf_insn.specs.declared.answer.Answer.{Answer}
+use Rattle.scf_insn.specs.declared.record.CallRecord.{CallRecord}
 use Rattle.scf_profile.specs.declared.rule.Rule.{Rule}
-use Rattle.scf_profile.specs.Rule.{IsRule}
+use Rattle.scf_profile.specs.Rule.{Conflicts, IsRule}
 
 -- a default answer, and rules in the order of the text
 pub record Policy : Type 0 where
   pub default_answer : Answer
   pub rules : List Rule
 
+-- no two rules conflict
+abbrev pub HaveNoConflict : List Rule → Type 0
+HaveNoConflict rules = (r s : Rule) → Contains rules r → Contains rules s → Conflicts r s → ⊥
+
 -- what every loaded profile holds
 pub record IsProfile (p : Policy) : Type 0 where
   pub default_answer : p.default_answer.0 < 2 ^ 32
   pub few : length p.rules ≤ 4096
   pub each : AllByRecursion IsRule p.rules
+  pub no_conflict : HaveNoConflict p.rules
+
+-- a call of x86-64 (AUDIT_ARCH_X86_64) with a number that x32 calls don't have
+pub record IsNative (call : CallRecord) : Type 0 where
+  pub arch : call.arch ≡ 0xc000003e
+  pub nr : call.nr < 0x40000000

@@ -1,4 +1,4 @@
--- What was read of a text, as it is loaded.
+-- What was read of a text, as it is loaded where no rules conflict.
 use Rattle.scf_profile.specs.declared.profile_text.Stated.{Stated}
 use Rattle.scf_profile.specs.declared.loaded.Loaded.{Loaded}
 

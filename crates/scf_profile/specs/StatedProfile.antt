@@ -1,7 +1,7 @@
 -- What a JSON value and a call table state as a profile (OCI runtime specification, config-linux.md, seccomp): the tests in
 -- their order, each a function to what is stated or to its fault. A fault carries the place of the entry of `syscalls`
 -- in which it stands, and none where it stands outside of them.
-use Rattle.std.specs.Prelude.{ℕ, ◌+◌, Bool, true, false, not, ◌&&◌, ◌==◌, List, [], ◌∷◌, ◌++◌, codes, length, ℤ, pos, negsuc, Option, Some, None, Result, Ok, Err, nat_lt, if◌then◌else◌, is_none, option_map, ⊤}
+use Rattle.std.specs.Prelude.{ℕ, ◌+◌, Bool, true, false, not, ◌&&◌, ◌==◌, List, [], ◌∷◌, ◌++◌, codes, length, ℤ, pos, negsuc, Option, Some, None, Result, Ok, nat_lt, if◌then◌else◌, is_none, option_map, ⊤}
 use Rattle.std.specs.List.{list_any, filter, flat_map, filter_map}
 use Rattle.std.specs.Str.{bytes_eq}
 use Rattle.std.specs.FinMap.{get}
@@ -12,13 +12,16 @@ use Rattle.scf_insn.specs.declared.answer.Action.TheVariants as actions
 use Rattle.scf_insn.specs.Answers.{answer_of}
 use Rattle.serde_json.specs.Data.{Data, Items, no_items}
 use Rattle.serde_json.specs.Find.{as_array, as_object, as_str}
+use Rattle.scf_profile.specs.declared.condition.Comparison.{Comparison}
+use Rattle.scf_profile.specs.declared.condition.Comparison.TheVariants as operators
+use Rattle.scf_profile.specs.declared.condition.Condition.{Condition}
 use Rattle.scf_profile.specs.declared.rule.Rule.{Rule}
 use Rattle.scf_profile.specs.declared.entry.Entry.{Entry}
 use Rattle.scf_profile.specs.declared.load_fault.LoadFault.{LoadFault}
 use Rattle.scf_profile.specs.declared.load_fault.LoadFault.TheVariants as faults
 use Rattle.scf_profile.specs.declared.loaded.Loaded.{Loaded}
 use Rattle.scf_profile.specs.Steps.{◌>>=◌, some_or, refused_if}
-use Rattle.scf_profile.specs.JsonMembers.{member, whole_number, has_items, has_members, each}
+use Rattle.scf_profile.specs.JsonMembers.{member, whole_number, unsigned_number, has_items, has_members, each}
 use Rattle.scf_profile.specs.Table.{Names}
 
 -- ---- an action and its answer
@@ -96,11 +99,65 @@ abbrev pub items_or_none : Option ℕ → Option Data → Result Items LoadFault
 items_or_none entry None = Ok no_items
 items_or_none entry (Some d) = some_or (as_array d) (faults.Kind entry)
 
--- no member of `args`
-unfoldable pub no_args : Option ℕ → Data → Result ⊤ LoadFault
-no_args entry d = do
+-- ---- a member of `args`
+
+-- the seven operators by name
+abbrev pub operator_named : List ℕ → Option Comparison
+operator_named name =
+    if bytes_eq name (codes "SCMP_CMP_NE") then Some operators.NotEqual
+    else if bytes_eq name (codes "SCMP_CMP_LT") then Some operators.Less
+    else if bytes_eq name (codes "SCMP_CMP_LE") then Some operators.LessOrEqual
+    else if bytes_eq name (codes "SCMP_CMP_EQ") then Some operators.Equal
+    else if bytes_eq name (codes "SCMP_CMP_GE") then Some operators.GreaterOrEqual
+    else if bytes_eq name (codes "SCMP_CMP_GT") then Some operators.Greater
+    else if bytes_eq name (codes "SCMP_CMP_MASKED_EQ") then Some operators.MaskedEqual
+    else None
+
+-- a call has six arguments
+abbrev pub argument_index : ℤ → Option ℕ
+argument_index (pos n) = if nat_lt n 6 then Some n else None
+argument_index (negsuc n) = None
+
+unfoldable pub index_in : Option ℕ → Data → Result ℕ LoadFault
+index_in entry d = do
+  found ← some_or (member (codes "index") d) (faults.Missing entry)
+  number ← some_or (whole_number found) (faults.Kind entry)
+  some_or (argument_index number) (faults.Index entry)
+
+unfoldable pub operator_in : Option ℕ → Data → Result Comparison LoadFault
+operator_in entry d = do
+  found ← some_or (member (codes "op") d) (faults.Missing entry)
+  name ← some_or (as_str found) (faults.Kind entry)
+  some_or (operator_named name) (faults.Operator entry)
+
+unfoldable pub value_in : Option ℕ → Data → Result ℕ LoadFault
+value_in entry d = do
+  found ← some_or (member (codes "value") d) (faults.Missing entry)
+  some_or (unsigned_number found) (faults.Kind entry)
+
+-- 0 where it is absent
+abbrev pub number_or_zero : Option ℕ → Option Data → Result ℕ LoadFault
+number_or_zero entry None = Ok 0
+number_or_zero entry (Some d) = some_or (unsigned_number d) (faults.Kind entry)
+
+unfoldable pub value_two_in : Option ℕ → Data → Result ℕ LoadFault
+value_two_in entry d = number_or_zero entry (member (codes "valueTwo") d)
+
+-- one member, after members that state these conditions
+unfoldable pub condition_of : Option ℕ → List Condition → Data → Result Condition LoadFault
+condition_of entry earlier d = do
+  _ ← some_or (as_object d) (faults.Kind entry)
+  index ← index_in entry d
+  op ← operator_in entry d
+  value ← value_in entry d
+  value_two ← value_two_in entry d
+  _ ← refused_if (list_any (λ c. c.index == index) earlier) (faults.RepeatedIndex entry)
+  Ok (record { index = index; op = op; value = value; value_two = value_two })
+
+unfoldable pub conditions_in : Option ℕ → Data → Result (List Condition) LoadFault
+conditions_in entry d = do
   items ← items_or_none entry (member (codes "args") d)
-  refused_if (has_items items) (faults.Kind entry)
+  each (condition_of entry) [] items
 
 -- ---- an entry of `syscalls`
 
@@ -119,8 +176,8 @@ entry_of place d = do
   names ← names_in (Some place) d
   action ← action_in (Some place) (codes "action") d
   answer ← answer_in (Some place) action (codes "errnoRet") d
-  _ ← no_args (Some place) d
-  Ok (record { names = names; answer = answer })
+  conditions ← conditions_in (Some place) d
+  Ok (record { names = names; conditions = conditions; answer = answer })
 
 -- an entry's place is how many stand before it
 abbrev pub next_entry : List Entry → Data → Result Entry LoadFault
@@ -174,7 +231,7 @@ seccomp_of root = do
 
 -- the rule that an entry at a place states for a number
 abbrev pub rule_for : ℕ → Entry → ℕ → Rule
-rule_for place e number = record { number = number; answer = e.answer; entry = place }
+rule_for place e number = record { number = number; conditions = e.conditions; answer = e.answer; entry = place }
 
 -- one rule for each occurrence of a name that the table has
 abbrev pub rules_named : Names → ℕ → Entry → List (List ℕ) → List Rule
@@ -213,7 +270,7 @@ object_states table d = do
     other_architectures = filter is_other_architecture architectures;
   })
 
--- what the root states
+-- what the root states, but for conflicts among its rules
 unfoldable pub profile_of : Names → Data → Result Loaded LoadFault
 profile_of table root = do
   seccomp ← seccomp_of root

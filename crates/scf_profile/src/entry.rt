@@ -6,17 +6,20 @@ ghost use Rattle.scf_profile.specs.declared.load_fault.LoadFault.TheVariants.{Me
 ghost use Rattle.scf_profile.specs.Steps.{Gives, result_map};
 
 use crate::action::{find_action, find_answer};
-use crate::forms::{check_no_args, check_no_engine_form, find_names};
+use crate::args::find_conditions;
+use crate::condition::Conditions;
+use crate::forms::{check_no_engine_form, find_names};
 use crate::load_fault::LoadFault;
 use crate::texts::BorrowedTexts;
 use scf_insn::Answer;
 use serde_json::Value;
 use std::alloc::Global;
 
-/// What an entry states: its names and its answer.
+/// What an entry states: its names, its conditions and its answer.
 #[derive(Drop)]
 pub(crate) struct Entry<'v> {
     pub(crate) names: BorrowedTexts<'v>,
+    pub(crate) conditions: Conditions,
     pub(crate) answer: Answer,
 }
 
@@ -39,7 +42,11 @@ impl<'v> Entry<'v> {
         let names = find_names(alloc, entry, object)?;
         let action = find_action(entry, "action", object)?;
         let answer = find_answer(entry, action, "errnoRet", object)?;
-        check_no_args(entry, object)?;
-        Ok(Entry { names, answer })
+        let conditions = find_conditions(alloc, entry, object)?;
+        Ok(Entry {
+            names,
+            conditions,
+            answer,
+        })
     }
 }

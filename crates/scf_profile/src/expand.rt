@@ -19,6 +19,7 @@ const RULE_LIMIT: usize = 4096;
 /// Adds the rule that an entry at a place states for a name, where the table has the name.
 fn add_rule(
     rules: &mut Vec<Rule>,
+    alloc: Global,
     table: &CallTable,
     place: u32,
     entry: &Entry,
@@ -35,8 +36,10 @@ fn add_rule(
     if rules.len() == RULE_LIMIT {
         return Err(LoadFault::TooMany);
     }
+    let conditions = entry.conditions.try_clone(alloc)?;
     rules.push(Rule {
         number,
+        conditions,
         answer: entry.answer,
         entry: place,
     })?;
@@ -46,6 +49,7 @@ fn add_rule(
 /// Adds one rule for each occurrence of a name that the table has.
 fn add_rules(
     rules: &mut Vec<Rule>,
+    alloc: Global,
     table: &CallTable,
     place: u32,
     entry: &Entry,
@@ -56,7 +60,7 @@ fn add_rules(
     ensures err { IfErr result (λ e. e ≢ Memory → (e ≡ TooMany) × (4096 < length (rules.old.items ++ rules_named table.now place entry.now entry.now.names))) }
 {
     for name in entry.names.as_slice() {
-        add_rule(rules, table, place, entry, name)?;
+        add_rule(rules, alloc, table, place, entry, name)?;
     }
     Ok(())
 }
@@ -73,7 +77,7 @@ pub(crate) fn rules_of(
 {
     let mut rules = Vec::new(alloc);
     for (i, entry) in entries.iter().enumerate() {
-        add_rules(&mut rules, table, i as u32, entry)?;
+        add_rules(&mut rules, alloc, table, i as u32, entry)?;
     }
     Ok(rules)
 }

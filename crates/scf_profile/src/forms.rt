@@ -3,7 +3,7 @@
 ghost use Rattle.std.specs.Prelude.{◌≡◌};
 ghost use Rattle.serde_json.specs.View.{view, items_view};
 ghost use Rattle.scf_profile.specs.declared.load_fault.LoadFault.TheVariants.{Memory};
-ghost use Rattle.scf_profile.specs.StatedProfile.{is_empty as empty_value, no_engine_form, no_args, text_of as text_stated, texts_of as texts_stated, names_in};
+ghost use Rattle.scf_profile.specs.StatedProfile.{is_empty as empty_value, no_engine_form, text_of as text_stated, texts_of as texts_stated, names_in};
 ghost use Rattle.scf_profile.specs.Steps.{Gives, result_map};
 
 use crate::json_members::{has_items, has_members, member_of};
@@ -38,21 +38,6 @@ pub(crate) fn check_no_engine_form(
         Some(found) if !is_empty(found) => Err(LoadFault::EngineForm { entry }),
         _ => Ok(()),
     }
-}
-
-/// Refuses an `args` that isn't an array, or has a member.
-#[tactic(auto, unfolding(crate::specs::StatedProfile::no_args))]
-pub(crate) fn check_no_args(entry: Option<u32>, object: &Value) -> Result<(), LoadFault>
-    ensures { result ≡ no_args entry (view object.now) }
-{
-    let Some(found) = member_of(object, "args") else {
-        return Ok(());
-    };
-    let members = found.as_array().ok_or(LoadFault::Kind { entry })?;
-    if has_items(members) {
-        return Err(LoadFault::Kind { entry });
-    }
-    Ok(())
 }
 
 fn text_of(entry: Option<u32>, value: &Value) -> Result<&str, LoadFault>

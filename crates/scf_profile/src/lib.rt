@@ -1,7 +1,10 @@
-//! Call tables, and profiles without conditions: how one is read from JSON.
+//! Call tables, and profiles: how one is read from JSON, which calls its rules meet, and what it answers.
 #![tactic(auto)]
 
 mod action;
+mod args;
+mod condition;
+mod conflict;
 mod entry;
 mod expand;
 mod forms;
@@ -17,6 +20,7 @@ mod table_fault;
 mod table_line;
 mod texts;
 
+pub use condition::{Comparison, Condition, Conditions};
 pub use load_fault::LoadFault;
 pub use loaded::Loaded;
 pub use profile::Profile;

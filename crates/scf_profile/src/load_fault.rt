@@ -14,25 +14,60 @@ pub enum LoadFault {
     #[error("no JSON, or nested more than 127 deep")]
     Json,
     #[error("a member is missing")]
-    Missing { entry: Option<u32> },
+    Missing {
+        entry: Option<u32>,
+    },
     #[error("a value of the wrong kind")]
-    Kind { entry: Option<u32> },
+    Kind {
+        entry: Option<u32>,
+    },
     #[error("no name of an action")]
-    Action { entry: Option<u32> },
+    Action {
+        entry: Option<u32>,
+    },
+    #[error("no name of an operator")]
+    Operator {
+        entry: Option<u32>,
+    },
     #[error("an entry without names")]
-    EmptyNames { entry: Option<u32> },
+    EmptyNames {
+        entry: Option<u32>,
+    },
+    #[error("no index of an argument: they are 0 to 5")]
+    Index {
+        entry: Option<u32>,
+    },
+    #[error("two conditions on one argument")]
+    RepeatedIndex {
+        entry: Option<u32>,
+    },
     #[error("an errno beside an action that takes none")]
-    Errno { entry: Option<u32> },
+    Errno {
+        entry: Option<u32>,
+    },
     #[error("an errno outside 0 to 65535")]
-    ErrnoRange { entry: Option<u32> },
+    ErrnoRange {
+        entry: Option<u32>,
+    },
     #[error("x86-64 is not among the architectures")]
-    NoX8664 { entry: Option<u32> },
+    NoX8664 {
+        entry: Option<u32>,
+    },
     /// A non-empty `archMap`, `includes` or `excludes`, whose meaning depends on a container engine.
     #[error("a form of container engines")]
-    EngineForm { entry: Option<u32> },
+    EngineForm {
+        entry: Option<u32>,
+    },
     /// More than 4194304 bytes of text, or more than 4096 rules.
     #[error("more than 4194304 bytes, or more than 4096 rules")]
     TooMany,
+    /// Two entries have rules for a call of this number, and answer differently.
+    #[error("entries {first} and {second} conflict on call {number}")]
+    Conflict {
+        number: u32,
+        first: u32,
+        second: u32,
+    },
     #[error("out of memory")]
     Memory,
 }

@@ -1,14 +1,25 @@
-//! A profile: a default answer, and rules.
+//! A profile: a default answer, and rules of which no two conflict.
 
-ghost use Rattle.std.specs.Prelude.{◌≡◌};
-ghost use Rattle.scf_profile.specs.Policy.{IsProfile};
+ghost use Rattle.std.specs.Prelude.{◌≡◌, ◌↔◌, IsTrue, All};
+ghost use Rattle.scf_profile.specs.Policy.{IsProfile, IsNative};
+ghost use Rattle.scf_profile.specs.PlainProfile.{IsPlainProfile, IsPlainRule};
+ghost use Rattle.scf_profile.specs.ProfileAnswers.{ProfileAnswers};
+ghost use Rattle.scf_insn.specs.Words.{IsRecord};
 
-use crate::rule::Rule;
-use scf_insn::Answer;
+use crate::rule::{Rule, is_met};
+use scf_insn::{Answer, CallRecord};
 use std::marker::Model;
 
-/// What a profile states: a default answer, and rules in the order of the text. Numbers are below 0x40000000, and there are
-/// at most 4096 rules.
+/// AUDIT_ARCH_X86_64 of the kernel's audit.h.
+const X86_64: u32 = 0xc000_003e;
+
+/// The first number that no call of x86-64 has: __X32_SYSCALL_BIT of the kernel's asm/unistd.h.
+const FOREIGN_NUMBERS: u32 = 0x4000_0000;
+
+const KILL_PROCESS: Answer = Answer(0x8000_0000);
+
+/// What a profile states: a default answer, and rules in the order of the text. No two rules conflict; numbers are below
+/// 0x40000000, indices below 6 and none twice in a rule; there are at most 4096 rules.
 #[derive(Debug, Drop)]
 pub struct Profile {
     default_answer: Answer,
@@ -26,7 +37,7 @@ impl Model for Profile {
 }
 
 impl Profile {
-    // Of rules within their ranges.
+    // Of rules that don't conflict.
     pub(crate) fn new(default_answer: Answer, rules: Vec<Rule>) -> Profile
         requires { IsProfile (record { default_answer = default_answer; rules = rules.items }) }
         ensures { result ≡ record { default_answer = default_answer; rules = rules.items } }
@@ -37,7 +48,7 @@ impl Profile {
         }
     }
 
-    /// The answer to a call of x86-64 that no rule is for.
+    /// The answer to a call of x86-64 that meets no rule.
     pub fn default_answer(&self) -> Answer
         ensures { result ≡ self.now.default_answer }
     {
@@ -51,4 +62,48 @@ impl Profile {
     {
         &self.rules
     }
+
+    /// Whether both 32-bit halves of each mask are simple: no bit, one bit or all of them.
+    pub fn is_plain(&self) -> bool
+        ensures { IsTrue result ↔ IsPlainProfile self.now }
+    {
+        are_plain(&self.rules)
+    }
+
+    /// What the profile answers to a call: KILL_PROCESS where the call isn't one of x86-64, else the answer of any rule that
+    /// it meets, and the default answer where it meets none.
+    pub fn answer(&self, call: &CallRecord) -> Answer
+        ensures { ProfileAnswers self.now call.now result.0 }
+    {
+        if call.arch != X86_64 || call.nr >= FOREIGN_NUMBERS {
+            return KILL_PROCESS;
+        }
+        answer_of(self.default_answer, &self.rules, call)
+    }
+}
+
+// Whether each rule is plain.
+fn are_plain(rules: &[Rule]) -> bool
+    ensures { IsTrue result ↔ All IsPlainRule rules.now }
+{
+    for rule in rules {
+        if !rule.is_plain() {
+            return false;
+        }
+    }
+    true
+}
+
+// The answer of a rule that a native call meets, or the default.
+fn answer_of(default_answer: Answer, rules: &[Rule], call: &CallRecord) -> Answer
+    requires native { IsNative call.now }
+    requires profile { IsProfile (record { default_answer = default_answer; rules = rules.now }) }
+    ensures { ProfileAnswers (record { default_answer = default_answer; rules = rules.now }) call.now result.0 }
+{
+    for rule in rules {
+        if is_met(rule, call) {
+            return rule.answer;
+        }
+    }
+    default_answer
 }

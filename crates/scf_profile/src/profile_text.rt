@@ -4,13 +4,15 @@ ghost use Rattle.std.specs.Prelude.{◌≡◌, ◌<◌, ◌^◌, IfOk, IfErr};
 ghost use Rattle.serde_json.specs.View.{view};
 ghost use Rattle.scf_profile.specs.declared.load_fault.LoadFault.TheVariants.{Memory};
 ghost use Rattle.scf_profile.specs.EntryRanges.{AreStatedRules};
-ghost use Rattle.scf_profile.specs.Loading.{IsText, Loads, Refuses, ParseRefuses};
+ghost use Rattle.scf_profile.specs.Loading.{IsText, Loads, Refuses, ParseRefuses, NamesLeastConflict};
+ghost use Rattle.scf_profile.specs.Policy.{HaveNoConflict};
 ghost use Rattle.scf_profile.specs.ShortArrays.{HasShortArrays};
 ghost use Rattle.scf_profile.specs.Stated.{loaded_of};
 ghost use Rattle.scf_profile.specs.StatedProfile.{object_states};
 ghost use Rattle.scf_profile.specs.Steps.{Gives, result_map};
 
 use crate::action::{find_action, find_answer};
+use crate::conflict::least_conflict;
 use crate::expand::{other_architectures, rules_of, skipped_of};
 use crate::forms::check_no_engine_form;
 use crate::load_fault::LoadFault;
@@ -47,7 +49,7 @@ fn parse(alloc: Global, text: &[u8]) -> Result<Value, LoadFault>
     }
 }
 
-/// What the seccomp object and a table state.
+/// What the seccomp object and a table state, whether or not rules conflict.
 #[derive(Drop)]
 struct Stated {
     default_answer: Answer,
@@ -80,6 +82,27 @@ fn read_object(alloc: Global, table: &CallTable, object: &Value) -> Result<State
     })
 }
 
+/// The profile, unless two of its rules conflict.
+fn without_conflict(stated: Stated) -> Result<Loaded, LoadFault>
+    requires rules { AreStatedRules stated.rules.items }
+    requires default_answer { stated.default_answer.0 < 2 ^ 32 }
+    ensures ok { IfOk result (λ loaded. (loaded ≡ loaded_of stated) × HaveNoConflict stated.rules.items) }
+    ensures err { IfErr result (NamesLeastConflict stated.rules.items) }
+{
+    match least_conflict(&stated.rules) {
+        Some(clash) => Err(LoadFault::Conflict {
+            number: clash.number,
+            first: clash.first,
+            second: clash.second,
+        }),
+        None => Ok(Loaded {
+            profile: Profile::new(stated.default_answer, stated.rules),
+            skipped: stated.skipped,
+            other_architectures: stated.other_architectures,
+        }),
+    }
+}
+
 /// The profile that a text states, whose names get their numbers from a call table. The first test that fails is answered.
 pub fn load(alloc: Global, text: &[u8], table: &CallTable) -> Result<Loaded, LoadFault>
     ensures ok { IfOk result (λ loaded. Loads text.now table.now loaded) }
@@ -87,10 +110,5 @@ pub fn load(alloc: Global, text: &[u8], table: &CallTable) -> Result<Loaded, Loa
 {
     let value = parse(alloc, text)?;
     let object = find_seccomp(&value)?;
-    let stated = read_object(alloc, table, object)?;
-    Ok(Loaded {
-        profile: Profile::new(stated.default_answer, stated.rules),
-        skipped: stated.skipped,
-        other_architectures: stated.other_architectures,
-    })
+    without_conflict(read_object(alloc, table, object)?)
 }

@@ -1,7 +1,11 @@
 use super::*;
-use scf_insn::Answer;
+use scf_insn::{Answer, CallRecord};
 use std::alloc::Global;
 use std::test::*;
+
+const X86_64: u32 = 0xc000_003e;
+
+const ALLOW: u32 = 0x7fff_0000;
 
 /// The table of a text. Where one growth is refused, the next try has the answer.
 fn table(alloc: Global, text: &str) -> Result<CallTable, TableFault> {
@@ -24,6 +28,17 @@ fn loaded(alloc: Global, names: &str, text: &[u8]) -> Result<Loaded, LoadFault> 
 
 fn fault_of(alloc: Global, names: &str, text: &str) -> Option<LoadFault> {
     loaded(alloc, names, text.as_bytes()).err()
+}
+
+/// The answer to a call of x86-64 with these first three arguments.
+fn answer(profile: &Profile, nr: u32, args: [u64; 3]) -> u32 {
+    let call = CallRecord {
+        nr,
+        arch: X86_64,
+        ip: 0,
+        args: [args[0], args[1], args[2], 0, 0, 0],
+    };
+    profile.answer(&call).0
 }
 
 #[test]
@@ -181,13 +196,104 @@ fn refused_entries(rt: HostRuntime) {
             LoadFault::Kind { entry: Some(2) },
         ),
         (
-            r#"{"names":["a"],"action":"SCMP_ACT_LOG","args":[{"index":0,"value":1,"op":"SCMP_CMP_EQ"}]}"#,
-            LoadFault::Kind { entry },
+            r#"{"names":["a"],"action":"SCMP_ACT_ALLOW"},{"names":["a"],"action":"SCMP_ACT_LOG"}"#,
+            LoadFault::Conflict {
+                number: 1,
+                first: 0,
+                second: 1,
+            },
+        ),
+        (
+            r#"{"names":["a","b"],"action":"SCMP_ACT_ALLOW"},{"names":["c"],"action":"SCMP_ACT_ERRNO"},{"names":["b","a"],"action":"SCMP_ACT_ERRNO"}"#,
+            LoadFault::Conflict {
+                number: 1,
+                first: 0,
+                second: 2,
+            },
+        ),
+        (
+            r#"{"names":["d"],"action":"SCMP_ACT_ALLOW"},{"names":["e"],"action":"SCMP_ACT_LOG"}"#,
+            LoadFault::Conflict {
+                number: 5,
+                first: 0,
+                second: 1,
+            },
+        ),
+        (
+            r#"{"names":["a"],"action":"SCMP_ACT_ERRNO","errnoRet":22,"args":[{"index":0,"value":16,"op":"SCMP_CMP_EQ"},{"index":2,"value":9,"op":"SCMP_CMP_EQ"}]},{"names":["a"],"action":"SCMP_ACT_ALLOW","args":[{"index":2,"value":9,"op":"SCMP_CMP_NE"}]}"#,
+            LoadFault::Conflict {
+                number: 1,
+                first: 0,
+                second: 1,
+            },
         ),
     ] {
         if let Some(whole) = with_entries(rt.alloc(), text) {
             assert_eq!(rt;
                 fault_of(rt.alloc(), "a 1\nb 2\nc 3\nd 5\ne 5", whole.as_str()),
+                Some(fault),
+                "{text}"
+            );
+        }
+    }
+}
+
+/// The text of an entry of `a` with these members of `args`.
+fn with_args(alloc: Global, args: &str) -> Option<String> {
+    let mut text = String::new(alloc);
+    text.push_str("{\"names\":[\"a\"],\"action\":\"SCMP_ACT_ALLOW\",\"args\":[")
+        .ok()?;
+    text.push_str(args).ok()?;
+    text.push_str("]}").ok()?;
+    with_entries(alloc, text.as_str())
+}
+
+#[test]
+fn refused_args(rt: HostRuntime) {
+    let entry = Some(0);
+    for (text, fault) in [
+        ("null", LoadFault::Kind { entry }),
+        (r#"{"op":"X"}"#, LoadFault::Missing { entry }),
+        (r#"{"index":1.0,"op":"X"}"#, LoadFault::Kind { entry }),
+        (
+            r#"{"index":18446744073709551616}"#,
+            LoadFault::Kind { entry },
+        ),
+        (r#"{"index":6}"#, LoadFault::Index { entry }),
+        (r#"{"index":-1}"#, LoadFault::Index { entry }),
+        (r#"{"index":5,"value":-1}"#, LoadFault::Missing { entry }),
+        (
+            r#"{"index":5,"op":3,"value":-1}"#,
+            LoadFault::Kind { entry },
+        ),
+        (
+            r#"{"index":5,"op":"SCMP_CMP_XX","value":-1}"#,
+            LoadFault::Operator { entry },
+        ),
+        (
+            r#"{"index":5,"op":"SCMP_CMP_GT","valueTwo":-1}"#,
+            LoadFault::Missing { entry },
+        ),
+        (
+            r#"{"index":5,"op":"SCMP_CMP_GT","value":-1}"#,
+            LoadFault::Kind { entry },
+        ),
+        (
+            r#"{"index":5,"op":"SCMP_CMP_GT","value":18446744073709551616}"#,
+            LoadFault::Kind { entry },
+        ),
+        (
+            r#"{"index":0,"op":"SCMP_CMP_GT","value":0},{"index":0,"op":"SCMP_CMP_GT","value":0,"valueTwo":"0"}"#,
+            LoadFault::Kind { entry },
+        ),
+        (
+            r#"{"index":0,"op":"SCMP_CMP_GT","value":0},{"index":0,"op":"SCMP_CMP_LT","value":9},3"#,
+            LoadFault::RepeatedIndex { entry },
+        ),
+    ] {
+        if let Some(whole) = with_args(rt.alloc(), text) {
+            assert_eq!(rt;
+                fault_of(rt.alloc(), "a 1", whole.as_str()),
                 Some(fault),
                 "{text}"
             );
@@ -222,6 +328,15 @@ fn limits(rt: HostRuntime) {
             4096,
             ",{\"names\":[\"a\"],\"action\":\"SCMP_ACT_LOG\"}",
             LoadFault::TooMany,
+        ),
+        (
+            4095,
+            ",{\"names\":[\"a\"],\"action\":\"SCMP_ACT_LOG\"}",
+            LoadFault::Conflict {
+                number: 1,
+                first: 0,
+                second: 1,
+            },
         ),
     ] {
         if let Some(text) = with_names(rt.alloc(), count, rest) {
@@ -265,6 +380,8 @@ fn whole_config(rt: HostRuntime) {
             );
             assert_eq!(rt; found.profile.rules().len(), 1);
             assert_eq!(rt; found.profile.default_answer(), Answer(0x0005_0026));
+            assert_eq!(rt; answer(&found.profile, 0, [0; 3]), ALLOW);
+            assert_eq!(rt; answer(&found.profile, 1, [0; 3]), 0x0005_0026);
         }
         Err(fault) => panic!(rt; "{fault}"),
     }
@@ -283,9 +400,140 @@ fn names_of_entries(rt: HostRuntime) {
             for (rule, (number, entry)) in rules.iter().zip([(0, 0), (1, 2), (0, 2)]) {
                 assert_eq!(rt; (rule.number, rule.entry), (number, entry));
                 assert_eq!(rt; rule.answer, Answer(0x7fc0_0000));
+                assert!(rt; rule.conditions.as_slice().is_empty());
             }
         }
         Err(fault) => panic!(rt; "{fault}"),
+    }
+}
+
+#[test]
+fn one_call(rt: HostRuntime) {
+    let text =
+        br#"{"defaultAction":"SCMP_ACT_ERRNO","syscalls":[{"names":["read"],"action":"SCMP_ACT_ALLOW"}]}"#;
+    match loaded(rt.alloc(), "read 0", text) {
+        Ok(found) => {
+            for (nr, arch, expected) in [
+                (0, X86_64, ALLOW),
+                (1, X86_64, 0x0005_0001),
+                (0x3fff_ffff, X86_64, 0x0005_0001),
+                (0x4000_0000, X86_64, 0x8000_0000),
+                (0xffff_ffff, X86_64, 0x8000_0000),
+                (0, 0x4000_0003, 0x8000_0000),
+            ] {
+                let call = CallRecord {
+                    nr,
+                    arch,
+                    ip: 0,
+                    args: [0; 6],
+                };
+                assert_eq!(rt; found.profile.answer(&call), Answer(expected), "{nr}");
+            }
+        }
+        Err(fault) => panic!(rt; "{fault}"),
+    }
+}
+
+#[test]
+fn answers_by_conditions(rt: HostRuntime) {
+    let text = br#"{"defaultAction":"SCMP_ACT_ERRNO","syscalls":[
+        {"names":["read"],"action":"SCMP_ACT_ALLOW","args":[{"index":0,"value":0,"op":"SCMP_CMP_LT"}]},
+        {"names":["write"],"action":"SCMP_ACT_ALLOW","args":[{"index":0,"value":18446744073709551615,"op":"SCMP_CMP_LE"}]},
+        {"names":["socket"],"action":"SCMP_ACT_ALLOW","args":[{"index":0,"value":40,"op":"SCMP_CMP_NE"}]},
+        {"names":["clone"],"action":"SCMP_ACT_ALLOW","args":[{"index":0,"value":255,"valueTwo":511,"op":"SCMP_CMP_MASKED_EQ"},{"index":2,"value":7,"op":"SCMP_CMP_EQ"}]}]}"#;
+    match loaded(rt.alloc(), "read 0\nwrite 1\nsocket 41\nclone 56", text) {
+        Ok(found) => {
+            for (nr, args, expected) in [
+                (0, [0, 0, 0], 0x0005_0001),
+                (0, [u64::MAX, 0, 0], 0x0005_0001),
+                (1, [0, 0, 0], ALLOW),
+                (1, [u64::MAX, 0, 0], ALLOW),
+                (41, [40, 0, 0], 0x0005_0001),
+                (41, [0x1_0000_0028, 0, 0], ALLOW),
+                (56, [255, 0, 7], ALLOW),
+                (56, [511, 0, 7], ALLOW),
+                (56, [510, 0, 7], 0x0005_0001),
+                (56, [255, 7, 0], 0x0005_0001),
+            ] {
+                assert_eq!(rt; answer(&found.profile, nr, args), expected, "{nr}");
+            }
+        }
+        Err(fault) => panic!(rt; "{fault}"),
+    }
+}
+
+/// Of which of these arguments a condition holds.
+fn holding(op: Comparison, value: u64, value_two: u64, arguments: [u64; 6]) -> [bool; 6] {
+    let condition = Condition {
+        index: 0,
+        op,
+        value,
+        value_two,
+    };
+    arguments.map(|argument| condition.holds_of(argument))
+}
+
+#[test]
+fn operators(rt: HostRuntime) {
+    let (t, f) = (true, false);
+    let edges = [0, 39, 40, 41, 0x1_0000_0028, u64::MAX];
+    for (op, expected) in [
+        (Comparison::NotEqual, [t, t, f, t, t, t]),
+        (Comparison::Less, [t, t, f, f, f, f]),
+        (Comparison::LessOrEqual, [t, t, t, f, f, f]),
+        (Comparison::Equal, [f, f, t, f, f, f]),
+        (Comparison::GreaterOrEqual, [f, f, t, t, t, t]),
+        (Comparison::Greater, [f, f, f, t, t, t]),
+    ] {
+        assert_eq!(rt; holding(op, 40, 0, edges), expected);
+    }
+    let edges = [0, 1, 0xffff_ffff, 0x1_0000_0000, u64::MAX - 1, u64::MAX];
+    for (op, value, expected) in [
+        (Comparison::NotEqual, 0, [f, t, t, t, t, t]),
+        (Comparison::Less, 0, [f, f, f, f, f, f]),
+        (Comparison::LessOrEqual, 0, [t, f, f, f, f, f]),
+        (Comparison::GreaterOrEqual, 0, [t, t, t, t, t, t]),
+        (Comparison::Greater, 0, [f, t, t, t, t, t]),
+        (Comparison::Less, 0x1_0000_0000, [t, t, t, f, f, f]),
+        (Comparison::Greater, 0xffff_ffff, [f, f, f, t, t, t]),
+        (Comparison::Less, u64::MAX, [t, t, t, t, t, f]),
+        (Comparison::GreaterOrEqual, u64::MAX, [f, f, f, f, f, t]),
+        (Comparison::Greater, u64::MAX, [f, f, f, f, f, f]),
+        (Comparison::MaskedEqual, 0, [t, t, t, t, t, t]),
+        (Comparison::MaskedEqual, 0x1_0000_0001, [t, f, f, f, f, f]),
+    ] {
+        assert_eq!(rt; holding(op, value, 0, edges), expected);
+    }
+    assert_eq!(rt;
+        holding(
+            Comparison::MaskedEqual,
+            255,
+            511,
+            [255, 511, 510, 0, 0x1_0000_00ff, u64::MAX]
+        ),
+        [t, t, f, f, t, t]
+    );
+}
+
+#[test]
+fn plain_profiles(rt: HostRuntime) {
+    for (args, plain) in [
+        (r#"{"index":0,"op":"SCMP_CMP_MASKED_EQ","value":0}"#, true),
+        (
+            r#"{"index":0,"op":"SCMP_CMP_MASKED_EQ","value":18446744071562067968}"#,
+            true,
+        ),
+        (r#"{"index":0,"op":"SCMP_CMP_MASKED_EQ","value":3}"#, false),
+        (
+            r#"{"index":0,"op":"SCMP_CMP_MASKED_EQ","value":12884901889}"#,
+            false,
+        ),
+        (r#"{"index":0,"op":"SCMP_CMP_EQ","value":3}"#, true),
+    ] {
+        if let Some(text) = with_args(rt.alloc(), args) {
+            let found = loaded(rt.alloc(), "a 1", text.as_bytes());
+            assert_eq!(rt; found.map(|l| l.profile.is_plain()), Ok(plain), "{args}");
+        }
     }
 }
 
@@ -297,7 +545,16 @@ fn messages(rt: HostRuntime) {
         (LoadFault::Missing { entry }, "a member is missing"),
         (LoadFault::Kind { entry }, "a value of the wrong kind"),
         (LoadFault::Action { entry }, "no name of an action"),
+        (LoadFault::Operator { entry }, "no name of an operator"),
         (LoadFault::EmptyNames { entry }, "an entry without names"),
+        (
+            LoadFault::Index { entry },
+            "no index of an argument: they are 0 to 5",
+        ),
+        (
+            LoadFault::RepeatedIndex { entry },
+            "two conditions on one argument",
+        ),
         (
             LoadFault::Errno { entry },
             "an errno beside an action that takes none",
@@ -317,6 +574,14 @@ fn messages(rt: HostRuntime) {
         (
             LoadFault::TooMany,
             "more than 4194304 bytes, or more than 4096 rules",
+        ),
+        (
+            LoadFault::Conflict {
+                number: 3,
+                first: 0,
+                second: 2,
+            },
+            "entries 0 and 2 conflict on call 3",
         ),
         (LoadFault::Memory, "out of memory"),
     ] {

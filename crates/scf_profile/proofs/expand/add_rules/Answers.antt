@@ -1,4 +1,4 @@
-use Rattle.std.proofs.Common.{[], sym, ap, length, List}
+use Rattle.std.proofs.Common.{[]}
 use Rattle.std.proofs.lemmas.Result.{err_from_is_err_and}
 use Rattle.scf_profile.proofs.StatedRules.{rules_more, too_many_named}
 use Rattle.scf_profile.proofs.expand.add_rules.Goals as goal

@@ -1,5 +1,5 @@
-use Rattle.std.proofs.Common.{◌≡◌, true, false, sym, ◌∙◌, ap, refl, Ok, Some, string_bytes, List, ℕ, subst, Option}
-use Rattle.std.specs.Prelude.{is_some, option_map, Result}
+use Rattle.std.proofs.Common.{◌≡◌, true, false, sym, ◌∙◌, ap, refl, Ok, Some, string_bytes, List, ℕ, subst}
+use Rattle.std.specs.Prelude.{is_some}
 use Rattle.std.specs.FinMap.{get, insert}
 use Rattle.scf_profile.specs.Names.{names_of}
 use Rattle.scf_profile.specs.Table.{Names, AreCallNumbers, fields, entry_in, with_line}

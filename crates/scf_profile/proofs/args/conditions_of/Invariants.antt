@@ -1,0 +1,13 @@
+use Rattle.std.proofs.Common.{◌≡◌, [], drop}
+use Rattle.serde_json.specs.View.{items_view}
+use Rattle.scf_profile.specs.JsonMembers.{each}
+use Rattle.scf_profile.specs.Rule.{AreConditions}
+use Rattle.scf_profile.specs.StatedProfile.{condition_of as condition_stated}
+use Rattle.scf_profile.proofs.args.conditions_of.Given as goal
+
+-- the conditions so far and the members that are left give what all members give
+abbrev pub invariant-loop-member : goal.invariant-loop-member
+invariant-loop-member l = record {
+  so_far : each (condition_stated l.entry) l.conditions.items (items_view (drop l.member-index l.members)) ≡ each (condition_stated l.entry) [] (items_view l.members);
+  range : AreConditions l.conditions.items;
+}

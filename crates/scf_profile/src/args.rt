@@ -1,0 +1,148 @@
+//! Conditions from the members of `args`.
+
+ghost use Rattle.std.specs.Prelude.{◌≡◌, ◌<◌, ◌==◌, [], IfOk, false};
+ghost use Rattle.std.specs.List.{list_any};
+ghost use Rattle.serde_json.specs.View.{view, items_view};
+ghost use Rattle.scf_profile.specs.declared.load_fault.LoadFault.TheVariants.{Memory};
+ghost use Rattle.scf_profile.specs.JsonMembers.{each};
+ghost use Rattle.scf_profile.specs.Rule.{IsCondition, AreConditions};
+ghost use Rattle.scf_profile.specs.StatedProfile.{operator_named, index_in, operator_in, value_in, value_two_in, condition_of as condition_stated, conditions_in};
+ghost use Rattle.scf_profile.specs.Steps.{Gives, result_map};
+
+use crate::condition::{Comparison, Condition, Conditions};
+use crate::json_members::member_of;
+use crate::load_fault::LoadFault;
+use serde_json::Value;
+use std::alloc::Global;
+
+fn operator_of(name: &str) -> Option<Comparison>
+    ensures { result ≡ operator_named name.now }
+{
+    match name {
+        "SCMP_CMP_NE" => Some(Comparison::NotEqual),
+        "SCMP_CMP_LT" => Some(Comparison::Less),
+        "SCMP_CMP_LE" => Some(Comparison::LessOrEqual),
+        "SCMP_CMP_EQ" => Some(Comparison::Equal),
+        "SCMP_CMP_GE" => Some(Comparison::GreaterOrEqual),
+        "SCMP_CMP_GT" => Some(Comparison::Greater),
+        "SCMP_CMP_MASKED_EQ" => Some(Comparison::MaskedEqual),
+        _ => None,
+    }
+}
+
+#[tactic(auto, unfolding(crate::specs::StatedProfile::index_in))]
+fn find_index(entry: Option<u32>, object: &Value) -> Result<u8, LoadFault>
+    ensures value { result ≡ index_in entry (view object.now) }
+    ensures range { IfOk result (λ index. index < 6) }
+{
+    let found = member_of(object, "index").ok_or(LoadFault::Missing { entry })?;
+    if let Some(index) = found.as_u64() {
+        return if index < 6 {
+            Ok(index as u8)
+        } else {
+            Err(LoadFault::Index { entry })
+        };
+    }
+    if found.is_i64() {
+        return Err(LoadFault::Index { entry });
+    }
+    Err(LoadFault::Kind { entry })
+}
+
+#[tactic(auto, unfolding(crate::specs::StatedProfile::operator_in))]
+fn find_operator(entry: Option<u32>, object: &Value) -> Result<Comparison, LoadFault>
+    ensures { result ≡ operator_in entry (view object.now) }
+{
+    let found = member_of(object, "op").ok_or(LoadFault::Missing { entry })?;
+    let name = found.as_str().ok_or(LoadFault::Kind { entry })?;
+    operator_of(name).ok_or(LoadFault::Operator { entry })
+}
+
+#[tactic(auto, unfolding(crate::specs::StatedProfile::value_in))]
+fn find_value(entry: Option<u32>, object: &Value) -> Result<u64, LoadFault>
+    ensures { result ≡ value_in entry (view object.now) }
+{
+    let found = member_of(object, "value").ok_or(LoadFault::Missing { entry })?;
+    found.as_u64().ok_or(LoadFault::Kind { entry })
+}
+
+#[tactic(auto, unfolding(crate::specs::StatedProfile::value_two_in))]
+fn find_value_two(entry: Option<u32>, object: &Value) -> Result<u64, LoadFault>
+    ensures { result ≡ value_two_in entry (view object.now) }
+{
+    match member_of(object, "valueTwo") {
+        None => Ok(0),
+        Some(found) => found.as_u64().ok_or(LoadFault::Kind { entry }),
+    }
+}
+
+fn has_index(index: u8, conditions: &[Condition]) -> bool
+    ensures { result ≡ list_any (λ c. c.index == index) conditions.now }
+{
+    conditions.iter().any(|c| c.index == index)
+}
+
+/// The condition that a member of `args` states, after members that state these conditions.
+#[tactic(auto, unfolding(crate::specs::StatedProfile::condition_of))]
+fn condition_of(
+    entry: Option<u32>,
+    earlier: &[Condition],
+    object: &Value,
+) -> Result<Condition, LoadFault>
+    ensures value { result ≡ condition_stated entry earlier.now (view object.now) }
+    ensures range { IfOk result IsCondition }
+    ensures apart { IfOk result (λ c. list_any (λ d. d.index == c.index) earlier.now ≡ false) }
+{
+    if !object.is_object() {
+        return Err(LoadFault::Kind { entry });
+    }
+    let index = find_index(entry, object)?;
+    let op = find_operator(entry, object)?;
+    let value = find_value(entry, object)?;
+    let value_two = find_value_two(entry, object)?;
+    if has_index(index, earlier) {
+        return Err(LoadFault::RepeatedIndex { entry });
+    }
+    Ok(Condition {
+        index,
+        op,
+        value,
+        value_two,
+    })
+}
+
+/// The conditions that the members of `args` state, one after another.
+fn conditions_of(
+    alloc: Global,
+    entry: Option<u32>,
+    members: &[Value],
+) -> Result<Vec<Condition>, LoadFault>
+    ensures value { Gives Memory (result_map (λ v. v.items) result) (each (condition_stated entry) [] (items_view members.now)) }
+    ensures range { IfOk result (λ v. AreConditions v.items) }
+{
+    let mut conditions = Vec::new(alloc);
+    for member in members {
+        let condition = condition_of(entry, &conditions, member)?;
+        conditions.push(condition)?;
+    }
+    Ok(conditions)
+}
+
+/// The conditions in the `args` of an entry, none where it has none.
+#[tactic(auto, unfolding(crate::specs::StatedProfile::conditions_in, crate::specs::JsonMembers::each))]
+pub(crate) fn find_conditions(
+    alloc: Global,
+    entry: Option<u32>,
+    object: &Value,
+) -> Result<Conditions, LoadFault>
+    ensures value { Gives Memory result (conditions_in entry (view object.now)) }
+    ensures range { IfOk result AreConditions }
+{
+    match member_of(object, "args") {
+        None => Ok(Conditions::from_vec(Vec::new(alloc))),
+        Some(found) => {
+            let members = found.as_array().ok_or(LoadFault::Kind { entry })?;
+            Ok(Conditions::from_vec(conditions_of(alloc, entry, members)?))
+        }
+    }
+}

@@ -1,0 +1,132 @@
+//! Conditions on the arguments of a call (OCI runtime specification, config-linux.md, seccomp).
+
+ghost use Rattle.std.specs.Prelude.{◌≡◌, ◌↔◌, IsTrue, All, IfOk};
+ghost use Rattle.scf_insn.specs.SimpleMask.{IsSimpleMask};
+ghost use Rattle.scf_insn.specs.Words.{low, high};
+ghost use Rattle.scf_profile.specs.Condition.{holds};
+ghost use Rattle.scf_profile.specs.PlainProfile.{IsPlainCondition, HasSimpleMask};
+
+use std::alloc::{AllocError, Global};
+use std::marker::Model;
+
+/// How an argument is compared with a condition's value. Each operator compares whole unsigned 64-bit numbers.
+#[derive(Clone, Copy, Debug, PartialEq, Eq)]
+pub enum Comparison {
+    NotEqual,
+    Less,
+    LessOrEqual,
+    Equal,
+    GreaterOrEqual,
+    Greater,
+    /// The argument under the mask `value` equals `value_two` under it.
+    MaskedEqual,
+}
+
+/// A condition on the argument at `index`, which is from 0 to 5 in a loaded profile. Only `MaskedEqual` looks at `value_two`.
+#[derive(Clone, Copy, Debug, PartialEq, Eq)]
+pub struct Condition {
+    pub index: u8,
+    pub op: Comparison,
+    pub value: u64,
+    pub value_two: u64,
+}
+
+/// How many numbers have 32 bits.
+const HALF_SIZE: u64 = 0x1_0000_0000;
+
+/// Whether a mask has no bit, one bit or all of the 32.
+fn is_simple_mask(mask: u64) -> bool
+    ensures { IsTrue result ↔ IsSimpleMask mask }
+{
+    for k in 0..32u32 {
+        if mask == 1 << k {
+            return true;
+        }
+    }
+    mask == 0 || mask == HALF_SIZE - 1
+}
+
+impl Condition {
+    /// Whether both 32-bit halves of the mask are simple.
+    fn has_simple_mask(&self) -> bool
+        ensures { IsTrue result ↔ HasSimpleMask self.now }
+    {
+        is_simple_mask(self.value % HALF_SIZE) && is_simple_mask(self.value / HALF_SIZE)
+    }
+
+    /// Whether it has a simple mask, where its operator has a mask.
+    fn is_plain(&self) -> bool
+        ensures { IsTrue result ↔ IsPlainCondition self.now }
+    {
+        self.op != Comparison::MaskedEqual || self.has_simple_mask()
+    }
+
+    /// Whether it holds of an argument.
+    pub(crate) fn holds_of(&self, argument: u64) -> bool
+        ensures { result ≡ holds self.now argument }
+    {
+        match self.op {
+            Comparison::NotEqual => argument != self.value,
+            Comparison::Less => argument < self.value,
+            Comparison::LessOrEqual => argument <= self.value,
+            Comparison::Equal => argument == self.value,
+            Comparison::GreaterOrEqual => argument >= self.value,
+            Comparison::Greater => argument > self.value,
+            Comparison::MaskedEqual => argument & self.value == self.value_two & self.value,
+        }
+    }
+}
+
+/// The conditions of a rule: a list.
+#[derive(Debug, Drop)]
+pub struct Conditions {
+    list: Vec<Condition>,
+}
+
+impl Model for Conditions {
+    ghost use Rattle.std.specs.Prelude.{List};
+    ghost use Rattle.scf_profile.specs.declared.condition.Condition.{Condition};
+
+    ghost Value = { List Condition };
+
+    ghost view = { λ c. c.list.items };
+}
+
+impl Conditions {
+    /// These conditions, in their order.
+    pub fn from_vec(list: Vec<Condition>) -> Conditions
+        ensures { result ≡ list.items }
+    {
+        Conditions { list }
+    }
+
+    /// The same conditions again.
+    pub(crate) fn try_clone(&self, alloc: Global) -> Result<Conditions, AllocError>
+        ensures { IfOk result (λ c. c ≡ self.now) }
+    {
+        Ok(Conditions {
+            list: Vec::from_slice(alloc, &self.list)?,
+        })
+    }
+
+    /// The conditions in their order.
+    pub fn into_vec(self) -> Vec<Condition>
+        ensures { result.items ≡ self }
+    {
+        self.list
+    }
+
+    /// Whether each of them is plain.
+    pub(crate) fn are_plain(&self) -> bool
+        ensures { IsTrue result ↔ All IsPlainCondition self.now }
+    {
+        self.list.iter().all(|c| c.is_plain())
+    }
+
+    /// The conditions in their order.
+    pub fn as_slice(&self) -> &[Condition]
+        ensures { result.now ≡ self.now }
+    {
+        &self.list
+    }
+}

@@ -1,0 +1,93 @@
+//! Conflicts among rules.
+
+ghost use Rattle.std.specs.Prelude.{◌≡◌, ◌↔◌, ◌⊎◌, ℕ, IsTrue, IfSome, IfNone, All, Some};
+ghost use Rattle.std.specs.Bool.{MatchBool};
+ghost use Rattle.scf_profile.specs.declared.conflict.Clash.{Clash};
+ghost use Rattle.scf_profile.specs.Clashes.{IsAtMost, IsBoundedBy, IsClash, IsClashAmong};
+ghost use Rattle.scf_profile.specs.Loading.{IsLeastConflict, EntriesConflict};
+ghost use Rattle.scf_profile.specs.Rule.{Conflicts};
+
+use crate::rule::Rule;
+
+/// Two entries that conflict, and the number of the calls on which they do.
+#[derive(Clone, Copy, Debug, PartialEq, Eq)]
+pub(crate) struct Clash {
+    pub(crate) second: u32,
+    pub(crate) first: u32,
+    pub(crate) number: u32,
+}
+
+/// Whether a clash stands before another or is it: the second entry counts first, then the first, then the number.
+fn is_at_most(clash: Clash, other: Clash) -> bool
+    ensures { MatchBool result (IsAtMost clash other) (IsAtMost other clash) }
+{
+    if clash.second != other.second {
+        return clash.second < other.second;
+    }
+    if clash.first != other.first {
+        return clash.first < other.first;
+    }
+    clash.number <= other.number
+}
+
+/// The lesser of two clashes, where there are any.
+fn lesser(least: Option<Clash>, clash: Option<Clash>) -> Option<Clash>
+    ensures one { (result ≡ least) ⊎ (result ≡ clash) }
+    ensures bound { (c : Clash) → clash ≡ Some c → IsBoundedBy result c }
+    ensures keeps { (c : Clash) → IsBoundedBy least c → IsBoundedBy result c }
+{
+    let Some(other) = clash else {
+        return least;
+    };
+    match least {
+        Some(known) if is_at_most(known, other) => Some(known),
+        _ => Some(other),
+    }
+}
+
+/// Whether two rules conflict.
+fn do_conflict(rule: &Rule, other: &Rule) -> bool
+    ensures { IsTrue result ↔ Conflicts rule.now other.now }
+{
+    rule.number == other.number && rule.answer != other.answer
+}
+
+/// The clash of a rule and a later one, where they are of different entries and conflict.
+fn clash_of(rule: &Rule, later: &Rule) -> Option<Clash>
+    ensures some { IfSome result (λ c. IsClash rule.now later.now c) }
+    ensures all { (c : Clash) → IsClash rule.now later.now c → result ≡ Some c }
+{
+    if !do_conflict(rule, later) || rule.entry >= later.entry {
+        return None;
+    }
+    Some(Clash {
+        second: later.entry,
+        first: rule.entry,
+        number: rule.number,
+    })
+}
+
+/// The least of a clash and those of the rules with a later one.
+fn least_with(rules: &[Rule], later: &Rule, known: Option<Clash>) -> Option<Clash>
+    ensures one { IfSome result (λ c. (known ≡ Some c) ⊎ IsClashAmong rules.now later.now c) }
+    ensures bounds { (c : Clash) → All (λ rule. IsClash rule later.now c → IsBoundedBy result c) rules.now }
+    ensures keeps { (c : Clash) → IsBoundedBy known c → IsBoundedBy result c }
+{
+    let mut least = known;
+    for rule in rules {
+        least = lesser(least, clash_of(rule, later));
+    }
+    least
+}
+
+/// The least conflict among rules.
+pub(crate) fn least_conflict(rules: &[Rule]) -> Option<Clash>
+    ensures least { IfSome result (λ c. IsLeastConflict rules.now c.number c.first c.second) }
+    ensures none { IfNone result ((first second number : ℕ) → EntriesConflict rules.now first second number → ⊥) }
+{
+    let mut least = None;
+    for later in rules {
+        least = least_with(rules, later, least);
+    }
+    least
+}
