@@ -1,0 +1,9 @@
+pub mod Leads
+pub mod Masks
+pub mod Conditions
+pub mod Plans
+pub mod Same
+pub mod Valid
+pub mod Chains
+pub mod Sizes
+pub mod Plain

@@ -1,0 +1,9 @@
+use Rattle.std.proofs.Common.{◌≡◌, ◌+◌, ◌*◌, ◌≤◌, length, drop}
+use Rattle.scf_compile.specs.Plans.{conditions_code}
+use Rattle.scf_compile.proofs.rules.conditions_len.Given as goal
+
+abbrev pub invariant-loop-condition : goal.invariant-loop-condition
+invariant-loop-condition l = record {
+  len : l.len + length (conditions_code (drop l.condition-index l.conditions)) ≡ length (conditions_code l.conditions);
+  few : l.len ≤ 6 * l.condition-index;
+}

@@ -1,0 +1,4 @@
+pub mod Insns
+pub mod Blocks
+pub mod Plans
+pub mod SizeBound

@@ -1,0 +1,161 @@
+//! The instructions that test a condition. A number of 64 bits stands in two words of the record, the low one first.
+//! Where the condition holds the filter goes on behind them, and where it fails it passes more instructions.
+
+ghost use Rattle.std.specs.Prelude.{◌≡◌, ◌++◌, ◌<◌, ◌≤◌, ℕ, OnOk, length};
+ghost use Rattle.scf_compile.specs.Blocks.{equal_code, order_code, half_code, masked_code, condition_code};
+
+use crate::insns::{and_with, jump_if, load_word};
+use crate::mask::{MaskKind, kind_of};
+use scf_insn::{Insn, Test, high_half, low_half};
+use scf_profile::{Comparison, Condition};
+use std::alloc::AllocError;
+
+/// Tests whether a number equals a value.
+#[tactic(auto, unfolding(crate::specs::Blocks::equal_code))]
+fn put_equal(
+    code: &mut Vec<Insn>,
+    word: u8,
+    value: u64,
+    hit: u8,
+    miss: u8,
+) -> Result<(), AllocError>
+    requires word { word < 15 }
+    requires miss { miss < 253 }
+    ensures { OnOk result (code.new.items ≡ code.old.items ++ equal_code word value hit miss) }
+{
+    code.extend_from_slice(&[
+        load_word(word + 1),
+        jump_if(Test::Equal, high_half(value), 0, 2 + miss),
+        load_word(word),
+        jump_if(Test::Equal, low_half(value), hit, miss),
+    ])
+}
+
+/// Tests whether a number is above a value or, where `test` is so, at least it.
+#[tactic(auto, unfolding(crate::specs::Blocks::order_code))]
+fn put_order(
+    code: &mut Vec<Insn>,
+    test: Test,
+    word: u8,
+    value: u64,
+    hit: u8,
+    miss: u8,
+) -> Result<(), AllocError>
+    requires word { word < 15 }
+    requires hit { hit < 253 }
+    requires miss { miss < 253 }
+    ensures { OnOk result (code.new.items ≡ code.old.items ++ order_code test word value hit miss) }
+{
+    code.extend_from_slice(&[
+        load_word(word + 1),
+        jump_if(Test::Greater, high_half(value), 3 + hit, 0),
+        jump_if(Test::Equal, high_half(value), 0, 2 + miss),
+        load_word(word),
+        jump_if(test, low_half(value), hit, miss),
+    ])
+}
+
+/// How many instructions test a word under a mask.
+#[tactic(auto, using(crate::proofs::Sizes::half_len))]
+fn half_len(mask: u32) -> u8
+    ensures len { (word wanted out : ℕ) → length (half_code word mask wanted out) ≡ result }
+    ensures few { result ≤ 3 }
+{
+    match kind_of(mask) {
+        MaskKind::Empty => 0,
+        MaskKind::OneBit | MaskKind::Full => 2,
+        MaskKind::Mixed => 3,
+    }
+}
+
+/// Tests whether a word has the wanted bits under a mask, which has them all.
+#[tactic(auto, unfolding(crate::specs::Blocks::half_code))]
+fn put_half(
+    code: &mut Vec<Insn>,
+    word: u8,
+    mask: u32,
+    wanted: u32,
+    out: u8,
+) -> Result<(), AllocError>
+    requires { word < 16 }
+    ensures { OnOk result (code.new.items ≡ code.old.items ++ half_code word mask wanted out) }
+{
+    match kind_of(mask) {
+        MaskKind::Empty => Ok(()),
+        MaskKind::OneBit if wanted == 0 => {
+            code.extend_from_slice(&[load_word(word), jump_if(Test::CommonBit, mask, out, 0)])
+        }
+        MaskKind::OneBit => {
+            code.extend_from_slice(&[load_word(word), jump_if(Test::CommonBit, mask, 0, out)])
+        }
+        MaskKind::Full => {
+            code.extend_from_slice(&[load_word(word), jump_if(Test::Equal, wanted, 0, out)])
+        }
+        MaskKind::Mixed => code.extend_from_slice(&[
+            load_word(word),
+            and_with(mask),
+            jump_if(Test::Equal, wanted, 0, out),
+        ]),
+    }
+}
+
+/// Tests whether a number has the wanted bits under a mask, which has them all.
+#[tactic(auto, unfolding(crate::specs::Blocks::masked_code))]
+fn put_masked(
+    code: &mut Vec<Insn>,
+    word: u8,
+    mask: u64,
+    wanted: u64,
+    out: u8,
+) -> Result<(), AllocError>
+    requires word { word < 15 }
+    requires out { out < 253 }
+    ensures { OnOk result (code.new.items ≡ code.old.items ++ masked_code word mask wanted out) }
+{
+    let past_low = half_len(low_half(mask)) + out;
+    put_half(code, word + 1, high_half(mask), high_half(wanted), past_low)?;
+    put_half(code, word, low_half(mask), low_half(wanted), out)
+}
+
+/// How many instructions test a condition.
+#[tactic(auto, using(crate::proofs::Sizes::masked_len), unfolding(crate::specs::Blocks::equal_code, crate::specs::Blocks::order_code, crate::specs::Blocks::masked_code))]
+pub(crate) fn condition_len(condition: &Condition) -> u8
+    ensures len { (out : ℕ) → length (condition_code condition.now out) ≡ result }
+    ensures few { result ≤ 6 }
+{
+    match condition.op {
+        Comparison::NotEqual | Comparison::Equal => 4,
+        Comparison::Less
+        | Comparison::LessOrEqual
+        | Comparison::GreaterOrEqual
+        | Comparison::Greater => 5,
+        Comparison::MaskedEqual => {
+            half_len(high_half(condition.value)) + half_len(low_half(condition.value))
+        }
+    }
+}
+
+/// Tests a condition. Where it fails, `out` more instructions are passed.
+pub(crate) fn put_condition(
+    code: &mut Vec<Insn>,
+    condition: &Condition,
+    out: u8,
+) -> Result<(), AllocError>
+    requires index { condition.now.index < 6 }
+    requires out { out < 253 }
+    ensures { OnOk result (code.new.items ≡ code.old.items ++ condition_code condition.now out) }
+{
+    let word = 2 * condition.index + 4;
+    let value = condition.value;
+    match condition.op {
+        Comparison::NotEqual => put_equal(code, word, value, out, 0),
+        Comparison::Less => put_order(code, Test::GreaterOrEqual, word, value, out, 0),
+        Comparison::LessOrEqual => put_order(code, Test::Greater, word, value, out, 0),
+        Comparison::Equal => put_equal(code, word, value, 0, out),
+        Comparison::GreaterOrEqual => put_order(code, Test::GreaterOrEqual, word, value, 0, out),
+        Comparison::Greater => put_order(code, Test::Greater, word, value, 0, out),
+        Comparison::MaskedEqual => {
+            put_masked(code, word, value, condition.value_two & value, out)
+        }
+    }
+}

@@ -1,0 +1,25 @@
+//! Why a profile isn't compiled.
+
+use std::alloc::AllocError;
+use thiserror::Error;
+
+/// Why a profile isn't compiled.
+#[derive(Clone, Copy, Debug, PartialEq, Eq, Error)]
+pub enum CompileFault {
+    /// The filter would have more than 4096 instructions. It has no more where `size_bound` doesn't exceed 4096.
+    #[error("the filter would have more than 4096 instructions")]
+    TooLarge,
+    #[error("out of memory")]
+    Memory,
+}
+
+impl From<AllocError> for CompileFault {
+    ghost use Rattle.std.specs.Prelude.{◌≡◌};
+    ghost use Rattle.scf_compile.specs.declared.fault.CompileFault.TheVariants.{Memory};
+
+    ghost from_gives = { λ _ e. e ≡ Memory };
+
+    fn from(_e: AllocError) -> CompileFault {
+        CompileFault::Memory
+    }
+}
