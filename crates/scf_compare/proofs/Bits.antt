@@ -1,0 +1,38 @@
+-- Words under masks.
+use Rattle.std.proofs.Common.{◌≡◌, ◌≢◌, ℕ, ◌<◌, ◌≤◌, ◌^◌, ◌↔◌, Bool, true, false, not, eqb, leb, List, refl, sym, ap, subst, ◌∙◌, arith, bit_and}
+use Rattle.std.specs.Prelude.{slice_index}
+use Rattle.std.proofs.lemmas.Bool.{eq-eqb, eqb-true}
+use Rattle.std.proofs.lemmas.Bool.Decides.{nat_tests}
+use Rattle.std.proofs.lemmas.Nat.{and_mask, and_assoc, and_comm}
+use Rattle.std.proofs.Math.Nat.{mod-eq_of_lt}
+use Rattle.scf_insn.specs.Words.{IsWords}
+use Rattle.scf_insn.proofs.CallWords.{word_below}
+
+-- a word under all of its bits is the word
+pub whole_word : (x : ℕ) → x < 2 ^ 32 → x ≡ bit_and x 4294967295
+whole_word x h = sym (and_mask x 32 ∙ mod-eq_of_lt h)
+
+pub under_both : (w m v x : ℕ) → x ≡ bit_and w m → bit_and x v ≡ bit_and w (bit_and m v)
+under_both w m v x h = ap (λ n. bit_and n v) h ∙ and_assoc v w m
+
+opposite : (b : Bool) → (not b ≡ true) ↔ (b ≡ false)
+opposite true = (λ h. cc, λ h. cc)
+opposite false = (λ h. refl, λ h. refl)
+
+-- a bit is common with a word under a mask where the word under both masks isn't 0
+pub common_bit : (w m v : ℕ) → (not (eqb (bit_and (bit_and w m) v) 0) ≡ true) ↔ (eqb (bit_and w (bit_and m v)) 0 ≡ false)
+common_bit w m v = subst (λ n. (not (eqb (bit_and (bit_and w m) v) 0) ≡ true) ↔ (eqb n 0 ≡ false)) (and_assoc v w m) (opposite (eqb (bit_and (bit_and w m) v) 0))
+
+-- ---- what an atom's answer about a whole word means
+
+pub word_is : (words : List ℕ) (i v : ℕ) → IsWords words → eqb (bit_and (slice_index words i) 4294967295) v ≡ true → slice_index words i ≡ v
+word_is words i v w e = whole_word _ (word_below words w i) ∙ eqb-true _ _ e
+
+pub word_isnt : (words : List ℕ) (i v : ℕ) → IsWords words → eqb (bit_and (slice_index words i) 4294967295) v ≡ false → slice_index words i ≢ v
+word_isnt words i v w e = λ same. let both : true ≡ false = sym (eq-eqb _ _ (sym (whole_word _ (word_below words w i)) ∙ same)) ∙ e in cc
+
+pub at_least : (x v : ℕ) → leb v x ≡ true → v ≤ x
+at_least x v e = grind (arith, nat_tests)
+
+pub below : (x v : ℕ) → leb v x ≡ false → x < v
+below x v e = grind (arith, nat_tests)

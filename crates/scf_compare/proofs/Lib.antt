@@ -1,0 +1,9 @@
+pub mod Bits
+pub mod Branches
+pub mod Effects
+pub mod Flows
+pub mod Halves
+pub mod Ways
+pub mod Rules
+pub mod Verdicts
+pub mod Saturated

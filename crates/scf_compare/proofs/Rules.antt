@@ -1,0 +1,157 @@
+-- The rules of a profile and their conditions, one after another.
+use Rattle.std.proofs.Common.{◌≡◌, ◌≢◌, ℕ, zero, suc, ◌+◌, ◌*◌, ◌<◌, ◌≤◌, ◌&&◌, Bool, true, false, eqb, cond, List, [], ◌∷◌, ◌++◌, Option, None, Some, length, take, drop, get_or, refl, sym, ap, subst, ◌∙◌, arith, inl, inr}
+use Rattle.std.specs.Prelude.{slice_get, All, Contains}
+use Rattle.std.specs.List.{filter, list_all}
+use Rattle.std.proofs.lemmas.Bool.{eq-eqb, ne_eqb, and_parts}
+use Rattle.std.proofs.lemmas.List.{take_all, take_more}
+use Rattle.std.proofs.lemmas.List.Elements.{All-push, All-contains}
+use Rattle.std.proofs.lemmas.Option.{slice_get-get_or, slice_get_within}
+use Rattle.scf_insn.specs.declared.record.CallRecord.{CallRecord}
+use Rattle.scf_insn.specs.Words.{argument}
+use Rattle.scf_profile.specs.declared.condition.Condition.{Condition}
+use Rattle.scf_profile.specs.declared.rule.Rule.{Rule}
+use Rattle.scf_profile.specs.Condition.{holds}
+use Rattle.scf_profile.specs.Rule.{all_hold, meets}
+use Rattle.scf_profile.specs.RulesByNumber.{numbers_of, rules_of}
+use Rattle.scf_profile.proofs.Numbers.{numbers_of-contains}
+use Rattle.scf_compare.specs.declared.question.Part.{Part}
+use Rattle.scf_compare.specs.declared.question.Part.TheVariants.{High}
+use Rattle.scf_compare.specs.Conditions.{IsAtPart}
+use Rattle.scf_compare.specs.Effort.{conditions_size, rules_size}
+use Rattle.scf_compare.specs.Profiles.{StandsAt, IsAtCondition, KnowsPart, KnowsRule, condition_size, size_of_rule, size_behind}
+
+-- ---- which rules a call meets
+
+pub unmet_apart : (call : CallRecord) (r : Rule) → call.nr ≢ r.number → meets r call ≡ false
+unmet_apart call r apart = ap (λ b. b && all_hold call r.conditions) (ne_eqb call.nr r.number apart)
+
+and_not : (b c : Bool) → c ≡ false → (b && c) ≡ false
+and_not true c e = e
+and_not false c e = refl
+
+pub unmet_failing : (call : CallRecord) (r : Rule) → all_hold call r.conditions ≡ false → meets r call ≡ false
+unmet_failing call r fails = and_not (eqb call.nr r.number) (all_hold call r.conditions) fails
+
+pub met_by : (call : CallRecord) (r : Rule) → call.nr ≡ r.number → all_hold call r.conditions ≡ true → meets r call ≡ true
+met_by call r same hold = ap (λ b. b && all_hold call r.conditions) (eq-eqb call.nr r.number same) ∙ hold
+
+pub held_more : (call : CallRecord) (conditions : List Condition) (i : ℕ) (c : Condition) → slice_get conditions i ≡ Some c → all_hold call (take i conditions) ≡ true → holds c (argument call c.index) ≡ true → all_hold call (take (suc i) conditions) ≡ true
+held_more call [] i c here before h = absurd (cc)
+held_more call (x ∷ conditions) zero c here before h =
+    let same : c ≡ x = cc in
+    ap (λ b. b && true) (subst (λ (d : Condition). holds d (argument call d.index) ≡ true) same h)
+held_more call (x ∷ conditions) (suc i) c here before h =
+    let both = and_parts (holds x (argument call x.index)) (all_hold call (take i conditions)) before in
+    ap (λ b. b && all_hold call (take (suc i) conditions)) both.0 ∙ held_more call conditions i c here both.1 h
+
+pub fails_by : (call : CallRecord) (conditions : List Condition) (i : ℕ) (c : Condition) → slice_get conditions i ≡ Some c → holds c (argument call c.index) ≡ false → all_hold call conditions ≡ false
+fails_by call [] i c here h = absurd (cc)
+fails_by call (x ∷ conditions) zero c here h =
+    let same : c ≡ x = cc in
+    ap (λ b. b && all_hold call conditions) (subst (λ (d : Condition). holds d (argument call d.index) ≡ false) same h)
+fails_by call (x ∷ conditions) (suc i) c here h = and_not (holds x (argument call x.index)) (all_hold call conditions) (fails_by call conditions i c here h)
+
+-- ---- places in lists
+
+pub drop_here : {X : Type 0} (xs : List X) (i : ℕ) (x : X) → slice_get xs i ≡ Some x → drop i xs ≡ x ∷ drop (suc i) xs
+drop_here [] i x here = absurd (cc)
+drop_here (y ∷ xs) zero x here = let same : y ≡ x = cc in ap (λ z. z ∷ xs) same
+drop_here (y ∷ xs) (suc i) x here = drop_here xs i x here
+
+pub take_here : {X : Type 0} (xs : List X) (i : ℕ) (x : X) → slice_get xs i ≡ Some x → take (suc i) xs ≡ take i xs ++ x ∷ []
+take_here [] i x here = absurd (cc)
+take_here (y ∷ xs) zero x here = let same : y ≡ x = cc in ap (λ z. z ∷ []) same
+take_here (y ∷ xs) (suc i) x here = ap (λ zs. y ∷ zs) (take_here xs i x here)
+
+pub contains_here : {X : Type 0} (xs : List X) (i : ℕ) (x : X) → slice_get xs i ≡ Some x → Contains xs x
+contains_here xs i x here =
+    let within = slice_get_within xs i x here in
+    let at = slice_get-get_or xs i x within in
+    let same : get_or xs i x ≡ x = cc in
+    (i, within, same)
+
+-- each rule before a place is unmet, and so is the rule there
+pub unmet_more : (call : CallRecord) (rules : List Rule) (place : ℕ) (r : Rule) → slice_get rules place ≡ Some r → All (λ earlier. meets earlier call ≡ false) (take place rules) → meets r call ≡ false → All (λ earlier. meets earlier call ≡ false) (take (place + 1) rules)
+unmet_more call rules place r here before unmet =
+    let one : place + 1 ≡ suc place = omega arith in
+    subst (λ (xs : List Rule). All (λ earlier. meets earlier call ≡ false) xs) (sym (ap (λ n. take n rules) one ∙ take_here rules place r here)) (All-push (λ earlier. meets earlier call ≡ false) (take place rules) r before unmet)
+
+-- where every rule up to the end is unmet, every rule is
+pub unmet_all : (call : CallRecord) (rules : List Rule) (place : ℕ) → length rules ≤ place → All (λ earlier. meets earlier call ≡ false) (take place rules) → (r : Rule) → Contains rules r → meets r call ≡ false
+unmet_all call rules place past unmet r in_rules =
+    All-contains (λ earlier. meets earlier call ≡ false) rules r (subst (λ (xs : List Rule). All (λ earlier. meets earlier call ≡ false) xs) (take_all place rules past) unmet) in_rules
+
+-- a call whose number no rule has meets none
+pub unmet_numbers : (call : CallRecord) (rules : List Rule) (place : ℕ) → length (numbers_of rules) ≤ place → All (λ number. call.nr ≢ number) (take place (numbers_of rules)) → (r : Rule) → Contains rules r → meets r call ≡ false
+unmet_numbers call rules place past apart r in_rules =
+    unmet_apart call r
+    (All-contains (λ number. call.nr ≢ number) (numbers_of rules) r.number (subst (λ (xs : List ℕ). All (λ number. call.nr ≢ number) xs) (take_all place (numbers_of rules) past) apart) (numbers_of-contains rules r in_rules))
+
+pub apart_more : (call : CallRecord) (numbers : List ℕ) (place number : ℕ) → slice_get numbers place ≡ Some number → All (λ n. call.nr ≢ n) (take place numbers) → call.nr ≢ number → All (λ n. call.nr ≢ n) (take (place + 1) numbers)
+apart_more call numbers place number here before apart =
+    let one : place + 1 ≡ suc place = omega arith in
+    subst (λ (xs : List ℕ). All (λ n. call.nr ≢ n) xs) (sym (ap (λ n. take n numbers) one ∙ take_here numbers place number here)) (All-push (λ n. call.nr ≢ n) (take place numbers) number before apart)
+
+-- ---- the rules of a number
+
+kept : (r : Rule) (rules : List Rule) (number : ℕ) → r.number ≡ number → rules_of number (r ∷ rules) ≡ r ∷ rules_of number rules
+kept r rules number same = ap (λ b. cond b (r ∷ rules_of number rules) (rules_of number rules)) (eq-eqb r.number number same)
+
+passed : (r : Rule) (rules : List Rule) (number : ℕ) → r.number ≢ number → rules_of number (r ∷ rules) ≡ rules_of number rules
+passed r rules number apart = ap (λ b. cond b (r ∷ rules_of number rules) (rules_of number rules)) (ne_eqb r.number number apart)
+
+pub rules_kept : (rules : List Rule) (place number : ℕ) (r : Rule) → slice_get rules place ≡ Some r → r.number ≡ number → rules_of number (drop place rules) ≡ r ∷ rules_of number (drop (place + 1) rules)
+rules_kept rules place number r here same =
+    let one : suc place ≡ place + 1 = omega arith in
+    ap (rules_of number) (drop_here rules place r here) ∙ kept r (drop (suc place) rules) number same ∙ ap (λ n. r ∷ rules_of number (drop n rules)) one
+
+pub rules_passed : (rules : List Rule) (place number : ℕ) (r : Rule) → slice_get rules place ≡ Some r → r.number ≢ number → rules_of number (drop place rules) ≡ rules_of number (drop (place + 1) rules)
+rules_passed rules place number r here apart =
+    let one : suc place ≡ place + 1 = omega arith in
+    ap (rules_of number) (drop_here rules place r here) ∙ passed r (drop (suc place) rules) number apart ∙ ap (λ n. rules_of number (drop n rules)) one
+
+-- ---- what is known at a condition
+
+pub knows : (rules : List Rule) (place index : ℕ) (call : CallRecord) (asked : Part) (rule : Rule) (condition : Condition) → StandsAt rules place index rule condition → IsAtCondition rules place index rule call → IsAtPart condition asked (argument call condition.index) → KnowsRule rules place index call asked (slice_get rules place)
+knows rules place index call asked rule condition stands at_rule at_part =
+    subst (KnowsRule rules place index call asked) (sym stands.rule_here) (at_rule, subst (KnowsPart call asked) (sym stands.condition_here) at_part)
+
+pub known_rule : (rules : List Rule) (place index : ℕ) (call : CallRecord) (asked : Part) (rule : Rule) → slice_get rules place ≡ Some rule → KnowsRule rules place index call asked (slice_get rules place) → IsAtCondition rules place index rule call × KnowsPart call asked (slice_get rule.conditions index)
+known_rule rules place index call asked rule here h = subst (KnowsRule rules place index call asked) here h
+
+pub known_part : (call : CallRecord) (asked : Part) (found : Option Condition) (condition : Condition) → found ≡ Some condition → KnowsPart call asked found → IsAtPart condition asked (argument call condition.index)
+known_part call asked found condition here h = subst (KnowsPart call asked) here h
+
+-- ---- sizes
+
+pub conditions_more : (conditions : List Condition) (index : ℕ) (c : Condition) (fails : ℕ) → slice_get conditions index ≡ Some c → conditions_size (drop index conditions) fails ≡ 3 + 2 * conditions_size (drop (index + 1) conditions) fails + 2 * fails
+conditions_more conditions index c fails here =
+    let one : suc index ≡ index + 1 = omega arith in
+    ap (λ (cs : List Condition). conditions_size cs fails) (drop_here conditions index c here) ∙ ap (λ n. 3 + 2 * conditions_size (drop n conditions) fails + 2 * fails) one
+
+pub conditions_count : (conditions : List Condition) (fails : ℕ) → 1 ≤ conditions_size conditions fails
+conditions_count [] fails = omega arith
+conditions_count (c ∷ conditions) fails = omega arith
+
+pub size_at_condition : (rules : List Rule) (place index : ℕ) (rule : Rule) (c : Condition) → slice_get rules place ≡ Some rule → slice_get rule.conditions index ≡ Some c
+    → condition_size rules place index High (slice_get rules place) ≤ conditions_size (drop index rule.conditions) (size_behind rules place rule)
+size_at_condition rules place index rule c here first =
+    let all : conditions_size (drop index rule.conditions) (size_behind rules place rule) ≡ condition_size rules place index High (Some rule) = conditions_more rule.conditions index c (size_behind rules place rule) first in
+    let found : condition_size rules place index High (slice_get rules place) ≡ condition_size rules place index High (Some rule) = ap (condition_size rules place index High) here in
+    omega (arith, all, found)
+
+-- ---- what the code reads
+
+pub read_here : {X : Type 0} (xs : List X) (place : ℕ) (x : X) → place < length xs → x ≡ get_or xs place x → slice_get xs place ≡ Some x
+read_here xs place x inside is = slice_get-get_or xs place x inside ∙ ap (λ y. Some y) (sym is)
+
+pub same_here : {X : Type 0} (xs : List X) (place : ℕ) (x y : X) → slice_get xs place ≡ Some x → slice_get xs place ≡ Some y → x ≡ y
+same_here xs place x y a b = let both : Some x ≡ Some y = sym a ∙ b in cc
+
+pub none_of : {X : Type 0} (xs : List X) → length xs ≡ 0 → xs ≡ []
+none_of [] e = refl
+none_of (x ∷ xs) e = absurd (omega arith)
+
+pub some_of : (n : ℕ) (b : Bool) → b ≡ eqb n 0 → b ≡ false → 0 < n
+some_of zero b e f = absurd (let both : true ≡ false = sym e ∙ f in cc)
+some_of (suc n) b e f = omega arith

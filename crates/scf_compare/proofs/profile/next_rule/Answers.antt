@@ -1,0 +1,35 @@
+use Rattle.std.proofs.Common.{◌≡◌, ◌+◌, ℕ, drop, refl, sym, ap, ◌∙◌, arith}
+use Rattle.scf_insn.specs.Words.{call_of}
+use Rattle.scf_profile.specs.declared.rule.Rule.{Rule}
+use Rattle.scf_profile.specs.RulesByNumber.{rules_of}
+use Rattle.scf_profile.specs.ProfileAnswers.{by_default}
+use Rattle.scf_compare.specs.Effort.{conditions_size, rules_size}
+use Rattle.scf_compare.proofs.Rules.{read_here, rules_kept, unmet_all}
+use Rattle.scf_compare.proofs.profile.next_rule.Goals as goal
+
+pub returns-then-rules-place-clause-reached : goal.returns-then-rules-place-clause-reached
+returns-then-rules-place-clause-reached c =
+    let rules = c.args.rules.now in
+    let place = c.loop-place.place in
+    let a = c.index-rules-place.result in
+    let here = read_here rules place a c.loop-place-test.true c.index-rules-place.is in
+    let number_is : a.number ≡ c.args.number = ap (λ (r : Rule). r.number) c.index-rules-place.is ∙ c.if-rules-place.true in
+    λ words native number unmet.
+    c.first_of_rule.ensures.reached words a here (record { native = native; number = number ∙ sym number_is; unmet = c.loop-place.invariant.unmet (call_of words) number unmet; held = refl })
+
+pub returns-then-rules-place-clause-size : goal.returns-then-rules-place-clause-size
+returns-then-rules-place-clause-size c =
+    let rules = c.args.rules.now in
+    let place = c.loop-place.place in
+    let a = c.index-rules-place.result in
+    let here = read_here rules place a c.loop-place-test.true c.index-rules-place.is in
+    let number_is : a.number ≡ c.args.number = ap (λ (r : Rule). r.number) c.index-rules-place.is ∙ c.if-rules-place.true in
+    let size = c.first_of_rule.ensures.size a here in
+    let whole : rules_size (rules_of c.args.number (drop c.args.from rules)) ≡ conditions_size a.conditions (rules_size (rules_of c.args.number (drop (place + 1) rules))) = ap rules_size (sym c.loop-place.invariant.skipped ∙ rules_kept rules place c.args.number a here number_is) in
+    let named : conditions_size a.conditions (rules_size (rules_of a.number (drop (place + 1) rules))) ≡ conditions_size a.conditions (rules_size (rules_of c.args.number (drop (place + 1) rules))) = ap (λ n. conditions_size a.conditions (rules_size (rules_of n (drop (place + 1) rules)))) number_is in
+    omega (arith, size, whole, named)
+
+pub returns-clause-reached : goal.returns-clause-reached
+returns-clause-reached c =
+    λ words native number unmet.
+    by_default native (unmet_all (call_of words) c.args.rules.now c.loop-place.place c.loop-place-test.false (c.loop-place.invariant.unmet (call_of words) number unmet))

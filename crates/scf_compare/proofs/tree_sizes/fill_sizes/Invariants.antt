@@ -1,0 +1,14 @@
+use Rattle.std.proofs.Common.{◌≡◌, ◌≤◌, ◌<◌, ℕ, length}
+use Rattle.std.specs.Prelude.{slice_index}
+use Rattle.scf_compare.specs.Effort.{saturated}
+use Rattle.scf_compare.specs.Flow.{tree_size}
+use Rattle.scf_compare.proofs.tree_sizes.fill_sizes.Given as goal
+
+abbrev pub invariant-loop-place : goal.invariant-loop-place
+invariant-loop-place l = record {
+  within : l.place ≤ length l.insns;
+  filled : (at : ℕ) → l.place ≤ at → at < length l.insns → slice_index l.sizes at ≡ saturated (tree_size l.insns at);
+}
+
+abbrev pub decreases-loop-place : goal.decreases-loop-place
+decreases-loop-place l = l.place

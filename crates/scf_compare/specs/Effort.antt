@@ -1,0 +1,33 @@
+-- The effort of a comparison: how many steps its whole tree takes.
+use Rattle.std.specs.Prelude.{◌+◌, ◌*◌, ◌-◌, ◌^◌, ℕ, List, [], ◌∷◌, min, sum_by}
+use Rattle.scf_insn.specs.declared.insn.Insn.{Insn}
+use Rattle.scf_profile.specs.declared.condition.Condition.{Condition}
+use Rattle.scf_profile.specs.declared.rule.Rule.{Rule}
+use Rattle.scf_profile.specs.Policy.{Policy}
+use Rattle.scf_profile.specs.RulesByNumber.{numbers_of, rules_of}
+use Rattle.scf_compare.specs.Flow.{tree_size}
+
+-- conditions, where what is asked once one of them fails has a size
+abbrev pub conditions_size : List Condition → ℕ → ℕ
+conditions_size [] fails = 1
+conditions_size (c ∷ rest) fails = 3 + 2 * conditions_size rest fails + 2 * fails
+
+-- the rules of one number, in their order
+abbrev pub rules_size : List Rule → ℕ
+rules_size [] = 1
+rules_size (r ∷ rest) = conditions_size r.conditions (rules_size rest)
+
+abbrev pub number_size : List Rule → ℕ → ℕ
+number_size rules number = 1 + rules_size (rules_of number rules)
+
+-- the spread of a profile: 8, and for each distinct number 1 and the size of its rules
+abbrev pub spread : List Rule → ℕ
+spread rules = 8 + sum_by (number_size rules) (numbers_of rules)
+
+-- the effort: the size of the filter's tree of paths from its first place on, times the spread
+abbrev pub effort_of : List Insn → Policy → ℕ
+effort_of insns p = tree_size insns 0 * spread p.rules
+
+-- the number, or 2^64-1 where it is larger
+abbrev pub saturated : ℕ → ℕ
+saturated n = min n (2 ^ 64 - 1)

@@ -1,0 +1,14 @@
+-- What the ends of trees tell.
+use Rattle.std.specs.Prelude.{ℕ, List, IfSome}
+use Rattle.scf_compare.specs.declared.comparison.FilterEnd.{FilterEnd}
+use Rattle.scf_compare.specs.declared.comparison.BothEnds.{BothEnds}
+
+-- an end of the filter's tree tells its answer to words, where it knows it
+abbrev pub FilterTells : (List ℕ → ℕ → Type 0) → FilterEnd → List ℕ → Type 0
+FilterTells answers end words = IfSome end.answer (λ answer. answers words answer.0)
+
+abbrev pub Tells : (List ℕ → ℕ → Type 0) → (List ℕ → ℕ → Type 0) → BothEnds → List ℕ → Type 0
+Tells filters profiles end words = FilterTells filters end.filter words × profiles words end.profile.0
+
+abbrev pub IsEnd : (ℕ → Type 0) → BothEnds → Type 0
+IsEnd is_place end = is_place end.filter.at

@@ -1,0 +1,32 @@
+-- Trees of questions about the words of a call record.
+use Rattle.std.specs.Prelude.{◌≡◌, ◌+◌, ◌<◌, ◌≤◌, ◌⊎◌, ℕ, List, true, false}
+use Rattle.scf_facts.specs.Atoms.{atom_answer, word_of}
+use Rattle.scf_compare.specs.declared.turn.Turn.{Turn}
+use Rattle.scf_compare.specs.declared.turn.Turn.TheVariants.{Go, Ask, Fork, End}
+
+-- The nodes of a tree: which there are, which words come to one, and how many steps it takes to see all from one on.
+pub record Questions (N : Type 0) : Type 1 where
+  pub is_node : N → Type 0
+  pub reaches : N → List ℕ → Type 0
+  pub size : N → ℕ
+
+-- A turn leads to nodes of the tree, and asks of one of the sixteen words.
+abbrev pub IsProper : {N E : Type 0} → Questions N → (E → Type 0) → Turn N E → Type 0
+IsProper tree is_end (Go next) = tree.is_node next
+IsProper tree is_end (Ask atom if_true if_false) = (word_of atom < 16) × tree.is_node if_true × tree.is_node if_false
+IsProper tree is_end (Fork if_true if_false) = tree.is_node if_true × tree.is_node if_false
+IsProper tree is_end (End end) = is_end end
+
+-- The words go on from a turn, and what an end tells is true of them.
+abbrev pub GoesOn : {N E : Type 0} → Questions N → (E → List ℕ → Type 0) → Turn N E → List ℕ → Type 0
+GoesOn tree tells (Go next) words = tree.reaches next words
+GoesOn tree tells (Ask atom if_true if_false) words = (atom_answer atom words ≡ true → tree.reaches if_true words) × (atom_answer atom words ≡ false → tree.reaches if_false words)
+GoesOn tree tells (Fork if_true if_false) words = tree.reaches if_true words ⊎ tree.reaches if_false words
+GoesOn tree tells (End end) words = tells end words
+
+-- One step, and then what is seen from the next nodes on, are within a size.
+abbrev pub Costs : {N E : Type 0} → Questions N → Turn N E → ℕ → Type 0
+Costs tree (Go next) size = tree.size next + 1 ≤ size
+Costs tree (Ask atom if_true if_false) size = tree.size if_true + tree.size if_false + 1 ≤ size
+Costs tree (Fork if_true if_false) size = tree.size if_true + tree.size if_false + 1 ≤ size
+Costs tree (End end) size = 1 ≤ size

@@ -1,0 +1,40 @@
+//! The comparison of a filter with a profile.
+
+ghost use Rattle.std.specs.Prelude.{◌≡◌, IfOk};
+ghost use Rattle.scf_compare.specs.Effort.{effort_of};
+ghost use Rattle.scf_compare.specs.Verdicts.{IsTrueOf, IsWithin};
+
+use crate::explore::explore;
+use crate::pair::{Pair, PairNode};
+use crate::party::FilterTree;
+use crate::profile_numbers::ProfileNumbers;
+use crate::verdict::Verdict;
+use scf_facts::WordFacts;
+use scf_insn::Memory;
+use scf_machine::Program;
+use scf_profile::Profile;
+use std::alloc::Global;
+
+/// Compares a program with a profile over every call record, in at most `limit` steps.
+///
+/// `Same` is true of every call record. `Differs` shows a record that is answered differently, with both answers.
+/// `Undecided` names a place of the program behind which the facts `F` didn't decide. `Unfinished` comes only where the
+/// limit is below the exact effort; the steps of `Same` are within both.
+pub fn compare<F: WordFacts>(
+    alloc: Global,
+    program: &Program,
+    profile: &Profile,
+    limit: u64,
+) -> Result<Verdict, Memory>
+    ensures holds { IfOk result (IsTrueOf program.now profile.now) }
+    ensures within { IfOk result (IsWithin limit (effort_of program.now profile.now)) }
+{
+    let numbers = ProfileNumbers::new(alloc, profile)?;
+    let pair = Pair {
+        filter: program,
+        profile: &numbers,
+    };
+    let facts = F::all(alloc)?;
+    let root = PairNode::AtFilter(program.start());
+    explore(alloc, &pair, facts, root, limit)
+}

@@ -1,0 +1,173 @@
+//! A filter as a tree of questions: its ways are followed with what is known of the registers.
+
+ghost use Rattle.std.specs.Prelude.{◌≡◌, ◌+◌, ◌<◌, ℕ, List, Some, length, slice_get};
+ghost use Rattle.scf_insn.specs.Words.{IsWords};
+ghost use Rattle.scf_insn.specs.Codes.{operation_of};
+ghost use Rattle.scf_machine.specs.Machine.{RunAnswers, RunsSafely};
+ghost use Rattle.scf_machine.specs.Rules.{IsValidList, Stands};
+ghost use Rattle.scf_compare.specs.Questions.{IsProper, GoesOn, Costs};
+ghost use Rattle.scf_compare.specs.Ends.{FilterTells};
+ghost use Rattle.scf_compare.specs.Flow.{tree_size};
+ghost use Rattle.scf_compare.specs.Values.{AreValues, IsDecision};
+ghost use Rattle.scf_compare.specs.Filters.{ComesTo, IsTurnOf, filter_questions};
+
+use crate::comparison::FilterEnd;
+use crate::flow::Flow;
+use crate::party::FilterTree;
+use crate::registers::Registers;
+use crate::turn::Turn;
+use crate::value::{Decision, Value};
+use scf_insn::{Answer, CallRecord, Insn, Operation, Test};
+use scf_machine::{Program, run};
+
+/// A place of a filter with what is known of its registers there, or the end of a division by 0.
+#[derive(Clone, Copy)]
+pub(crate) enum FilterNode {
+    At { place: usize, registers: Registers },
+    Stopped { answer: Answer, at: usize },
+}
+
+impl FilterTree for Program {
+    type Node = FilterNode;
+
+    ghost answers = { RunAnswers };
+
+    ghost is_place = { λ insns at. at < length insns };
+
+    ghost questions = { filter_questions };
+
+    ghost whole_size = { λ insns. tree_size insns 0 };
+
+    fn start(&self) -> FilterNode {
+        let _insns = self.insns();
+        FilterNode::At {
+            place: 0,
+            registers: Registers::at_start(),
+        }
+    }
+
+    fn turn(&self, node: &FilterNode) -> Turn<FilterNode, FilterEnd> {
+        match *node {
+            FilterNode::At { place, registers } => turn_at(self.insns(), place, &registers),
+            FilterNode::Stopped { answer, at } => Turn::End(FilterEnd {
+                answer: Some(answer),
+                at,
+            }),
+        }
+    }
+
+    fn answer(&self, call: &CallRecord) -> Answer {
+        run(self, call).answer
+    }
+
+    ghost use Rattle.scf_compare.specs.Laws.{node_counts};
+
+    ghost counts = { node_counts };
+}
+
+/// What comes next at the instruction of a place.
+fn turn_at(insns: &[Insn], place: usize, registers: &Registers) -> Turn<FilterNode, FilterEnd>
+    requires place { place < length insns.now }
+    requires valid { IsValidList insns.now }
+    requires safe { (words : List ℕ) → RunsSafely insns.now words }
+    requires values { AreValues registers.now }
+    ensures proper { IsProper (filter_questions insns.now) (λ end. end.at < length insns.now) result }
+    ensures leads { (words : List ℕ) → IsWords words → ComesTo insns.now place registers.now words → GoesOn (filter_questions insns.now) (FilterTells (RunAnswers insns.now)) result words }
+    ensures costs { Costs (filter_questions insns.now) result (tree_size insns.now place) }
+{
+    let insn = insns[place];
+    match insn.operation() {
+        Some(operation) => turn_of(insns, place, insn, operation, registers),
+        None => unreachable!(),
+    }
+}
+
+/// What comes next at an instruction with this operation.
+fn turn_of(
+    insns: &[Insn],
+    place: usize,
+    insn: Insn,
+    operation: Operation,
+    registers: &Registers,
+) -> Turn<FilterNode, FilterEnd>
+    requires stands { Stands insns.now place insn operation }
+    requires valid { IsValidList insns.now }
+    requires safe { (words : List ℕ) → RunsSafely insns.now words }
+    requires values { AreValues registers.now }
+    ensures proper { IsProper (filter_questions insns.now) (λ end. end.at < length insns.now) result }
+    ensures leads { (words : List ℕ) → IsWords words → ComesTo insns.now place registers.now words → GoesOn (filter_questions insns.now) (FilterTells (RunAnswers insns.now)) result words }
+    ensures costs { Costs (filter_questions insns.now) result (tree_size insns.now place) }
+{
+    match Flow::of(insns, place, insn, operation) {
+        Flow::Next(next) => Turn::Go(FilterNode::At {
+            place: next,
+            registers: registers.after(insn, operation),
+        }),
+        Flow::Jump(target) => Turn::Go(FilterNode::At {
+            place: target,
+            registers: *registers,
+        }),
+        Flow::Branch {
+            test,
+            operand,
+            if_true,
+            if_false,
+        } => {
+            let decision = registers.a.decide(test, registers.operand(operand, insn));
+            let if_true = FilterNode::At {
+                place: if_true,
+                registers: *registers,
+            };
+            let if_false = FilterNode::At {
+                place: if_false,
+                registers: *registers,
+            };
+            turn_by(decision, if_true, if_false)
+        }
+        Flow::DivideByIndex(next) => {
+            let decision = registers.x.decide(Test::Equal, Value::Known(0));
+            let stopped = FilterNode::Stopped {
+                answer: Answer(0),
+                at: place,
+            };
+            let divided = FilterNode::At {
+                place: next,
+                registers: registers.after(insn, operation),
+            };
+            turn_by(decision, stopped, divided)
+        }
+        Flow::ReturnConstant => Turn::End(FilterEnd {
+            answer: Some(Answer(insn.k)),
+            at: place,
+        }),
+        Flow::ReturnAccumulator => Turn::End(FilterEnd {
+            answer: registers.a.answer(),
+            at: place,
+        }),
+    }
+}
+
+/// The ways on from a test.
+fn turn_by(
+    decision: Decision,
+    if_true: FilterNode,
+    if_false: FilterNode,
+) -> Turn<FilterNode, FilterEnd>
+    ensures { IsTurnOf decision if_true if_false result }
+{
+    match decision {
+        Decision::Known(true) => Turn::Go(if_true),
+        Decision::Known(false) => Turn::Go(if_false),
+        Decision::Asks { atom, holds: true } => Turn::Ask {
+            atom,
+            if_true,
+            if_false,
+        },
+        Decision::Asks { atom, holds: false } => Turn::Ask {
+            atom,
+            if_true: if_false,
+            if_false: if_true,
+        },
+        Decision::Open => Turn::Fork { if_true, if_false },
+    }
+}

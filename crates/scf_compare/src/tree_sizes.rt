@@ -1,0 +1,155 @@
+//! The effort of a comparison.
+
+ghost use Rattle.std.specs.Prelude.{◌≡◌, ◌<◌, ◌≤◌, ◌==◌, ◌∷◌, ℕ, List, Some, if◌then◌else◌, length, slice_index, slice_get, take};
+ghost use Rattle.std.specs.List.{list_any};
+ghost use Rattle.scf_profile.specs.declared.rule.Rule.{Rule};
+ghost use Rattle.scf_machine.specs.Rules.{IsValidList, Stands};
+ghost use Rattle.scf_profile.specs.RulesByNumber.{rules_of};
+ghost use Rattle.scf_compare.specs.Effort.{conditions_size, rules_size, number_size, spread, effort_of, saturated};
+ghost use Rattle.scf_compare.specs.Flow.{tree_size};
+
+use crate::flow::Flow;
+use crate::profile_numbers::has_number;
+use scf_insn::{Insn, Operation};
+use scf_machine::Program;
+use scf_profile::{Condition, Profile, Rule};
+
+/// How many instructions a program has at most.
+const MOST_INSNS: usize = 4096;
+
+/// How many steps a comparison takes at most, or 2^64-1 where they are more: the size of the filter's tree of paths times
+/// the spread of the profile. A limit that isn't below the exact number is enough for every comparison of the two.
+pub fn effort(program: &Program, profile: &Profile) -> u64
+    ensures { result ≡ saturated (effort_of program.now profile.now) }
+{
+    let paths = paths_of(program.insns());
+    paths.saturating_mul(spread_of(profile.rules()))
+}
+
+/// The size of the tree of paths.
+fn paths_of(insns: &[Insn]) -> u64
+    requires { IsValidList insns.now }
+    ensures { result ≡ saturated (tree_size insns.now 0) }
+{
+    let mut sizes = [0; MOST_INSNS];
+    fill_sizes(insns, &mut sizes);
+    sizes[0]
+}
+
+/// Finds the size of the tree of paths from each place on, the last place first: jumps go forward.
+fn fill_sizes(insns: &[Insn], sizes: &mut [u64])
+    requires valid { IsValidList insns.now }
+    requires room { length insns.now ≤ length sizes.old }
+    ensures { (place : ℕ) → place < length insns.now → slice_index sizes.new place ≡ saturated (tree_size insns.now place) }
+{
+    let mut place = insns.len();
+    while place > 0 {
+        place -= 1;
+        let size = size_at(insns, place, sizes);
+        sizes[place] = size;
+    }
+}
+
+/// The size of the tree of paths from a place on, where those from the later places on are given.
+fn size_at(insns: &[Insn], place: usize, sizes: &[u64]) -> u64
+    requires valid { IsValidList insns.now }
+    requires place { place < length insns.now }
+    requires room { length insns.now ≤ length sizes.now }
+    requires later { (at : ℕ) → place < at → at < length insns.now → slice_index sizes.now at ≡ saturated (tree_size insns.now at) }
+    ensures { result ≡ saturated (tree_size insns.now place) }
+{
+    let insn = insns[place];
+    match insn.operation() {
+        Some(operation) => size_of(insns, place, insn, operation, sizes),
+        None => unreachable!(),
+    }
+}
+
+/// The size of the tree of paths from an instruction with this operation on.
+fn size_of(insns: &[Insn], place: usize, insn: Insn, operation: Operation, sizes: &[u64]) -> u64
+    requires valid { IsValidList insns.now }
+    requires stands { Stands insns.now place insn operation }
+    requires room { length insns.now ≤ length sizes.now }
+    requires later { (at : ℕ) → place < at → at < length insns.now → slice_index sizes.now at ≡ saturated (tree_size insns.now at) }
+    ensures { result ≡ saturated (tree_size insns.now place) }
+{
+    match Flow::of(insns, place, insn, operation) {
+        Flow::Next(next) => sizes[next].saturating_add(1),
+        Flow::Jump(target) => sizes[target].saturating_add(1),
+        Flow::Branch {
+            if_true,
+            if_false,
+            ..
+        } => sizes[if_true]
+            .saturating_add(sizes[if_false])
+            .saturating_add(1),
+        Flow::DivideByIndex(next) => sizes[next].saturating_add(2),
+        Flow::ReturnConstant => 1,
+        Flow::ReturnAccumulator => 1,
+    }
+}
+
+/// The spread of a profile with these rules: 8, and for each distinct number 1 and the size of its rules.
+fn spread_of(rules: &[Rule]) -> u64
+    ensures { result ≡ saturated (spread rules.now) }
+{
+    let mut sum: u64 = 8;
+    for place in 0..rules.len() {
+        sum = sum.saturating_add(size_of_number(rules, place));
+    }
+    sum
+}
+
+/// What the number of the rule at a place adds to the spread, where no rule before it has the number.
+fn size_of_number(rules: &[Rule], place: usize) -> u64
+    requires { place < length rules.now }
+    ensures { (rule : Rule) → slice_get rules.now place ≡ Some rule → result ≡ saturated (if list_any (λ r. r.number == rule.number) (take place rules.now) then 0 else number_size rules.now rule.number) }
+{
+    let number = rules[place].number;
+    if has_number(&rules[..place], number) {
+        0
+    } else {
+        size_of_rules(rules, number).saturating_add(1)
+    }
+}
+
+/// The size of the tree of the rules of a number, the last one first.
+fn size_of_rules(rules: &[Rule], number: u32) -> u64
+    ensures { result ≡ saturated (rules_size (rules_of number rules.now)) }
+{
+    let mut size = 1;
+    let mut place = rules.len();
+    while place > 0 {
+        place -= 1;
+        size = size_with_rule(&rules[place], number, size);
+    }
+    size
+}
+
+/// The size of the tree of the rules of a number once a rule stands before the others.
+fn size_with_rule(rule: &Rule, number: u32, size: u64) -> u64
+    ensures { (others : List Rule) → size ≡ saturated (rules_size (rules_of number others)) → result ≡ saturated (rules_size (rules_of number (rule.now ∷ others))) }
+{
+    if rule.number == number {
+        size_of_conditions(rule.conditions.as_slice(), size)
+    } else {
+        size
+    }
+}
+
+/// The size of the tree of conditions, where the one behind a condition that fails has this size.
+fn size_of_conditions(conditions: &[Condition], fails: u64) -> u64
+    ensures { (behind : ℕ) → fails ≡ saturated behind → result ≡ saturated (conditions_size conditions.now behind) }
+{
+    let twice_fails = fails.saturating_add(fails);
+    let mut size: u64 = 1;
+    let mut place = conditions.len();
+    while place > 0 {
+        place -= 1;
+        size = size
+            .saturating_add(size)
+            .saturating_add(twice_fails)
+            .saturating_add(3);
+    }
+    size
+}

@@ -1,0 +1,48 @@
+//! Questions about one word, and what can be told of them.
+
+ghost use Rattle.std.specs.Prelude.{◌≡◌};
+ghost use Rattle.scf_facts.specs.Atoms.{answer_at, word_of};
+
+/// A question about one of the sixteen words of a call record, by its number from 0 to 15.
+#[derive(Clone, Copy, Debug, PartialEq, Eq)]
+pub enum Atom {
+    /// The word AND the mask equals the value.
+    Eq { word: u8, mask: u32, value: u32 },
+    /// The word is above the value.
+    Gt { word: u8, value: u32 },
+    /// The word is at least the value.
+    Ge { word: u8, value: u32 },
+}
+
+impl Atom {
+    /// The number of its word.
+    pub fn word(self) -> u8
+        ensures { result ≡ word_of self }
+    {
+        match self {
+            Atom::Eq { word, .. } | Atom::Gt { word, .. } | Atom::Ge { word, .. } => word,
+        }
+    }
+
+    /// What it answers where its word is this number.
+    pub fn answer(self, number: u32) -> bool
+        ensures { result ≡ answer_at self number }
+    {
+        match self {
+            Atom::Eq { mask, value, .. } => number & mask == value,
+            Atom::Gt { value, .. } => number > value,
+            Atom::Ge { value, .. } => number >= value,
+        }
+    }
+}
+
+/// What facts tell of an atom.
+#[derive(Clone, Copy, Debug, PartialEq, Eq)]
+pub enum Tell {
+    /// It is true of all that is allowed.
+    Always,
+    /// It is false of all that is allowed.
+    Never,
+    /// Nothing is said.
+    Maybe,
+}

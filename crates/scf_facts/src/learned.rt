@@ -1,0 +1,64 @@
+//! Atoms whose answer is known.
+
+ghost use Rattle.std.specs.Prelude.{◌≡◌, ◌<◌, ◌^◌, ◌↔◌, ℕ, List, IsTrue, IfSome, true, false};
+ghost use Rattle.scf_insn.specs.Words.{IsWords};
+ghost use Rattle.scf_facts.specs.Atoms.{atom_answer, answer_at, word_of};
+
+use crate::atom::{Atom, Tell};
+
+/// An atom with its answer.
+#[derive(Clone, Copy, Debug, PartialEq, Eq)]
+pub(crate) struct Learned {
+    pub(crate) atom: Atom,
+    pub(crate) holds: bool,
+}
+
+impl Learned {
+    /// The number of the word that this fixes, and its only value.
+    pub(crate) fn fixes(&self) -> Option<(u8, u32)>
+        ensures place { IfSome result (λ fixed. fixed.0 ≡ word_of self.now.atom) }
+        ensures value { IfSome result (λ fixed. (number : ℕ) → number < 2 ^ 32 → answer_at self.now.atom number ≡ self.now.holds → number ≡ fixed.1) }
+    {
+        match self.atom {
+            Atom::Eq {
+                word,
+                mask: u32::MAX,
+                value,
+            } if self.holds => Some((word, value)),
+            _ => None,
+        }
+    }
+
+    /// What this alone tells of another atom.
+    pub(crate) fn tells(&self, atom: Atom) -> Tell
+        requires { word_of self.now.atom < 16 }
+        ensures always { result ≡ Tell.Always → (words : List ℕ) → IsWords words → atom_answer self.now.atom words ≡ self.now.holds → atom_answer atom words ≡ true }
+        ensures never { result ≡ Tell.Never → (words : List ℕ) → IsWords words → atom_answer self.now.atom words ≡ self.now.holds → atom_answer atom words ≡ false }
+    {
+        if self.atom == atom {
+            return if self.holds {
+                Tell::Always
+            } else {
+                Tell::Never
+            };
+        }
+        match self.fixes() {
+            Some((word, value)) if word == atom.word() => {
+                if atom.answer(value) {
+                    Tell::Always
+                } else {
+                    Tell::Never
+                }
+            }
+            _ => Tell::Maybe,
+        }
+    }
+
+    /// Whether the atom has this answer of the words.
+    pub(crate) fn agrees(&self, words: &[u32; 16]) -> bool
+        requires { word_of self.now.atom < 16 }
+        ensures { IsTrue result ↔ (atom_answer self.now.atom words.now ≡ self.now.holds) }
+    {
+        self.atom.answer(words[self.atom.word() as usize]) == self.holds
+    }
+}

@@ -1,0 +1,43 @@
+//! The laws of a store of facts about words.
+
+ghost use Rattle.std.specs.Prelude.{◌≡◌, ◌<◌, ◌↔◌, ℕ, List, IsTrue, IfOk, OnOk, OnErr, IfSome, true, false};
+ghost use Rattle.scf_insn.specs.Words.{IsWords};
+ghost use Rattle.scf_facts.specs.Atoms.{atom_answer, word_of, AllowsSame};
+
+use crate::atom::{Atom, Tell};
+use scf_insn::Memory;
+use std::alloc::Global;
+
+/// What is known of the sixteen words of a call record: a set of lists of sixteen words, those that are allowed.
+pub trait WordFacts: Sized + Drop {
+    /// The lists of words that are allowed.
+    ghost allows: { Self → List ℕ → Type 0 };
+
+    /// Facts that allow every list of sixteen words.
+    fn all(alloc: Global) -> Result<Self, Memory>
+        ensures law_all { IfOk result (λ facts. (words : List ℕ) → allows facts words ↔ IsWords words) };
+
+    /// Other facts that allow the same lists. These stay as they are.
+    fn copy(&self, alloc: Global) -> Result<Self, Memory>
+        ensures law_copy { IfOk result (λ facts. AllowsSame allows facts self.now) };
+
+    /// Keeps of the allowed lists those that give the atom this answer. Where memory is refused, all of them stay.
+    fn learn(&mut self, atom: Atom, holds: bool) -> Result<(), Memory>
+        requires word { word_of atom < 16 }
+        ensures law_learn { OnOk result ((words : List ℕ) → allows self.new words ↔ (allows self.old words × (atom_answer atom words ≡ holds))) }
+        ensures refused { OnErr result (AllowsSame allows self.new self.old) };
+
+    /// What the atom answers of every allowed list, where that is known.
+    fn tell(&self, atom: Atom) -> Tell
+        requires word { word_of atom < 16 }
+        ensures law_always { result ≡ Tell.Always → (words : List ℕ) → allows self.now words → atom_answer atom words ≡ true }
+        ensures law_never { result ≡ Tell.Never → (words : List ℕ) → allows self.now words → atom_answer atom words ≡ false };
+
+    /// Whether it is known that no list is allowed.
+    fn is_empty(&self) -> bool
+        ensures law_empty { IsTrue result → (words : List ℕ) → allows self.now words → ⊥ };
+
+    /// An allowed list, if one is found.
+    fn pick(&self) -> Option<[u32; 16]>
+        ensures law_pick { IfSome result (λ words. allows self.now words) };
+}
