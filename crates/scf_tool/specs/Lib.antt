@@ -1,6 +1,9 @@
 pub mod Bundle
+pub mod Gathering
 pub mod Lines
 pub mod Options
 pub mod Pieces
 pub mod Replies
+pub mod Reports
 pub mod Statuses
+pub mod Verifying

@@ -44,19 +44,34 @@ fn on_call<'a>(alloc: Global, name: &'a str, about: &'a str) -> Result<Command<'
     Ok(command)
 }
 
+/// The command that compares a filter with a profile.
+fn comparison<'a>(alloc: Global) -> Result<Command<'a>, AllocError> {
+    let limit = Arg::new(alloc, "limit")
+        .long("limit")
+        .value_name("NUMBER")
+        .help("The most steps of the comparison [default: 1000000]");
+    Command::new(alloc, "compare")
+        .about("Compares a bundle of a filter, a profile and a table")
+        .arg(limit)
+}
+
 /// The program's commands and their options.
 fn program<'a>(alloc: Global) -> Result<Command<'a>, AllocError> {
     Command::new(alloc, "scf")
         .version(VERSION)
         .about(
-            "Checks, runs, lists and assembles seccomp filters for x86-64. Input comes on standard input.",
+            "Checks, runs, lists, assembles, compiles and compares seccomp filters for x86-64. Input comes on standard input.",
         )
         .subcommand_required(true)
         .subcommand(Command::new(alloc, "check").about("Checks a filter"))?
         .subcommand(on_call(alloc, "run", "Runs a filter on a call")?)?
         .subcommand(on_call(alloc, "decide", "Runs a bundle of filters on a call")?)?
         .subcommand(Command::new(alloc, "dis").about("Lists a filter, which isn't checked"))?
-        .subcommand(Command::new(alloc, "asm").about("Assembles a text, which isn't checked"))
+        .subcommand(Command::new(alloc, "asm").about("Assembles a text, which isn't checked"))?
+        .subcommand(Command::new(alloc, "compile").about(
+            "Compiles a bundle of a profile and a table",
+        ))?
+        .subcommand(comparison(alloc)?)
 }
 
 fn help(alloc: Global) -> Result<String, AllocError> {

@@ -4,7 +4,9 @@ ghost use Rattle.std.specs.Prelude.{◌≡◌, ◌≢◌, ◌≤◌};
 ghost use Rattle.scf_tool.specs.Replies.{status_of};
 ghost use Rattle.scf_tool.specs.Statuses.{IsQuiet};
 
+mod compare;
 mod filter;
+mod profile;
 mod stack;
 mod text;
 
@@ -13,7 +15,9 @@ use crate::fault::Fault;
 use crate::reply::{Reply, write_reply};
 use crate::status::Status;
 use clap::ArgMatches;
+use compare::compare_bundle;
 use filter::{check_filter, run_filter};
+use profile::compile_profile;
 use scf_insn::{Sink, Source};
 use stack::decide_stack;
 use std::alloc::Global;
@@ -34,6 +38,8 @@ fn dispatch<R: Source>(
     match matches.subcommand() {
         Some(("asm", _)) => assemble_text(alloc, input),
         Some(("check", _)) => check_filter(alloc, input),
+        Some(("compare", options)) => compare_bundle(alloc, options, input),
+        Some(("compile", _)) => compile_profile(alloc, input),
         Some(("decide", options)) => decide_stack(alloc, options, input),
         Some(("dis", _)) => list_filter(alloc, input),
         Some(("run", options)) => run_filter(alloc, options, input),

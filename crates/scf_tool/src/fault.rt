@@ -8,8 +8,11 @@ use crate::bundle::BundleFault;
 use crate::options::NumberFault;
 use crate::pieces::{Piece, write_pieces};
 use crate::status::Status;
+use crate::verification::VerifyFault;
+use scf_compile::CompileFault;
 use scf_insn::{InputFault, ReadFault, Sink, WriteFault, write_whole};
 use scf_machine::{CheckFault, PushFault};
+use scf_profile::{LoadFault, TableFault};
 use scf_text::TextFault;
 
 /// A number that a fault names.
@@ -42,6 +45,14 @@ fn one(name: &'static str, number: usize) -> [Option<Field>; 3] {
     [named(name, number), None, None]
 }
 
+/// The entry of a profile, where the fault stands in one.
+fn in_entry(entry: Option<u32>) -> [Option<Field>; 3] {
+    match entry {
+        Some(place) => one("entry", place as usize),
+        None => NONE,
+    }
+}
+
 impl Fault {
     /// Memory was refused.
     pub(crate) fn memory(source: &'static str) -> Fault {
@@ -72,6 +83,25 @@ impl Fault {
             kind,
             fields: NONE,
         }
+    }
+
+    fn of_profile(kind: &'static str, fields: [Option<Field>; 3]) -> Fault {
+        Fault {
+            status: Status::Refused,
+            source: "profile",
+            kind,
+            fields,
+        }
+    }
+
+    /// Two entries of a profile conflict on a call.
+    fn conflict(number: u32, first: u32, second: u32) -> Fault {
+        let fields = [
+            named("number", number as usize),
+            named("first", first as usize),
+            named("second", second as usize),
+        ];
+        Fault::of_profile("Conflict", fields)
     }
 
     /// The parts of a bundle aren't those that a command takes.
@@ -162,6 +192,79 @@ impl From<TextFault> for Fault {
             source: "text",
             kind,
             fields: one("line", line),
+        }
+    }
+}
+
+impl From<TableFault> for Fault {
+    fn from(fault: TableFault) -> Fault {
+        let (kind, line) = match fault {
+            TableFault::Form { line } => ("Form", line),
+            TableFault::Name { line } => ("Name", line),
+            TableFault::Number { line } => ("Number", line),
+            TableFault::Repeated { line } => ("Repeated", line),
+            TableFault::Memory => return Fault::memory("table"),
+        };
+        Fault {
+            status: Status::Refused,
+            source: "table",
+            kind,
+            fields: one("line", line),
+        }
+    }
+}
+
+impl From<LoadFault> for Fault {
+    fn from(fault: LoadFault) -> Fault {
+        let (kind, entry) = match fault {
+            LoadFault::Json => ("Json", None),
+            LoadFault::Missing { entry } => ("Missing", entry),
+            LoadFault::Kind { entry } => ("Kind", entry),
+            LoadFault::Action { entry } => ("Action", entry),
+            LoadFault::Operator { entry } => ("Operator", entry),
+            LoadFault::EmptyNames { entry } => ("EmptyNames", entry),
+            LoadFault::Index { entry } => ("Index", entry),
+            LoadFault::RepeatedIndex { entry } => ("RepeatedIndex", entry),
+            LoadFault::Errno { entry } => ("Errno", entry),
+            LoadFault::ErrnoRange { entry } => ("ErrnoRange", entry),
+            LoadFault::NoX8664 { entry } => ("NoX8664", entry),
+            LoadFault::EngineForm { entry } => ("EngineForm", entry),
+            LoadFault::TooMany => ("TooMany", None),
+            LoadFault::Conflict {
+                number,
+                first,
+                second,
+            } => return Fault::conflict(number, first, second),
+            LoadFault::Memory => return Fault::memory("profile"),
+        };
+        Fault::of_profile(kind, in_entry(entry))
+    }
+}
+
+impl From<CompileFault> for Fault {
+    fn from(fault: CompileFault) -> Fault {
+        match fault {
+            CompileFault::TooLarge => Fault {
+                status: Status::Refused,
+                source: "compile",
+                kind: "TooLarge",
+                fields: NONE,
+            },
+            CompileFault::Memory => Fault::memory("compile"),
+        }
+    }
+}
+
+impl From<VerifyFault> for Fault {
+    fn from(fault: VerifyFault) -> Fault {
+        match fault {
+            VerifyFault::FilterRead(fault) => Fault::from(fault),
+            VerifyFault::Check(fault) => Fault::from(fault),
+            VerifyFault::TableRead(fault) => Fault::of_input("table", fault),
+            VerifyFault::Table(fault) => Fault::from(fault),
+            VerifyFault::ProfileRead(fault) => Fault::of_input("profile", fault),
+            VerifyFault::Profile(fault) => Fault::from(fault),
+            VerifyFault::Memory => Fault::memory("compare"),
         }
     }
 }

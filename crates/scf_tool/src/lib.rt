@@ -5,13 +5,21 @@ mod bundle;
 mod command_line;
 mod commands;
 mod fault;
+mod gathered;
 mod lines;
 mod options;
 mod pieces;
 mod reply;
+mod reporting;
 mod status;
+mod verification;
 
 pub use bundle::{BundleFault, Part, PartKind, split};
 pub use command_line::refuse_words;
 pub use commands::run_command;
 pub use options::{NumberFault, record_of};
+pub use reporting::report;
+pub use verification::{Outcome, VerifyFault, verify};
+
+#[cfg(test)]
+mod comparison_tests;

@@ -10,9 +10,8 @@ use crate::fault::{Fault, write_fault};
 use crate::lines::{write_answer, write_steps};
 use crate::pieces::{Piece, write_pieces};
 use crate::status::Status;
-use scf_insn::{Answer, Insn, Sink, WriteFault, write_program, write_whole};
+use scf_insn::{Answer, Sink, WriteFault, write_whole};
 use scf_machine::Ran;
-use scf_text::disassemble;
 
 /// What a command found, ready to be printed: printing it takes no memory.
 #[derive(Debug, Drop)]
@@ -25,26 +24,29 @@ pub(crate) enum Reply {
     Ran(Ran),
     /// A stack of filters was asked.
     Decided(Answer),
-    /// Instructions, to be written as text.
-    Listing(Vec<Insn>),
-    /// Instructions, to be written as they are.
-    Filter(Vec<Insn>),
+    /// These bytes.
+    Bytes { bytes: Vec<u8>, status: Status },
     /// The command ended early.
     Fault(Fault),
 }
 
 impl Reply {
+    /// These bytes, where all is well.
+    pub(crate) fn well(bytes: Vec<u8>) -> Reply {
+        Reply::Bytes {
+            bytes,
+            status: Status::Well,
+        }
+    }
+
     /// The exit status that goes with it.
     pub(crate) fn status(&self) -> Status
         ensures { result ≡ status_of self.now }
     {
         match self {
             Reply::CommandLine { status, .. } => *status,
-            Reply::Accepted(_)
-            | Reply::Ran(_)
-            | Reply::Decided(_)
-            | Reply::Listing(_)
-            | Reply::Filter(_) => Status::Well,
+            Reply::Accepted(_) | Reply::Ran(_) | Reply::Decided(_) => Status::Well,
+            Reply::Bytes { status, .. } => *status,
             Reply::Fault(fault) => fault.status,
         }
     }
@@ -86,8 +88,7 @@ pub(crate) fn write_reply<S: Sink>(sink: &mut S, reply: &Reply) -> Result<(), Wr
         Reply::Accepted(count) => write_accepted(sink, *count),
         Reply::Ran(ran) => write_ran(sink, *ran),
         Reply::Decided(answer) => write_decided(sink, *answer),
-        Reply::Listing(insns) => disassemble(insns, sink),
-        Reply::Filter(insns) => write_program(insns, sink),
+        Reply::Bytes { bytes, .. } => write_whole(sink, bytes),
         Reply::Fault(fault) => write_fault(sink, *fault),
     }
 }

@@ -1,0 +1,17 @@
+//! Tests of the program as a whole: its words, its input, its output and its exit status.
+#![tactic(auto)]
+
+#[cfg(test)]
+mod bundles;
+#[cfg(test)]
+mod command_line;
+#[cfg(test)]
+mod faults;
+#[cfg(test)]
+mod filters;
+#[cfg(test)]
+mod profiles;
+#[cfg(test)]
+mod streams;
+#[cfg(test)]
+mod texts;

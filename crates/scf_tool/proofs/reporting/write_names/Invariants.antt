@@ -1,0 +1,9 @@
+use Rattle.std.proofs.Common.{take, String, string_bytes}
+use Rattle.std.specs.declared.alloc.Global.{Global}
+use Rattle.std.specs.List.{flat_map}
+use Rattle.scf_insn.specs.Streams.{TakesAll}
+use Rattle.scf_tool.specs.Reports.{name_line}
+use Rattle.scf_tool.proofs.reporting.write_names.Given as goal
+
+abbrev pub invariant-loop-name : goal.invariant-loop-name
+invariant-loop-name g l = TakesAll (g.S.Sink.contents l.fn.sink) (flat_map (λ name. name_line l.word (string_bytes name)) (take l.name-index l.names)) (g.S.Sink.contents l.sink) (g.S.Sink.failures l.fn.sink) (g.S.Sink.failures l.sink)

@@ -1,0 +1,25 @@
+use Rattle.std.proofs.Common.{◌≡◌, ◌≤◌, ℕ, List, length, Option, Some, None, subst, sym}
+use Rattle.std.specs.Prelude.{IfSome}
+use Rattle.std.proofs.lemmas.Result.{err_from_is_err_and}
+use Rattle.scf_profile.specs.declared.load_fault.LoadFault.{LoadFault}
+use Rattle.scf_profile.specs.Loading.{Refuses}
+use Rattle.scf_profile.specs.Table.{Names}
+use Rattle.scf_tool.specs.Verifying.{IsShort}
+use Rattle.scf_tool.proofs.verification.read_profile.Goals as goal
+
+refused_text : (bytes : Option (List ℕ)) (text : List ℕ) (names : Names) (fault : LoadFault) → IfSome bytes (λ told. (told ≡ text) × (length told ≤ 4194304)) → Refuses text names fault → IfSome bytes (λ told. IsShort told × Refuses told names fault)
+refused_text None text names fault h refused = tt
+refused_text (Some told) text names fault h refused = (h.1, subst (λ (t : List ℕ). Refuses t names fault) (sym h.0) refused)
+
+pub returns-in_err-load-in-Ok-clause-refused : goal.returns-in_err-load-in-Ok-clause-refused
+returns-in_err-load-in-Ok-clause-refused g c = λ filter table has_filter is_table.
+    let p = err_from_is_err_and c.from_residual.result c.from_residual.ensures.1 in
+    let refused = subst (λ (t : List ℕ). Refuses t c.args.names.now c.in_err-load-in-Ok.field-0.0) c.deref.ensures.value c.in_err-load-in-Ok.ensures.err in
+    rw (p.1, p.2) (
+      has_filter,
+      record {
+        names = c.args.names.now;
+        is_table = is_table;
+        refused = refused_text (g.R.Source.remaining c.args.reader.now) c.in-Ok.text.items c.args.names.now c.in_err-load-in-Ok.field-0.0 c.in-Ok.ensures.input refused;
+      },
+    )

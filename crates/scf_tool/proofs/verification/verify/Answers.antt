@@ -1,0 +1,37 @@
+use Rattle.std.proofs.Common.{refl}
+use Rattle.std.proofs.lemmas.Result.{err_from_is_err_and}
+use Rattle.scf_tool.proofs.verification.verify.Goals as goal
+
+pub returns-in_err-program-clause-answer : goal.returns-in_err-program-clause-answer
+returns-in_err-program-clause-answer g c =
+    let p = err_from_is_err_and c.from_residual.result c.from_residual.ensures.1 in
+    rw (p.1, p.2) (c.in_err-program.ensures.refused (g.T.Source.remaining c.args.table_reader.now) (g.P.Source.remaining c.args.profile_reader.now))
+
+pub returns-in_err-names-clause-answer : goal.returns-in_err-names-clause-answer
+returns-in_err-names-clause-answer g c =
+    let p = err_from_is_err_and c.from_residual-in_err-names.result c.from_residual-in_err-names.ensures.1 in
+    rw (p.1, p.2) (c.in_err-names.ensures.refused (g.F.Source.remaining c.args.filter_reader.now) (g.P.Source.remaining c.args.profile_reader.now) (c.in_ok-program.program, c.in_ok-program.ensures.filter))
+
+pub returns-in_err-loaded-clause-answer : goal.returns-in_err-loaded-clause-answer
+returns-in_err-loaded-clause-answer g c =
+    let p = err_from_is_err_and c.from_residual-in_err-loaded.result c.from_residual-in_err-loaded.ensures.1 in
+    rw (p.1, p.2) (c.in_err-loaded.ensures.refused (g.F.Source.remaining c.args.filter_reader.now) (g.T.Source.remaining c.args.table_reader.now) (c.in_ok-program.program, c.in_ok-program.ensures.filter) c.in_ok-names.ensures.table)
+
+pub returns-in_err-verdict-clause-answer : goal.returns-in_err-verdict-clause-answer
+returns-in_err-verdict-clause-answer g c =
+    let p = err_from_is_err_and c.from_residual-in_err-verdict.result c.from_residual-in_err-verdict.ensures.1 in
+    rw (p.1, p.2) ((c.in_ok-program.program, c.in_ok-program.ensures.filter), (c.in_ok-names.names, c.in_ok-names.ensures.table, c.in_ok-loaded.loaded, c.in_ok-loaded.ensures.loaded))
+
+pub returns-clause-answer : goal.returns-clause-answer
+returns-clause-answer g c = record {
+  insns = c.in_ok-program.program;
+  names = c.in_ok-names.names;
+  loaded = c.in_ok-loaded.loaded;
+  is_filter = c.in_ok-program.ensures.filter;
+  is_table = c.in_ok-names.ensures.table;
+  is_loaded = c.in_ok-loaded.ensures.loaded;
+  skipped = refl;
+  other_architectures = refl;
+  holds = c.in_ok-verdict.ensures.holds;
+  within = c.in_ok-verdict.ensures.within;
+}

@@ -1,0 +1,45 @@
+-- What the program prints of a comparison.
+use Rattle.std.specs.Prelude.{ℕ, List, ◌++◌, codes}
+use Rattle.std.specs.List.{flat_map}
+use Rattle.std.specs.Fmt.{decimal}
+use Rattle.scf_insn.specs.declared.record.CallRecord.{CallRecord}
+use Rattle.scf_compare.specs.declared.verdict.Verdict.{Verdict}
+use Rattle.scf_compare.specs.declared.verdict.Verdict.TheVariants.{Same, Differs, Undecided, Unfinished}
+use Rattle.scf_tool.specs.declared.verification.Outcome.{Outcome}
+use Rattle.scf_tool.specs.Lines.{answer_text}
+use Rattle.scf_tool.specs.Pieces.{hexadecimal}
+
+-- 0x and lower-case hexadecimal digits without leading zeros
+abbrev pub prefixed : ℕ → List ℕ
+prefixed n = codes "0x" ++ hexadecimal n
+
+abbrev pub argument_text : ℕ → List ℕ
+argument_text argument = codes " " ++ prefixed argument
+
+-- the line of a call record
+abbrev pub call_line : CallRecord → List ℕ
+call_line call =
+    (codes "call nr " ++ decimal call.nr ++ codes " arch " ++ prefixed call.arch ++ codes " ip " ++ prefixed call.ip ++ codes " args")
+    ++ (flat_map argument_text call.args ++ codes "\n")
+
+-- who answers, and the answer
+abbrev pub answer_line : List ℕ → ℕ → List ℕ
+answer_line who answer = (who ++ codes " ") ++ (answer_text answer ++ codes "\n")
+
+-- the lines of a verdict
+abbrev pub verdict_text : Verdict → List ℕ
+verdict_text (Same steps) = codes "same\n"
+verdict_text (Differs call filter profile) = codes "differs\n" ++ (call_line call ++ (answer_line (codes "filter") filter.0 ++ answer_line (codes "profile") profile.0))
+verdict_text (Undecided at) = codes "undecided at " ++ decimal at ++ codes "\n"
+verdict_text Unfinished = codes "unfinished\n"
+
+-- a word and a name
+abbrev pub name_line : List ℕ → List ℕ → List ℕ
+name_line word name = word ++ codes " " ++ name ++ codes "\n"
+
+-- The lines of an outcome: those of the verdict, one for each skipped name, and one for each other architecture.
+abbrev pub report_text : Outcome → List ℕ
+report_text outcome =
+    verdict_text outcome.verdict
+    ++ (flat_map (name_line (codes "skipped")) outcome.skipped
+    ++ flat_map (name_line (codes "other")) outcome.other_architectures)

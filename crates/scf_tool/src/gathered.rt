@@ -1,0 +1,51 @@
+//! Bytes that are gathered in memory.
+
+ghost use Rattle.std.specs.Prelude.{◌≡◌, []};
+ghost use Rattle.scf_tool.specs.Gathering.{gathered};
+
+use scf_insn::{Failed, Sink};
+use std::alloc::Global;
+
+/// A writer that keeps what it takes. A write fails where memory is refused.
+#[derive(Drop)]
+pub(crate) struct Gathered {
+    bytes: Vec<u8>,
+    failures: u64,
+}
+
+impl Gathered {
+    /// Nothing was taken so far.
+    pub(crate) fn new(alloc: Global) -> Gathered
+        ensures { gathered result ≡ [] }
+    {
+        Gathered {
+            bytes: Vec::new(alloc),
+            failures: 0,
+        }
+    }
+
+    /// What was taken.
+    pub(crate) fn into_bytes(self) -> Vec<u8>
+        ensures { result.items ≡ gathered self }
+    {
+        self.bytes
+    }
+}
+
+impl Sink for Gathered {
+    ghost use Rattle.std.specs.Prelude.{Some};
+
+    ghost contents = { λ s. Some (gathered s) };
+
+    ghost failures = { λ s. s.failures };
+
+    fn write(&mut self, bytes: &[u8]) -> Result<usize, Failed> {
+        match self.bytes.extend_from_slice(bytes) {
+            Ok(()) => Ok(bytes.len()),
+            Err(_) => {
+                self.failures = self.failures.saturating_add(1);
+                Err(Failed)
+            }
+        }
+    }
+}

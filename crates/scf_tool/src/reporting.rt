@@ -1,0 +1,172 @@
+//! What the program prints of a comparison.
+
+ghost use Rattle.std.specs.Prelude.{◌≡◌, ◌++◌, codes, string_bytes, IfOk};
+ghost use Rattle.std.specs.Fmt.{decimal};
+ghost use Rattle.std.specs.List.{flat_map};
+ghost use Rattle.scf_insn.specs.Streams.{Writes};
+ghost use Rattle.scf_tool.specs.Reports.{
+  answer_line,
+  argument_text,
+  call_line,
+  name_line,
+  prefixed,
+  report_text,
+  verdict_text,
+};
+
+use crate::gathered::Gathered;
+use crate::lines::write_answer;
+use crate::pieces::{Piece, write_pieces};
+use crate::verification::Outcome;
+use scf_compare::Verdict;
+use scf_insn::{Answer, CallRecord, Memory, Sink, WriteFault, write_whole};
+use scf_profile::Texts;
+use std::alloc::Global;
+
+/// Writes the number, the architecture and the instruction pointer of a call.
+fn write_call_front<S: Sink>(sink: &mut S, call: &CallRecord) -> Result<(), WriteFault>
+    ensures { Writes S.contents S.failures sink.old (codes "call nr " ++ decimal call.now.nr ++ codes " arch " ++ prefixed call.now.arch ++ codes " ip " ++ prefixed call.now.ip ++ codes " args") result sink.new }
+{
+    write_pieces(
+        sink,
+        &[
+            Piece::Text("call nr "),
+            Piece::Decimal(u64::from(call.nr)),
+            Piece::Text(" arch 0x"),
+            Piece::Hexadecimal(u64::from(call.arch)),
+            Piece::Text(" ip 0x"),
+            Piece::Hexadecimal(call.ip),
+            Piece::Text(" args"),
+        ],
+    )
+}
+
+fn write_argument<S: Sink>(sink: &mut S, argument: u64) -> Result<(), WriteFault>
+    ensures { Writes S.contents S.failures sink.old (argument_text argument) result sink.new }
+{
+    write_pieces(sink, &[Piece::Text(" 0x"), Piece::Hexadecimal(argument)])
+}
+
+fn write_arguments<S: Sink>(sink: &mut S, arguments: &[u64]) -> Result<(), WriteFault>
+    ensures { Writes S.contents S.failures sink.old (flat_map argument_text arguments.now) result sink.new }
+{
+    for argument in arguments {
+        write_argument(sink, *argument)?;
+    }
+    Ok(())
+}
+
+fn write_call<S: Sink>(sink: &mut S, call: &CallRecord) -> Result<(), WriteFault>
+    ensures { Writes S.contents S.failures sink.old (call_line call.now) result sink.new }
+{
+    write_call_front(sink, call)?;
+    write_arguments(sink, &call.args)?;
+    write_whole(sink, b"\n")
+}
+
+fn write_who<S: Sink>(sink: &mut S, who: &str) -> Result<(), WriteFault>
+    ensures { Writes S.contents S.failures sink.old (who.now ++ codes " ") result sink.new }
+{
+    write_pieces(sink, &[Piece::Text(who), Piece::Text(" ")])
+}
+
+fn write_answer_line<S: Sink>(sink: &mut S, who: &str, answer: Answer) -> Result<(), WriteFault>
+    ensures { Writes S.contents S.failures sink.old (answer_line who.now answer.0) result sink.new }
+{
+    write_who(sink, who)?;
+    write_answer(sink, answer)?;
+    write_whole(sink, b"\n")
+}
+
+/// Writes a call and its two answers.
+fn write_difference<S: Sink>(
+    sink: &mut S,
+    call: &CallRecord,
+    filter: Answer,
+    profile: Answer,
+) -> Result<(), WriteFault>
+    ensures { Writes S.contents S.failures sink.old (codes "differs\n" ++ (call_line call.now ++ (answer_line (codes "filter") filter.0 ++ answer_line (codes "profile") profile.0))) result sink.new }
+{
+    write_whole(sink, b"differs\n")?;
+    write_call(sink, call)?;
+    write_answer_line(sink, "filter", filter)?;
+    write_answer_line(sink, "profile", profile)
+}
+
+fn write_undecided<S: Sink>(sink: &mut S, at: usize) -> Result<(), WriteFault>
+    ensures { Writes S.contents S.failures sink.old (codes "undecided at " ++ decimal at ++ codes "\n") result sink.new }
+{
+    write_pieces(
+        sink,
+        &[
+            Piece::Text("undecided at "),
+            Piece::Decimal(at as u64),
+            Piece::Text("\n"),
+        ],
+    )
+}
+
+fn write_verdict<S: Sink>(sink: &mut S, verdict: &Verdict) -> Result<(), WriteFault>
+    ensures { Writes S.contents S.failures sink.old (verdict_text verdict.now) result sink.new }
+{
+    match verdict {
+        Verdict::Same { .. } => write_whole(sink, b"same\n"),
+        Verdict::Differs {
+            call,
+            filter,
+            profile,
+        } => write_difference(sink, call, *filter, *profile),
+        Verdict::Undecided { at } => write_undecided(sink, *at),
+        Verdict::Unfinished => write_whole(sink, b"unfinished\n"),
+    }
+}
+
+fn write_name<'a, S: Sink>(sink: &mut S, word: &'a str, name: &'a String) -> Result<(), WriteFault>
+    ensures { Writes S.contents S.failures sink.old (name_line word.now (string_bytes name.now)) result sink.new }
+{
+    write_pieces(
+        sink,
+        &[
+            Piece::Text(word),
+            Piece::Text(" "),
+            Piece::Text(name.as_str()),
+            Piece::Text("\n"),
+        ],
+    )
+}
+
+/// Writes a line for each name, behind a word.
+fn write_names<S: Sink>(sink: &mut S, word: &str, names: &[String]) -> Result<(), WriteFault>
+    ensures { Writes S.contents S.failures sink.old (flat_map (λ name. name_line word.now (string_bytes name)) names.now) result sink.new }
+{
+    for name in names {
+        write_name(sink, word, name)?;
+    }
+    Ok(())
+}
+
+fn write_texts<S: Sink>(sink: &mut S, word: &str, names: &Texts) -> Result<(), WriteFault>
+    ensures { Writes S.contents S.failures sink.old (flat_map (name_line word.now) names.now) result sink.new }
+{
+    write_names(sink, word, names.as_slice())
+}
+
+fn write_outcome<S: Sink>(sink: &mut S, outcome: &Outcome) -> Result<(), WriteFault>
+    ensures { Writes S.contents S.failures sink.old (report_text outcome.now) result sink.new }
+{
+    write_verdict(sink, &outcome.verdict)?;
+    write_texts(sink, "skipped", &outcome.skipped)?;
+    write_texts(sink, "other", &outcome.other_architectures)
+}
+
+/// What the program prints of an outcome: the verdict, then a line for each skipped name and one for each other
+/// architecture, in their order.
+pub fn report(alloc: Global, outcome: &Outcome) -> Result<Vec<u8>, Memory>
+    ensures { IfOk result (λ text. text.items ≡ report_text outcome.now) }
+{
+    let mut text = Gathered::new(alloc);
+    match write_outcome(&mut text, outcome) {
+        Ok(()) => Ok(text.into_bytes()),
+        Err(_) => Err(Memory),
+    }
+}

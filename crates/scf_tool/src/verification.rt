@@ -1,0 +1,187 @@
+//! The comparison of a filter with a profile, from their bytes.
+
+ghost use Rattle.std.specs.Prelude.{ℕ, List, Option, IfOk, IfErr};
+ghost use Rattle.std.specs.List.{AllByRecursion};
+ghost use Rattle.scf_insn.specs.Insn.{IsInsn};
+ghost use Rattle.scf_tool.specs.Verifying.{
+  HasFilter,
+  IsFilter,
+  IsLoaded,
+  IsOfFilter,
+  IsOfProfile,
+  IsOfTable,
+  IsRefused,
+  IsTable,
+  LeavesFilterReader,
+  LeavesProfileReader,
+  LeavesTableReader,
+  Verifies,
+};
+
+use scf_compare::{Verdict, compare};
+use scf_facts::AtomList;
+use scf_insn::{InputFault, Insn, Memory, ReadFault, Source, read_input, read_program};
+use scf_machine::{CheckFault, Program, check};
+use scf_profile::{CallTable, LoadFault, Loaded, TableFault, Texts, load};
+use std::alloc::Global;
+use thiserror::Error;
+
+/// What a comparison comes to, and what the profile's text states beside the profile.
+#[derive(Debug, Drop)]
+pub struct Outcome {
+    pub verdict: Verdict,
+    /// The names that the call table lacks, each occurrence, in the order of the text.
+    pub skipped: Texts,
+    /// The architectures beside SCMP_ARCH_X86_64, each occurrence, in the order of the text.
+    pub other_architectures: Texts,
+}
+
+/// Why a filter and a profile weren't compared.
+#[derive(Clone, Copy, Debug, PartialEq, Eq, Error)]
+pub enum VerifyFault {
+    #[error("filter: {0}")]
+    FilterRead(ReadFault),
+    #[error("filter: {0}")]
+    Check(CheckFault),
+    #[error("table: {0}")]
+    TableRead(InputFault),
+    #[error("table: {0}")]
+    Table(TableFault),
+    #[error("profile: {0}")]
+    ProfileRead(InputFault),
+    #[error("profile: {0}")]
+    Profile(LoadFault),
+    #[error("out of memory")]
+    Memory,
+}
+
+impl From<ReadFault> for VerifyFault {
+    ghost use Rattle.std.specs.Prelude.{◌≡◌};
+    ghost use Rattle.scf_tool.specs.declared.verification.VerifyFault.TheVariants.{FilterRead};
+
+    ghost from_gives = { λ fault e. e ≡ FilterRead fault };
+
+    fn from(fault: ReadFault) -> VerifyFault {
+        VerifyFault::FilterRead(fault)
+    }
+}
+
+impl From<TableFault> for VerifyFault {
+    ghost use Rattle.std.specs.Prelude.{◌≡◌};
+    ghost use Rattle.scf_tool.specs.declared.verification.VerifyFault.TheVariants.{Table};
+
+    ghost from_gives = { λ fault e. e ≡ Table fault };
+
+    fn from(fault: TableFault) -> VerifyFault {
+        VerifyFault::Table(fault)
+    }
+}
+
+impl From<LoadFault> for VerifyFault {
+    ghost use Rattle.std.specs.Prelude.{◌≡◌};
+    ghost use Rattle.scf_tool.specs.declared.verification.VerifyFault.TheVariants.{Profile};
+
+    ghost from_gives = { λ fault e. e ≡ Profile fault };
+
+    fn from(fault: LoadFault) -> VerifyFault {
+        VerifyFault::Profile(fault)
+    }
+}
+
+impl From<Memory> for VerifyFault {
+    ghost use Rattle.std.specs.Prelude.{◌≡◌};
+    ghost use Rattle.scf_tool.specs.declared.verification.VerifyFault.TheVariants as faults;
+
+    ghost from_gives = { λ _ e. e ≡ faults.Memory };
+
+    fn from(_refused: Memory) -> VerifyFault {
+        VerifyFault::Memory
+    }
+}
+
+/// The most bytes of a call table or a profile.
+const MAX_TEXT_LEN: usize = 4_194_304;
+
+/// The fields of each instruction are within their widths.
+fn note_widths(insns: &[Insn])
+    ensures { AllByRecursion IsInsn insns.now }
+{
+    for insn in insns {
+        insn.within_widths();
+    }
+}
+
+/// The filter that a reader has.
+fn read_filter<R: Source>(alloc: Global, reader: &mut R) -> Result<Program, VerifyFault>
+    ensures filter { IfOk result (IsFilter (R.remaining reader.old)) }
+    ensures refused { (table profile : Option (List ℕ)) → IfErr result (IsRefused (R.remaining reader.old) table profile) }
+    ensures own { IfErr result IsOfFilter }
+    ensures reader { LeavesFilterReader R.remaining R.failures reader.old result reader.new }
+{
+    let insns = read_program(alloc, reader)?;
+    note_widths(&insns);
+    match check(alloc, insns) {
+        Ok(program) => Ok(program),
+        Err((fault, _)) => Err(VerifyFault::Check(fault)),
+    }
+}
+
+/// The call table that a reader has.
+fn read_table<R: Source>(alloc: Global, reader: &mut R) -> Result<CallTable, VerifyFault>
+    ensures table { IfOk result (IsTable (R.remaining reader.old)) }
+    ensures refused { (filter profile : Option (List ℕ)) → HasFilter filter → IfErr result (IsRefused filter (R.remaining reader.old) profile) }
+    ensures own { IfErr result IsOfTable }
+    ensures reader { LeavesTableReader R.remaining R.failures reader.old result reader.new }
+{
+    match read_input(alloc, reader, MAX_TEXT_LEN) {
+        Ok(text) => Ok(CallTable::read(alloc, &text)?),
+        Err(fault) => Err(VerifyFault::TableRead(fault)),
+    }
+}
+
+/// What the text that a reader has states with a call table.
+fn read_profile<R: Source>(
+    alloc: Global,
+    reader: &mut R,
+    names: &CallTable,
+) -> Result<Loaded, VerifyFault>
+    ensures loaded { IfOk result (IsLoaded (R.remaining reader.old) names.now) }
+    ensures refused { (filter table : Option (List ℕ)) → HasFilter filter → IsTable table names.now → IfErr result (IsRefused filter table (R.remaining reader.old)) }
+    ensures own { IfErr result IsOfProfile }
+    ensures reader { LeavesProfileReader R.remaining R.failures reader.old result reader.new }
+{
+    match read_input(alloc, reader, MAX_TEXT_LEN) {
+        Ok(text) => Ok(load(alloc, &text, names)?),
+        Err(fault) => Err(VerifyFault::ProfileRead(fault)),
+    }
+}
+
+/// Compares the filter with the profile that readers have, over every call record, in at most `limit` steps. The
+/// profile's names get their numbers from the call table.
+///
+/// The filter is read and checked, then the table is read, then the profile; the first fault is answered. Tables and
+/// profiles have at most 4194304 bytes each.
+///
+/// `Same` is true of every call record, and `Differs` shows one that is answered differently: see `compare`.
+pub fn verify<F: Source, P: Source, T: Source>(
+    alloc: Global,
+    filter_reader: &mut F,
+    profile_reader: &mut P,
+    table_reader: &mut T,
+    limit: u64,
+) -> Result<Outcome, VerifyFault>
+    ensures answer { Verifies (F.remaining filter_reader.old) (T.remaining table_reader.old) (P.remaining profile_reader.old) limit result }
+    ensures filter_reader { LeavesFilterReader F.remaining F.failures filter_reader.old result filter_reader.new }
+    ensures table_reader { LeavesTableReader T.remaining T.failures table_reader.old result table_reader.new }
+    ensures profile_reader { LeavesProfileReader P.remaining P.failures profile_reader.old result profile_reader.new }
+{
+    let program = read_filter(alloc, filter_reader)?;
+    let names = read_table(alloc, table_reader)?;
+    let loaded = read_profile(alloc, profile_reader, &names)?;
+    let verdict = compare::<AtomList>(alloc, &program, &loaded.profile, limit)?;
+    Ok(Outcome {
+        verdict,
+        skipped: loaded.skipped,
+        other_architectures: loaded.other_architectures,
+    })
+}
