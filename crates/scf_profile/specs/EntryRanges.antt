@@ -1,6 +1,8 @@
--- The ranges of what entries and rules hold.
-use Rattle.std.specs.Prelude.{◌≡◌, ◌<◌, ◌≤◌, ◌^◌, List, length, All, Contains}
+-- The ranges of what entries and rules hold, and how many rules there may be.
+use Rattle.std.specs.Prelude.{◌≡◌, ◌≢◌, ◌<◌, ◌≤◌, ◌^◌, List, length, All, Contains}
 use Rattle.scf_profile.specs.declared.entry.Entry.{Entry}
+use Rattle.scf_profile.specs.declared.load_fault.LoadFault.{LoadFault}
+use Rattle.scf_profile.specs.declared.load_fault.LoadFault.TheVariants as faults
 use Rattle.scf_profile.specs.declared.rule.Rule.{Rule}
 use Rattle.scf_profile.specs.Rule.{AreConditions, IsRule}
 
@@ -13,3 +15,7 @@ pub record AreStatedRules (rules : List Rule) : Type 0 where
   pub few : length rules ≤ 4096
   pub each : All IsRule rules
   pub one_answer : (r s : Rule) → Contains rules r → Contains rules s → r.entry ≡ s.entry → r.answer ≡ s.answer
+
+-- a fault other than want of memory tells that the rules are too many, and they are
+abbrev pub TellsTooMany : List Rule → LoadFault → Type 0
+TellsTooMany rules fault = fault ≢ faults.Memory → (fault ≡ faults.TooMany) × (4096 < length rules)

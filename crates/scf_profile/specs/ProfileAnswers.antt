@@ -9,5 +9,7 @@ use Rattle.scf_profile.specs.Policy.{Policy, IsNative}
 -- where it meets none. The order of the rules plays no part.
 pub data ProfileAnswers (p : Policy) (call : CallRecord) : ℕ → Type 0 where
   foreign : (IsNative call → ⊥) → ProfileAnswers p call 0x80000000
-  by_rule : (r : Rule) → IsNative call → Contains p.rules r → meets r call ≡ true → ProfileAnswers p call r.answer.0
-  by_default : IsNative call → ((r : Rule) → Contains p.rules r → meets r call ≡ false) → ProfileAnswers p call p.default_answer.0
+  by_rule : (r : Rule) → IsNative call → Contains p.rules r → meets r call ≡ true
+      → ProfileAnswers p call r.answer.0
+  by_default : IsNative call → ((r : Rule) → Contains p.rules r → meets r call ≡ false)
+      → ProfileAnswers p call p.default_answer.0

@@ -1,6 +1,8 @@
 -- What was read of a text, as it is loaded where no rules conflict.
+use Rattle.std.specs.Prelude.{◌≡◌}
 use Rattle.scf_profile.specs.declared.profile_text.Stated.{Stated}
 use Rattle.scf_profile.specs.declared.loaded.Loaded.{Loaded}
+use Rattle.scf_profile.specs.Policy.{HaveNoConflict}
 
 abbrev pub loaded_of : Stated → Loaded
 loaded_of s = record {
@@ -8,3 +10,7 @@ loaded_of s = record {
   skipped = s.skipped;
   other_architectures = s.other_architectures;
 }
+
+-- just this is loaded, and no two of its rules conflict
+abbrev pub IsLoaded : Stated → Loaded → Type 0
+IsLoaded s loaded = (loaded ≡ loaded_of s) × HaveNoConflict s.rules.items

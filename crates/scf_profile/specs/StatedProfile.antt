@@ -1,6 +1,6 @@
--- What a JSON value and a call table state as a profile (OCI runtime specification, config-linux.md, seccomp): the tests in
--- their order, each a function to what is stated or to its fault. A fault carries the place of the entry of `syscalls`
--- in which it stands, and none where it stands outside of them.
+-- What a JSON value and a call table state as a profile (OCI runtime specification, config-linux.md, seccomp): the
+-- tests in their order, each a function to what is stated or to its fault. A fault carries the place of the entry of
+-- `syscalls` in which it stands, and none where it stands outside of them.
 use Rattle.std.specs.Prelude.{ℕ, ◌+◌, Bool, true, false, not, ◌&&◌, ◌==◌, List, [], ◌∷◌, ◌++◌, codes, length, ℤ, pos, negsuc, Option, Some, None, Result, Ok, nat_lt, if◌then◌else◌, is_none, option_map, ⊤}
 use Rattle.std.specs.List.{list_any, filter, flat_map, filter_map}
 use Rattle.std.specs.Str.{bytes_eq}
@@ -77,7 +77,9 @@ answer_in entry action name d = do
 
 -- an empty object or an empty array
 abbrev pub is_empty : Data → Bool
-is_empty d = option_map_or (λ ds. not (has_items ds)) (as_array d) (option_map_or (λ ms. not (has_members ms)) (as_object d) false)
+is_empty d =
+    option_map_or (λ ds. not (has_items ds)) (as_array d)
+    (option_map_or (λ ms. not (has_members ms)) (as_object d) false)
 
 abbrev pub absent_or_empty : Option ℕ → Option Data → Result ⊤ LoadFault
 absent_or_empty entry None = Ok tt
@@ -87,10 +89,10 @@ absent_or_empty entry (Some d) = refused_if (not (is_empty d)) (faults.EngineFor
 unfoldable pub no_engine_form : Option ℕ → List ℕ → Data → Result ⊤ LoadFault
 no_engine_form entry name d = absent_or_empty entry (member name d)
 
--- the texts of an array
 abbrev pub text_of : Option ℕ → Data → Result (List ℕ) LoadFault
 text_of entry d = some_or (as_str d) (faults.Kind entry)
 
+-- the texts of an array
 abbrev pub texts_of : Option ℕ → Items → Result (List (List ℕ)) LoadFault
 texts_of entry items = each (λ before. text_of entry) [] items
 

@@ -34,13 +34,15 @@ begins_name byte = (nat_le 65 byte && nat_le byte 90) || (nat_le 97 byte && nat_
 abbrev pub is_in_name : ℕ → Bool
 is_in_name byte = begins_name byte || (nat_le 48 byte && nat_le byte 57)
 
+-- what begins a name, and then what may stand in one
 abbrev pub is_name : List ℕ → Bool
 is_name text = begins_name (slice_index text 0) && list_all is_in_name text
 
--- decimal digits of a number below 2^30
+-- a number below 2^30
 abbrev pub if_call_number : ℕ → Option ℕ
 if_call_number number = if nat_lt number (2 ^ 30) then Some number else None
 
+-- decimal digits of such a number
 abbrev pub call_number : List ℕ → Option ℕ
 call_number digits = option_and_then if_call_number (numeral 10 digits)
 
@@ -68,7 +70,9 @@ entry_in line (name ∷ others) = if begins_comment name then Ok None else two_f
 -- the names so far and one more, which has to be new
 abbrev pub with_entry : ℕ → Names → Option (List ℕ × ℕ) → Result Names TableFault
 with_entry line names None = Ok names
-with_entry line names (Some (name, number)) = if is_some (get names name) then Err (faults.Repeated line) else Ok (insert names name number)
+with_entry line names (Some (name, number)) =
+    if is_some (get names name) then Err (faults.Repeated line)
+    else Ok (insert names name number)
 
 -- the names so far and those of one more line
 unfoldable pub with_line : ℕ → Names → List ℕ → Result Names TableFault

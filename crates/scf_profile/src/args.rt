@@ -117,7 +117,8 @@ fn conditions_of(
     entry: Option<u32>,
     members: &[Value],
 ) -> Result<Vec<Condition>, LoadFault>
-    ensures value { Gives Memory (result_map (λ v. v.items) result) (each (condition_stated entry) [] (items_view members.now)) }
+    ensures value { Gives Memory (result_map (λ v. v.items) result)
+        (each (condition_stated entry) [] (items_view members.now)) }
     ensures range { IfOk result (λ v. AreConditions v.items) }
 {
     let mut conditions = Vec::new(alloc);

@@ -2,7 +2,6 @@
 
 ghost use Rattle.std.specs.Prelude.{◌≡◌, ◌↔◌, IsTrue, All, IfOk};
 ghost use Rattle.scf_insn.specs.SimpleMask.{IsSimpleMask};
-ghost use Rattle.scf_insn.specs.Words.{low, high};
 ghost use Rattle.scf_profile.specs.Condition.{holds};
 ghost use Rattle.scf_profile.specs.PlainProfile.{IsPlainCondition, HasSimpleMask};
 
@@ -22,7 +21,8 @@ pub enum Comparison {
     MaskedEqual,
 }
 
-/// A condition on the argument at `index`, which is from 0 to 5 in a loaded profile. Only `MaskedEqual` looks at `value_two`.
+/// A condition on the argument at `index`, which is from 0 to 5 in a loaded profile. Only `MaskedEqual` looks at
+/// `value_two`.
 #[derive(Clone, Copy, Debug, PartialEq, Eq)]
 pub struct Condition {
     pub index: u8,
@@ -38,8 +38,8 @@ const HALF_SIZE: u64 = 0x1_0000_0000;
 fn is_simple_mask(mask: u64) -> bool
     ensures { IsTrue result ↔ IsSimpleMask mask }
 {
-    for k in 0..32u32 {
-        if mask == 1 << k {
+    for bit in 0..32u32 {
+        if mask == 1 << bit {
             return true;
         }
     }

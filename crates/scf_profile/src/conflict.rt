@@ -70,7 +70,8 @@ fn clash_of(rule: &Rule, later: &Rule) -> Option<Clash>
 /// The least of a clash and those of the rules with a later one.
 fn least_with(rules: &[Rule], later: &Rule, known: Option<Clash>) -> Option<Clash>
     ensures one { IfSome result (λ c. (known ≡ Some c) ⊎ IsClashAmong rules.now later.now c) }
-    ensures bounds { (c : Clash) → All (λ rule. IsClash rule later.now c → IsBoundedBy result c) rules.now }
+    ensures bounds { (c : Clash)
+        → All (λ rule. IsClash rule later.now c → IsBoundedBy result c) rules.now }
     ensures keeps { (c : Clash) → IsBoundedBy known c → IsBoundedBy result c }
 {
     let mut least = known;
@@ -83,7 +84,8 @@ fn least_with(rules: &[Rule], later: &Rule, known: Option<Clash>) -> Option<Clas
 /// The least conflict among rules.
 pub(crate) fn least_conflict(rules: &[Rule]) -> Option<Clash>
     ensures least { IfSome result (λ c. IsLeastConflict rules.now c.number c.first c.second) }
-    ensures none { IfNone result ((first second number : ℕ) → EntriesConflict rules.now first second number → ⊥) }
+    ensures none { IfNone result
+        ((first second number : ℕ) → EntriesConflict rules.now first second number → ⊥) }
 {
     let mut least = None;
     for later in rules {

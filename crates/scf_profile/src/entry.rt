@@ -1,9 +1,9 @@
 //! Entries of `syscalls`.
 
-ghost use Rattle.std.specs.Prelude.{◌≡◌, [], IfOk};
-ghost use Rattle.serde_json.specs.View.{view, items_view};
+ghost use Rattle.std.specs.Prelude.{IfOk};
+ghost use Rattle.serde_json.specs.View.{view};
 ghost use Rattle.scf_profile.specs.declared.load_fault.LoadFault.TheVariants.{Memory};
-ghost use Rattle.scf_profile.specs.Steps.{Gives, result_map};
+ghost use Rattle.scf_profile.specs.Steps.{Gives};
 
 use crate::action::{find_action, find_answer};
 use crate::args::find_conditions;

@@ -1,8 +1,9 @@
 //! From the names of entries to the numbers that the call table has for them.
 
-ghost use Rattle.std.specs.Prelude.{◌≡◌, ◌≢◌, ◌<◌, ◌≤◌, ◌^◌, ◌++◌, ◌∷◌, [], length, vec_len, map, IfOk, IfErr, OnOk};
+ghost use Rattle.std.specs.Prelude.{◌≡◌, ◌<◌, ◌≤◌, ◌^◌, ◌++◌, ◌∷◌, [], length, vec_len, map, IfOk, IfErr, OnOk};
 ghost use Rattle.std.specs.List.{filter};
-ghost use Rattle.scf_profile.specs.declared.load_fault.LoadFault.TheVariants.{Memory, TooMany};
+ghost use Rattle.scf_profile.specs.declared.load_fault.LoadFault.TheVariants.{Memory};
+ghost use Rattle.scf_profile.specs.EntryRanges.{TellsTooMany};
 ghost use Rattle.scf_profile.specs.StatedProfile.{rules_named, rules_in, is_skipped, skipped_names, is_other_architecture};
 ghost use Rattle.scf_profile.specs.Steps.{Gives, result_map};
 
@@ -26,9 +27,11 @@ fn add_rule(
     name: &str,
 ) -> Result<(), LoadFault>
     requires { vec_len rules.old ≤ 4096 }
-    ensures ok { OnOk result (rules.new.items ≡ rules.old.items ++ rules_named table.now place entry.now (name.now ∷ [])) }
+    ensures ok { OnOk result (rules.new.items
+        ≡ rules.old.items ++ rules_named table.now place entry.now (name.now ∷ [])) }
     ensures few { OnOk result (vec_len rules.new ≤ 4096) }
-    ensures err { IfErr result (λ e. e ≢ Memory → (e ≡ TooMany) × (4096 < length (rules.old.items ++ rules_named table.now place entry.now (name.now ∷ [])))) }
+    ensures err { IfErr result (TellsTooMany
+        (rules.old.items ++ rules_named table.now place entry.now (name.now ∷ []))) }
 {
     let Some(number) = table.number_of(name) else {
         return Ok(());
@@ -55,9 +58,11 @@ fn add_rules(
     entry: &Entry,
 ) -> Result<(), LoadFault>
     requires { vec_len rules.old ≤ 4096 }
-    ensures ok { OnOk result (rules.new.items ≡ rules.old.items ++ rules_named table.now place entry.now entry.now.names) }
+    ensures ok { OnOk result (rules.new.items
+        ≡ rules.old.items ++ rules_named table.now place entry.now entry.now.names) }
     ensures few { OnOk result (vec_len rules.new ≤ 4096) }
-    ensures err { IfErr result (λ e. e ≢ Memory → (e ≡ TooMany) × (4096 < length (rules.old.items ++ rules_named table.now place entry.now entry.now.names))) }
+    ensures err { IfErr result (TellsTooMany
+        (rules.old.items ++ rules_named table.now place entry.now entry.now.names)) }
 {
     for name in entry.names.as_slice() {
         add_rule(rules, alloc, table, place, entry, name)?;
@@ -82,13 +87,15 @@ pub(crate) fn rules_of(
     Ok(rules)
 }
 
+/// Adds each occurrence of a name that the table lacks.
 fn add_skipped(
     skipped: &mut Texts,
     alloc: Global,
     table: &CallTable,
     names: &[&str],
 ) -> Result<(), AllocError>
-    ensures { OnOk result (skipped.new ≡ skipped.old ++ filter (is_skipped table.now) (map (λ s. s.now) names.now)) }
+    ensures { OnOk result (skipped.new
+        ≡ skipped.old ++ filter (is_skipped table.now) (map (λ s. s.now) names.now)) }
 {
     for name in names {
         skipped.push_if(alloc, table.number_of(name).is_none(), name)?;
@@ -116,7 +123,8 @@ pub(crate) fn other_architectures(
     alloc: Global,
     architectures: &[&str],
 ) -> Result<Texts, AllocError>
-    ensures { IfOk result (λ texts. texts ≡ filter is_other_architecture (map (λ s. s.now) architectures.now)) }
+    ensures { IfOk result (λ texts.
+        texts ≡ filter is_other_architecture (map (λ s. s.now) architectures.now)) }
 {
     let mut others = Texts::new(alloc);
     for name in architectures {

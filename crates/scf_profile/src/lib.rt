@@ -9,6 +9,7 @@ mod entry;
 mod expand;
 mod forms;
 mod json_members;
+mod laws;
 mod load_fault;
 mod loaded;
 mod object;
@@ -21,6 +22,7 @@ mod table_line;
 mod texts;
 
 pub use condition::{Comparison, Condition, Conditions};
+pub use laws::{one_answer, some_answer};
 pub use load_fault::LoadFault;
 pub use loaded::Loaded;
 pub use profile::Profile;

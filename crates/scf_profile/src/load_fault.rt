@@ -6,8 +6,8 @@ ghost use Rattle.scf_profile.specs.declared.load_fault.LoadFault.TheVariants.{Me
 use std::alloc::{AllocError, AllocFailed};
 use thiserror::Error;
 
-/// The fault of the first test that fails. `entry` is the place from 0 of the entry of `syscalls` in which it stands, None
-/// where it stands outside of them.
+/// The fault of the first test that fails. `entry` is the place from 0 of the entry of `syscalls` in which it stands,
+/// None where it stands outside of them.
 #[derive(Clone, Copy, Debug, PartialEq, Eq, Error)]
 pub enum LoadFault {
     /// The text is no UTF-8, or no JSON that is nested at most 127 deep.

@@ -88,7 +88,8 @@ pub(crate) fn find_architectures(
 /// What the entries of an array state, each with its place.
 fn entries_of<'v>(alloc: Global, items: &'v [Value]) -> Result<Vec<Entry<'v>>, LoadFault>
     requires { items_len (items_view items.now) < 2 ^ 32 }
-    ensures value { Gives Memory (result_map (λ v. v.items) result) (each next_entry [] (items_view items.now)) }
+    ensures value { Gives Memory (result_map (λ v. v.items) result)
+        (each next_entry [] (items_view items.now)) }
     ensures range { IfOk result (λ v. All IsEntry v.items) }
     ensures count { IfOk result (λ v. vec_len v < 2 ^ 32) }
 {

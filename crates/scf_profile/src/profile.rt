@@ -4,7 +4,6 @@ ghost use Rattle.std.specs.Prelude.{◌≡◌, ◌↔◌, IsTrue, All};
 ghost use Rattle.scf_profile.specs.Policy.{IsProfile, IsNative};
 ghost use Rattle.scf_profile.specs.PlainProfile.{IsPlainProfile, IsPlainRule};
 ghost use Rattle.scf_profile.specs.ProfileAnswers.{ProfileAnswers};
-ghost use Rattle.scf_insn.specs.Words.{IsRecord};
 
 use crate::rule::{Rule, is_met};
 use scf_insn::{Answer, CallRecord};
@@ -18,8 +17,8 @@ const FOREIGN_NUMBERS: u32 = 0x4000_0000;
 
 const KILL_PROCESS: Answer = Answer(0x8000_0000);
 
-/// What a profile states: a default answer, and rules in the order of the text. No two rules conflict; numbers are below
-/// 0x40000000, indices below 6 and none twice in a rule; there are at most 4096 rules.
+/// What a profile states: a default answer, and rules in the order of the text. No two rules conflict; numbers are
+/// below 0x40000000, indices below 6 and none twice in a rule; there are at most 4096 rules.
 #[derive(Debug, Drop)]
 pub struct Profile {
     default_answer: Answer,
@@ -33,11 +32,12 @@ impl Model for Profile {
 
     ghost view = { λ p. record { default_answer = p.default_answer; rules = p.rules.items } };
 
-    ghost invariant = { λ p. IsProfile (record { default_answer = p.default_answer; rules = p.rules.items }) };
+    ghost invariant = { λ p. IsProfile
+        (record { default_answer = p.default_answer; rules = p.rules.items }) };
 }
 
 impl Profile {
-    // Of rules that don't conflict.
+    /// The profile of a default answer, and of rules that don't conflict.
     pub(crate) fn new(default_answer: Answer, rules: Vec<Rule>) -> Profile
         requires { IsProfile (record { default_answer = default_answer; rules = rules.items }) }
         ensures { result ≡ record { default_answer = default_answer; rules = rules.items } }
@@ -70,8 +70,8 @@ impl Profile {
         are_plain(&self.rules)
     }
 
-    /// What the profile answers to a call: KILL_PROCESS where the call isn't one of x86-64, else the answer of any rule that
-    /// it meets, and the default answer where it meets none.
+    /// What the profile answers to a call: KILL_PROCESS where the call isn't one of x86-64, else the answer of any rule
+    /// that it meets, and the default answer where it meets none.
     pub fn answer(&self, call: &CallRecord) -> Answer
         ensures { ProfileAnswers self.now call.now result.0 }
     {
@@ -82,7 +82,7 @@ impl Profile {
     }
 }
 
-// Whether each rule is plain.
+/// Whether each rule is plain.
 fn are_plain(rules: &[Rule]) -> bool
     ensures { IsTrue result ↔ All IsPlainRule rules.now }
 {
@@ -94,11 +94,12 @@ fn are_plain(rules: &[Rule]) -> bool
     true
 }
 
-// The answer of a rule that a native call meets, or the default.
+/// The answer of a rule that a native call meets, and the default answer where it meets none.
 fn answer_of(default_answer: Answer, rules: &[Rule], call: &CallRecord) -> Answer
     requires native { IsNative call.now }
     requires profile { IsProfile (record { default_answer = default_answer; rules = rules.now }) }
-    ensures { ProfileAnswers (record { default_answer = default_answer; rules = rules.now }) call.now result.0 }
+    ensures { ProfileAnswers (record { default_answer = default_answer; rules = rules.now })
+        call.now result.0 }
 {
     for rule in rules {
         if is_met(rule, call) {

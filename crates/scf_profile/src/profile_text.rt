@@ -1,13 +1,12 @@
 //! From a text and a call table to a profile.
 
-ghost use Rattle.std.specs.Prelude.{◌≡◌, ◌<◌, ◌^◌, IfOk, IfErr};
+ghost use Rattle.std.specs.Prelude.{◌<◌, ◌^◌, IfOk, IfErr};
 ghost use Rattle.serde_json.specs.View.{view};
 ghost use Rattle.scf_profile.specs.declared.load_fault.LoadFault.TheVariants.{Memory};
 ghost use Rattle.scf_profile.specs.EntryRanges.{AreStatedRules};
 ghost use Rattle.scf_profile.specs.Loading.{IsText, Loads, Refuses, ParseRefuses, NamesLeastConflict};
-ghost use Rattle.scf_profile.specs.Policy.{HaveNoConflict};
 ghost use Rattle.scf_profile.specs.ShortArrays.{HasShortArrays};
-ghost use Rattle.scf_profile.specs.Stated.{loaded_of};
+ghost use Rattle.scf_profile.specs.Stated.{loaded_of, IsLoaded};
 ghost use Rattle.scf_profile.specs.StatedProfile.{object_states};
 ghost use Rattle.scf_profile.specs.Steps.{Gives, result_map};
 
@@ -39,13 +38,8 @@ fn parse(alloc: Global, text: &[u8]) -> Result<Value, LoadFault>
     }
     match Value::from_slice(alloc, text) {
         Ok(value) => Ok(value),
-        Err(e) => {
-            if e.is_memory() {
-                Err(LoadFault::Memory)
-            } else {
-                Err(LoadFault::Json)
-            }
-        }
+        Err(error) if error.is_memory() => Err(LoadFault::Memory),
+        Err(_) => Err(LoadFault::Json),
     }
 }
 
@@ -58,10 +52,12 @@ struct Stated {
     other_architectures: Texts,
 }
 
+/// What the seccomp object and a table state, or the first test that fails.
 #[tactic(auto, unfolding(crate::specs::StatedProfile::object_states))]
 fn read_object(alloc: Global, table: &CallTable, object: &Value) -> Result<Stated, LoadFault>
     requires { HasShortArrays 0xffff_ffff (view object.now) }
-    ensures value { Gives Memory (result_map loaded_of result) (object_states table.now (view object.now)) }
+    ensures value { Gives Memory (result_map loaded_of result)
+        (object_states table.now (view object.now)) }
     ensures range { IfOk result (λ s. AreStatedRules s.rules.items) }
     ensures default_range { IfOk result (λ s. s.default_answer.0 < 2 ^ 32) }
 {
@@ -86,7 +82,7 @@ fn read_object(alloc: Global, table: &CallTable, object: &Value) -> Result<State
 fn without_conflict(stated: Stated) -> Result<Loaded, LoadFault>
     requires rules { AreStatedRules stated.rules.items }
     requires default_answer { stated.default_answer.0 < 2 ^ 32 }
-    ensures ok { IfOk result (λ loaded. (loaded ≡ loaded_of stated) × HaveNoConflict stated.rules.items) }
+    ensures ok { IfOk result (IsLoaded stated) }
     ensures err { IfErr result (NamesLeastConflict stated.rules.items) }
 {
     match least_conflict(&stated.rules) {
@@ -103,7 +99,8 @@ fn without_conflict(stated: Stated) -> Result<Loaded, LoadFault>
     }
 }
 
-/// The profile that a text states, whose names get their numbers from a call table. The first test that fails is answered.
+/// The profile that a text states, whose names get their numbers from a call table. The first test that fails is
+/// answered.
 pub fn load(alloc: Global, text: &[u8], table: &CallTable) -> Result<Loaded, LoadFault>
     ensures ok { IfOk result (λ loaded. Loads text.now table.now loaded) }
     ensures err { IfErr result (λ fault. Refuses text.now table.now fault) }

@@ -35,8 +35,8 @@ impl Model for CallTable {
 }
 
 impl CallTable {
-    /// The table that a text states: on each line a name and a decimal number, divided by blanks; blank lines and those that
-    /// begin with `#` aside. The first fault of the first faulty line is answered.
+    /// The table that a text states: on each line a name and a decimal number, divided by blanks; blank lines and those
+    /// that begin with `#` aside. The first fault of the first faulty line is answered.
     pub fn read(alloc: Global, text: &[u8]) -> Result<CallTable, TableFault>
         ensures { Gives Memory result (table_of text.now) }
     {
@@ -62,14 +62,14 @@ impl CallTable {
         self.numbers.get(name).copied()
     }
 
-    // Its numbers are call numbers: a law for proofs, which does nothing.
+    /// Its numbers are call numbers: a law for proofs, which does nothing.
     pub(crate) fn within_range(&self)
         ensures { AreCallNumbers self.now }
     {
         let _numbers = &self.numbers;
     }
 
-    // Adds what a line states. An `Err` changes nothing.
+    /// Adds what a line states. An `Err` changes nothing.
     #[tactic(auto, unfolding(crate::specs::Table::with_line))]
     fn add_line(&mut self, alloc: Global, line: usize, text: &[u8]) -> Result<(), TableFault>
         ensures ok { OnOk result (with_line line self.old text.now ≡ Ok self.new) }

@@ -59,7 +59,8 @@ fn trimmed(text: &[u8]) -> &[u8]
 
 /// The first field, and the text behind it. The field is empty where there is none.
 fn first_field(text: &[u8]) -> (&[u8], &[u8])
-    ensures { fields text.now ≡ (if nat_lt 0 (length result.0.now) then result.0.now ∷ fields result.1.now else []) }
+    ensures { fields text.now
+        ≡ (if nat_lt 0 (length result.0.now) then result.0.now ∷ fields result.1.now else []) }
 {
     let rest = trimmed(text);
     for (i, byte) in rest.iter().enumerate() {
@@ -109,7 +110,8 @@ fn call_number(digits: &[u8]) -> Option<u32>
 /// The name and the number on a line, where it has them.
 #[tactic(auto, unfolding(crate::specs::Table::pair_of))]
 pub(crate) fn entry_on(line: usize, text: &[u8]) -> Result<Option<(&str, u32)>, TableFault>
-    ensures value { result_map (option_map (λ e. (e.0.now, e.1))) result ≡ entry_in line (fields text.now) }
+    ensures value { result_map (option_map (λ e. (e.0.now, e.1))) result
+        ≡ entry_in line (fields text.now) }
     ensures range { IfOk result (λ found. IfSome found (λ e. e.1 < 2 ^ 30)) }
 {
     let (name, rest) = first_field(text);

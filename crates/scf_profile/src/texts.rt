@@ -69,7 +69,7 @@ impl Texts {
 /// Texts that lie elsewhere, in an order.
 #[derive(Drop)]
 pub(crate) struct BorrowedTexts<'v> {
-    list: Vec<&'v str>,
+    texts: Vec<&'v str>,
 }
 
 impl<'v> Model for BorrowedTexts<'v> {
@@ -77,7 +77,7 @@ impl<'v> Model for BorrowedTexts<'v> {
 
     ghost Value = { List (List ℕ) };
 
-    ghost view = { λ t. map (λ s. s.now) t.list.items };
+    ghost view = { λ t. map (λ s. s.now) t.texts.items };
 }
 
 impl<'v> BorrowedTexts<'v> {
@@ -86,7 +86,7 @@ impl<'v> BorrowedTexts<'v> {
         ensures { result ≡ [] }
     {
         BorrowedTexts {
-            list: Vec::new(alloc),
+            texts: Vec::new(alloc),
         }
     }
 
@@ -94,7 +94,7 @@ impl<'v> BorrowedTexts<'v> {
     pub(crate) fn push(&mut self, text: &'v str) -> Result<(), AllocError>
         ensures { OnOk result (self.new ≡ self.old ++ text.now ∷ []) }
     {
-        self.list.push(text)?;
+        self.texts.push(text)?;
         Ok(())
     }
 
@@ -102,6 +102,6 @@ impl<'v> BorrowedTexts<'v> {
     pub(crate) fn as_slice(&self) -> &[&'v str]
         ensures { map (λ s. s.now) result.now ≡ self.now }
     {
-        &self.list
+        &self.texts
     }
 }

@@ -4,7 +4,7 @@ use Rattle.serde_json.specs.View.{view}
 use Rattle.scf_profile.specs.declared.loaded.Loaded.{Loaded}
 use Rattle.scf_profile.specs.Loading.{Loads}
 use Rattle.scf_profile.specs.Policy.{HaveNoConflict}
-use Rattle.scf_profile.specs.Stated.{loaded_of}
+use Rattle.scf_profile.specs.Stated.{loaded_of, IsLoaded}
 use Rattle.scf_profile.specs.StatedProfile.{profile_of}
 use Rattle.scf_profile.proofs.ArrayLengths.{object_short}
 use Rattle.scf_profile.proofs.TestFaults.{refuses_of_fault, refuses_of_conflict}
@@ -34,7 +34,7 @@ returns-clause-ok c =
     let s = c.in_ok-object.ensures in
     let h = c.in_ok-read_object.ensures.value in
     let stated : profile_of c.args.table.now (view c.in_ok-value.value) ≡ Ok (loaded_of c.in_ok-read_object.field-0) = rw (← s, h) refl in
-    IfOk-weaker c.without_conflict.result (λ loaded. (loaded ≡ loaded_of c.in_ok-read_object.field-0) × HaveNoConflict c.in_ok-read_object.field-0.rules.items) (λ loaded. Loads c.args.text.now c.args.table.now loaded)
+    IfOk-weaker c.without_conflict.result (IsLoaded c.in_ok-read_object.field-0) (λ loaded. Loads c.args.text.now c.args.table.now loaded)
     (λ loaded k. record {
       value = view c.in_ok-value.value;
       is_text = c.in_ok-value.ensures.ok;
