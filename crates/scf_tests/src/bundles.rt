@@ -1,6 +1,7 @@
 //! Bundles.
 
 use crate::streams::{Case, pass, run};
+use std::test::Fail;
 
 const BUNDLES: &[Case] = &[
     Case {
@@ -90,16 +91,42 @@ fn bundles(rt: HostRuntime) {
 #[test]
 fn cut_bundles(rt: HostRuntime) {
     for len in 0..TWO_FILTERS.len() {
-        let (status, out) = run(rt.alloc(), &["scf", "decide"], &TWO_FILTERS[..len], 1);
-        let wanted: (&[u8], u8) = match len {
-            0 => (b"ALLOW 0\n", 0),
-            1..9 => (b"fault bundle Header offset 0\n", 3),
-            9..17 => (b"fault bundle Short offset 0\n", 3),
-            17 => (b"KILL_THREAD 0\n", 0),
-            18..26 => (b"fault bundle Header offset 17\n", 3),
-            _ => (b"fault bundle Short offset 17\n", 3),
+        let ended = run(rt.alloc(), &["scf", "decide"], &TWO_FILTERS[..len], 1);
+        let (text, status) = match len {
+            0 => ("ALLOW 0\n", 0),
+            1..9 => ("fault bundle Header offset 0\n", 3),
+            9..17 => ("fault bundle Short offset 0\n", 3),
+            17 => ("KILL_THREAD 0\n", 0),
+            18..26 => ("fault bundle Header offset 17\n", 3),
+            _ => ("fault bundle Short offset 17\n", 3),
         };
-        assert_eq!(rt; out.as_slice(), wanted.0, "cut to {len}");
-        assert_eq!(rt; status, wanted.1, "cut to {len}");
+        assert!(rt;
+            ended.is(text.as_bytes(), status, 0),
+            "cut to {len}: {ended:?}"
+        );
     }
+}
+
+/// Seven filters of 4096 instructions fit in a stack, and an eighth doesn't: each counts four more than it has.
+#[test]
+fn full_stack(rt: HostRuntime) -> Result<(), Fail> {
+    let mut bundle = Vec::new(rt.alloc());
+    for count in 1..=8 {
+        bundle.extend_from_slice(b"filter 32768\n")?;
+        // `ld #0`, 4095 times.
+        for _ in 0..4095 {
+            bundle.extend_from_slice(&[0; 8])?;
+        }
+        bundle.extend_from_slice(b"\x06\0\0\0\0\0\xff\x7f")?;
+        let ended = run(rt.alloc(), &["scf", "decide"], &bundle, usize::MAX);
+        let (text, status) = match count {
+            8 => ("fault stack TooMany total 32796\n", 1),
+            _ => ("ALLOW 0\n", 0),
+        };
+        assert!(rt;
+            ended.is(text.as_bytes(), status, 0),
+            "{count} filters: {ended:?}"
+        );
+    }
+    Ok(())
 }

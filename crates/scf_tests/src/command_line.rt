@@ -37,11 +37,10 @@ const WORDS: &[(&[&str], &str, u8)] = &[
 #[test]
 fn words(rt: HostRuntime) {
     for (words, beginning, status) in WORDS {
-        let (found, out) = run(rt.alloc(), words, b"", 1);
+        let ended = run(rt.alloc(), words, b"", 1);
         assert!(rt;
-            out.as_slice().starts_with(beginning.as_bytes()),
-            "{words:?}"
+            ended.text.as_slice().starts_with(beginning.as_bytes()) && ended.status == *status,
+            "{words:?}: {ended:?}"
         );
-        assert_eq!(rt; found, *status, "{words:?}");
     }
 }

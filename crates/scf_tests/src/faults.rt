@@ -1,46 +1,54 @@
 //! Readers and writers that fail, and memory that is refused.
 
-use crate::streams::{Interrupted, Reader, Unwilling, Writer, run};
+use crate::filters::GATE;
+use crate::streams::{Interrupted, Reader, Unwilling, Writer, run, run_on};
 use scf_insn::Counted;
 use scf_tool::run_command;
+use std::alloc::Global;
+use std::process::Abort;
 
-/// A filter that answers ALLOW after three steps.
-const GATE: &[u8] =
-    b" \x00\x00\x00\x04\x00\x00\x00\x15\x00\x01\x00>\x00\x00\xc0\x06\x00\x00\x00\x00\x00\x00\x80\x06\x00\x00\x00\x00\x00\xff\x7f";
+/// Two filters, of which the first answers KILL_THREAD and the second ALLOW.
+const STACK: &[u8] =
+    b"filter 8\x0a\x06\x00\x00\x00\x00\x00\x00\x00filter 8\x0a\x06\x00\x00\x00\x00\x00\xff\x7f";
 
-/// A command of each kind, and an input on which all is well.
-const WELL: &[(&[&str], &[u8])] = &[
-    (&["scf", "run"], GATE),
-    (&["scf", "check"], GATE),
-    (&["scf", "dis"], GATE),
-    (&["scf", "asm"], b"ja on; on: ret a"),
-    (
-        &["scf", "decide"],
-        b"filter 8\x0a\x06\x00\x00\x00\x00\x00\x00\x00filter 8\x0a\x06\x00\x00\x00\x00\x00\xff\x7f",
-    ),
-    (&["scf", "run", "--help"], b""),
-    (&["scf"], b""),
+/// A profile that takes every call, and an empty table.
+const PROFILE: &[u8] = b"profile 34\x0a{\"defaultAction\":\"SCMP_ACT_ALLOW\"}table 0\x0a";
+
+/// The same behind a filter that takes every call too, of every architecture.
+const PAIR: &[u8] =
+    b"filter 8\x0a\x06\x00\x00\x00\x00\x00\xff\x7fprofile 34\x0a{\"defaultAction\":\"SCMP_ACT_ALLOW\"}table 0\x0a";
+
+/// A command of each kind that reads, an input that it doesn't refuse, and what it prints where the input fails.
+const READS: &[(&[&str], &[u8], &str)] = &[
+    (&["scf", "run"], GATE, "fault filter Read\n"),
+    (&["scf", "check"], GATE, "fault filter Read\n"),
+    (&["scf", "dis"], GATE, "fault filter Read\n"),
+    (&["scf", "asm"], b"ja on; on: ret a", "fault input Read\n"),
+    (&["scf", "decide"], STACK, "fault input Read\n"),
+    (&["scf", "compile"], PROFILE, "fault input Read\n"),
+    (&["scf", "compare"], PAIR, "fault input Read\n"),
 ];
 
 /// A reader that fails after each count of bytes, and one that fails only past the end.
 #[test]
 fn failing_readers(rt: HostRuntime) {
-    for share in 0..=GATE.len() {
-        let mut source = Reader::failing(GATE, share);
-        let mut out = Writer::new(rt.alloc());
-        let status = run_command(rt.alloc(), &["scf", "run"], &mut source, &mut out);
-        assert_eq!(rt;
-            out.taken.as_slice(),
-            b"fault filter Read\n".as_slice(),
-            "after {share}"
+    for (words, input, fault) in READS {
+        let reader = |share| Reader::failing(input, share);
+        for share in 0..=input.len() {
+            let ended = run_on(rt.alloc(), words, reader(share), Writer::new(rt.alloc()));
+            assert!(rt;
+                ended.is(fault.as_bytes(), 3, 1),
+                "{words:?} after {share}: {ended:?}"
+            );
+        }
+        let well = run(rt.alloc(), words, input, 1);
+        let past_end = input.len().saturating_add(1);
+        let ended = run_on(rt.alloc(), words, reader(past_end), Writer::new(rt.alloc()));
+        assert!(rt;
+            ended.is(&well.text, well.status, 0),
+            "{words:?}: {ended:?}"
         );
-        assert_eq!(rt; (status, source.failures), (3, 1), "after {share}");
     }
-    let mut source = Reader::failing(GATE, GATE.len() + 1);
-    let mut out = Writer::new(rt.alloc());
-    let status = run_command(rt.alloc(), &["scf", "run"], &mut source, &mut out);
-    assert_eq!(rt; out.taken.as_slice(), b"ALLOW 0 steps 3\n".as_slice());
-    assert_eq!(rt; (status, source.failures), (0, 0));
 }
 
 /// An interruption is a failure, and isn't tried again.
@@ -73,26 +81,31 @@ fn unwilling_writer(rt: HostRuntime) {
 }
 
 /// A writer that fails at each write in turn has taken a beginning of the text, and the status is 3.
+fn fail_each_write(rt: &impl Abort, alloc: Global, words: &[&str], input: &[u8]) {
+    let well = run(alloc, words, input, 1);
+    for share in 0..well.text.len() {
+        let out = Writer::failing(alloc, share);
+        let ended = run_on(alloc, words, Reader::new(input, 1), out);
+        assert!(rt;
+            ended.is(&well.text[..share], 3, 1),
+            "{words:?} after {share}: {ended:?}"
+        );
+    }
+    let out = Writer::failing(alloc, well.text.len());
+    let ended = run_on(alloc, words, Reader::new(input, 1), out);
+    assert!(rt;
+        ended.is(&well.text, well.status, 0),
+        "{words:?}: {ended:?}"
+    );
+}
+
 #[test]
 fn failing_writers(rt: HostRuntime) {
-    for (words, input) in WELL {
-        let (wanted, whole) = run(rt.alloc(), words, input, 1);
-        for share in 0..whole.len() {
-            let mut source = Reader::new(input, 1);
-            let mut out = Writer::failing(rt.alloc(), share);
-            let status = run_command(rt.alloc(), words, &mut source, &mut out);
-            assert_eq!(rt;
-                out.taken.as_slice(),
-                &whole[..share],
-                "{words:?} after {share}"
-            );
-            assert_eq!(rt; (status, out.failures), (3, 1), "{words:?} after {share}");
-        }
-        let mut source = Reader::new(input, 1);
-        let mut out = Writer::failing(rt.alloc(), whole.len());
-        let status = run_command(rt.alloc(), words, &mut source, &mut out);
-        assert_eq!(rt; out.taken.as_slice(), whole.as_slice(), "{words:?}");
-        assert_eq!(rt; (status, out.failures), (wanted, 0), "{words:?}");
+    for (words, input, _) in READS {
+        fail_each_write(&rt, rt.alloc(), words, input);
+    }
+    for words in [["scf", "--help"].as_slice(), &["scf"]] {
+        fail_each_write(&rt, rt.alloc(), words, b"");
     }
 }
 
@@ -106,25 +119,18 @@ const ANSWERS: &[(&[&str], &[u8], &[u8])] = &[
         b"\x05\0\0\0\0\0\0\0\x16\0\0\0\0\0\0\0",
     ),
     (&["scf", "dis"], b"\x16\0\0\0\0\0\0\0", b"ret a\n"),
-    (
-        &["scf", "decide"],
-        b"filter 8\n\x06\0\0\0\0\0\xff\x7f",
-        b"ALLOW 0\n",
-    ),
+    (&["scf", "decide"], STACK, b"KILL_THREAD 0\n"),
 ];
 
 /// With ample memory each is answered. Where memory is refused, that is all that is said, with status 3.
 #[test]
 fn refused_memory(rt: HostRuntime) {
     for (words, input, answer) in ANSWERS {
-        let mut source = Reader::new(input, usize::MAX);
-        let mut out = Writer::new(rt.alloc());
-        let status = run_command(rt.alloc(), words, &mut source, &mut out);
-        let text = out.taken.as_slice();
-        let refused = out.failures > 0 || text.ends_with(b" Memory\n".as_slice());
+        let ended = run(rt.alloc(), words, input, usize::MAX);
+        let is_refused = ended.failures > 0 || ended.text.ends_with(b" Memory\n");
         assert!(rt;
-            (status == 3 && refused) || (status == 0 && text == *answer),
-            "{words:?}: {text:?}"
+            ended.is(answer, 0, 0) || (ended.status == 3 && is_refused),
+            "{words:?}: {ended:?}"
         );
     }
 }

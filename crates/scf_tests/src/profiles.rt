@@ -1,90 +1,302 @@
 //! Profiles: compiled to a filter, and compared with one.
 
-use crate::streams::{Case, pass};
+use crate::parts::{Part, bundle};
+use crate::streams::{Case, pass, run};
+use scf_insn::parse_number;
+use std::alloc::{AllocError, Global};
+use std::str;
+use std::test::Fail;
 
-const PROFILES: &[Case] = &[
+/// A command on a bundle of these parts, what it prints and its status.
+struct OnBundle {
+    words: &'static [&'static str],
+    parts: &'static [Part],
+    output: &'static str,
+    status: u8,
+}
+
+/// Takes `clone` where none of the bits 0x7e020000 is set in its flags.
+const CLONE: Part = Part::Profile(
+    r#"{"defaultAction":"SCMP_ACT_ERRNO","syscalls":[{"names":["clone"],"action":"SCMP_ACT_ALLOW",
+    "args":[{"index":0,"value":2114060288,"op":"SCMP_CMP_MASKED_EQ"}]}]}"#,
+);
+
+const CLONE_TABLE: Part = Part::Table("clone 56\n");
+
+/// The same as a filter, which looks for the bits by `and`, and by `jset`.
+const BY_AND: Part = Part::Native(
+    "jeq #56, 0, 3; ld [16]; and #0x7e020000; jeq #0, 1, 0; ret #0x50001; ret #0x7fff0000",
+);
+
+const BY_JSET: Part = Part::Native(
+    "jeq #56, 0, 2; ld [16]; jset #0x7e020000, 0, 1; ret #0x50001; ret #0x7fff0000",
+);
+
+/// Takes every call.
+const ALL: Part = Part::Profile(r#"{"defaultAction":"SCMP_ACT_ALLOW"}"#);
+
+const NO_TABLE: Part = Part::Table("");
+
+const PROFILES: &[OnBundle] = &[
     // A profile without a table.
-    Case {
+    OnBundle {
         words: &["scf", "compile"],
-        input: b"profile 159\x0a{\x22defaultAction\x22:\x22SCMP_ACT_ERRNO\x22,\x22syscalls\x22:[{\x22names\x22:[\x22clone\x22],\x22action\x22:\x22SCMP_ACT_ALLOW\x22,\x22args\x22:[{\x22index\x22:0,\x22value\x22:2114060288,\x22op\x22:\x22SCMP_CMP_MASKED_EQ\x22}]}]}",
+        parts: &[CLONE],
         output: "fault bundle Parts\n",
         status: 3,
     },
-    // Two entries that conflict.
-    Case {
-        words: &["scf", "compile"],
-        input: b"profile 201\x0a{\x22ociVersion\x22:\x221.0.2\x22,\x22linux\x22:{\x22seccomp\x22:{\x22defaultAction\x22:\x22SCMP_ACT_ERRNO\x22,\x22defaultErrnoRet\x22:38,\x22syscalls\x22:[{\x22names\x22:[\x22read\x22],\x22action\x22:\x22SCMP_ACT_ALLOW\x22},{\x22names\x22:[\x22read\x22],\x22action\x22:\x22SCMP_ACT_ERRNO\x22}]}}}table 7\x0aread 0\x0a",
-        output: "fault profile Conflict number 0 first 0 second 1\n",
-        status: 1,
-    },
-    // The table is looked at before the profile.
-    Case {
-        words: &["scf", "compile"],
-        input: b"profile 2\x0a[]table 5\x0a9p 1\x0a",
-        output: "fault table Name line 1\n",
-        status: 1,
-    },
-    // A fault of the profile outside of its entries, and one in an entry.
-    Case {
-        words: &["scf", "compile"],
-        input: b"profile 2\x0a{}table 0\x0a",
-        output: "fault profile Missing\n",
-        status: 1,
-    },
-    Case {
-        words: &["scf", "compile"],
-        input: b"profile 84\x0a{\x22defaultAction\x22:\x22SCMP_ACT_ALLOW\x22,\x22syscalls\x22:[{\x22names\x22:[],\x22action\x22:\x22SCMP_ACT_LOG\x22}]}table 0\x0a",
-        output: "fault profile EmptyNames entry 0\n",
-        status: 1,
-    },
     // A wide mask, at its effort and with no step.
-    Case {
+    OnBundle {
         words: &["scf", "compare", "--limit", "208"],
-        input: b"filter 96\x0a \x00\x00\x00\x04\x00\x00\x00\x15\x00\x01\x00>\x00\x00\xc0\x06\x00\x00\x00\x00\x00\x00\x80 \x00\x00\x00\x00\x00\x00\x005\x00\x00\x01\x00\x00\x00@\x06\x00\x00\x00\x00\x00\x00\x80\x15\x00\x00\x038\x00\x00\x00 \x00\x00\x00\x10\x00\x00\x00T\x00\x00\x00\x00\x00\x02~\x15\x00\x01\x00\x00\x00\x00\x00\x06\x00\x00\x00\x01\x00\x05\x00\x06\x00\x00\x00\x00\x00\xff\x7fprofile 159\x0a{\x22defaultAction\x22:\x22SCMP_ACT_ERRNO\x22,\x22syscalls\x22:[{\x22names\x22:[\x22clone\x22],\x22action\x22:\x22SCMP_ACT_ALLOW\x22,\x22args\x22:[{\x22index\x22:0,\x22value\x22:2114060288,\x22op\x22:\x22SCMP_CMP_MASKED_EQ\x22}]}]}table 9\x0aclone 56\x0a",
+        parts: &[BY_AND, CLONE, CLONE_TABLE],
         output: "same\n",
         status: 0,
     },
-    Case {
+    OnBundle {
         words: &["scf", "compare", "--limit", "0"],
-        input: b"filter 96\x0a \x00\x00\x00\x04\x00\x00\x00\x15\x00\x01\x00>\x00\x00\xc0\x06\x00\x00\x00\x00\x00\x00\x80 \x00\x00\x00\x00\x00\x00\x005\x00\x00\x01\x00\x00\x00@\x06\x00\x00\x00\x00\x00\x00\x80\x15\x00\x00\x038\x00\x00\x00 \x00\x00\x00\x10\x00\x00\x00T\x00\x00\x00\x00\x00\x02~\x15\x00\x01\x00\x00\x00\x00\x00\x06\x00\x00\x00\x01\x00\x05\x00\x06\x00\x00\x00\x00\x00\xff\x7fprofile 159\x0a{\x22defaultAction\x22:\x22SCMP_ACT_ERRNO\x22,\x22syscalls\x22:[{\x22names\x22:[\x22clone\x22],\x22action\x22:\x22SCMP_ACT_ALLOW\x22,\x22args\x22:[{\x22index\x22:0,\x22value\x22:2114060288,\x22op\x22:\x22SCMP_CMP_MASKED_EQ\x22}]}]}table 9\x0aclone 56\x0a",
+        parts: &[BY_AND, CLONE, CLONE_TABLE],
         output: "unfinished\n",
         status: 4,
     },
-    Case {
+    OnBundle {
         words: &["scf", "compare"],
-        input: b"table 9\x0aclone 56\x0aprofile 159\x0a{\x22defaultAction\x22:\x22SCMP_ACT_ERRNO\x22,\x22syscalls\x22:[{\x22names\x22:[\x22clone\x22],\x22action\x22:\x22SCMP_ACT_ALLOW\x22,\x22args\x22:[{\x22index\x22:0,\x22value\x22:2114060288,\x22op\x22:\x22SCMP_CMP_MASKED_EQ\x22}]}]}filter 88\x0a \x00\x00\x00\x04\x00\x00\x00\x15\x00\x01\x00>\x00\x00\xc0\x06\x00\x00\x00\x00\x00\x00\x80 \x00\x00\x00\x00\x00\x00\x005\x00\x00\x01\x00\x00\x00@\x06\x00\x00\x00\x00\x00\x00\x80\x15\x00\x00\x028\x00\x00\x00 \x00\x00\x00\x10\x00\x00\x00E\x00\x00\x01\x00\x00\x02~\x06\x00\x00\x00\x01\x00\x05\x00\x06\x00\x00\x00\x00\x00\xff\x7f",
+        parts: &[CLONE_TABLE, CLONE, BY_JSET],
         output: "same\n",
         status: 0,
     },
     // A default alone, at its effort, and what was left out of the profile behind the verdict.
-    Case {
+    OnBundle {
         words: &["scf", "compare", "--limit", "56"],
-        input: b"filter 56\x0a \x00\x00\x00\x04\x00\x00\x00\x15\x00\x01\x00>\x00\x00\xc0\x06\x00\x00\x00\x00\x00\x00\x80 \x00\x00\x00\x00\x00\x00\x005\x00\x00\x01\x00\x00\x00@\x06\x00\x00\x00\x00\x00\x00\x80\x06\x00\x00\x00\x00\x00\xff\x7fprofile 34\x0a{\x22defaultAction\x22:\x22SCMP_ACT_ALLOW\x22}table 0\x0a",
+        parts: &[Part::Native("ret #0x7fff0000"), ALL, NO_TABLE],
         output: "same\n",
         status: 0,
     },
-    Case {
+    OnBundle {
         words: &["scf", "compare"],
-        input: b"filter 56\x0a \x00\x00\x00\x04\x00\x00\x00\x15\x00\x01\x00>\x00\x00\xc0\x06\x00\x00\x00\x00\x00\x00\x80 \x00\x00\x00\x00\x00\x00\x005\x00\x00\x01\x00\x00\x00@\x06\x00\x00\x00\x00\x00\x00\x80\x06\x00\x00\x00\x00\x00\xff\x7fprofile 146\x0a{\x22defaultAction\x22:\x22SCMP_ACT_ALLOW\x22,\x22architectures\x22:[\x22SCMP_ARCH_X86\x22,\x22SCMP_ARCH_X86_64\x22],\x22syscalls\x22:[{\x22names\x22:[\x22absent\x22],\x22action\x22:\x22SCMP_ACT_KILL\x22}]}table 0\x0a",
+        parts: &[
+            Part::Native("ret #0x7fff0000"),
+            Part::Profile(
+                r#"{"defaultAction":"SCMP_ACT_ALLOW","architectures":["SCMP_ARCH_X86","SCMP_ARCH_X86_64"],
+                "syscalls":[{"names":["absent"],"action":"SCMP_ACT_KILL"}]}"#,
+            ),
+            NO_TABLE,
+        ],
         output: "same\nskipped absent\nother SCMP_ARCH_X86\n",
         status: 0,
     },
-    // Two filters, and a limit that is no number.
-    Case {
+    // The filter is looked at before the table.
+    OnBundle {
         words: &["scf", "compare"],
-        input: b"filter 96\x0a \x00\x00\x00\x04\x00\x00\x00\x15\x00\x01\x00>\x00\x00\xc0\x06\x00\x00\x00\x00\x00\x00\x80 \x00\x00\x00\x00\x00\x00\x005\x00\x00\x01\x00\x00\x00@\x06\x00\x00\x00\x00\x00\x00\x80\x15\x00\x00\x038\x00\x00\x00 \x00\x00\x00\x10\x00\x00\x00T\x00\x00\x00\x00\x00\x02~\x15\x00\x01\x00\x00\x00\x00\x00\x06\x00\x00\x00\x01\x00\x05\x00\x06\x00\x00\x00\x00\x00\xff\x7ffilter 96\x0a \x00\x00\x00\x04\x00\x00\x00\x15\x00\x01\x00>\x00\x00\xc0\x06\x00\x00\x00\x00\x00\x00\x80 \x00\x00\x00\x00\x00\x00\x005\x00\x00\x01\x00\x00\x00@\x06\x00\x00\x00\x00\x00\x00\x80\x15\x00\x00\x038\x00\x00\x00 \x00\x00\x00\x10\x00\x00\x00T\x00\x00\x00\x00\x00\x02~\x15\x00\x01\x00\x00\x00\x00\x00\x06\x00\x00\x00\x01\x00\x05\x00\x06\x00\x00\x00\x00\x00\xff\x7fprofile 159\x0a{\x22defaultAction\x22:\x22SCMP_ACT_ERRNO\x22,\x22syscalls\x22:[{\x22names\x22:[\x22clone\x22],\x22action\x22:\x22SCMP_ACT_ALLOW\x22,\x22args\x22:[{\x22index\x22:0,\x22value\x22:2114060288,\x22op\x22:\x22SCMP_CMP_MASKED_EQ\x22}]}]}table 0\x0a",
+        parts: &[
+            Part::Table("9p 1\n"),
+            Part::Profile("{}"),
+            Part::Filter("ld #0"),
+        ],
+        output: "fault filter LastNotReturn\n",
+        status: 1,
+    },
+    // Two filters, and a limit that is no number.
+    OnBundle {
+        words: &["scf", "compare"],
+        parts: &[BY_AND, BY_AND, CLONE, NO_TABLE],
         output: "fault bundle Parts\n",
         status: 3,
     },
-    Case {
+    OnBundle {
         words: &["scf", "compare", "--limit", "-"],
-        input: b"",
+        parts: &[],
         output: "fault number limit\n",
         status: 2,
     },
 ];
 
 #[test]
-fn profiles(rt: HostRuntime) {
-    pass(&rt, rt.alloc(), PROFILES);
+fn profiles(rt: HostRuntime) -> Result<(), Fail> {
+    for wanted in PROFILES {
+        let input = bundle(&rt, rt.alloc(), wanted.parts)?;
+        let case = Case {
+            words: wanted.words,
+            input: &input,
+            output: wanted.output,
+            status: wanted.status,
+        };
+        pass(&rt, rt.alloc(), &[case]);
+    }
+    Ok(())
+}
+
+/// Profiles and tables that are refused, and what is printed of each kind of fault. The table is looked at first.
+const REFUSED: &[(&str, &str, &str)] = &[
+    ("{}", "read\n", "fault table Form line 1\n"),
+    ("{}", "read 0\n9p 1\n", "fault table Name line 2\n"),
+    ("{}", "read 1073741824\n", "fault table Number line 1\n"),
+    ("{}", "read 0\nread 1\n", "fault table Repeated line 2\n"),
+    ("[", "", "fault profile Json\n"),
+    ("{}", "", "fault profile Missing\n"),
+    ("[]", "", "fault profile Kind\n"),
+    (r#"{"defaultAction":"ALLOW"}"#, "", "fault profile Action\n"),
+    (
+        r#"{"defaultAction":"SCMP_ACT_ALLOW","defaultErrnoRet":1}"#,
+        "",
+        "fault profile Errno\n",
+    ),
+    (
+        r#"{"defaultAction":"SCMP_ACT_ERRNO","defaultErrnoRet":65536}"#,
+        "",
+        "fault profile ErrnoRange\n",
+    ),
+    (
+        r#"{"defaultAction":"SCMP_ACT_ALLOW","architectures":["SCMP_ARCH_X86"]}"#,
+        "",
+        "fault profile NoX8664\n",
+    ),
+    (
+        r#"{"defaultAction":"SCMP_ACT_ALLOW","archMap":[1]}"#,
+        "",
+        "fault profile EngineForm\n",
+    ),
+    (
+        r#"{"defaultAction":"SCMP_ACT_ALLOW","syscalls":[{"names":[],"action":"SCMP_ACT_LOG"}]}"#,
+        "",
+        "fault profile EmptyNames entry 0\n",
+    ),
+    (
+        r#"{"defaultAction":"SCMP_ACT_ALLOW","syscalls":[{"names":["read"],"action":"SCMP_ACT_LOG"},{}]}"#,
+        "",
+        "fault profile Missing entry 1\n",
+    ),
+    (
+        r#"{"defaultAction":"SCMP_ACT_ALLOW","syscalls":[{"names":["read"],"action":"SCMP_ACT_LOG",
+            "args":[{"index":0,"value":1,"op":"EQ"}]}]}"#,
+        "",
+        "fault profile Operator entry 0\n",
+    ),
+    (
+        r#"{"defaultAction":"SCMP_ACT_ALLOW","syscalls":[{"names":["read"],"action":"SCMP_ACT_LOG",
+            "args":[{"index":6}]}]}"#,
+        "",
+        "fault profile Index entry 0\n",
+    ),
+    (
+        r#"{"defaultAction":"SCMP_ACT_ALLOW","syscalls":[{"names":["read"],"action":"SCMP_ACT_LOG",
+            "args":[{"index":0,"value":1,"op":"SCMP_CMP_NE"},{"index":0,"value":2,"op":"SCMP_CMP_NE"}]}]}"#,
+        "",
+        "fault profile RepeatedIndex entry 0\n",
+    ),
+    (
+        r#"{"linux":{"seccomp":{"defaultAction":"SCMP_ACT_ERRNO","defaultErrnoRet":38,"syscalls":[
+            {"names":["read"],"action":"SCMP_ACT_ALLOW"},{"names":["read"],"action":"SCMP_ACT_ERRNO"}]}}}"#,
+        "read 0\n",
+        "fault profile Conflict number 0 first 0 second 1\n",
+    ),
+];
+
+#[test]
+fn refusals(rt: HostRuntime) -> Result<(), Fail> {
+    for (profile, table, output) in REFUSED {
+        let parts = [Part::Profile(profile), Part::Table(table)];
+        let input = bundle(&rt, rt.alloc(), &parts)?;
+        let case = Case {
+            words: &["scf", "compile"],
+            input: &input,
+            output,
+            status: 1,
+        };
+        pass(&rt, rt.alloc(), &[case]);
+    }
+    Ok(())
+}
+
+/// A filter that answers otherwise than a profile, and what is said of a call that shows it.
+struct Difference {
+    parts: &'static [Part],
+    /// The least and the greatest number that the call may have.
+    numbers: (u64, u64),
+    /// Bits of argument 0, and what they are.
+    mask: u64,
+    bits: u64,
+    answers: &'static str,
+    /// Whether the comparison may leave open that they differ.
+    may_be_undecided: bool,
+}
+
+const DIFFERENCES: &[Difference] = &[
+    // The filter looks for one bit less than the profile.
+    Difference {
+        parts: &[
+            Part::Native(
+                "jeq #56, 0, 2; ld [16]; jset #0x7c020000, 0, 1; ret #0x50001; ret #0x7fff0000",
+            ),
+            CLONE,
+            CLONE_TABLE,
+        ],
+        numbers: (56, 56),
+        mask: 0x7e02_0000,
+        bits: 0x0200_0000,
+        answers: "\nfilter ALLOW 0\nprofile ERRNO 1\n",
+        may_be_undecided: true,
+    },
+    // A division by argument 0 ends the run where that is 0.
+    Difference {
+        parts: &[
+            Part::Native("ld [16]; tax; ld #1; div x; ret #0x7fff0000"),
+            ALL,
+            NO_TABLE,
+        ],
+        numbers: (0, 0x3fff_ffff),
+        mask: 0xffff_ffff,
+        bits: 0,
+        answers: "\nfilter KILL_THREAD 0\nprofile ALLOW 0\n",
+        may_be_undecided: false,
+    },
+];
+
+/// Whether what was printed shows the difference.
+fn shows(alloc: Global, text: &str, difference: &Difference) -> Result<bool, AllocError> {
+    let words: Vec<&str> = text.split_whitespace().collect(alloc)?;
+    let [
+        "differs",
+        "call",
+        "nr",
+        number,
+        "arch",
+        "0xc000003e",
+        "ip",
+        _,
+        "args",
+        first,
+        ..
+    ] = words.as_slice()
+    else {
+        return Ok(false);
+    };
+    let (Ok(number), Ok(first)) = (
+        parse_number(number.as_bytes()),
+        parse_number(first.as_bytes()),
+    ) else {
+        return Ok(false);
+    };
+    let (least, most) = difference.numbers;
+    Ok(
+        least <= number
+            && number <= most
+            && first & difference.mask == difference.bits
+            && text.ends_with(difference.answers),
+    )
+}
+
+#[test]
+fn differences(rt: HostRuntime) -> Result<(), Fail> {
+    for difference in DIFFERENCES {
+        let input = bundle(&rt, rt.alloc(), difference.parts)?;
+        let ended = run(rt.alloc(), &["scf", "compare"], &input, usize::MAX);
+        let text = str::from_utf8(&ended.text)?;
+        let is_shown = shows(rt.alloc(), text, difference)?;
+        let is_open = difference.may_be_undecided && text.starts_with("undecided at ");
+        assert!(rt;
+            (is_shown && ended.status == 1) || (is_open && ended.status == 4),
+            "{text}"
+        );
+    }
+    Ok(())
 }

@@ -148,35 +148,68 @@ impl Write for Unwilling {
     }
 }
 
+/// Whether this refusal of memory is the first: a run may meet one, where one growth is refused.
+pub(crate) fn once(refused: &mut bool) -> bool {
+    let first = !*refused;
+    *refused = true;
+    first
+}
+
 /// A run of the program, what it prints and its status.
-pub(crate) struct Case {
-    pub(crate) words: &'static [&'static str],
-    pub(crate) input: &'static [u8],
-    pub(crate) output: &'static str,
+#[derive(Clone, Copy)]
+pub(crate) struct Case<'a> {
+    pub(crate) words: &'a [&'a str],
+    pub(crate) input: &'a [u8],
+    pub(crate) output: &'a str,
     pub(crate) status: u8,
 }
 
+/// What a run of the program printed, its status, and how often its reader and its writer failed.
+#[derive(Debug, Drop)]
+pub(crate) struct Ended {
+    pub(crate) text: Vec<u8>,
+    pub(crate) status: u8,
+    pub(crate) failures: u64,
+}
+
+impl Ended {
+    /// Whether this was printed, with this status, and so many reads and writes failed.
+    pub(crate) fn is(&self, text: &[u8], status: u8, failures: u64) -> bool {
+        self.text.as_slice() == text && self.status == status && self.failures == failures
+    }
+}
+
+/// Runs the program with this reader and this writer.
+pub(crate) fn run_on(
+    alloc: Global,
+    words: &[&str],
+    mut input: Reader<'_>,
+    mut out: Writer,
+) -> Ended {
+    let status = run_command(alloc, words, &mut input, &mut out);
+    Ended {
+        text: out.taken,
+        status,
+        failures: input.failures.saturating_add(out.failures),
+    }
+}
+
 /// Runs the program with a reader that gives so many bytes at a time.
-pub(crate) fn run(alloc: Global, words: &[&str], input: &[u8], step: usize) -> (u8, Vec<u8>) {
-    let mut source = Reader::new(input, step);
-    let mut out = Writer::new(alloc);
-    let status = run_command(alloc, words, &mut source, &mut out);
-    (status, out.taken)
+pub(crate) fn run(alloc: Global, words: &[&str], input: &[u8], step: usize) -> Ended {
+    run_on(alloc, words, Reader::new(input, step), Writer::new(alloc))
 }
 
 /// Runs each case with a reader that gives one byte at a time, and with one that gives all at once.
-pub(crate) fn pass(rt: &impl Abort, alloc: Global, cases: &[Case]) {
+pub(crate) fn pass(rt: &impl Abort, alloc: Global, cases: &[Case<'_>]) {
     for case in cases {
         for step in [1, usize::MAX] {
-            let (status, out) = run(alloc, case.words, case.input, step);
-            assert_eq!(rt;
-                out.as_slice(),
-                case.output.as_bytes(),
-                "{:?} on {:?}",
+            let ended = run(alloc, case.words, case.input, step);
+            assert!(rt;
+                ended.is(case.output.as_bytes(), case.status, 0),
+                "{:?} on {:?}: {ended:?}",
                 case.words,
                 case.input
             );
-            assert_eq!(rt; status, case.status, "{:?} on {:?}", case.words, case.input);
         }
     }
 }

@@ -1,11 +1,12 @@
 //! Filters as text.
 
+use crate::filters::GATE;
 use crate::streams::{Case, pass, run};
 
 const TEXTS: &[Case] = &[
     Case {
         words: &["scf", "dis"],
-        input: b" \x00\x00\x00\x04\x00\x00\x00\x15\x00\x01\x00>\x00\x00\xc0\x06\x00\x00\x00\x00\x00\x00\x80\x06\x00\x00\x00\x00\x00\xff\x7f",
+        input: GATE,
         output: "ld [4]\njeq #0xc000003e, 1, 0\nret #0x80000000\nret #0x7fff0000\n",
         status: 0,
     },
@@ -75,8 +76,10 @@ const TEXTS: &[Case] = &[
 const LABELLED: &[u8] =
     b"ld [0] // number\x0ajeq #39, yes, no\x0ano: ret #0x50001\x0ayes: ret #0x7fff0000\x0a";
 
-const SPELLED: &[u8] =
-    b" \x00\x00\x00\x00\x00\x00\x00\x15\x00\x01\x00'\x00\x00\x00\x06\x00\x00\x00\x01\x00\x05\x00\x06\x00\x00\x00\x00\x00\xff\x7f";
+const SPELLED: &[u8] = b"\x20\x00\x00\x00\x00\x00\x00\x00\
+    \x15\x00\x01\x00\x27\x00\x00\x00\
+    \x06\x00\x00\x00\x01\x00\x05\x00\
+    \x06\x00\x00\x00\x00\x00\xff\x7f";
 
 #[test]
 fn texts(rt: HostRuntime) {
@@ -86,10 +89,9 @@ fn texts(rt: HostRuntime) {
 /// A text gives its filter, and the filter's listing gives the filter back.
 #[test]
 fn back_and_forth(rt: HostRuntime) {
-    let (status, filter) = run(rt.alloc(), &["scf", "asm"], LABELLED, 1);
-    assert_eq!(rt; filter.as_slice(), SPELLED);
-    assert_eq!(rt; status, 0);
-    let (_, listing) = run(rt.alloc(), &["scf", "dis"], &filter, 1);
-    let (_, again) = run(rt.alloc(), &["scf", "asm"], &listing, 1);
-    assert_eq!(rt; again.as_slice(), SPELLED);
+    let filter = run(rt.alloc(), &["scf", "asm"], LABELLED, 1);
+    assert!(rt; filter.is(SPELLED, 0, 0), "{filter:?}");
+    let listing = run(rt.alloc(), &["scf", "dis"], &filter.text, 1);
+    let again = run(rt.alloc(), &["scf", "asm"], &listing.text, 1);
+    assert!(rt; again.is(SPELLED, 0, 0), "{again:?}");
 }

@@ -1,6 +1,6 @@
 -- The call record that the options of the command line spell.
 use Rattle.std.specs.Prelude.{◌≡◌, ℕ, ◌-◌, ◌^◌, List, [], ◌∷◌, codes, map, find, nat_le, is_none, Option, Some, None, Result, Ok, Err, option_map, if◌then◌else◌}
-use Rattle.clap.specs.Words.{found_of, first_value}
+use Rattle.clap.specs.Words.{first_value}
 use Rattle.clap.specs.declared.parser.matches.Found.{Found}
 use Rattle.scf_insn.specs.declared.record.CallRecord.{CallRecord}
 use Rattle.scf_insn.specs.Numbers.{number_of}

@@ -71,12 +71,12 @@ pub record IsFilter (bytes : Option (List ℕ)) (insns : List Insn) : Type 0 whe
   pub stored : KeepsScratchRule insns
 
 -- few enough bytes of a call table or a profile
-abbrev pub IsShort : List ℕ → Type 0
-IsShort told = length told ≤ 4194304
+abbrev pub IsWithinLimit : List ℕ → Type 0
+IsWithinLimit told = length told ≤ 4194304
 
 -- a call table: the bytes spell the map
 abbrev pub IsTable : Option (List ℕ) → Names → Type 0
-IsTable bytes names = IfSome bytes (λ told. IsShort told × (table_of told ≡ Ok names))
+IsTable bytes names = IfSome bytes (λ told. IsWithinLimit told × (table_of told ≡ Ok names))
 
 -- a profile: the JSON value of the bytes and the map state it, with what is left out of it
 abbrev pub IsLoaded : Option (List ℕ) → Names → Loaded → Type 0
@@ -126,13 +126,13 @@ pub record IsRefusedFilter (bytes : Option (List ℕ)) (fault : CheckFault) : Ty
 
 -- The bytes spell no call table, for this fault first. Want of memory may come in place of it.
 abbrev pub IsRefusedTable : Option (List ℕ) → TableFault → Type 0
-IsRefusedTable bytes fault = IfSome bytes (λ told. IsShort told × (fault ≢ tables.Memory → table_of told ≡ Err fault))
+IsRefusedTable bytes fault = IfSome bytes (λ told. IsWithinLimit told × (fault ≢ tables.Memory → table_of told ≡ Err fault))
 
 -- The bytes and the map of the table state no profile, for this fault first.
 pub record IsRefusedProfile (table profile : Option (List ℕ)) (fault : LoadFault) : Type 0 where
   pub names : Names
   pub is_table : IsTable table names
-  pub refused : IfSome profile (λ told. IsShort told × Refuses told names fault)
+  pub refused : IfSome profile (λ told. IsWithinLimit told × Refuses told names fault)
 
 -- What each fault says: all that is read and looked at before is accepted, and this is why the next isn't.
 abbrev pub IsRefused : Option (List ℕ) → Option (List ℕ) → Option (List ℕ) → VerifyFault → Type 0

@@ -1,6 +1,6 @@
 //! Bundles: files one after another, each behind a header that says what it is and how many bytes it has.
 
-ghost use Rattle.std.specs.Prelude.{◌≡◌, ◌≢◌, ◌+◌, ◌-◌, ◌<◌, ◌≤◌, ◌++◌, ◌∷◌, [], ℕ, List, codes, length, take, drop, slice_index, MatchOption, MatchResult, IfSome, IfNone, IfOk, IfErr};
+ghost use Rattle.std.specs.Prelude.{◌≡◌, ◌≢◌, ◌+◌, ◌-◌, ◌<◌, ◌≤◌, ◌++◌, ◌∷◌, [], ℕ, List, codes, length, take, drop, slice_index, MatchOption, IfSome, IfNone, IfOk, IfErr};
 ghost use Rattle.scf_tool.specs.Bundle.{kind_word, IsCount, IsHeader, HasHeader, IsPart, IsFaultAt, Spells, IsBundleFault};
 
 use scf_insn::parse_numeral;

@@ -18,6 +18,10 @@ const NOT_UTF8: &[u8] = b"error: invalid UTF-8 was detected in one or more argum
 /// The version that `--version` prints.
 const VERSION: &str = "0.1.0";
 
+/// What the help says of the program.
+const ABOUT: &str =
+    "Checks, runs, lists, assembles, compiles and compares seccomp filters for x86-64. Input comes on standard input.";
+
 /// The options that say what call a filter is asked about.
 const CALL_OPTIONS: [(&str, &str); 9] = [
     ("nr", "The number of the call [default: 0]"),
@@ -59,9 +63,7 @@ fn comparison<'a>(alloc: Global) -> Result<Command<'a>, AllocError> {
 fn program<'a>(alloc: Global) -> Result<Command<'a>, AllocError> {
     Command::new(alloc, "scf")
         .version(VERSION)
-        .about(
-            "Checks, runs, lists, assembles, compiles and compares seccomp filters for x86-64. Input comes on standard input.",
-        )
+        .about(ABOUT)
         .subcommand_required(true)
         .subcommand(Command::new(alloc, "check").about("Checks a filter"))?
         .subcommand(on_call(alloc, "run", "Runs a filter on a call")?)?

@@ -54,8 +54,13 @@ fn in_entry(entry: Option<u32>) -> [Option<Field>; 3] {
 }
 
 impl Fault {
+    ghost use Rattle.std.specs.Prelude.{◌≡◌, codes};
+    ghost use Rattle.scf_tool.specs.Statuses.{IsFailure};
+
     /// Memory was refused.
-    pub(crate) fn memory(source: &'static str) -> Fault {
+    pub(crate) fn memory(source: &'static str) -> Fault
+        ensures { IsFailure source.now result }
+    {
         Fault {
             status: Status::Failed,
             source,
@@ -63,14 +68,10 @@ impl Fault {
             fields: NONE,
         }
     }
-}
-
-impl Fault {
-    ghost use Rattle.std.specs.Prelude.{◌≡◌};
 
     /// An input of this source wasn't read.
     pub(crate) fn of_input(source: &'static str, fault: InputFault) -> Fault
-        ensures { result.status ≡ Status.Failed }
+        ensures { IsFailure source.now result }
     {
         let kind = match fault {
             InputFault::Read => "Read",
@@ -85,7 +86,11 @@ impl Fault {
         }
     }
 
-    fn of_profile(kind: &'static str, fields: [Option<Field>; 3]) -> Fault {
+    /// A profile is refused, for another reason than want of memory.
+    fn of_profile(kind: &'static str, fields: [Option<Field>; 3]) -> Fault
+        ensures status { result.status ≡ Status.Refused }
+        ensures source { result.source.now ≡ codes "profile" }
+    {
         Fault {
             status: Status::Refused,
             source: "profile",
@@ -95,7 +100,10 @@ impl Fault {
     }
 
     /// Two entries of a profile conflict on a call.
-    fn conflict(number: u32, first: u32, second: u32) -> Fault {
+    fn conflict(number: u32, first: u32, second: u32) -> Fault
+        ensures status { result.status ≡ Status.Refused }
+        ensures source { result.source.now ≡ codes "profile" }
+    {
         let fields = [
             named("number", number as usize),
             named("first", first as usize),
@@ -105,7 +113,9 @@ impl Fault {
     }
 
     /// The parts of a bundle aren't those that a command takes.
-    pub(crate) fn parts() -> Fault {
+    pub(crate) fn parts() -> Fault
+        ensures { IsFailure (codes "bundle") result }
+    {
         Fault {
             status: Status::Failed,
             source: "bundle",
@@ -116,6 +126,11 @@ impl Fault {
 }
 
 impl From<NumberFault> for Fault {
+    ghost use Rattle.std.specs.Prelude.{◌≡◌, codes};
+    ghost use Rattle.scf_tool.specs.declared.status.Status.TheVariants.{CommandLine};
+
+    ghost from_gives = { λ fault e. (e.source.now ≡ codes "number") × (e.kind.now ≡ fault.name.now) × (e.status ≡ CommandLine) };
+
     fn from(fault: NumberFault) -> Fault {
         Fault {
             status: Status::CommandLine,
@@ -127,10 +142,10 @@ impl From<NumberFault> for Fault {
 }
 
 impl From<ReadFault> for Fault {
-    ghost use Rattle.std.specs.Prelude.{◌≡◌};
-    ghost use Rattle.scf_tool.specs.declared.status.Status.TheVariants.{Failed};
+    ghost use Rattle.std.specs.Prelude.{codes};
+    ghost use Rattle.scf_tool.specs.Statuses.{IsFailure};
 
-    ghost from_gives = { λ _ fault. fault.status ≡ Failed };
+    ghost from_gives = { λ _ fault. IsFailure (codes "filter") fault };
 
     fn from(fault: ReadFault) -> Fault {
         let (kind, fields) = match fault {
@@ -149,10 +164,10 @@ impl From<ReadFault> for Fault {
 }
 
 impl From<InputFault> for Fault {
-    ghost use Rattle.std.specs.Prelude.{◌≡◌};
-    ghost use Rattle.scf_tool.specs.declared.status.Status.TheVariants.{Failed};
+    ghost use Rattle.std.specs.Prelude.{codes};
+    ghost use Rattle.scf_tool.specs.Statuses.{IsFailure};
 
-    ghost from_gives = { λ _ fault. fault.status ≡ Failed };
+    ghost from_gives = { λ _ fault. IsFailure (codes "input") fault };
 
     fn from(fault: InputFault) -> Fault {
         Fault::of_input("input", fault)
@@ -160,6 +175,11 @@ impl From<InputFault> for Fault {
 }
 
 impl From<BundleFault> for Fault {
+    ghost use Rattle.std.specs.Prelude.{codes};
+    ghost use Rattle.scf_tool.specs.Statuses.{IsFailure};
+
+    ghost from_gives = { λ _ fault. IsFailure (codes "bundle") fault };
+
     fn from(fault: BundleFault) -> Fault {
         let (kind, fields) = match fault {
             BundleFault::Header { offset } => ("Header", one("offset", offset)),
@@ -176,6 +196,12 @@ impl From<BundleFault> for Fault {
 }
 
 impl From<TextFault> for Fault {
+    ghost use Rattle.std.specs.Prelude.{◌≡◌, codes};
+    ghost use Rattle.scf_text.specs.declared.fault.TextFault.TheVariants as faults;
+    ghost use Rattle.scf_tool.specs.Statuses.{IsRefusal};
+
+    ghost from_gives = { λ fault e. IsRefusal (codes "text") (fault ≡ faults.Memory) e };
+
     fn from(fault: TextFault) -> Fault {
         let (kind, line) = match fault {
             TextFault::NotAscii { line } => ("NotAscii", line),
@@ -197,6 +223,12 @@ impl From<TextFault> for Fault {
 }
 
 impl From<TableFault> for Fault {
+    ghost use Rattle.std.specs.Prelude.{◌≡◌, codes};
+    ghost use Rattle.scf_profile.specs.declared.table_fault.TableFault.TheVariants as faults;
+    ghost use Rattle.scf_tool.specs.Statuses.{IsRefusal};
+
+    ghost from_gives = { λ fault e. IsRefusal (codes "table") (fault ≡ faults.Memory) e };
+
     fn from(fault: TableFault) -> Fault {
         let (kind, line) = match fault {
             TableFault::Form { line } => ("Form", line),
@@ -215,6 +247,12 @@ impl From<TableFault> for Fault {
 }
 
 impl From<LoadFault> for Fault {
+    ghost use Rattle.std.specs.Prelude.{◌≡◌, codes};
+    ghost use Rattle.scf_profile.specs.declared.load_fault.LoadFault.TheVariants as faults;
+    ghost use Rattle.scf_tool.specs.Statuses.{IsRefusal};
+
+    ghost from_gives = { λ fault e. IsRefusal (codes "profile") (fault ≡ faults.Memory) e };
+
     fn from(fault: LoadFault) -> Fault {
         let (kind, entry) = match fault {
             LoadFault::Json => ("Json", None),
@@ -242,6 +280,12 @@ impl From<LoadFault> for Fault {
 }
 
 impl From<CompileFault> for Fault {
+    ghost use Rattle.std.specs.Prelude.{◌≡◌, codes};
+    ghost use Rattle.scf_compile.specs.declared.fault.CompileFault.TheVariants as faults;
+    ghost use Rattle.scf_tool.specs.Statuses.{IsRefusal};
+
+    ghost from_gives = { λ fault e. IsRefusal (codes "compile") (fault ≡ faults.Memory) e };
+
     fn from(fault: CompileFault) -> Fault {
         match fault {
             CompileFault::TooLarge => Fault {
@@ -256,6 +300,10 @@ impl From<CompileFault> for Fault {
 }
 
 impl From<VerifyFault> for Fault {
+    ghost use Rattle.scf_tool.specs.Statuses.{IsComparisonFault};
+
+    ghost from_gives = { IsComparisonFault };
+
     fn from(fault: VerifyFault) -> Fault {
         match fault {
             VerifyFault::FilterRead(fault) => Fault::from(fault),
@@ -270,6 +318,12 @@ impl From<VerifyFault> for Fault {
 }
 
 impl From<PushFault> for Fault {
+    ghost use Rattle.std.specs.Prelude.{◌≡◌, codes};
+    ghost use Rattle.scf_machine.specs.declared.stack.PushFault.TheVariants as faults;
+    ghost use Rattle.scf_tool.specs.Statuses.{IsRefusal};
+
+    ghost from_gives = { λ fault e. IsRefusal (codes "stack") (fault ≡ faults.Memory) e };
+
     fn from(fault: PushFault) -> Fault {
         match fault {
             PushFault::TooMany { total } => Fault {
@@ -284,6 +338,12 @@ impl From<PushFault> for Fault {
 }
 
 impl From<CheckFault> for Fault {
+    ghost use Rattle.std.specs.Prelude.{◌≡◌, codes};
+    ghost use Rattle.scf_machine.specs.declared.checker.CheckFault.TheVariants as faults;
+    ghost use Rattle.scf_tool.specs.Statuses.{IsRefusal};
+
+    ghost from_gives = { λ fault e. IsRefusal (codes "filter") (fault ≡ faults.Memory) e };
+
     fn from(fault: CheckFault) -> Fault {
         let (kind, fields) = match fault {
             CheckFault::Empty => ("Empty", NONE),

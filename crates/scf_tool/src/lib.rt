@@ -20,6 +20,3 @@ pub use commands::run_command;
 pub use options::{NumberFault, record_of};
 pub use reporting::report;
 pub use verification::{Outcome, VerifyFault, verify};
-
-#[cfg(test)]
-mod comparison_tests;

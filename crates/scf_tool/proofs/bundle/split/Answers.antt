@@ -1,7 +1,6 @@
-use Rattle.std.proofs.Common.{◌≡◌, ◌≤◌, length, take, arith}
+use Rattle.std.proofs.Common.{arith}
 use Rattle.std.proofs.lemmas.List.{take_all}
 use Rattle.std.proofs.lemmas.Result.{err_from_is_err_and}
-use Rattle.scf_tool.specs.Bundle.{Spells}
 use Rattle.scf_tool.proofs.BundleLemmas.{breaks, fault_no_parts, next_part, one_spelling}
 use Rattle.scf_tool.proofs.bundle.split.Goals as goal
 

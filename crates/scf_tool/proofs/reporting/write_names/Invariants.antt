@@ -1,5 +1,4 @@
-use Rattle.std.proofs.Common.{take, String, string_bytes}
-use Rattle.std.specs.declared.alloc.Global.{Global}
+use Rattle.std.proofs.Common.{take, string_bytes}
 use Rattle.std.specs.List.{flat_map}
 use Rattle.scf_insn.specs.Streams.{TakesAll}
 use Rattle.scf_tool.specs.Reports.{name_line}
