@@ -1,6 +1,6 @@
 //! One instruction (Linux uapi filter.h, struct sock_filter).
 
-ghost use Rattle.std.specs.Prelude.{◌≡◌, ◌≢◌, ◌<◌, ◌^◌};
+ghost use Rattle.std.specs.Prelude.{◌≡◌, ◌<◌, ◌^◌};
 ghost use Rattle.scf_insn.specs.Insn.{IsInsn, insn_bytes};
 ghost use Rattle.scf_insn.specs.Codes.{operation_of};
 
@@ -54,30 +54,14 @@ impl Insn {
 
     /// What its code asks for, or `None` where the code isn't one of the 41.
     ///
-    /// The codes that most filters are made of are tested first, so that these don't wait for a jump table.
+    /// It is inlined where its result is matched on, so that a code leads straight to the arm of its operation.
     #[tactic(auto, unfolding(crate::specs::Codes::operation_of, crate::specs::Codes::code_table))]
     #[inline(always)]
     pub fn operation(&self) -> Option<Operation>
         ensures { result ≡ operation_of self.now.code }
     {
-        match self.code {
-            0x15 => Some(Operation::JumpIf(Test::Equal, Operand::Constant)),
-            0x20 => Some(Operation::LoadWord),
-            0x06 => Some(Operation::ReturnConstant),
-            _ => self.other_operation(),
-        }
-    }
-
-    /// What another code asks for.
-    #[tactic(auto, unfolding(crate::specs::Codes::operation_of, crate::specs::Codes::code_table))]
-    #[inline(never)]
-    fn other_operation(&self) -> Option<Operation>
-        requires not_jeq { self.now.code ≢ 0x15 }
-        requires not_ld { self.now.code ≢ 0x20 }
-        requires not_ret { self.now.code ≢ 0x06 }
-        ensures { result ≡ operation_of self.now.code }
-    {
         let operation = match self.code {
+            0x20 => Operation::LoadWord,
             0x80 => Operation::LoadLength(Register::A),
             0x81 => Operation::LoadLength(Register::X),
             0x00 => Operation::LoadConstant(Register::A),
@@ -106,6 +90,7 @@ impl Insn {
             0xac => Operation::Compute(Arithmetic::Xor, Operand::Index),
             0x84 => Operation::Negate,
             0x05 => Operation::Jump,
+            0x15 => Operation::JumpIf(Test::Equal, Operand::Constant),
             0x1d => Operation::JumpIf(Test::Equal, Operand::Index),
             0x25 => Operation::JumpIf(Test::Greater, Operand::Constant),
             0x2d => Operation::JumpIf(Test::Greater, Operand::Index),
@@ -113,6 +98,7 @@ impl Insn {
             0x3d => Operation::JumpIf(Test::GreaterOrEqual, Operand::Index),
             0x45 => Operation::JumpIf(Test::CommonBit, Operand::Constant),
             0x4d => Operation::JumpIf(Test::CommonBit, Operand::Index),
+            0x06 => Operation::ReturnConstant,
             0x16 => Operation::ReturnAccumulator,
             0x07 => Operation::CopyToIndex,
             0x87 => Operation::CopyToAccumulator,

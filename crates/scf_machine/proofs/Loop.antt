@@ -1,21 +1,24 @@
 -- The loop of a run.
-use Rattle.std.proofs.Common.{◌≡◌, ℕ, ◌+◌, ◌<◌, ◌≤◌, List, [], ◌∷◌, Option, None, Some, refl, ap, sym, subst, ◌∙◌, arith, length}
+use Rattle.std.proofs.Common.{◌≡◌, ℕ, ◌+◌, ◌<◌, ◌≤◌, Bool, nat_eq, if◌then◌else◌, List, [], ◌∷◌, Option, None, Some, refl, ap, sym, subst, ◌∙◌, arith, length}
 use Rattle.scf_insn.specs.declared.insn.Insn.{Insn}
 use Rattle.scf_insn.specs.declared.answer.Answer.{Answer}
 use Rattle.scf_insn.specs.declared.operation.Operation.{Operation}
 use Rattle.scf_machine.specs.declared.machine.Registers.{Registers}
-use Rattle.scf_machine.specs.Machine.{State, start, Outcome, Goes, Ends, Faults, effect, step, IsChain, IsRun}
+use Rattle.scf_machine.specs.Machine.{State, start, Outcome, Goes, Ends, Faults, effect, jumps_to, step, IsChain, IsRun}
 use Rattle.std.specs.List.{slice_get}
 use Rattle.std.proofs.Common.{get_or}
 use Rattle.std.proofs.lemmas.Option.{slice_get_read}
 use Rattle.scf_insn.specs.Codes.{operation_of}
 use Rattle.scf_insn.specs.declared.operation.Operand.{Operand}
 use Rattle.scf_insn.specs.declared.operation.Operand.TheVariants.{Constant}
+use Rattle.scf_insn.specs.declared.operation.Test.{Test}
+use Rattle.scf_insn.specs.declared.operation.Test.TheVariants.{Equal}
 use Rattle.scf_insn.specs.declared.operation.Arithmetic.{Arithmetic}
 use Rattle.scf_insn.specs.declared.operation.Arithmetic.TheVariants.{Div, Lsh, Rsh}
-use Rattle.scf_insn.specs.declared.operation.Operation.TheVariants.{Compute, Jump, JumpIf}
+use Rattle.scf_insn.specs.declared.operation.Operation.TheVariants.{LoadWord, Compute, Jump, JumpIf}
 use Rattle.scf_machine.specs.Rules.{IsValidList, IsFine, IsFineAt, Stands, KeepsScratchRule}
 use Rattle.scf_machine.specs.Registers.{StandFor, Agrees}
+use Rattle.scf_machine.proofs.Steps.{branches}
 use Rattle.scf_machine.proofs.Runs.{chain_inside, chain_slow, edge_forward, step_edge, step_is, never_faults, run_length, same_insn}
 
 -- The registers stand for a state that a chain of so many steps comes to.
@@ -61,13 +64,30 @@ module _ (insns : List Insn) (words : List ℕ) (old new : Registers) (steps : �
   stands_at : (i : Insn) (operation : Operation) → Stands insns old.place i operation → Stands insns at.state.place i operation
   stands_at i operation stands = subst (λ (p : ℕ). Stands insns p i operation) (sym at.stand.place) stands
 
-  pub next_of : (i : Insn) (operation : Operation) → Stands insns old.place i operation → Agrees (effect operation i words at.state) None new → Next insns words old new steps
-  next_of i operation stands agrees = goes (effect operation i words at.state) (step_is insns words at.state i operation (stands_at i operation stands)) agrees
+  -- The words of the record stand in a row that the machine reads.
+  pub next_of : (i : Insn) (operation : Operation) (row : List ℕ) → row ≡ words → Stands insns old.place i operation → Agrees (effect operation i row at.state) None new → Next insns words old new steps
+  next_of i operation row same stands agrees =
+      goes (effect operation i words at.state) (step_is insns words at.state i operation (stands_at i operation stands))
+      (subst (λ (read : List ℕ). Agrees (effect operation i read at.state) None new) same agrees)
 
-  pub run_of : (i : Insn) (operation : Operation) (answer : Answer) → Stands insns old.place i operation → Agrees (effect operation i words at.state) (Some answer) new → IsRun insns words answer.0 (steps + 1) × (steps + 1 ≤ length insns)
-  run_of i operation answer stands agrees =
-      let long = run_length insns words valid at.state at.earlier at.chain in let count = at.count in
-      (ends (effect operation i words at.state) answer (step_is insns words at.state i operation (stands_at i operation stands)) agrees, omega arith)
+  pub next_load : (i : Insn) (operation : Operation) (row : List ℕ) → row ≡ words → Stands insns old.place i operation → operation ≡ LoadWord → Agrees (effect LoadWord i row at.state) None new → Next insns words old new steps
+  next_load i operation row same stands is agrees =
+      next_of i operation row same stands (subst (λ (o : Operation). Agrees (effect o i row at.state) None new) (sym is) agrees)
+
+  pub next_jump : (i : Insn) (operation : Operation) (test : Test) (operand : Operand) (b : Bool) → Stands insns old.place i operation
+      → operation ≡ JumpIf test operand → test ≡ Equal → operand ≡ Constant → nat_eq at.state.a i.k ≡ b
+      → StandFor new (jumps_to at.state (at.state.place + 1 + (if b then i.jt else i.jf))) → Next insns words old new steps
+  next_jump i operation test operand b stands is equal constant answers stand =
+      let is_test : operation ≡ JumpIf Equal Constant = subst (λ (t : Test). operation ≡ JumpIf t Constant) equal (subst (λ (o : Operand). operation ≡ JumpIf test o) constant is) in
+      next_of i operation words refl stands (subst (λ (o : Operation). Agrees (effect o i words at.state) None new) (sym is_test) (branches (nat_eq at.state.a i.k) b i at.state new answers stand))
+
+  pub run_of : (i : Insn) (operation : Operation) (row : List ℕ) → row ≡ words → (answer : Answer) → Stands insns old.place i operation → Agrees (effect operation i row at.state) (Some answer) new → IsRun insns words answer.0 (steps + 1) × (steps + 1 ≤ length insns)
+  run_of i operation row same answer stands agrees =
+      let long = run_length insns words valid at.state at.earlier at.chain in let count = at.count in (
+        ends (effect operation i words at.state) answer (step_is insns words at.state i operation (stands_at i operation stands))
+            (subst (λ (read : List ℕ). Agrees (effect operation i read at.state) (Some answer) new) same agrees),
+        omega arith,
+      )
 
 -- what was read at a place stands there
 pub read_here : (insns : List Insn) (p : ℕ) (i : Insn) → p < length insns → i ≡ get_or insns p i → slice_get insns p ≡ Some i

@@ -1,5 +1,5 @@
 -- One step of the running machine.
-use Rattle.std.proofs.Common.{◌≡◌, ℕ, ◌%◌, ◌<◌, nat_lt, nat_eq, ◌&&◌, Bool, true, false, not, cond, [], None, Some, refl, sym, subst, arith, eq-eqb}
+use Rattle.std.proofs.Common.{◌≡◌, ℕ, ◌+◌, ◌%◌, ◌<◌, nat_lt, nat_eq, ◌&&◌, Bool, true, false, not, cond, [], None, Some, refl, sym, subst, ◌∙◌, if◌then◌else◌, arith, eq-eqb}
 use Rattle.std.proofs.lemmas.Bool.Decides.{nat_tests}
 use Rattle.scf_insn.specs.declared.insn.Insn.{Insn}
 use Rattle.scf_insn.specs.declared.operation.Register.{Register}
@@ -8,9 +8,10 @@ use Rattle.scf_insn.specs.declared.operation.Operand.{Operand}
 use Rattle.scf_insn.specs.declared.operation.Operand.TheVariants.{Constant, Index}
 use Rattle.scf_insn.specs.declared.operation.Arithmetic.{Arithmetic}
 use Rattle.scf_insn.specs.declared.operation.Arithmetic.TheVariants.{Add, Sub, Mul, Div, Or, And, Lsh, Rsh, Xor}
+use Rattle.scf_insn.specs.declared.operation.Test.{Test}
 use Rattle.scf_insn.specs.declared.operation.Operation.TheVariants.{Compute}
 use Rattle.scf_machine.specs.declared.machine.Registers.{Registers}
-use Rattle.scf_machine.specs.Machine.{State, sets, Goes, Ends, Fault, unless, computation, value_computed, operand_in_computation}
+use Rattle.scf_machine.specs.Machine.{State, sets, jumps_to, holds, Goes, Ends, Fault, unless, computation, value_computed, operand_in_computation}
 use Rattle.scf_machine.specs.Registers.{StandFor, Agrees}
 use Rattle.scf_machine.specs.Rules.{IsFine}
 
@@ -20,6 +21,22 @@ agrees_unless false f t new e h = cc
 
 pub stand_with : (new : Registers) (s : State) (r : Register) (m n : ℕ) → m ≡ n → StandFor new (sets r s m) → StandFor new (sets r s n)
 stand_with new s r m n e h = subst (λ (k : ℕ). StandFor new (sets r s k)) e h
+
+-- where a test is known, the registers that jumped by its offset stand for the next state
+pub branches : (b c : Bool) (i : Insn) (s : State) (new : Registers) → b ≡ c → StandFor new (jumps_to s (s.place + 1 + (if c then i.jt else i.jf))) → StandFor new (jumps_to s (s.place + 1 + (if b then i.jt else i.jf)))
+branches b c i s new e h = subst (λ (d : Bool). StandFor new (jumps_to s (s.place + 1 + (if d then i.jt else i.jf)))) (sym e) h
+
+pub holds_at : (test : Test) (a v b w : ℕ) (r c : Bool) → r ≡ holds test a v → r ≡ c → b ≡ a → v ≡ w → holds test b w ≡ c
+holds_at test a v b w r c e f g h = subst (λ (n : ℕ). holds test n w ≡ c) (sym g) (subst (λ (n : ℕ). holds test a n ≡ c) h (sym e ∙ f))
+
+pub equal_test : (a b k : ℕ) → b ≡ a → a ≡ k → nat_eq b k ≡ true
+equal_test a b k e h = eq-eqb b k (e ∙ h)
+
+pub apart_test : (a b k : ℕ) → b ≡ a → (a ≡ k → ⊥) → nat_eq b k ≡ false
+apart_test a b k e h = differ b k (λ same. h (sym e ∙ same))
+  where
+    differ : (m n : ℕ) → (m ≡ n → ⊥) → nat_eq m n ≡ false
+    differ m n h = grind (arith, nat_tests)
 
 pub word_test : (k : ℕ) → (k < 64) × (k % 4 ≡ 0) → (nat_lt k 64 && nat_eq (k % 4) 0) ≡ true
 word_test k h = let a = h.0 in let b = h.1 in grind (arith, nat_tests)

@@ -1,14 +1,16 @@
 //! The machine that runs a filter.
 
-ghost use Rattle.std.specs.Prelude.{◌≡◌, ◌≢◌, ◌⊎◌, ℕ, ◌+◌, ◌<◌, ◌≤◌, ◌^◌, length, Some, slice_get, IsTrue, ◌↔◌};
+ghost use Rattle.std.specs.Prelude.{◌≡◌, ◌≢◌, ◌⊎◌, ℕ, ◌+◌, ◌<◌, ◌≤◌, ◌^◌, length, None, Some, slice_get, IsTrue, ◌↔◌};
 ghost use Rattle.scf_insn.specs.Codes.{operation_of};
 ghost use Rattle.scf_insn.specs.Words.{words_of};
-ghost use Rattle.scf_machine.specs.Machine.{State, value_of, sets, stores, operand_of, operand_in_computation, value_computed, computation, holds, effect, IsRun, RunsSafely, start};
+ghost use Rattle.scf_machine.specs.Machine.{State, value_of, sets, stores, jumps_to, operand_of, operand_in_computation, value_computed, computation, holds, effect, IsRun, RunsSafely, start};
 ghost use Rattle.scf_machine.specs.Rules.{IsFine};
 ghost use Rattle.scf_machine.specs.Registers.{StandFor, Agrees};
 
 use crate::program::Program;
-use scf_insn::{Answer, Arithmetic, CallRecord, Insn, Operand, Operation, Register, Test};
+use scf_insn::{
+    Answer, Arithmetic, CallRecord, Insn, Operand, Operation, Register, Test, high_half, low_half,
+};
 
 /// The answer of a run, and how many instructions it executed.
 #[derive(Clone, Copy, Debug, PartialEq, Eq)]
@@ -30,6 +32,9 @@ struct Registers {
 }
 
 /// What a computation on two numbers gives.
+///
+/// It isn't inlined, so that the loop of a run keeps its numbers in the registers of the processor.
+#[inline(never)]
 pub fn compute(arithmetic: Arithmetic, a: u32, value: u32) -> u32
     requires divisor { arithmetic ≡ Arithmetic.Div → value ≢ 0 }
     requires left { arithmetic ≡ Arithmetic.Lsh → value < 32 }
@@ -59,6 +64,31 @@ pub fn holds_of(test: Test, a: u32, value: u32) -> bool
         Test::GreaterOrEqual => a >= value,
         Test::CommonBit => a & value != 0,
     }
+}
+
+/// The words of a record, put in a row once for all the loads of a run.
+fn row_of_words(call: &CallRecord) -> [u32; 16]
+    ensures { result ≡ words_of call.now }
+{
+    let [first, second, third, fourth, fifth, sixth] = call.args;
+    [
+        call.nr,
+        call.arch,
+        low_half(call.ip),
+        high_half(call.ip),
+        low_half(first),
+        high_half(first),
+        low_half(second),
+        high_half(second),
+        low_half(third),
+        high_half(third),
+        low_half(fourth),
+        high_half(fourth),
+        low_half(fifth),
+        high_half(fifth),
+        low_half(sixth),
+        high_half(sixth),
+    ]
 }
 
 impl Registers {
@@ -104,9 +134,29 @@ impl Registers {
         self.place += 1;
     }
 
+    /// Goes on so many instructions past the next.
+    #[inline(always)]
+    fn jump(&mut self, offset: u8)
+        requires { self.old.place < 4096 }
+        ensures { (s : State) → StandFor self.old s → StandFor self.new (jumps_to s (s.place + 1 + offset)) }
+    {
+        self.place += 1 + offset as usize;
+    }
+
+    /// Loads a word of the record.
+    #[inline(always)]
+    fn load_word(&mut self, insn: &Insn, words: &[u32; 16])
+        requires place { self.old.place < 4096 }
+        requires fine { IsFine 4096 self.old.place insn.now Operation.LoadWord }
+        ensures { (s : State) → StandFor self.old s
+            → Agrees (effect Operation.LoadWord insn.now words.now s) None self.new }
+    {
+        self.set(Register::A, words[(insn.k / 4) as usize]);
+    }
+
     /// The second operand.
-    fn operand(&self, operand: Operand, insn: Insn) -> u32
-        ensures { (s : State) → StandFor self.now s → result ≡ operand_of operand insn s }
+    fn operand(&self, operand: Operand, insn: &Insn) -> u32
+        ensures { (s : State) → StandFor self.now s → result ≡ operand_of operand insn.now s }
     {
         match operand {
             Operand::Constant => insn.k,
@@ -115,8 +165,8 @@ impl Registers {
     }
 
     /// The second operand of a computation: of a shift by the index register, its low five bits.
-    fn operand_in_computation(&self, arithmetic: Arithmetic, operand: Operand, insn: Insn) -> u32
-        ensures { (s : State) → StandFor self.now s → result ≡ operand_in_computation arithmetic operand insn s }
+    fn operand_in_computation(&self, arithmetic: Arithmetic, operand: Operand, insn: &Insn) -> u32
+        ensures { (s : State) → StandFor self.now s → result ≡ operand_in_computation arithmetic operand insn.now s }
     {
         match operand {
             Operand::Constant => insn.k,
@@ -129,10 +179,11 @@ impl Registers {
     }
 
     /// Executes a computation, which answers 0 where it divides by an index register of 0.
-    fn compute(&mut self, arithmetic: Arithmetic, operand: Operand, insn: Insn) -> Option<Answer>
+    fn compute(&mut self, arithmetic: Arithmetic, operand: Operand, insn: &Insn) -> Option<Answer>
         requires place { self.old.place < 4096 }
-        requires fine { IsFine 4096 self.old.place insn (Operation.Compute arithmetic operand) }
-        ensures { (s : State) → StandFor self.old s → Agrees (computation arithmetic operand insn s) result self.new }
+        requires fine { IsFine 4096 self.old.place insn.now (Operation.Compute arithmetic operand) }
+        ensures { (s : State) → StandFor self.old s
+            → Agrees (computation arithmetic operand insn.now s) result self.new }
     {
         let value = self.operand_in_computation(arithmetic, operand, insn);
         if matches!(arithmetic, Arithmetic::Div) && value == 0 {
@@ -143,13 +194,14 @@ impl Registers {
     }
 
     /// Executes one instruction.
-    fn step(&mut self, insn: Insn, operation: Operation, call: &CallRecord) -> Option<Answer>
+    #[inline(always)]
+    fn step(&mut self, insn: &Insn, operation: Operation, words: &[u32; 16]) -> Option<Answer>
         requires place { self.old.place < 4096 }
-        requires fine { IsFine 4096 self.old.place insn operation }
-        ensures { (s : State) → StandFor self.old s → Agrees (effect operation insn (words_of call.now) s) result self.new }
+        requires fine { IsFine 4096 self.old.place insn.now operation }
+        ensures { (s : State) → StandFor self.old s → Agrees (effect operation insn.now words.now s) result self.new }
     {
         match operation {
-            Operation::LoadWord => self.set(Register::A, call.word((insn.k / 4) as u8)),
+            Operation::LoadWord => self.load_word(insn, words),
             Operation::LoadLength(register) => self.set(register, RECORD_LEN),
             Operation::LoadConstant(register) => self.set(register, insn.k),
             Operation::LoadScratch(register) => {
@@ -163,12 +215,11 @@ impl Registers {
             Operation::Jump => self.place += 1 + insn.k as usize,
             Operation::JumpIf(test, operand) => {
                 let value = self.operand(operand, insn);
-                let offset = if holds_of(test, self.a, value) {
-                    insn.jt
+                if holds_of(test, self.a, value) {
+                    self.jump(insn.jt);
                 } else {
-                    insn.jf
-                };
-                self.place += 1 + offset as usize;
+                    self.jump(insn.jf);
+                }
             }
             Operation::ReturnConstant => return Some(Answer(insn.k)),
             Operation::ReturnAccumulator => return Some(Answer(self.a)),
@@ -180,21 +231,40 @@ impl Registers {
 }
 
 /// Runs a filter over the record of a call: the answer and the length of its one run.
+///
+/// It isn't inlined, so that its loop has the registers of the processor to itself.
+#[inline(never)]
 pub fn run(program: &Program, call: &CallRecord) -> Ran
     ensures run { IsRun program.now (words_of call.now) result.answer.0 result.steps }
     ensures bound { result.steps ≤ length program.now }
     ensures safe { RunsSafely program.now (words_of call.now) }
 {
+    let words = row_of_words(call);
     let insns = &program.list;
     let mut registers = Registers::new();
     let mut steps = 0u32;
     loop {
-        let insn = insns[registers.place];
+        let insn = &insns[registers.place];
         steps += 1;
-        match insn.operation() {
-            None => unreachable!(),
-            Some(operation) => {
-                if let Some(answer) = registers.step(insn, operation, call) {
+        let Some(operation) = insn.operation() else {
+            unreachable!();
+        };
+        // Most of a filter is loads of words and tests of them. Each way out of one goes on by itself, so that a
+        // processor guesses the way and needn't wait for the place that comes next.
+        match operation {
+            Operation::LoadWord => {
+                registers.load_word(insn, &words);
+                continue;
+            }
+            Operation::JumpIf(Test::Equal, Operand::Constant) => {
+                if registers.a == insn.k {
+                    registers.jump(insn.jt);
+                    continue;
+                }
+                registers.jump(insn.jf);
+            }
+            _ => {
+                if let Some(answer) = registers.step(insn, operation, &words) {
                     return Ran { answer, steps };
                 }
             }

@@ -21,7 +21,7 @@ pub returns : goal.returns
 returns c = λ s stand.
     let value_is = c.operand_in_computation-value.ensures s stand in
     let is_div : c.args.arithmetic ≡ Div → c.match-matches.matches ≡ true = λ e. elim c.match-matches.branch [ in-Div w ↦ w.matches-is | in_default w ↦ absurd (w.in_default.not-Div e) ] in
-    let apart : c.args.arithmetic ≡ Div → operand_in_computation c.args.arithmetic c.args.operand c.args.insn s ≡ 0 → ⊥ =
+    let apart : c.args.arithmetic ≡ Div → operand_in_computation c.args.arithmetic c.args.operand c.args.insn.now s ≡ 0 → ⊥ =
     λ e z. elim c.else-matches.branch [
       | else-matches-via-then-matches+else-value-eq0 w ↦ w.if-value-eq0.false (value_is ∙ z)
       | else-matches-via-else-matches w ↦ let yes = is_div e in let no = w.if-matches.false in cc
