@@ -3,7 +3,7 @@ use Rattle.std.proofs.Common.{◌≡◌, ◌≢◌, ℕ, ◌<◌, ◌≤◌, ◌
 use Rattle.std.specs.Prelude.{slice_index}
 use Rattle.std.proofs.lemmas.Bool.{eq-eqb, eqb-true}
 use Rattle.std.proofs.lemmas.Bool.Decides.{nat_tests}
-use Rattle.std.proofs.lemmas.Nat.{and_mask, and_assoc, and_comm}
+use Rattle.std.proofs.lemmas.Nat.{and_mask, and_assoc}
 use Rattle.std.proofs.Math.Nat.{mod-eq_of_lt}
 use Rattle.scf_insn.specs.Words.{IsWords}
 use Rattle.scf_insn.proofs.CallWords.{word_below}

@@ -1,12 +1,11 @@
 -- The words in open branches, as one is opened and one is taken.
-use Rattle.std.proofs.Common.{◌≡◌, ℕ, ◌+◌, ◌⊎◌, inl, inr, List, [], ◌∷◌, ◌++◌, sym, subst, ap, ◌∙◌, arith}
-use Rattle.std.specs.Prelude.{Contains, sum_by}
+use Rattle.std.proofs.Common.{◌≡◌, ℕ, ◌⊎◌, inl, inr, List, [], ◌∷◌, ◌++◌, sym, subst}
+use Rattle.std.specs.Prelude.{Contains}
 use Rattle.std.proofs.lemmas.List.Elements.{Contains-append_left, Contains-push, Contains-push_cases}
-use Rattle.std.proofs.lemmas.List.Sums.{sum_by-append}
 use Rattle.scf_compare.specs.declared.frontier.Branch.{Branch}
 use Rattle.scf_compare.specs.declared.frontier.Frontier.{Frontier}
 use Rattle.scf_compare.specs.Questions.{Questions}
-use Rattle.scf_compare.specs.Frontier.{IsIn, IsInSome, open_size}
+use Rattle.scf_compare.specs.Frontier.{IsIn, IsInSome}
 
 module _ {F N : Type 0} (allows : F → List ℕ → Type 0) (tree : Questions N) (fewer more : Frontier F N) (branch : Branch F N) (one_more : more.branches.items ≡ fewer.branches.items ++ branch ∷ []) (words : List ℕ) where
   -- words in a branch are still in it once another was opened

@@ -1,5 +1,5 @@
 -- The next state of an instruction that goes on.
-use Rattle.std.proofs.Common.{◌≡◌, ℕ, ◌%◌, nat_eq, Bool, true, false, Option, None, Some, if◌then◌else◌, refl, subst}
+use Rattle.std.proofs.Common.{◌≡◌, ℕ, Bool, true, false, Option, None, Some, if◌then◌else◌, refl, subst}
 use Rattle.scf_insn.specs.declared.insn.Insn.{Insn}
 use Rattle.scf_insn.specs.declared.operation.Register.{Register}
 use Rattle.scf_insn.specs.declared.operation.Register.TheVariants.{A}
@@ -7,7 +7,7 @@ use Rattle.scf_insn.specs.declared.operation.Operand.{Operand}
 use Rattle.scf_insn.specs.declared.operation.Operand.TheVariants.{Constant, Index}
 use Rattle.scf_insn.specs.declared.operation.Arithmetic.{Arithmetic}
 use Rattle.scf_insn.specs.declared.operation.Arithmetic.TheVariants.{Div, Lsh, Rsh}
-use Rattle.scf_machine.specs.Machine.{State, Outcome, Goes, Ends, Faults, Fault, unless, loads, sets, computation, value_computed, operand_in_computation}
+use Rattle.scf_machine.specs.Machine.{State, Goes, Ends, Fault, unless, loads, sets, computation, value_computed, operand_in_computation}
 
 module _ (P : State → Type 0) where
   pub next_is : (s t : State) → Goes s ≡ Goes t → P s → P t

@@ -1,5 +1,5 @@
 -- What follows from how an instruction goes on.
-use Rattle.std.proofs.Common.{◌≡◌, ◌≢◌, ℕ, zero, suc, ◌+◌, ◌-◌, ◌<◌, ◌≤◌, ◌/◌, ◌==◌, Bool, true, false, List, [], ◌∷◌, Option, None, Some, length, drop, slice_index_or, if◌then◌else◌, inl, inr, refl, sym, ap, subst, ◌∙◌, arith, zero-add}
+use Rattle.std.proofs.Common.{◌≡◌, ℕ, zero, suc, ◌+◌, ◌-◌, ◌<◌, ◌≤◌, ◌/◌, ◌==◌, Bool, true, false, List, [], ◌∷◌, Option, None, Some, length, drop, slice_index_or, if◌then◌else◌, inl, inr, refl, sym, ap, subst, ◌∙◌, arith, zero-add}
 use Rattle.std.specs.Prelude.{slice_get}
 use Rattle.std.proofs.lemmas.Option.{slice_get_within}
 use Rattle.std.proofs.Math.Nat.{eq-or-lt_of_le}
@@ -8,14 +8,13 @@ use Rattle.scf_insn.specs.declared.operation.Register.{Register}
 use Rattle.scf_insn.specs.declared.operation.Register.TheVariants.{A}
 use Rattle.scf_insn.specs.declared.operation.Operand.{Operand}
 use Rattle.scf_insn.specs.declared.operation.Operand.TheVariants.{Constant, Index}
-use Rattle.scf_insn.specs.declared.operation.Arithmetic.{Arithmetic}
 use Rattle.scf_insn.specs.declared.operation.Arithmetic.TheVariants.{Div, Lsh, Rsh}
 use Rattle.scf_insn.specs.declared.operation.Test.{Test}
 use Rattle.scf_insn.specs.declared.operation.Operation.{Operation}
 use Rattle.scf_insn.specs.declared.operation.Operation.TheVariants.{LoadWord, LoadScratch, StoreScratch, Compute, Jump as Jumps, JumpIf, ReturnConstant as ReturnsConstant, ReturnAccumulator as ReturnsAccumulator}
 use Rattle.scf_insn.specs.Codes.{operation_of}
-use Rattle.scf_machine.specs.Machine.{State, Outcome, Goes, Ends, Faults, Fault, unless, loads, sets, jumps_to, holds, operand_of, effect, computation}
-use Rattle.scf_machine.specs.Rules.{Stands, IsFine, IsFineAt, IsValidList, IsReturn, GoesTo, Edge}
+use Rattle.scf_machine.specs.Machine.{State, Goes, Ends, Fault, unless, loads, sets, jumps_to, holds, operand_of, effect}
+use Rattle.scf_machine.specs.Rules.{Stands, IsFine, IsValidList, IsReturn, GoesTo, Edge}
 use Rattle.scf_machine.specs.Checks.{UsesScratch}
 use Rattle.scf_machine.proofs.Runs.{fine_of, same_insn}
 use Rattle.scf_compare.specs.declared.flow.Flow.{Flow}

@@ -1,9 +1,8 @@
 -- The rules of a profile and their conditions, one after another.
-use Rattle.std.proofs.Common.{◌≡◌, ◌≢◌, ℕ, zero, suc, ◌+◌, ◌*◌, ◌<◌, ◌≤◌, ◌&&◌, Bool, true, false, eqb, cond, List, [], ◌∷◌, ◌++◌, Option, None, Some, length, take, drop, get_or, refl, sym, ap, subst, ◌∙◌, arith, inl, inr}
+use Rattle.std.proofs.Common.{◌≡◌, ◌≢◌, ℕ, zero, suc, ◌+◌, ◌*◌, ◌<◌, ◌≤◌, ◌&&◌, Bool, true, false, eqb, cond, List, [], ◌∷◌, ◌++◌, Some, length, take, drop, get_or, refl, sym, ap, subst, ◌∙◌, arith}
 use Rattle.std.specs.Prelude.{slice_get, All, Contains}
-use Rattle.std.specs.List.{filter, list_all}
 use Rattle.std.proofs.lemmas.Bool.{eq-eqb, ne_eqb, and_parts}
-use Rattle.std.proofs.lemmas.List.{take_all, take_more}
+use Rattle.std.proofs.lemmas.List.{take_all}
 use Rattle.std.proofs.lemmas.List.Elements.{All-push, All-contains}
 use Rattle.std.proofs.lemmas.Option.{slice_get-get_or, slice_get_within}
 use Rattle.scf_insn.specs.declared.record.CallRecord.{CallRecord}
@@ -17,8 +16,8 @@ use Rattle.scf_profile.proofs.Numbers.{numbers_of-contains}
 use Rattle.scf_compare.specs.declared.question.Part.{Part}
 use Rattle.scf_compare.specs.declared.question.Part.TheVariants.{High}
 use Rattle.scf_compare.specs.Conditions.{IsAtPart}
-use Rattle.scf_compare.specs.Effort.{conditions_size, rules_size}
-use Rattle.scf_compare.specs.Profiles.{StandsAt, IsAtCondition, KnowsPart, KnowsRule, condition_size, size_of_rule, size_behind}
+use Rattle.scf_compare.specs.Effort.{conditions_size}
+use Rattle.scf_compare.specs.Profiles.{StandsAt, IsAtCondition, KnowsPart, KnowsRule, condition_size, size_behind}
 
 -- ---- which rules a call meets
 
@@ -97,30 +96,16 @@ apart_more call numbers place number here before apart =
 kept : (r : Rule) (rules : List Rule) (number : ℕ) → r.number ≡ number → rules_of number (r ∷ rules) ≡ r ∷ rules_of number rules
 kept r rules number same = ap (λ b. cond b (r ∷ rules_of number rules) (rules_of number rules)) (eq-eqb r.number number same)
 
-passed : (r : Rule) (rules : List Rule) (number : ℕ) → r.number ≢ number → rules_of number (r ∷ rules) ≡ rules_of number rules
-passed r rules number apart = ap (λ b. cond b (r ∷ rules_of number rules) (rules_of number rules)) (ne_eqb r.number number apart)
-
 pub rules_kept : (rules : List Rule) (place number : ℕ) (r : Rule) → slice_get rules place ≡ Some r → r.number ≡ number → rules_of number (drop place rules) ≡ r ∷ rules_of number (drop (place + 1) rules)
 rules_kept rules place number r here same =
     let one : suc place ≡ place + 1 = omega arith in
     ap (rules_of number) (drop_here rules place r here) ∙ kept r (drop (suc place) rules) number same ∙ ap (λ n. r ∷ rules_of number (drop n rules)) one
-
-pub rules_passed : (rules : List Rule) (place number : ℕ) (r : Rule) → slice_get rules place ≡ Some r → r.number ≢ number → rules_of number (drop place rules) ≡ rules_of number (drop (place + 1) rules)
-rules_passed rules place number r here apart =
-    let one : suc place ≡ place + 1 = omega arith in
-    ap (rules_of number) (drop_here rules place r here) ∙ passed r (drop (suc place) rules) number apart ∙ ap (λ n. rules_of number (drop n rules)) one
 
 -- ---- what is known at a condition
 
 pub knows : (rules : List Rule) (place index : ℕ) (call : CallRecord) (asked : Part) (rule : Rule) (condition : Condition) → StandsAt rules place index rule condition → IsAtCondition rules place index rule call → IsAtPart condition asked (argument call condition.index) → KnowsRule rules place index call asked (slice_get rules place)
 knows rules place index call asked rule condition stands at_rule at_part =
     subst (KnowsRule rules place index call asked) (sym stands.rule_here) (at_rule, subst (KnowsPart call asked) (sym stands.condition_here) at_part)
-
-pub known_rule : (rules : List Rule) (place index : ℕ) (call : CallRecord) (asked : Part) (rule : Rule) → slice_get rules place ≡ Some rule → KnowsRule rules place index call asked (slice_get rules place) → IsAtCondition rules place index rule call × KnowsPart call asked (slice_get rule.conditions index)
-known_rule rules place index call asked rule here h = subst (KnowsRule rules place index call asked) here h
-
-pub known_part : (call : CallRecord) (asked : Part) (found : Option Condition) (condition : Condition) → found ≡ Some condition → KnowsPart call asked found → IsAtPart condition asked (argument call condition.index)
-known_part call asked found condition here h = subst (KnowsPart call asked) here h
 
 -- ---- sizes
 

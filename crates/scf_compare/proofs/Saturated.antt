@@ -1,9 +1,6 @@
 -- Numbers that are cut at 2^64-1.
-use Rattle.std.proofs.Common.{◌≡◌, ℕ, suc, ◌+◌, ◌*◌, ◌-◌, ◌<◌, ◌≤◌, ◌⊎◌, inl, inr, min, cond, Bool, true, false, eqb, List, [], ◌∷◌, ◌++◌, length, drop, take, slice_index_or, refl, sym, ap, ◌∙◌, arith}
+use Rattle.std.proofs.Common.{◌≡◌, ℕ, suc, ◌+◌, ◌*◌, ◌-◌, ◌<◌, ◌≤◌, cond, Bool, true, false, List, [], ◌∷◌, ◌++◌, length, drop, take, slice_index_or, refl, ap, ◌∙◌, arith}
 use Rattle.std.specs.Prelude.{Some, slice_get, sum_by}
-use Rattle.std.specs.List.{list_any}
-use Rattle.std.proofs.Math.Nat.{mul-le-mul_left, mul_comm}
-use Rattle.std.proofs.lemmas.Bool.{cases_order}
 use Rattle.std.proofs.lemmas.List.Sums.{sum_by-append}
 use Rattle.std.proofs.lemmas.Option.{slice_get-get_or}
 use Rattle.scf_profile.specs.declared.condition.Comparison.TheVariants.{Equal}
@@ -16,39 +13,6 @@ use Rattle.scf_compare.proofs.Rules.{take_here, conditions_more}
 
 pub added : (a b x y : ℕ) → a ≡ saturated x → b ≡ saturated y → saturated (a + b) ≡ saturated (x + y)
 added a b x y e f = omega arith
-
-le_or_above : (n : ℕ) → (n ≤ 18446744073709551615) ⊎ (18446744073709551615 < n)
-le_or_above n = elim (cases_order n 18446744073709551615) [
-  | inl e ↦ inl (omega arith)
-  | inr others ↦ elim others [ inl less ↦ inl (omega arith) | inr more ↦ inr more ]
-]
-
--- a product with a factor that is cut is cut
-past_all : (a b : ℕ) → 18446744073709551615 ≤ a → 0 < b → saturated (a * b) ≡ 18446744073709551615
-past_all a b h s =
-    let more : a * 1 ≤ a * b = mul-le-mul_left a s in
-    omega arith
-
-pub multiplied : (a b x y : ℕ) → a ≡ saturated x → b ≡ saturated y → 0 < x → 0 < y → saturated (a * b) ≡ saturated (x * y)
-multiplied a b x y e f some_x some_y =
-    elim (le_or_above x) [
-      | inl few_x ↦ elim (le_or_above y) [
-        | inl few_y ↦
-            let same_x : a ≡ x = omega arith in
-            let same_y : b ≡ y = omega arith in
-            ap (λ n. saturated (n * b)) same_x ∙ ap (λ n. saturated (x * n)) same_y
-        | inr many_y ↦
-            let big : 18446744073709551615 ≤ b = omega arith in
-            let some_a : 0 < a = omega arith in
-            let big_y : 18446744073709551615 ≤ y = omega arith in
-            ap saturated (mul_comm a b) ∙ past_all b a big some_a ∙ sym (ap saturated (mul_comm x y) ∙ past_all y x big_y some_x)
-      ]
-      | inr many_x ↦
-          let big : 18446744073709551615 ≤ a = omega arith in
-          let some_b : 0 < b = omega arith in
-          let big_x : 18446744073709551615 ≤ x = omega arith in
-          past_all a b big some_b ∙ sym (past_all x y big_x some_y)
-    ]
 
 sum_of_one : (f : ℕ → ℕ) (has : Bool) (number : ℕ) → sum_by f (cond has [] (number ∷ [])) ≡ cond has 0 (f number)
 sum_of_one f true number = refl

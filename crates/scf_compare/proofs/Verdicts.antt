@@ -1,5 +1,5 @@
 -- A verdict on words is one on call records.
-use Rattle.std.proofs.Common.{◌<◌, ℕ, List, length, subst}
+use Rattle.std.proofs.Common.{◌<◌, List, length, subst}
 use Rattle.scf_insn.specs.declared.insn.Insn.{Insn}
 use Rattle.scf_insn.specs.declared.record.CallRecord.{CallRecord}
 use Rattle.scf_insn.specs.Words.{IsWords, words_of, call_of}

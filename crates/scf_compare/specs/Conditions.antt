@@ -1,9 +1,9 @@
 -- Conditions on 64-bit arguments as questions about the two words of an argument.
 use Rattle.std.specs.Prelude.{◌≡◌, ◌≢◌, ◌+◌, ◌*◌, ℕ, List, true, false, bit_and}
-use Rattle.scf_insn.specs.Words.{low, high}
+use Rattle.scf_insn.specs.Words.{high}
 use Rattle.scf_facts.specs.Atoms.{atom_answer}
 use Rattle.scf_profile.specs.declared.condition.Comparison.{Comparison}
-use Rattle.scf_profile.specs.declared.condition.Comparison.TheVariants.{NotEqual, Less, LessOrEqual, Equal, GreaterOrEqual, Greater, MaskedEqual}
+use Rattle.scf_profile.specs.declared.condition.Comparison.TheVariants.{NotEqual, Equal, MaskedEqual}
 use Rattle.scf_profile.specs.declared.condition.Condition.{Condition}
 use Rattle.scf_profile.specs.Condition.{holds}
 use Rattle.scf_compare.specs.declared.question.Part.{Part}

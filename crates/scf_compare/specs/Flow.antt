@@ -1,5 +1,5 @@
 -- How instructions go on, and the size of a program's tree of paths.
-use Rattle.std.specs.Prelude.{◌≡◌, ◌+◌, ◌<◌, ℕ, List, [], ◌∷◌, Option, None, Some, slice_index_or}
+use Rattle.std.specs.Prelude.{◌+◌, ◌<◌, ℕ, List, [], ◌∷◌, Option, Some, slice_index_or}
 use Rattle.scf_insn.specs.declared.insn.Insn.{Insn}
 use Rattle.scf_insn.specs.declared.operation.Operand.TheVariants.{Index}
 use Rattle.scf_insn.specs.declared.operation.Arithmetic.TheVariants.{Div}

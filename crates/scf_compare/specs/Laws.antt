@@ -1,5 +1,5 @@
 -- Laws that the trees are given with.
-use Rattle.std.specs.Prelude.{◌+◌, ◌*◌, ◌<◌, ◌≤◌, ℕ, List, [], ◌∷◌, Option, None, Some, slice_get, slice_index_or}
+use Rattle.std.specs.Prelude.{◌+◌, ◌*◌, ◌<◌, ◌≤◌, ℕ, List, [], ◌∷◌, Option, None, Some, slice_get}
 use Rattle.std.proofs.Common.{zero, suc, arith}
 use Rattle.std.proofs.Math.Nat.{mul-le-mul_left}
 use Rattle.scf_insn.specs.declared.insn.Insn.{Insn}

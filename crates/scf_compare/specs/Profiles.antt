@@ -1,5 +1,5 @@
 -- A profile as a tree of questions.
-use Rattle.std.specs.Prelude.{◌≡◌, ◌≢◌, ◌+◌, ◌<◌, ℕ, List, Bool, true, false, All, Option, None, Some, IsSomeAnd, length, take, drop, slice_get, sum_by}
+use Rattle.std.specs.Prelude.{◌≡◌, ◌≢◌, ◌+◌, ℕ, List, true, false, All, Option, None, Some, take, drop, slice_get, sum_by}
 use Rattle.scf_insn.specs.declared.answer.Answer.{Answer}
 use Rattle.scf_insn.specs.declared.record.CallRecord.{CallRecord}
 use Rattle.scf_insn.specs.Words.{call_of, argument}

@@ -45,7 +45,9 @@ pub(crate) trait Comparison {
     fn turn(&self, node: &Self::Node) -> Turn<Self::Node, BothEnds>
         requires { (questions self.now).is_node node.now }
         ensures proper { IsProper (questions self.now) (IsEnd (is_place self.now)) result }
-        ensures leads { (words : List ℕ) → (questions self.now).reaches node.now words → GoesOn (questions self.now) (Tells (filter_answers self.now) (profile_answers self.now)) result words }
+        ensures leads { (words : List ℕ) → (questions self.now).reaches node.now words
+            → GoesOn (questions self.now) (Tells (filter_answers self.now) (profile_answers self.now))
+            result words }
         ensures costs { Costs (questions self.now) result ((questions self.now).size node.now) };
 
     /// The two answers to a call, the filter's and the profile's.

@@ -20,8 +20,13 @@ use std::alloc::Global;
 fn judge<C: Comparison, F: WordFacts>(comparison: &C, facts: &F, end: BothEnds) -> Option<Verdict>
     requires place { C.is_place comparison.now end.filter.at }
     requires scope { (words : List ℕ) → F.allows facts.now words → C.in_scope comparison.now words }
-    ensures alike { IfNone result ((words : List ℕ) → F.allows facts.now words → Tells (C.filter_answers comparison.now) (C.profile_answers comparison.now) end words → AnswerAlike (C.filter_answers comparison.now) (C.profile_answers comparison.now) words) }
-    ensures holds { IfSome result (IsTrueVerdict (C.in_scope comparison.now) (C.is_place comparison.now) (C.filter_answers comparison.now) (C.profile_answers comparison.now)) }
+    ensures alike { IfNone result (
+        (words : List ℕ) → F.allows facts.now words
+        → Tells (C.filter_answers comparison.now) (C.profile_answers comparison.now) end words
+        → AnswerAlike (C.filter_answers comparison.now) (C.profile_answers comparison.now) words) }
+    ensures holds { IfSome result (
+        IsTrueVerdict (C.in_scope comparison.now) (C.is_place comparison.now)
+        (C.filter_answers comparison.now) (C.profile_answers comparison.now)) }
     ensures within { IfSome result (λ verdict. (limit effort : ℕ) → IsWithin limit effort verdict) }
 {
     if let Some(answer) = end.filter.answer {
@@ -57,10 +62,20 @@ fn fork<C: Comparison, F: WordFacts>(
     requires sound { IsFrontier F.allows (C.questions comparison.now) (C.in_scope comparison.now) frontier.old }
     requires node_if_true { (C.questions comparison.now).is_node if_true }
     requires node_if_false { (C.questions comparison.now).is_node if_false }
-    ensures sound { OnOk result (IsFrontier F.allows (C.questions comparison.now) (C.in_scope comparison.now) frontier.new) }
-    ensures kept { OnOk result ((words : List ℕ) → IsInSome F.allows (C.questions comparison.now) frontier.old words → IsInSome F.allows (C.questions comparison.now) frontier.new words) }
-    ensures entered { OnOk result ((words : List ℕ) → F.allows frontier.old.facts words → (C.questions comparison.now).reaches if_true words ⊎ (C.questions comparison.now).reaches if_false words → IsInSome F.allows (C.questions comparison.now) frontier.new words) }
-    ensures size { OnOk result (open_size (C.questions comparison.now) frontier.new ≡ open_size (C.questions comparison.now) frontier.old + (C.questions comparison.now).size if_true + (C.questions comparison.now).size if_false) }
+    ensures sound { OnOk result (
+        IsFrontier F.allows (C.questions comparison.now) (C.in_scope comparison.now) frontier.new) }
+    ensures kept { OnOk result (
+        (words : List ℕ) → IsInSome F.allows (C.questions comparison.now) frontier.old words
+        → IsInSome F.allows (C.questions comparison.now) frontier.new words) }
+    ensures entered { OnOk result (
+        (words : List ℕ) → F.allows frontier.old.facts words
+        → (C.questions comparison.now).reaches if_true words ⊎ (C.questions comparison.now).reaches if_false words
+        → IsInSome F.allows (C.questions comparison.now) frontier.new words) }
+    ensures size { OnOk result (
+        open_size (C.questions comparison.now) frontier.new
+        ≡ open_size (C.questions comparison.now) frontier.old
+        + (C.questions comparison.now).size if_true
+        + (C.questions comparison.now).size if_false) }
 {
     branch_out(alloc, comparison, frontier, if_false, None)?;
     branch_out(alloc, comparison, frontier, if_true, None)?;
@@ -80,10 +95,21 @@ fn ask<C: Comparison, F: WordFacts>(
     requires sound { IsFrontier F.allows (C.questions comparison.now) (C.in_scope comparison.now) frontier.old }
     requires node_if_true { (C.questions comparison.now).is_node if_true }
     requires node_if_false { (C.questions comparison.now).is_node if_false }
-    ensures sound { OnOk result (IsFrontier F.allows (C.questions comparison.now) (C.in_scope comparison.now) frontier.new) }
-    ensures kept { OnOk result ((words : List ℕ) → IsInSome F.allows (C.questions comparison.now) frontier.old words → IsInSome F.allows (C.questions comparison.now) frontier.new words) }
-    ensures entered { OnOk result ((words : List ℕ) → F.allows frontier.old.facts words → (atom_answer atom words ≡ true → (C.questions comparison.now).reaches if_true words) → (atom_answer atom words ≡ false → (C.questions comparison.now).reaches if_false words) → IsInSome F.allows (C.questions comparison.now) frontier.new words) }
-    ensures size { OnOk result (open_size (C.questions comparison.now) frontier.new ≤ open_size (C.questions comparison.now) frontier.old + (C.questions comparison.now).size if_true + (C.questions comparison.now).size if_false) }
+    ensures sound { OnOk result (
+        IsFrontier F.allows (C.questions comparison.now) (C.in_scope comparison.now) frontier.new) }
+    ensures kept { OnOk result (
+        (words : List ℕ) → IsInSome F.allows (C.questions comparison.now) frontier.old words
+        → IsInSome F.allows (C.questions comparison.now) frontier.new words) }
+    ensures entered { OnOk result (
+        (words : List ℕ) → F.allows frontier.old.facts words
+        → (atom_answer atom words ≡ true → (C.questions comparison.now).reaches if_true words)
+        → (atom_answer atom words ≡ false → (C.questions comparison.now).reaches if_false words)
+        → IsInSome F.allows (C.questions comparison.now) frontier.new words) }
+    ensures size { OnOk result (
+        open_size (C.questions comparison.now) frontier.new
+        ≤ open_size (C.questions comparison.now) frontier.old
+        + (C.questions comparison.now).size if_true
+        + (C.questions comparison.now).size if_false) }
 {
     match frontier.facts.tell(atom) {
         Tell::Always => {
@@ -111,12 +137,24 @@ fn advance<C: Comparison, F: WordFacts>(
 ) -> Result<Option<Verdict>, Memory>
     requires sound { IsFrontier F.allows (C.questions comparison.now) (C.in_scope comparison.now) frontier.old }
     requires node { (C.questions comparison.now).is_node node.now }
-    ensures sound { OnOk result (IsFrontier F.allows (C.questions comparison.now) (C.in_scope comparison.now) frontier.new) }
-    ensures kept { OnOk result ((words : List ℕ) → IsInSome F.allows (C.questions comparison.now) frontier.old words → IsInSome F.allows (C.questions comparison.now) frontier.new words) }
-    ensures covered { IfOk result (λ verdict. IfNone verdict ((words : List ℕ) → F.allows frontier.old.facts words → (C.questions comparison.now).reaches node.now words → AnswerAlike (C.filter_answers comparison.now) (C.profile_answers comparison.now) words ⊎ IsInSome F.allows (C.questions comparison.now) frontier.new words)) }
-    ensures size { OnOk result (open_size (C.questions comparison.now) frontier.new + 1 ≤ open_size (C.questions comparison.now) frontier.old + (C.questions comparison.now).size node.now) }
-    ensures holds { IfOk result (λ verdict. IfSome verdict (IsTrueVerdict (C.in_scope comparison.now) (C.is_place comparison.now) (C.filter_answers comparison.now) (C.profile_answers comparison.now))) }
-    ensures within { IfOk result (λ verdict. IfSome verdict (λ verdict. (limit effort : ℕ) → IsWithin limit effort verdict)) }
+    ensures sound { OnOk result (
+        IsFrontier F.allows (C.questions comparison.now) (C.in_scope comparison.now) frontier.new) }
+    ensures kept { OnOk result (
+        (words : List ℕ) → IsInSome F.allows (C.questions comparison.now) frontier.old words
+        → IsInSome F.allows (C.questions comparison.now) frontier.new words) }
+    ensures covered { IfOk result (λ verdict. IfNone verdict (
+        (words : List ℕ) → F.allows frontier.old.facts words
+        → (C.questions comparison.now).reaches node.now words
+        → AnswerAlike (C.filter_answers comparison.now) (C.profile_answers comparison.now) words
+        ⊎ IsInSome F.allows (C.questions comparison.now) frontier.new words)) }
+    ensures size { OnOk result (
+        open_size (C.questions comparison.now) frontier.new + 1
+        ≤ open_size (C.questions comparison.now) frontier.old + (C.questions comparison.now).size node.now) }
+    ensures holds { IfOk result (λ verdict. IfSome verdict (
+        IsTrueVerdict (C.in_scope comparison.now) (C.is_place comparison.now)
+        (C.filter_answers comparison.now) (C.profile_answers comparison.now))) }
+    ensures within { IfOk result (λ verdict. IfSome verdict (λ verdict.
+        (limit effort : ℕ) → IsWithin limit effort verdict)) }
 {
     match comparison.turn(node) {
         Turn::Go(next) => {
@@ -152,8 +190,11 @@ pub(crate) fn explore<C: Comparison, F: WordFacts>(
 ) -> Result<Verdict, Memory>
     requires node { (C.questions comparison.now).is_node root }
     requires scope { (words : List ℕ) → F.allows facts words ↔ C.in_scope comparison.now words }
-    requires reached { (words : List ℕ) → C.in_scope comparison.now words → (C.questions comparison.now).reaches root words }
-    ensures holds { IfOk result (IsTrueVerdict (C.in_scope comparison.now) (C.is_place comparison.now) (C.filter_answers comparison.now) (C.profile_answers comparison.now)) }
+    requires reached { (words : List ℕ) → C.in_scope comparison.now words
+        → (C.questions comparison.now).reaches root words }
+    ensures holds { IfOk result (
+        IsTrueVerdict (C.in_scope comparison.now) (C.is_place comparison.now)
+        (C.filter_answers comparison.now) (C.profile_answers comparison.now)) }
     ensures within { IfOk result (IsWithin limit ((C.questions comparison.now).size root)) }
 {
     let mut frontier = Frontier {

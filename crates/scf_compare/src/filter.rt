@@ -23,7 +23,7 @@ use scf_machine::{Program, run};
 /// A place of a filter with what is known of its registers there, or the end of a division by 0.
 #[derive(Clone, Copy)]
 pub(crate) enum FilterNode {
-    At { place: usize, registers: Registers },
+    At(usize, Registers),
     Stopped { answer: Answer, at: usize },
 }
 
@@ -40,15 +40,12 @@ impl FilterTree for Program {
 
     fn start(&self) -> FilterNode {
         let _insns = self.insns();
-        FilterNode::At {
-            place: 0,
-            registers: Registers::at_start(),
-        }
+        FilterNode::At(0, Registers::at_start())
     }
 
     fn turn(&self, node: &FilterNode) -> Turn<FilterNode, FilterEnd> {
         match *node {
-            FilterNode::At { place, registers } => turn_at(self.insns(), place, &registers),
+            FilterNode::At(place, registers) => turn_at(self.insns(), place, &registers),
             FilterNode::Stopped { answer, at } => Turn::End(FilterEnd {
                 answer: Some(answer),
                 at,
@@ -72,7 +69,9 @@ fn turn_at(insns: &[Insn], place: usize, registers: &Registers) -> Turn<FilterNo
     requires safe { (words : List ℕ) → RunsSafely insns.now words }
     requires values { AreValues registers.now }
     ensures proper { IsProper (filter_questions insns.now) (λ end. end.at < length insns.now) result }
-    ensures leads { (words : List ℕ) → IsWords words → ComesTo insns.now place registers.now words → GoesOn (filter_questions insns.now) (FilterTells (RunAnswers insns.now)) result words }
+    ensures leads { (words : List ℕ) → IsWords words
+        → ComesTo insns.now place registers.now words
+        → GoesOn (filter_questions insns.now) (FilterTells (RunAnswers insns.now)) result words }
     ensures costs { Costs (filter_questions insns.now) result (tree_size insns.now place) }
 {
     let insn = insns[place];
@@ -95,18 +94,14 @@ fn turn_of(
     requires safe { (words : List ℕ) → RunsSafely insns.now words }
     requires values { AreValues registers.now }
     ensures proper { IsProper (filter_questions insns.now) (λ end. end.at < length insns.now) result }
-    ensures leads { (words : List ℕ) → IsWords words → ComesTo insns.now place registers.now words → GoesOn (filter_questions insns.now) (FilterTells (RunAnswers insns.now)) result words }
+    ensures leads { (words : List ℕ) → IsWords words
+        → ComesTo insns.now place registers.now words
+        → GoesOn (filter_questions insns.now) (FilterTells (RunAnswers insns.now)) result words }
     ensures costs { Costs (filter_questions insns.now) result (tree_size insns.now place) }
 {
     match Flow::of(insns, place, insn, operation) {
-        Flow::Next(next) => Turn::Go(FilterNode::At {
-            place: next,
-            registers: registers.after(insn, operation),
-        }),
-        Flow::Jump(target) => Turn::Go(FilterNode::At {
-            place: target,
-            registers: *registers,
-        }),
+        Flow::Next(next) => Turn::Go(FilterNode::At(next, registers.after(insn, operation))),
+        Flow::Jump(target) => Turn::Go(FilterNode::At(target, *registers)),
         Flow::Branch {
             test,
             operand,
@@ -114,14 +109,8 @@ fn turn_of(
             if_false,
         } => {
             let decision = registers.a.decide(test, registers.operand(operand, insn));
-            let if_true = FilterNode::At {
-                place: if_true,
-                registers: *registers,
-            };
-            let if_false = FilterNode::At {
-                place: if_false,
-                registers: *registers,
-            };
+            let if_true = FilterNode::At(if_true, *registers);
+            let if_false = FilterNode::At(if_false, *registers);
             turn_by(decision, if_true, if_false)
         }
         Flow::DivideByIndex(next) => {
@@ -130,10 +119,7 @@ fn turn_of(
                 answer: Answer(0),
                 at: place,
             };
-            let divided = FilterNode::At {
-                place: next,
-                registers: registers.after(insn, operation),
-            };
+            let divided = FilterNode::At(next, registers.after(insn, operation));
             turn_by(decision, stopped, divided)
         }
         Flow::ReturnConstant => Turn::End(FilterEnd {

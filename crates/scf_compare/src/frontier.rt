@@ -9,8 +9,8 @@ use scf_facts::{Atom, WordFacts};
 use scf_insn::Memory;
 use std::alloc::Global;
 
-/// A branch that is still to be explored: its node, what is known where it was opened, and the answer to an atom that is
-/// learned on the way in.
+/// A branch that is still to be explored: its node, what is known where it was opened, and the answer to an atom that
+/// is learned on the way in.
 #[derive(Drop)]
 pub(crate) struct Branch<F, N> {
     pub(crate) node: N,
@@ -36,11 +36,20 @@ pub(crate) fn branch_out<C: Comparison, F: WordFacts>(
     requires sound { IsFrontier F.allows (C.questions comparison.now) (C.in_scope comparison.now) frontier.old }
     requires node { (C.questions comparison.now).is_node node }
     requires asks { AsksOfWord learned }
-    ensures sound { OnOk result (IsFrontier F.allows (C.questions comparison.now) (C.in_scope comparison.now) frontier.new) }
+    ensures sound { OnOk result (
+        IsFrontier F.allows (C.questions comparison.now) (C.in_scope comparison.now) frontier.new) }
     ensures known { OnOk result (AllowsSame F.allows frontier.new.facts frontier.old.facts) }
-    ensures kept { OnOk result ((words : List ℕ) → IsInSome F.allows (C.questions comparison.now) frontier.old words → IsInSome F.allows (C.questions comparison.now) frontier.new words) }
-    ensures entered { OnOk result ((words : List ℕ) → F.allows frontier.old.facts words → Gives learned words → (C.questions comparison.now).reaches node words → IsInSome F.allows (C.questions comparison.now) frontier.new words) }
-    ensures size { OnOk result (open_size (C.questions comparison.now) frontier.new ≡ open_size (C.questions comparison.now) frontier.old + (C.questions comparison.now).size node) }
+    ensures kept { OnOk result (
+        (words : List ℕ) → IsInSome F.allows (C.questions comparison.now) frontier.old words
+        → IsInSome F.allows (C.questions comparison.now) frontier.new words) }
+    ensures entered { OnOk result (
+        (words : List ℕ) → F.allows frontier.old.facts words
+        → Gives learned words
+        → (C.questions comparison.now).reaches node words
+        → IsInSome F.allows (C.questions comparison.now) frontier.new words) }
+    ensures size { OnOk result (
+        open_size (C.questions comparison.now) frontier.new
+        ≡ open_size (C.questions comparison.now) frontier.old + (C.questions comparison.now).size node) }
 {
     let _ = comparison;
     let facts = frontier.facts.copy(alloc)?;
@@ -58,10 +67,15 @@ pub(crate) fn take_branch<C: Comparison, F: WordFacts>(
     frontier: &mut Frontier<F, C::Node>,
 ) -> Result<Option<C::Node>, Memory>
     requires { IsFrontier F.allows (C.questions comparison.now) (C.in_scope comparison.now) frontier.old }
-    ensures sound { OnOk result (IsFrontier F.allows (C.questions comparison.now) (C.in_scope comparison.now) frontier.new) }
+    ensures sound { OnOk result (
+        IsFrontier F.allows (C.questions comparison.now) (C.in_scope comparison.now) frontier.new) }
     ensures node { IfOk result (λ taken. IfSome taken (C.questions comparison.now).is_node) }
-    ensures left { IfOk result (λ taken. (words : List ℕ) → IsInSome F.allows (C.questions comparison.now) frontier.old words → IsLeft F.allows (C.questions comparison.now) frontier.new taken words) }
-    ensures size { IfOk result (λ taken. IfSome taken (λ node. open_size (C.questions comparison.now) frontier.new + (C.questions comparison.now).size node ≡ open_size (C.questions comparison.now) frontier.old)) }
+    ensures left { IfOk result (λ taken.
+        (words : List ℕ) → IsInSome F.allows (C.questions comparison.now) frontier.old words
+        → IsLeft F.allows (C.questions comparison.now) frontier.new taken words) }
+    ensures size { IfOk result (λ taken. IfSome taken (λ node.
+        open_size (C.questions comparison.now) frontier.new + (C.questions comparison.now).size node
+        ≡ open_size (C.questions comparison.now) frontier.old)) }
 {
     let _ = comparison;
     let Some(branch) = frontier.branches.pop() else {
@@ -80,7 +94,8 @@ pub(crate) fn take_branch<C: Comparison, F: WordFacts>(
 /// Learns an answer, if there is one.
 fn learn_answer<F: WordFacts>(facts: &mut F, learned: Option<(Atom, bool)>) -> Result<(), Memory>
     requires { AsksOfWord learned }
-    ensures { OnOk result ((words : List ℕ) → F.allows facts.new words ↔ (F.allows facts.old words × Gives learned words)) }
+    ensures { OnOk result (
+        (words : List ℕ) → F.allows facts.new words ↔ (F.allows facts.old words × Gives learned words)) }
 {
     match learned {
         Some((atom, holds)) => facts.learn(atom, holds),

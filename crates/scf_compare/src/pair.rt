@@ -36,7 +36,8 @@ impl<A: FilterTree, B: ProfileTree> Comparison for Pair<'_, A, B> {
 
     ghost is_place = { λ pair. A.is_place pair.filter.now };
 
-    ghost questions = { λ pair. pair_questions (A.questions pair.filter.now) (B.questions pair.profile.now) (FilterTells (A.answers pair.filter.now)) (A.is_place pair.filter.now) (B.whole_size pair.profile.now) };
+    ghost questions = { λ pair. pair_questions (A.questions pair.filter.now) (B.questions pair.profile.now)
+        (FilterTells (A.answers pair.filter.now)) (A.is_place pair.filter.now) (B.whole_size pair.profile.now) };
 
     fn turn(
         &self,
@@ -75,7 +76,9 @@ impl<A: FilterTree, B: ProfileTree> Comparison for Pair<'_, A, B> {
 
     ghost of_words = { λ _ words within. within };
 
-    ghost counts = { λ pair node. pair_counts (A.questions pair.filter.now) (B.questions pair.profile.now) (FilterTells (A.answers pair.filter.now)) (A.is_place pair.filter.now) (B.whole_size pair.profile.now) (A.counts pair.filter.now) (B.counts pair.profile.now) (B.counts_whole pair.profile.now) node };
+    ghost counts = { λ pair node. pair_counts (A.questions pair.filter.now) (B.questions pair.profile.now)
+        (FilterTells (A.answers pair.filter.now)) (A.is_place pair.filter.now) (B.whole_size pair.profile.now)
+        (A.counts pair.filter.now) (B.counts pair.profile.now) (B.counts_whole pair.profile.now) node };
 }
 
 impl<A: FilterTree, B: ProfileTree> Pair<'_, A, B> {
@@ -87,10 +90,24 @@ impl<A: FilterTree, B: ProfileTree> Pair<'_, A, B> {
     ) -> Turn<PairNode<A::Node, B::Node>, BothEnds>
         requires node { (B.questions self.now.profile.now).is_node node.now }
         requires place { A.is_place self.now.filter.now end.at }
-        ensures proper { IsProper (pair_questions (A.questions self.now.filter.now) (B.questions self.now.profile.now) (FilterTells (A.answers self.now.filter.now)) (A.is_place self.now.filter.now) (B.whole_size self.now.profile.now)) (IsEnd (A.is_place self.now.filter.now)) result }
-        ensures leads { (words : List ℕ) → IsWords words → FilterTells (A.answers self.now.filter.now) end words → (B.questions self.now.profile.now).reaches node.now words
-            → GoesOn (pair_questions (A.questions self.now.filter.now) (B.questions self.now.profile.now) (FilterTells (A.answers self.now.filter.now)) (A.is_place self.now.filter.now) (B.whole_size self.now.profile.now)) (Tells (A.answers self.now.filter.now) (B.answers self.now.profile.now)) result words }
-        ensures costs { Costs (pair_questions (A.questions self.now.filter.now) (B.questions self.now.profile.now) (FilterTells (A.answers self.now.filter.now)) (A.is_place self.now.filter.now) (B.whole_size self.now.profile.now)) result ((B.questions self.now.profile.now).size node.now) }
+        ensures proper { IsProper
+            (pair_questions (A.questions self.now.filter.now) (B.questions self.now.profile.now)
+            (FilterTells (A.answers self.now.filter.now)) (A.is_place self.now.filter.now)
+            (B.whole_size self.now.profile.now))
+            (IsEnd (A.is_place self.now.filter.now)) result }
+        ensures leads { (words : List ℕ) → IsWords words
+            → FilterTells (A.answers self.now.filter.now) end words
+            → (B.questions self.now.profile.now).reaches node.now words
+            → GoesOn
+            (pair_questions (A.questions self.now.filter.now) (B.questions self.now.profile.now)
+            (FilterTells (A.answers self.now.filter.now)) (A.is_place self.now.filter.now)
+            (B.whole_size self.now.profile.now))
+            (Tells (A.answers self.now.filter.now) (B.answers self.now.profile.now)) result words }
+        ensures costs { Costs
+            (pair_questions (A.questions self.now.filter.now) (B.questions self.now.profile.now)
+            (FilterTells (A.answers self.now.filter.now)) (A.is_place self.now.filter.now)
+            (B.whole_size self.now.profile.now))
+            result ((B.questions self.now.profile.now).size node.now) }
     {
         match self.profile.turn(node) {
             Turn::Go(next) => Turn::Go(PairNode::AtProfile { end, node: next }),

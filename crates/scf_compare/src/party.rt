@@ -34,7 +34,9 @@ pub(crate) trait FilterTree {
     fn turn(&self, node: &Self::Node) -> Turn<Self::Node, FilterEnd>
         requires { (questions self.now).is_node node.now }
         ensures proper { IsProper (questions self.now) (λ end. is_place self.now end.at) result }
-        ensures leads { (words : List ℕ) → IsWords words → (questions self.now).reaches node.now words → GoesOn (questions self.now) (FilterTells (answers self.now)) result words }
+        ensures leads { (words : List ℕ) → IsWords words
+            → (questions self.now).reaches node.now words
+            → GoesOn (questions self.now) (FilterTells (answers self.now)) result words }
         ensures costs { Costs (questions self.now) result ((questions self.now).size node.now) };
 
     /// The answer to a call, of a run.
@@ -67,7 +69,9 @@ pub(crate) trait ProfileTree {
     fn turn(&self, node: &Self::Node) -> Turn<Self::Node, Answer>
         requires { (questions self.now).is_node node.now }
         ensures proper { IsProper (questions self.now) (λ _. ⊤) result }
-        ensures leads { (words : List ℕ) → IsWords words → (questions self.now).reaches node.now words → GoesOn (questions self.now) (λ answer words. answers self.now words answer.0) result words }
+        ensures leads { (words : List ℕ) → IsWords words
+            → (questions self.now).reaches node.now words
+            → GoesOn (questions self.now) (λ answer words. answers self.now words answer.0) result words }
         ensures costs { Costs (questions self.now) result ((questions self.now).size node.now) };
 
     /// The answer to a call.

@@ -1,6 +1,23 @@
 //! A profile as a tree of questions about the words of a call record.
 
-ghost use Rattle.std.specs.Prelude.{◌≡◌, ◌≢◌, ◌+◌, ◌<◌, ◌≤◌, ℕ, List, All, Some, true, false, ⊤, length, take, drop, slice_get};
+ghost use Rattle.std.specs.Prelude.{
+  ◌≡◌,
+  ◌≢◌,
+  ◌+◌,
+  ◌<◌,
+  ◌≤◌,
+  ℕ,
+  List,
+  All,
+  Some,
+  true,
+  false,
+  ⊤,
+  length,
+  take,
+  drop,
+  slice_get,
+};
 ghost use Rattle.scf_insn.specs.Words.{IsWords, argument, call_of};
 ghost use Rattle.scf_profile.specs.declared.condition.Condition.{Condition};
 ghost use Rattle.scf_profile.specs.declared.rule.Rule.{Rule};
@@ -10,7 +27,18 @@ ghost use Rattle.scf_profile.specs.Rule.{meets};
 ghost use Rattle.scf_profile.specs.RulesByNumber.{numbers_of, rules_of};
 ghost use Rattle.scf_compare.specs.Conditions.{IsOnWay, way_size};
 ghost use Rattle.scf_compare.specs.Effort.{rules_size, spread};
-ghost use Rattle.scf_compare.specs.Profiles.{policy_of, IsAtCondition, StandsAt, profile_questions, question_is_node, question_reaches, question_size, size_of_rule, size_of_rest, size_behind};
+ghost use Rattle.scf_compare.specs.Profiles.{
+  policy_of,
+  IsAtCondition,
+  StandsAt,
+  profile_questions,
+  question_is_node,
+  question_reaches,
+  question_size,
+  size_of_rule,
+  size_of_rest,
+  size_behind,
+};
 ghost use Rattle.scf_compare.specs.Questions.{IsProper, GoesOn, Costs};
 
 use crate::party::ProfileTree;
@@ -112,9 +140,14 @@ fn ask_number(
     place: usize,
 ) -> Turn<Question, Answer>
     requires { numbers.now ≡ numbers_of rules.now }
-    ensures proper { let p : Policy = policy_of default_answer rules.now in IsProper (profile_questions p) (λ _. ⊤) result }
-    ensures leads { let p : Policy = policy_of default_answer rules.now in (words : List ℕ) → IsWords words → question_reaches p (Question.Number place) words → GoesOn (profile_questions p) (λ answer words. ProfileAnswers p (call_of words) answer.0) result words }
-    ensures costs { let p : Policy = policy_of default_answer rules.now in Costs (profile_questions p) result (question_size p (Question.Number place)) }
+    ensures proper { let p : Policy = policy_of default_answer rules.now in
+        IsProper (profile_questions p) (λ _. ⊤) result }
+    ensures leads { let p : Policy = policy_of default_answer rules.now in
+        (words : List ℕ) → IsWords words
+        → question_reaches p (Question.Number place) words
+        → GoesOn (profile_questions p) (λ answer words. ProfileAnswers p (call_of words) answer.0) result words }
+    ensures costs { let p : Policy = policy_of default_answer rules.now in
+        Costs (profile_questions p) result (question_size p (Question.Number place)) }
 {
     if place >= numbers.len() {
         return Turn::End(default_answer);
@@ -135,8 +168,13 @@ fn ask_number(
 fn next_rule(default_answer: Answer, rules: &[Rule], number: u32, from: usize) -> Question
     requires { from ≤ length rules.now }
     ensures node { question_is_node (policy_of default_answer rules.now) result }
-    ensures reached { let p : Policy = policy_of default_answer rules.now in (words : List ℕ) → IsNative (call_of words) → (call_of words).nr ≡ number → All (λ earlier. meets earlier (call_of words) ≡ false) (take from rules.now) → question_reaches p result words }
-    ensures size { question_size (policy_of default_answer rules.now) result ≤ rules_size (rules_of number (drop from rules.now)) }
+    ensures reached { let p : Policy = policy_of default_answer rules.now in
+        (words : List ℕ) → IsNative (call_of words)
+        → (call_of words).nr ≡ number
+        → All (λ earlier. meets earlier (call_of words) ≡ false) (take from rules.now)
+        → question_reaches p result words }
+    ensures size { question_size (policy_of default_answer rules.now) result
+        ≤ rules_size (rules_of number (drop from rules.now)) }
 {
     let mut place = from;
     while place < rules.len() {
@@ -152,8 +190,12 @@ fn next_rule(default_answer: Answer, rules: &[Rule], number: u32, from: usize) -
 fn first_of_rule(default_answer: Answer, rules: &[Rule], place: usize) -> Question
     requires { place < length rules.now }
     ensures node { question_is_node (policy_of default_answer rules.now) result }
-    ensures reached { let p : Policy = policy_of default_answer rules.now in (words : List ℕ) (rule : Rule) → slice_get rules.now place ≡ Some rule → IsAtCondition rules.now place 0 rule (call_of words) → question_reaches p result words }
-    ensures size { (rule : Rule) → slice_get rules.now place ≡ Some rule → question_size (policy_of default_answer rules.now) result ≤ size_of_rule rules.now place rule }
+    ensures reached { let p : Policy = policy_of default_answer rules.now in
+        (words : List ℕ) (rule : Rule) → slice_get rules.now place ≡ Some rule
+        → IsAtCondition rules.now place 0 rule (call_of words)
+        → question_reaches p result words }
+    ensures size { (rule : Rule) → slice_get rules.now place ≡ Some rule
+        → question_size (policy_of default_answer rules.now) result ≤ size_of_rule rules.now place rule }
 {
     let rule = &rules[place];
     if rule.conditions.as_slice().is_empty() {
@@ -185,9 +227,14 @@ fn ask_condition(
 ) -> Turn<Question, Answer>
     requires profile { IsProfile (policy_of default_answer rules.now) }
     requires node { question_is_node (policy_of default_answer rules.now) (Question.Condition place index part) }
-    ensures proper { let p : Policy = policy_of default_answer rules.now in IsProper (profile_questions p) (λ _. ⊤) result }
-    ensures leads { let p : Policy = policy_of default_answer rules.now in (words : List ℕ) → IsWords words → question_reaches p (Question.Condition place index part) words → GoesOn (profile_questions p) (λ answer words. ProfileAnswers p (call_of words) answer.0) result words }
-    ensures costs { let p : Policy = policy_of default_answer rules.now in Costs (profile_questions p) result (question_size p (Question.Condition place index part)) }
+    ensures proper { let p : Policy = policy_of default_answer rules.now in
+        IsProper (profile_questions p) (λ _. ⊤) result }
+    ensures leads { let p : Policy = policy_of default_answer rules.now in
+        (words : List ℕ) → IsWords words
+        → question_reaches p (Question.Condition place index part) words
+        → GoesOn (profile_questions p) (λ answer words. ProfileAnswers p (call_of words) answer.0) result words }
+    ensures costs { let p : Policy = policy_of default_answer rules.now in
+        Costs (profile_questions p) result (question_size p (Question.Condition place index part)) }
 {
     let asked = question(condition_at(rules, place, index), part);
     Turn::Ask {
@@ -202,8 +249,14 @@ fn follow(default_answer: Answer, rules: &[Rule], place: usize, index: usize, wa
     requires few { length rules.now ≤ 4096 }
     requires node { question_is_node (policy_of default_answer rules.now) (Question.Condition place index Part.High) }
     ensures node { question_is_node (policy_of default_answer rules.now) result }
-    ensures reached { let p : Policy = policy_of default_answer rules.now in (words : List ℕ) (rule : Rule) (condition : Condition) → StandsAt rules.now place index rule condition → IsAtCondition rules.now place index rule (call_of words) → IsOnWay condition way (argument (call_of words) condition.index) → question_reaches p result words }
-    ensures size { (rule : Rule) → slice_get rules.now place ≡ Some rule → question_size (policy_of default_answer rules.now) result ≤ way_size way (size_of_rest rules.now place index rule) (size_behind rules.now place rule) }
+    ensures reached { let p : Policy = policy_of default_answer rules.now in
+        (words : List ℕ) (rule : Rule) (condition : Condition) → StandsAt rules.now place index rule condition
+        → IsAtCondition rules.now place index rule (call_of words)
+        → IsOnWay condition way (argument (call_of words) condition.index)
+        → question_reaches p result words }
+    ensures size { (rule : Rule) → slice_get rules.now place ≡ Some rule
+        → question_size (policy_of default_answer rules.now) result
+        ≤ way_size way (size_of_rest rules.now place index rule) (size_behind rules.now place rule) }
 {
     let rule = &rules[place];
     match way {

@@ -38,7 +38,9 @@ fn distinct_numbers(alloc: Global, rules: &[Rule]) -> Result<Vec<u32>, Memory>
 
 /// Adds the number of the next rule, unless a rule before it has it.
 fn push_new(numbers: &mut Vec<u32>, before: &[Rule], number: u32) -> Result<(), Memory>
-    ensures { OnOk result (numbers.new.items ≡ numbers.old.items ++ (if list_any (λ rule. rule.number == number) before.now then [] else number ∷ [])) }
+    ensures { OnOk result (
+        numbers.new.items
+        ≡ numbers.old.items ++ (if list_any (λ rule. rule.number == number) before.now then [] else number ∷ [])) }
 {
     if has_number(before, number) {
         return Ok(());

@@ -43,8 +43,12 @@ pub(crate) struct Asked {
 pub(crate) fn question(condition: Condition, part: Part) -> Asked
     requires { condition.index < 6 }
     ensures word { word_of result.atom < 16 }
-    ensures splits { (words : List ℕ) → IsWords words → IsAtPart condition part (argument (call_of words) condition.index) → Splits condition result words (argument (call_of words) condition.index) }
-    ensures costs { (holds fails : ℕ) → way_size result.if_true holds fails + way_size result.if_false holds fails + 1 ≤ part_size part holds fails }
+    ensures splits { (words : List ℕ) → IsWords words
+        → IsAtPart condition part (argument (call_of words) condition.index)
+        → Splits condition result words (argument (call_of words) condition.index) }
+    ensures costs { (holds fails : ℕ)
+        → way_size result.if_true holds fails + way_size result.if_false holds fails + 1
+        ≤ part_size part holds fails }
 {
     match part {
         Part::High => at_high(condition),
@@ -56,8 +60,11 @@ pub(crate) fn question(condition: Condition, part: Part) -> Asked
 fn at_high(condition: Condition) -> Asked
     requires { condition.index < 6 }
     ensures word { word_of result.atom < 16 }
-    ensures splits { (words : List ℕ) → IsWords words → Splits condition result words (argument (call_of words) condition.index) }
-    ensures costs { (holds fails : ℕ) → way_size result.if_true holds fails + way_size result.if_false holds fails + 1 ≤ part_size Part.High holds fails }
+    ensures splits { (words : List ℕ) → IsWords words
+        → Splits condition result words (argument (call_of words) condition.index) }
+    ensures costs { (holds fails : ℕ)
+        → way_size result.if_true holds fails + way_size result.if_false holds fails + 1
+        ≤ part_size Part.High holds fails }
 {
     match condition.op {
         Comparison::MaskedEqual => Asked {
@@ -89,8 +96,12 @@ fn at_high(condition: Condition) -> Asked
 fn at_above(condition: Condition) -> Asked
     requires { condition.index < 6 }
     ensures word { word_of result.atom < 16 }
-    ensures splits { (words : List ℕ) → IsWords words → IsAtPart condition Part.Above (argument (call_of words) condition.index) → Splits condition result words (argument (call_of words) condition.index) }
-    ensures costs { (holds fails : ℕ) → way_size result.if_true holds fails + way_size result.if_false holds fails + 1 ≤ part_size Part.Above holds fails }
+    ensures splits { (words : List ℕ) → IsWords words
+        → IsAtPart condition Part.Above (argument (call_of words) condition.index)
+        → Splits condition result words (argument (call_of words) condition.index) }
+    ensures costs { (holds fails : ℕ)
+        → way_size result.if_true holds fails + way_size result.if_false holds fails + 1
+        ≤ part_size Part.Above holds fails }
 {
     match condition.op {
         Comparison::Greater | Comparison::GreaterOrEqual => Asked {
@@ -113,8 +124,12 @@ fn at_above(condition: Condition) -> Asked
 fn at_low(condition: Condition) -> Asked
     requires { condition.index < 6 }
     ensures word { word_of result.atom < 16 }
-    ensures splits { (words : List ℕ) → IsWords words → IsAtPart condition Part.Low (argument (call_of words) condition.index) → Splits condition result words (argument (call_of words) condition.index) }
-    ensures costs { (holds fails : ℕ) → way_size result.if_true holds fails + way_size result.if_false holds fails + 1 ≤ part_size Part.Low holds fails }
+    ensures splits { (words : List ℕ) → IsWords words
+        → IsAtPart condition Part.Low (argument (call_of words) condition.index)
+        → Splits condition result words (argument (call_of words) condition.index) }
+    ensures costs { (holds fails : ℕ)
+        → way_size result.if_true holds fails + way_size result.if_false holds fails + 1
+        ≤ part_size Part.Low holds fails }
 {
     match condition.op {
         Comparison::Equal => Asked {
@@ -174,7 +189,8 @@ fn high_word(index: u8) -> u8
 fn high_is(condition: Condition) -> Atom
     requires { condition.index < 6 }
     ensures word { word_of result < 16 }
-    ensures answers { (words : List ℕ) → IsWords words → atom_answer result words ≡ (high (argument (call_of words) condition.index) == high condition.value) }
+    ensures answers { (words : List ℕ) → IsWords words
+        → atom_answer result words ≡ (high (argument (call_of words) condition.index) == high condition.value) }
 {
     Atom::Eq {
         word: high_word(condition.index),
@@ -186,7 +202,10 @@ fn high_is(condition: Condition) -> Atom
 fn high_is_under_mask(condition: Condition) -> Atom
     requires { condition.index < 6 }
     ensures word { word_of result < 16 }
-    ensures answers { (words : List ℕ) → IsWords words → atom_answer result words ≡ (bit_and (high (argument (call_of words) condition.index)) (high condition.value) == high (bit_and condition.value_two condition.value)) }
+    ensures answers { (words : List ℕ) → IsWords words
+        → atom_answer result words
+        ≡ (bit_and (high (argument (call_of words) condition.index)) (high condition.value)
+        == high (bit_and condition.value_two condition.value)) }
 {
     Atom::Eq {
         word: high_word(condition.index),
@@ -198,7 +217,9 @@ fn high_is_under_mask(condition: Condition) -> Atom
 fn high_is_above(condition: Condition) -> Atom
     requires { condition.index < 6 }
     ensures word { word_of result < 16 }
-    ensures answers { (words : List ℕ) → IsWords words → atom_answer result words ≡ nat_lt (high condition.value) (high (argument (call_of words) condition.index)) }
+    ensures answers { (words : List ℕ) → IsWords words
+        → atom_answer result words
+        ≡ nat_lt (high condition.value) (high (argument (call_of words) condition.index)) }
 {
     Atom::Gt {
         word: high_word(condition.index),
@@ -209,7 +230,8 @@ fn high_is_above(condition: Condition) -> Atom
 fn low_is(condition: Condition) -> Atom
     requires { condition.index < 6 }
     ensures word { word_of result < 16 }
-    ensures answers { (words : List ℕ) → IsWords words → atom_answer result words ≡ (low (argument (call_of words) condition.index) == low condition.value) }
+    ensures answers { (words : List ℕ) → IsWords words
+        → atom_answer result words ≡ (low (argument (call_of words) condition.index) == low condition.value) }
 {
     Atom::Eq {
         word: low_word(condition.index),
@@ -221,7 +243,10 @@ fn low_is(condition: Condition) -> Atom
 fn low_is_under_mask(condition: Condition) -> Atom
     requires { condition.index < 6 }
     ensures word { word_of result < 16 }
-    ensures answers { (words : List ℕ) → IsWords words → atom_answer result words ≡ (bit_and (low (argument (call_of words) condition.index)) (low condition.value) == low (bit_and condition.value_two condition.value)) }
+    ensures answers { (words : List ℕ) → IsWords words
+        → atom_answer result words
+        ≡ (bit_and (low (argument (call_of words) condition.index)) (low condition.value)
+        == low (bit_and condition.value_two condition.value)) }
 {
     Atom::Eq {
         word: low_word(condition.index),
@@ -233,7 +258,8 @@ fn low_is_under_mask(condition: Condition) -> Atom
 fn low_is_above(condition: Condition) -> Atom
     requires { condition.index < 6 }
     ensures word { word_of result < 16 }
-    ensures answers { (words : List ℕ) → IsWords words → atom_answer result words ≡ nat_lt (low condition.value) (low (argument (call_of words) condition.index)) }
+    ensures answers { (words : List ℕ) → IsWords words
+        → atom_answer result words ≡ nat_lt (low condition.value) (low (argument (call_of words) condition.index)) }
 {
     Atom::Gt {
         word: low_word(condition.index),
@@ -244,7 +270,8 @@ fn low_is_above(condition: Condition) -> Atom
 fn low_is_at_least(condition: Condition) -> Atom
     requires { condition.index < 6 }
     ensures word { word_of result < 16 }
-    ensures answers { (words : List ℕ) → IsWords words → atom_answer result words ≡ nat_le (low condition.value) (low (argument (call_of words) condition.index)) }
+    ensures answers { (words : List ℕ) → IsWords words
+        → atom_answer result words ≡ nat_le (low condition.value) (low (argument (call_of words) condition.index)) }
 {
     Atom::Ge {
         word: low_word(condition.index),

@@ -2,7 +2,17 @@
 
 ghost use Rattle.std.specs.Prelude.{◌≡◌, ℕ, ◌+◌, ◌<◌, List};
 ghost use Rattle.scf_insn.specs.Words.{IsWords};
-ghost use Rattle.scf_machine.specs.Machine.{State, start, sets, stores, value_of, operand_of, operand_in_computation, effect, Goes};
+ghost use Rattle.scf_machine.specs.Machine.{
+  State,
+  start,
+  sets,
+  stores,
+  value_of,
+  operand_of,
+  operand_in_computation,
+  effect,
+  Goes,
+};
 ghost use Rattle.scf_machine.specs.Checks.{UsesScratch};
 ghost use Rattle.scf_compare.specs.Values.{IsValue, StandsFor, AreValues, Describes};
 
@@ -36,7 +46,8 @@ impl Registers {
     fn get(&self, register: Register) -> Value
         requires { AreValues self.now }
         ensures value { IsValue result }
-        ensures stands { (words : List ℕ) (s : State) → Describes self.now words s → StandsFor result words (value_of register s) }
+        ensures stands { (words : List ℕ) (s : State) → Describes self.now words s
+            → StandsFor result words (value_of register s) }
     {
         match register {
             Register::A => self.a,
@@ -49,7 +60,9 @@ impl Registers {
         requires values { AreValues self.now }
         requires value { IsValue value }
         ensures values { AreValues result }
-        ensures describes { (words : List ℕ) (s : State) (number : ℕ) → Describes self.now words s → StandsFor value words number → Describes result words (sets register s number) }
+        ensures describes { (words : List ℕ) (s : State) (number : ℕ) → Describes self.now words s
+            → StandsFor value words number
+            → Describes result words (sets register s number) }
     {
         let mut registers = *self;
         match register {
@@ -65,7 +78,9 @@ impl Registers {
         requires value { IsValue value }
         requires index { index < 16 }
         ensures values { AreValues result }
-        ensures describes { (words : List ℕ) (s : State) (number : ℕ) → Describes self.now words s → StandsFor value words number → Describes result words (stores s index number) }
+        ensures describes { (words : List ℕ) (s : State) (number : ℕ) → Describes self.now words s
+            → StandsFor value words number
+            → Describes result words (stores s index number) }
     {
         let mut registers = *self;
         registers.scratch[index as usize] = value;
@@ -76,7 +91,8 @@ impl Registers {
     pub(crate) fn operand(&self, operand: Operand, insn: Insn) -> Value
         requires { AreValues self.now }
         ensures value { IsValue result }
-        ensures stands { (words : List ℕ) (s : State) → Describes self.now words s → StandsFor result words (operand_of operand insn s) }
+        ensures stands { (words : List ℕ) (s : State) → Describes self.now words s
+            → StandsFor result words (operand_of operand insn s) }
     {
         match operand {
             Operand::Constant => Value::Known(insn.k),
@@ -88,13 +104,13 @@ impl Registers {
     fn operand_in_computation(&self, arithmetic: Arithmetic, operand: Operand, insn: Insn) -> Value
         requires { AreValues self.now }
         ensures value { IsValue result }
-        ensures stands { (words : List ℕ) (s : State) → Describes self.now words s → StandsFor result words (operand_in_computation arithmetic operand insn s) }
+        ensures stands { (words : List ℕ) (s : State) → Describes self.now words s
+            → StandsFor result words (operand_in_computation arithmetic operand insn s) }
     {
         match operand {
             Operand::Constant => Value::Known(insn.k),
             Operand::Index => match arithmetic {
-                Arithmetic::Lsh => self.x.low_five_bits(),
-                Arithmetic::Rsh => self.x.low_five_bits(),
+                Arithmetic::Lsh | Arithmetic::Rsh => self.x.low_five_bits(),
                 _ => self.x,
             },
         }
@@ -106,7 +122,10 @@ impl Registers {
         requires load { operation ≡ Operation.LoadWord → insn.k < 64 }
         requires scratch { UsesScratch operation → insn.k < 16 }
         ensures values { AreValues result }
-        ensures describes { (words : List ℕ) (s t : State) → IsWords words → Describes self.now words s → effect operation insn words s ≡ Goes t → Describes result words t }
+        ensures describes { (words : List ℕ) (s t : State) → IsWords words
+            → Describes self.now words s
+            → effect operation insn words s ≡ Goes t
+            → Describes result words t }
     {
         match operation {
             Operation::LoadWord => {

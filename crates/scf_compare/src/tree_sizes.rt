@@ -1,6 +1,20 @@
 //! The effort of a comparison.
 
-ghost use Rattle.std.specs.Prelude.{◌≡◌, ◌<◌, ◌≤◌, ◌==◌, ◌∷◌, ℕ, List, Some, if◌then◌else◌, length, slice_index, slice_get, take};
+ghost use Rattle.std.specs.Prelude.{
+  ◌≡◌,
+  ◌<◌,
+  ◌≤◌,
+  ◌==◌,
+  ◌∷◌,
+  ℕ,
+  List,
+  Some,
+  if◌then◌else◌,
+  length,
+  slice_index,
+  slice_get,
+  take,
+};
 ghost use Rattle.std.specs.List.{list_any};
 ghost use Rattle.scf_profile.specs.declared.rule.Rule.{Rule};
 ghost use Rattle.scf_machine.specs.Rules.{IsValidList, Stands};
@@ -15,10 +29,11 @@ use scf_machine::Program;
 use scf_profile::{Condition, Profile, Rule};
 
 /// How many instructions a program has at most.
-const MOST_INSNS: usize = 4096;
+const MAX_INSNS: usize = 4096;
 
-/// How many steps a comparison takes at most, or 2^64-1 where they are more: the size of the filter's tree of paths times
-/// the spread of the profile. A limit that isn't below the exact number is enough for every comparison of the two.
+/// How many steps a comparison takes at most, or 2^64-1 where they are more: the size of the filter's tree of paths
+/// times the spread of the profile. A limit that isn't below the exact number is enough for every comparison of the
+/// two.
 pub fn effort(program: &Program, profile: &Profile) -> u64
     ensures { result ≡ saturated (effort_of program.now profile.now) }
 {
@@ -31,7 +46,7 @@ fn paths_of(insns: &[Insn]) -> u64
     requires { IsValidList insns.now }
     ensures { result ≡ saturated (tree_size insns.now 0) }
 {
-    let mut sizes = [0; MOST_INSNS];
+    let mut sizes = [0; MAX_INSNS];
     fill_sizes(insns, &mut sizes);
     sizes[0]
 }
@@ -40,7 +55,8 @@ fn paths_of(insns: &[Insn]) -> u64
 fn fill_sizes(insns: &[Insn], sizes: &mut [u64])
     requires valid { IsValidList insns.now }
     requires room { length insns.now ≤ length sizes.old }
-    ensures { (place : ℕ) → place < length insns.now → slice_index sizes.new place ≡ saturated (tree_size insns.now place) }
+    ensures { (place : ℕ) → place < length insns.now
+        → slice_index sizes.new place ≡ saturated (tree_size insns.now place) }
 {
     let mut place = insns.len();
     while place > 0 {
@@ -55,7 +71,9 @@ fn size_at(insns: &[Insn], place: usize, sizes: &[u64]) -> u64
     requires valid { IsValidList insns.now }
     requires place { place < length insns.now }
     requires room { length insns.now ≤ length sizes.now }
-    requires later { (at : ℕ) → place < at → at < length insns.now → slice_index sizes.now at ≡ saturated (tree_size insns.now at) }
+    requires later { (at : ℕ) → place < at
+        → at < length insns.now
+        → slice_index sizes.now at ≡ saturated (tree_size insns.now at) }
     ensures { result ≡ saturated (tree_size insns.now place) }
 {
     let insn = insns[place];
@@ -70,7 +88,9 @@ fn size_of(insns: &[Insn], place: usize, insn: Insn, operation: Operation, sizes
     requires valid { IsValidList insns.now }
     requires stands { Stands insns.now place insn operation }
     requires room { length insns.now ≤ length sizes.now }
-    requires later { (at : ℕ) → place < at → at < length insns.now → slice_index sizes.now at ≡ saturated (tree_size insns.now at) }
+    requires later { (at : ℕ) → place < at
+        → at < length insns.now
+        → slice_index sizes.now at ≡ saturated (tree_size insns.now at) }
     ensures { result ≡ saturated (tree_size insns.now place) }
 {
     match Flow::of(insns, place, insn, operation) {
@@ -103,7 +123,11 @@ fn spread_of(rules: &[Rule]) -> u64
 /// What the number of the rule at a place adds to the spread, where no rule before it has the number.
 fn size_of_number(rules: &[Rule], place: usize) -> u64
     requires { place < length rules.now }
-    ensures { (rule : Rule) → slice_get rules.now place ≡ Some rule → result ≡ saturated (if list_any (λ r. r.number == rule.number) (take place rules.now) then 0 else number_size rules.now rule.number) }
+    ensures { (rule : Rule) → slice_get rules.now place ≡ Some rule
+        → result ≡ saturated (
+        if list_any (λ r. r.number == rule.number) (take place rules.now)
+        then 0
+        else number_size rules.now rule.number) }
 {
     let number = rules[place].number;
     if has_number(&rules[..place], number) {
@@ -128,7 +152,8 @@ fn size_of_rules(rules: &[Rule], number: u32) -> u64
 
 /// The size of the tree of the rules of a number once a rule stands before the others.
 fn size_with_rule(rule: &Rule, number: u32, size: u64) -> u64
-    ensures { (others : List Rule) → size ≡ saturated (rules_size (rules_of number others)) → result ≡ saturated (rules_size (rules_of number (rule.now ∷ others))) }
+    ensures { (others : List Rule) → size ≡ saturated (rules_size (rules_of number others))
+        → result ≡ saturated (rules_size (rules_of number (rule.now ∷ others))) }
 {
     if rule.number == number {
         size_of_conditions(rule.conditions.as_slice(), size)

@@ -43,7 +43,9 @@ impl Value {
     pub(crate) fn computed(self, arithmetic: Arithmetic, other: Value) -> Value
         requires { IsValue self }
         ensures value { IsValue result }
-        ensures stands { (words : List ℕ) (a v : ℕ) → StandsFor self words a → StandsFor other words v → StandsFor result words (value_computed arithmetic a v) }
+        ensures stands { (words : List ℕ) (a v : ℕ) → StandsFor self words a
+            → StandsFor other words v
+            → StandsFor result words (value_computed arithmetic a v) }
     {
         match other {
             Value::Known(v) => self.computed_with(arithmetic, v),
@@ -55,7 +57,8 @@ impl Value {
     fn computed_with(self, arithmetic: Arithmetic, v: u32) -> Value
         requires { IsValue self }
         ensures value { IsValue result }
-        ensures stands { (words : List ℕ) (a : ℕ) → StandsFor self words a → StandsFor result words (value_computed arithmetic a v) }
+        ensures stands { (words : List ℕ) (a : ℕ) → StandsFor self words a
+            → StandsFor result words (value_computed arithmetic a v) }
     {
         match self {
             Value::Known(a) => known_result(arithmetic, a, v),
@@ -73,7 +76,8 @@ impl Value {
     /// What is known of its negation.
     pub(crate) fn negated(self) -> Value
         ensures value { IsValue result }
-        ensures stands { (words : List ℕ) (a : ℕ) → StandsFor self words a → StandsFor result words ((2 ^ 32 - a) % 2 ^ 32) }
+        ensures stands { (words : List ℕ) (a : ℕ) → StandsFor self words a
+            → StandsFor result words ((2 ^ 32 - a) % 2 ^ 32) }
     {
         match self {
             Value::Known(a) => Value::Known(0u32.wrapping_sub(a)),
@@ -98,7 +102,10 @@ impl Value {
         requires value { IsValue self }
         requires other { IsValue other }
         ensures asks { IsDecision result }
-        ensures decides { (words : List ℕ) (a v : ℕ) → IsWords words → StandsFor self words a → StandsFor other words v → Decides result words (holds test a v) }
+        ensures decides { (words : List ℕ) (a v : ℕ) → IsWords words
+            → StandsFor self words a
+            → StandsFor other words v
+            → Decides result words (holds test a v) }
     {
         match other {
             Value::Known(v) => self.decide_with(test, v),
@@ -114,7 +121,9 @@ impl Value {
     fn decide_with(self, test: Test, v: u32) -> Decision
         requires { IsValue self }
         ensures asks { IsDecision result }
-        ensures decides { (words : List ℕ) (a : ℕ) → IsWords words → StandsFor self words a → Decides result words (holds test a v) }
+        ensures decides { (words : List ℕ) (a : ℕ) → IsWords words
+            → StandsFor self words a
+            → Decides result words (holds test a v) }
     {
         match self {
             Value::Known(a) => Decision::Known(holds_of(test, a, v)),
@@ -129,7 +138,8 @@ impl Decision {
     fn negated(self) -> Decision
         requires { IsDecision self }
         ensures asks { IsDecision result }
-        ensures decides { (words : List ℕ) (outcome : Bool) → Decides self words outcome → Decides result words (not outcome) }
+        ensures decides { (words : List ℕ) (outcome : Bool) → Decides self words outcome
+            → Decides result words (not outcome) }
     {
         match self {
             Decision::Known(outcome) => Decision::Known(!outcome),
@@ -163,7 +173,8 @@ fn known_result(arithmetic: Arithmetic, a: u32, v: u32) -> Value
 fn decide_masked(word: u8, mask: u32, test: Test, v: u32) -> Decision
     requires { word < 16 }
     ensures asks { IsDecision result }
-    ensures decides { (words : List ℕ) → IsWords words → Decides result words (holds test (bit_and (slice_index words word) mask) v) }
+    ensures decides { (words : List ℕ) → IsWords words
+        → Decides result words (holds test (bit_and (slice_index words word) mask) v) }
 {
     match test {
         Test::Equal => Decision::Asks {
@@ -198,7 +209,8 @@ fn decide_masked(word: u8, mask: u32, test: Test, v: u32) -> Decision
 fn decide_turned(a: u32, test: Test, word: u8, mask: u32) -> Decision
     requires { word < 16 }
     ensures asks { IsDecision result }
-    ensures decides { (words : List ℕ) → IsWords words → Decides result words (holds test a (bit_and (slice_index words word) mask)) }
+    ensures decides { (words : List ℕ) → IsWords words
+        → Decides result words (holds test a (bit_and (slice_index words word) mask)) }
 {
     match test {
         Test::Equal => decide_masked(word, mask, Test::Equal, a),

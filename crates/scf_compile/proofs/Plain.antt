@@ -1,5 +1,5 @@
 -- The filter of a plain profile is a plain program.
-use Rattle.std.proofs.Common.{◌≡◌, ℕ, ◌+◌, Bool, true, false, cond, leb, All, List, [], ◌∷◌, ◌++◌, length, Some, refl, bit_and}
+use Rattle.std.proofs.Common.{ℕ, ◌+◌, Bool, true, false, cond, leb, All, List, [], ◌∷◌, ◌++◌, length, refl, bit_and}
 use Rattle.std.specs.List.{AllByRecursion}
 use Rattle.std.proofs.lemmas.List.Elements.{All-from_recursion, recursion_from_All}
 use Rattle.scf_insn.specs.declared.insn.Insn.{Insn}
@@ -17,7 +17,6 @@ use Rattle.scf_profile.specs.declared.condition.Comparison.TheVariants.{NotEqual
 use Rattle.scf_profile.specs.declared.condition.Condition.{Condition}
 use Rattle.scf_profile.specs.declared.rule.Rule.{Rule}
 use Rattle.scf_profile.specs.PlainProfile.{IsPlainCondition, IsPlainRule}
-use Rattle.scf_profile.specs.RulesByNumber.{rules_of}
 use Rattle.scf_compile.specs.declared.mask.MaskKind.{MaskKind}
 use Rattle.scf_compile.specs.declared.mask.MaskKind.TheVariants.{Empty, OneBit, Full, Mixed}
 use Rattle.scf_compile.specs.Insns.{load_word, jump_if, jump_over, return_with}

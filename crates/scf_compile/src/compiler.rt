@@ -49,9 +49,9 @@ fn filter_of(alloc: Global, rules: &[Rule], default: Answer) -> Result<Vec<Insn>
     Ok(code)
 }
 
-/// Makes a filter that answers every call record as the profile does, in all 32 bits: those of other architectures and of
-/// numbers from 0x40000000 on too. A profile whose masks are simple gives a plain program. `TooLarge` comes only where
-/// `size_bound` exceeds 4096, and `Memory` where a growth was refused.
+/// Makes a filter that answers every call record as the profile does, in all 32 bits: those of other architectures and
+/// of numbers from 0x40000000 on too. A profile whose masks are simple gives a plain program. `TooLarge` comes only
+/// where `size_bound` exceeds 4096, and `Memory` where a growth was refused.
 pub fn compile(alloc: Global, profile: &Profile) -> Result<Program, CompileFault>
     ensures same { IfOk result (λ program. SameAnswers (RunAnswers program) profile.now) }
     ensures plain { IsPlainProfile profile.now → IfOk result IsPlainProgram }

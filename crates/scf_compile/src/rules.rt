@@ -4,7 +4,15 @@ ghost use Rattle.std.specs.Prelude.{◌≡◌, ◌++◌, ◌<◌, ◌≤◌, ◌
 ghost use Rattle.std.specs.List.{list_any};
 ghost use Rattle.scf_profile.specs.Rule.{IsRule};
 ghost use Rattle.scf_profile.specs.RulesByNumber.{numbers_of, rules_of};
-ghost use Rattle.scf_compile.specs.Plans.{conditions_code, rule_code, rules_code, branch_code, number_code, chain, plan_code};
+ghost use Rattle.scf_compile.specs.Plans.{
+  conditions_code,
+  rule_code,
+  rules_code,
+  branch_code,
+  number_code,
+  chain,
+  plan_code,
+};
 
 use crate::blocks::{condition_len, put_condition};
 use crate::insns::{jump_if, jump_over, return_with};
@@ -130,7 +138,8 @@ pub(crate) fn put_numbers(
 ) -> Result<(), AllocError>
     requires rules { All IsRule rules.now }
     requires few { length rules.now ≤ 4096 }
-    ensures { OnOk result (code.new.items ≡ code.old.items ++ plan_code default (chain (numbers_of rules.now) rules.now)) }
+    ensures { OnOk result (
+        code.new.items ≡ code.old.items ++ plan_code default (chain (numbers_of rules.now) rules.now)) }
 {
     for i in 0..rules.len() {
         let rule = &rules[i];

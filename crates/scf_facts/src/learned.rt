@@ -17,7 +17,9 @@ impl Learned {
     /// The number of the word that this fixes, and its only value.
     pub(crate) fn fixes(&self) -> Option<(u8, u32)>
         ensures place { IfSome result (λ fixed. fixed.0 ≡ word_of self.now.atom) }
-        ensures value { IfSome result (λ fixed. (number : ℕ) → number < 2 ^ 32 → answer_at self.now.atom number ≡ self.now.holds → number ≡ fixed.1) }
+        ensures value { IfSome result (λ fixed.
+            (number : ℕ) → number < 2 ^ 32
+            → answer_at self.now.atom number ≡ self.now.holds → number ≡ fixed.1) }
     {
         match self.atom {
             Atom::Eq {
@@ -32,8 +34,14 @@ impl Learned {
     /// What this alone tells of another atom.
     pub(crate) fn tells(&self, atom: Atom) -> Tell
         requires { word_of self.now.atom < 16 }
-        ensures always { result ≡ Tell.Always → (words : List ℕ) → IsWords words → atom_answer self.now.atom words ≡ self.now.holds → atom_answer atom words ≡ true }
-        ensures never { result ≡ Tell.Never → (words : List ℕ) → IsWords words → atom_answer self.now.atom words ≡ self.now.holds → atom_answer atom words ≡ false }
+        ensures always { result ≡ Tell.Always
+            → (words : List ℕ) → IsWords words
+            → atom_answer self.now.atom words ≡ self.now.holds
+            → atom_answer atom words ≡ true }
+        ensures never { result ≡ Tell.Never
+            → (words : List ℕ) → IsWords words
+            → atom_answer self.now.atom words ≡ self.now.holds
+            → atom_answer atom words ≡ false }
     {
         if self.atom == atom {
             return if self.holds {

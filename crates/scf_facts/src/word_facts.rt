@@ -24,14 +24,19 @@ pub trait WordFacts: Sized + Drop {
     /// Keeps of the allowed lists those that give the atom this answer. Where memory is refused, all of them stay.
     fn learn(&mut self, atom: Atom, holds: bool) -> Result<(), Memory>
         requires word { word_of atom < 16 }
-        ensures law_learn { OnOk result ((words : List ℕ) → allows self.new words ↔ (allows self.old words × (atom_answer atom words ≡ holds))) }
+        ensures law_learn { OnOk result (
+            (words : List ℕ) → allows self.new words ↔ (allows self.old words × (atom_answer atom words ≡ holds))) }
         ensures refused { OnErr result (AllowsSame allows self.new self.old) };
 
     /// What the atom answers of every allowed list, where that is known.
     fn tell(&self, atom: Atom) -> Tell
         requires word { word_of atom < 16 }
-        ensures law_always { result ≡ Tell.Always → (words : List ℕ) → allows self.now words → atom_answer atom words ≡ true }
-        ensures law_never { result ≡ Tell.Never → (words : List ℕ) → allows self.now words → atom_answer atom words ≡ false };
+        ensures law_always { result ≡ Tell.Always
+            → (words : List ℕ) → allows self.now words
+            → atom_answer atom words ≡ true }
+        ensures law_never { result ≡ Tell.Never
+            → (words : List ℕ) → allows self.now words
+            → atom_answer atom words ≡ false };
 
     /// Whether it is known that no list is allowed.
     fn is_empty(&self) -> bool

@@ -1,4 +1,4 @@
-use Rattle.std.proofs.Common.{◌≡◌, ◌+◌, ◌≤◌, ◌⊎◌, inl, inr, ℕ, List, arith}
+use Rattle.std.proofs.Common.{inl, inr, arith}
 use Rattle.scf_compare.proofs.explore.explore.Goals as goal
 
 pub loop-frontier-preserved : goal.loop-frontier-preserved

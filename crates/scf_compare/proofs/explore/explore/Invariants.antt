@@ -1,4 +1,4 @@
-use Rattle.std.proofs.Common.{◌≡◌, ◌-◌, ◌+◌, ◌≤◌, ◌⊎◌, ℕ, List}
+use Rattle.std.proofs.Common.{◌-◌, ◌+◌, ◌≤◌, ◌⊎◌, ℕ, List}
 use Rattle.scf_compare.specs.Frontier.{IsInSome, IsFrontier, open_size}
 use Rattle.scf_compare.specs.Verdicts.{AnswerAlike}
 use Rattle.scf_compare.proofs.explore.explore.Given as goal

@@ -1,17 +1,15 @@
 -- The ways on from an instruction follow the runs that come to it, and their sizes are within its size.
-use Rattle.std.proofs.Common.{◌≡◌, ◌+◌, ◌<◌, ◌≤◌, ◌/◌, ◌==◌, ℕ, List, Bool, length, if◌then◌else◌, refl, sym, ap, subst, ◌∙◌, arith}
-use Rattle.std.specs.Prelude.{slice_get, Some}
+use Rattle.std.proofs.Common.{◌≡◌, ◌+◌, ◌/◌, ◌==◌, ℕ, if◌then◌else◌, refl, sym, ap, subst, ◌∙◌, arith}
 use Rattle.std.proofs.lemmas.Option.{slice_get_within, IfSome_then}
 use Rattle.scf_insn.specs.declared.answer.Answer.{Answer}
 use Rattle.scf_insn.specs.declared.operation.Register.TheVariants.{A}
 use Rattle.scf_machine.specs.Machine.{State, Goes, Ends, sets, jumps_to, holds, operand_of, RunAnswers}
-use Rattle.scf_compare.specs.declared.comparison.FilterEnd.{FilterEnd}
 use Rattle.scf_compare.specs.declared.filter.FilterNode.{FilterNode}
 use Rattle.scf_compare.specs.declared.filter.FilterNode.TheVariants.{At, Stopped}
 use Rattle.scf_compare.specs.declared.flow.Flow.{Flow}
 use Rattle.scf_compare.specs.declared.flow.Flow.TheVariants.{Next, Jump, Branch, DivideByIndex, ReturnConstant, ReturnAccumulator}
 use Rattle.scf_compare.specs.Ends.{FilterTells}
-use Rattle.scf_compare.specs.Filters.{ComesTo, filter_questions}
+use Rattle.scf_compare.specs.Filters.{filter_questions}
 use Rattle.scf_compare.specs.Flow.{tree_size, flow_at, size_of_flow}
 use Rattle.scf_compare.proofs.Flows.{load_fits, scratch_fits, jumped, branched, divided, returned_constant, returned_accumulator, size_by_flow}
 use Rattle.scf_compare.proofs.Ways.{describes_at, comes_on, comes_to_answer, straight, turn_proper, turn_costs, turn_leads}
@@ -23,7 +21,6 @@ after-requires-clause-load c =
     let place = c.args.place in
     let insn = c.args.insn in
     let operation = c.args.operation in
-    let registers = c.args.registers.now in
     load_fits insns place insn operation c.requires.valid c.requires.stands
 
 pub after-requires-clause-scratch : goal.after-requires-clause-scratch
@@ -32,16 +29,10 @@ after-requires-clause-scratch c =
     let place = c.args.place in
     let insn = c.args.insn in
     let operation = c.args.operation in
-    let registers = c.args.registers.now in
     scratch_fits insns place insn operation c.requires.valid c.requires.stands
 
 pub returns-in-Next-clause-proper : goal.returns-in-Next-clause-proper
 returns-in-Next-clause-proper c =
-    let insns = c.args.insns.now in
-    let place = c.args.place in
-    let insn = c.args.insn in
-    let operation = c.args.operation in
-    let registers = c.args.registers.now in
     let inside = rw c.in-Next.is at c.of.ensures.inside in
     (inside, c.after.ensures.values)
 
@@ -62,18 +53,12 @@ returns-in-Next-clause-costs c =
     let place = c.args.place in
     let insn = c.args.insn in
     let operation = c.args.operation in
-    let registers = c.args.registers.now in
     let f : flow_at operation insn place ≡ Next c.in-Next.next = sym c.of.ensures.flow ∙ c.in-Next.is in
     let size : tree_size insns place ≡ size_of_flow (Next c.in-Next.next) (tree_size insns) = size_by_flow insns place insn operation c.requires.stands ∙ ap (λ (flow : Flow). size_of_flow flow (tree_size insns)) f in
     omega arith
 
 pub returns-in-Jump-clause-proper : goal.returns-in-Jump-clause-proper
 returns-in-Jump-clause-proper c =
-    let insns = c.args.insns.now in
-    let place = c.args.place in
-    let insn = c.args.insn in
-    let operation = c.args.operation in
-    let registers = c.args.registers.now in
     let inside = rw c.in-Jump.is at c.of.ensures.inside in
     (inside, c.requires.values)
 
@@ -95,7 +80,6 @@ returns-in-Jump-clause-costs c =
     let place = c.args.place in
     let insn = c.args.insn in
     let operation = c.args.operation in
-    let registers = c.args.registers.now in
     let f : flow_at operation insn place ≡ Jump c.in-Jump.target = sym c.of.ensures.flow ∙ c.in-Jump.is in
     let size : tree_size insns place ≡ size_of_flow (Jump c.in-Jump.target) (tree_size insns) = size_by_flow insns place insn operation c.requires.stands ∙ ap (λ (flow : Flow). size_of_flow flow (tree_size insns)) f in
     omega arith
@@ -103,9 +87,6 @@ returns-in-Jump-clause-costs c =
 pub returns-in-Branch-clause-proper : goal.returns-in-Branch-clause-proper
 returns-in-Branch-clause-proper c =
     let insns = c.args.insns.now in
-    let place = c.args.place in
-    let insn = c.args.insn in
-    let operation = c.args.operation in
     let registers = c.args.registers.now in
     let inside = rw c.in-Branch.is at c.of.ensures.inside in
     let if_true : FilterNode = At c.in-Branch.if_true registers in
@@ -124,7 +105,6 @@ returns-in-Branch-clause-leads c =
     let if_false : FilterNode = At c.in-Branch.if_false registers in
     λ words w r.
     let s = r.state in
-    let outcome : Bool = holds c.in-Branch.test s.a (operand_of c.in-Branch.operand insn s) in
     let target : ℕ = (if holds c.in-Branch.test s.a (operand_of c.in-Branch.operand insn s) then c.in-Branch.if_true else c.in-Branch.if_false) in
     let to = λ (p : ℕ) (h : target ≡ p). comes_on insns words place insn operation registers c.requires.stands r (jumps_to s target) p registers (branched operation insn words s place c.in-Branch.test c.in-Branch.operand c.in-Branch.if_true c.in-Branch.if_false r.there f) h (describes_at registers words s target r.describes) in
     turn_leads (filter_questions insns) (FilterTells (RunAnswers insns)) words c.decide-decision.result if_true if_false c.turn_by.result (holds c.in-Branch.test s.a (operand_of c.in-Branch.operand insn s)) c.turn_by.ensures
@@ -150,8 +130,6 @@ returns-in-DivideByIndex-clause-proper c =
     let insns = c.args.insns.now in
     let place = c.args.place in
     let insn = c.args.insn in
-    let operation = c.args.operation in
-    let registers = c.args.registers.now in
     let inside = rw c.in-DivideByIndex.is at c.of.ensures.inside in
     let stopped : FilterNode = Stopped (record { 0 = 0 }) place in
     let divided_on : FilterNode = At c.in-DivideByIndex.next c.after-in-DivideByIndex.result in
@@ -184,7 +162,6 @@ returns-in-DivideByIndex-clause-costs c =
     let place = c.args.place in
     let insn = c.args.insn in
     let operation = c.args.operation in
-    let registers = c.args.registers.now in
     let f : flow_at operation insn place ≡ DivideByIndex c.in-DivideByIndex.next = sym c.of.ensures.flow ∙ c.in-DivideByIndex.is in
     let size : tree_size insns place ≡ size_of_flow (DivideByIndex c.in-DivideByIndex.next) (tree_size insns) = size_by_flow insns place insn operation c.requires.stands ∙ ap (λ (flow : Flow). size_of_flow flow (tree_size insns)) f in
     let stopped : FilterNode = Stopped (record { 0 = 0 }) place in
@@ -196,8 +173,6 @@ returns-in-ReturnConstant-clause-proper c =
     let insns = c.args.insns.now in
     let place = c.args.place in
     let insn = c.args.insn in
-    let operation = c.args.operation in
-    let registers = c.args.registers.now in
     slice_get_within insns place insn c.requires.stands.here
 
 pub returns-in-ReturnConstant-clause-leads : goal.returns-in-ReturnConstant-clause-leads
@@ -216,7 +191,6 @@ returns-in-ReturnConstant-clause-costs c =
     let place = c.args.place in
     let insn = c.args.insn in
     let operation = c.args.operation in
-    let registers = c.args.registers.now in
     let f : flow_at operation insn place ≡ ReturnConstant = sym c.of.ensures.flow ∙ c.in-ReturnConstant.is in
     let size : tree_size insns place ≡ size_of_flow (ReturnConstant) (tree_size insns) = size_by_flow insns place insn operation c.requires.stands ∙ ap (λ (flow : Flow). size_of_flow flow (tree_size insns)) f in
     omega arith
@@ -226,8 +200,6 @@ returns-in-ReturnAccumulator-clause-proper c =
     let insns = c.args.insns.now in
     let place = c.args.place in
     let insn = c.args.insn in
-    let operation = c.args.operation in
-    let registers = c.args.registers.now in
     slice_get_within insns place insn c.requires.stands.here
 
 pub returns-in-ReturnAccumulator-clause-leads : goal.returns-in-ReturnAccumulator-clause-leads
@@ -248,7 +220,6 @@ returns-in-ReturnAccumulator-clause-costs c =
     let place = c.args.place in
     let insn = c.args.insn in
     let operation = c.args.operation in
-    let registers = c.args.registers.now in
     let f : flow_at operation insn place ≡ ReturnAccumulator = sym c.of.ensures.flow ∙ c.in-ReturnAccumulator.is in
     let size : tree_size insns place ≡ size_of_flow (ReturnAccumulator) (tree_size insns) = size_by_flow insns place insn operation c.requires.stands ∙ ap (λ (flow : Flow). size_of_flow flow (tree_size insns)) f in
     omega arith

@@ -1,5 +1,5 @@
 -- Where the ways on from a condition lead.
-use Rattle.std.proofs.Common.{◌≡◌, ◌+◌, ◌<◌, ◌≤◌, ℕ, suc, List, length, take, drop, slice_index_or, true, sym, ap, subst, ◌∙◌, arith, add-one}
+use Rattle.std.proofs.Common.{◌≡◌, ◌+◌, ◌<◌, ◌≤◌, suc, List, length, take, drop, slice_index_or, true, sym, ap, subst, ◌∙◌, arith}
 use Rattle.std.specs.Prelude.{slice_get, Some}
 use Rattle.std.proofs.lemmas.List.{take_all}
 use Rattle.std.proofs.lemmas.Option.{slice_get-get_or, slice_get_within}
@@ -11,7 +11,7 @@ use Rattle.scf_profile.specs.Rule.{all_hold}
 use Rattle.scf_profile.specs.ProfileAnswers.{ProfileAnswers, by_rule}
 use Rattle.scf_profile.specs.RulesByNumber.{rules_of}
 use Rattle.scf_compare.specs.declared.question.Part.TheVariants.{High}
-use Rattle.scf_compare.specs.Effort.{conditions_size, rules_size}
+use Rattle.scf_compare.specs.Effort.{rules_size}
 use Rattle.scf_compare.specs.Profiles.{policy_of, IsAtCondition}
 use Rattle.scf_compare.proofs.Rules.{read_here, same_here, contains_here, met_by, held_more, fails_by, unmet_failing, unmet_more, knows, size_at_condition, conditions_count}
 use Rattle.scf_compare.proofs.profile.follow.Goals as goal
@@ -44,20 +44,14 @@ pub overflow_add-place : goal.overflow_add-place
 overflow_add-place c =
     let rules = c.args.rules.now in
     let place = c.args.place in
-    let index = c.args.index in
-    let a = c.index-rules-place.result in
     let inside = slice_get_within rules place c.requires.node.0 c.requires.node.2.rule_here in
-    let here = read_here rules place a inside c.index-rules-place.is in
     omega (arith, inside, c.requires.few)
 
 pub next_rule-requires : goal.next_rule-requires
 next_rule-requires c =
     let rules = c.args.rules.now in
     let place = c.args.place in
-    let index = c.args.index in
-    let a = c.index-rules-place.result in
     let inside = slice_get_within rules place c.requires.node.0 c.requires.node.2.rule_here in
-    let here = read_here rules place a inside c.index-rules-place.is in
     omega (arith, inside)
 
 pub returns-then-index-conditions-clause-reached : goal.returns-then-index-conditions-clause-reached
@@ -151,7 +145,6 @@ pub returns-in-Fails-clause-size : goal.returns-in-Fails-clause-size
 returns-in-Fails-clause-size c =
     let rules = c.args.rules.now in
     let place = c.args.place in
-    let index = c.args.index in
     let a = c.index-rules-place.result in
     let inside = slice_get_within rules place c.requires.node.0 c.requires.node.2.rule_here in
     let here = read_here rules place a inside c.index-rules-place.is in

@@ -1,7 +1,6 @@
-use Rattle.std.proofs.Common.{◌≡◌, ◌+◌, ◌<◌, ℕ, sym, ap, subst, ◌∙◌, arith}
+use Rattle.std.proofs.Common.{◌≡◌, sym, ap, subst, ◌∙◌, arith}
 use Rattle.scf_compare.specs.declared.flow.Flow.{Flow}
 use Rattle.scf_compare.specs.declared.flow.Flow.TheVariants.{Next, Jump, Branch, DivideByIndex, ReturnConstant, ReturnAccumulator}
-use Rattle.scf_compare.specs.Effort.{saturated}
 use Rattle.scf_compare.specs.Flow.{tree_size, flow_at, size_of_flow}
 use Rattle.scf_compare.proofs.Flows.{IsForward, forward_at, size_by_flow}
 use Rattle.scf_compare.proofs.tree_sizes.size_of.Goals as goal

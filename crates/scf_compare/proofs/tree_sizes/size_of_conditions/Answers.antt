@@ -1,4 +1,4 @@
-use Rattle.std.proofs.Common.{◌≡◌, ◌-◌, ◌<◌, ◌≤◌, length, drop, sym, ap, ◌∙◌, arith}
+use Rattle.std.proofs.Common.{drop, sym, ap, ◌∙◌, arith}
 use Rattle.scf_compare.specs.Effort.{conditions_size, saturated}
 use Rattle.scf_compare.proofs.Saturated.{conditions_step, conditions_added}
 use Rattle.scf_compare.proofs.tree_sizes.size_of_conditions.Goals as goal

@@ -1,4 +1,4 @@
-use Rattle.std.proofs.Common.{rules, ◌≡◌, ◌+◌, ◌<◌, arith, length, subst}
+use Rattle.std.proofs.Common.{rules, ◌≡◌, ◌+◌, arith, length, subst}
 use Rattle.scf_compare.specs.declared.flow.Flow.TheVariants.{Next, DivideByIndex}
 use Rattle.scf_compare.specs.Flow.{flow_at, IsInside}
 use Rattle.scf_compare.proofs.Flows.{inside_at}

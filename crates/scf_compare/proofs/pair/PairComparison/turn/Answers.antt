@@ -1,4 +1,3 @@
-use Rattle.std.proofs.Common.{arith, ◌+◌, ◌≤◌}
 use Rattle.scf_compare.specs.Laws.{scaled_costs}
 use Rattle.scf_compare.proofs.pair.PairComparison.turn.Goals as goal
 

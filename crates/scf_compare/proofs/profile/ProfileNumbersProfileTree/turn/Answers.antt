@@ -1,4 +1,4 @@
-use Rattle.std.proofs.Common.{◌≢◌, ◌<◌, arith}
+use Rattle.std.proofs.Common.{◌≢◌, arith}
 use Rattle.std.specs.Prelude.{slice_index}
 use Rattle.std.proofs.lemmas.List.Elements.{All-nil}
 use Rattle.scf_insn.specs.Words.{call_of}
