@@ -8,8 +8,6 @@ mod insns;
 mod mask;
 mod rules;
 mod size;
-#[cfg(test)]
-mod tests;
 
 pub use compiler::compile;
 pub use fault::CompileFault;

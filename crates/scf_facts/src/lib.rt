@@ -9,6 +9,3 @@ mod word_facts;
 pub use atom::{Atom, Tell};
 pub use atom_list::AtomList;
 pub use word_facts::WordFacts;
-
-#[cfg(test)]
-mod tests;

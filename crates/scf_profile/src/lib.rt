@@ -31,6 +31,3 @@ pub use rule::Rule;
 pub use table::CallTable;
 pub use table_fault::TableFault;
 pub use texts::Texts;
-
-#[cfg(test)]
-mod tests;

@@ -16,6 +16,3 @@ pub use fault::TextFault;
 pub use laws::{listing_spells, one_spelling, words_are_tokens};
 pub use listing::disassemble;
 pub use token::{Token, tokens};
-
-#[cfg(test)]
-mod tests;

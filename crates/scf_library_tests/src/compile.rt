@@ -1,32 +1,14 @@
-use super::*;
+//! The compiler.
+
+use crate::fixtures::{
+    ALLOW, CLONE_MASK, ERRNO_1, EXTREMES, KILL_PROCESS, ONE_CALL, SOCKET_NOT_40, WHOLE_CONFIG,
+    X86_64, call, compiled, profile_of,
+};
+use scf_compile::{CompileFault, size_bound};
 use scf_insn::{Answer, CallRecord};
 use scf_machine::{Program, run};
-use scf_profile::{CallTable, Loaded, Profile, load};
+use scf_profile::Profile;
 use std::alloc::{AllocError, Global};
-use std::test::*;
-
-const ALLOW: u32 = 0x7fff_0000;
-
-const ERRNO_1: u32 = 0x0005_0001;
-
-const KILL: u32 = 0x8000_0000;
-
-const X86_64: u32 = 0xc000_003e;
-
-const ONE_CALL: &str =
-    "{\"defaultAction\":\"SCMP_ACT_ERRNO\",\"syscalls\":[{\"names\":[\"read\"],\"action\":\"SCMP_ACT_ALLOW\"}]}";
-
-const SOCKET_NOT_40: &str =
-    "{\"defaultAction\":\"SCMP_ACT_ERRNO\",\"syscalls\":[{\"names\":[\"socket\"],\"action\":\"SCMP_ACT_ALLOW\",\"args\":[{\"index\":0,\"value\":40,\"op\":\"SCMP_CMP_NE\"}]}]}";
-
-const EXTREMES: &str =
-    "{\"defaultAction\":\"SCMP_ACT_ERRNO\",\"syscalls\":[{\"names\":[\"read\"],\"action\":\"SCMP_ACT_ALLOW\",\"args\":[{\"index\":0,\"value\":0,\"op\":\"SCMP_CMP_LT\"}]},{\"names\":[\"write\"],\"action\":\"SCMP_ACT_ALLOW\",\"args\":[{\"index\":0,\"value\":18446744073709551615,\"op\":\"SCMP_CMP_LE\"}]}]}";
-
-const WHOLE_CONFIG: &str =
-    "{\"ociVersion\":\"1.0.2\",\"linux\":{\"seccomp\":{\"defaultAction\":\"SCMP_ACT_ERRNO\",\"defaultErrnoRet\":38,\"architectures\":[\"SCMP_ARCH_X86_64\",\"SCMP_ARCH_X86\",\"SCMP_ARCH_X32\"],\"syscalls\":[{\"names\":[\"read\",\"arm_sync_file_range\"],\"action\":\"SCMP_ACT_ALLOW\",\"args\":null,\"comment\":\"x\"}]}}}";
-
-const CLONE_MASK: &str =
-    "{\"defaultAction\":\"SCMP_ACT_ERRNO\",\"syscalls\":[{\"names\":[\"clone\"],\"action\":\"SCMP_ACT_ALLOW\",\"args\":[{\"index\":0,\"value\":2114060288,\"op\":\"SCMP_CMP_MASKED_EQ\"}]}]}";
 
 const LOW_BYTE: &str =
     "{\"defaultAction\":\"SCMP_ACT_ERRNO\",\"syscalls\":[{\"names\":[\"read\"],\"action\":\"SCMP_ACT_ALLOW\",\"args\":[{\"index\":0,\"value\":255,\"valueTwo\":511,\"op\":\"SCMP_CMP_MASKED_EQ\"}]}]}";
@@ -34,41 +16,6 @@ const LOW_BYTE: &str =
 const READ: &str = "\"read\"";
 
 const WRITE: &str = "\"write\"";
-
-fn call(nr: u32, arch: u32, a0: u64) -> CallRecord {
-    CallRecord {
-        nr,
-        arch,
-        ip: 0,
-        args: [a0, 0, 0, 0, 0, 0],
-    }
-}
-
-fn load_once(alloc: Global, table: &str, text: &str) -> Option<Profile> {
-    let table = CallTable::read(alloc, table.as_bytes()).ok()?;
-    let Loaded {
-        profile,
-        skipped: _skipped,
-        other_architectures: _others,
-    } = load(alloc, text.as_bytes(), &table).ok()?;
-    Some(profile)
-}
-
-/// The profile of a text. Where one growth is refused, the next try has it.
-fn loaded(alloc: Global, table: &str, text: &str) -> Option<Profile> {
-    match load_once(alloc, table, text) {
-        None => load_once(alloc, table, text),
-        first => first,
-    }
-}
-
-/// The filter of a profile. Where one growth is refused, the next try has it.
-fn compiled(alloc: Global, profile: &Profile) -> Result<Program, CompileFault> {
-    match compile(alloc, profile) {
-        Err(CompileFault::Memory) => compile(alloc, profile),
-        first => first,
-    }
-}
 
 /// Whether a program answers the call so.
 fn answers(program: &Program, record: CallRecord, answer: u32) -> bool {
@@ -95,7 +42,7 @@ fn counted_once(alloc: Global, count: u32) -> Option<Profile> {
     table.push_str("last 9999").ok()?;
     names.push_str("\"unknown\"").ok()?;
     let text = allowing(alloc, names.as_str()).ok()?;
-    load_once(alloc, table.as_str(), text.as_str())
+    profile_of(alloc, table.as_str(), text.as_str())
 }
 
 fn counted(alloc: Global, count: u32) -> Option<Profile> {
@@ -113,7 +60,7 @@ fn repeated_once(alloc: Global, count: u32, last: &str) -> Option<Profile> {
     }
     names.push_str(last).ok()?;
     let text = allowing(alloc, names.as_str()).ok()?;
-    load_once(alloc, "read 0\nwrite 1", text.as_str())
+    profile_of(alloc, "read 0\nwrite 1", text.as_str())
 }
 
 fn repeated(alloc: Global, count: u32, last: &str) -> Option<Profile> {
@@ -123,37 +70,44 @@ fn repeated(alloc: Global, count: u32, last: &str) -> Option<Profile> {
     }
 }
 
+/// Table and profile, number, architecture and first argument of a call, and its answer.
+const ROWS: &[(&'static str, &'static str, u32, u32, u64, u32)] = &[
+    ("read 0", ONE_CALL, 0, X86_64, 0, ALLOW),
+    ("read 0", ONE_CALL, 1, X86_64, 0, ERRNO_1),
+    ("read 0", ONE_CALL, 0x3fff_ffff, X86_64, 0, ERRNO_1),
+    ("read 0", ONE_CALL, 0x4000_0000, X86_64, 0, KILL_PROCESS),
+    ("read 0", ONE_CALL, 0xffff_ffff, X86_64, 0, KILL_PROCESS),
+    ("read 0", ONE_CALL, 0, 0x4000_0003, 0, KILL_PROCESS),
+    ("socket 41", SOCKET_NOT_40, 41, X86_64, 0x1_0000_0028, ALLOW),
+    ("socket 41", SOCKET_NOT_40, 41, X86_64, 40, ERRNO_1),
+    ("read 0\nwrite 1", EXTREMES, 0, X86_64, 0, ERRNO_1),
+    ("read 0\nwrite 1", EXTREMES, 0, X86_64, 1, ERRNO_1),
+    ("read 0\nwrite 1", EXTREMES, 0, X86_64, u64::MAX, ERRNO_1),
+    ("read 0\nwrite 1", EXTREMES, 1, X86_64, 0, ALLOW),
+    ("read 0\nwrite 1", EXTREMES, 1, X86_64, 1, ALLOW),
+    ("read 0\nwrite 1", EXTREMES, 1, X86_64, u64::MAX, ALLOW),
+    ("read 0", WHOLE_CONFIG, 0, X86_64, 0, ALLOW),
+    ("read 0", WHOLE_CONFIG, 1, X86_64, 0, 0x0005_0026),
+    ("clone 56", CLONE_MASK, 56, X86_64, 0, ALLOW),
+    ("clone 56", CLONE_MASK, 56, X86_64, 0x1_0000_0000, ALLOW),
+    ("clone 56", CLONE_MASK, 56, X86_64, 0x0200_0000, ERRNO_1),
+    ("read 0", LOW_BYTE, 0, X86_64, 255, ALLOW),
+    ("read 0", LOW_BYTE, 0, X86_64, 511, ALLOW),
+    ("read 0", LOW_BYTE, 0, X86_64, 510, ERRNO_1),
+];
+
+fn rows_of_calls() -> &'static [(&'static str, &'static str, u32, u32, u64, u32)] {
+    ROWS
+}
+
 #[test]
 fn rows(rt: HostRuntime) {
-    for (table, text, nr, arch, a0, answer) in [
-        ("read 0", ONE_CALL, 0, X86_64, 0, ALLOW),
-        ("read 0", ONE_CALL, 1, X86_64, 0, ERRNO_1),
-        ("read 0", ONE_CALL, 0x3fff_ffff, X86_64, 0, ERRNO_1),
-        ("read 0", ONE_CALL, 0x4000_0000, X86_64, 0, KILL),
-        ("read 0", ONE_CALL, 0xffff_ffff, X86_64, 0, KILL),
-        ("read 0", ONE_CALL, 0, 0x4000_0003, 0, KILL),
-        ("socket 41", SOCKET_NOT_40, 41, X86_64, 0x1_0000_0028, ALLOW),
-        ("socket 41", SOCKET_NOT_40, 41, X86_64, 40, ERRNO_1),
-        ("read 0\nwrite 1", EXTREMES, 0, X86_64, 0, ERRNO_1),
-        ("read 0\nwrite 1", EXTREMES, 0, X86_64, 1, ERRNO_1),
-        ("read 0\nwrite 1", EXTREMES, 0, X86_64, u64::MAX, ERRNO_1),
-        ("read 0\nwrite 1", EXTREMES, 1, X86_64, 0, ALLOW),
-        ("read 0\nwrite 1", EXTREMES, 1, X86_64, 1, ALLOW),
-        ("read 0\nwrite 1", EXTREMES, 1, X86_64, u64::MAX, ALLOW),
-        ("read 0", WHOLE_CONFIG, 0, X86_64, 0, ALLOW),
-        ("read 0", WHOLE_CONFIG, 1, X86_64, 0, 0x0005_0026),
-        ("clone 56", CLONE_MASK, 56, X86_64, 0, ALLOW),
-        ("clone 56", CLONE_MASK, 56, X86_64, 0x1_0000_0000, ALLOW),
-        ("clone 56", CLONE_MASK, 56, X86_64, 0x0200_0000, ERRNO_1),
-        ("read 0", LOW_BYTE, 0, X86_64, 255, ALLOW),
-        ("read 0", LOW_BYTE, 0, X86_64, 511, ALLOW),
-        ("read 0", LOW_BYTE, 0, X86_64, 510, ERRNO_1),
-    ] {
-        let profile = loaded(rt.alloc(), table, text).expect(&rt, "a profile");
+    for (table, text, nr, arch, a0, answer) in rows_of_calls() {
+        let profile = profile_of(rt.alloc(), table, text).expect(&rt, "a profile");
         let program = compiled(rt.alloc(), &profile);
         let program = program.ok().expect(&rt, "a filter");
         assert!(rt;
-            answers(&program, call(nr, arch, a0), answer),
+            answers(&program, call(*nr, *arch, [*a0, 0, 0, 0, 0, 0]), *answer),
             "{nr} {arch} {a0}: {answer}"
         );
     }
@@ -166,7 +120,7 @@ fn bounds(rt: HostRuntime) {
         ("clone 56", CLONE_MASK, 22),
         ("read 0\nwrite 1", EXTREMES, 36),
     ] {
-        let profile = loaded(rt.alloc(), table, text).expect(&rt, "a profile");
+        let profile = profile_of(rt.alloc(), table, text).expect(&rt, "a profile");
         assert_eq!(rt; size_bound(&profile), bound, "{text}");
     }
     // 600 rules of one number.
@@ -189,7 +143,7 @@ fn many_numbers(rt: HostRuntime) {
             (count - 1, ALLOW),
             (count, ERRNO_1),
         ] {
-            assert!(rt; answers(&program, call(nr, X86_64, 0), answer), "{nr}");
+            assert!(rt; answers(&program, call(nr, X86_64, [0; 6]), answer), "{nr}");
         }
     }
 }
@@ -202,7 +156,7 @@ fn long_jumps(rt: HostRuntime) {
         let program = compiled(rt.alloc(), &profile).ok().expect(&rt, "a filter");
         for (nr, answer) in [(0, ALLOW), (1, ALLOW), (2, ERRNO_1)] {
             assert!(rt;
-                answers(&program, call(nr, X86_64, 0), answer),
+                answers(&program, call(nr, X86_64, [0; 6]), answer),
                 "{count} {nr}"
             );
         }
@@ -215,7 +169,7 @@ fn largest(rt: HostRuntime) {
     let profile = repeated(rt.alloc(), 4083, WRITE).expect(&rt, "a profile");
     let program = compiled(rt.alloc(), &profile).ok().expect(&rt, "a filter");
     assert_eq!(rt; program.len(), 4096);
-    assert!(rt; answers(&program, call(1, X86_64, 0), ALLOW));
+    assert!(rt; answers(&program, call(1, X86_64, [0; 6]), ALLOW));
     let profile = repeated(rt.alloc(), 4084, WRITE).expect(&rt, "a profile");
     assert!(rt; compiled(rt.alloc(), &profile).err() == Some(CompileFault::TooLarge));
 }
@@ -229,9 +183,8 @@ fn messages(rt: HostRuntime) {
         ),
         (CompileFault::Memory, "out of memory"),
     ] {
-        match format!(in rt.alloc(); "{fault}") {
-            Ok(shown) => assert!(rt; shown.as_str() == text),
-            Err(_) => {}
+        if let Ok(shown) = format!(in rt.alloc(); "{fault}") {
+            assert_eq!(rt; shown.as_str(), text);
         }
     }
 }

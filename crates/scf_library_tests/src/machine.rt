@@ -1,9 +1,9 @@
-use super::*;
-use scf_insn::{Answer, CallRecord, Insn};
-use std::alloc::Global;
-use std::test::*;
+//! The checker, the machine and stacks of filters.
 
-const ALLOW: u32 = 0x7fff_0000;
+use crate::fixtures::{ALLOW, checked, insn};
+use scf_insn::{Answer, CallRecord, Insn};
+use scf_machine::{CheckFault, FilterStack, Program, PushFault, run};
+use std::alloc::Global;
 
 /// Its word at byte 4i is i + 1.
 const CALL: CallRecord = CallRecord {
@@ -20,27 +20,19 @@ const CALL: CallRecord = CallRecord {
     ],
 };
 
-fn insn(code: u16, jt: u8, jf: u8, k: u32) -> Insn {
-    Insn { code, jt, jf, k }
-}
-
 /// An instruction that doesn't jump on a test.
 fn plain(code: u16, k: u32) -> Insn {
     insn(code, 0, 0, k)
 }
 
-/// What the checker says of the list. Where one growth is refused, the list comes back and the next try has the answer.
-fn checked(alloc: Global, insns: &[Insn]) -> Option<Result<Program, (CheckFault, Vec<Insn>)>> {
-    let list = insns.to_vec(alloc).ok()?;
-    Some(match check(alloc, list) {
-        Err((CheckFault::Memory, back)) => check(alloc, back),
-        first => first,
-    })
+/// What the checker says of a copy of the list.
+fn checked_copy(alloc: Global, insns: &[Insn]) -> Option<Result<Program, (CheckFault, Vec<Insn>)>> {
+    Some(checked(alloc, insns.to_vec(alloc).ok()?))
 }
 
 /// Whether the list is accepted, and its run answers this in so many steps.
 fn answers(alloc: Global, insns: &[Insn], answer: u32, steps: u32) -> bool {
-    match checked(alloc, insns) {
+    match checked_copy(alloc, insns) {
         Some(Ok(program)) => {
             let ran = run(&program, &CALL);
             ran.answer == Answer(answer)
@@ -56,59 +48,69 @@ fn answers(alloc: Global, insns: &[Insn], answer: u32, steps: u32) -> bool {
 
 /// Whether the list is refused by this fault, and handed back.
 fn refuses(alloc: Global, insns: &[Insn], fault: CheckFault) -> bool {
-    match checked(alloc, insns) {
+    match checked_copy(alloc, insns) {
         Some(Ok(_)) => false,
         Some(Err((found, back))) => found == fault && back.as_slice() == insns,
         None => true,
     }
 }
 
+/// The accumulator and the index register before, code and constant, and the accumulator after.
+const COMPUTATIONS: &[(u32, u32, u16, u32, u32)] = &[
+    (9, 9, 0x20, 4, 2),
+    (9, 9, 0x20, 60, 16),
+    (9, 9, 0x80, 0, 64),
+    (9, 9, 0x00, 5, 5),
+    (0xffff_ffff, 0, 0x04, 1, 0),
+    (0x8000_0000, 0x8000_0000, 0x0c, 0, 0),
+    (0, 0, 0x14, 1, 0xffff_ffff),
+    (5, 7, 0x1c, 0, 0xffff_fffe),
+    (0xffff_ffff, 0, 0x24, 0xffff_ffff, 1),
+    (0x1_0000, 0x1_0001, 0x2c, 0, 0x1_0000),
+    (7, 0, 0x34, 2, 3),
+    (0xffff_ffff, 0x8000_0000, 0x3c, 0, 1),
+    (0x8000_000f, 0, 0x44, 0xf0, 0x8000_00ff),
+    (6, 3, 0x4c, 0, 7),
+    (0xffff_ffff, 0, 0x54, 0x8000_0001, 0x8000_0001),
+    (6, 3, 0x5c, 0, 2),
+    (3, 0, 0x64, 31, 0x8000_0000),
+    (3, 0, 0x64, 0, 3),
+    (1, 33, 0x6c, 0, 2),
+    (1, 32, 0x6c, 0, 1),
+    (0x8000_0000, 0, 0x74, 31, 1),
+    (0xffff_ffff, 0, 0x74, 0, 0xffff_ffff),
+    (0x8000_0000, 33, 0x7c, 0, 0x4000_0000),
+    (0x8000_0000, 32, 0x7c, 0, 0x8000_0000),
+    (0xffff_ffff, 0, 0xa4, 0x8000_0001, 0x7fff_fffe),
+    (6, 3, 0xac, 0, 5),
+    (1, 0, 0x84, 0, 0xffff_ffff),
+    (0x8000_0000, 0, 0x84, 0, 0x8000_0000),
+    (0, 0, 0x84, 0, 0),
+    (1, 9, 0x87, 0, 9),
+];
+
+fn all_computations() -> &'static [(u32, u32, u16, u32, u32)] {
+    COMPUTATIONS
+}
+
 #[test]
 fn computations(rt: HostRuntime) {
-    // The accumulator and the index register before, code and constant, and the accumulator after.
-    for (a, x, code, k, after) in [
-        (9, 9, 0x20, 4, 2),
-        (9, 9, 0x20, 60, 16),
-        (9, 9, 0x80, 0, 64),
-        (9, 9, 0x00, 5, 5),
-        (0xffff_ffff, 0, 0x04, 1, 0),
-        (0x8000_0000, 0x8000_0000, 0x0c, 0, 0),
-        (0, 0, 0x14, 1, 0xffff_ffff),
-        (5, 7, 0x1c, 0, 0xffff_fffe),
-        (0xffff_ffff, 0, 0x24, 0xffff_ffff, 1),
-        (0x1_0000, 0x1_0001, 0x2c, 0, 0x1_0000),
-        (7, 0, 0x34, 2, 3),
-        (0xffff_ffff, 0x8000_0000, 0x3c, 0, 1),
-        (0x8000_000f, 0, 0x44, 0xf0, 0x8000_00ff),
-        (6, 3, 0x4c, 0, 7),
-        (0xffff_ffff, 0, 0x54, 0x8000_0001, 0x8000_0001),
-        (6, 3, 0x5c, 0, 2),
-        (3, 0, 0x64, 31, 0x8000_0000),
-        (3, 0, 0x64, 0, 3),
-        (1, 33, 0x6c, 0, 2),
-        (1, 32, 0x6c, 0, 1),
-        (0x8000_0000, 0, 0x74, 31, 1),
-        (0xffff_ffff, 0, 0x74, 0, 0xffff_ffff),
-        (0x8000_0000, 33, 0x7c, 0, 0x4000_0000),
-        (0x8000_0000, 32, 0x7c, 0, 0x8000_0000),
-        (0xffff_ffff, 0, 0xa4, 0x8000_0001, 0x7fff_fffe),
-        (6, 3, 0xac, 0, 5),
-        (1, 0, 0x84, 0, 0xffff_ffff),
-        (0x8000_0000, 0, 0x84, 0, 0x8000_0000),
-        (0, 0, 0x84, 0, 0),
-        (1, 9, 0x87, 0, 9),
-    ] {
+    for (a, x, code, k, after) in all_computations() {
         let list = [
-            plain(0x00, a),
-            plain(0x01, x),
-            plain(code, k),
+            plain(0x00, *a),
+            plain(0x01, *x),
+            plain(*code, *k),
             plain(0x16, 0),
         ];
         assert!(rt;
-            answers(rt.alloc(), &list, after, 4),
+            answers(rt.alloc(), &list, *after, 4),
             "code {code} of {a} and {x}"
         );
     }
+}
+
+#[test]
+fn registers_and_scratch_words(rt: HostRuntime) {
     // The index register after.
     for (code, k, after) in [(0x81, 0, 64), (0x01, 5, 5), (0x07, 0, 9)] {
         let list = [
@@ -144,35 +146,41 @@ fn computations(rt: HostRuntime) {
     assert!(rt; answers(rt.alloc(), &index, 8, 5));
 }
 
+/// The accumulator and the index register, code and constant, and whether the test holds.
+const TESTS: &[(u32, u32, u16, u32, bool)] = &[
+    (5, 0, 0x15, 5, true),
+    (5, 0, 0x15, 4, false),
+    (5, 5, 0x1d, 0, true),
+    (5, 4, 0x1d, 5, false),
+    (0x8000_0000, 0, 0x25, 0x7fff_ffff, true),
+    (5, 0, 0x25, 5, false),
+    (0xffff_ffff, 0, 0x2d, 0, true),
+    (0, 0xffff_ffff, 0x2d, 0, false),
+    (5, 0, 0x35, 5, true),
+    (0x7fff_ffff, 0, 0x35, 0x8000_0000, false),
+    (0x8000_0000, 0x8000_0000, 0x3d, 0, true),
+    (0, 1, 0x3d, 0, false),
+    (6, 0, 0x45, 3, true),
+    (4, 0, 0x45, 3, false),
+    (0x8000_0000, 0xffff_ffff, 0x4d, 0, true),
+    (0xffff_ffff, 0, 0x4d, 1, false),
+];
+
+fn all_tests() -> &'static [(u32, u32, u16, u32, bool)] {
+    TESTS
+}
+
 #[test]
 fn jumps(rt: HostRuntime) {
-    // The accumulator and the index register, code and constant, and whether the test holds.
-    for (a, x, code, k, holds) in [
-        (5, 0, 0x15, 5, true),
-        (5, 0, 0x15, 4, false),
-        (5, 5, 0x1d, 0, true),
-        (5, 4, 0x1d, 5, false),
-        (0x8000_0000, 0, 0x25, 0x7fff_ffff, true),
-        (5, 0, 0x25, 5, false),
-        (0xffff_ffff, 0, 0x2d, 0, true),
-        (0, 0xffff_ffff, 0x2d, 0, false),
-        (5, 0, 0x35, 5, true),
-        (0x7fff_ffff, 0, 0x35, 0x8000_0000, false),
-        (0x8000_0000, 0x8000_0000, 0x3d, 0, true),
-        (0, 1, 0x3d, 0, false),
-        (6, 0, 0x45, 3, true),
-        (4, 0, 0x45, 3, false),
-        (0x8000_0000, 0xffff_ffff, 0x4d, 0, true),
-        (0xffff_ffff, 0, 0x4d, 1, false),
-    ] {
+    for (a, x, code, k, holds) in all_tests() {
         let list = [
-            plain(0x00, a),
-            plain(0x01, x),
-            insn(code, 1, 0, k),
+            plain(0x00, *a),
+            plain(0x01, *x),
+            insn(*code, 1, 0, *k),
             plain(0x06, 0),
             plain(0x06, 1),
         ];
-        let answer = if holds { 1 } else { 0 };
+        let answer = if *holds { 1 } else { 0 };
         assert!(rt;
             answers(rt.alloc(), &list, answer, 4),
             "code {code} of {a} and {x}"
@@ -253,10 +261,7 @@ fn faults(rt: HostRuntime) {
 /// A filter of so many instructions that answers one thing to each call.
 fn answering(alloc: Global, answer: u32, len: usize) -> Option<Program> {
     let list = vec![in alloc; plain(0x06, answer); len].ok()?;
-    match check(alloc, list) {
-        Err((CheckFault::Memory, back)) => check(alloc, back).ok(),
-        first => first.ok(),
-    }
+    checked(alloc, list).ok()
 }
 
 /// Pushes the filter. Where the growth is refused, it comes back, the stack is as it was and the next try succeeds.
@@ -342,37 +347,47 @@ fn full_stack(rt: HostRuntime) {
     assert_eq!(rt; stack.decide(&CALL), Answer(0));
 }
 
+/// Faults of the checker, and what they print.
+const MESSAGES: &[(CheckFault, &'static str)] = &[
+    (CheckFault::Empty, "the program is empty"),
+    (
+        CheckFault::TooLong,
+        "the program has more than 4096 instructions",
+    ),
+    (CheckFault::Code { at: 3 }, "unknown code at 3"),
+    (CheckFault::Load { at: 0 }, "a load outside the record at 0"),
+    (CheckFault::Scratch { at: 0 }, "no such scratch word at 0"),
+    (CheckFault::Divisor { at: 0 }, "a division by zero at 0"),
+    (CheckFault::Shift { at: 0 }, "a shift by more than 31 at 0"),
+    (CheckFault::Jump { at: 0 }, "a jump out of the program at 0"),
+    (
+        CheckFault::LastNotReturn,
+        "the last instruction isn't a return",
+    ),
+    (
+        CheckFault::Unset { at: 5, word: 15 },
+        "scratch word 15 may be unset at 5",
+    ),
+    (CheckFault::Memory, "out of memory"),
+];
+
+fn messages_of_faults() -> &'static [(CheckFault, &'static str)] {
+    MESSAGES
+}
+
 #[test]
-fn messages(rt: HostRuntime) -> Result<(), Fail> {
-    for (fault, text) in [
-        (CheckFault::Empty, "the program is empty"),
-        (
-            CheckFault::TooLong,
-            "the program has more than 4096 instructions",
-        ),
-        (CheckFault::Code { at: 3 }, "unknown code at 3"),
-        (CheckFault::Load { at: 0 }, "a load outside the record at 0"),
-        (CheckFault::Scratch { at: 0 }, "no such scratch word at 0"),
-        (CheckFault::Divisor { at: 0 }, "a division by zero at 0"),
-        (CheckFault::Shift { at: 0 }, "a shift by more than 31 at 0"),
-        (CheckFault::Jump { at: 0 }, "a jump out of the program at 0"),
-        (
-            CheckFault::LastNotReturn,
-            "the last instruction isn't a return",
-        ),
-        (
-            CheckFault::Unset { at: 5, word: 15 },
-            "scratch word 15 may be unset at 5",
-        ),
-        (CheckFault::Memory, "out of memory"),
-    ] {
-        let printed = format!(in rt.alloc(); "{fault}")?;
-        assert_eq!(rt; printed.as_str(), text);
+fn messages(rt: HostRuntime) {
+    for (fault, text) in messages_of_faults() {
+        let Ok(printed) = format!(in rt.alloc(); "{fault}") else {
+            return;
+        };
+        assert_eq!(rt; printed.as_str(), *text);
     }
-    let printed = format!(in rt.alloc(); "{}", PushFault::TooMany { total: 32769 })?;
+    let Ok(printed) = format!(in rt.alloc(); "{}", PushFault::TooMany { total: 32769 }) else {
+        return;
+    };
     assert_eq!(rt;
         printed.as_str(),
         "the stack would count 32769 instructions"
     );
-    Ok(())
 }

@@ -1,18 +1,9 @@
-use super::*;
+//! The assembler and the disassembler.
+
+use crate::fixtures::{insn, once};
 use scf_insn::{Failed, Insn, Sink, WriteFault};
+use scf_text::{TextFault, assemble, disassemble, tokens};
 use std::alloc::Global;
-use std::test::*;
-
-fn insn(code: u16, jt: u8, jf: u8, k: u32) -> Insn {
-    Insn { code, jt, jf, k }
-}
-
-/// Whether this refusal of memory is the first: a run may meet one, where one growth is refused.
-fn once(refused: &mut bool) -> bool {
-    let first = !*refused;
-    *refused = true;
-    first
-}
 
 /// Whether the text spells these instructions.
 fn spells(alloc: Global, text: &[u8], wanted: &[Insn], refused: &mut bool) -> bool {
@@ -227,54 +218,61 @@ fn texts_that_spell(rt: HostRuntime) {
     );
 }
 
+/// Texts that spell nothing, and their faults.
+const FAULTS: &[(&'static str, TextFault)] = &[
+    ("bad\n// \u{e9}", TextFault::NotAscii { line: 2 }),
+    ("ret a\nmod #3\nld [0", TextFault::Mnemonic { line: 2 }),
+    ("ret a; LD [0]", TextFault::Mnemonic { line: 1 }),
+    ("ret a\r\nbad\r\n", TextFault::Mnemonic { line: 2 }),
+    ("\na: b: ret a", TextFault::Mnemonic { line: 2 }),
+    ("\n12: ret a", TextFault::Mnemonic { line: 2 }),
+    (
+        "ret a;; ret a\nld [0\nmod #3",
+        TextFault::Operand { line: 2 },
+    ),
+    ("ret a\rbad", TextFault::Operand { line: 1 }),
+    ("ld #12ab; ld #4294967296", TextFault::Operand { line: 1 }),
+    ("\nld #0x", TextFault::Operand { line: 2 }),
+    ("ret a $", TextFault::Operand { line: 1 }),
+    ("jeq #1, 1", TextFault::Operand { line: 1 }),
+    ("raw 6, up, 0, 0; up:", TextFault::Operand { line: 1 }),
+    (
+        "ret a\nld #4294967296; bad",
+        TextFault::NumberRange { line: 2 },
+    ),
+    ("jeq #1, 256, lost", TextFault::NumberRange { line: 1 }),
+    ("raw 0x10000, 0, 0, 0", TextFault::NumberRange { line: 1 }),
+    (
+        "\nld #1000000000000000000000000000000000000000000000000000000000000",
+        TextFault::NumberRange { line: 2 },
+    ),
+    ("p: ret a\np: ret a", TextFault::Label { line: 2 }),
+    ("p: ret a\nq:\np: bad", TextFault::Label { line: 3 }),
+    ("ret a\njeq #1, q, 0", TextFault::Label { line: 2 }),
+    (
+        "back: ret a\njeq #1, lost, back",
+        TextFault::Label { line: 2 },
+    ),
+    (
+        "back: ret a\njeq #1, back, lost",
+        TextFault::JumpTooFar { line: 2 },
+    ),
+    (
+        "ret a\nback: ja back\nja lost",
+        TextFault::JumpTooFar { line: 2 },
+    ),
+];
+
+fn texts_with_faults() -> &'static [(&'static str, TextFault)] {
+    FAULTS
+}
+
 #[test]
 fn faults(rt: HostRuntime) {
     let mut refused = false;
-    for (text, wanted) in [
-        ("bad\n// \u{e9}", TextFault::NotAscii { line: 2 }),
-        ("ret a\nmod #3\nld [0", TextFault::Mnemonic { line: 2 }),
-        ("ret a; LD [0]", TextFault::Mnemonic { line: 1 }),
-        ("ret a\r\nbad\r\n", TextFault::Mnemonic { line: 2 }),
-        ("\na: b: ret a", TextFault::Mnemonic { line: 2 }),
-        ("\n12: ret a", TextFault::Mnemonic { line: 2 }),
-        (
-            "ret a;; ret a\nld [0\nmod #3",
-            TextFault::Operand { line: 2 },
-        ),
-        ("ret a\rbad", TextFault::Operand { line: 1 }),
-        ("ld #12ab; ld #4294967296", TextFault::Operand { line: 1 }),
-        ("\nld #0x", TextFault::Operand { line: 2 }),
-        ("ret a $", TextFault::Operand { line: 1 }),
-        ("jeq #1, 1", TextFault::Operand { line: 1 }),
-        ("raw 6, up, 0, 0; up:", TextFault::Operand { line: 1 }),
-        (
-            "ret a\nld #4294967296; bad",
-            TextFault::NumberRange { line: 2 },
-        ),
-        ("jeq #1, 256, lost", TextFault::NumberRange { line: 1 }),
-        ("raw 0x10000, 0, 0, 0", TextFault::NumberRange { line: 1 }),
-        (
-            "\nld #1000000000000000000000000000000000000000000000000000000000000",
-            TextFault::NumberRange { line: 2 },
-        ),
-        ("p: ret a\np: ret a", TextFault::Label { line: 2 }),
-        ("p: ret a\nq:\np: bad", TextFault::Label { line: 3 }),
-        ("ret a\njeq #1, q, 0", TextFault::Label { line: 2 }),
-        (
-            "back: ret a\njeq #1, lost, back",
-            TextFault::Label { line: 2 },
-        ),
-        (
-            "back: ret a\njeq #1, back, lost",
-            TextFault::JumpTooFar { line: 2 },
-        ),
-        (
-            "ret a\nback: ja back\nja lost",
-            TextFault::JumpTooFar { line: 2 },
-        ),
-    ] {
+    for (text, wanted) in texts_with_faults() {
         assert!(rt;
-            fails(rt.alloc(), text.as_bytes(), wanted, &mut refused),
+            fails(rt.alloc(), text.as_bytes(), *wanted, &mut refused),
             "{text}"
         );
     }
@@ -448,39 +446,46 @@ fn writers_that_fail(rt: HostRuntime) {
     }
 }
 
+/// Faults, and what they print.
+const MESSAGES: &[(TextFault, &'static str)] = &[
+    (
+        TextFault::NotAscii { line: 2 },
+        "line 2: a byte that is not ASCII",
+    ),
+    (TextFault::Mnemonic { line: 3 }, "line 3: not a mnemonic"),
+    (
+        TextFault::Operand { line: 4 },
+        "line 4: not the operands of this mnemonic",
+    ),
+    (
+        TextFault::NumberRange { line: 5 },
+        "line 5: a number that does not fit its field",
+    ),
+    (
+        TextFault::Label { line: 6 },
+        "line 6: a label given twice, or not at all",
+    ),
+    (
+        TextFault::JumpTooFar { line: 7 },
+        "line 7: a label that this jump does not reach",
+    ),
+    (
+        TextFault::TooLong { line: 4097 },
+        "line 4097: more than 4096 instructions",
+    ),
+    (TextFault::Memory, "out of memory"),
+];
+
+fn messages_of_faults() -> &'static [(TextFault, &'static str)] {
+    MESSAGES
+}
+
 #[test]
 fn messages(rt: HostRuntime) {
-    for (fault, wanted) in [
-        (
-            TextFault::NotAscii { line: 2 },
-            "line 2: a byte that is not ASCII",
-        ),
-        (TextFault::Mnemonic { line: 3 }, "line 3: not a mnemonic"),
-        (
-            TextFault::Operand { line: 4 },
-            "line 4: not the operands of this mnemonic",
-        ),
-        (
-            TextFault::NumberRange { line: 5 },
-            "line 5: a number that does not fit its field",
-        ),
-        (
-            TextFault::Label { line: 6 },
-            "line 6: a label given twice, or not at all",
-        ),
-        (
-            TextFault::JumpTooFar { line: 7 },
-            "line 7: a label that this jump does not reach",
-        ),
-        (
-            TextFault::TooLong { line: 4097 },
-            "line 4097: more than 4096 instructions",
-        ),
-        (TextFault::Memory, "out of memory"),
-    ] {
+    for (fault, wanted) in messages_of_faults() {
         let Ok(shown) = format!(in rt.alloc(); "{fault}") else {
             return;
         };
-        assert!(rt; shown.as_str() == wanted, "{wanted}");
+        assert!(rt; shown.as_str() == *wanted, "{wanted}");
     }
 }

@@ -1,0 +1,24 @@
+//! Tests of the libraries' public calls. They stand apart from the libraries, since the gate proves a crate that has
+//! tests twice.
+//!
+//! A large table stands behind a call here: a proof looks into a constant, and not into what a call gives.
+#![tactic(auto)]
+
+#[cfg(test)]
+mod changed_filters;
+#[cfg(test)]
+mod compare;
+#[cfg(test)]
+mod compile;
+#[cfg(test)]
+mod facts;
+#[cfg(test)]
+mod fixtures;
+#[cfg(test)]
+mod machine;
+#[cfg(test)]
+mod profile;
+#[cfg(test)]
+mod text;
+#[cfg(test)]
+mod x86_64_table;
