@@ -1,10 +1,10 @@
 //! Conditions on the arguments of a call (OCI runtime specification, config-linux.md, seccomp).
 
 ghost use Rattle.std.specs.Prelude.{◌≡◌, ◌↔◌, IsTrue, All, IfOk};
-ghost use Rattle.scf_insn.specs.SimpleMask.{IsSimpleMask};
 ghost use Rattle.scf_profile.specs.Condition.{holds};
 ghost use Rattle.scf_profile.specs.PlainProfile.{IsPlainCondition, HasSimpleMask};
 
+use scf_insn::{high_half, is_simple_mask, low_half};
 use std::alloc::{AllocError, Global};
 use std::marker::Model;
 
@@ -31,27 +31,12 @@ pub struct Condition {
     pub value_two: u64,
 }
 
-/// How many numbers have 32 bits.
-const HALF_SIZE: u64 = 0x1_0000_0000;
-
-/// Whether a mask has no bit, one bit or all of the 32.
-fn is_simple_mask(mask: u64) -> bool
-    ensures { IsTrue result ↔ IsSimpleMask mask }
-{
-    for bit in 0..32u32 {
-        if mask == 1 << bit {
-            return true;
-        }
-    }
-    mask == 0 || mask == HALF_SIZE - 1
-}
-
 impl Condition {
     /// Whether both 32-bit halves of the mask are simple.
     fn has_simple_mask(&self) -> bool
         ensures { IsTrue result ↔ HasSimpleMask self.now }
     {
-        is_simple_mask(self.value % HALF_SIZE) && is_simple_mask(self.value / HALF_SIZE)
+        is_simple_mask(low_half(self.value)) && is_simple_mask(high_half(self.value))
     }
 
     /// Whether it has a simple mask, where its operator has a mask.

@@ -1,5 +1,5 @@
 use Rattle.std.proofs.Common.{ℕ, ◌<◌, ◌≢◌, ◌^◌}
-use Rattle.scf_profile.proofs.condition.is_simple_mask.Given as goal
+use Rattle.scf_insn.proofs.mask.is_simple_mask.Given as goal
 
 -- no bit so far is the mask
 abbrev pub invariant-loop-bit : goal.invariant-loop-bit
