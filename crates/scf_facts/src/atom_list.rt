@@ -1,6 +1,6 @@
 //! Facts as the list of what was learned.
 
-ghost use Rattle.std.specs.Prelude.{◌≡◌, ◌<◌, ◌↔◌, ℕ, List, All, IsTrue};
+ghost use Rattle.std.specs.Prelude.{◌≡◌, ◌<◌, ◌↔◌, ℕ, List, All, IsTrue, false};
 ghost use Rattle.scf_insn.specs.Words.{IsWords};
 ghost use Rattle.scf_facts.specs.Atoms.{word_of};
 ghost use Rattle.scf_facts.specs.Learned.{AllGive};
@@ -23,6 +23,10 @@ pub struct AtomList {
 
 impl WordFacts for AtomList {
     ghost allows = { λ facts words. IsWords words × AllGive facts.learned.items words };
+
+    ghost is_exact = { λ _. false };
+
+    ghost starts_exact = { false };
 
     fn all(alloc: Global) -> Result<Self, Memory> {
         Ok(AtomList {

@@ -3,9 +3,16 @@
 
 mod atom;
 mod atom_list;
+mod bits;
+mod interval;
 mod learned;
+mod least;
+mod question;
 mod word_facts;
+mod word_set;
+mod word_sets;
 
 pub use atom::{Atom, Tell};
 pub use atom_list::AtomList;
 pub use word_facts::WordFacts;
+pub use word_sets::{WordSets, word_sets_start_exact};

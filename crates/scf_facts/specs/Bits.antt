@@ -1,0 +1,11 @@
+-- Numbers by their bits under a mask.
+use Rattle.std.specs.Prelude.{◌≡◌, ◌≢◌, ℕ, bit_and}
+use Rattle.scf_facts.specs.declared.bits.Bits.{Bits}
+
+-- a number has these bits
+abbrev pub HasBits : Bits → ℕ → Type 0
+HasBits bits x = bit_and x bits.mask ≡ bits.value
+
+-- a number doesn't have them
+abbrev pub LacksBits : Bits → ℕ → Type 0
+LacksBits bits x = bit_and x bits.mask ≢ bits.value

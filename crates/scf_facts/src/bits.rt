@@ -1,0 +1,88 @@
+//! Bits of a number under a mask.
+
+ghost use Rattle.std.specs.Prelude.{◌≡◌, ◌↔◌, ◌⊎◌, ℕ, IsTrue, IfSome, IfNone, bit_and};
+ghost use Rattle.std.specs.Int.{IsPowerOfTwo};
+ghost use Rattle.scf_facts.specs.Bits.{HasBits, LacksBits};
+
+/// A mask and a value. A number has these bits where it AND the mask is the value.
+#[derive(Clone, Copy, Debug, PartialEq, Eq)]
+pub(crate) struct Bits {
+    pub(crate) mask: u32,
+    pub(crate) value: u32,
+}
+
+impl Bits {
+    /// What every number has.
+    pub(crate) const NONE: Bits = Bits { mask: 0, value: 0 };
+
+    /// Whether a number has them.
+    pub(crate) fn are_in(self, x: u32) -> bool
+        ensures { IsTrue result ↔ HasBits self x }
+    {
+        x & self.mask == self.value
+    }
+
+    /// Whether a number doesn't have them.
+    pub(crate) fn are_missing(self, x: u32) -> bool
+        ensures { IsTrue result ↔ LacksBits self x }
+    {
+        x & self.mask != self.value
+    }
+
+    /// The bits of both, where some number has both.
+    pub(crate) fn join(self, other: Bits) -> Option<Bits>
+        ensures both { IfSome result (λ bits. (x : ℕ) → HasBits bits x ↔ (HasBits self x × HasBits other x)) }
+        ensures shown { IfSome result (λ bits. HasBits self bits.value × HasBits other bits.value) }
+        ensures none { IfNone result ((x : ℕ) → HasBits self x → HasBits other x → ⊥) }
+    {
+        let bits = Bits {
+            mask: self.mask | other.mask,
+            value: self.value | other.value,
+        };
+        if self.are_in(bits.value) && other.are_in(bits.value) {
+            Some(bits)
+        } else {
+            None
+        }
+    }
+
+    /// Whether every number with these has the others.
+    pub(crate) fn imply(self, others: Bits) -> bool
+        ensures { IsTrue result → (x : ℕ) → HasBits self x → HasBits others x }
+    {
+        self.mask & others.mask == others.mask && others.are_in(self.value)
+    }
+
+    /// Those of these bits that the known ones leave open, where some number has both.
+    pub(crate) fn beyond(self, known: Bits) -> Bits
+        ensures decides { (some x : ℕ) → HasBits known some → HasBits self some → HasBits known x → (HasBits self x ↔ HasBits result x) }
+        ensures within { bit_and result.value result.mask ≡ result.value }
+        ensures one { IsPowerOfTwo self.mask → (result.mask ≡ 0) ⊎ IsPowerOfTwo result.mask }
+        ensures none { self.mask ≡ 0 → result.mask ≡ 0 }
+    {
+        let mask = self.mask ^ (self.mask & known.mask);
+        Bits {
+            mask,
+            value: self.value & mask,
+        }
+    }
+
+    /// The other value of a single bit.
+    pub(crate) fn flipped(self) -> Bits
+        requires one { IsPowerOfTwo self.mask }
+        requires within { bit_and self.value self.mask ≡ self.value }
+        ensures { (x : ℕ) → HasBits result x ↔ LacksBits self x }
+    {
+        Bits {
+            mask: self.mask,
+            value: self.value ^ self.mask,
+        }
+    }
+
+    /// Whether the mask has one bit.
+    pub(crate) fn is_single(self) -> bool
+        ensures { IsTrue result ↔ IsPowerOfTwo self.mask }
+    {
+        self.mask.is_power_of_two()
+    }
+}

@@ -1,0 +1,80 @@
+//! The least number with some bits.
+
+ghost use Rattle.std.specs.Prelude.{◌≡◌, ◌<◌, ◌≤◌, ◌^◌, ◌/◌, ℕ, IfSome, IfNone};
+ghost use Rattle.std.specs.Int.{bit_at};
+ghost use Rattle.scf_facts.specs.Bits.{HasBits, LacksBits};
+ghost use Rattle.scf_facts.specs.Intervals.{IsWithin, IsInside, AreApart};
+
+use crate::bits::Bits;
+use crate::interval::Interval;
+
+/// The place of the highest bit that is set.
+fn highest_bit(n: u32) -> Option<u32>
+    ensures none { IfNone result (n ≡ 0) }
+    ensures some { IfSome result (λ place. (place < 32) × (bit_at n place ≡ 1)) }
+{
+    if n == 0 {
+        return None;
+    }
+    Some(31 - n.leading_zeros())
+}
+
+/// The next multiple of the place's bit: it is past all numbers that share the bits of `x` from the place on.
+fn past(x: u32, place: u32) -> u64
+    requires { place < 32 }
+    ensures above { x < result }
+    ensures same { (y : ℕ) → x ≤ y → y < result → y / 2 ^ place ≡ x / 2 ^ place }
+{
+    let power = 1u64 << place;
+    (u64::from(x) / power + 1) * power
+}
+
+/// The least number from a bound on that has the bits.
+fn least_from(low: u32, bits: Bits) -> Option<u32>
+    ensures found { IfSome result (λ x. (low ≤ x) × HasBits bits x) }
+    ensures least { IfSome result (λ x. (y : ℕ) → low ≤ y → y < x → LacksBits bits y) }
+    ensures none { IfNone result ((y : ℕ) → low ≤ y → y < 2 ^ 32 → LacksBits bits y) }
+{
+    let mut x = low;
+    while let Some(place) = highest_bit((x & bits.mask) ^ bits.value) {
+        let next = past(x, place);
+        if next > u64::from(u32::MAX) {
+            return None;
+        }
+        x = next as u32;
+    }
+    Some(x)
+}
+
+/// The first number of sorted intervals that lies in a range and has the bits.
+pub(crate) fn first_number(intervals: &[Interval], range: Interval, bits: Bits) -> Option<u32>
+    requires { AreApart intervals.now }
+    ensures found { IfSome result (λ x. IsInside intervals.now x × IsWithin range x × HasBits bits x) }
+    ensures none { IfNone result ((x : ℕ) → x < 2 ^ 32 → IsInside intervals.now x → IsWithin range x → HasBits bits x → ⊥) }
+{
+    for interval in intervals {
+        if interval.low > range.high {
+            return None;
+        }
+        if let Some(x) = first_of(*interval, range, bits) {
+            return Some(x);
+        }
+    }
+    None
+}
+
+/// The least number of an interval that lies in a range and has the bits.
+fn first_of(interval: Interval, range: Interval, bits: Bits) -> Option<u32>
+    ensures found { IfSome result (λ x. IsWithin interval x × IsWithin range x × HasBits bits x) }
+    ensures none { IfNone result ((x : ℕ) → x < 2 ^ 32 → IsWithin interval x → IsWithin range x → HasBits bits x → ⊥) }
+{
+    let low = interval.low.max(range.low);
+    let high = interval.high.min(range.high);
+    if low > high {
+        return None;
+    }
+    match least_from(low, bits) {
+        Some(x) if x <= high => Some(x),
+        _ => None,
+    }
+}
