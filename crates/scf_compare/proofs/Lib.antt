@@ -3,6 +3,7 @@ pub mod Branches
 pub mod Effects
 pub mod Flows
 pub mod Halves
+pub mod PlainFlows
 pub mod Ways
 pub mod Rules
 pub mod Verdicts

@@ -14,8 +14,8 @@ use Rattle.scf_compare.specs.declared.turn.Turn.{Turn}
 use Rattle.scf_compare.specs.declared.value.Decision.{Decision}
 use Rattle.scf_compare.specs.declared.value.Decision.TheVariants.{Known as Decided, Asks, Open}
 use Rattle.scf_compare.specs.Flow.{flow_at}
-use Rattle.scf_compare.specs.Questions.{Questions, IsProper, GoesOn, Costs}
-use Rattle.scf_compare.specs.Values.{Describes, Decides, IsDecision}
+use Rattle.scf_compare.specs.Questions.{Questions, IsProper, GoesOn, Costs, StaysPlain}
+use Rattle.scf_compare.specs.Values.{Describes, Decides, IsDecision, IsPlainDecision}
 use Rattle.scf_compare.specs.Filters.{ComesTo, IsTurnOf}
 use Rattle.scf_compare.proofs.Flows.{next_never_ends, edge_next}
 
@@ -69,3 +69,10 @@ turn_leads tree tells words (Asks atom false) t f turn test e d ht hf = subst (�
     (λ a. elim (cases_Bool test) [ inl y ↦ absurd (let both : false ≡ true = sym (d.0 y) ∙ a in cc) | inr n ↦ hf n ], λ a. ht (d.1 a))
 turn_leads tree tells words Open t f turn test e d ht hf = subst (λ (u : Turn FilterNode FilterEnd). GoesOn tree tells u words) (sym e)
     (elim (cases_Bool test) [ inl y ↦ inl (ht y) | inr n ↦ inr (hf n) ])
+
+pub turn_plain : (tree : Questions FilterNode) (tells_all : FilterEnd → Type 0) (decision : Decision) (if_true if_false : FilterNode) (turn : Turn FilterNode FilterEnd) → IsTurnOf decision if_true if_false turn → IsPlainDecision decision → tree.is_plain if_true → tree.is_plain if_false → StaysPlain tree tells_all turn
+turn_plain tree tells_all (Decided true) t f turn e d ht hf = subst (StaysPlain tree tells_all) (sym e) ht
+turn_plain tree tells_all (Decided false) t f turn e d ht hf = subst (StaysPlain tree tells_all) (sym e) hf
+turn_plain tree tells_all (Asks atom true) t f turn e d ht hf = subst (StaysPlain tree tells_all) (sym e) (d, ht, hf)
+turn_plain tree tells_all (Asks atom false) t f turn e d ht hf = subst (StaysPlain tree tells_all) (sym e) (d, hf, ht)
+turn_plain tree tells_all Open t f turn e d ht hf = absurd d

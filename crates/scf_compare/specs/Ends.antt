@@ -1,5 +1,5 @@
 -- What the ends of trees tell.
-use Rattle.std.specs.Prelude.{ℕ, List, IfSome}
+use Rattle.std.specs.Prelude.{◌≡◌, ℕ, List, IfSome, IsSome}
 use Rattle.scf_compare.specs.declared.comparison.FilterEnd.{FilterEnd}
 use Rattle.scf_compare.specs.declared.comparison.BothEnds.{BothEnds}
 
@@ -12,3 +12,15 @@ Tells filters profiles end words = FilterTells filters end.filter words × profi
 
 abbrev pub IsEnd : (ℕ → Type 0) → BothEnds → Type 0
 IsEnd is_place end = is_place end.filter.at
+
+-- an end of the filter's tree knows its answer
+abbrev pub KnowsAnswer : FilterEnd → Type 0
+KnowsAnswer end = IsSome end.answer
+
+-- the profile's answer is always known
+abbrev pub KnowsBoth : BothEnds → Type 0
+KnowsBoth end = KnowsAnswer end.filter
+
+-- the words have no other answer
+abbrev pub IsOnlyAnswer : (List ℕ → ℕ → Type 0) → List ℕ → ℕ → Type 0
+IsOnlyAnswer answers words answer = (other : ℕ) → answers words other → other ≡ answer

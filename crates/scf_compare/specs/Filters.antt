@@ -2,6 +2,7 @@
 use Rattle.std.specs.Prelude.{◌≡◌, ◌<◌, ℕ, List, length, if◌then◌else◌}
 use Rattle.scf_insn.specs.declared.insn.Insn.{Insn}
 use Rattle.scf_machine.specs.Machine.{State, start, IsChain, RunAnswers}
+use Rattle.scf_machine.specs.Plain.{IsPlainProgram}
 use Rattle.scf_compare.specs.declared.comparison.FilterEnd.{FilterEnd}
 use Rattle.scf_compare.specs.declared.filter.FilterNode.{FilterNode}
 use Rattle.scf_compare.specs.declared.filter.FilterNode.TheVariants.{At, Stopped}
@@ -12,7 +13,7 @@ use Rattle.scf_compare.specs.declared.value.Decision.{Decision}
 use Rattle.scf_compare.specs.declared.value.Decision.TheVariants.{Known as Decided, Asks, Open}
 use Rattle.scf_compare.specs.Flow.{tree_size}
 use Rattle.scf_compare.specs.Questions.{Questions}
-use Rattle.scf_compare.specs.Values.{AreValues, Describes}
+use Rattle.scf_compare.specs.Values.{AreValues, IsPlainValue, Describes}
 
 -- The run over the words comes to a place with registers that the values stand for.
 pub record ComesTo (insns : List Insn) (place : ℕ) (registers : Registers) (words : List ℕ) : Type 0 where
@@ -34,8 +35,13 @@ abbrev pub filter_size : List Insn → FilterNode → ℕ
 filter_size insns (At place registers) = tree_size insns place
 filter_size insns (Stopped answer at) = 1
 
+-- a plain program has a plain value in its accumulator, and divides nothing
+abbrev pub filter_is_plain : List Insn → FilterNode → Type 0
+filter_is_plain insns (At place registers) = IsPlainProgram insns × IsPlainValue registers.a
+filter_is_plain insns (Stopped answer at) = ⊥
+
 abbrev pub filter_questions : List Insn → Questions FilterNode
-filter_questions insns = record { is_node = filter_is_node insns; reaches = filter_reaches insns; size = filter_size insns }
+filter_questions insns = record { is_node = filter_is_node insns; reaches = filter_reaches insns; size = filter_size insns; is_plain = filter_is_plain insns }
 
 -- the ways on from a test
 abbrev pub IsTurnOf : Decision → FilterNode → FilterNode → Turn FilterNode FilterEnd → Type 0

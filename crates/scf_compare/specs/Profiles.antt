@@ -7,6 +7,7 @@ use Rattle.scf_profile.specs.declared.condition.Condition.{Condition}
 use Rattle.scf_profile.specs.declared.rule.Rule.{Rule}
 use Rattle.scf_profile.specs.Rule.{all_hold, meets}
 use Rattle.scf_profile.specs.Policy.{Policy, IsNative}
+use Rattle.scf_profile.specs.PlainProfile.{IsPlainProfile}
 use Rattle.scf_profile.specs.ProfileAnswers.{ProfileAnswers}
 use Rattle.scf_profile.specs.RulesByNumber.{numbers_of, rules_of}
 use Rattle.scf_compare.specs.declared.profile.Question.{Question}
@@ -77,5 +78,6 @@ question_size p (Number place) = 1 + sum_by (number_size p.rules) (drop place (n
 question_size p (OfCondition place index part) = condition_size p.rules place index part (slice_get p.rules place)
 question_size p (Answers answer) = 1
 
+-- all of a plain profile's nodes are plain
 abbrev pub profile_questions : Policy → Questions Question
-profile_questions p = record { is_node = question_is_node p; reaches = question_reaches p; size = question_size p }
+profile_questions p = record { is_node = question_is_node p; reaches = question_reaches p; size = question_size p; is_plain = λ _. IsPlainProfile p }

@@ -1,14 +1,18 @@
 -- Trees of questions about the words of a call record.
 use Rattle.std.specs.Prelude.{◌≡◌, ◌+◌, ◌<◌, ◌≤◌, ◌⊎◌, ℕ, List, true, false}
+use Rattle.scf_facts.specs.declared.atom.Atom.{Atom}
 use Rattle.scf_facts.specs.Atoms.{atom_answer, word_of}
+use Rattle.scf_facts.specs.Exactness.{KeepsExact}
 use Rattle.scf_compare.specs.declared.turn.Turn.{Turn}
 use Rattle.scf_compare.specs.declared.turn.Turn.TheVariants.{Go, Ask, Fork, End}
 
--- The nodes of a tree: which there are, which words come to one, and how many steps it takes to see all from one on.
+-- The nodes of a tree: which there are, which words come to one, how many steps it takes to see all from one on, and
+-- which are plain: exact facts decide all from one of these on.
 pub record Questions (N : Type 0) : Type 1 where
   pub is_node : N → Type 0
   pub reaches : N → List ℕ → Type 0
   pub size : N → ℕ
+  pub is_plain : N → Type 0
 
 -- A turn leads to nodes of the tree, and asks of one of the sixteen words.
 abbrev pub IsProper : {N E : Type 0} → Questions N → (E → Type 0) → Turn N E → Type 0
@@ -30,3 +34,15 @@ Costs tree (Go next) size = tree.size next + 1 ≤ size
 Costs tree (Ask atom if_true if_false) size = tree.size if_true + tree.size if_false + 1 ≤ size
 Costs tree (Fork if_true if_false) size = tree.size if_true + tree.size if_false + 1 ≤ size
 Costs tree (End end) size = 1 ≤ size
+
+-- exact facts stay exact, whichever answer of the atom they learn
+abbrev pub KeepsEither : Atom → Type 0
+KeepsEither atom = KeepsExact atom true × KeepsExact atom false
+
+-- The turn of a plain node: an atom decides, and exact facts stay exact with its answer; the next nodes are plain, and an
+-- end tells all.
+abbrev pub StaysPlain : {N E : Type 0} → Questions N → (E → Type 0) → Turn N E → Type 0
+StaysPlain tree tells_all (Go next) = tree.is_plain next
+StaysPlain tree tells_all (Ask atom if_true if_false) = KeepsEither atom × tree.is_plain if_true × tree.is_plain if_false
+StaysPlain tree tells_all (Fork if_true if_false) = ⊥
+StaysPlain tree tells_all (End end) = tells_all end

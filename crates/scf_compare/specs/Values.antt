@@ -1,5 +1,5 @@
 -- What is known of the numbers that a filter computes from the words of a record.
-use Rattle.std.specs.Prelude.{◌≡◌, ◌<◌, ◌↔◌, ℕ, List, Bool, true, Some, All, slice_index, slice_index_or, bit_and}
+use Rattle.std.specs.Prelude.{◌≡◌, ◌<◌, ◌↔◌, ℕ, List, Bool, true, Some, All, slice_index, slice_index_or, bit_and, ◌-◌, ◌^◌}
 use Rattle.scf_facts.specs.Atoms.{atom_answer, word_of}
 use Rattle.scf_machine.specs.Machine.{State, word_at}
 use Rattle.scf_compare.specs.declared.value.Value.{Value}
@@ -7,6 +7,7 @@ use Rattle.scf_compare.specs.declared.value.Value.TheVariants.{Known, Masked, Un
 use Rattle.scf_compare.specs.declared.value.Decision.{Decision}
 use Rattle.scf_compare.specs.declared.value.Decision.TheVariants.{Known as Decided, Asks, Open}
 use Rattle.scf_compare.specs.declared.registers.Registers.{Registers}
+use Rattle.scf_compare.specs.Questions.{KeepsEither}
 
 -- a value is of one of the sixteen words
 abbrev pub IsValue : Value → Type 0
@@ -31,6 +32,18 @@ abbrev pub Decides : Decision → List ℕ → Bool → Type 0
 Decides (Decided outcome) words test = test ≡ outcome
 Decides (Asks atom holds) words test = (test ≡ true) ↔ (atom_answer atom words ≡ holds)
 Decides Open words test = Unit {0}
+
+-- a known number, or a whole word of the record
+abbrev pub IsPlainValue : Value → Type 0
+IsPlainValue (Known value) = Unit {0}
+IsPlainValue (Masked word mask) = mask ≡ 2 ^ 32 - 1
+IsPlainValue Unknown = ⊥
+
+-- a decision that isn't left open, and that keeps exact facts exact
+abbrev pub IsPlainDecision : Decision → Type 0
+IsPlainDecision (Decided outcome) = Unit {0}
+IsPlainDecision (Asks atom holds) = KeepsEither atom
+IsPlainDecision Open = ⊥
 
 pub record AreValues (registers : Registers) : Type 0 where
   pub a : IsValue registers.a

@@ -13,6 +13,10 @@ use Rattle.scf_compare.specs.declared.verdict.Verdict.TheVariants.{Same, Differs
 abbrev pub AnswerAlike : (List ℕ → ℕ → Type 0) → (List ℕ → ℕ → Type 0) → List ℕ → Type 0
 AnswerAlike filters profiles words = (answer : ℕ) × filters words answer × profiles words answer
 
+-- all words of a scope are answered alike
+abbrev pub AllAlike : (List ℕ → Type 0) → (List ℕ → ℕ → Type 0) → (List ℕ → ℕ → Type 0) → Type 0
+AllAlike scope filters profiles = (words : List ℕ) → scope words → AnswerAlike filters profiles words
+
 -- What a verdict on the words of a scope claims: that all are answered alike, that these are answered so and so and
 -- differently, and that the filter has this place.
 abbrev pub IsTrueVerdict : (List ℕ → Type 0) → (ℕ → Type 0) → (List ℕ → ℕ → Type 0) → (List ℕ → ℕ → Type 0) → Verdict → Type 0
@@ -28,6 +32,13 @@ IsWithin limit effort (Same steps) = (steps ≤ limit) × (steps ≤ effort)
 IsWithin limit effort (Differs call filter profile) = Unit {0}
 IsWithin limit effort (Undecided at) = Unit {0}
 IsWithin limit effort Unfinished = limit < effort
+
+-- A verdict decides whether a claim holds, which is that all is answered alike, unless the limit is below the effort.
+abbrev pub IsDecided : Type 0 → ℕ → ℕ → Verdict → Type 0
+IsDecided same limit effort (Same steps) = same
+IsDecided same limit effort (Differs call filter profile) = same → ⊥
+IsDecided same limit effort (Undecided at) = ⊥
+IsDecided same limit effort Unfinished = limit < effort
 
 -- What a verdict on a program and a profile claims: that both answer every call record alike, that they answer this
 -- one so and so and differently, and that the program has this place.

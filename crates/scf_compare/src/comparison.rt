@@ -2,8 +2,8 @@
 
 ghost use Rattle.std.specs.Prelude.{◌<◌, ℕ, List};
 ghost use Rattle.scf_insn.specs.Words.{words_of, IsWords};
-ghost use Rattle.scf_compare.specs.Questions.{Questions, IsProper, GoesOn, Costs};
-ghost use Rattle.scf_compare.specs.Ends.{IsEnd, Tells};
+ghost use Rattle.scf_compare.specs.Questions.{Questions, IsProper, GoesOn, Costs, StaysPlain};
+ghost use Rattle.scf_compare.specs.Ends.{IsEnd, Tells, KnowsBoth, IsOnlyAnswer};
 
 use crate::turn::Turn;
 use scf_insn::{Answer, CallRecord};
@@ -48,12 +48,15 @@ pub(crate) trait Comparison {
         ensures leads { (words : List ℕ) → (questions self.now).reaches node.now words
             → GoesOn (questions self.now) (Tells (filter_answers self.now) (profile_answers self.now))
             result words }
-        ensures costs { Costs (questions self.now) result ((questions self.now).size node.now) };
+        ensures costs { Costs (questions self.now) result ((questions self.now).size node.now) }
+        ensures plain { (questions self.now).is_plain node.now → StaysPlain (questions self.now) KnowsBoth result };
 
-    /// The two answers to a call, the filter's and the profile's.
+    /// The two answers to a call, the filter's and the profile's. Neither has another.
     fn answers(&self, call: &CallRecord) -> (Answer, Answer)
         ensures filter { filter_answers self.now (words_of call.now) result.0.0 }
-        ensures profile { profile_answers self.now (words_of call.now) result.1.0 };
+        ensures profile { profile_answers self.now (words_of call.now) result.1.0 }
+        ensures one_of_filter { IsOnlyAnswer (filter_answers self.now) (words_of call.now) result.0.0 }
+        ensures one_of_profile { IsOnlyAnswer (profile_answers self.now) (words_of call.now) result.1.0 };
 
     /// Words of call records are compared.
     ghost of_words: { (comparison : Self) (words : List ℕ) → in_scope comparison words → IsWords words };

@@ -1,10 +1,10 @@
 //! Explores the tree of a comparison.
 
-ghost use Rattle.std.specs.Prelude.{◌≡◌, ◌+◌, ◌<◌, ◌≤◌, ◌↔◌, ◌⊎◌, ℕ, List, OnOk, IfOk, IfSome, IfNone, true, false};
+ghost use Rattle.std.specs.Prelude.{◌≡◌, ◌+◌, ◌<◌, ◌≤◌, ◌↔◌, ◌⊎◌, ℕ, List, Some, None, IsTrue, OnOk, IfOk, IfSome, IfNone, true, false};
 ghost use Rattle.scf_facts.specs.Atoms.{word_of, atom_answer};
-ghost use Rattle.scf_compare.specs.Ends.{IsEnd, Tells};
-ghost use Rattle.scf_compare.specs.Frontier.{IsInSome, IsFrontier, open_size};
-ghost use Rattle.scf_compare.specs.Verdicts.{AnswerAlike, IsTrueVerdict, IsWithin};
+ghost use Rattle.scf_compare.specs.Ends.{IsEnd, Tells, KnowsBoth};
+ghost use Rattle.scf_compare.specs.Frontier.{IsInSome, IsFrontier, IsExactAt, AreExact, open_size};
+ghost use Rattle.scf_compare.specs.Verdicts.{AnswerAlike, AllAlike, IsTrueVerdict, IsWithin, IsDecided};
 
 use crate::comparison::{BothEnds, Comparison};
 use crate::frontier::{Frontier, branch_out, take_branch};
@@ -28,6 +28,9 @@ fn judge<C: Comparison, F: WordFacts>(comparison: &C, facts: &F, end: BothEnds) 
         IsTrueVerdict (C.in_scope comparison.now) (C.is_place comparison.now)
         (C.filter_answers comparison.now) (C.profile_answers comparison.now)) }
     ensures within { IfSome result (λ verdict. (limit effort : ℕ) → IsWithin limit effort verdict) }
+    ensures decided { IsTrue (F.is_exact facts.now) → KnowsBoth end
+        → ((words : List ℕ) → F.allows facts.now words → Tells (C.filter_answers comparison.now) (C.profile_answers comparison.now) end words)
+        → IfSome result (λ verdict. (limit effort : ℕ) → IsDecided (AllAlike (C.in_scope comparison.now) (C.filter_answers comparison.now) (C.profile_answers comparison.now)) limit effort verdict) }
 {
     if let Some(answer) = end.filter.answer {
         if answer == end.profile {
@@ -110,6 +113,10 @@ fn ask<C: Comparison, F: WordFacts>(
         ≤ open_size (C.questions comparison.now) frontier.old
         + (C.questions comparison.now).size if_true
         + (C.questions comparison.now).size if_false) }
+    ensures exact { OnOk result (AreExact F.allows F.is_exact (C.questions comparison.now) frontier.old
+        → IsExactAt F.allows F.is_exact (C.questions comparison.now) frontier.old.facts (Some (atom, true)) if_true
+        → IsExactAt F.allows F.is_exact (C.questions comparison.now) frontier.old.facts (Some (atom, false)) if_false
+        → AreExact F.allows F.is_exact (C.questions comparison.now) frontier.new) }
 {
     match frontier.facts.tell(atom) {
         Tell::Always => {
@@ -155,6 +162,11 @@ fn advance<C: Comparison, F: WordFacts>(
         (C.filter_answers comparison.now) (C.profile_answers comparison.now))) }
     ensures within { IfOk result (λ verdict. IfSome verdict (λ verdict.
         (limit effort : ℕ) → IsWithin limit effort verdict)) }
+    ensures exact { OnOk result (AreExact F.allows F.is_exact (C.questions comparison.now) frontier.old
+        → IsExactAt F.allows F.is_exact (C.questions comparison.now) frontier.old.facts None node.now
+        → AreExact F.allows F.is_exact (C.questions comparison.now) frontier.new) }
+    ensures decided { IfOk result (λ verdict. IsExactAt F.allows F.is_exact (C.questions comparison.now) frontier.old.facts None node.now
+        → IfSome verdict (λ verdict. (limit effort : ℕ) → IsDecided (AllAlike (C.in_scope comparison.now) (C.filter_answers comparison.now) (C.profile_answers comparison.now)) limit effort verdict)) }
 {
     match comparison.turn(node) {
         Turn::Go(next) => {
@@ -196,6 +208,8 @@ pub(crate) fn explore<C: Comparison, F: WordFacts>(
         IsTrueVerdict (C.in_scope comparison.now) (C.is_place comparison.now)
         (C.filter_answers comparison.now) (C.profile_answers comparison.now)) }
     ensures within { IfOk result (IsWithin limit ((C.questions comparison.now).size root)) }
+    ensures decided { IsTrue (F.is_exact facts) → (C.questions comparison.now).is_plain root
+        → IfOk result (IsDecided (AllAlike (C.in_scope comparison.now) (C.filter_answers comparison.now) (C.profile_answers comparison.now)) limit ((C.questions comparison.now).size root)) }
 {
     let mut frontier = Frontier {
         facts,

@@ -4,11 +4,12 @@ ghost use Rattle.std.specs.Prelude.{◌≡◌, ◌+◌, ◌<◌, ℕ, List, Some
 ghost use Rattle.scf_insn.specs.Words.{IsWords};
 ghost use Rattle.scf_insn.specs.Codes.{operation_of};
 ghost use Rattle.scf_machine.specs.Machine.{RunAnswers, RunsSafely};
+ghost use Rattle.scf_machine.specs.Plain.{IsPlainProgram};
 ghost use Rattle.scf_machine.specs.Rules.{IsValidList, Stands};
-ghost use Rattle.scf_compare.specs.Questions.{IsProper, GoesOn, Costs};
-ghost use Rattle.scf_compare.specs.Ends.{FilterTells};
+ghost use Rattle.scf_compare.specs.Questions.{IsProper, GoesOn, Costs, StaysPlain};
+ghost use Rattle.scf_compare.specs.Ends.{FilterTells, KnowsAnswer};
 ghost use Rattle.scf_compare.specs.Flow.{tree_size};
-ghost use Rattle.scf_compare.specs.Values.{AreValues, IsDecision};
+ghost use Rattle.scf_compare.specs.Values.{AreValues, IsPlainValue, IsDecision};
 ghost use Rattle.scf_compare.specs.Filters.{ComesTo, IsTurnOf, filter_questions};
 
 use crate::comparison::FilterEnd;
@@ -37,6 +38,8 @@ impl FilterTree for Program {
     ghost questions = { filter_questions };
 
     ghost whole_size = { λ insns. tree_size insns 0 };
+
+    ghost is_plain = { IsPlainProgram };
 
     fn start(&self) -> FilterNode {
         let _insns = self.insns();
@@ -73,6 +76,7 @@ fn turn_at(insns: &[Insn], place: usize, registers: &Registers) -> Turn<FilterNo
         → ComesTo insns.now place registers.now words
         → GoesOn (filter_questions insns.now) (FilterTells (RunAnswers insns.now)) result words }
     ensures costs { Costs (filter_questions insns.now) result (tree_size insns.now place) }
+    ensures plain { IsPlainProgram insns.now → IsPlainValue registers.now.a → StaysPlain (filter_questions insns.now) KnowsAnswer result }
 {
     let insn = insns[place];
     match insn.operation() {
@@ -98,6 +102,7 @@ fn turn_of(
         → ComesTo insns.now place registers.now words
         → GoesOn (filter_questions insns.now) (FilterTells (RunAnswers insns.now)) result words }
     ensures costs { Costs (filter_questions insns.now) result (tree_size insns.now place) }
+    ensures plain { IsPlainProgram insns.now → IsPlainValue registers.now.a → StaysPlain (filter_questions insns.now) KnowsAnswer result }
 {
     match Flow::of(insns, place, insn, operation) {
         Flow::Next(next) => Turn::Go(FilterNode::At(next, registers.after(insn, operation))),

@@ -1,8 +1,8 @@
 //! The branches of a tree that are still to be explored.
 
-ghost use Rattle.std.specs.Prelude.{◌≡◌, ◌+◌, ◌↔◌, ℕ, List, IfOk, OnOk, IfSome};
+ghost use Rattle.std.specs.Prelude.{◌≡◌, ◌+◌, ◌↔◌, ℕ, List, None, IsTrue, IfOk, OnOk, IfSome};
 ghost use Rattle.scf_facts.specs.Atoms.{AllowsSame};
-ghost use Rattle.scf_compare.specs.Frontier.{Gives, AsksOfWord, IsInSome, IsFrontier, IsLeft, open_size};
+ghost use Rattle.scf_compare.specs.Frontier.{Gives, AsksOfWord, LearnsExactly, IsInSome, IsFrontier, IsExactAt, AreExact, IsLeft, open_size};
 
 use crate::comparison::Comparison;
 use scf_facts::{Atom, WordFacts};
@@ -50,6 +50,10 @@ pub(crate) fn branch_out<C: Comparison, F: WordFacts>(
     ensures size { OnOk result (
         open_size (C.questions comparison.now) frontier.new
         ≡ open_size (C.questions comparison.now) frontier.old + (C.questions comparison.now).size node) }
+    ensures exact_now { OnOk result (F.is_exact frontier.new.facts ≡ F.is_exact frontier.old.facts) }
+    ensures exact { OnOk result (AreExact F.allows F.is_exact (C.questions comparison.now) frontier.old
+        → IsExactAt F.allows F.is_exact (C.questions comparison.now) frontier.old.facts learned node
+        → AreExact F.allows F.is_exact (C.questions comparison.now) frontier.new) }
 {
     let _ = comparison;
     let facts = frontier.facts.copy(alloc)?;
@@ -76,6 +80,8 @@ pub(crate) fn take_branch<C: Comparison, F: WordFacts>(
     ensures size { IfOk result (λ taken. IfSome taken (λ node.
         open_size (C.questions comparison.now) frontier.new + (C.questions comparison.now).size node
         ≡ open_size (C.questions comparison.now) frontier.old)) }
+    ensures exact { OnOk result (AreExact F.allows F.is_exact (C.questions comparison.now) frontier.old → AreExact F.allows F.is_exact (C.questions comparison.now) frontier.new) }
+    ensures exact_node { IfOk result (λ taken. AreExact F.allows F.is_exact (C.questions comparison.now) frontier.old → IfSome taken (IsExactAt F.allows F.is_exact (C.questions comparison.now) frontier.new.facts None)) }
 {
     let _ = comparison;
     let Some(branch) = frontier.branches.pop() else {
@@ -94,8 +100,9 @@ pub(crate) fn take_branch<C: Comparison, F: WordFacts>(
 /// Learns an answer, if there is one.
 fn learn_answer<F: WordFacts>(facts: &mut F, learned: Option<(Atom, bool)>) -> Result<(), Memory>
     requires { AsksOfWord learned }
-    ensures { OnOk result (
+    ensures learned { OnOk result (
         (words : List ℕ) → F.allows facts.new words ↔ (F.allows facts.old words × Gives learned words)) }
+    ensures exact { OnOk result (LearnsExactly learned → IsTrue (F.is_exact facts.old) → IsTrue (F.is_exact facts.new)) }
 {
     match learned {
         Some((atom, holds)) => facts.learn(atom, holds),

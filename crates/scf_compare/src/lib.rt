@@ -9,6 +9,7 @@ mod flow;
 mod frontier;
 mod pair;
 mod party;
+mod plain;
 mod profile;
 mod profile_numbers;
 mod question;
@@ -19,5 +20,6 @@ mod value;
 mod verdict;
 
 pub use comparer::compare;
+pub use plain::is_plain;
 pub use tree_sizes::effort;
 pub use verdict::Verdict;

@@ -2,8 +2,8 @@
 
 ghost use Rattle.std.specs.Prelude.{◌≡◌, ◌<◌, ◌≤◌, ◌*◌, ℕ, List, ⊤};
 ghost use Rattle.scf_insn.specs.Words.{IsWords};
-ghost use Rattle.scf_compare.specs.Questions.{IsProper, GoesOn, Costs};
-ghost use Rattle.scf_compare.specs.Ends.{FilterTells, Tells, IsEnd};
+ghost use Rattle.scf_compare.specs.Questions.{IsProper, GoesOn, Costs, StaysPlain};
+ghost use Rattle.scf_compare.specs.Ends.{FilterTells, Tells, IsEnd, KnowsAnswer, KnowsBoth};
 ghost use Rattle.scf_compare.specs.Pairs.{pair_questions};
 
 use crate::comparison::{BothEnds, Comparison, FilterEnd};
@@ -108,6 +108,7 @@ impl<A: FilterTree, B: ProfileTree> Pair<'_, A, B> {
             (FilterTells (A.answers self.now.filter.now)) (A.is_place self.now.filter.now)
             (B.whole_size self.now.profile.now))
             result ((B.questions self.now.profile.now).size node.now) }
+        ensures plain { KnowsAnswer end → (B.questions self.now.profile.now).is_plain node.now → StaysPlain (pair_questions (A.questions self.now.filter.now) (B.questions self.now.profile.now) (FilterTells (A.answers self.now.filter.now)) (A.is_place self.now.filter.now) (B.whole_size self.now.profile.now)) KnowsBoth result }
     {
         match self.profile.turn(node) {
             Turn::Go(next) => Turn::Go(PairNode::AtProfile { end, node: next }),

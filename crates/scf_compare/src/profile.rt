@@ -21,6 +21,7 @@ ghost use Rattle.std.specs.Prelude.{
 ghost use Rattle.scf_insn.specs.Words.{IsWords, argument, call_of};
 ghost use Rattle.scf_profile.specs.declared.condition.Condition.{Condition};
 ghost use Rattle.scf_profile.specs.declared.rule.Rule.{Rule};
+ghost use Rattle.scf_profile.specs.PlainProfile.{IsPlainProfile};
 ghost use Rattle.scf_profile.specs.Policy.{IsProfile, IsNative, Policy};
 ghost use Rattle.scf_profile.specs.ProfileAnswers.{ProfileAnswers};
 ghost use Rattle.scf_profile.specs.Rule.{meets};
@@ -39,7 +40,7 @@ ghost use Rattle.scf_compare.specs.Profiles.{
   size_of_rest,
   size_behind,
 };
-ghost use Rattle.scf_compare.specs.Questions.{IsProper, GoesOn, Costs};
+ghost use Rattle.scf_compare.specs.Questions.{IsProper, GoesOn, Costs, StaysPlain};
 
 use crate::party::ProfileTree;
 use crate::profile_numbers::ProfileNumbers;
@@ -122,6 +123,7 @@ impl ProfileTree for ProfileNumbers<'_> {
 
     fn answer(&self, call: &CallRecord) -> Answer {
         call.within_widths();
+        let _rules = self.profile.rules();
         self.profile.answer(call)
     }
 
@@ -148,6 +150,7 @@ fn ask_number(
         → GoesOn (profile_questions p) (λ answer words. ProfileAnswers p (call_of words) answer.0) result words }
     ensures costs { let p : Policy = policy_of default_answer rules.now in
         Costs (profile_questions p) result (question_size p (Question.Number place)) }
+    ensures plain { let p : Policy = policy_of default_answer rules.now in IsPlainProfile p → StaysPlain (profile_questions p) (λ _. ⊤) result }
 {
     if place >= numbers.len() {
         return Turn::End(default_answer);
@@ -235,6 +238,7 @@ fn ask_condition(
         → GoesOn (profile_questions p) (λ answer words. ProfileAnswers p (call_of words) answer.0) result words }
     ensures costs { let p : Policy = policy_of default_answer rules.now in
         Costs (profile_questions p) result (question_size p (Question.Condition place index part)) }
+    ensures plain { let p : Policy = policy_of default_answer rules.now in IsPlainProfile p → StaysPlain (profile_questions p) (λ _. ⊤) result }
 {
     let asked = question(condition_at(rules, place, index), part);
     Turn::Ask {

@@ -1,9 +1,12 @@
 //! Conditions on 64-bit arguments as questions about words.
 
 ghost use Rattle.std.specs.Prelude.{◌≡◌, ◌+◌, ◌*◌, ◌<◌, ◌≤◌, ◌==◌, ℕ, List, bit_and, nat_lt, nat_le};
+ghost use Rattle.scf_insn.specs.SimpleMask.{IsSimpleMask};
 ghost use Rattle.scf_insn.specs.Words.{IsWords, argument, call_of, low, high};
 ghost use Rattle.scf_facts.specs.Atoms.{atom_answer, word_of};
+ghost use Rattle.scf_profile.specs.PlainProfile.{IsPlainCondition};
 ghost use Rattle.scf_compare.specs.Conditions.{IsAtPart, Splits, part_size, way_size};
+ghost use Rattle.scf_compare.specs.Questions.{KeepsEither};
 
 use scf_facts::Atom;
 use scf_insn::{high_half, low_half};
@@ -49,6 +52,7 @@ pub(crate) fn question(condition: Condition, part: Part) -> Asked
     ensures costs { (holds fails : ℕ)
         → way_size result.if_true holds fails + way_size result.if_false holds fails + 1
         ≤ part_size part holds fails }
+    ensures keeps { IsPlainCondition condition → KeepsEither result.atom }
 {
     match part {
         Part::High => at_high(condition),
@@ -65,6 +69,7 @@ fn at_high(condition: Condition) -> Asked
     ensures costs { (holds fails : ℕ)
         → way_size result.if_true holds fails + way_size result.if_false holds fails + 1
         ≤ part_size Part.High holds fails }
+    ensures keeps { IsPlainCondition condition → KeepsEither result.atom }
 {
     match condition.op {
         Comparison::MaskedEqual => Asked {
@@ -102,6 +107,7 @@ fn at_above(condition: Condition) -> Asked
     ensures costs { (holds fails : ℕ)
         → way_size result.if_true holds fails + way_size result.if_false holds fails + 1
         ≤ part_size Part.Above holds fails }
+    ensures keeps { IsPlainCondition condition → KeepsEither result.atom }
 {
     match condition.op {
         Comparison::Greater | Comparison::GreaterOrEqual => Asked {
@@ -130,6 +136,7 @@ fn at_low(condition: Condition) -> Asked
     ensures costs { (holds fails : ℕ)
         → way_size result.if_true holds fails + way_size result.if_false holds fails + 1
         ≤ part_size Part.Low holds fails }
+    ensures keeps { IsPlainCondition condition → KeepsEither result.atom }
 {
     match condition.op {
         Comparison::Equal => Asked {
@@ -191,6 +198,7 @@ fn high_is(condition: Condition) -> Atom
     ensures word { word_of result < 16 }
     ensures answers { (words : List ℕ) → IsWords words
         → atom_answer result words ≡ (high (argument (call_of words) condition.index) == high condition.value) }
+    ensures keeps { KeepsEither result }
 {
     Atom::Eq {
         word: high_word(condition.index),
@@ -206,6 +214,7 @@ fn high_is_under_mask(condition: Condition) -> Atom
         → atom_answer result words
         ≡ (bit_and (high (argument (call_of words) condition.index)) (high condition.value)
         == high (bit_and condition.value_two condition.value)) }
+    ensures keeps { IsSimpleMask (high condition.value) → KeepsEither result }
 {
     Atom::Eq {
         word: high_word(condition.index),
@@ -220,6 +229,7 @@ fn high_is_above(condition: Condition) -> Atom
     ensures answers { (words : List ℕ) → IsWords words
         → atom_answer result words
         ≡ nat_lt (high condition.value) (high (argument (call_of words) condition.index)) }
+    ensures keeps { KeepsEither result }
 {
     Atom::Gt {
         word: high_word(condition.index),
@@ -232,6 +242,7 @@ fn low_is(condition: Condition) -> Atom
     ensures word { word_of result < 16 }
     ensures answers { (words : List ℕ) → IsWords words
         → atom_answer result words ≡ (low (argument (call_of words) condition.index) == low condition.value) }
+    ensures keeps { KeepsEither result }
 {
     Atom::Eq {
         word: low_word(condition.index),
@@ -247,6 +258,7 @@ fn low_is_under_mask(condition: Condition) -> Atom
         → atom_answer result words
         ≡ (bit_and (low (argument (call_of words) condition.index)) (low condition.value)
         == low (bit_and condition.value_two condition.value)) }
+    ensures keeps { IsSimpleMask (low condition.value) → KeepsEither result }
 {
     Atom::Eq {
         word: low_word(condition.index),
@@ -260,6 +272,7 @@ fn low_is_above(condition: Condition) -> Atom
     ensures word { word_of result < 16 }
     ensures answers { (words : List ℕ) → IsWords words
         → atom_answer result words ≡ nat_lt (low condition.value) (low (argument (call_of words) condition.index)) }
+    ensures keeps { KeepsEither result }
 {
     Atom::Gt {
         word: low_word(condition.index),
@@ -272,6 +285,7 @@ fn low_is_at_least(condition: Condition) -> Atom
     ensures word { word_of result < 16 }
     ensures answers { (words : List ℕ) → IsWords words
         → atom_answer result words ≡ nat_le (low condition.value) (low (argument (call_of words) condition.index)) }
+    ensures keeps { KeepsEither result }
 {
     Atom::Ge {
         word: low_word(condition.index),

@@ -14,7 +14,7 @@ ghost use Rattle.scf_machine.specs.Machine.{
   Goes,
 };
 ghost use Rattle.scf_machine.specs.Checks.{UsesScratch};
-ghost use Rattle.scf_compare.specs.Values.{IsValue, StandsFor, AreValues, Describes};
+ghost use Rattle.scf_compare.specs.Values.{IsValue, StandsFor, IsPlainValue, AreValues, Describes};
 
 use crate::value::Value;
 use scf_insn::{Arithmetic, Insn, Operand, Operation, Register};
@@ -35,6 +35,7 @@ impl Registers {
     pub(crate) fn at_start() -> Registers
         ensures values { AreValues result }
         ensures describes { (words : List ℕ) → Describes result words start }
+        ensures plain { IsPlainValue result.a }
     {
         Registers {
             a: Value::Known(0),
@@ -63,6 +64,7 @@ impl Registers {
         ensures describes { (words : List ℕ) (s : State) (number : ℕ) → Describes self.now words s
             → StandsFor value words number
             → Describes result words (sets register s number) }
+        ensures accumulator { register ≡ Register.A → result.a ≡ value }
     {
         let mut registers = *self;
         match register {
@@ -93,6 +95,7 @@ impl Registers {
         ensures value { IsValue result }
         ensures stands { (words : List ℕ) (s : State) → Describes self.now words s
             → StandsFor result words (operand_of operand insn s) }
+        ensures constant { operand ≡ Operand.Constant → result ≡ Value.Known insn.k }
     {
         match operand {
             Operand::Constant => Value::Known(insn.k),
@@ -126,6 +129,7 @@ impl Registers {
             → Describes self.now words s
             → effect operation insn words s ≡ Goes t
             → Describes result words t }
+        ensures plain { operation ≡ Operation.LoadWord → IsPlainValue result.a }
     {
         match operation {
             Operation::LoadWord => {

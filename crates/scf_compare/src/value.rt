@@ -1,9 +1,10 @@
 //! What is known of a register or a scratch word on a way through a filter.
 
 ghost use Rattle.std.specs.Prelude.{◌≡◌, ℕ, ◌+◌, ◌-◌, ◌%◌, ◌^◌, List, Bool, bit_and, slice_index, not, ◌<◌, IfSome};
+ghost use Rattle.scf_insn.specs.SimpleMask.{IsSimpleMask};
 ghost use Rattle.scf_insn.specs.Words.{IsWords};
 ghost use Rattle.scf_machine.specs.Machine.{holds, value_computed};
-ghost use Rattle.scf_compare.specs.Values.{IsValue, StandsFor, IsDecision, Decides};
+ghost use Rattle.scf_compare.specs.Values.{IsValue, StandsFor, IsPlainValue, IsDecision, Decides, IsPlainDecision};
 
 use scf_facts::Atom;
 use scf_insn::{Answer, Arithmetic, Test};
@@ -106,6 +107,7 @@ impl Value {
             → StandsFor self words a
             → StandsFor other words v
             → Decides result words (holds test a v) }
+        ensures plain { (v : ℕ) → IsPlainValue self → other ≡ Value.Known v → (test ≡ Test.CommonBit → IsSimpleMask v) → IsPlainDecision result }
     {
         match other {
             Value::Known(v) => self.decide_with(test, v),
@@ -124,6 +126,7 @@ impl Value {
         ensures decides { (words : List ℕ) (a : ℕ) → IsWords words
             → StandsFor self words a
             → Decides result words (holds test a v) }
+        ensures plain { IsPlainValue self → (test ≡ Test.CommonBit → IsSimpleMask v) → IsPlainDecision result }
     {
         match self {
             Value::Known(a) => Decision::Known(holds_of(test, a, v)),
@@ -175,6 +178,7 @@ fn decide_masked(word: u8, mask: u32, test: Test, v: u32) -> Decision
     ensures asks { IsDecision result }
     ensures decides { (words : List ℕ) → IsWords words
         → Decides result words (holds test (bit_and (slice_index words word) mask) v) }
+    ensures plain { mask ≡ 2 ^ 32 - 1 → (test ≡ Test.CommonBit → IsSimpleMask v) → IsPlainDecision result }
 {
     match test {
         Test::Equal => Decision::Asks {

@@ -5,6 +5,7 @@ use crate::fixtures::{
     compiled, insn, is_true, profile_of,
 };
 use scf_compare::{Verdict, effort};
+use scf_facts::{AtomList, WordFacts, WordSets};
 use scf_insn::{Answer, CallRecord, Insn};
 use scf_machine::{Program, run};
 use scf_profile::Profile;
@@ -322,8 +323,8 @@ impl Subject {
     }
 
     /// What the comparer says of a filter at its effort.
-    fn compare(&self, alloc: Global, program: &Program) -> Option<Verdict> {
-        compared(
+    fn compare<F: WordFacts>(&self, alloc: Global, program: &Program) -> Option<Verdict> {
+        compared::<F>(
             alloc,
             program,
             &self.profile,
@@ -331,13 +332,15 @@ impl Subject {
         )
     }
 
-    /// Whether the filter as it was compiled is told to be the profile's, or isn't decided.
+    /// Whether the filter as it was compiled is told to be the profile's. A list of atoms may leave that open.
     fn is_own(&self, alloc: Global) -> bool {
-        let verdict = self.compare(alloc, &self.program);
+        let by_atoms = self.compare::<AtomList>(alloc, &self.program);
+        let by_sets = self.compare::<WordSets>(alloc, &self.program);
         matches!(
-            verdict,
+            by_atoms,
             Some(Verdict::Same { .. } | Verdict::Undecided { .. })
-        ) && !self.is_told_apart(&self.program)
+        ) && matches!(by_sets, Some(Verdict::Same { .. }))
+            && !self.is_told_apart(&self.program)
     }
 
     /// The filter with another instruction at a place, where that is accepted.
@@ -349,17 +352,20 @@ impl Subject {
 
     /// Whether what the comparer says of a changed filter can be true.
     fn is_right_of(&self, alloc: Global, program: &Program, part: Part, seen: &mut Seen) -> bool {
-        let Some(verdict) = self.compare(alloc, program) else {
+        let by_atoms = self.compare::<AtomList>(alloc, program);
+        let by_sets = self.compare::<WordSets>(alloc, program);
+        let (Some(by_atoms), Some(by_sets)) = (by_atoms, by_sets) else {
             return false;
         };
         let is_apart = self.is_told_apart(program);
         if is_apart {
             seen.note(part);
         }
-        if let Verdict::Differs { .. } = verdict {
+        if let Verdict::Differs { .. } = by_atoms {
             seen.shown = true;
         }
-        is_true(verdict, program, &self.profile, is_apart)
+        is_true(by_atoms, program, &self.profile, is_apart)
+            && is_true(by_sets, program, &self.profile, is_apart)
     }
 
     /// The same of each change of the instruction at a place.

@@ -4,11 +4,13 @@ use crate::fixtures::{
     ALLOW, CLONE_MASK, EXTREMES, ONE_CALL, X86_64, assembled, checked, compared, insn, is_true,
     profile_of,
 };
-use scf_compare::{Verdict, effort};
+use scf_compare::{Verdict, effort, is_plain};
+use scf_facts::{AtomList, WordFacts, WordSets};
 use scf_insn::{Answer, CallRecord, low_half};
 use scf_machine::Program;
 use scf_profile::Profile;
 use std::alloc::Global;
+use std::process::Abort;
 
 /// What leaves only calls of x86-64 with a number below 0x40000000: six instructions.
 const GATE: &str =
@@ -52,7 +54,7 @@ enum Wanted {
     Same,
     /// A call that these two answer so, the filter first.
     Shown(u32, u32),
-    /// Such a call, or `Undecided`.
+    /// Some call, or `Undecided` with a list of atoms.
     NotSame,
 }
 
@@ -237,8 +239,21 @@ fn largest_efforts(rt: HostRuntime) {
     }
 }
 
+/// Which of two stores of facts is asked.
+#[derive(Clone, Copy, PartialEq, Eq)]
+enum Store {
+    Atoms,
+    Sets,
+}
+
 /// Whether this verdict is the one that is wanted, and can be true.
-fn is_wanted(verdict: Verdict, program: &Program, profile: &Profile, wanted: Wanted) -> bool {
+fn is_wanted(
+    verdict: Verdict,
+    program: &Program,
+    profile: &Profile,
+    wanted: Wanted,
+    store: Store,
+) -> bool {
     let is_kind = match (verdict, wanted) {
         (Verdict::Same { .. }, Wanted::Same) => true,
         (
@@ -249,25 +264,31 @@ fn is_wanted(verdict: Verdict, program: &Program, profile: &Profile, wanted: Wan
             },
             Wanted::Shown(wanted_filter, wanted_stated),
         ) => filter == Answer(wanted_filter) && stated == Answer(wanted_stated),
-        (Verdict::Differs { .. } | Verdict::Undecided { .. }, Wanted::NotSame) => true,
+        (Verdict::Differs { .. }, Wanted::NotSame) => true,
+        (Verdict::Undecided { .. }, Wanted::NotSame) => store == Store::Atoms,
         _ => false,
     };
     is_kind && is_true(verdict, program, profile, wanted != Wanted::Same)
 }
 
+fn compare_pair<F: WordFacts>(rt: &impl Abort, alloc: Global, pair: &Pair, store: Store) {
+    let (program, profile) = made(alloc, pair).expect(rt, "a pair");
+    for limit in [pair.effort, pair.effort.wrapping_add(1), u64::MAX] {
+        let verdict = compared::<F>(alloc, &program, &profile, limit).expect(rt, "a verdict");
+        assert!(rt;
+            is_wanted(verdict, &program, &profile, pair.wanted, store),
+            "{} {}: {verdict:?}",
+            pair.rest,
+            pair.text
+        );
+    }
+}
+
 #[test]
 fn verdicts(rt: HostRuntime) {
     for pair in pairs() {
-        let (program, profile) = made(rt.alloc(), pair).expect(&rt, "a pair");
-        for limit in [pair.effort, pair.effort.wrapping_add(1), u64::MAX] {
-            let verdict = compared(rt.alloc(), &program, &profile, limit).expect(&rt, "a verdict");
-            assert!(rt;
-                is_wanted(verdict, &program, &profile, pair.wanted),
-                "{} {}: {verdict:?}",
-                pair.rest,
-                pair.text
-            );
-        }
+        compare_pair::<AtomList>(&rt, rt.alloc(), pair, Store::Atoms);
+        compare_pair::<WordSets>(&rt, rt.alloc(), pair, Store::Sets);
     }
 }
 
@@ -280,45 +301,81 @@ fn is_within(verdict: Verdict, limit: u64, effort: u64) -> bool {
     }
 }
 
+fn limit_pair<F: WordFacts>(rt: &impl Abort, alloc: Global, pair: &Pair) {
+    let (program, profile) = made(alloc, pair).expect(rt, "a pair");
+    let none = compared::<F>(alloc, &program, &profile, 0);
+    assert_eq!(rt; none, Some(Verdict::Unfinished));
+    for limit in 1..=pair.effort {
+        let verdict = compared::<F>(alloc, &program, &profile, limit).expect(rt, "a verdict");
+        assert!(rt;
+            is_within(verdict, limit, pair.effort),
+            "{} {limit}: {verdict:?}",
+            pair.rest
+        );
+    }
+}
+
 #[test]
 fn limits(rt: HostRuntime) {
     for pair in pairs() {
-        if pair.wanted != Wanted::Same {
-            continue;
-        }
-        let (program, profile) = made(rt.alloc(), pair).expect(&rt, "a pair");
-        let none = compared(rt.alloc(), &program, &profile, 0);
-        assert_eq!(rt; none, Some(Verdict::Unfinished));
-        for limit in 1..=pair.effort {
-            let verdict = compared(rt.alloc(), &program, &profile, limit).expect(&rt, "a verdict");
-            assert!(rt;
-                is_within(verdict, limit, pair.effort),
-                "{} {limit}: {verdict:?}",
-                pair.rest
-            );
+        if pair.wanted == Wanted::Same {
+            limit_pair::<AtomList>(&rt, rt.alloc(), pair);
+            limit_pair::<WordSets>(&rt, rt.alloc(), pair);
         }
     }
 }
 
 /// The call that is shown of a filter behind the gate and a profile, where one is.
-fn shown(alloc: Global, rest: &str, table: &str, text: &str) -> Option<CallRecord> {
+fn shown<F: WordFacts>(alloc: Global, rest: &str, table: &str, text: &str) -> Option<CallRecord> {
     let program = assembled(alloc, GATE, rest)?;
     let profile = profile_of(alloc, table, text)?;
-    match compared(alloc, &program, &profile, u64::MAX)? {
+    match compared::<F>(alloc, &program, &profile, u64::MAX)? {
         Verdict::Differs { call, .. } => Some(call),
         _ => None,
     }
 }
 
-#[test]
-fn shown_calls(rt: HostRuntime) {
-    let call = shown(rt.alloc(), DIVISION, "", DEFAULT_ALLOW).expect(&rt, "a call");
+fn show_division<F: WordFacts>(rt: &impl Abort, alloc: Global) {
+    let call = shown::<F>(alloc, DIVISION, "", DEFAULT_ALLOW).expect(rt, "a call");
     let [argument, ..] = call.args;
     assert!(rt; call.arch == X86_64 && low_half(argument) == 0, "{call:?}");
+}
+
+#[test]
+fn shown_calls(rt: HostRuntime) {
+    show_division::<AtomList>(&rt, rt.alloc());
+    show_division::<WordSets>(&rt, rt.alloc());
     // The one bit that the filter doesn't test is set, and none that it tests.
-    if let Some(call) = shown(rt.alloc(), CLONE_OTHER_JSET, "clone 56", CLONE_MASK) {
-        let [argument, ..] = call.args;
-        assert!(rt; call.nr == 56 && call.arch == X86_64, "{call:?}");
-        assert!(rt; low_half(argument) & 0x7e02_0000 == 0x0200_0000, "{call:?}");
+    let call = shown::<WordSets>(rt.alloc(), CLONE_OTHER_JSET, "clone 56", CLONE_MASK);
+    let call = call.expect(&rt, "a call");
+    let [argument, ..] = call.args;
+    assert!(rt; call.nr == 56 && call.arch == X86_64, "{call:?}");
+    assert!(rt; low_half(argument) & 0x7e02_0000 == 0x0200_0000, "{call:?}");
+}
+
+/// Filters, and whether they are plain.
+const FILTERS: [(&str, bool); 12] = [
+    (ALLOW_ALL, true),
+    (ARCH_GATE, true),
+    ("ja 0; ret #0", true),
+    ("ld [0]; jgt #5, 0, 0; jge #6, 0, 0; ret #0", true),
+    ("jset #0, 0, 0; ret #0", true),
+    (
+        "jset #0x80000000, 0, 0; jset #0xffffffff, 0, 0; ret #0",
+        true,
+    ),
+    ("jset #3, 0, 0; ret #0", false),
+    ("and #1; ret #0", false),
+    ("ret a", false),
+    ("ld #0; ret #0", false),
+    ("jeq x, 0, 0; ret #0", false),
+    ("tax; ret #0", false),
+];
+
+#[test]
+fn plain_filters(rt: HostRuntime) {
+    for (text, expected) in FILTERS {
+        let program = assembled(rt.alloc(), "", text).expect(&rt, "a filter");
+        assert_eq!(rt; is_plain(&program), expected, "{text}");
     }
 }

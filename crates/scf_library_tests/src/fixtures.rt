@@ -4,7 +4,7 @@
 
 use scf_compare::{Verdict, compare};
 use scf_compile::{CompileFault, compile};
-use scf_facts::AtomList;
+use scf_facts::WordFacts;
 use scf_insn::{CallRecord, Insn};
 use scf_machine::{CheckFault, Program, check, run};
 use scf_profile::{CallTable, LoadFault, Loaded, Profile, TableFault, load};
@@ -113,15 +113,15 @@ pub(crate) fn assembled(alloc: Global, head: &str, rest: &str) -> Option<Program
     }
 }
 
-/// What the comparer says of a filter and a profile.
-pub(crate) fn compared(
+/// What the comparer says of a filter and a profile with these facts.
+pub(crate) fn compared<F: WordFacts>(
     alloc: Global,
     program: &Program,
     profile: &Profile,
     limit: u64,
 ) -> Option<Verdict> {
-    match compare::<AtomList>(alloc, program, profile, limit) {
-        Err(_) => compare::<AtomList>(alloc, program, profile, limit).ok(),
+    match compare::<F>(alloc, program, profile, limit) {
+        Err(_) => compare::<F>(alloc, program, profile, limit).ok(),
         first => first.ok(),
     }
 }

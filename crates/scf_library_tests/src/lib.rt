@@ -21,4 +21,6 @@ mod profile;
 #[cfg(test)]
 mod text;
 #[cfg(test)]
+mod word_sets;
+#[cfg(test)]
 mod x86_64_table;

@@ -5,6 +5,7 @@ pub loop-frontier-preserved : goal.loop-frontier-preserved
 loop-frontier-preserved g c =
     let left = rw c.in-Some.is at c.in_ok-node.ensures.left in
     let taken_size = rw c.in-Some.is at c.in_ok-node.ensures.size in
+    let taken_exact = rw c.in-Some.is at c.in_ok-node.ensures.exact_node in
     let alike_or_open = rw c.in_default-2.is at c.in_ok-verdict.ensures.covered in
     record {
       sound = c.in_ok-verdict.ensures.sound;
@@ -17,6 +18,7 @@ loop-frontier-preserved g c =
       ];
       spent = omega (arith, c.loop-frontier.invariant.spent, c.in_ok-verdict.ensures.size, taken_size);
       limited = omega (arith, c.loop-frontier.invariant.limited, c.if-steps-limit.false);
+      exact = λ exact plain. let are = c.loop-frontier.invariant.exact exact plain in c.in_ok-verdict.ensures.exact (c.in_ok-node.ensures.exact are) (taken_exact are);
     }
 
 pub returns-in-Some-2-clause-within : goal.returns-in-Some-2-clause-within
@@ -30,3 +32,12 @@ returns-clause-holds g c =
       | inl alike ↦ alike
       | inr inside ↦ absurd (none_left words inside)
     ]
+
+pub returns-in-Some-2-clause-decided : goal.returns-in-Some-2-clause-decided
+returns-in-Some-2-clause-decided g c =
+    let taken_exact = rw c.in-Some.is at c.in_ok-node.ensures.exact_node in
+    let decided = rw c.in-Some-2.is at c.in_ok-verdict.ensures.decided in
+    λ exact plain. decided (taken_exact (c.loop-frontier.invariant.exact exact plain)) c.args.limit _
+
+pub returns-clause-decided : goal.returns-clause-decided
+returns-clause-decided g c = λ exact plain. returns-clause-holds g c

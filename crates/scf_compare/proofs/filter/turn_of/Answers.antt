@@ -8,11 +8,12 @@ use Rattle.scf_compare.specs.declared.filter.FilterNode.{FilterNode}
 use Rattle.scf_compare.specs.declared.filter.FilterNode.TheVariants.{At, Stopped}
 use Rattle.scf_compare.specs.declared.flow.Flow.{Flow}
 use Rattle.scf_compare.specs.declared.flow.Flow.TheVariants.{Next, Jump, Branch, DivideByIndex, ReturnConstant, ReturnAccumulator}
-use Rattle.scf_compare.specs.Ends.{FilterTells}
+use Rattle.scf_compare.specs.Ends.{FilterTells, KnowsAnswer}
 use Rattle.scf_compare.specs.Filters.{filter_questions}
 use Rattle.scf_compare.specs.Flow.{tree_size, flow_at, size_of_flow}
 use Rattle.scf_compare.proofs.Flows.{load_fits, scratch_fits, jumped, branched, divided, returned_constant, returned_accumulator, size_by_flow}
-use Rattle.scf_compare.proofs.Ways.{describes_at, comes_on, comes_to_answer, straight, turn_proper, turn_costs, turn_leads}
+use Rattle.scf_compare.proofs.PlainFlows.{plain_flow}
+use Rattle.scf_compare.proofs.Ways.{describes_at, comes_on, comes_to_answer, straight, turn_proper, turn_costs, turn_leads, turn_plain}
 use Rattle.scf_compare.proofs.filter.turn_of.Goals as goal
 
 pub after-requires-clause-load : goal.after-requires-clause-load
@@ -223,3 +224,23 @@ returns-in-ReturnAccumulator-clause-costs c =
     let f : flow_at operation insn place ≡ ReturnAccumulator = sym c.of.ensures.flow ∙ c.in-ReturnAccumulator.is in
     let size : tree_size insns place ≡ size_of_flow (ReturnAccumulator) (tree_size insns) = size_by_flow insns place insn operation c.requires.stands ∙ ap (λ (flow : Flow). size_of_flow flow (tree_size insns)) f in
     omega arith
+
+pub returns-in-Branch-clause-plain : goal.returns-in-Branch-clause-plain
+returns-in-Branch-clause-plain c =
+    let insns = c.args.insns.now in
+    let place = c.args.place in
+    let insn = c.args.insn in
+    let operation = c.args.operation in
+    let registers = c.args.registers.now in
+    let f : flow_at operation insn place ≡ Branch c.in-Branch.test c.in-Branch.operand c.in-Branch.if_true c.in-Branch.if_false = sym c.of.ensures.flow ∙ c.in-Branch.is in
+    let if_true : FilterNode = At c.in-Branch.if_true registers in
+    let if_false : FilterNode = At c.in-Branch.if_false registers in
+    λ plain value.
+    let branch = plain_flow insns place insn operation _ plain c.requires.stands f in
+    turn_plain (filter_questions insns) KnowsAnswer c.decide-decision.result if_true if_false c.turn_by.result c.turn_by.ensures (c.decide-decision.ensures.plain insn.k value (c.operand.ensures.constant branch.0) branch.1) (plain, value) (plain, value)
+
+pub returns-in-DivideByIndex-clause-plain : goal.returns-in-DivideByIndex-clause-plain
+returns-in-DivideByIndex-clause-plain c = λ plain value. absurd (plain_flow c.args.insns.now c.args.place c.args.insn c.args.operation (DivideByIndex c.in-DivideByIndex.next) plain c.requires.stands (sym c.of.ensures.flow ∙ c.in-DivideByIndex.is))
+
+pub returns-in-ReturnAccumulator-clause-plain : goal.returns-in-ReturnAccumulator-clause-plain
+returns-in-ReturnAccumulator-clause-plain c = λ plain value. absurd (plain_flow c.args.insns.now c.args.place c.args.insn c.args.operation ReturnAccumulator plain c.requires.stands (sym c.of.ensures.flow ∙ c.in-ReturnAccumulator.is))

@@ -7,5 +7,5 @@ returns-clause-left g c =
     λ words h.
     elim (left_or_taken g.F.WordFacts.allows (g.C.Comparison.questions c.args.comparison.now) (record { facts = c.learn_answer.new.facts; branches = c.pop.new.self }) c.args.frontier.now c.in-Some.branch c.in-Some.ensures.items words h) [
       | inl left ↦ inl left
-      | inr taken ↦ inr ((c.in_ok-learn_answer.ensures words).1 (taken.allowed, taken.given), taken.reached)
+      | inr taken ↦ inr ((c.in_ok-learn_answer.ensures.learned words).1 (taken.allowed, taken.given), taken.reached)
     ]

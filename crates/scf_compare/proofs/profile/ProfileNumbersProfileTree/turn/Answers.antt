@@ -25,3 +25,15 @@ pub returns-in-Condition-clause-leads : goal.returns-in-Condition-clause-leads
 returns-in-Condition-clause-leads c =
     let leads = rw (c.default_answer-default_answer.ensures, c.rules-rules.ensures.rules) at c.ask_condition.ensures.leads in
     λ words w. rw c.in-Condition.is (leads words w)
+
+pub returns-in-Number-clause-proper : goal.returns-in-Number-clause-proper
+returns-in-Number-clause-proper c = rw (c.default_answer-default_answer.ensures, c.rules-rules.ensures.rules) at c.ask_number.ensures.proper
+
+pub returns-in-Number-clause-plain : goal.returns-in-Number-clause-plain
+returns-in-Number-clause-plain c = rw (c.default_answer-default_answer.ensures, c.rules-rules.ensures.rules) at c.ask_number.ensures.plain
+
+pub returns-in-Condition-clause-proper : goal.returns-in-Condition-clause-proper
+returns-in-Condition-clause-proper c = rw (c.default_answer-default_answer.ensures, c.rules-rules.ensures.rules) at c.ask_condition.ensures.proper
+
+pub returns-in-Condition-clause-plain : goal.returns-in-Condition-clause-plain
+returns-in-Condition-clause-plain c = rw (c.default_answer-default_answer.ensures, c.rules-rules.ensures.rules) at c.ask_condition.ensures.plain
