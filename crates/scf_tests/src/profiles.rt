@@ -216,8 +216,6 @@ struct Difference {
     mask: u64,
     bits: u64,
     answers: &'static str,
-    /// Whether the comparison may leave open that they differ.
-    may_be_undecided: bool,
 }
 
 const DIFFERENCES: &[Difference] = &[
@@ -234,7 +232,6 @@ const DIFFERENCES: &[Difference] = &[
         mask: 0x7e02_0000,
         bits: 0x0200_0000,
         answers: "\nfilter ALLOW 0\nprofile ERRNO 1\n",
-        may_be_undecided: true,
     },
     // A division by argument 0 ends the run where that is 0.
     Difference {
@@ -247,7 +244,18 @@ const DIFFERENCES: &[Difference] = &[
         mask: 0xffff_ffff,
         bits: 0,
         answers: "\nfilter KILL_THREAD 0\nprofile ALLOW 0\n",
-        may_be_undecided: false,
+    },
+    // The filter forgets the numbers of x32.
+    Difference {
+        parts: &[
+            Part::Filter("ld [4]; jeq #0xc000003e, 1, 0; ret #0x80000000; ret #0x7fff0000"),
+            ALL,
+            NO_TABLE,
+        ],
+        numbers: (0x4000_0000, 0xffff_ffff),
+        mask: 0,
+        bits: 0,
+        answers: "\nfilter ALLOW 0\nprofile KILL_PROCESS 0\n",
     },
 ];
 
@@ -292,11 +300,7 @@ fn differences(rt: HostRuntime) -> Result<(), Fail> {
         let ended = run(rt.alloc(), &["scf", "compare"], &input, usize::MAX);
         let text = str::from_utf8(&ended.text)?;
         let is_shown = shows(rt.alloc(), text, difference)?;
-        let is_open = difference.may_be_undecided && text.starts_with("undecided at ");
-        assert!(rt;
-            (is_shown && ended.status == 1) || (is_open && ended.status == 4),
-            "{text}"
-        );
+        assert!(rt; is_shown && ended.status == 1, "{text}");
     }
     Ok(())
 }

@@ -14,15 +14,19 @@ use Rattle.scf_insn.specs.Streams.{HasFailed}
 use Rattle.scf_machine.specs.declared.checker.CheckFault.{CheckFault}
 use Rattle.scf_machine.specs.declared.checker.CheckFault.TheVariants as checks
 use Rattle.scf_machine.specs.Checks.{IsFirstFault}
+use Rattle.scf_machine.specs.Machine.{RunAnswers}
+use Rattle.scf_machine.specs.Plain.{IsPlainProgram}
 use Rattle.scf_machine.specs.Rules.{IsValidList, KeepsScratchRule}
 use Rattle.scf_profile.specs.declared.loaded.Loaded.{Loaded}
 use Rattle.scf_profile.specs.declared.load_fault.LoadFault.{LoadFault}
 use Rattle.scf_profile.specs.declared.table_fault.TableFault.{TableFault}
 use Rattle.scf_profile.specs.declared.table_fault.TableFault.TheVariants as tables
 use Rattle.scf_profile.specs.Loading.{Loads, Refuses}
+use Rattle.scf_profile.specs.PlainProfile.{IsPlainProfile}
+use Rattle.scf_profile.specs.SameAnswers.{SameAnswers}
 use Rattle.scf_profile.specs.Table.{Names, table_of}
 use Rattle.scf_compare.specs.Effort.{effort_of}
-use Rattle.scf_compare.specs.Verdicts.{IsTrueOf, IsWithin}
+use Rattle.scf_compare.specs.Verdicts.{IsTrueOf, IsWithin, IsDecided}
 use Rattle.scf_tool.specs.declared.verification.Outcome.{Outcome}
 use Rattle.scf_tool.specs.declared.verification.VerifyFault.{VerifyFault}
 use Rattle.scf_tool.specs.declared.verification.VerifyFault.TheVariants.{FilterRead, Check, TableRead, Table, ProfileRead, Profile, Memory}
@@ -94,7 +98,7 @@ HasProfile table profile = (names : Names) × IsTable table names × (loaded : L
 -- ---- an outcome
 
 -- The bytes are a filter, a call table and a profile, whose skipped names and other architectures these are. The verdict
--- is true of that filter and that profile.
+-- is true of that filter and that profile, and decides between them where both are plain.
 pub record IsVerified (filter table profile : Option (List ℕ)) (limit : ℕ) (outcome : Outcome) : Type 0 where
   pub insns : List Insn
   pub names : Names
@@ -106,6 +110,8 @@ pub record IsVerified (filter table profile : Option (List ℕ)) (limit : ℕ) (
   pub other_architectures : outcome.other_architectures ≡ loaded.other_architectures
   pub holds : IsTrueOf insns loaded.profile outcome.verdict
   pub within : IsWithin limit (effort_of insns loaded.profile) outcome.verdict
+  pub decided : IsPlainProgram insns → IsPlainProfile loaded.profile
+      → IsDecided (SameAnswers (RunAnswers insns) loaded.profile) limit (effort_of insns loaded.profile) outcome.verdict
 
 -- ---- a fault
 

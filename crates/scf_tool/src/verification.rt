@@ -19,7 +19,7 @@ ghost use Rattle.scf_tool.specs.Verifying.{
 };
 
 use scf_compare::{Verdict, compare};
-use scf_facts::AtomList;
+use scf_facts::WordSets;
 use scf_insn::{InputFault, Insn, Memory, ReadFault, Source, read_input, read_program};
 use scf_machine::{CheckFault, Program, check};
 use scf_profile::{CallTable, LoadFault, Loaded, TableFault, Texts, load};
@@ -162,7 +162,8 @@ fn read_profile<R: Source>(
 /// The filter is read and checked, then the table is read, then the profile; the first fault is answered. Tables and
 /// profiles have at most 4194304 bytes each.
 ///
-/// `Same` is true of every call record, and `Differs` shows one that is answered differently: see `compare`.
+/// `Same` is true of every call record, and `Differs` shows one that is answered differently: see `compare`. A plain
+/// filter and a plain profile are never left undecided.
 pub fn verify<F: Source, P: Source, T: Source>(
     alloc: Global,
     filter_reader: &mut F,
@@ -178,7 +179,7 @@ pub fn verify<F: Source, P: Source, T: Source>(
     let program = read_filter(alloc, filter_reader)?;
     let names = read_table(alloc, table_reader)?;
     let loaded = read_profile(alloc, profile_reader, &names)?;
-    let verdict = compare::<AtomList>(alloc, &program, &loaded.profile, limit)?;
+    let verdict = compare::<WordSets>(alloc, &program, &loaded.profile, limit)?;
     Ok(Outcome {
         verdict,
         skipped: loaded.skipped,

@@ -34,4 +34,5 @@ returns-clause-answer g c = record {
   other_architectures = refl;
   holds = c.in_ok-verdict.ensures.holds;
   within = c.in_ok-verdict.ensures.within;
+  decided = c.in_ok-verdict.ensures.decided refl;
 }
