@@ -25,8 +25,8 @@ use std::alloc::Global;
 /// `Undecided` names a place of the program behind which the facts `F` didn't decide. `Unfinished` comes only where the
 /// limit is below the exact effort; the steps of `Same` are within both.
 ///
-/// Facts that start exact decide a plain program and a plain profile: with a limit that isn't below the effort the verdict
-/// is `Same` exactly where both answer every call record alike, and `Differs` elsewhere.
+/// Facts that start exact decide a plain program and a plain profile: with a limit that isn't below the effort the
+/// verdict is `Same` exactly where both answer every call record alike, and `Differs` elsewhere.
 pub fn compare<F: WordFacts>(
     alloc: Global,
     program: &Program,
@@ -36,7 +36,9 @@ pub fn compare<F: WordFacts>(
     ensures holds { IfOk result (IsTrueOf program.now profile.now) }
     ensures within { IfOk result (IsWithin limit (effort_of program.now profile.now)) }
     ensures decided { IsTrue F.starts_exact → IsPlainProgram program.now → IsPlainProfile profile.now
-        → IfOk result (IsDecided (SameAnswers (RunAnswers program.now) profile.now) limit (effort_of program.now profile.now)) }
+        → IfOk result (IsDecided
+        (SameAnswers (RunAnswers program.now) profile.now)
+        limit (effort_of program.now profile.now)) }
 {
     let numbers = ProfileNumbers::new(alloc, profile)?;
     let pair = Pair {

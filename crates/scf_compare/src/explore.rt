@@ -29,8 +29,11 @@ fn judge<C: Comparison, F: WordFacts>(comparison: &C, facts: &F, end: BothEnds) 
         (C.filter_answers comparison.now) (C.profile_answers comparison.now)) }
     ensures within { IfSome result (λ verdict. (limit effort : ℕ) → IsWithin limit effort verdict) }
     ensures decided { IsTrue (F.is_exact facts.now) → KnowsBoth end
-        → ((words : List ℕ) → F.allows facts.now words → Tells (C.filter_answers comparison.now) (C.profile_answers comparison.now) end words)
-        → IfSome result (λ verdict. (limit effort : ℕ) → IsDecided (AllAlike (C.in_scope comparison.now) (C.filter_answers comparison.now) (C.profile_answers comparison.now)) limit effort verdict) }
+        → ((words : List ℕ) → F.allows facts.now words
+        → Tells (C.filter_answers comparison.now) (C.profile_answers comparison.now) end words)
+        → IfSome result (λ verdict. (limit effort : ℕ) → IsDecided
+        (AllAlike (C.in_scope comparison.now) (C.filter_answers comparison.now) (C.profile_answers comparison.now))
+        limit effort verdict) }
 {
     if let Some(answer) = end.filter.answer {
         if answer == end.profile {
@@ -165,8 +168,11 @@ fn advance<C: Comparison, F: WordFacts>(
     ensures exact { OnOk result (AreExact F.allows F.is_exact (C.questions comparison.now) frontier.old
         → IsExactAt F.allows F.is_exact (C.questions comparison.now) frontier.old.facts None node.now
         → AreExact F.allows F.is_exact (C.questions comparison.now) frontier.new) }
-    ensures decided { IfOk result (λ verdict. IsExactAt F.allows F.is_exact (C.questions comparison.now) frontier.old.facts None node.now
-        → IfSome verdict (λ verdict. (limit effort : ℕ) → IsDecided (AllAlike (C.in_scope comparison.now) (C.filter_answers comparison.now) (C.profile_answers comparison.now)) limit effort verdict)) }
+    ensures decided { IfOk result (λ verdict.
+        IsExactAt F.allows F.is_exact (C.questions comparison.now) frontier.old.facts None node.now
+        → IfSome verdict (λ verdict. (limit effort : ℕ) → IsDecided
+        (AllAlike (C.in_scope comparison.now) (C.filter_answers comparison.now) (C.profile_answers comparison.now))
+        limit effort verdict)) }
 {
     match comparison.turn(node) {
         Turn::Go(next) => {
@@ -209,7 +215,9 @@ pub(crate) fn explore<C: Comparison, F: WordFacts>(
         (C.filter_answers comparison.now) (C.profile_answers comparison.now)) }
     ensures within { IfOk result (IsWithin limit ((C.questions comparison.now).size root)) }
     ensures decided { IsTrue (F.is_exact facts) → (C.questions comparison.now).is_plain root
-        → IfOk result (IsDecided (AllAlike (C.in_scope comparison.now) (C.filter_answers comparison.now) (C.profile_answers comparison.now)) limit ((C.questions comparison.now).size root)) }
+        → IfOk result (IsDecided
+        (AllAlike (C.in_scope comparison.now) (C.filter_answers comparison.now) (C.profile_answers comparison.now))
+        limit ((C.questions comparison.now).size root)) }
 {
     let mut frontier = Frontier {
         facts,

@@ -76,7 +76,8 @@ fn turn_at(insns: &[Insn], place: usize, registers: &Registers) -> Turn<FilterNo
         → ComesTo insns.now place registers.now words
         → GoesOn (filter_questions insns.now) (FilterTells (RunAnswers insns.now)) result words }
     ensures costs { Costs (filter_questions insns.now) result (tree_size insns.now place) }
-    ensures plain { IsPlainProgram insns.now → IsPlainValue registers.now.a → StaysPlain (filter_questions insns.now) KnowsAnswer result }
+    ensures plain { IsPlainProgram insns.now → IsPlainValue registers.now.a
+        → StaysPlain (filter_questions insns.now) KnowsAnswer result }
 {
     let insn = insns[place];
     match insn.operation() {
@@ -102,7 +103,8 @@ fn turn_of(
         → ComesTo insns.now place registers.now words
         → GoesOn (filter_questions insns.now) (FilterTells (RunAnswers insns.now)) result words }
     ensures costs { Costs (filter_questions insns.now) result (tree_size insns.now place) }
-    ensures plain { IsPlainProgram insns.now → IsPlainValue registers.now.a → StaysPlain (filter_questions insns.now) KnowsAnswer result }
+    ensures plain { IsPlainProgram insns.now → IsPlainValue registers.now.a
+        → StaysPlain (filter_questions insns.now) KnowsAnswer result }
 {
     match Flow::of(insns, place, insn, operation) {
         Flow::Next(next) => Turn::Go(FilterNode::At(next, registers.after(insn, operation))),

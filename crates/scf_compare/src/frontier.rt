@@ -80,8 +80,10 @@ pub(crate) fn take_branch<C: Comparison, F: WordFacts>(
     ensures size { IfOk result (λ taken. IfSome taken (λ node.
         open_size (C.questions comparison.now) frontier.new + (C.questions comparison.now).size node
         ≡ open_size (C.questions comparison.now) frontier.old)) }
-    ensures exact { OnOk result (AreExact F.allows F.is_exact (C.questions comparison.now) frontier.old → AreExact F.allows F.is_exact (C.questions comparison.now) frontier.new) }
-    ensures exact_node { IfOk result (λ taken. AreExact F.allows F.is_exact (C.questions comparison.now) frontier.old → IfSome taken (IsExactAt F.allows F.is_exact (C.questions comparison.now) frontier.new.facts None)) }
+    ensures exact { OnOk result (AreExact F.allows F.is_exact (C.questions comparison.now) frontier.old
+        → AreExact F.allows F.is_exact (C.questions comparison.now) frontier.new) }
+    ensures exact_node { IfOk result (λ taken. AreExact F.allows F.is_exact (C.questions comparison.now) frontier.old
+        → IfSome taken (IsExactAt F.allows F.is_exact (C.questions comparison.now) frontier.new.facts None)) }
 {
     let _ = comparison;
     let Some(branch) = frontier.branches.pop() else {
@@ -102,7 +104,8 @@ fn learn_answer<F: WordFacts>(facts: &mut F, learned: Option<(Atom, bool)>) -> R
     requires { AsksOfWord learned }
     ensures learned { OnOk result (
         (words : List ℕ) → F.allows facts.new words ↔ (F.allows facts.old words × Gives learned words)) }
-    ensures exact { OnOk result (LearnsExactly learned → IsTrue (F.is_exact facts.old) → IsTrue (F.is_exact facts.new)) }
+    ensures exact { OnOk result (LearnsExactly learned
+        → IsTrue (F.is_exact facts.old) → IsTrue (F.is_exact facts.new)) }
 {
     match learned {
         Some((atom, holds)) => facts.learn(atom, holds),

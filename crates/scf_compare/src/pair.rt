@@ -108,7 +108,12 @@ impl<A: FilterTree, B: ProfileTree> Pair<'_, A, B> {
             (FilterTells (A.answers self.now.filter.now)) (A.is_place self.now.filter.now)
             (B.whole_size self.now.profile.now))
             result ((B.questions self.now.profile.now).size node.now) }
-        ensures plain { KnowsAnswer end → (B.questions self.now.profile.now).is_plain node.now → StaysPlain (pair_questions (A.questions self.now.filter.now) (B.questions self.now.profile.now) (FilterTells (A.answers self.now.filter.now)) (A.is_place self.now.filter.now) (B.whole_size self.now.profile.now)) KnowsBoth result }
+        ensures plain { KnowsAnswer end → (B.questions self.now.profile.now).is_plain node.now
+            → StaysPlain
+            (pair_questions (A.questions self.now.filter.now) (B.questions self.now.profile.now)
+            (FilterTells (A.answers self.now.filter.now)) (A.is_place self.now.filter.now)
+            (B.whole_size self.now.profile.now))
+            KnowsBoth result }
     {
         match self.profile.turn(node) {
             Turn::Go(next) => Turn::Go(PairNode::AtProfile { end, node: next }),

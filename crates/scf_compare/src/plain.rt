@@ -6,8 +6,8 @@ ghost use Rattle.scf_machine.specs.Plain.{IsPlainProgram, IsPlainInsn, IsPlainOp
 use scf_insn::{Insn, Operand, Operation, Test, is_simple_mask};
 use scf_machine::Program;
 
-/// Whether a program only loads words of the record, compares them with constants, tests them by masks that have no bit,
-/// one bit or all of the 32, jumps, and returns constants.
+/// Whether a program only loads words of the record, compares them with constants, tests them by masks that have no
+/// bit, one bit or all of the 32, jumps, and returns constants.
 pub fn is_plain(program: &Program) -> bool
     ensures { IsTrue result ↔ IsPlainProgram program.now }
 {

@@ -150,7 +150,8 @@ fn ask_number(
         → GoesOn (profile_questions p) (λ answer words. ProfileAnswers p (call_of words) answer.0) result words }
     ensures costs { let p : Policy = policy_of default_answer rules.now in
         Costs (profile_questions p) result (question_size p (Question.Number place)) }
-    ensures plain { let p : Policy = policy_of default_answer rules.now in IsPlainProfile p → StaysPlain (profile_questions p) (λ _. ⊤) result }
+    ensures plain { let p : Policy = policy_of default_answer rules.now in
+        IsPlainProfile p → StaysPlain (profile_questions p) (λ _. ⊤) result }
 {
     if place >= numbers.len() {
         return Turn::End(default_answer);
@@ -238,7 +239,8 @@ fn ask_condition(
         → GoesOn (profile_questions p) (λ answer words. ProfileAnswers p (call_of words) answer.0) result words }
     ensures costs { let p : Policy = policy_of default_answer rules.now in
         Costs (profile_questions p) result (question_size p (Question.Condition place index part)) }
-    ensures plain { let p : Policy = policy_of default_answer rules.now in IsPlainProfile p → StaysPlain (profile_questions p) (λ _. ⊤) result }
+    ensures plain { let p : Policy = policy_of default_answer rules.now in
+        IsPlainProfile p → StaysPlain (profile_questions p) (λ _. ⊤) result }
 {
     let asked = question(condition_at(rules, place, index), part);
     Turn::Ask {

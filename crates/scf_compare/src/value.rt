@@ -107,7 +107,9 @@ impl Value {
             → StandsFor self words a
             → StandsFor other words v
             → Decides result words (holds test a v) }
-        ensures plain { (v : ℕ) → IsPlainValue self → other ≡ Value.Known v → (test ≡ Test.CommonBit → IsSimpleMask v) → IsPlainDecision result }
+        ensures plain { (v : ℕ) → IsPlainValue self → other ≡ Value.Known v
+            → (test ≡ Test.CommonBit → IsSimpleMask v)
+            → IsPlainDecision result }
     {
         match other {
             Value::Known(v) => self.decide_with(test, v),

@@ -55,7 +55,8 @@ impl Bits {
 
     /// Those of these bits that the known ones leave open, where some number has both.
     pub(crate) fn beyond(self, known: Bits) -> Bits
-        ensures decides { (some x : ℕ) → HasBits known some → HasBits self some → HasBits known x → (HasBits self x ↔ HasBits result x) }
+        ensures decides { (some x : ℕ) → HasBits known some → HasBits self some
+            → HasBits known x → (HasBits self x ↔ HasBits result x) }
         ensures within { bit_and result.value result.mask ≡ result.value }
         ensures one { IsPowerOfTwo self.mask → (result.mask ≡ 0) ⊎ IsPowerOfTwo result.mask }
         ensures none { self.mask ≡ 0 → result.mask ≡ 0 }

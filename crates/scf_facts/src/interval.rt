@@ -96,7 +96,8 @@ pub(crate) fn parts_outside(
     intervals: &[Interval],
     range: Interval,
 ) -> Result<Vec<Interval>, AllocError>
-    ensures { IfOk result (λ parts. parts.items ≡ filter_map (part_below range.low) intervals.now ++ filter_map (part_above range.high) intervals.now) }
+    ensures { IfOk result (λ parts. parts.items
+        ≡ filter_map (part_below range.low) intervals.now ++ filter_map (part_above range.high) intervals.now) }
 {
     let below = intervals
         .iter()

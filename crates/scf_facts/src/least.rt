@@ -50,7 +50,8 @@ fn least_from(low: u32, bits: Bits) -> Option<u32>
 pub(crate) fn first_number(intervals: &[Interval], range: Interval, bits: Bits) -> Option<u32>
     requires { AreApart intervals.now }
     ensures found { IfSome result (λ x. IsInside intervals.now x × IsWithin range x × HasBits bits x) }
-    ensures none { IfNone result ((x : ℕ) → x < 2 ^ 32 → IsInside intervals.now x → IsWithin range x → HasBits bits x → ⊥) }
+    ensures none { IfNone result ((x : ℕ) → x < 2 ^ 32
+        → IsInside intervals.now x → IsWithin range x → HasBits bits x → ⊥) }
 {
     for interval in intervals {
         if interval.low > range.high {

@@ -41,7 +41,11 @@ impl Model for WordSet {
 
     ghost Value = { NumberFacts };
 
-    ghost view = { λ s. record { intervals = option_map_or (λ v. v.items) s.cut all_intervals; known = s.known; refuted = s.refuted.items } };
+    ghost view = { λ s. record {
+      intervals = option_map_or (λ v. v.items) s.cut all_intervals;
+      known = s.known;
+      refuted = s.refuted.items;
+    } };
 
     ghost invariant = { λ s. AreApart (option_map_or (λ v. v.items) s.cut all_intervals) };
 }
@@ -86,9 +90,11 @@ impl WordSet {
 
     /// Keeps the numbers for which the atom has this answer. Where memory is refused, all of them stay.
     pub(crate) fn learn(&mut self, alloc: Global, atom: Atom, holds: bool) -> Result<(), Memory>
-        ensures learned { OnOk result ((x : ℕ) → x < 2 ^ 32 → AllowsNumber self.new x ↔ (AllowsNumber self.old x × (answer_at atom x ≡ holds))) }
+        ensures learned { OnOk result ((x : ℕ) → x < 2 ^ 32
+            → AllowsNumber self.new x ↔ (AllowsNumber self.old x × (answer_at atom x ≡ holds))) }
         ensures refused { OnErr result (self.new ≡ self.old) }
-        ensures exact { OnOk result (KeepsExact atom holds → IsTrue (is_exact_set self.old) → IsTrue (is_exact_set self.new)) }
+        ensures exact { OnOk result (KeepsExact atom holds
+            → IsTrue (is_exact_set self.old) → IsTrue (is_exact_set self.new)) }
     {
         match Question::of(atom) {
             Question::Within { range, answer } => {
@@ -295,7 +301,8 @@ impl WordSet {
     /// Whether it is known that there is no number.
     pub(crate) fn is_empty(&self) -> bool
         ensures empty { IsTrue result → EachNumber self.now (λ _. ⊥) }
-        ensures some { IsTrue (is_exact_set self.now) → result ≡ false → (x : ℕ) × (x < 2 ^ 32) × AllowsNumber self.now x }
+        ensures some { IsTrue (is_exact_set self.now) → result ≡ false
+            → (x : ℕ) × (x < 2 ^ 32) × AllowsNumber self.now x }
     {
         if self.has_none(Interval::ALL, self.known) {
             return true;
@@ -318,7 +325,8 @@ impl WordSet {
     /// One of the numbers, if one is found: the least one, where no bits were refuted.
     pub(crate) fn pick(&self) -> Option<u32>
         ensures allowed { IfSome result (λ x. AllowsNumber self.now x) }
-        ensures found { IsTrue (is_exact_set self.now) → (x : ℕ) → x < 2 ^ 32 → AllowsNumber self.now x → IsSome result }
+        ensures found { IsTrue (is_exact_set self.now)
+            → (x : ℕ) → x < 2 ^ 32 → AllowsNumber self.now x → IsSome result }
     {
         let first = first_number(self.intervals(), Interval::ALL, self.known)?;
         if self.allows(first) {
