@@ -5,7 +5,8 @@ ghost use Rattle.std.specs.List.{AllByRecursion};
 ghost use Rattle.scf_insn.specs.declared.insn.Insn.{Insn};
 ghost use Rattle.scf_insn.specs.Insn.{IsInsn, program_bytes};
 
-/// Lists of instructions and lists of bytes of a multiple of 8 are a bijection.
+/// A list has 8 bytes for each instruction, two lists within their widths never have the same bytes, and bytes whose
+/// count is a multiple of 8 are those of some list.
 pub fn one_encoding()
     ensures length { (insns : List Insn) → length (program_bytes insns) ≡ 8 * length insns }
     ensures one { (insns others : List Insn) → AllByRecursion IsInsn insns → AllByRecursion IsInsn others
