@@ -16,18 +16,42 @@ joined n = omega arith
 
 -- the words of the record that has these words are these
 pub words_of-call_of : (words : List ℕ) → IsWords words → words_of (call_of words) ≡ words
-words_of-call_of (w0 ∷ w1 ∷ w2 ∷ w3 ∷ w4 ∷ w5 ∷ w6 ∷ w7 ∷ w8 ∷ w9 ∷ w10 ∷ w11 ∷ w12 ∷ w13 ∷ w14 ∷ w15 ∷ []) h = rw (low_joined w2 w3 h.each.1.1.0, high_joined w2 w3 h.each.1.1.0, low_joined w4 w5 h.each.1.1.1.1.0, high_joined w4 w5 h.each.1.1.1.1.0, low_joined w6 w7 h.each.1.1.1.1.1.1.0, high_joined w6 w7 h.each.1.1.1.1.1.1.0, low_joined w8 w9 h.each.1.1.1.1.1.1.1.1.0, high_joined w8 w9 h.each.1.1.1.1.1.1.1.1.0, low_joined w10 w11 h.each.1.1.1.1.1.1.1.1.1.1.0, high_joined w10 w11 h.each.1.1.1.1.1.1.1.1.1.1.0, low_joined w12 w13 h.each.1.1.1.1.1.1.1.1.1.1.1.1.0, high_joined w12 w13 h.each.1.1.1.1.1.1.1.1.1.1.1.1.0, low_joined w14 w15 h.each.1.1.1.1.1.1.1.1.1.1.1.1.1.1.0, high_joined w14 w15 h.each.1.1.1.1.1.1.1.1.1.1.1.1.1.1.0) refl
+words_of-call_of (w0 ∷ w1 ∷ w2 ∷ w3 ∷ w4 ∷ w5 ∷ w6 ∷ w7 ∷ w8 ∷ w9 ∷ w10 ∷ w11 ∷ w12 ∷ w13 ∷ w14 ∷ w15 ∷ []) h =
+    rw (
+      low_joined w2 w3 h.each.1.1.0,
+      high_joined w2 w3 h.each.1.1.0,
+      low_joined w4 w5 h.each.1.1.1.1.0,
+      high_joined
+          w4 w5 h.each.1.1.1.1.0,
+      low_joined w6 w7 h.each.1.1.1.1.1.1.0,
+      high_joined w6 w7 h.each.1.1.1.1.1.1.0,
+      low_joined
+          w8 w9 h.each.1.1.1.1.1.1.1.1.0,
+      high_joined w8 w9 h.each.1.1.1.1.1.1.1.1.0,
+      low_joined w10 w11
+          h.each.1.1.1.1.1.1.1.1.1.1.0,
+      high_joined w10 w11 h.each.1.1.1.1.1.1.1.1.1.1.0,
+      low_joined w12 w13
+          h.each.1.1.1.1.1.1.1.1.1.1.1.1.0,
+      high_joined w12 w13 h.each.1.1.1.1.1.1.1.1.1.1.1.1.0,
+      low_joined w14 w15
+          h.each.1.1.1.1.1.1.1.1.1.1.1.1.1.1.0,
+      high_joined w14 w15 h.each.1.1.1.1.1.1.1.1.1.1.1.1.1.1.0,
+    ) refl
 words_of-call_of words h = absurd (let count = h.count in omega arith)
 
-whole_call : (nr arch ip : ℕ) (args : List ℕ) → length args ≡ 6 → let call : CallRecord = record { nr = nr; arch = arch; ip = ip; args = args } in call_of (words_of call) ≡ call
-whole_call nr arch ip (a0 ∷ a1 ∷ a2 ∷ a3 ∷ a4 ∷ a5 ∷ []) six = rw (joined ip, joined a0, joined a1, joined a2, joined a3, joined a4, joined a5) refl
+whole_call : (nr arch ip : ℕ) (args : List ℕ) → length args ≡ 6
+    → let call : CallRecord = record { nr = nr; arch = arch; ip = ip; args = args } in call_of (words_of call) ≡ call
+whole_call nr arch ip (a0 ∷ a1 ∷ a2 ∷ a3 ∷ a4 ∷ a5 ∷ []) six =
+    rw (joined ip, joined a0, joined a1, joined a2, joined a3, joined a4, joined a5) refl
 whole_call nr arch ip args six = absurd (omega arith)
 
 -- the record that has the words of a record is that record
 pub call_of-words_of : (call : CallRecord) → IsRecord call → call_of (words_of call) ≡ call
 call_of-words_of call h = whole_call call.nr call.arch call.ip call.args h.count
 
-each_half : (args : List ℕ) → AllByRecursion (λ n. n < 2 ^ 64) args → AllByRecursion (λ word. word < 2 ^ 32) (flat_map halves args)
+each_half : (args : List ℕ) → AllByRecursion (λ n. n < 2 ^ 64) args
+    → AllByRecursion (λ word. word < 2 ^ 32) (flat_map halves args)
 each_half [] h = tt
 each_half (n ∷ args) h = (omega arith, (omega arith, each_half args h.1))
 
@@ -39,6 +63,10 @@ each_from_places : (bound : ℕ) (xs : List ℕ) → ((i : ℕ) → slice_index 
 each_from_places bound [] h = tt
 each_from_places bound (x ∷ xs) h = (h 0, each_from_places bound xs (λ i. h (suc i)))
 
+-- sixteen numbers, each below 2^32 at its place
+pub words_by_place : (words : List ℕ) → length words ≡ 16 → ((i : ℕ) → slice_index words i < 2 ^ 32) → IsWords words
+words_by_place words count below = record { count = count; each = each_from_places (2 ^ 32) words below }
+
 pub length-words_of : (call : CallRecord) → length call.args ≡ 6 → length (words_of call) ≡ 16
 length-words_of call six = let more = length-halves call.args in omega arith
 
@@ -46,10 +74,12 @@ length-words_of call six = let more = length-halves call.args in omega arith
 pub IsWords-words_of : (call : CallRecord) → IsRecord call → IsWords (words_of call)
 IsWords-words_of call h = record {
   count = length-words_of call h.count;
-  each = let ip = h.ip in (h.nr, (h.arch, (omega arith, (omega arith, each_half call.args (each_from_places (2 ^ 64) call.args h.args)))));
+  each = let ip = h.ip in
+      (h.nr, (h.arch, (omega arith, (omega arith, each_half call.args (each_from_places (2 ^ 64) call.args h.args)))));
 }
 
-place_below : (bound : ℕ) → 0 < bound → (xs : List ℕ) → AllByRecursion (λ n. n < bound) xs → (i : ℕ) → slice_index xs i < bound
+place_below : (bound : ℕ) → 0 < bound → (xs : List ℕ) → AllByRecursion (λ n. n < bound) xs → (i : ℕ)
+    → slice_index xs i < bound
 place_below bound some [] h i = some
 place_below bound some (x ∷ xs) h zero = h.0
 place_below bound some (x ∷ xs) h (suc i) = place_below bound some xs h.1 i

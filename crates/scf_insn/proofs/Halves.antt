@@ -1,5 +1,6 @@
 -- Comparing numbers of 64 bits by their halves, and the words of a record.
-use Rattle.std.proofs.Common.{◌≡◌, ℕ, zero, suc, ◌+◌, ◌*◌, ◌<◌, ◌^◌, true, false, cond, eqb, ltb, leb, List, [], ◌∷◌, get_or, refl, sym, ap, ◌∙◌, arith, inl, inr, bit_and}
+use Rattle.std.proofs.Common.{◌≡◌, ℕ, zero, suc, ◌+◌, ◌*◌, ◌<◌, ◌^◌, true, false, cond, eqb, ltb, leb, List, [], ◌∷◌}
+use Rattle.std.proofs.Common.{get_or, refl, sym, ap, ◌∙◌, arith, inl, inr, bit_and}
 use Rattle.std.specs.Prelude.{slice_index}
 use Rattle.std.specs.List.{flat_map}
 use Rattle.std.proofs.lemmas.Bool.{cases_eq, eq-eqb, ne_eqb}
@@ -19,20 +20,26 @@ pub eqb_split : (n v : ℕ) → eqb n v ≡ cond (eqb (high n) (high v)) (eqb (l
 eqb_split n v =
     elim (cases_eq (high n) (high v)) [
       | inl h ↦ elim (cases_eq (low n) (low v)) [
-        | inl l ↦ eq-eqb n v (omega (arith, h, l)) ∙ sym (ap (λ b. cond b (eqb (low n) (low v)) false) (eq-eqb _ _ h) ∙ eq-eqb _ _ l)
-        | inr l ↦ ne_eqb n v (λ e. l (ap low e)) ∙ sym (ap (λ b. cond b (eqb (low n) (low v)) false) (eq-eqb _ _ h) ∙ ne_eqb _ _ l)
+        | inl l ↦ eq-eqb n v (omega (arith, h, l))
+            ∙ sym (ap (λ b. cond b (eqb (low n) (low v)) false) (eq-eqb _ _ h) ∙ eq-eqb _ _ l)
+        | inr l ↦ ne_eqb n v (λ e. l (ap low e))
+            ∙ sym (ap (λ b. cond b (eqb (low n) (low v)) false) (eq-eqb _ _ h) ∙ ne_eqb _ _ l)
       ]
       | inr h ↦ ne_eqb n v (λ e. h (ap high e)) ∙ sym (ap (λ b. cond b (eqb (low n) (low v)) false) (ne_eqb _ _ h))
     ]
 
 -- a test of two numbers that agrees with the order of their high halves, and else with that of the low ones
-pub ltb_split : (v n : ℕ) → ltb v n ≡ cond (ltb (high v) (high n)) true (cond (eqb (high n) (high v)) (ltb (low v) (low n)) false)
+pub ltb_split : (v n : ℕ)
+    → ltb v n ≡ cond (ltb (high v) (high n)) true (cond (eqb (high n) (high v)) (ltb (low v) (low n)) false)
 ltb_split v n = grind (arith, nat_tests, whole n, whole v, low_below n, low_below v)
 
-pub leb_split : (v n : ℕ) → leb v n ≡ cond (ltb (high v) (high n)) true (cond (eqb (high n) (high v)) (leb (low v) (low n)) false)
+pub leb_split : (v n : ℕ)
+    → leb v n ≡ cond (ltb (high v) (high n)) true (cond (eqb (high n) (high v)) (leb (low v) (low n)) false)
 leb_split v n = grind (arith, nat_tests, whole n, whole v, low_below n, low_below v)
 
-pub masked_split : (n m v : ℕ) → eqb (bit_and n m) v ≡ cond (eqb (bit_and (high n) (high m)) (high v)) (eqb (bit_and (low n) (low m)) (low v)) false
+pub masked_split : (n m v : ℕ)
+    → eqb (bit_and n m) v ≡ cond (eqb (bit_and (high n) (high m)) (high v)) (eqb (bit_and (low n) (low m)) (low v))
+    false
 masked_split n m v =
     let h : high (bit_and n m) ≡ bit_and (high n) (high m) = and_shr n m 32 in
     let l : low (bit_and n m) ≡ bit_and (low n) (low m) = and_mod n m 32 in
@@ -54,4 +61,5 @@ pub argument_low : (call : CallRecord) (i : ℕ) → slice_index (words_of call)
 argument_low call i = let e : 2 * i + 4 ≡ suc (suc (suc (suc (2 * i)))) = omega arith in rw e (low_word call.args i)
 
 pub argument_high : (call : CallRecord) (i : ℕ) → slice_index (words_of call) (2 * i + 4 + 1) ≡ high (argument call i)
-argument_high call i = let e : 2 * i + 4 + 1 ≡ suc (suc (suc (suc (2 * i + 1)))) = omega arith in rw e (high_word call.args i)
+argument_high call i = let e : 2 * i + 4 + 1 ≡ suc (suc (suc (suc (2 * i + 1)))) = omega arith in
+    rw e (high_word call.args i)

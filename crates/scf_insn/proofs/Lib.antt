@@ -1,6 +1,10 @@
 pub mod Bijection
 pub mod CallWords
+pub mod Codes
+pub mod DigitLemmas
 pub mod Halves
+pub mod Masks
 pub mod Numerals
 pub mod Records
+pub mod Taken
 pub mod Written

@@ -1,23 +1,47 @@
 -- One write after another.
-use Rattle.std.proofs.Common.{◌≡◌, ℕ, ◌+◌, ◌-◌, ◌<◌, ◌≤◌, ◌++◌, List, [], length, get_or, take, drop, Option, Result, Ok, Err, refl, sym, ap, ◌∙◌, append_assoc, append-nil, arith, length-drop}
+use Rattle.std.proofs.Common.{◌≡◌, ℕ, ◌+◌, ◌-◌, ◌<◌, ◌++◌, List, [], length, get_or, take, drop, Option, Result}
+use Rattle.std.proofs.Common.{Ok, Err, refl, sym, ap, ◌∙◌, append_assoc, arith, length-drop}
 use Rattle.std.specs.List.{flat_map}
 use Rattle.std.specs.Io.KnownBytes.{Appends}
 use Rattle.std.proofs.KnownBytes.{Appends-nil, Appends-trans}
-use Rattle.std.proofs.lemmas.List.{take_more, take_all, drop_more, take-append-drop}
+use Rattle.std.proofs.lemmas.List.{take_all, drop_more, take-append-drop}
 use Rattle.std.proofs.lemmas.List.Concat.{flat_map-append}
-use Rattle.scf_insn.specs.Streams.{TakesAll, TakesBeginning, TakesUpTo, Writes}
+use Rattle.scf_insn.specs.Streams.{TakesAll, TakesBeginning, Writes}
 
 -- a write that fails is a beginning of all that was to come
-pub fails_first : {old new : Option (List ℕ)} {a : List ℕ} {m n : ℕ} (b : List ℕ) → TakesBeginning old a new m n → TakesBeginning old (a ++ b) new m n
-fails_first {old} {new} {a} {m} {n} b w = record { front = w.front; rest = w.rest ++ b; whole = rw w.whole (append_assoc w.front w.rest b); taken = w.taken; failed = w.failed }
+pub fails_first : {old new : Option (List ℕ)} {a : List ℕ} {m n : ℕ} (b : List ℕ) → TakesBeginning old a new m n
+    → TakesBeginning old (a ++ b) new m n
+fails_first {old} {new} {a} {m} {n} b w =
+    record {
+      front = w.front;
+      rest = w.rest
+          ++ b;
+      whole = rw w.whole (append_assoc w.front w.rest b);
+      taken = w.taken;
+      failed = w.failed;
+    }
 
-pub fails_then : {old mid new : Option (List ℕ)} {a b : List ℕ} {m k n : ℕ} → TakesAll old a mid m k → TakesBeginning mid b new k n → TakesBeginning old (a ++ b) new m n
-fails_then {old} {mid} {new} {a} {b} {m} {k} {n} v w = record { front = a ++ w.front; rest = w.rest; whole = rw w.whole (sym (append_assoc a w.front w.rest)); taken = Appends-trans old mid new a w.front v.taken w.taken; failed = rw v.quiet at w.failed }
+pub fails_then : {old mid new : Option (List ℕ)} {a b : List ℕ} {m k n : ℕ} → TakesAll old a mid m k
+    → TakesBeginning mid b new k n → TakesBeginning old (a ++ b) new m n
+fails_then {old} {mid} {new} {a} {b} {m} {k} {n} v w =
+    record {
+      front = a
+          ++ w.front;
+      rest = w.rest;
+      whole = rw w.whole (sym (append_assoc a w.front w.rest));
+      taken =
+          Appends-trans old mid new a w.front v.taken w.taken;
+      failed = rw v.quiet at w.failed;
+    }
 
-pub takes_then : {old mid new : Option (List ℕ)} {a b : List ℕ} {m k n : ℕ} → TakesAll old a mid m k → TakesAll mid b new k n → TakesAll old (a ++ b) new m n
-takes_then {old} {mid} {new} {a} {b} {m} {k} {n} v w = record { taken = Appends-trans old mid new a b v.taken w.taken; quiet = w.quiet ∙ v.quiet }
+pub takes_then : {old mid new : Option (List ℕ)} {a b : List ℕ} {m k n : ℕ} → TakesAll old a mid m k
+    → TakesAll mid b new k n → TakesAll old (a ++ b) new m n
+takes_then {old} {mid} {new} {a} {b} {m} {k} {n} v w =
+    record { taken = Appends-trans old mid new a b v.taken w.taken; quiet = w.quiet ∙ v.quiet }
 
-pub writes_then : {S T E : Type 0} (contents : S → Option (List ℕ)) (failures : S → ℕ) (old mid : S) (a b : List ℕ) (r : Result T E) (new : S) → TakesAll (contents old) a (contents mid) (failures old) (failures mid) → Writes contents failures mid b r new → Writes contents failures old (a ++ b) r new
+pub writes_then : {S T E : Type 0} (contents : S → Option (List ℕ)) (failures : S → ℕ) (old mid : S) (a b : List ℕ)
+    (r : Result T E) (new : S) → TakesAll (contents old) a (contents mid) (failures old) (failures mid)
+    → Writes contents failures mid b r new → Writes contents failures old (a ++ b) r new
 writes_then contents failures old mid a b (Ok x) new v w = takes_then v w
 writes_then contents failures old mid a b (Err e) new v w = fails_then v w
 
@@ -26,28 +50,33 @@ takes_nothing old m = record { taken = Appends-nil old; quiet = refl }
 
 -- ---- a write of a part after another
 
-pub takes_none_yet : (old : Option (List ℕ)) (bytes : List ℕ) (m : ℕ) → TakesUpTo old bytes bytes old m m
-takes_none_yet old bytes m = record { front = []; whole = refl; taken = takes_nothing old m }
+-- Of these bytes all but the rest were taken so far.
+pub record TakesUpTo (old : Option (List ℕ)) (bytes rest : List ℕ) (new : Option (List ℕ))
+    (failures failures_after : ℕ) : Type 0 where
+  pub front : List ℕ
+  pub whole : bytes ≡ front ++ rest
+  pub taken : TakesAll old front new failures failures_after
 
-pub takes_more : (old mid new : Option (List ℕ)) (bytes rest : List ℕ) (m k n count : ℕ) → TakesUpTo old bytes rest mid m k → Appends mid new (take count rest) → n ≡ k → TakesUpTo old bytes (take (length rest - count) (drop count rest)) new m n
+pub takes_more : (old mid new : Option (List ℕ)) (bytes rest : List ℕ) (m k n count : ℕ)
+    → TakesUpTo old bytes rest mid m k → Appends mid new (take count rest) → n ≡ k
+    → TakesUpTo old bytes (take (length rest - count) (drop count rest)) new m n
 takes_more old mid new bytes rest m k n count so_far more same = record {
   front = so_far.front ++ take count rest;
-  whole = so_far.whole ∙ ap (λ ws. so_far.front ++ ws) (sym (take-append-drop count rest)) ∙ sym (append_assoc so_far.front (take count rest) (drop count rest))
-      ∙ ap (λ ws. (so_far.front ++ take count rest) ++ ws) (sym (take_all (length rest - count) (drop count rest) (omega (arith, length-drop count rest))));
+  whole = so_far.whole ∙ ap (λ ws. so_far.front ++ ws) (sym (take-append-drop count rest))
+      ∙ sym (append_assoc so_far.front (take count rest) (drop count rest))
+      ∙ ap (λ ws. (so_far.front ++ take count rest) ++ ws)
+      (sym (take_all (length rest - count) (drop count rest) (omega (arith, length-drop count rest))));
   taken = takes_then so_far.taken (record { taken = more; quiet = same });
 }
 
 -- ---- a loop that writes each of the elements
 
-pub each_more : {X : Type 0} (f : X → List ℕ) (xs : List X) (i : ℕ) (d : X) {old mid new : Option (List ℕ)} {m k n : ℕ} → i < length xs → TakesAll old (flat_map f (take i xs)) mid m k → TakesAll mid (f (get_or xs i d)) new k n → TakesAll old (flat_map f (take (i + 1) xs)) new m n
-each_more {X} f xs i d {old} {mid} {new} {m} {k} {n} lt v w =
-    let one : flat_map f (take (i + 1) xs) ≡ flat_map f (take i xs) ++ f (get_or xs i d) = rw (take_more xs i d lt, flat_map-append) (ap (λ (ys : List ℕ). flat_map f (take i xs) ++ ys) (append-nil (f (get_or xs i d)))) in
-    rw one (takes_then v w)
-
-pub each_fails : {X : Type 0} (f : X → List ℕ) (xs : List X) (i : ℕ) (d : X) {old mid new : Option (List ℕ)} {m k n : ℕ} → i < length xs → TakesAll old (flat_map f (take i xs)) mid m k → TakesBeginning mid (f (get_or xs i d)) new k n → TakesBeginning old (flat_map f xs) new m n
+pub each_fails : {X : Type 0} (f : X → List ℕ) (xs : List X) (i : ℕ) (d : X) {old mid new : Option (List ℕ)}
+    {m k n : ℕ} → i < length xs → TakesAll old (flat_map f (take i xs)) mid m k
+    → TakesBeginning mid (f (get_or xs i d)) new k n → TakesBeginning old (flat_map f xs) new m n
 each_fails {X} f xs i d {old} {mid} {new} {m} {k} {n} lt v w =
-    let whole : flat_map f xs ≡ flat_map f (take i xs) ++ (f (get_or xs i d) ++ flat_map f (drop (i + 1) xs)) = ap (flat_map f) (sym (take-append-drop i xs)) ∙ flat_map-append f (take i xs) (drop i xs) ∙ ap (λ (ys : List X). flat_map f (take i xs) ++ flat_map f ys) (drop_more xs i d lt) in
+    let whole : flat_map f xs ≡ flat_map f (take i xs)
+    ++ (f (get_or xs i d) ++ flat_map f (drop (i + 1) xs)) = ap (flat_map f) (sym (take-append-drop i xs))
+    ∙ flat_map-append f (take i xs) (drop i xs)
+    ∙ ap (λ (ys : List X). flat_map f (take i xs) ++ flat_map f ys) (drop_more xs i d lt) in
     rw whole (fails_then v (fails_first (flat_map f (drop (i + 1) xs)) w))
-
-pub each_ends : {X : Type 0} (f : X → List ℕ) (xs : List X) (i : ℕ) {old mid : Option (List ℕ)} {m k : ℕ} → length xs ≤ i → TakesAll old (flat_map f (take i xs)) mid m k → TakesAll old (flat_map f xs) mid m k
-each_ends {X} f xs i {old} {mid} {m} {k} le v = rw take_all at v

@@ -1,42 +1,85 @@
 -- The 41 instruction codes of the seccomp subset (Linux uapi filter.h and bpf_common.h), and what each asks for.
-use Rattle.std.specs.Prelude.{ℕ, ◌==◌, List, [], ◌∷◌, Option}
+use Rattle.std.specs.Prelude.{ℕ, ◌+◌, ◌==◌, List, [], ◌∷◌, map, Option}
 use Rattle.std.specs.Map.{lookup}
 use Rattle.scf_insn.specs.declared.operation.Register.TheVariants.{A, X}
+use Rattle.scf_insn.specs.declared.operation.Operand.{Operand}
 use Rattle.scf_insn.specs.declared.operation.Operand.TheVariants.{Constant, Index}
+use Rattle.scf_insn.specs.declared.operation.Arithmetic.{Arithmetic}
 use Rattle.scf_insn.specs.declared.operation.Arithmetic.TheVariants.{Add, Sub, Mul, Div, Or, And, Lsh, Rsh, Xor}
+use Rattle.scf_insn.specs.declared.operation.Test.{Test}
 use Rattle.scf_insn.specs.declared.operation.Test.TheVariants.{Equal, Greater, GreaterOrEqual, CommonBit}
 use Rattle.scf_insn.specs.declared.operation.Operation.{Operation}
-use Rattle.scf_insn.specs.declared.operation.Operation.TheVariants.{LoadWord, LoadLength, LoadConstant, LoadScratch, StoreScratch, Compute, Negate, Jump, JumpIf, ReturnConstant, ReturnAccumulator, CopyToIndex, CopyToAccumulator}
+use Rattle.scf_insn.specs.declared.operation.Operation.TheVariants.{LoadWord, LoadLength, LoadConstant, LoadScratch}
+use Rattle.scf_insn.specs.declared.operation.Operation.TheVariants.{StoreScratch, Compute, Negate, Jump, JumpIf}
+use Rattle.scf_insn.specs.declared.operation.Operation.TheVariants.{ReturnConstant, ReturnAccumulator}
+use Rattle.scf_insn.specs.declared.operation.Operation.TheVariants.{CopyToIndex, CopyToAccumulator}
+
+-- the second operand: BPF_K, BPF_X
+abbrev pub operand_bits : Operand → ℕ
+operand_bits Constant = 0x00
+operand_bits Index = 0x08
+
+-- the computation: BPF_ADD, BPF_SUB ..
+abbrev pub arithmetic_bits : Arithmetic → ℕ
+arithmetic_bits Add = 0x00
+arithmetic_bits Sub = 0x10
+arithmetic_bits Mul = 0x20
+arithmetic_bits Div = 0x30
+arithmetic_bits Or = 0x40
+arithmetic_bits And = 0x50
+arithmetic_bits Lsh = 0x60
+arithmetic_bits Rsh = 0x70
+arithmetic_bits Xor = 0xa0
+
+-- the test: BPF_JEQ, BPF_JGT, BPF_JGE, BPF_JSET
+abbrev pub test_bits : Test → ℕ
+test_bits Equal = 0x10
+test_bits Greater = 0x20
+test_bits GreaterOrEqual = 0x30
+test_bits CommonBit = 0x40
+
+-- the code of an operation
+abbrev pub code_of : Operation → ℕ
+code_of LoadWord = 0x20
+code_of (LoadLength A) = 0x80
+code_of (LoadLength X) = 0x81
+code_of (LoadConstant A) = 0x00
+code_of (LoadConstant X) = 0x01
+code_of (LoadScratch A) = 0x60
+code_of (LoadScratch X) = 0x61
+code_of (StoreScratch A) = 0x02
+code_of (StoreScratch X) = 0x03
+code_of (Compute arithmetic operand) = 0x04 + arithmetic_bits arithmetic + operand_bits operand
+code_of Negate = 0x84
+code_of Jump = 0x05
+code_of (JumpIf test operand) = 0x05 + test_bits test + operand_bits operand
+code_of ReturnConstant = 0x06
+code_of ReturnAccumulator = 0x16
+code_of CopyToIndex = 0x07
+code_of CopyToAccumulator = 0x87
+
+-- the operations, by class: loads, stores, computations, jumps, returns and copies
+abbrev pub operations : List Operation
+operations =
+    LoadWord ∷ LoadLength A ∷ LoadLength X ∷ LoadConstant A ∷ LoadConstant X ∷ LoadScratch A ∷ LoadScratch X
+    ∷ StoreScratch A ∷ StoreScratch X
+    ∷ Compute Add Constant ∷ Compute Add Index ∷ Compute Sub Constant ∷ Compute Sub Index
+    ∷ Compute Mul Constant ∷ Compute Mul Index ∷ Compute Div Constant ∷ Compute Div Index
+    ∷ Compute Or Constant ∷ Compute Or Index ∷ Compute And Constant ∷ Compute And Index
+    ∷ Compute Lsh Constant ∷ Compute Lsh Index ∷ Compute Rsh Constant ∷ Compute Rsh Index
+    ∷ Compute Xor Constant ∷ Compute Xor Index ∷ Negate
+    ∷ Jump
+    ∷ JumpIf Equal Constant ∷ JumpIf Equal Index ∷ JumpIf Greater Constant ∷ JumpIf Greater Index
+    ∷ JumpIf GreaterOrEqual Constant ∷ JumpIf GreaterOrEqual Index ∷ JumpIf CommonBit Constant ∷ JumpIf CommonBit Index
+    ∷ ReturnConstant ∷ ReturnAccumulator ∷ CopyToIndex ∷ CopyToAccumulator
+    ∷ []
 
 abbrev pub Row : Type 0
 Row = ℕ × Operation
 
--- each code with its operation, by class: loads, stores, computations, jumps, returns and copies
+-- each code with its operation
 unfoldable pub code_table : List Row
-code_table =
-    (0x20, LoadWord)
-    ∷ (0x80, LoadLength A) ∷ (0x81, LoadLength X)
-    ∷ (0x00, LoadConstant A) ∷ (0x01, LoadConstant X)
-    ∷ (0x60, LoadScratch A) ∷ (0x61, LoadScratch X)
-    ∷ (0x02, StoreScratch A) ∷ (0x03, StoreScratch X)
-    ∷ (0x04, Compute Add Constant) ∷ (0x0c, Compute Add Index)
-    ∷ (0x14, Compute Sub Constant) ∷ (0x1c, Compute Sub Index)
-    ∷ (0x24, Compute Mul Constant) ∷ (0x2c, Compute Mul Index)
-    ∷ (0x34, Compute Div Constant) ∷ (0x3c, Compute Div Index)
-    ∷ (0x44, Compute Or Constant) ∷ (0x4c, Compute Or Index)
-    ∷ (0x54, Compute And Constant) ∷ (0x5c, Compute And Index)
-    ∷ (0x64, Compute Lsh Constant) ∷ (0x6c, Compute Lsh Index)
-    ∷ (0x74, Compute Rsh Constant) ∷ (0x7c, Compute Rsh Index)
-    ∷ (0xa4, Compute Xor Constant) ∷ (0xac, Compute Xor Index)
-    ∷ (0x84, Negate)
-    ∷ (0x05, Jump)
-    ∷ (0x15, JumpIf Equal Constant) ∷ (0x1d, JumpIf Equal Index)
-    ∷ (0x25, JumpIf Greater Constant) ∷ (0x2d, JumpIf Greater Index)
-    ∷ (0x35, JumpIf GreaterOrEqual Constant) ∷ (0x3d, JumpIf GreaterOrEqual Index)
-    ∷ (0x45, JumpIf CommonBit Constant) ∷ (0x4d, JumpIf CommonBit Index)
-    ∷ (0x06, ReturnConstant) ∷ (0x16, ReturnAccumulator)
-    ∷ (0x07, CopyToIndex) ∷ (0x87, CopyToAccumulator)
-    ∷ []
+code_table = map (λ operation. (code_of operation, operation)) operations
 
 -- the operation of a code, None where it isn't one of the 41
 unfoldable pub operation_of : ℕ → Option Operation

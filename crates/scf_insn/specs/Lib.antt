@@ -1,9 +1,13 @@
 pub mod Answers
 pub mod Codes
 pub mod Counted
+pub mod Faults
 pub mod Insn
+pub mod Kernel
+pub mod Masks
 pub mod Numbers
 pub mod Readings
 pub mod SimpleMask
 pub mod Streams
 pub mod Words
+pub mod internal

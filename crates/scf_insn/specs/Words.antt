@@ -50,5 +50,6 @@ call_of words = record {
   nr = slice_index words 0;
   arch = slice_index words 1;
   ip = number_at words 2;
-  args = number_at words 4 ∷ number_at words 6 ∷ number_at words 8 ∷ number_at words 10 ∷ number_at words 12 ∷ number_at words 14 ∷ [];
+  args = number_at words 4 ∷ number_at words 6 ∷ number_at words 8 ∷ number_at words 10
+      ∷ number_at words 12 ∷ number_at words 14 ∷ [];
 }

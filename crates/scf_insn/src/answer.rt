@@ -3,6 +3,25 @@
 ghost use Rattle.std.specs.Prelude.{◌≡◌};
 ghost use Rattle.scf_insn.specs.Answers.{action_half, data_half, rank_of, action_of, half_of, answer_of};
 
+use crate::kernel;
+
+/// The high halves of the answers that have a name.
+const KILL_PROCESS: u16 = (kernel::SECCOMP_RET_KILL_PROCESS >> 16) as u16;
+
+const KILL_THREAD: u16 = (kernel::SECCOMP_RET_KILL_THREAD >> 16) as u16;
+
+const TRAP: u16 = (kernel::SECCOMP_RET_TRAP >> 16) as u16;
+
+const ERRNO: u16 = (kernel::SECCOMP_RET_ERRNO >> 16) as u16;
+
+const USER_NOTIF: u16 = (kernel::SECCOMP_RET_USER_NOTIF >> 16) as u16;
+
+const TRACE: u16 = (kernel::SECCOMP_RET_TRACE >> 16) as u16;
+
+const LOG: u16 = (kernel::SECCOMP_RET_LOG >> 16) as u16;
+
+const ALLOW: u16 = (kernel::SECCOMP_RET_ALLOW >> 16) as u16;
+
 /// The whole 32 bits of an answer: the action in the high half, its data in the low one.
 #[derive(Clone, Copy, Debug, PartialEq, Eq)]
 pub struct Answer(pub u32);
@@ -28,14 +47,14 @@ impl Action {
         ensures { result ≡ half_of self }
     {
         match self {
-            Action::KillProcess => 0x8000,
-            Action::KillThread => 0x0000,
-            Action::Trap => 0x0003,
-            Action::Errno => 0x0005,
-            Action::UserNotif => 0x7fc0,
-            Action::Trace => 0x7ff0,
-            Action::Log => 0x7ffc,
-            Action::Allow => 0x7fff,
+            Action::KillProcess => KILL_PROCESS,
+            Action::KillThread => KILL_THREAD,
+            Action::Trap => TRAP,
+            Action::Errno => ERRNO,
+            Action::UserNotif => USER_NOTIF,
+            Action::Trace => TRACE,
+            Action::Log => LOG,
+            Action::Allow => ALLOW,
             Action::Other(half) => half,
         }
     }
@@ -60,14 +79,14 @@ impl Answer {
         ensures { result ≡ action_of (action_half self.now.0) }
     {
         match self.high_half() {
-            0x8000 => Action::KillProcess,
-            0x0000 => Action::KillThread,
-            0x0003 => Action::Trap,
-            0x0005 => Action::Errno,
-            0x7fc0 => Action::UserNotif,
-            0x7ff0 => Action::Trace,
-            0x7ffc => Action::Log,
-            0x7fff => Action::Allow,
+            KILL_PROCESS => Action::KillProcess,
+            KILL_THREAD => Action::KillThread,
+            TRAP => Action::Trap,
+            ERRNO => Action::Errno,
+            USER_NOTIF => Action::UserNotif,
+            TRACE => Action::Trace,
+            LOG => Action::Log,
+            ALLOW => Action::Allow,
             other => Action::Other(other),
         }
     }

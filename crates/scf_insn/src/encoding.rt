@@ -1,14 +1,17 @@
 //! Instructions in a file (Linux uapi filter.h): 8 bytes each, one after another.
 
-ghost use Rattle.std.specs.Prelude.{◌≡◌, ◌≢◌, ◌%◌, Err, length, IfOk, OnOk, IfSome};
+ghost use Rattle.std.specs.Prelude.{◌≡◌, ◌≢◌, ◌+◌, ◌%◌, [], Err, length, IfOk, OnOk, OnErr, IfSome};
 ghost use Rattle.std.specs.Io.KnownBytes.{IsAtEnd};
-ghost use Rattle.scf_insn.specs.Insn.{program_bytes};
-ghost use Rattle.scf_insn.specs.Streams.{HasFailed, Writes};
-ghost use Rattle.scf_insn.specs.Readings.{IsReading};
+ghost use Rattle.std.specs.List.{AllByRecursion};
+ghost use Rattle.scf_insn.specs.Insn.{IsInsn, program_bytes};
+ghost use Rattle.scf_insn.specs.Kernel.{max_filter_len, sock_filter_len};
+ghost use Rattle.scf_insn.specs.Streams.{GivesAtMost, GivesSome, HasFailed, Writes};
+ghost use Rattle.scf_insn.specs.Readings.{IsReading, read_len};
 
 use crate::input::{InputFault, read_input};
 use crate::insn::Insn;
-use crate::stream::{Sink, Source};
+use crate::kernel::{MAX_FILTER_LEN, SOCK_FILTER_LEN};
+use crate::stream::{Sink, Source, WriteFault, write_whole};
 use std::alloc::{AllocError, Global};
 use thiserror::Error;
 
@@ -51,25 +54,19 @@ impl From<InputFault> for ReadFault {
     }
 }
 
-/// Why instructions were not written.
-#[derive(Clone, Copy, Debug, PartialEq, Eq, Error)]
-pub enum WriteFault {
-    #[error("the output can't be written")]
-    Write,
-}
-
-/// The most bytes that a file of instructions has: those of 4096 instructions.
-const MAX_FILE_LEN: usize = 32768;
-
 /// The instructions whose bytes these are.
 fn decode(alloc: Global, bytes: &[u8]) -> Result<Vec<Insn>, AllocError>
-    requires { length bytes.now % 8 ≡ 0 }
-    ensures { IfOk result (λ v. bytes.now ≡ program_bytes v.items) }
+    requires { length bytes.now % sock_filter_len ≡ 0 }
+    ensures bytes { IfOk result (λ v. bytes.now ≡ program_bytes v.items) }
+    ensures widths { IfOk result (λ v. AllByRecursion IsInsn v.items) }
+    ensures wanted { OnErr result (bytes.now ≢ []) }
 {
     let mut insns = Vec::new(alloc);
     let mut rest = bytes;
     while let [b0, b1, b2, b3, b4, b5, b6, b7, after @ ..] = rest {
-        insns.push(Insn::from_bytes([*b0, *b1, *b2, *b3, *b4, *b5, *b6, *b7]))?;
+        let insn = Insn::from_bytes([*b0, *b1, *b2, *b3, *b4, *b5, *b6, *b7]);
+        insn.within_widths();
+        insns.push(insn)?;
         rest = after;
     }
     Ok(insns)
@@ -80,33 +77,29 @@ fn decode(alloc: Global, bytes: &[u8]) -> Result<Vec<Insn>, AllocError>
 /// `Truncated` has the place of the first byte of an instruction that is cut. Where the source fails or memory is
 /// refused before the end, that is answered.
 pub fn read_program<S: Source>(alloc: Global, source: &mut S) -> Result<Vec<Insn>, ReadFault>
+    // The fields of each instruction are within their widths.
+    ensures widths { IfOk result (λ insns. AllByRecursion IsInsn insns.items) }
     ensures reading { IfSome (S.remaining source.old) (λ bytes. IsReading (λ v. v.items) bytes result) }
     // The source came to its end.
     ensures whole { OnOk result (IsAtEnd (S.remaining source.new)) }
+    // A refusal in place of the instructions comes where it came first.
+    ensures early { result ≢ Err ReadFault.TooLong
+        → GivesAtMost max_filter_len (S.remaining source.old) (S.remaining source.new) }
+    // Once a byte past the limit came, no more is asked for.
+    ensures past { result ≡ Err ReadFault.TooLong
+        → GivesAtMost (max_filter_len + read_len) (S.remaining source.old) (S.remaining source.new) }
+    // Memory is wanted only for bytes that came.
+    ensures wanted { result ≡ Err ReadFault.Memory → GivesSome (S.remaining source.old) (S.remaining source.new) }
     ensures no_failure { result ≢ Err ReadFault.Read → S.failures source.new ≡ S.failures source.old }
     ensures failure { result ≡ Err ReadFault.Read → HasFailed (S.failures source.old) (S.failures source.new) }
 {
-    let bytes = read_input(alloc, source, MAX_FILE_LEN)?;
-    let cut = bytes.len() % 8;
+    let bytes = read_input(alloc, source, MAX_FILTER_LEN)?;
+    let cut = bytes.len() % SOCK_FILTER_LEN;
     if cut != 0 {
         let offset = bytes.len() - cut;
         return Err(ReadFault::Truncated { offset });
     }
     Ok(decode(alloc, &bytes)?)
-}
-
-/// Writes all bytes, or fails after a beginning of them.
-pub fn write_whole<S: Sink>(sink: &mut S, bytes: &[u8]) -> Result<(), WriteFault>
-    ensures { Writes S.contents S.failures sink.old bytes.now result sink.new }
-{
-    let mut rest = bytes;
-    while !rest.is_empty() {
-        match sink.write(rest) {
-            Ok(count) => rest = &rest[count..],
-            Err(_) => return Err(WriteFault::Write),
-        }
-    }
-    Ok(())
 }
 
 /// Writes the bytes of instructions, or fails after a beginning of them.

@@ -1,9 +1,9 @@
 //! Whole inputs, up to a limit.
 
-ghost use Rattle.std.specs.Prelude.{◌≡◌, ◌≢◌, Err, OnOk, IfSome};
+ghost use Rattle.std.specs.Prelude.{◌≡◌, ◌≢◌, ◌+◌, Err, OnOk, IfSome};
 ghost use Rattle.std.specs.Io.KnownBytes.{IsAtEnd};
-ghost use Rattle.scf_insn.specs.Streams.{HasFailed};
-ghost use Rattle.scf_insn.specs.Readings.{IsInput};
+ghost use Rattle.scf_insn.specs.Streams.{GivesAtMost, GivesSome, HasFailed};
+ghost use Rattle.scf_insn.specs.Readings.{IsInput, read_len};
 
 use crate::stream::{Failed, Source};
 use std::alloc::{AllocError, Global};
@@ -56,6 +56,14 @@ pub fn read_input<S: Source>(
     ensures input { IfSome (S.remaining source.old) (λ bytes. IsInput (λ v. v.items) limit bytes result) }
     // The source came to its end.
     ensures whole { OnOk result (IsAtEnd (S.remaining source.new)) }
+    // A refusal in place of the bytes comes where it came first.
+    ensures early { result ≢ Err InputFault.TooLong
+        → GivesAtMost limit (S.remaining source.old) (S.remaining source.new) }
+    // Once a byte past the limit came, no more is asked for.
+    ensures past { result ≡ Err InputFault.TooLong
+        → GivesAtMost (limit + read_len) (S.remaining source.old) (S.remaining source.new) }
+    // Memory is wanted only for bytes that came.
+    ensures wanted { result ≡ Err InputFault.Memory → GivesSome (S.remaining source.old) (S.remaining source.new) }
     ensures no_failure { result ≢ Err InputFault.Read → S.failures source.new ≡ S.failures source.old }
     ensures failure { result ≡ Err InputFault.Read → HasFailed (S.failures source.old) (S.failures source.new) }
 {

@@ -1,16 +1,57 @@
-//! Laws of instructions and their bytes. The function does nothing: what it ensures are the laws.
+//! Laws of codes, instructions and their bytes. The functions do nothing: what they ensure are the laws.
 
-ghost use Rattle.std.specs.Prelude.{◌≡◌, ◌*◌, ◌<◌, ℕ, List, length};
+ghost use Rattle.std.specs.Prelude.{◌≡◌, ◌*◌, ◌<◌, ℕ, List, Some, length};
 ghost use Rattle.std.specs.List.{AllByRecursion};
 ghost use Rattle.scf_insn.specs.declared.insn.Insn.{Insn};
+ghost use Rattle.scf_insn.specs.declared.operation.Operation.{Operation};
+ghost use Rattle.scf_insn.specs.Codes.{code_of, operation_of};
 ghost use Rattle.scf_insn.specs.Insn.{IsInsn, program_bytes};
+ghost use Rattle.scf_insn.specs.Kernel.{audit_arch_x86_64, x32_syscall_bit, bpf_maxinsns, bpf_memwords};
+ghost use Rattle.scf_insn.specs.Kernel.{sock_filter_len, seccomp_data_len, max_insns_per_path, max_filter_len};
+ghost use Rattle.scf_insn.specs.Kernel.{seccomp_ret_kill_process, seccomp_ret_kill_thread, seccomp_ret_trap};
+ghost use Rattle.scf_insn.specs.Kernel.{seccomp_ret_errno, seccomp_ret_user_notif, seccomp_ret_trace};
+ghost use Rattle.scf_insn.specs.Kernel.{seccomp_ret_log, seccomp_ret_allow};
 
-/// A list has 8 bytes for each instruction, two lists within their widths never have the same bytes, and bytes whose
-/// count is a multiple of 8 are those of some list.
+use crate::kernel::{
+    AUDIT_ARCH_X86_64, BPF_MAXINSNS, BPF_MEMWORDS, MAX_FILTER_LEN, MAX_INSNS_PER_PATH,
+    SECCOMP_DATA_LEN, SECCOMP_RET_ALLOW, SECCOMP_RET_ERRNO, SECCOMP_RET_KILL_PROCESS,
+    SECCOMP_RET_KILL_THREAD, SECCOMP_RET_LOG, SECCOMP_RET_TRACE, SECCOMP_RET_TRAP,
+    SECCOMP_RET_USER_NOTIF, SOCK_FILTER_LEN, X32_SYSCALL_BIT,
+};
+
+/// Bytes and lists of instructions are a bijection at multiples of 8: a list has 8 bytes for each instruction, two
+/// lists within their widths never have the same bytes, and bytes whose count is a multiple of 8 are those of a list
+/// within its widths.
 pub fn one_encoding()
     ensures length { (insns : List Insn) → length (program_bytes insns) ≡ 8 * length insns }
     ensures one { (insns others : List Insn) → AllByRecursion IsInsn insns → AllByRecursion IsInsn others
         → program_bytes insns ≡ program_bytes others → insns ≡ others }
     ensures some { (n : ℕ) (bytes : List ℕ) → length bytes ≡ 8 * n → AllByRecursion (λ byte. byte < 256) bytes
-        → (insns : List Insn) × (program_bytes insns ≡ bytes) }
+        → (insns : List Insn) × AllByRecursion IsInsn insns × (program_bytes insns ≡ bytes) }
+{}
+
+/// A code and its operation are one pair: the code of each operation asks for that operation, and no other code does.
+pub fn one_code()
+    ensures operation { (operation : Operation) → operation_of (code_of operation) ≡ Some operation }
+    ensures code { (code : ℕ) (operation : Operation) → operation_of code ≡ Some operation → code_of operation ≡ code }
+{}
+
+/// The constants of the kernel that a filter is about are those of its headers.
+pub fn kernel_constants()
+    ensures arch { AUDIT_ARCH_X86_64 ≡ audit_arch_x86_64 }
+    ensures x32 { X32_SYSCALL_BIT ≡ x32_syscall_bit }
+    ensures kill_process { SECCOMP_RET_KILL_PROCESS ≡ seccomp_ret_kill_process }
+    ensures kill_thread { SECCOMP_RET_KILL_THREAD ≡ seccomp_ret_kill_thread }
+    ensures trap { SECCOMP_RET_TRAP ≡ seccomp_ret_trap }
+    ensures errno { SECCOMP_RET_ERRNO ≡ seccomp_ret_errno }
+    ensures user_notif { SECCOMP_RET_USER_NOTIF ≡ seccomp_ret_user_notif }
+    ensures trace { SECCOMP_RET_TRACE ≡ seccomp_ret_trace }
+    ensures log { SECCOMP_RET_LOG ≡ seccomp_ret_log }
+    ensures allow { SECCOMP_RET_ALLOW ≡ seccomp_ret_allow }
+    ensures insns { BPF_MAXINSNS ≡ bpf_maxinsns }
+    ensures scratch { BPF_MEMWORDS ≡ bpf_memwords }
+    ensures insn { SOCK_FILTER_LEN ≡ sock_filter_len }
+    ensures call { SECCOMP_DATA_LEN ≡ seccomp_data_len }
+    ensures stack { MAX_INSNS_PER_PATH ≡ max_insns_per_path }
+    ensures file { MAX_FILTER_LEN ≡ max_filter_len }
 {}

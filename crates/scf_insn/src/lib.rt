@@ -1,10 +1,14 @@
-//! What every part of scf speaks of: instructions, call records and answers, and the readers and writers of their bytes.
+//! What every part of scf speaks of: instructions, call records and answers, the kernel's constants, and readers and
+//! writers.
 #![tactic(auto)]
 
 mod answer;
+mod digits;
 mod encoding;
+pub mod faults;
 mod input;
 mod insn;
+pub mod kernel;
 mod laws;
 mod mask;
 mod memory;
@@ -14,13 +18,14 @@ mod record;
 mod stream;
 
 pub use answer::{Action, Answer};
-pub use encoding::{ReadFault, WriteFault, read_program, write_program, write_whole};
+pub use digits::{digit_byte, write_numeral};
+pub use encoding::{ReadFault, read_program, write_program};
 pub use input::{InputFault, read_input};
 pub use insn::Insn;
-pub use laws::one_encoding;
-pub use mask::is_simple_mask;
+pub use laws::{kernel_constants, one_code, one_encoding};
+pub use mask::{MaskKind, is_simple_mask, mask_kind};
 pub use memory::Memory;
-pub use number::{NumberError, parse_number, parse_numeral};
+pub use number::{NumeralFault, parse_number, parse_numeral};
 pub use operation::{Arithmetic, Operand, Operation, Register, Test};
 pub use record::{CallRecord, high_half, low_half};
-pub use stream::{Counted, Failed, Sink, Source};
+pub use stream::{Counted, Failed, Sink, Source, WriteFault, write_whole};

@@ -1,13 +1,14 @@
 //! Numbers in texts.
 
 ghost use Rattle.std.specs.Prelude.{◌+◌, ◌*◌, ◌≤◌, ℕ};
-ghost use Rattle.scf_insn.specs.Numbers.{numeral, number_of, ReadsNumber, IsWithinRange};
+ghost use Rattle.scf_insn.specs.Numbers.{numeral, number_of, ReadsNumber};
+ghost use Rattle.scf_insn.specs.internal.Numbers.{IsWithinRange};
 
 use thiserror::Error;
 
 /// Why a text was not read as a number.
 #[derive(Clone, Copy, Debug, PartialEq, Eq, Error)]
-pub enum NumberError {
+pub enum NumeralFault {
     #[error("not a number")]
     Malformed,
     #[error("a number past 2^64-1")]
@@ -25,27 +26,27 @@ fn with_digit(value: Option<u64>, radix: u32, digit: u32) -> Option<u64>
 }
 
 /// The number that digits of a radix write, the most significant first. Leading zeros are allowed, and any length.
-pub fn parse_numeral(digits: &[u8], radix: u32) -> Result<u64, NumberError>
+pub fn parse_numeral(digits: &[u8], radix: u32) -> Result<u64, NumeralFault>
     requires low { 2 ≤ radix }
     requires high { radix ≤ 36 }
     ensures { ReadsNumber (numeral radix digits.now) result }
 {
     if digits.is_empty() {
-        return Err(NumberError::Malformed);
+        return Err(NumeralFault::Malformed);
     }
     let mut value = Some(0u64);
     for byte in digits {
         let Some(digit) = char::from(*byte).to_digit(radix) else {
-            return Err(NumberError::Malformed);
+            return Err(NumeralFault::Malformed);
         };
         value = with_digit(value, radix, digit);
     }
-    value.ok_or(NumberError::TooLarge)
+    value.ok_or(NumeralFault::TooLarge)
 }
 
 /// The number that a text is: decimal digits, or `0x` or `0X` and hexadecimal digits.
 #[tactic(auto, unfolding(crate::specs::Numbers::number_of))]
-pub fn parse_number(text: &[u8]) -> Result<u64, NumberError>
+pub fn parse_number(text: &[u8]) -> Result<u64, NumeralFault>
     ensures { ReadsNumber (number_of text.now) result }
 {
     match text {

@@ -4,6 +4,8 @@ ghost use Rattle.std.specs.Prelude.{◌≡◌, ◌+◌, ◌<◌, ◌≤◌, ◌*
 ghost use Rattle.std.specs.Int.{w32, to_le_bytes};
 ghost use Rattle.scf_insn.specs.Words.{low, high, words_of, record_bytes, call_of, IsRecord};
 
+use crate::kernel::SECCOMP_DATA_LEN;
+
 /// What a filter sees of a call: its number, the architecture, the instruction pointer and six arguments.
 #[derive(Clone, Copy, Debug, PartialEq, Eq)]
 pub struct CallRecord {
@@ -60,6 +62,10 @@ fn known_arguments(args: &[u64])
     ensures { (i : ℕ) → slice_index args.now i < 2 ^ 64 }
 {}
 
+fn known_words(words: &[u32])
+    ensures { (i : ℕ) → slice_index words.now i < 2 ^ 32 }
+{}
+
 impl CallRecord {
     /// Each field is within its width: a law for proofs, which does nothing.
     pub fn within_widths(&self)
@@ -69,31 +75,48 @@ impl CallRecord {
         known_arguments(&self.args);
     }
 
-    /// The word at byte 4 `i`: of a 64-bit number first the low half, then the high one.
+    /// Its sixteen words: of a 64-bit number first the low half, then the high one.
+    ///
+    /// It may be inlined, so that a run doesn't begin with a call.
+    #[inline]
+    pub fn words(&self) -> [u32; 16]
+        ensures { result ≡ words_of self.now }
+    {
+        let [first, second, third, fourth, fifth, sixth] = self.args;
+        [
+            self.nr,
+            self.arch,
+            low_half(self.ip),
+            high_half(self.ip),
+            low_half(first),
+            high_half(first),
+            low_half(second),
+            high_half(second),
+            low_half(third),
+            high_half(third),
+            low_half(fourth),
+            high_half(fourth),
+            low_half(fifth),
+            high_half(fifth),
+            low_half(sixth),
+            high_half(sixth),
+        ]
+    }
+
+    /// The word at byte 4 `i`.
     pub fn word(&self, i: u8) -> u32
         requires { i < 16 }
         ensures { result ≡ slice_index (words_of self.now) i }
     {
-        match i {
-            0 => self.nr,
-            1 => self.arch,
-            2 => low_half(self.ip),
-            3 => high_half(self.ip),
-            _ => {
-                let arg = self.args[(i as usize - 4) / 2];
-                if i % 2 == 0 {
-                    low_half(arg)
-                } else {
-                    high_half(arg)
-                }
-            }
-        }
+        self.words()[i as usize]
     }
 
     /// The record that has these words.
     pub fn from_words(words: &[u32; 16]) -> CallRecord
-        ensures { result ≡ call_of words.now }
+        ensures call { result ≡ call_of words.now }
+        ensures words { words_of result ≡ words.now }
     {
+        known_words(words);
         CallRecord {
             nr: words[0],
             arch: words[1],
@@ -113,11 +136,10 @@ impl CallRecord {
     pub fn to_bytes(&self) -> [u8; 64]
         ensures { result ≡ record_bytes self.now }
     {
-        let _args = self.args;
-        let mut bytes = [0; 64];
-        for i in 0..16u8 {
-            let at = 4 * i as usize;
-            bytes[at..at + 4].copy_from_slice(&self.word(i).to_le_bytes());
+        let words = self.words();
+        let mut bytes = [0; SECCOMP_DATA_LEN];
+        for (i, word) in words.iter().enumerate() {
+            bytes[4 * i..4 * i + 4].copy_from_slice(&word.to_le_bytes());
         }
         bytes
     }

@@ -2,7 +2,7 @@
 
 ghost use Rattle.std.specs.Prelude.{◌≡◌, ◌<◌, ◌≤◌, ℕ, List, Option, None, length, IfOk, OnOk, OnErr};
 ghost use Rattle.std.specs.Io.KnownBytes.{ReadConsumes, WriteAppends};
-ghost use Rattle.scf_insn.specs.Streams.{count_after};
+ghost use Rattle.scf_insn.specs.Streams.{count_after, Writes};
 
 use std::io::{Read, Write};
 use thiserror::Error;
@@ -44,6 +44,27 @@ pub trait Sink {
         ensures bytes { WriteAppends (contents self.old) (contents self.new) result bytes.now }
         ensures ok { OnOk result (failures self.new ≡ failures self.old) }
         ensures err { OnErr result (failures self.new ≡ count_after (failures self.old)) };
+}
+
+/// Why bytes were not written.
+#[derive(Clone, Copy, Debug, PartialEq, Eq, Error)]
+pub enum WriteFault {
+    #[error("the output can't be written")]
+    Write,
+}
+
+/// Writes all bytes, or fails after a beginning of them.
+pub fn write_whole<S: Sink>(sink: &mut S, bytes: &[u8]) -> Result<(), WriteFault>
+    ensures { Writes S.contents S.failures sink.old bytes.now result sink.new }
+{
+    let mut rest = bytes;
+    while !rest.is_empty() {
+        match sink.write(rest) {
+            Ok(count) => rest = &rest[count..],
+            Err(_) => return Err(WriteFault::Write),
+        }
+    }
+    Ok(())
 }
 
 /// A reader or a writer of std, with a count of its failures.

@@ -1,0 +1,88 @@
+-- Codes and operations.
+use Rattle.std.proofs.Common.{◌≡◌, ℕ, ◌∙◌, eqb, inl, inr, List, [], ◌∷◌, map, Some, refl, sym, ap}
+use Rattle.std.specs.Map.{lookup}
+use Rattle.std.proofs.lemmas.Bool.{cases_eq, eq-eqb, ne_eqb}
+use Rattle.scf_insn.specs.declared.operation.Register.TheVariants.{A, X}
+use Rattle.scf_insn.specs.declared.operation.Operand.{Operand}
+use Rattle.scf_insn.specs.declared.operation.Operand.TheVariants.{Constant, Index}
+use Rattle.scf_insn.specs.declared.operation.Arithmetic.{Arithmetic}
+use Rattle.scf_insn.specs.declared.operation.Arithmetic.TheVariants.{Add, Sub, Mul, Div, Or, And, Lsh, Rsh, Xor}
+use Rattle.scf_insn.specs.declared.operation.Test.{Test}
+use Rattle.scf_insn.specs.declared.operation.Test.TheVariants.{Equal, Greater, GreaterOrEqual, CommonBit}
+use Rattle.scf_insn.specs.declared.operation.Operation.{Operation}
+use Rattle.scf_insn.specs.declared.operation.Operation.TheVariants.{LoadWord, LoadLength, LoadConstant, LoadScratch}
+use Rattle.scf_insn.specs.declared.operation.Operation.TheVariants.{StoreScratch, Compute, Negate, Jump, JumpIf}
+use Rattle.scf_insn.specs.declared.operation.Operation.TheVariants.{ReturnConstant, ReturnAccumulator, CopyToIndex}
+use Rattle.scf_insn.specs.declared.operation.Operation.TheVariants.{CopyToAccumulator}
+use Rattle.scf_insn.specs.Codes.{code_of, operations, code_table, operation_of}
+
+computes : (arithmetic : Arithmetic) (operand : Operand)
+    → operation_of (code_of (Compute arithmetic operand)) ≡ Some (Compute arithmetic operand)
+unfolding operation_of code_table
+computes Add Constant = refl
+computes Add Index = refl
+computes Sub Constant = refl
+computes Sub Index = refl
+computes Mul Constant = refl
+computes Mul Index = refl
+computes Div Constant = refl
+computes Div Index = refl
+computes Or Constant = refl
+computes Or Index = refl
+computes And Constant = refl
+computes And Index = refl
+computes Lsh Constant = refl
+computes Lsh Index = refl
+computes Rsh Constant = refl
+computes Rsh Index = refl
+computes Xor Constant = refl
+computes Xor Index = refl
+
+jumps : (test : Test) (operand : Operand) → operation_of (code_of (JumpIf test operand)) ≡ Some (JumpIf test operand)
+unfolding operation_of code_table
+jumps Equal Constant = refl
+jumps Equal Index = refl
+jumps Greater Constant = refl
+jumps Greater Index = refl
+jumps GreaterOrEqual Constant = refl
+jumps GreaterOrEqual Index = refl
+jumps CommonBit Constant = refl
+jumps CommonBit Index = refl
+
+-- the code of an operation asks for that operation
+pub asks_for : (operation : Operation) → operation_of (code_of operation) ≡ Some operation
+unfolding operation_of code_table
+asks_for LoadWord = refl
+asks_for (LoadLength A) = refl
+asks_for (LoadLength X) = refl
+asks_for (LoadConstant A) = refl
+asks_for (LoadConstant X) = refl
+asks_for (LoadScratch A) = refl
+asks_for (LoadScratch X) = refl
+asks_for (StoreScratch A) = refl
+asks_for (StoreScratch X) = refl
+asks_for (Compute arithmetic operand) = computes arithmetic operand
+asks_for Negate = refl
+asks_for Jump = refl
+asks_for (JumpIf test operand) = jumps test operand
+asks_for ReturnConstant = refl
+asks_for ReturnAccumulator = refl
+asks_for CopyToIndex = refl
+asks_for CopyToAccumulator = refl
+
+in_rows : (code : ℕ) (operation : Operation) (rows : List Operation)
+    → lookup (λ known. eqb known code) (map (λ o. (code_of o, o)) rows) ≡ Some operation
+    → code_of operation ≡ code
+in_rows code operation [] e = absurd cc
+in_rows code operation (first ∷ rows) e = elim (cases_eq (code_of first) code) [
+  | inl is ↦
+      let same : Some first ≡ Some operation = rw (eq-eqb (code_of first) code is) at e in
+      let one : first ≡ operation = cc in
+      ap code_of (sym one) ∙ is
+  | inr other ↦ in_rows code operation rows (rw (ne_eqb (code_of first) code other) at e)
+]
+
+-- only the code of an operation asks for it
+pub only_code : (code : ℕ) (operation : Operation) → operation_of code ≡ Some operation → code_of operation ≡ code
+unfolding operation_of code_table
+only_code code operation e = in_rows code operation operations e

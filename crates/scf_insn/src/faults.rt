@@ -1,0 +1,225 @@
+//! Readers and writers for tests, which fail where they are told to and count how often they were asked and failed.
+//!
+//! Each is also a reader or a writer of std, for tests of `Counted`: where it is to fail, the reader then answers an
+//! interruption, and the writer takes no byte.
+
+ghost use Rattle.std.specs.Prelude.{◌≡◌, ◌≤◌, []};
+ghost use Rattle.scf_insn.specs.Faults.{failed_reads, asked_reads, written, failed_writes, asked_writes};
+ghost use Rattle.scf_insn.specs.internal.Faults.{room};
+
+use crate::stream::{Failed, Sink, Source};
+use std::alloc::Global;
+use std::io;
+use std::io::{Read, Write};
+
+/// Where a reader or a writer fails.
+#[derive(Clone, Copy, Debug, PartialEq, Eq)]
+pub enum Failing {
+    Never,
+    /// Each time, once so many bytes were read or so many writes were taken.
+    After(usize),
+    /// Once, when so many bytes were read or so many writes were taken. It goes on then.
+    OnceAfter(usize),
+}
+
+impl Failing {
+    /// How many bytes may be read, or writes be taken, before it fails.
+    fn room(self) -> usize
+        ensures { result ≡ room self }
+    {
+        match self {
+            Failing::Never => usize::MAX,
+            Failing::After(left) | Failing::OnceAfter(left) => left,
+        }
+    }
+
+    /// What is left of it once so much was read or taken.
+    fn less(self, count: usize) -> Failing
+        requires { count ≤ room self }
+    {
+        match self {
+            Failing::Never => Failing::Never,
+            Failing::After(left) => Failing::After(left - count),
+            Failing::OnceAfter(left) => Failing::OnceAfter(left - count),
+        }
+    }
+
+    /// What is left of it once it has failed.
+    fn failed(self) -> Failing {
+        match self {
+            Failing::OnceAfter(_) => Failing::Never,
+            other => other,
+        }
+    }
+}
+
+/// A reader of bytes.
+#[derive(Drop)]
+pub struct Reader<'a> {
+    rest: &'a [u8],
+    step: usize,
+    failing: Failing,
+    asks: u64,
+    failures: u64,
+}
+
+impl<'a> Reader<'a> {
+    /// A reader that gives at most `step` bytes at a time (one where that is 0), and fails where it is told to.
+    pub fn new(bytes: &'a [u8], step: usize, failing: Failing) -> Reader<'a>
+        ensures { result ≡ record { rest = bytes.entry; step = step; failing = failing; asks = 0; failures = 0 } }
+    {
+        Reader {
+            rest: bytes,
+            step,
+            failing,
+            asks: 0,
+            failures: 0,
+        }
+    }
+
+    /// How many reads were asked for.
+    pub fn asks(&self) -> u64
+        ensures { result ≡ asked_reads self.now }
+    {
+        self.asks
+    }
+
+    /// How many reads have failed.
+    pub fn failures(&self) -> u64
+        ensures { result ≡ failed_reads self.now }
+    {
+        self.failures
+    }
+}
+
+impl Source for Reader<'_> {
+    ghost use Rattle.std.specs.Prelude.{Some};
+    ghost use Rattle.scf_insn.specs.Faults.{unread, failed_reads};
+
+    ghost remaining = { λ s. Some (unread s) };
+
+    ghost failures = { λ s. failed_reads s };
+
+    fn read(&mut self, buffer: &mut [u8]) -> Result<usize, Failed> {
+        self.asks = self.asks.saturating_add(1);
+        let room = self.failing.room();
+        if room == 0 {
+            self.failing = self.failing.failed();
+            self.failures = self.failures.saturating_add(1);
+            return Err(Failed);
+        }
+        let most = self.step.max(1).min(room).min(buffer.len());
+        let count = self.rest.len().min(most);
+        buffer[..count].copy_from_slice(&self.rest[..count]);
+        self.rest = &self.rest[count..];
+        self.failing = self.failing.less(count);
+        Ok(count)
+    }
+}
+
+impl Read for Reader<'_> {
+    ghost use Rattle.std.specs.Prelude.{Some};
+    ghost use Rattle.scf_insn.specs.Faults.{unread};
+
+    ghost remaining = { λ s. Some (unread s) };
+
+    fn read(&mut self, buffer: &mut [u8]) -> io::Result<usize> {
+        match Source::read(self, buffer) {
+            Ok(count) => Ok(count),
+            Err(Failed) => Err(io::Error::from(io::ErrorKind::Interrupted)),
+        }
+    }
+}
+
+/// A writer that keeps what it takes.
+#[derive(Drop)]
+pub struct Writer {
+    taken: Vec<u8>,
+    step: usize,
+    failing: Failing,
+    asks: u64,
+    failures: u64,
+}
+
+impl Writer {
+    /// A writer that takes at most `step` bytes at a time (one where that is 0), and fails where it is told to and
+    /// where memory is refused.
+    pub fn new(alloc: Global, step: usize, failing: Failing) -> Writer
+        ensures taken { written result ≡ [] }
+        ensures asks { asked_writes result ≡ 0 }
+        ensures failures { failed_writes result ≡ 0 }
+        ensures step { result.step ≡ step }
+        ensures failing { result.failing ≡ failing }
+    {
+        Writer {
+            taken: Vec::new(alloc),
+            step,
+            failing,
+            asks: 0,
+            failures: 0,
+        }
+    }
+
+    /// The bytes that it has taken.
+    pub fn taken(&self) -> &[u8]
+        ensures { result.now ≡ written self.now }
+    {
+        self.taken.as_slice()
+    }
+
+    /// How many writes were asked for.
+    pub fn asks(&self) -> u64
+        ensures { result ≡ asked_writes self.now }
+    {
+        self.asks
+    }
+
+    /// How many writes have failed.
+    pub fn failures(&self) -> u64
+        ensures { result ≡ failed_writes self.now }
+    {
+        self.failures
+    }
+}
+
+impl Sink for Writer {
+    ghost use Rattle.std.specs.Prelude.{Some};
+    ghost use Rattle.scf_insn.specs.Faults.{written, failed_writes};
+
+    ghost contents = { λ s. Some (written s) };
+
+    ghost failures = { λ s. failed_writes s };
+
+    fn write(&mut self, bytes: &[u8]) -> Result<usize, Failed> {
+        self.asks = self.asks.saturating_add(1);
+        let room = self.failing.room();
+        let count = bytes.len().min(self.step.max(1));
+        if room > 0 && self.taken.extend_from_slice(&bytes[..count]).is_ok() {
+            self.failing = self.failing.less(1);
+            return Ok(count);
+        }
+        if room == 0 {
+            self.failing = self.failing.failed();
+        }
+        self.failures = self.failures.saturating_add(1);
+        Err(Failed)
+    }
+}
+
+impl Write for Writer {
+    ghost use Rattle.std.specs.Prelude.{Some};
+    ghost use Rattle.scf_insn.specs.Faults.{written};
+
+    ghost contents = { λ s. Some (written s) };
+
+    fn write(&mut self, bytes: &[u8]) -> io::Result<usize> {
+        match Sink::write(self, bytes) {
+            Ok(count) => Ok(count),
+            Err(Failed) => Ok(0),
+        }
+    }
+
+    fn flush(&mut self) -> io::Result<()> {
+        Ok(())
+    }
+}

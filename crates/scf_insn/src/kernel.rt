@@ -1,0 +1,49 @@
+//! The kernel's constants, under the names of its headers.
+
+/// `AUDIT_ARCH_X86_64` of linux/audit.h: the architecture of a call of x86-64.
+pub const AUDIT_ARCH_X86_64: u32 = 0xc000_003e;
+
+/// `__X32_SYSCALL_BIT` of asm/unistd.h: the first number of an x32 call.
+pub const X32_SYSCALL_BIT: u32 = 0x4000_0000;
+
+/// `SECCOMP_RET_KILL_PROCESS` of linux/seccomp.h: kill the process.
+pub const SECCOMP_RET_KILL_PROCESS: u32 = 0x8000_0000;
+
+/// `SECCOMP_RET_KILL_THREAD` of linux/seccomp.h: kill the thread.
+pub const SECCOMP_RET_KILL_THREAD: u32 = 0x0000_0000;
+
+/// `SECCOMP_RET_TRAP` of linux/seccomp.h: send the thread a `SIGSYS`.
+pub const SECCOMP_RET_TRAP: u32 = 0x0003_0000;
+
+/// `SECCOMP_RET_ERRNO` of linux/seccomp.h: the call returns an error number.
+pub const SECCOMP_RET_ERRNO: u32 = 0x0005_0000;
+
+/// `SECCOMP_RET_USER_NOTIF` of linux/seccomp.h: notify a listener in user space.
+pub const SECCOMP_RET_USER_NOTIF: u32 = 0x7fc0_0000;
+
+/// `SECCOMP_RET_TRACE` of linux/seccomp.h: pass to a tracer.
+pub const SECCOMP_RET_TRACE: u32 = 0x7ff0_0000;
+
+/// `SECCOMP_RET_LOG` of linux/seccomp.h: allow after a line in the log.
+pub const SECCOMP_RET_LOG: u32 = 0x7ffc_0000;
+
+/// `SECCOMP_RET_ALLOW` of linux/seccomp.h: allow.
+pub const SECCOMP_RET_ALLOW: u32 = 0x7fff_0000;
+
+/// `BPF_MAXINSNS` of linux/bpf_common.h: the most instructions of a filter.
+pub const BPF_MAXINSNS: usize = 4096;
+
+/// `BPF_MEMWORDS` of linux/filter.h: the scratch words of a filter.
+pub const BPF_MEMWORDS: usize = 16;
+
+/// `sizeof(struct sock_filter)` of linux/filter.h: the bytes of an instruction.
+pub const SOCK_FILTER_LEN: usize = 8;
+
+/// `sizeof(struct seccomp_data)` of linux/seccomp.h: the bytes of a call record.
+pub const SECCOMP_DATA_LEN: usize = 64;
+
+/// `MAX_INSNS_PER_PATH` of kernel/seccomp.c: the most that the filters of a stack may cost together.
+pub const MAX_INSNS_PER_PATH: usize = 32768;
+
+/// The most bytes of a filter file: those of `BPF_MAXINSNS` instructions.
+pub const MAX_FILTER_LEN: usize = SOCK_FILTER_LEN * BPF_MAXINSNS;
