@@ -1,16 +1,47 @@
--- The answer of a stack, one filter after another.
-use Rattle.std.proofs.Common.{◌≡◌, ℕ, zero, suc, ◌+◌, ◌<◌, ◌≤ℤ◌, ◌<ℤ◌, ℤ, List, [], ◌∷◌, Option, None, Some, refl, ap, sym, subst, ◌∙◌, arith, length, get_or, take, reverse, unwrap_or}
+-- What a stack answers, one filter after another.
+use Rattle.std.proofs.Common.{◌≡◌, ◌↔◌, ℕ, zero, suc, ◌+◌, ◌<◌, ◌≤◌, ◌≤ℤ◌, ◌<ℤ◌, ℤ, pos, inl, inr, Bool, true, false}
+use Rattle.std.proofs.Common.{cond, int_lt, List, [], ◌∷◌, ◌++◌, Some, refl, ap, sym, subst, ◌∙◌, arith, length, get_or}
+use Rattle.std.proofs.Common.{take, reverse, All}
 use Rattle.std.specs.List.{slice_get}
+use Rattle.std.specs.Int.{w16, cast_signed}
+use Rattle.std.proofs.lemmas.Bool.{cases_order}
 use Rattle.std.proofs.lemmas.Int.{ints}
-use Rattle.std.proofs.lemmas.List.{take_more, reverse-append}
+use Rattle.std.proofs.lemmas.List.{take_more, take_all, reverse-append}
 use Rattle.scf_insn.specs.declared.insn.Insn.{Insn}
-use Rattle.scf_insn.specs.declared.answer.Answer.{Answer}
-use Rattle.scf_insn.specs.Answers.{rank_of}
-use Rattle.scf_machine.specs.Machine.{IsRun}
-use Rattle.scf_machine.specs.Precedence.{IsFirstLeast, IsBest, IsDecision, AreAnswers}
+use Rattle.scf_insn.specs.Answers.{action_half, answer_of, rank_of}
+use Rattle.scf_insn.specs.declared.answer.Action.TheVariants.{Allow}
+use Rattle.scf_machine.specs.Machine.{RunAnswers}
+use Rattle.scf_machine.specs.Rules.{IsFilter}
+use Rattle.scf_machine.proofs.Meets.{run_once}
+use Rattle.scf_machine.proofs.Runs.{runs_safely}
+use Rattle.scf_machine.specs.Precedence.{IsFirstLeast, IsDecision, AreAnswers, StackAnswers, with_newest}
 
 some_same : (a b : ℕ) → Some a ≡ Some b → a ≡ b
 some_same a b e = cc
+
+-- ---- one answer decides
+ranks_apart : (a b : ℤ) → a ≤ℤ b → b <ℤ a → ⊥
+ranks_apart a b f g = omega (arith, ints)
+
+first_once : (answers : List ℕ) (m n : ℕ) → IsFirstLeast answers m → IsFirstLeast answers n → m ≡ n
+first_once answers m n a b = elim (cases_order a.position b.position) [
+  | inl e ↦ some_same m n (sym a.here ∙ ap (slice_get answers) e ∙ b.here)
+  | inr others ↦ elim others [
+    | inl less ↦ absurd (ranks_apart _ _ (a.least b.position n b.here) (b.first a.position m less a.here))
+    | inr more ↦ absurd (ranks_apart _ _ (b.least a.position m a.here) (a.first b.position n more b.here))
+  ]
+]
+
+pub decision_once : (answers : List ℕ) (m n : ℕ) → IsDecision answers m → IsDecision answers n → m ≡ n
+decision_once [] m n a b = a ∙ sym b
+decision_once (newest ∷ older) m n a b = first_once (newest ∷ older) m n a b
+
+-- ---- one answer more
+int_lt_true : (a b : ℤ) → int_lt a b ≡ true → a <ℤ b
+int_lt_true a b e = grind (arith, ints)
+
+int_lt_false : (a b : ℤ) → int_lt a b ≡ false → b ≤ℤ a
+int_lt_false a b e = grind (arith, ints)
 
 le_refl : (x : ℤ) → x ≤ℤ x
 le_refl x = omega (arith, ints)
@@ -21,62 +52,149 @@ le_from_lt x y h = omega (arith, ints)
 le_trans : (x y z : ℤ) → x ≤ℤ y → y ≤ℤ z → x ≤ℤ z
 le_trans x y z f g = omega (arith, ints)
 
-alone : (newer : ℕ) → IsFirstLeast (newer ∷ []) newer
-alone newer = record { position = 0; here = refl; least = at; first = λ q other below here. absurd (omega arith) }
+-- no answer has a greater rank than ALLOW
+rank_at_most : (half : ℕ) → cast_signed w16 half ≤ℤ pos 32767
+rank_at_most half = omega (arith, ints)
+
+alone : (answer : ℕ) → IsFirstLeast (answer ∷ []) answer
+alone answer = record { position = 0; here = refl; least = at; first = λ q other below here. absurd (omega arith) }
   where
-    at : (q other : ℕ) → slice_get (newer ∷ []) q ≡ Some other → rank_of newer ≤ℤ rank_of other
-    at zero other e = subst (λ (n : ℕ). rank_of newer ≤ℤ rank_of n) (some_same _ _ e) (le_refl _)
+    at : (q other : ℕ) → slice_get (answer ∷ []) q ≡ Some other → rank_of answer ≤ℤ rank_of other
+    at zero other e = subst (λ (n : ℕ). rank_of answer ≤ℤ rank_of n) (some_same _ _ e) (le_refl _)
     at (suc q) other e = absurd (cc)
 
-wins : (newer best : ℕ) (answers : List ℕ) → IsFirstLeast answers best → rank_of newer ≤ℤ rank_of best → IsFirstLeast (newer ∷ answers) newer
-wins newer best answers old le = record { position = 0; here = refl; least = at; first = λ q other below here. absurd (omega arith) }
+wins : (newest older : ℕ) (answers : List ℕ)
+    → IsFirstLeast answers older → rank_of newest ≤ℤ rank_of older → IsFirstLeast (newest ∷ answers) newest
+wins newest older answers old le =
+    record { position = 0; here = refl; least = at; first = λ q other below here. absurd (omega arith) }
   where
-    at : (q other : ℕ) → slice_get (newer ∷ answers) q ≡ Some other → rank_of newer ≤ℤ rank_of other
-    at zero other e = subst (λ (n : ℕ). rank_of newer ≤ℤ rank_of n) (some_same _ _ e) (le_refl _)
+    at : (q other : ℕ) → slice_get (newest ∷ answers) q ≡ Some other → rank_of newest ≤ℤ rank_of other
+    at zero other e = subst (λ (n : ℕ). rank_of newest ≤ℤ rank_of n) (some_same _ _ e) (le_refl _)
     at (suc q) other e = le_trans _ _ _ le (old.least q other e)
 
-stays : (newer best : ℕ) (answers : List ℕ) → IsFirstLeast answers best → rank_of best <ℤ rank_of newer → IsFirstLeast (newer ∷ answers) best
-stays newer best answers old lt = record { position = suc old.position; here = old.here; least = at; first = before }
+stays : (newest older : ℕ) (answers : List ℕ)
+    → IsFirstLeast answers older → rank_of older <ℤ rank_of newest → IsFirstLeast (newest ∷ answers) older
+stays newest older answers old lt = record { position = suc old.position; here = old.here; least = at; first = before }
   where
-    at : (q other : ℕ) → slice_get (newer ∷ answers) q ≡ Some other → rank_of best ≤ℤ rank_of other
-    at zero other e = subst (λ (n : ℕ). rank_of best ≤ℤ rank_of n) (some_same _ _ e) (le_from_lt _ _ lt)
+    at : (q other : ℕ) → slice_get (newest ∷ answers) q ≡ Some other → rank_of older ≤ℤ rank_of other
+    at zero other e = subst (λ (n : ℕ). rank_of older ≤ℤ rank_of n) (some_same _ _ e) (le_from_lt _ _ lt)
     at (suc q) other e = old.least q other e
 
-    before : (q other : ℕ) → q < suc old.position → slice_get (newer ∷ answers) q ≡ Some other → rank_of best <ℤ rank_of other
-    before zero other below e = subst (λ (n : ℕ). rank_of best <ℤ rank_of n) (some_same _ _ e) lt
+    before : (q other : ℕ) → q < suc old.position
+        → slice_get (newest ∷ answers) q ≡ Some other → rank_of older <ℤ rank_of other
+    before zero other below e = subst (λ (n : ℕ). rank_of older <ℤ rank_of n) (some_same _ _ e) lt
     before (suc q) other below e = old.first q other (omega arith) e
 
-pub newer_alone : (newer : ℕ) (answers : List ℕ) → IsBest answers None → IsFirstLeast (newer ∷ answers) newer
-newer_alone newer [] best = alone newer
-newer_alone newer (a ∷ answers) best = absurd best
+pub newest_decides : (newest older : ℕ) (answers : List ℕ)
+    → IsDecision answers older → rank_of newest ≤ℤ rank_of older → IsDecision (newest ∷ answers) newest
+newest_decides newest older [] old le = alone newest
+newest_decides newest older (a ∷ answers) old le = wins newest older (a ∷ answers) old le
 
-pub newer_wins : (newer : ℕ) (best : Answer) (answers : List ℕ) → IsBest answers (Some best) → rank_of newer ≤ℤ rank_of best.0 → IsFirstLeast (newer ∷ answers) newer
-newer_wins newer best [] old le = absurd old
-newer_wins newer best (a ∷ answers) old le = wins newer best.0 (a ∷ answers) old le
+pub older_decides : (newest older : ℕ) (answers : List ℕ)
+    → IsDecision answers older → rank_of older <ℤ rank_of newest → IsDecision (newest ∷ answers) older
+older_decides newest older [] old lt =
+    let allows : rank_of (answer_of Allow 0) <ℤ rank_of newest =
+    subst (λ (n : ℕ). rank_of n <ℤ rank_of newest) old lt in
+    absurd (ranks_apart (rank_of newest) (pos 32767) (rank_at_most (action_half newest)) allows)
+older_decides newest older (a ∷ answers) old lt = stays newest older (a ∷ answers) old lt
 
-pub older_stays : (newer : ℕ) (best : Answer) (answers : List ℕ) → IsBest answers (Some best) → rank_of best.0 <ℤ rank_of newer → IsFirstLeast (newer ∷ answers) best.0
-older_stays newer best [] old lt = absurd old
-older_stays newer best (a ∷ answers) old lt = stays newer best.0 (a ∷ answers) old lt
+pub decision_with_newest : (answers : List ℕ) (older newest : ℕ)
+    → IsDecision answers older → IsDecision (newest ∷ answers) (with_newest older newest)
+decision_with_newest answers older newest old = by_test (int_lt (rank_of older) (rank_of newest)) refl
+  where
+    by_test : (b : Bool) → int_lt (rank_of older) (rank_of newest) ≡ b
+        → IsDecision (newest ∷ answers) (cond b older newest)
+    by_test true e = older_decides newest older answers old (int_lt_true _ _ e)
+    by_test false e = newest_decides newest older answers old (int_lt_false _ _ e)
 
--- The filters that ran so far have answers, and of these one goes first.
-pub record Answered (filters : List (List Insn)) (words : List ℕ) (best : Option Answer) : Type 0 where
-  pub answers : List ℕ
-  pub are : AreAnswers (reverse filters) words answers
-  pub is_best : IsBest answers best
+pub decision_is : (answers : List ℕ) → (decision : ℕ) × IsDecision answers decision
+decision_is [] = (answer_of Allow 0, refl)
+decision_is (newest ∷ older) =
+    let before = decision_is older in (with_newest before.0 newest, decision_with_newest older before.0 newest before.1)
 
-pub one_more : (filters : List (List Insn)) (i : ℕ) (d : List Insn) (words : List ℕ) (best : Option Answer) (newer steps : ℕ) (next : Answer) → i < length filters → Answered (take i filters) words best → IsRun (get_or filters i d) words newer steps
-    → ((answers : List ℕ) → IsBest answers best → IsFirstLeast (newer ∷ answers) next.0) → Answered (take (i + 1) filters) words (Some next)
-one_more filters i d words best newer steps next inside old run first = record {
-  answers = newer ∷ old.answers;
-  are = subst (λ (fs : List (List Insn)). AreAnswers fs words (newer ∷ old.answers)) (sym (ap reverse (take_more filters i d inside) ∙ reverse-append (take i filters) (get_or filters i d ∷ []))) ((steps, run), old.are);
-  is_best = first old.answers old.is_best;
+-- ---- stacks
+answers_once : (filters : List (List Insn)) (words xs ys : List ℕ)
+    → AreAnswers filters words xs → AreAnswers filters words ys → xs ≡ ys
+answers_once [] words [] [] a b = refl
+answers_once [] words [] (y ∷ ys) a b = absurd b
+answers_once [] words (x ∷ xs) ys a b = absurd a
+answers_once (filter ∷ filters) words [] ys a b = absurd a
+answers_once (filter ∷ filters) words (x ∷ xs) [] a b = absurd b
+answers_once (filter ∷ filters) words (x ∷ xs) (y ∷ ys) a b =
+    let same = (run_once filter words x y a.0.0 b.0.0 a.0.1 b.0.1).0 in
+    let others = answers_once filters words xs ys a.1 b.1 in cc
+
+-- stacks whose filters answer alike answer alike
+pub alike_answers : (filters others : List (List Insn)) (words more answers : List ℕ) (m n : ℕ)
+    → AreAnswers (reverse filters) words answers
+    → AreAnswers (reverse others) more answers → StackAnswers filters words m → StackAnswers others more n → m ≡ n
+alike_answers filters others words more answers m n first second a b =
+    decision_once answers m n
+    (subst (λ (xs : List ℕ). IsDecision xs m)
+    (answers_once (reverse filters) words a.answers answers a.are first) a.decides)
+    (subst (λ (xs : List ℕ). IsDecision xs n)
+    (answers_once (reverse others) more b.answers answers b.are second) b.decides)
+
+pub stack_answer_once : (filters : List (List Insn)) (words : List ℕ) (m n : ℕ)
+    → StackAnswers filters words m → StackAnswers filters words n → m ≡ n
+stack_answer_once filters words m n a b = alike_answers filters filters words words a.answers m n a.are a.are a b
+
+pub empty_allows : (words : List ℕ) → StackAnswers [] words (answer_of Allow 0)
+empty_allows words = record { answers = []; are = tt; decides = refl }
+
+answered_by_one : (filter : List Insn) (words answers : List ℕ) (answer : ℕ)
+    → AreAnswers (filter ∷ []) words answers → IsDecision answers answer → RunAnswers filter words answer
+answered_by_one filter words [] answer are decides = absurd are
+answered_by_one filter words (only ∷ []) answer are decides =
+    subst (λ (n : ℕ). RunAnswers filter words n) (first_once (only ∷ []) only answer (alone only) decides) are.0
+answered_by_one filter words (only ∷ more ∷ answers) answer are decides = absurd are.1
+
+pub one_answers : (filter : List Insn) (words : List ℕ) (answer : ℕ)
+    → RunAnswers filter words answer ↔ StackAnswers (filter ∷ []) words answer
+one_answers filter words answer = (
+  λ run. record { answers = answer ∷ []; are = (run, tt); decides = alone answer },
+  λ stack. answered_by_one filter words stack.answers answer stack.are stack.decides,
+)
+
+pub pushed_answers : (filters : List (List Insn)) (filter : List Insn) (words : List ℕ) (older newest : ℕ)
+    → StackAnswers filters words older
+    → RunAnswers filter words newest → StackAnswers (filters ++ filter ∷ []) words (with_newest older newest)
+pushed_answers filters filter words older newest old run = record {
+  answers = newest ∷ old.answers;
+  are = subst (λ (fs : List (List Insn)). AreAnswers fs words (newest ∷ old.answers))
+      (sym (reverse-append filters (filter ∷ []))) (run, old.are);
+  decides = decision_with_newest old.answers older newest old.decides;
 }
 
-pub decision_of : (filters : List (List Insn)) (words : List ℕ) (best : Option Answer) (result : Answer) → Answered filters words best → result ≡ unwrap_or best (record { 0 = 0x7fff0000 }) → (answers : List ℕ) × AreAnswers (reverse filters) words answers × IsDecision answers result.0
-decision_of filters words best result done e = (done.answers, done.are, decides done.answers best done.is_best e)
-  where
-    decides : (answers : List ℕ) (best : Option Answer) → IsBest answers best → result ≡ unwrap_or best (record { 0 = 0x7fff0000 }) → IsDecision answers result.0
-    decides [] None is_best e = ap (λ (a : Answer). a.0) e
-    decides [] (Some b) is_best e = absurd is_best
-    decides (a ∷ answers) None is_best e = absurd is_best
-    decides (a ∷ answers) (Some b) is_best e = subst (λ (r : Answer). IsFirstLeast (a ∷ answers) r.0) (sym e) is_best
+-- one filter more in the loop over a stack
+pub one_more : (filters : List (List Insn)) (i : ℕ) (d : List Insn) (words : List ℕ) (older newest : ℕ)
+    → i < length filters → StackAnswers (take i filters) words older → RunAnswers (get_or filters i d) words newest
+    → StackAnswers (take (i + 1) filters) words (with_newest older newest)
+one_more filters i d words older newest inside old run =
+    subst (λ (fs : List (List Insn)). StackAnswers fs words (with_newest older newest))
+    (sym (take_more filters i d inside))
+    (pushed_answers (take i filters) (get_or filters i d) words older newest old run)
+
+answer_below : (filters : List (List Insn)) (words : List ℕ)
+    → All IsFilter filters → (i : ℕ) → i ≤ length filters → (answer : ℕ) × StackAnswers (take i filters) words answer
+answer_below filters words each zero le = (answer_of Allow 0, empty_allows words)
+answer_below filters words each (suc i) le =
+    let before = answer_below filters words each i (omega arith) in
+    let filter = each i [] (omega arith) in
+    let run = (runs_safely (get_or filters i []) words filter.valid filter.stored).ends in
+    let next = with_newest before.0 run.0 in
+    let more : i + 1 ≡ suc i = omega arith in (
+      next,
+      subst (λ (n : ℕ). StackAnswers (take n filters) words next) more
+          (one_more filters i [] words before.0 run.0 (omega arith) before.1 run.1),
+    )
+
+-- each stack of filters answers each record
+pub stack_answer_is : (filters : List (List Insn)) (words : List ℕ)
+    → All IsFilter filters → (answer : ℕ) × StackAnswers filters words answer
+stack_answer_is filters words each =
+    let all = answer_below filters words each (length filters) (omega arith) in (
+      all.0,
+      subst (λ (fs : List (List Insn)). StackAnswers fs words all.0)
+          (take_all (length filters) filters (omega arith)) all.1,
+    )

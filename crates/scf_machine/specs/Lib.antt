@@ -1,10 +1,8 @@
-pub mod Bounds
 pub mod Checks
 pub mod Machine
-pub mod Masks
 pub mod Parts
 pub mod Plain
 pub mod Precedence
-pub mod Registers
 pub mod Rules
 pub mod Stack
+pub mod internal

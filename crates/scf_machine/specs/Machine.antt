@@ -1,5 +1,7 @@
 -- The machine that runs a filter over the words of a call record (Linux uapi filter.h and seccomp.h).
-use Rattle.std.specs.Prelude.{◌≡◌, ℕ, ◌+◌, ◌-◌, ◌*◌, ◌/◌, ◌%◌, ◌^◌, ◌≤◌, ◌==◌, nat_lt, not, ◌&&◌, Bool, List, [], ◌∷◌, length, Option, None, Some, if◌then◌else◌, bit_and, bit_or, bit_xor, slice_get, slice_index}
+use Rattle.std.specs.Prelude.{◌≡◌, ℕ, ◌+◌, ◌-◌, ◌*◌, ◌/◌, ◌%◌, ◌^◌, ◌≤◌, ◌==◌, nat_lt, not, ◌&&◌, Bool, List, [], ◌∷◌}
+use Rattle.std.specs.Prelude.{length, Option, None, Some, if◌then◌else◌, bit_and, bit_or, bit_xor, slice_get}
+use Rattle.std.specs.Prelude.{slice_index}
 use Rattle.std.specs.Map.{lookup}
 use Rattle.scf_insn.specs.declared.insn.Insn.{Insn}
 use Rattle.scf_insn.specs.declared.operation.Register.{Register}
@@ -11,8 +13,12 @@ use Rattle.scf_insn.specs.declared.operation.Arithmetic.TheVariants.{Add, Sub, M
 use Rattle.scf_insn.specs.declared.operation.Test.{Test}
 use Rattle.scf_insn.specs.declared.operation.Test.TheVariants.{Equal, Greater, GreaterOrEqual, CommonBit}
 use Rattle.scf_insn.specs.declared.operation.Operation.{Operation}
-use Rattle.scf_insn.specs.declared.operation.Operation.TheVariants.{LoadWord, LoadLength, LoadConstant, LoadScratch, StoreScratch, Compute, Negate, Jump, JumpIf, ReturnConstant, ReturnAccumulator, CopyToIndex, CopyToAccumulator}
+use Rattle.scf_insn.specs.declared.operation.Operation.TheVariants.{LoadWord, LoadLength, LoadConstant, LoadScratch}
+use Rattle.scf_insn.specs.declared.operation.Operation.TheVariants.{StoreScratch, Compute, Negate, Jump, JumpIf}
+use Rattle.scf_insn.specs.declared.operation.Operation.TheVariants.{ReturnConstant, ReturnAccumulator, CopyToIndex}
+use Rattle.scf_insn.specs.declared.operation.Operation.TheVariants.{CopyToAccumulator}
 use Rattle.scf_insn.specs.Codes.{operation_of}
+use Rattle.scf_insn.specs.Kernel.{bpf_memwords, seccomp_data_len}
 
 -- a scratch word that was stored: its index and its value
 abbrev pub Stored : Type 0
@@ -108,7 +114,8 @@ computation Div Constant i s = unless (not (i.k == 0)) DivisionByZero (Goes (set
 computation Div Index i s = (if s.x == 0 then Ends 0 else Goes (sets A s (value_computed Div s.a s.x)))
 computation Lsh Constant i s = unless (nat_lt i.k 32) ShiftTooFar (Goes (sets A s (value_computed Lsh s.a i.k)))
 computation Rsh Constant i s = unless (nat_lt i.k 32) ShiftTooFar (Goes (sets A s (value_computed Rsh s.a i.k)))
-computation arithmetic operand i s = Goes (sets A s (value_computed arithmetic s.a (operand_in_computation arithmetic operand i s)))
+computation arithmetic operand i s =
+    Goes (sets A s (value_computed arithmetic s.a (operand_in_computation arithmetic operand i s)))
 
 -- loads a scratch word, which must be stored
 abbrev pub loads : Register → State → Option ℕ → Outcome
@@ -117,11 +124,15 @@ loads r s (Some value) = Goes (sets r s value)
 
 -- what an operation of an instruction does to a state, over the words of a record
 abbrev pub effect : Operation → Insn → List ℕ → State → Outcome
-effect LoadWord i words s = unless (nat_lt i.k 64 && (i.k % 4 == 0)) LoadOutsideRecord (Goes (sets A s (slice_index words (i.k / 4))))
-effect (LoadLength r) i words s = Goes (sets r s 64)
+effect LoadWord i words s =
+    unless (nat_lt i.k seccomp_data_len && (i.k % 4 == 0)) LoadOutsideRecord
+    (Goes (sets A s (slice_index words (i.k / 4))))
+effect (LoadLength r) i words s = Goes (sets r s seccomp_data_len)
 effect (LoadConstant r) i words s = Goes (sets r s i.k)
-effect (LoadScratch r) i words s = unless (nat_lt i.k 16) NoSuchScratchWord (loads r s (word_at s.scratch i.k))
-effect (StoreScratch r) i words s = unless (nat_lt i.k 16) NoSuchScratchWord (Goes (stores s i.k (value_of r s)))
+effect (LoadScratch r) i words s =
+    unless (nat_lt i.k bpf_memwords) NoSuchScratchWord (loads r s (word_at s.scratch i.k))
+effect (StoreScratch r) i words s =
+    unless (nat_lt i.k bpf_memwords) NoSuchScratchWord (Goes (stores s i.k (value_of r s)))
 effect (Compute arithmetic operand) i words s = computation arithmetic operand i s
 effect Negate i words s = Goes (sets A s ((2 ^ 32 - s.a) % 2 ^ 32))
 effect Jump i words s = Goes (jumps_to s (s.place + 1 + i.k))
@@ -147,9 +158,11 @@ step insns words s = effect_at words s (slice_get insns s.place)
 -- A chain of steps from a state: it comes to another through earlier ones, the latest first.
 abbrev pub IsChain : List Insn → List ℕ → State → State → List State → Type 0
 IsChain insns words from s [] = s ≡ from
-IsChain insns words from s (before ∷ earlier) = (step insns words before ≡ Goes s) × IsChain insns words from before earlier
+IsChain insns words from s (before ∷ earlier) =
+    (step insns words before ≡ Goes s) × IsChain insns words from before earlier
 
--- A run from a state: a chain whose last state answers. Its steps are those between its states, and the one that answers.
+-- A run from a state: a chain whose last state answers. Its steps are those between its states, and the one that
+-- answers.
 pub record IsRunFrom (insns : List Insn) (words : List ℕ) (from : State) (answer steps : ℕ) : Type 0 where
   pub last : State
   pub earlier : List State
@@ -168,5 +181,7 @@ RunAnswers insns words answer = (steps : ℕ) × IsRun insns words answer steps
 -- Every run over a record ends in an answer, within as many steps as there are instructions, and none faults.
 pub record RunsSafely (insns : List Insn) (words : List ℕ) : Type 0 where
   pub ends : (answer : ℕ) × RunAnswers insns words answer
-  pub bounded : (s : State) (earlier : List State) → IsChain insns words start s earlier → length earlier + 1 ≤ length insns
-  pub never_faults : (s : State) (earlier : List State) (fault : Fault) → IsChain insns words start s earlier → step insns words s ≡ Faults fault → ⊥
+  pub bounded : (s : State) (earlier : List State) → IsChain insns words start s earlier
+      → length earlier + 1 ≤ length insns
+  pub never_faults : (s : State) (earlier : List State) (fault : Fault) → IsChain insns words start s earlier
+      → step insns words s ≡ Faults fault → ⊥

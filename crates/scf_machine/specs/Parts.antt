@@ -5,7 +5,8 @@ use Rattle.scf_machine.specs.Machine.{State}
 
 -- the same instructions stand in the part and, that many places further on, in the whole
 abbrev pub IsPart : List Insn → ℕ → List Insn → Type 0
-IsPart part n whole = (place : ℕ) (insn : Insn) → slice_get part place ≡ Some insn → slice_get whole (n + place) ≡ Some insn
+IsPart part n whole =
+    (place : ℕ) (insn : Insn) → slice_get part place ≡ Some insn → slice_get whole (n + place) ≡ Some insn
 
 -- the state, that many places further on
 abbrev pub moved : ℕ → State → State

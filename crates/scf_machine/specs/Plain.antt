@@ -1,4 +1,5 @@
--- Plain programs: they load words of the record, compare them with constants and with simple masks, jump, and return constants.
+-- Plain programs: they load words of the record, compare them with constants and with simple masks, jump, and return
+-- constants.
 use Rattle.std.specs.Prelude.{◌≡◌, List, All, Some}
 use Rattle.scf_insn.specs.declared.insn.Insn.{Insn}
 use Rattle.scf_insn.specs.declared.operation.Operand.TheVariants.{Constant}

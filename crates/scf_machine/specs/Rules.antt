@@ -1,13 +1,17 @@
 -- What makes a list of instructions a filter (Linux uapi filter.h; seccomp(2)).
-use Rattle.std.specs.Prelude.{◌≡◌, ◌≢◌, ℕ, ◌+◌, ◌-◌, ◌%◌, ◌<◌, ◌≤◌, ◌==◌, ◌⊎◌, Bool, false, List, [], ◌∷◌, length, Option, None, Some, slice_get, IsTrue}
-use Rattle.std.specs.List.{list_any}
+use Rattle.std.specs.Prelude.{◌≡◌, ◌≢◌, ℕ, ◌+◌, ◌-◌, ◌%◌, ◌<◌, ◌≤◌, ◌==◌, ◌⊎◌, Bool, false, List, [], ◌∷◌, length}
+use Rattle.std.specs.Prelude.{Option, None, Some, slice_get, IsTrue}
+use Rattle.std.specs.List.{list_any, AllByRecursion}
 use Rattle.scf_insn.specs.declared.insn.Insn.{Insn}
 use Rattle.scf_insn.specs.declared.operation.Register.{Register}
 use Rattle.scf_insn.specs.declared.operation.Operand.TheVariants.{Constant}
 use Rattle.scf_insn.specs.declared.operation.Arithmetic.TheVariants.{Div, Lsh, Rsh}
 use Rattle.scf_insn.specs.declared.operation.Operation.{Operation}
-use Rattle.scf_insn.specs.declared.operation.Operation.TheVariants.{LoadWord, LoadScratch, StoreScratch, Compute, Jump, JumpIf, ReturnConstant, ReturnAccumulator}
+use Rattle.scf_insn.specs.declared.operation.Operation.TheVariants.{LoadWord, LoadScratch, StoreScratch, Compute, Jump}
+use Rattle.scf_insn.specs.declared.operation.Operation.TheVariants.{JumpIf, ReturnConstant, ReturnAccumulator}
 use Rattle.scf_insn.specs.Codes.{operation_of}
+use Rattle.scf_insn.specs.Insn.{IsInsn}
+use Rattle.scf_insn.specs.Kernel.{bpf_maxinsns, bpf_memwords, seccomp_data_len}
 
 -- At a place of the list stands this instruction, whose code asks for this operation.
 pub record Stands (insns : List Insn) (place : ℕ) (i : Insn) (operation : Operation) : Type 0 where
@@ -17,9 +21,9 @@ pub record Stands (insns : List Insn) (place : ℕ) (i : Insn) (operation : Oper
 -- What the rules ask of an instruction at a place, in a list of a length: a load within the record, a scratch
 -- index below 16, a divisor that isn't 0, a shift below 32, and jump targets inside the list.
 abbrev pub IsFine : ℕ → ℕ → Insn → Operation → Type 0
-IsFine len place i LoadWord = (i.k < 64) × (i.k % 4 ≡ 0)
-IsFine len place i (LoadScratch r) = i.k < 16
-IsFine len place i (StoreScratch r) = i.k < 16
+IsFine len place i LoadWord = (i.k < seccomp_data_len) × (i.k % 4 ≡ 0)
+IsFine len place i (LoadScratch r) = i.k < bpf_memwords
+IsFine len place i (StoreScratch r) = i.k < bpf_memwords
 IsFine len place i (Compute Div Constant) = i.k ≢ 0
 IsFine len place i (Compute Lsh Constant) = i.k < 32
 IsFine len place i (Compute Rsh Constant) = i.k < 32
@@ -42,7 +46,7 @@ IsReturn _ = ⊥
 -- The rules on each place: 1 to 4096 instructions, each fine, the last one a return.
 pub record IsValidList (insns : List Insn) : Type 0 where
   pub some : 0 < length insns
-  pub few : length insns ≤ 4096
+  pub few : length insns ≤ bpf_maxinsns
   pub each : (place : ℕ) → place < length insns → IsFineAt insns place
   pub last : (i : Insn) (operation : Operation) → Stands insns (length insns - 1) i operation → IsReturn operation
 
@@ -89,7 +93,15 @@ pub record LoadsAt (insns : List Insn) (place n : ℕ) : Type 0 where
 
 -- On every path to a load of a scratch word, an earlier place stores that word.
 abbrev pub KeepsScratchRule : List Insn → Type 0
-KeepsScratchRule insns = (place n : ℕ) (earlier : List ℕ) → LoadsAt insns place n → IsPath insns place earlier → IsTrue (list_any (stores_at insns n) earlier)
+KeepsScratchRule insns =
+    (place n : ℕ) (earlier : List ℕ) → LoadsAt insns place n → IsPath insns place earlier
+    → IsTrue (list_any (stores_at insns n) earlier)
+
+-- A filter: its fields are within their widths, and it keeps every rule.
+pub record IsFilter (insns : List Insn) : Type 0 where
+  pub widths : AllByRecursion IsInsn insns
+  pub valid : IsValidList insns
+  pub stored : KeepsScratchRule insns
 
 -- A path leads to a load of the scratch word n on which no earlier place stores it.
 pub record IsUnsetAt (insns : List Insn) (place n : ℕ) : Type 0 where

@@ -1,16 +1,20 @@
 //! The checker of filters.
 
-ghost use Rattle.std.specs.Prelude.{◌≡◌, ◌≢◌, ◌+◌, ◌-◌, ◌<◌, ◌≤◌, ◌↔◌, ℕ, List, length, IsTrue, IfOk, IfErr, OnOk, if◌then◌else◌, slice_get, Some};
+ghost use Rattle.std.specs.Prelude.{◌≡◌, ◌≢◌, ◌<◌, ◌≤◌, ◌↔◌, ℕ, List, length, Some, if◌then◌else◌};
+ghost use Rattle.std.specs.Prelude.{IsTrue, IfOk, IfErr, OnOk};
 ghost use Rattle.std.specs.Int.{bit_at};
 ghost use Rattle.std.specs.List.{AllByRecursion};
 ghost use Rattle.scf_insn.specs.Insn.{IsInsn};
+ghost use Rattle.scf_insn.specs.Kernel.{bpf_maxinsns, bpf_memwords};
 ghost use Rattle.scf_insn.specs.declared.insn.Insn.{Insn};
 ghost use Rattle.scf_machine.specs.Checks.{IsFirstFault, IsFineBelow};
 ghost use Rattle.scf_machine.specs.Machine.{RunsSafely};
-ghost use Rattle.scf_machine.specs.Masks.{Joins, MasksAt};
-ghost use Rattle.scf_machine.specs.Rules.{IsFine, IsFineAt, IsValidList, Stands, GoesTo, KeepsScratchRule, stores_word};
+ghost use Rattle.scf_machine.specs.internal.Masks.{Joins, MasksAt};
+ghost use Rattle.scf_machine.specs.Rules.{IsFine, IsFineAt, IsFilter, IsValidList, KeepsScratchRule};
+ghost use Rattle.scf_machine.specs.Rules.{GoesTo, Stands, stores_word};
 
 use crate::program::Program;
+use scf_insn::kernel::{BPF_MAXINSNS, BPF_MEMWORDS, SECCOMP_DATA_LEN};
 use scf_insn::{Arithmetic, Insn, Operand, Operation};
 use std::alloc::{AllocError, Global};
 use thiserror::Error;
@@ -53,9 +57,6 @@ impl From<AllocError> for CheckFault {
     }
 }
 
-/// The most instructions that a filter has.
-const MAX_INSNS: usize = 4096;
-
 /// Whether a constant operand is one that the computation may have.
 fn is_fine_constant(arithmetic: Arithmetic, len: usize, at: usize, insn: Insn) -> bool
     ensures { IsTrue result ↔ IsFine len at insn (Operation.Compute arithmetic Operand.Constant) }
@@ -69,12 +70,12 @@ fn is_fine_constant(arithmetic: Arithmetic, len: usize, at: usize, insn: Insn) -
 
 /// Whether an instruction keeps the rule of its operation.
 fn is_fine(len: usize, at: usize, insn: Insn, operation: Operation) -> bool
-    requires { at < 4096 }
+    requires { at < bpf_maxinsns }
     ensures { IsTrue result ↔ IsFine len at insn operation }
 {
     match operation {
-        Operation::LoadWord => insn.k < 64 && insn.k % 4 == 0,
-        Operation::LoadScratch(_) | Operation::StoreScratch(_) => insn.k < 16,
+        Operation::LoadWord => (insn.k as usize) < SECCOMP_DATA_LEN && insn.k % 4 == 0,
+        Operation::LoadScratch(_) | Operation::StoreScratch(_) => (insn.k as usize) < BPF_MEMWORDS,
         Operation::Compute(arithmetic, Operand::Constant) => {
             is_fine_constant(arithmetic, len, at, insn)
         }
@@ -119,7 +120,7 @@ fn check_place(insns: &[Insn], at: usize) -> Result<(), CheckFault>
 
 fn check_places(insns: &[Insn]) -> Result<(), CheckFault>
     requires some { 0 < length insns.now }
-    requires few { length insns.now ≤ 4096 }
+    requires few { length insns.now ≤ bpf_maxinsns }
     ensures ok { OnOk result (IsFineBelow insns.now (length insns.now)) }
     ensures err { IfErr result (IsFirstFault insns.now) }
 {
@@ -144,7 +145,7 @@ fn check_last(insns: &[Insn]) -> Result<(), CheckFault>
 
 /// Whether the scratch word is in the mask.
 fn is_stored(mask: u16, word: u32) -> bool
-    requires { word < 16 }
+    requires { word < bpf_memwords }
     ensures { IsTrue result ↔ (bit_at mask word ≡ 1) }
 {
     (mask >> word) & 1 == 1
@@ -152,8 +153,9 @@ fn is_stored(mask: u16, word: u32) -> bool
 
 /// The mask with the scratch word that an instruction stores.
 fn mask_after(mask: u16, insn: Insn, operation: Operation) -> u16
-    requires { IsTrue (stores_word operation insn.k insn.k) → insn.k < 16 }
-    ensures { (n : ℕ) → n < 16 → bit_at result n ≡ (if stores_word operation insn.k n then 1 else bit_at mask n) }
+    requires { IsTrue (stores_word operation insn.k insn.k) → insn.k < bpf_memwords }
+    ensures { (n : ℕ) → n < bpf_memwords
+        → bit_at result n ≡ (if stores_word operation insn.k n then 1 else bit_at mask n) }
 {
     match operation {
         Operation::StoreScratch(_) => mask | 1 << insn.k,
@@ -241,14 +243,14 @@ fn note_widths(insns: &[Insn])
 }
 
 fn find_fault(alloc: Global, insns: &[Insn]) -> Result<(), CheckFault>
-    ensures ok { OnOk result (AllByRecursion IsInsn insns.now × IsValidList insns.now × KeepsScratchRule insns.now) }
+    ensures ok { OnOk result (IsFilter insns.now) }
     ensures err { IfErr result (IsFirstFault insns.now) }
 {
     note_widths(insns);
     if insns.is_empty() {
         return Err(CheckFault::Empty);
     }
-    if insns.len() > MAX_INSNS {
+    if insns.len() > BPF_MAXINSNS {
         return Err(CheckFault::TooLong);
     }
     check_places(insns)?;
@@ -262,11 +264,13 @@ fn find_fault(alloc: Global, insns: &[Insn]) -> Result<(), CheckFault>
 /// `Divisor`, `Shift` and `Jump`; then `LastNotReturn`; then `Memory`, at the one growth; then `Unset` at the lowest
 /// place that some path comes to without a store of the word that is loaded there.
 pub fn check(alloc: Global, insns: Vec<Insn>) -> Result<Program, (CheckFault, Vec<Insn>)>
-    ensures accepted { IfOk result (λ program. (program ≡ insns.items) × IsValidList program × KeepsScratchRule program) }
+    ensures accepted { IfOk result (λ program.
+        (program ≡ insns.items) × IsValidList program × KeepsScratchRule program) }
     // Each run of an accepted program ends in an answer within its length, and none faults.
     ensures safe { IfOk result (λ program. (words : List ℕ) → RunsSafely program words) }
     ensures refused { IfErr result (λ e. IsFirstFault insns.items e.0) }
-    ensures only_where { IfErr result (λ e. e.0 ≢ CheckFault.Memory → IsValidList insns.items → KeepsScratchRule insns.items → ⊥) }
+    ensures only_where { IfErr result (λ e.
+        e.0 ≢ CheckFault.Memory → IsValidList insns.items → KeepsScratchRule insns.items → ⊥) }
     ensures handed_back { IfErr result (λ e. e.1.items ≡ insns.items) }
 {
     match find_fault(alloc, &insns) {

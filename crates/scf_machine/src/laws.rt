@@ -1,34 +1,64 @@
-//! Laws of chains of steps, which crates that make or follow programs stand on. Each function does nothing: what it
-//! ensures is the law, for all lists of instructions, accepted or not.
+//! Laws of chains of steps and of stacks, which crates that make, follow or stack programs stand on. Each function does
+//! nothing: what it ensures is the law, for all lists of instructions, accepted or not.
 
-ghost use Rattle.std.specs.Prelude.{◌≡◌, ◌+◌, ◌<◌, ◌^◌, ◌++◌, ℕ, List, length, map};
-ghost use Rattle.std.specs.List.{AllByRecursion};
-ghost use Rattle.scf_insn.specs.Insn.{IsInsn};
+ghost use Rattle.std.specs.Prelude.{◌≡◌, ◌↔◌, ◌+◌, ◌++◌, [], ◌∷◌, ℕ, All, List, length, map, reverse};
+ghost use Rattle.scf_insn.specs.Answers.{answer_of};
+ghost use Rattle.scf_insn.specs.declared.answer.Action.TheVariants.{Allow};
 ghost use Rattle.scf_insn.specs.declared.insn.Insn.{Insn};
-ghost use Rattle.scf_machine.specs.Bounds.{IsMachineState};
-ghost use Rattle.scf_machine.specs.Machine.{State, IsChain, IsRun, IsRunFrom, step, start, Goes, Ends};
+ghost use Rattle.scf_machine.specs.Machine.{State, IsChain, IsRun, IsRunFrom, RunAnswers, step, Goes, Ends};
 ghost use Rattle.scf_machine.specs.Parts.{IsPart, moved};
+ghost use Rattle.scf_machine.specs.Precedence.{AreAnswers, IsDecision, StackAnswers, with_newest};
+ghost use Rattle.scf_machine.specs.Rules.{IsFilter};
 
 /// A list has one run over a record: two runs have one answer and one length.
 pub fn run_once()
-    ensures { (insns : List Insn) (words : List ℕ) (m n k l : ℕ) → IsRun insns words m k → IsRun insns words n l → (m ≡ n) × (k ≡ l) }
+    ensures { (insns : List Insn) (words : List ℕ) (m n k l : ℕ) → IsRun insns words m k → IsRun insns words n l
+        → (m ≡ n) × (k ≡ l) }
 {}
 
 /// Two chains that meet are one chain, and a chain before a run makes a run.
 pub fn chains_join()
-    ensures chain { (insns : List Insn) (words : List ℕ) (s t u : State) (xs ys : List State) → IsChain insns words s t xs → IsChain insns words t u ys → IsChain insns words s u (ys ++ xs) }
-    ensures run { (insns : List Insn) (words : List ℕ) (s t : State) (xs : List State) (answer steps : ℕ) → IsChain insns words s t xs → IsRunFrom insns words t answer steps → IsRunFrom insns words s answer (length xs + steps) }
+    ensures chain { (insns : List Insn) (words : List ℕ) (s t u : State) (xs ys : List State)
+        → IsChain insns words s t xs → IsChain insns words t u ys → IsChain insns words s u (ys ++ xs) }
+    ensures run { (insns : List Insn) (words : List ℕ) (s t : State) (xs : List State) (answer steps : ℕ)
+        → IsChain insns words s t xs → IsRunFrom insns words t answer steps
+        → IsRunFrom insns words s answer (length xs + steps) }
 {}
 
 /// A chain inside a part of a list is a chain of the whole, as many places further on, and so is an answer.
 pub fn chain_of_part()
-    ensures chain { (whole part : List Insn) (n : ℕ) (words : List ℕ) (s t : State) (xs : List State) → IsPart part n whole → IsChain part words s t xs → IsChain whole words (moved n s) (moved n t) (map (moved n) xs) }
-    ensures answer { (whole part : List Insn) (n : ℕ) (words : List ℕ) (s : State) (answer : ℕ) → IsPart part n whole → step part words s ≡ Ends answer → step whole words (moved n s) ≡ Ends answer }
+    ensures chain { (whole part : List Insn) (n : ℕ) (words : List ℕ) (s t : State) (xs : List State)
+        → IsPart part n whole → IsChain part words s t xs
+        → IsChain whole words (moved n s) (moved n t) (map (moved n) xs) }
+    ensures answer { (whole part : List Insn) (n : ℕ) (words : List ℕ) (s : State) (answer : ℕ)
+        → IsPart part n whole → step part words s ≡ Ends answer → step whole words (moved n s) ≡ Ends answer }
     ensures between { (front part back : List Insn) → IsPart part (length front) (front ++ part ++ back) }
 {}
 
-/// Over words below 2^32 a list of instructions keeps the registers and the stored scratch words below 2^32, and
-/// stores no scratch word past the fifteenth.
-pub fn state_bounded()
-    ensures { (insns : List Insn) (words : List ℕ) (s : State) (earlier : List State) → AllByRecursion IsInsn insns → AllByRecursion (λ word. word < 2 ^ 32) words → IsChain insns words start s earlier → IsMachineState s }
+/// Of answers one decides, and one answer more, the newest, changes the decision as `with_newest` says. So a decision
+/// depends on the answers alone.
+pub fn answers_decide()
+    ensures some { (answers : List ℕ) → (decision : ℕ) × IsDecision answers decision }
+    ensures once { (answers : List ℕ) (m n : ℕ) → IsDecision answers m → IsDecision answers n → m ≡ n }
+    ensures newest { (answers : List ℕ) (older newest : ℕ) → IsDecision answers older
+        → IsDecision (newest ∷ answers) (with_newest older newest) }
+{}
+
+/// A stack of filters has one answer to each record, which depends on the answers of its filters alone. A stack of no
+/// filters allows, and one filter answers as its run does. One filter more, the newest, changes the answer as
+/// `with_newest` says.
+pub fn stack_answers()
+    ensures empty { (words : List ℕ) → StackAnswers [] words (answer_of Allow 0) }
+    ensures one { (filter : List Insn) (words : List ℕ) (answer : ℕ)
+        → RunAnswers filter words answer ↔ StackAnswers (filter ∷ []) words answer }
+    ensures some { (filters : List (List Insn)) (words : List ℕ) → All IsFilter filters
+        → (answer : ℕ) × StackAnswers filters words answer }
+    ensures once { (filters : List (List Insn)) (words : List ℕ) (m n : ℕ) → StackAnswers filters words m
+        → StackAnswers filters words n → m ≡ n }
+    ensures alike { (filters others : List (List Insn)) (words more answers : List ℕ) (m n : ℕ)
+        → AreAnswers (reverse filters) words answers → AreAnswers (reverse others) more answers
+        → StackAnswers filters words m → StackAnswers others more n → m ≡ n }
+    ensures newest { (filters : List (List Insn)) (filter : List Insn) (words : List ℕ) (older newest : ℕ)
+        → StackAnswers filters words older → RunAnswers filter words newest
+        → StackAnswers (filters ++ filter ∷ []) words (with_newest older newest) }
 {}

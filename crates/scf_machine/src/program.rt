@@ -18,15 +18,13 @@ pub struct Program {
 impl Model for Program {
     ghost use Rattle.std.specs.Prelude.{List};
     ghost use Rattle.scf_insn.specs.declared.insn.Insn.{Insn};
-    ghost use Rattle.std.specs.List.{AllByRecursion};
-    ghost use Rattle.scf_insn.specs.Insn.{IsInsn};
-    ghost use Rattle.scf_machine.specs.Rules.{IsValidList, KeepsScratchRule};
+    ghost use Rattle.scf_machine.specs.Rules.{IsFilter};
 
     ghost Value = { List Insn };
 
     ghost view = { λ p. p.list.items };
 
-    ghost invariant = { λ p. AllByRecursion IsInsn p.list.items × IsValidList p.list.items × KeepsScratchRule p.list.items };
+    ghost invariant = { λ p. IsFilter p.list.items };
 }
 
 impl Program {

@@ -1,12 +1,14 @@
 //! Stacks of filters.
 
-ghost use Rattle.std.specs.Prelude.{◌≡◌, [], ◌∷◌, ◌<◌, ℕ, List, length, reverse, slice_get, MatchOption, option_copied};
+ghost use Rattle.std.specs.Prelude.{◌≡◌, [], ◌∷◌, ℕ, List, All, length, slice_get, option_copied};
 ghost use Rattle.scf_insn.specs.Words.{words_of};
-ghost use Rattle.scf_machine.specs.Precedence.{AreAnswers, IsBest, IsDecision, IsFirstLeast};
+ghost use Rattle.scf_machine.specs.Precedence.{IsDecision, StackAnswers, with_newest};
+ghost use Rattle.scf_machine.specs.Rules.{IsFilter};
 ghost use Rattle.scf_machine.specs.Stack.{IsPush};
 
 use crate::machine::run;
 use crate::program::Program;
+use scf_insn::kernel::MAX_INSNS_PER_PATH;
 use scf_insn::{Action, Answer, CallRecord};
 use std::alloc::Global;
 use std::marker::Model;
@@ -21,9 +23,6 @@ pub enum PushFault {
     Memory,
 }
 
-/// The most instructions that a stack counts.
-const MAX_TOTAL: usize = 32768;
-
 /// What a filter counts beside its instructions, once a newer one is pushed.
 const FILTER_COST: usize = 4;
 
@@ -35,8 +34,10 @@ pub struct FilterStack {
 }
 
 impl Model for FilterStack {
-    ghost use Rattle.std.specs.Prelude.{◌≡◌, ◌≤◌, ◌+◌, List};
+    ghost use Rattle.std.specs.Prelude.{◌≡◌, ◌≤◌, ◌+◌, All, List};
     ghost use Rattle.scf_insn.specs.declared.insn.Insn.{Insn};
+    ghost use Rattle.scf_insn.specs.Kernel.{max_insns_per_path};
+    ghost use Rattle.scf_machine.specs.Rules.{IsFilter};
 
     ghost Value = { List (List Insn) };
 
@@ -45,22 +46,20 @@ impl Model for FilterStack {
     ghost view = { λ s. s.filters.items };
 
     // The 4 of the newest filter are no part of the total that a stack may have.
-    ghost invariant = { λ s. (s.cost ≡ cost_of s.filters.items) × (s.cost ≤ 32768 + 4) };
+    ghost invariant = { λ s. (s.cost ≡ cost_of s.filters.items) × (s.cost ≤ max_insns_per_path + 4)
+        × All IsFilter s.filters.items };
 }
 
-/// The answer that goes first: a newer one, or that of older ones.
-fn first_of(newer: Answer, older: Option<Answer>) -> Answer
-    ensures { (answers : List ℕ) → IsBest answers older → IsFirstLeast (newer.0 ∷ answers) result.0 }
+/// What a stack answers with one filter more, the newest, from what it answers without it: the newest answer, unless
+/// that has the greater rank.
+pub fn with_newest(older: Answer, newest: Answer) -> Answer
+    ensures by_rank { result.0 ≡ with_newest older.0 newest.0 }
+    ensures decides { (answers : List ℕ) → IsDecision answers older.0 → IsDecision (newest.0 ∷ answers) result.0 }
 {
-    match older {
-        None => newer,
-        Some(best) => {
-            if best.rank() < newer.rank() {
-                best
-            } else {
-                newer
-            }
-        }
+    if older.rank() < newest.rank() {
+        older
+    } else {
+        newest
     }
 }
 
@@ -82,9 +81,10 @@ impl FilterStack {
         self.filters.len()
     }
 
-    /// The filter at a place, 0 being the oldest. None from the length on.
+    /// The filter at a place, 0 being the oldest. None from the length on. Each filter keeps the rules of filters.
     pub fn get(&self, i: usize) -> Option<&Program>
-        ensures { option_copied result ≡ slice_get self.now i }
+        ensures at { option_copied result ≡ slice_get self.now i }
+        ensures filters { All IsFilter self.now }
     {
         self.filters.get(i)
     }
@@ -96,9 +96,9 @@ impl FilterStack {
     pub fn push(&mut self, program: Program) -> Result<(), (PushFault, Program)>
         ensures { IsPush self.old program result self.new }
     {
-        let len = program.len();
+        let len = program.insns().len();
         let total = len + self.cost;
-        if total > MAX_TOTAL {
+        if total > MAX_INSNS_PER_PATH {
             return Err((PushFault::TooMany { total }, program));
         }
         match self.filters.push(program) {
@@ -112,12 +112,12 @@ impl FilterStack {
 
     /// What the filters answer together: each runs, and of their answers the newest of least rank decides.
     pub fn decide(&self, call: &CallRecord) -> Answer
-        ensures { (answers : List ℕ) × AreAnswers (reverse self.now) (words_of call.now) answers × IsDecision answers result.0 }
+        ensures { StackAnswers self.now (words_of call.now) result.0 }
     {
-        let mut best = None;
+        let mut decision = Answer::new(Action::Allow, 0);
         for program in &self.filters {
-            best = Some(first_of(run(program, call).answer, best));
+            decision = with_newest(decision, run(program, call).answer);
         }
-        best.unwrap_or(Answer::new(Action::Allow, 0))
+        decision
     }
 }

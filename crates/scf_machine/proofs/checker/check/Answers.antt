@@ -7,10 +7,14 @@ pub invariant_of-result : goal.invariant_of-result
 invariant_of-result c = rw c.deref.ensures.value at c.in-Ok.ensures.ok
 
 pub returns-in-Ok-clause-accepted : goal.returns-in-Ok-clause-accepted
-returns-in-Ok-clause-accepted c = let ok = rw c.deref.ensures.value at c.in-Ok.ensures.ok in (refl, ok.1, ok.2)
+returns-in-Ok-clause-accepted c = let ok = rw c.deref.ensures.value at c.in-Ok.ensures.ok in (refl, ok.valid, ok.stored)
 
 pub returns-in-Ok-clause-safe : goal.returns-in-Ok-clause-safe
-returns-in-Ok-clause-safe c = λ words. let ok = rw c.deref.ensures.value at c.in-Ok.ensures.ok in runs_safely c.args.insns.items words ok.1 ok.2
+returns-in-Ok-clause-safe c = λ words.
+    let ok = rw c.deref.ensures.value at c.in-Ok.ensures.ok in
+    runs_safely c.args.insns.items words ok.valid ok.stored
 
 pub returns-in-Err-clause-only_where : goal.returns-in-Err-clause-only_where
-returns-in-Err-clause-only_where c = λ n v k. let f = rw c.deref.ensures.value at c.in-Err.ensures.err in only_where c.args.insns.items c.in-Err.fault f n v k
+returns-in-Err-clause-only_where c = λ n v k.
+    let f = rw c.deref.ensures.value at c.in-Err.ensures.err in
+    only_where c.args.insns.items c.in-Err.fault f n v k

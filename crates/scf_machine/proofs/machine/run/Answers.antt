@@ -1,114 +1,60 @@
-use Rattle.std.proofs.Common.{length, true, false, sym, arith, rules, ◌∙◌}
-use Rattle.scf_machine.proofs.Loop.{at_inside, next_of, next_load, next_jump, run_of, read_here, always_known, wider}
+use Rattle.std.proofs.Common.{length, sym, arith, rules, ◌∙◌}
+use Rattle.scf_machine.proofs.Loop.{at_inside, next_of, run_of, read_here, always_known, wider}
 use Rattle.scf_machine.proofs.Runs.{fine_of, runs_safely}
-use Rattle.scf_machine.proofs.Steps.{equal_test, apart_test}
 use Rattle.scf_machine.proofs.machine.run.Goals as goal
 
 pub index-insn-requires : goal.index-insn-requires
-index-insn-requires c = let inside = at_inside _ _ _ _ c.program.invariant.1 c.loop-operation.invariant in let a = inside.0 in search rules
+index-insn-requires c =
+    let inside = at_inside _ _ _ _ c.program.invariant.valid c.loop-operation.invariant in
+    let a = inside.0 in search rules
 
 pub overflow_add-steps : goal.overflow_add-steps
-overflow_add-steps c = let inside = at_inside _ _ _ _ c.program.invariant.1 c.loop-operation.invariant in
+overflow_add-steps c = let inside = at_inside _ _ _ _ c.program.invariant.valid c.loop-operation.invariant in
     let a = inside.0 in let b = inside.1 in let d = inside.2 in search rules
 
 pub unreachable-requires : goal.unreachable-requires
 unreachable-requires c =
-    let inside = at_inside _ _ _ _ c.program.invariant.1 c.loop-operation.invariant in
+    let inside = at_inside _ _ _ _ c.program.invariant.valid c.loop-operation.invariant in
     always_known c.program.inside.list.items c.loop-operation.registers.place c.index-insn.result.now c.operation.result
-    (c.program.invariant.1.each _ inside.0) (read_here _ _ _ inside.0 c.index-insn.ensures) c.operation.ensures c.in_default.is
-
-pub load_word-requires-clause-place : goal.load_word-requires-clause-place
-load_word-requires-clause-place c = let inside = at_inside _ _ _ _ c.program.invariant.1 c.loop-operation.invariant in
-    let a = inside.0 in let d = inside.2 in omega arith
-
-pub jump-requires : goal.jump-requires
-jump-requires c = let inside = at_inside _ _ _ _ c.program.invariant.1 c.loop-operation.invariant in
-    let a = inside.0 in let d = inside.2 in omega arith
-
-pub jump-requires-in-JumpIf-Equal-Constant : goal.jump-requires-in-JumpIf-Equal-Constant
-jump-requires-in-JumpIf-Equal-Constant c = let inside = at_inside _ _ _ _ c.program.invariant.1 c.loop-operation.invariant in
-    let a = inside.0 in let d = inside.2 in omega arith
+    (c.program.invariant.valid.each _ inside.0)
+    (read_here _ _ _ inside.0 c.index-insn.ensures) c.operation.ensures c.in_default.is
 
 pub step-requires-clause-place : goal.step-requires-clause-place
-step-requires-clause-place c = let inside = at_inside _ _ _ _ c.program.invariant.1 c.loop-operation.invariant in
+step-requires-clause-place c = let inside = at_inside _ _ _ _ c.program.invariant.valid c.loop-operation.invariant in
     let a = inside.0 in let d = inside.2 in omega arith
-
-pub load_word-requires-clause-fine : goal.load_word-requires-clause-fine
-load_word-requires-clause-fine c =
-    let inside = at_inside _ _ _ _ c.program.invariant.1 c.loop-operation.invariant in
-    let fine = wider (length c.program.inside.list.items) c.loop-operation.registers.place c.index-insn.result.now c.in-Some.operation inside.2 (fine_of c.program.inside.list.items c.loop-operation.registers.place c.index-insn.result.now c.in-Some.operation (c.program.invariant.1.each _ inside.0)
-    (record { here = read_here _ _ _ inside.0 c.index-insn.ensures; known = sym c.operation.ensures ∙ c.in-Some.is })) in
-    rw c.in-LoadWord.is at fine
 
 pub step-requires-clause-fine : goal.step-requires-clause-fine
 step-requires-clause-fine c =
-    let inside = at_inside _ _ _ _ c.program.invariant.1 c.loop-operation.invariant in
-    wider (length c.program.inside.list.items) c.loop-operation.registers.place c.index-insn.result.now c.in-Some.operation inside.2 (fine_of c.program.inside.list.items c.loop-operation.registers.place c.index-insn.result.now c.in-Some.operation (c.program.invariant.1.each _ inside.0)
+    let inside = at_inside _ _ _ _ c.program.invariant.valid c.loop-operation.invariant in
+    wider (length c.program.inside.list.items) c.loop-operation.registers.place c.index-insn.result.now
+    c.in-Some.operation inside.2 (fine_of c.program.inside.list.items c.loop-operation.registers.place
+    c.index-insn.result.now c.in-Some.operation (c.program.invariant.valid.each _ inside.0)
     (record { here = read_here _ _ _ inside.0 c.index-insn.ensures; known = sym c.operation.ensures ∙ c.in-Some.is }))
 
 pub returns-in-Some-step : goal.returns-in-Some-step
 returns-in-Some-step c =
-    let inside = at_inside _ _ _ _ c.program.invariant.1 c.loop-operation.invariant in
-    let done = run_of c.program.inside.list.items _ _ c.step.new.self _ c.program.invariant.1 c.program.invariant.2 c.loop-operation.invariant _ _ _ c.row_of_words-words.ensures c.in-Some-step.answer
-    (record { here = read_here _ _ _ inside.0 c.index-insn.ensures; known = sym c.operation.ensures ∙ c.in-Some.is }) (c.in-Some-step.ensures _ c.loop-operation.invariant.stand) in
-    rw (← c.program.view_is) (record { run = done.0; bound = done.1; safe = runs_safely _ _ c.program.invariant.1 c.program.invariant.2 })
+    let inside = at_inside _ _ _ _ c.program.invariant.valid c.loop-operation.invariant in
+    let done = run_of c.program.inside.list.items _ _ c.step.new.self _ c.program.invariant.valid
+    c.program.invariant.stored c.loop-operation.invariant _ _ _ c.words-words.ensures c.in-Some-step.answer
+    (record { here = read_here _ _ _ inside.0 c.index-insn.ensures; known = sym c.operation.ensures ∙ c.in-Some.is })
+    (c.in-Some-step.ensures _ c.loop-operation.invariant.stand) in
+    rw (← c.program.view_is) (record
+    { run = done.0; bound = done.1; safe = runs_safely _ _ c.program.invariant.valid c.program.invariant.stored })
 
 pub loop-operation-smaller : goal.loop-operation-smaller
 loop-operation-smaller c =
-    let inside = at_inside _ _ _ _ c.program.invariant.1 c.loop-operation.invariant in
-    let next = next_of c.program.inside.list.items _ _ c.step.new.self _ c.program.invariant.1 c.program.invariant.2 c.loop-operation.invariant _ _ _ c.row_of_words-words.ensures
-    (record { here = read_here _ _ _ inside.0 c.index-insn.ensures; known = sym c.operation.ensures ∙ c.in-Some.is }) (c.in_default-step.ensures _ c.loop-operation.invariant.stand) in
+    let inside = at_inside _ _ _ _ c.program.invariant.valid c.loop-operation.invariant in
+    let next = next_of c.program.inside.list.items _ _ c.step.new.self _
+    c.program.invariant.valid c.program.invariant.stored c.loop-operation.invariant _ _ _ c.words-words.ensures
+    (record { here = read_here _ _ _ inside.0 c.index-insn.ensures; known = sym c.operation.ensures ∙ c.in-Some.is })
+    (c.in_default-step.ensures _ c.loop-operation.invariant.stand) in
     let forward = next.forward in let a = inside.0 in omega arith
 
 pub loop-operation-preserved : goal.loop-operation-preserved
 loop-operation-preserved c =
-    let inside = at_inside _ _ _ _ c.program.invariant.1 c.loop-operation.invariant in
-    let next = next_of c.program.inside.list.items _ _ c.step.new.self _ c.program.invariant.1 c.program.invariant.2 c.loop-operation.invariant _ _ _ c.row_of_words-words.ensures
-    (record { here = read_here _ _ _ inside.0 c.index-insn.ensures; known = sym c.operation.ensures ∙ c.in-Some.is }) (c.in_default-step.ensures _ c.loop-operation.invariant.stand) in
-    next.at
-
-pub loop-operation-smaller-in-LoadWord : goal.loop-operation-smaller-in-LoadWord
-loop-operation-smaller-in-LoadWord c =
-    let inside = at_inside _ _ _ _ c.program.invariant.1 c.loop-operation.invariant in
-    let next = next_load c.program.inside.list.items _ _ c.load_word.new.self _ c.program.invariant.1 c.program.invariant.2 c.loop-operation.invariant _ _ _ c.row_of_words-words.ensures
-    (record { here = read_here _ _ _ inside.0 c.index-insn.ensures; known = sym c.operation.ensures ∙ c.in-Some.is }) c.in-LoadWord.is (c.load_word.ensures _ c.loop-operation.invariant.stand) in
-    let forward = next.forward in let a = inside.0 in omega arith
-
-pub loop-operation-preserved-in-LoadWord : goal.loop-operation-preserved-in-LoadWord
-loop-operation-preserved-in-LoadWord c =
-    let inside = at_inside _ _ _ _ c.program.invariant.1 c.loop-operation.invariant in
-    let next = next_load c.program.inside.list.items _ _ c.load_word.new.self _ c.program.invariant.1 c.program.invariant.2 c.loop-operation.invariant _ _ _ c.row_of_words-words.ensures
-    (record { here = read_here _ _ _ inside.0 c.index-insn.ensures; known = sym c.operation.ensures ∙ c.in-Some.is }) c.in-LoadWord.is (c.load_word.ensures _ c.loop-operation.invariant.stand) in
-    next.at
-
-pub loop-operation-smaller-then-registers-insn : goal.loop-operation-smaller-then-registers-insn
-loop-operation-smaller-then-registers-insn c =
-    let inside = at_inside _ _ _ _ c.program.invariant.1 c.loop-operation.invariant in
-    let next = next_jump c.program.inside.list.items _ _ c.jump.new.self _ c.program.invariant.1 c.program.invariant.2 c.loop-operation.invariant _ _ _ _ true
+    let inside = at_inside _ _ _ _ c.program.invariant.valid c.loop-operation.invariant in
+    let next = next_of c.program.inside.list.items _ _ c.step.new.self _
+    c.program.invariant.valid c.program.invariant.stored c.loop-operation.invariant _ _ _ c.words-words.ensures
     (record { here = read_here _ _ _ inside.0 c.index-insn.ensures; known = sym c.operation.ensures ∙ c.in-Some.is })
-    c.in-JumpIf-Equal-Constant.is (rw c.in-JumpIf-Equal-Constant.is at c.in-JumpIf-Equal-Constant.field-0-is) (rw c.in-JumpIf-Equal-Constant.is at c.in-JumpIf-Equal-Constant.field-1-is) (equal_test _ _ _ c.loop-operation.invariant.stand.a c.if-registers-insn.true) (c.jump.ensures _ c.loop-operation.invariant.stand) in
-    let forward = next.forward in let a = inside.0 in omega arith
-
-pub loop-operation-preserved-then-registers-insn : goal.loop-operation-preserved-then-registers-insn
-loop-operation-preserved-then-registers-insn c =
-    let inside = at_inside _ _ _ _ c.program.invariant.1 c.loop-operation.invariant in
-    let next = next_jump c.program.inside.list.items _ _ c.jump.new.self _ c.program.invariant.1 c.program.invariant.2 c.loop-operation.invariant _ _ _ _ true
-    (record { here = read_here _ _ _ inside.0 c.index-insn.ensures; known = sym c.operation.ensures ∙ c.in-Some.is })
-    c.in-JumpIf-Equal-Constant.is (rw c.in-JumpIf-Equal-Constant.is at c.in-JumpIf-Equal-Constant.field-0-is) (rw c.in-JumpIf-Equal-Constant.is at c.in-JumpIf-Equal-Constant.field-1-is) (equal_test _ _ _ c.loop-operation.invariant.stand.a c.if-registers-insn.true) (c.jump.ensures _ c.loop-operation.invariant.stand) in
-    next.at
-
-pub loop-operation-smaller-in-Constant-1 : goal.loop-operation-smaller-in-Constant-1
-loop-operation-smaller-in-Constant-1 c =
-    let inside = at_inside _ _ _ _ c.program.invariant.1 c.loop-operation.invariant in
-    let next = next_jump c.program.inside.list.items _ _ c.jump-in-JumpIf-Equal-Constant.new.self _ c.program.invariant.1 c.program.invariant.2 c.loop-operation.invariant _ _ _ _ false
-    (record { here = read_here _ _ _ inside.0 c.index-insn.ensures; known = sym c.operation.ensures ∙ c.in-Some.is })
-    c.in-JumpIf-Equal-Constant.is (rw c.in-JumpIf-Equal-Constant.is at c.in-JumpIf-Equal-Constant.field-0-is) (rw c.in-JumpIf-Equal-Constant.is at c.in-JumpIf-Equal-Constant.field-1-is) (apart_test _ _ _ c.loop-operation.invariant.stand.a c.if-registers-insn.false) (c.jump-in-JumpIf-Equal-Constant.ensures _ c.loop-operation.invariant.stand) in
-    let forward = next.forward in let a = inside.0 in omega arith
-
-pub loop-operation-preserved-in-Constant-1 : goal.loop-operation-preserved-in-Constant-1
-loop-operation-preserved-in-Constant-1 c =
-    let inside = at_inside _ _ _ _ c.program.invariant.1 c.loop-operation.invariant in
-    let next = next_jump c.program.inside.list.items _ _ c.jump-in-JumpIf-Equal-Constant.new.self _ c.program.invariant.1 c.program.invariant.2 c.loop-operation.invariant _ _ _ _ false
-    (record { here = read_here _ _ _ inside.0 c.index-insn.ensures; known = sym c.operation.ensures ∙ c.in-Some.is })
-    c.in-JumpIf-Equal-Constant.is (rw c.in-JumpIf-Equal-Constant.is at c.in-JumpIf-Equal-Constant.field-0-is) (rw c.in-JumpIf-Equal-Constant.is at c.in-JumpIf-Equal-Constant.field-1-is) (apart_test _ _ _ c.loop-operation.invariant.stand.a c.if-registers-insn.false) (c.jump-in-JumpIf-Equal-Constant.ensures _ c.loop-operation.invariant.stand) in
+    (c.in_default-step.ensures _ c.loop-operation.invariant.stand) in
     next.at

@@ -1,0 +1,13 @@
+use Rattle.std.proofs.Common.{arith, rules}
+use Rattle.std.proofs.lemmas.Grind.{common_steps}
+use Rattle.std.proofs.lemmas.List.Elements.{All-push}
+use Rattle.scf_machine.specs.Rules.{IsFilter}
+use Rattle.scf_machine.proofs.stack.FilterStack.push.Goals as goal
+
+pub invariant_of-self : goal.invariant_of-self
+invariant_of-self c =
+    let insns = c.insns-len.ensures in
+    let filter : IsFilter c.args.program =
+    record { widths = insns.widths; valid = insns.valid; stored = insns.stored } in
+    let each = All-push IsFilter c.self.inside.filters.items c.args.program c.self.invariant.2 filter in
+    (rw (insns.same, c.in-Ok.ensures.items) (grind (arith, common_steps)), search rules, rw c.in-Ok.ensures.items each)
