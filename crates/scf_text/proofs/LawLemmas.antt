@@ -1,21 +1,29 @@
 -- A text spells a list exactly where it has no fault, and then only one.
-use Rattle.std.proofs.Common.{◌≡◌, ℕ, suc, ◌+◌, ◌-◌, ◌<◌, ◌≤◌, ◌^◌, Bool, true, false, not, ◌||◌, cond, eqb, ltb, leb, List, [], ◌∷◌, ◌++◌, length, Option, Some, None, refl, sym, ap, subst, ◌∙◌, zero-add, arith}
+use Rattle.std.proofs.Common.{◌≡◌, ℕ, suc, ◌+◌, ◌-◌, ◌<◌, ◌≤◌, ◌^◌, Bool, true, false, not, ◌||◌, cond, eqb, ltb, leb}
+use Rattle.std.proofs.Common.{List, [], ◌∷◌, ◌++◌, length, Option, Some, None, refl, sym, ap, subst, ◌∙◌, zero-add}
+use Rattle.std.proofs.Common.{arith}
 use Rattle.std.specs.Option.{is_some, option_or}
 use Rattle.std.specs.List.{AllByRecursion, list_any, flat_map}
 use Rattle.std.proofs.lemmas.Bool.{lt-ltb, le-ltb, ltb-true, leb-false, lt-leb}
 use Rattle.std.proofs.lemmas.List.{append-nil, length-append}
 use Rattle.scf_insn.specs.Insn.{IsInsn}
+use Rattle.scf_insn.specs.Kernel.{bpf_maxinsns}
 use Rattle.scf_insn.specs.declared.insn.Insn.{Insn}
 use Rattle.scf_text.specs.declared.fault.TextFault.{TextFault}
 use Rattle.scf_text.specs.declared.fault.TextFault.TheVariants as fault
 use Rattle.scf_text.specs.declared.form.Form.{Form}
 use Rattle.scf_text.specs.Forms.{forms, pieces_of}
-use Rattle.scf_text.specs.Drafts.{Written, Number, Label, Draft, has_mnemonic, fill_by, blank, read_by, draft_of, is_below, is_in_range}
+use Rattle.scf_text.specs.Drafts.{Written, Number, Label, Draft, has_mnemonic, fill_by, blank, read_by, draft_of}
+use Rattle.scf_text.specs.Drafts.{is_below, is_in_range}
 use Rattle.scf_insn.specs.Numbers.{number_of}
-use Rattle.scf_text.specs.Statements.{Statement, Labels, Places, place_of, instruction_count, label_in, instruction_in, label_at, place_after, labels_from, drafts_by, drafts_in, IsRead, statements_of, labels_of, drafts_of}
+use Rattle.scf_text.specs.Statements.{Statement, Labels, Places, place_of, instruction_count, label_in}
+use Rattle.scf_text.specs.Statements.{instruction_in, label_at, place_after, labels_from, drafts_by, drafts_in}
+use Rattle.scf_text.specs.Statements.{IsRead, statements_of, labels_of, drafts_of}
 use Rattle.scf_text.specs.Spelling.{Says, SaysInsn, SaysEach, AreNew, Spells}
 use Rattle.scf_text.proofs.ReadLemmas.{count_more, labels_more}
-use Rattle.scf_text.specs.Faults.{ascii_fault, label_fault, draft_fault, instruction_fault, statement_fault, statements_fault, fault_in, target_fault, targets_fault, all_targets_fault, fault_of}
+use Rattle.scf_text.specs.Faults.{ascii_fault, label_fault, draft_fault, instruction_fault, statement_fault}
+use Rattle.scf_text.specs.Faults.{statements_fault, fault_in, target_fault, targets_fault, all_targets_fault}
+use Rattle.scf_text.specs.Faults.{fault_of}
 
 -- choices
 
@@ -36,7 +44,8 @@ is_none (Some x) h = absurd cc
 
 -- ASCII
 
-ascii_one : (t : Bool) (b line : ℕ) (rest : Option TextFault) → cond t rest (Some (fault.NotAscii line)) ≡ None → (t ≡ true) × (rest ≡ None)
+ascii_one : (t : Bool) (b line : ℕ) (rest : Option TextFault) → cond t rest (Some (fault.NotAscii line)) ≡ None
+    → (t ≡ true) × (rest ≡ None)
 ascii_one true b line rest h = (refl, h)
 ascii_one false b line rest h = absurd cc
 
@@ -53,73 +62,107 @@ ascii_to (b ∷ bs) line h = rw (lt-ltb b 128 h.0) (ascii_to bs (cond (eqb b 10)
 
 -- the label of a statement
 
-new_from : (earlier : Labels) (at line : ℕ) (o : Option (List ℕ)) (ls : Labels) → label_fault (place_of earlier) line o ≡ None → AreNew (earlier ++ label_at at o) ls → AreNew earlier (label_at at o ++ ls)
+new_from : (earlier : Labels) (at line : ℕ) (o : Option (List ℕ)) (ls : Labels)
+    → label_fault (place_of earlier) line o ≡ None → AreNew (earlier ++ label_at at o) ls
+    → AreNew earlier (label_at at o ++ ls)
 new_from earlier at line None ls h k = subst (λ (e : Labels). AreNew e ls) (append-nil earlier) k
-new_from earlier at line (Some name) ls h k = (is_none (place_of earlier name) (no_some (is_some (place_of earlier name)) (fault.Label line) h), k)
+new_from earlier at line (Some name) ls h k =
+    (is_none (place_of earlier name) (no_some (is_some (place_of earlier name)) (fault.Label line) h), k)
 
-new_to : (earlier : Labels) (at line : ℕ) (o : Option (List ℕ)) (ls : Labels) → AreNew earlier (label_at at o ++ ls) → (label_fault (place_of earlier) line o ≡ None) × AreNew (earlier ++ label_at at o) ls
+new_to : (earlier : Labels) (at line : ℕ) (o : Option (List ℕ)) (ls : Labels) → AreNew earlier (label_at at o ++ ls)
+    → (label_fault (place_of earlier) line o ≡ None) × AreNew (earlier ++ label_at at o) ls
 new_to earlier at line None ls h = (refl, subst (λ (e : Labels). AreNew e ls) (sym (append-nil earlier)) h)
 new_to earlier at line (Some name) ls h = (rw h.0 refl, h.1)
 
 -- the instruction of a statement
 
-draft_from : (at line : ℕ) (o : Option Draft) → draft_fault at line o ≡ None → (d : Draft) × (o ≡ Some d) × (at < 4096)
+draft_from : (at line : ℕ) (o : Option Draft)
+    → draft_fault at line o ≡ None → (d : Draft) × (o ≡ Some d) × (at < bpf_maxinsns)
 draft_from at line None h = absurd cc
 draft_from at line (Some d) h = go (not (is_in_range d)) h where
-  small : (u : Bool) → leb 4096 at ≡ u → cond u (Some (fault.TooLong line)) None ≡ None → at < 4096
+  small : (u : Bool) → leb bpf_maxinsns at ≡ u → cond u (Some (fault.TooLong line)) None ≡ None → at < bpf_maxinsns
   small true e k = absurd cc
-  small false e k = leb-false 4096 at e
+  small false e k = leb-false bpf_maxinsns at e
 
-  go : (t : Bool) → cond t (Some (fault.NumberRange line)) (cond (leb 4096 at) (Some (fault.TooLong line)) None) ≡ None → (e : Draft) × (Some d ≡ Some e) × (at < 4096)
+  go : (t : Bool)
+      → cond t (Some (fault.NumberRange line)) (cond (leb bpf_maxinsns at) (Some (fault.TooLong line)) None) ≡ None
+      → (e : Draft) × (Some d ≡ Some e) × (at < bpf_maxinsns)
   go true k = absurd cc
-  go false k = (d, refl, small (leb 4096 at) refl k)
+  go false k = (d, refl, small (leb bpf_maxinsns at) refl k)
 
 mnemonic_from : (t : Bool) (line : ℕ) (o : Option TextFault) → cond t o (Some (fault.Mnemonic line)) ≡ None → o ≡ None
 mnemonic_from true line o h = h
 mnemonic_from false line o h = absurd cc
 
-instruction_from : (at line : ℕ) (body : List (List ℕ)) → at ≤ 4096 → instruction_fault at line body ≡ None → IsRead body × (at + length (drafts_by line body) ≡ place_after at body) × (place_after at body ≤ 4096)
+instruction_from : (at line : ℕ) (body : List (List ℕ)) → at ≤ bpf_maxinsns → instruction_fault at line body ≡ None
+    → IsRead body × (at + length (drafts_by line body) ≡ place_after at body) × (place_after at body ≤ bpf_maxinsns)
 instruction_from at line [] le h = (tt, omega arith, le)
 instruction_from at line (t ∷ ts) le h =
-    let d = draft_from at line (draft_of t ts) (mnemonic_from (list_any (has_mnemonic t) forms) line (draft_fault at line (draft_of t ts)) h) in
+    let d = draft_from at line (draft_of t ts)
+    (mnemonic_from (list_any (has_mnemonic t) forms) line (draft_fault at line (draft_of t ts)) h) in
     (rw d.1 refl, rw d.1 refl, omega (arith, d.2))
 
 -- the first fault of statements behind labels and as many instructions
 abbrev one_behind : Labels → ℕ → Statement → Option TextFault
-one_behind labels at s = option_or (label_fault (place_of labels) s.line (label_in s.tokens)) (instruction_fault at s.line (instruction_in s.tokens))
+one_behind labels at s =
+    option_or (label_fault (place_of labels) s.line (label_in s.tokens))
+    (instruction_fault at s.line (instruction_in s.tokens))
 
 abbrev behind : Labels → ℕ → List Statement → Option TextFault
 behind labels at [] = None
-behind labels at (s ∷ ss) = option_or (one_behind labels at s) (behind (labels ++ label_at at (label_in s.tokens)) (place_after at (instruction_in s.tokens)) ss)
+behind labels at (s ∷ ss) =
+    option_or (one_behind labels at s)
+    (behind (labels ++ label_at at (label_in s.tokens)) (place_after at (instruction_in s.tokens)) ss)
 
-behind_is : (before ss : List Statement) → statements_fault before ss ≡ behind (labels_from 0 before) (instruction_count before) ss
+behind_is : (before ss : List Statement)
+    → statements_fault before ss ≡ behind (labels_from 0 before) (instruction_count before) ss
 behind_is before [] = refl
 behind_is before (s ∷ ss) =
-    ap (option_or (statement_fault before s)) (behind_is (before ++ s ∷ []) ss ∙ rw (labels_more 0 before s, count_more before s, zero-add (instruction_count before)) refl)
+    ap (option_or (statement_fault before s))
+    (behind_is (before ++ s ∷ []) ss
+    ∙ rw (labels_more 0 before s, count_more before s, zero-add (instruction_count before)) refl)
 
 -- no fault of a statement: the names are new, and each instruction is read, at most 4096 in all
-pub statements_from_none : (ss : List Statement) (earlier : Labels) (at : ℕ) → at ≤ 4096 → behind earlier at ss ≡ None → AreNew earlier (labels_from at ss) × AllByRecursion (λ (s : Statement). IsRead (instruction_in s.tokens)) ss × (at + length (flat_map drafts_in ss) ≤ 4096)
+pub statements_from_none : (ss : List Statement) (earlier : Labels) (at : ℕ) → at ≤ bpf_maxinsns
+    → behind earlier at ss ≡ None
+    → AreNew earlier (labels_from at ss) × AllByRecursion (λ (s : Statement). IsRead (instruction_in s.tokens)) ss
+    × (at + length (flat_map drafts_in ss) ≤ bpf_maxinsns)
 statements_from_none [] earlier at le h = (tt, tt, omega arith)
 statements_from_none (s ∷ ss) earlier at le h =
     let next = place_after at (instruction_in s.tokens) in
     let later : Labels = earlier ++ label_at at (label_in s.tokens) in
     let one = both_none (one_behind earlier at s) (behind later next ss) h in
-    let parts = both_none (label_fault (place_of earlier) s.line (label_in s.tokens)) (instruction_fault at s.line (instruction_in s.tokens)) one.0 in
+    let parts =
+    both_none (label_fault (place_of earlier) s.line (label_in s.tokens))
+    (instruction_fault at s.line (instruction_in s.tokens)) one.0 in
     let read = instruction_from at s.line (instruction_in s.tokens) le parts.1 in
-    let rest = statements_from_none ss later next read.2 one.1 in
-    (new_from earlier at s.line (label_in s.tokens) (labels_from next ss) parts.0 rest.0, (read.0, rest.1), omega (arith, length-append (drafts_by s.line (instruction_in s.tokens)) (flat_map drafts_in ss), read.1, rest.2))
+    let rest = statements_from_none ss later next read.2 one.1 in (
+      new_from earlier at s.line (label_in s.tokens) (labels_from next ss) parts.0 rest.0,
+      (read.0, rest.1),
+      omega (
+        arith,
+        length-append (drafts_by s.line (instruction_in s.tokens)) (flat_map drafts_in ss),
+        read.1,
+        rest.2,
+      ),
+    )
 
 -- and back
 
-chosen_step : (b : Bool) (o rest : Option Draft) (d : Draft) (others : Bool) → option_or (cond b o None) rest ≡ Some d → (rest ≡ Some d → others ≡ true) → (b || others) ≡ true
+chosen_step : (b : Bool) (o rest : Option Draft) (d : Draft) (others : Bool)
+    → option_or (cond b o None) rest ≡ Some d → (rest ≡ Some d → others ≡ true) → (b || others) ≡ true
 chosen_step true o rest d others h k = refl
 chosen_step false o rest d others h k = k h
 
-chosen_form : (fs : List Form) (t : List ℕ) (ts : List (List ℕ)) (d : Draft) → read_by number_of fs t ts ≡ Some d → list_any (has_mnemonic t) fs ≡ true
+chosen_form : (fs : List Form) (t : List ℕ) (ts : List (List ℕ)) (d : Draft) → read_by number_of fs t ts ≡ Some d
+    → list_any (has_mnemonic t) fs ≡ true
 chosen_form [] t ts d h = absurd cc
-chosen_form (f ∷ fs) t ts d h = chosen_step (has_mnemonic t f) (fill_by number_of (pieces_of f.shape) ts (blank f)) (read_by number_of fs t ts) d (list_any (has_mnemonic t) fs) h (chosen_form fs t ts d)
+chosen_form (f ∷ fs) t ts d h =
+    chosen_step (has_mnemonic t f) (fill_by number_of (pieces_of f.shape) ts (blank f)) (read_by number_of fs t ts) d
+    (list_any (has_mnemonic t) fs) h (chosen_form fs t ts d)
 
-has_form : (t : List ℕ) (ts : List (List ℕ)) (d : Draft) → draft_of t ts ≡ Some d → list_any (has_mnemonic t) forms ≡ true
+has_form : (t : List ℕ) (ts : List (List ℕ)) (d : Draft) → draft_of t ts ≡ Some d
+    → list_any (has_mnemonic t) forms ≡ true
 unfolding draft_of
 has_form t ts d h = chosen_form forms t ts d h
 
@@ -134,20 +177,26 @@ front_in_range : (ds es : List (ℕ × Draft)) → InRange (ds ++ es) → InRang
 front_in_range [] es h = (tt, h)
 front_in_range (d ∷ ds) es h = let rest = front_in_range ds es h.1 in ((h.0, rest.0), rest.1)
 
-instruction_one : (at line : ℕ) (t : List ℕ) (ts : List (List ℕ)) (d : Draft) → draft_of t ts ≡ Some d → InRange (drafts_by line (t ∷ ts)) → at + length (drafts_by line (t ∷ ts)) ≤ 4096 → (instruction_fault at line (t ∷ ts) ≡ None) × (place_after at (t ∷ ts) ≡ at + length (drafts_by line (t ∷ ts)))
+instruction_one : (at line : ℕ) (t : List ℕ) (ts : List (List ℕ)) (d : Draft) → draft_of t ts ≡ Some d
+    → InRange (drafts_by line (t ∷ ts)) → at + length (drafts_by line (t ∷ ts)) ≤ bpf_maxinsns
+    → (instruction_fault at line (t ∷ ts) ≡ None) × (place_after at (t ∷ ts) ≡ at + length (drafts_by line (t ∷ ts)))
 instruction_one at line t ts d e range few =
     let one : drafts_by line (t ∷ ts) ≡ (line, d) ∷ [] = rw e refl in
     let in_range = subst InRange one range in
     let count : length (drafts_by line (t ∷ ts)) ≡ 1 = ap length one in
-    (rw (has_form t ts d e, e, in_range.0, lt-leb 4096 at (omega arith)) refl, omega arith)
+    (rw (has_form t ts d e, e, in_range.0, lt-leb bpf_maxinsns at (omega arith)) refl, omega arith)
 
-instruction_to : (at line : ℕ) (body : List (List ℕ)) → IsRead body → InRange (drafts_by line body) → at + length (drafts_by line body) ≤ 4096 → (instruction_fault at line body ≡ None) × (place_after at body ≡ at + length (drafts_by line body))
+instruction_to : (at line : ℕ) (body : List (List ℕ)) → IsRead body → InRange (drafts_by line body)
+    → at + length (drafts_by line body) ≤ bpf_maxinsns
+    → (instruction_fault at line body ≡ None) × (place_after at body ≡ at + length (drafts_by line body))
 instruction_to at line [] read range few = (refl, omega arith)
 instruction_to at line (t ∷ ts) read range few =
     let d = the_some (draft_of t ts) read in
     instruction_one at line t ts d.0 d.1 range few
 
-pub statements_to_none : (ss : List Statement) (earlier : Labels) (at : ℕ) → AreNew earlier (labels_from at ss) → AllByRecursion (λ (s : Statement). IsRead (instruction_in s.tokens)) ss → InRange (flat_map drafts_in ss) → at + length (flat_map drafts_in ss) ≤ 4096 → behind earlier at ss ≡ None
+pub statements_to_none : (ss : List Statement) (earlier : Labels) (at : ℕ) → AreNew earlier (labels_from at ss)
+    → AllByRecursion (λ (s : Statement). IsRead (instruction_in s.tokens)) ss → InRange (flat_map drafts_in ss)
+    → at + length (flat_map drafts_in ss) ≤ bpf_maxinsns → behind earlier at ss ≡ None
 statements_to_none [] earlier at new read range few = refl
 statements_to_none (s ∷ ss) earlier at new read range few =
     let body = instruction_in s.tokens in
@@ -157,16 +206,22 @@ statements_to_none (s ∷ ss) earlier at new read range few =
     let count = length-append (drafts_by s.line body) (flat_map drafts_in ss) in
     let one = instruction_to at s.line body read.0 parts.0 (omega (arith, count)) in
     let label = new_to earlier at s.line (label_in s.tokens) (labels_from next ss) new in
-    let here = none_both (label_fault (place_of earlier) s.line (label_in s.tokens)) (instruction_fault at s.line body) label.0 one.0 in
-    none_both (one_behind earlier at s) (behind later next ss) here (statements_to_none ss later next label.1 read.1 parts.1 (omega (arith, count, one.1)))
+    let here =
+    none_both (label_fault (place_of earlier) s.line (label_in s.tokens)) (instruction_fault at s.line body)
+    label.0 one.0 in
+    none_both (one_behind earlier at s) (behind later next ss) here
+    (statements_to_none ss later next label.1 read.1 parts.1 (omega (arith, count, one.1)))
 
 -- what is said
 
-says_value : (places : Places) (at line limit : ℕ) (o : Written) (v : ℕ) → Says places at o v → v < limit → (is_below limit o ≡ true) × (target_fault places at line limit o ≡ None)
+says_value : (places : Places) (at line limit : ℕ) (o : Written) (v : ℕ) → Says places at o v → v < limit
+    → (is_below limit o ≡ true) × (target_fault places at line limit o ≡ None)
 says_value places at line limit (Number n) v h lt = (lt-ltb n limit (omega arith), refl)
-says_value places at line limit (Label name) v h lt = (refl, rw (h, le-ltb (at + 1 + v) (at + 1) (omega arith), lt-leb limit (at + 1 + v - (at + 1)) (omega arith)) refl)
+says_value places at line limit (Label name) v h lt =
+    (refl, rw (h, le-ltb (at + 1 + v) (at + 1) (omega arith), lt-leb limit (at + 1 + v - (at + 1)) (omega arith)) refl)
 
-says_insn : (places : Places) (at line : ℕ) (d : Draft) (i : Insn) → SaysInsn places at d i → IsInsn i → (is_in_range d ≡ true) × (targets_fault places at line d ≡ None)
+says_insn : (places : Places) (at line : ℕ) (d : Draft) (i : Insn) → SaysInsn places at d i → IsInsn i
+    → (is_in_range d ≡ true) × (targets_fault places at line d ≡ None)
 says_insn places at line d i s fits =
     let jt = says_value places at line (2 ^ 8) d.jt i.jt s.jt fits.jt in
     let jf = says_value places at line (2 ^ 8) d.jf i.jf s.jf fits.jf in
@@ -174,33 +229,58 @@ says_insn places at line d i s fits =
     let code : ltb d.code (2 ^ 16) ≡ true = lt-ltb d.code (2 ^ 16) (omega (arith, s.code, fits.code)) in
     (rw (code, jt.0, jf.0, k.0) refl, rw (jt.1, jf.1, k.1) refl)
 
-says_each : (places : Places) (at : ℕ) (ds : List (ℕ × Draft)) (is : List Insn) → SaysEach places at ds is → AllByRecursion IsInsn is → InRange ds × (all_targets_fault places at ds ≡ None) × (length ds ≡ length is)
+says_each : (places : Places) (at : ℕ) (ds : List (ℕ × Draft)) (is : List Insn) → SaysEach places at ds is
+    → AllByRecursion IsInsn is → InRange ds × (all_targets_fault places at ds ≡ None) × (length ds ≡ length is)
 says_each places at [] [] s fits = (tt, refl, refl)
 says_each places at [] (i ∷ is) s fits = absurd s
 says_each places at (d ∷ ds) [] s fits = absurd s
 says_each places at (d ∷ ds) (i ∷ is) s fits =
     let one = says_insn places at d.0 d.1 i s.0 fits.0 in
-    let rest = says_each places (at + 1) ds is s.1 fits.1 in
-    ((one.0, rest.0), none_both (targets_fault places at d.0 d.1) (all_targets_fault places (at + 1) ds) one.1 rest.1, ap suc rest.2)
+    let rest = says_each places (at + 1) ds is s.1 fits.1 in (
+      (one.0, rest.0),
+      none_both (targets_fault places at d.0 d.1) (all_targets_fault places (at + 1) ds) one.1
+          rest.1,
+      ap suc rest.2,
+    )
 
 -- a text that spells a list has no fault
 pub no_fault : (text : List ℕ) (is : List Insn) → Spells text is → fault_of text ≡ None
 unfolding fault_of fault_in
 no_fault text is s =
     let said = says_each (place_of (labels_of text)) 0 (drafts_of text) is s.each s.fields in
-    let read = behind_is [] (statements_of text) ∙ statements_to_none (statements_of text) [] 0 s.distinct s.read said.0 (omega (arith, said.2, s.few)) in
-    none_both (ascii_fault 1 text) (option_or (statements_fault [] (statements_of text)) (all_targets_fault (place_of (labels_of text)) 0 (drafts_of text))) (ascii_to text 1 s.ascii)
-    (none_both (statements_fault [] (statements_of text)) (all_targets_fault (place_of (labels_of text)) 0 (drafts_of text)) read said.1)
+    let read = behind_is [] (statements_of text)
+    ∙ statements_to_none (statements_of text) [] 0 s.distinct s.read said.0 (omega (arith, said.2, s.few)) in
+    none_both (ascii_fault 1 text)
+    (option_or (statements_fault [] (statements_of text))
+    (all_targets_fault (place_of (labels_of text)) 0 (drafts_of text))) (ascii_to text 1 s.ascii)
+    (none_both (statements_fault [] (statements_of text))
+    (all_targets_fault (place_of (labels_of text)) 0 (drafts_of text)) read said.1)
 
 -- a text with no fault spells what its instructions say
-pub spelled : (text : List ℕ) (is : List Insn) → fault_of text ≡ None → SaysEach (place_of (labels_of text)) 0 (drafts_of text) is → AllByRecursion IsInsn is → Spells text is
+pub spelled : (text : List ℕ) (is : List Insn) → fault_of text ≡ None
+    → SaysEach (place_of (labels_of text)) 0 (drafts_of text) is → AllByRecursion IsInsn is → Spells text is
 unfolding fault_of fault_in
 spelled text is none says fits =
-    let outer = both_none (ascii_fault 1 text) (option_or (statements_fault [] (statements_of text)) (all_targets_fault (place_of (labels_of text)) 0 (drafts_of text))) none in
-    let inner = both_none (statements_fault [] (statements_of text)) (all_targets_fault (place_of (labels_of text)) 0 (drafts_of text)) outer.1 in
-    let read = statements_from_none (statements_of text) [] 0 (omega arith) (sym (behind_is [] (statements_of text)) ∙ inner.0) in
+    let outer =
+    both_none (ascii_fault 1 text)
+    (option_or (statements_fault [] (statements_of text))
+    (all_targets_fault (place_of (labels_of text)) 0 (drafts_of text))) none in
+    let inner =
+    both_none (statements_fault [] (statements_of text))
+    (all_targets_fault (place_of (labels_of text)) 0 (drafts_of text)) outer.1 in
+    let read =
+    statements_from_none (statements_of text) [] 0 (omega arith)
+    (sym (behind_is [] (statements_of text)) ∙ inner.0) in
     let said = says_each (place_of (labels_of text)) 0 (drafts_of text) is says fits in
-    record { ascii = ascii_from text 1 outer.0; distinct = read.0; few = omega (arith, said.2, read.2); fields = fits; read = read.1; each = says }
+    record {
+      ascii = ascii_from text 1 outer.0;
+      distinct = read.0;
+      few = omega (arith, said.2, read.2);
+      fields =
+          fits;
+      read = read.1;
+      each = says;
+    }
 
 -- a text spells one list
 
@@ -223,7 +303,8 @@ one_insn places at d i j s t =
     let same : insn i.code i.jt i.jf i.k ≡ insn j.code j.jt j.jf j.k = rw (code, jt, jf, k) refl in
     same
 
-pub one_said : (places : Places) (at : ℕ) (ds : List (ℕ × Draft)) (is js : List Insn) → SaysEach places at ds is → SaysEach places at ds js → is ≡ js
+pub one_said : (places : Places) (at : ℕ) (ds : List (ℕ × Draft)) (is js : List Insn) → SaysEach places at ds is
+    → SaysEach places at ds js → is ≡ js
 one_said places at [] [] [] s t = refl
 one_said places at [] [] (j ∷ js) s t = absurd t
 one_said places at [] (i ∷ is) js s t = absurd s

@@ -1,6 +1,5 @@
 pub mod TokenLemmas
 pub mod WriteLemmas
-pub mod DigitLemmas
 pub mod FormLemmas
 pub mod DraftLemmas
 pub mod CappedLemmas
@@ -16,3 +15,4 @@ pub mod RoundTrip
 pub mod OneForm
 pub mod SliceLemmas
 pub mod TextLaws
+pub mod WantedLemmas

@@ -1,5 +1,6 @@
 -- The statements of a listing.
-use Rattle.std.proofs.Common.{◌≡◌, ℕ, ◌<◌, Bool, true, false, not, ◌&&◌, ◌||◌, eqb, ltb, List, [], ◌∷◌, ◌++◌, None, refl, ap, ◌∙◌, arith, inl, inr}
+use Rattle.std.proofs.Common.{◌≡◌, ℕ, ◌<◌, Bool, true, false, not, ◌&&◌, ◌||◌, eqb, ltb, List, [], ◌∷◌, ◌++◌, None}
+use Rattle.std.proofs.Common.{refl, ap, ◌∙◌, arith, inl, inr}
 use Rattle.std.specs.List.{AllByRecursion, list_all, flat_map}
 use Rattle.std.specs.Str.{bytes_eq}
 use Rattle.std.specs.Fmt.{decimal}
@@ -17,7 +18,8 @@ use Rattle.scf_text.specs.Forms.{mnemonic_text, pieces_of, field_of, form_for}
 use Rattle.scf_text.specs.Listing.{number_text, mark_text, piece_text, operands_text}
 use Rattle.scf_text.specs.Drafts.{is_name}
 use Rattle.scf_text.specs.Statements.{is_semicolon, label_in}
-use Rattle.scf_text.proofs.PieceLemmas.{IsWordy, is_fine_mark, is_fine, is_separated, is_mark, starts_with_mark, piece_words, piece_wordy, mnemonic_wordy}
+use Rattle.scf_text.proofs.PieceLemmas.{IsWordy, is_fine_mark, is_fine, is_separated, is_mark, starts_with_mark}
+use Rattle.scf_text.proofs.PieceLemmas.{piece_words, piece_wordy, mnemonic_wordy}
 use Rattle.scf_text.proofs.BackLemmas.{separated}
 
 -- a byte that neither ends a line nor begins a comment
@@ -33,7 +35,8 @@ word_line b h = grind (arith, nat_tests)
 
 words_line : (t : List ℕ) → list_all is_word_byte t ≡ true → list_all is_line_byte t ≡ true
 words_line [] h = refl
-words_line (b ∷ t) h = let both = and_parts (is_word_byte b) (list_all is_word_byte t) h in and_from (is_line_byte b) (list_all is_line_byte t) (word_line b both.0) (words_line t both.1)
+words_line (b ∷ t) h = let both = and_parts (is_word_byte b) (list_all is_word_byte t) h in
+    and_from (is_line_byte b) (list_all is_line_byte t) (word_line b both.0) (words_line t both.1)
 
 word_semicolon : (b : ℕ) → is_word_byte b ≡ true → eqb b 59 ≡ false
 word_semicolon b h = grind (arith, nat_tests)
@@ -48,12 +51,14 @@ wordy_plain (b ∷ t) w =
     rw (word_semicolon b h, word_colon b h) refl
 
 abbrev rest_of_mark : ℕ → Bool
-rest_of_mark b = not (is_word_byte b) && (ltb b 128 && (not (eqb b 47) && (not (eqb b 10) && (not (eqb b 58) && not (eqb b 59)))))
+rest_of_mark b =
+    not (is_word_byte b) && (ltb b 128 && (not (eqb b 47) && (not (eqb b 10) && (not (eqb b 58) && not (eqb b 59)))))
 
 mark_line : (b : ℕ) → is_fine_mark b ≡ true → list_all is_line_byte (mark_text b) ≡ true
 mark_line b fine =
     let a = and_parts (not (is_blank b)) (rest_of_mark b) fine in
-    let c = and_parts (not (is_word_byte b)) (ltb b 128 && (not (eqb b 47) && (not (eqb b 10) && (not (eqb b 58) && not (eqb b 59))))) a.1 in
+    let c = and_parts (not (is_word_byte b))
+    (ltb b 128 && (not (eqb b 47) && (not (eqb b 10) && (not (eqb b 58) && not (eqb b 59))))) a.1 in
     let d = and_parts (ltb b 128) (not (eqb b 47) && (not (eqb b 10) && (not (eqb b 58) && not (eqb b 59)))) c.1 in
     let e = and_parts (not (eqb b 47)) (not (eqb b 10) && (not (eqb b 58) && not (eqb b 59))) d.1 in
     let f = and_parts (not (eqb b 10)) (not (eqb b 58) && not (eqb b 59)) e.1 in
@@ -65,34 +70,45 @@ mark_line b fine =
 mark_plain : (b : ℕ) → is_fine_mark b ≡ true → is_plain (b ∷ []) ≡ true
 mark_plain b fine =
     let a = and_parts (not (is_blank b)) (rest_of_mark b) fine in
-    let c = and_parts (not (is_word_byte b)) (ltb b 128 && (not (eqb b 47) && (not (eqb b 10) && (not (eqb b 58) && not (eqb b 59))))) a.1 in
+    let c = and_parts (not (is_word_byte b))
+    (ltb b 128 && (not (eqb b 47) && (not (eqb b 10) && (not (eqb b 58) && not (eqb b 59))))) a.1 in
     let d = and_parts (ltb b 128) (not (eqb b 47) && (not (eqb b 10) && (not (eqb b 58) && not (eqb b 59)))) c.1 in
     let e = and_parts (not (eqb b 47)) (not (eqb b 10) && (not (eqb b 58) && not (eqb b 59))) d.1 in
     let f = and_parts (not (eqb b 10)) (not (eqb b 58) && not (eqb b 59)) e.1 in
     let g = and_parts (not (eqb b 58)) (not (eqb b 59)) f.1 in
     rw (not-true (eqb b 58) g.0, not-true (eqb b 59) g.1) refl
 
-piece_line : (i : Insn) (q : Piece) → IsInsn i → is_fine q ≡ true → (list_all is_line_byte (piece_text i q) ≡ true) × (list_all is_plain (piece_words i q) ≡ true)
+piece_line : (i : Insn) (q : Piece) → IsInsn i → is_fine q ≡ true
+    → (list_all is_line_byte (piece_text i q) ≡ true) × (list_all is_plain (piece_words i q) ≡ true)
 piece_line i (p.Mark b) fits fine = (mark_line b fine, rw (mark_plain b fine) refl)
 piece_line i p.Len fits fine = (refl, refl)
 piece_line i p.Memory fits fine = (refl, refl)
 piece_line i p.Accumulator fits fine = (refl, refl)
 piece_line i p.Index fits fine = (refl, refl)
-piece_line i (p.Number f style) fits fine = let w = piece_wordy i f style fits in (words_line (number_text style (field_of i f)) w.each, rw (wordy_plain (number_text style (field_of i f)) w) refl)
-piece_line i (p.Target f) fits fine = let w = piece_wordy i f Decimal fits in (words_line (decimal (field_of i f)) w.each, rw (wordy_plain (decimal (field_of i f)) w) refl)
+piece_line i (p.Number f style) fits fine = let w = piece_wordy i f style fits in
+    (words_line (number_text style (field_of i f)) w.each, rw (wordy_plain (number_text style (field_of i f)) w) refl)
+piece_line i (p.Target f) fits fine = let w = piece_wordy i f Decimal fits in
+    (words_line (decimal (field_of i f)) w.each, rw (wordy_plain (decimal (field_of i f)) w) refl)
 
-pieces_line : (i : Insn) (ps : List Piece) → IsInsn i → is_separated ps ≡ true → (list_all is_line_byte (flat_map (piece_text i) ps) ≡ true) × (list_all is_plain (flat_map (piece_words i) ps) ≡ true)
+pieces_line : (i : Insn) (ps : List Piece) → IsInsn i → is_separated ps ≡ true
+    → (list_all is_line_byte (flat_map (piece_text i) ps) ≡ true)
+    × (list_all is_plain (flat_map (piece_words i) ps) ≡ true)
 pieces_line i [] fits s = (refl, refl)
 pieces_line i (q ∷ ps) fits s =
     let a = and_parts (is_fine q) ((is_mark q || starts_with_mark ps) && is_separated ps) s in
     let b = and_parts (is_mark q || starts_with_mark ps) (is_separated ps) a.1 in
     let one = piece_line i q fits a.0 in
     let rest = pieces_line i ps fits b.1 in (
-      list_all-append is_line_byte (piece_text i q) (flat_map (piece_text i) ps) ∙ and_from (list_all is_line_byte (piece_text i q)) (list_all is_line_byte (flat_map (piece_text i) ps)) one.0 rest.0,
-      list_all-append is_plain (piece_words i q) (flat_map (piece_words i) ps) ∙ and_from (list_all is_plain (piece_words i q)) (list_all is_plain (flat_map (piece_words i) ps)) one.1 rest.1,
+      list_all-append is_line_byte (piece_text i q) (flat_map (piece_text i) ps)
+          ∙ and_from (list_all is_line_byte (piece_text i q)) (list_all is_line_byte (flat_map (piece_text i) ps))
+          one.0 rest.0,
+      list_all-append is_plain (piece_words i q) (flat_map (piece_words i) ps)
+          ∙ and_from (list_all is_plain (piece_words i q)) (list_all is_plain (flat_map (piece_words i) ps)) one.1
+          rest.1,
     )
 
-operands_line : (i : Insn) (ps : List Piece) → IsInsn i → is_separated ps ≡ true → list_all is_line_byte (operands_text i ps) ≡ true
+operands_line : (i : Insn) (ps : List Piece) → IsInsn i → is_separated ps ≡ true
+    → list_all is_line_byte (operands_text i ps) ≡ true
 operands_line i [] fits s = refl
 operands_line i (q ∷ ps) fits s = (pieces_line i (q ∷ ps) fits s).0
 
@@ -107,7 +123,9 @@ pub body_line : (i : Insn) → IsInsn i → list_all is_line_byte (body i) ≡ t
 body_line i fits =
     let ps = pieces_of (form_for i).shape in
     let n = (form_for i).mnemonic in
-    list_all-append is_line_byte (mnemonic_text n) (operands_text i ps) ∙ and_from (list_all is_line_byte (mnemonic_text n)) (list_all is_line_byte (operands_text i ps)) (words_line (mnemonic_text n) (mnemonic_wordy n).each) (operands_line i ps fits (separated (form_for i).shape))
+    list_all-append is_line_byte (mnemonic_text n) (operands_text i ps)
+    ∙ and_from (list_all is_line_byte (mnemonic_text n)) (list_all is_line_byte (operands_text i ps))
+    (words_line (mnemonic_text n) (mnemonic_wordy n).each) (operands_line i ps fits (separated (form_for i).shape))
 
 pub no_comment : (t : List ℕ) → list_all is_line_byte t ≡ true → before_comment t ≡ t
 no_comment [] h = refl

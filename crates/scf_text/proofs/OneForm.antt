@@ -1,5 +1,6 @@
 -- No two forms take the same tokens, however numbers are read.
-use Rattle.std.proofs.Common.{◌≡◌, ℕ, Bool, true, false, not, ◌&&◌, ◌||◌, cond, List, [], ◌∷◌, Option, Some, None, refl, subst, inl, inr}
+use Rattle.std.proofs.Common.{◌≡◌, ℕ, Bool, true, false, not, ◌&&◌, ◌||◌, cond, List, [], ◌∷◌, Option, Some, None}
+use Rattle.std.proofs.Common.{refl, subst, inl, inr}
 use Rattle.std.specs.Option.{option_and_then, option_or}
 use Rattle.std.specs.List.{AllByRecursion, list_all, list_any}
 use Rattle.std.specs.Str.{bytes_eq}
@@ -11,7 +12,7 @@ use Rattle.scf_text.specs.declared.form.Form.{Form}
 use Rattle.scf_insn.specs.Codes.{code_table}
 use Rattle.scf_insn.specs.Numbers.{number_of}
 use Rattle.scf_text.specs.Forms.{mnemonic_text, pieces_of, known_forms, forms}
-use Rattle.scf_text.specs.Drafts.{Draft, spellings, put_by, fill_by, blank, has_mnemonic, read_by, read_in, draft_of, IsOnlyReading}
+use Rattle.scf_text.specs.Drafts.{Draft, spellings, put_by, fill_by, blank, has_mnemonic, read_by, read_in, draft_of}
 use Rattle.scf_insn.specs.Numbers.{number_of}
 
 -- no text is in both
@@ -33,7 +34,9 @@ clash (q ∷ qs) [] = true
 clash (q ∷ qs) (r ∷ rs) = apart_piece q r || clash qs rs
 
 abbrev apart : Form → Form → Bool
-apart f g = not (bytes_eq (mnemonic_text f.mnemonic) (mnemonic_text g.mnemonic)) || clash (pieces_of f.shape) (pieces_of g.shape)
+apart f g =
+    not (bytes_eq (mnemonic_text f.mnemonic) (mnemonic_text g.mnemonic)) || clash (pieces_of f.shape)
+    (pieces_of g.shape)
 
 abbrev all_apart : List Form → Bool
 all_apart [] = true
@@ -50,32 +53,38 @@ chosen_true false o x h = absurd cc
 is_same : (s t : List ℕ) → bytes_eq s t ≡ true → s ≡ t
 is_same s t h = (bytes_eq-Decides s t).0 h
 
-not_in_disjoint : (t : List ℕ) (ws vs : List (List ℕ)) → disjoint ws vs ≡ true → list_any (bytes_eq t) ws ≡ true → list_any (bytes_eq t) vs ≡ true → ⊥
+not_in_disjoint : (t : List ℕ) (ws vs : List (List ℕ)) → disjoint ws vs ≡ true → list_any (bytes_eq t) ws ≡ true
+    → list_any (bytes_eq t) vs ≡ true → ⊥
 not_in_disjoint t [] vs d h k = absurd cc
 not_in_disjoint t (w ∷ ws) vs d h k =
     let a = and_parts (not (list_any (bytes_eq w) vs)) (disjoint ws vs) d in
     elim (or_cases (bytes_eq t w) (list_any (bytes_eq t) ws) h) [
       | inl here ↦
           let other : list_any (bytes_eq w) vs ≡ false = not-true (list_any (bytes_eq w) vs) a.0 in
-          let same : list_any (bytes_eq w) vs ≡ true = subst (λ (s : List ℕ). list_any (bytes_eq s) vs ≡ true) (is_same t w here) k in
+          let same : list_any (bytes_eq w) vs ≡ true =
+          subst (λ (s : List ℕ). list_any (bytes_eq s) vs ≡ true) (is_same t w here) k in
           cc
       | inr later ↦ not_in_disjoint t ws vs a.1 later k
     ]
 
-put_fixed : (number : List ℕ → Option ℕ) (q : Piece) (t : List ℕ) (d e : Draft) → is_fixed q ≡ true → put_by number q t d ≡ Some e → list_any (bytes_eq t) (spellings q) ≡ true
+put_fixed : (number : List ℕ → Option ℕ) (q : Piece) (t : List ℕ) (d e : Draft) → is_fixed q ≡ true
+    → put_by number q t d ≡ Some e → list_any (bytes_eq t) (spellings q) ≡ true
 put_fixed number (p.Number f style) t d e h k = absurd cc
 put_fixed number (p.Target f) t d e h k = absurd cc
 put_fixed number (p.Mark b) t d e h k = (chosen_true (list_any (bytes_eq t) (spellings (p.Mark b))) (Some d) e k).0
 put_fixed number p.Len t d e h k = (chosen_true (list_any (bytes_eq t) (spellings p.Len)) (Some d) e k).0
 put_fixed number p.Memory t d e h k = (chosen_true (list_any (bytes_eq t) (spellings p.Memory)) (Some d) e k).0
-put_fixed number p.Accumulator t d e h k = (chosen_true (list_any (bytes_eq t) (spellings p.Accumulator)) (Some d) e k).0
+put_fixed number p.Accumulator t d e h k =
+    (chosen_true (list_any (bytes_eq t) (spellings p.Accumulator)) (Some d) e k).0
 put_fixed number p.Index t d e h k = (chosen_true (list_any (bytes_eq t) (spellings p.Index)) (Some d) e k).0
 
-then_some : {A B : Type 0} (f : A → Option B) (o : Option A) (y : B) → option_and_then f o ≡ Some y → (x : A) × (o ≡ Some x) × (f x ≡ Some y)
+then_some : {A B : Type 0} (f : A → Option B) (o : Option A) (y : B) → option_and_then f o ≡ Some y
+    → (x : A) × (o ≡ Some x) × (f x ≡ Some y)
 then_some f None y h = absurd cc
 then_some f (Some x) y h = (x, refl, h)
 
-no_both : (number : List ℕ → Option ℕ) (qs rs : List Piece) (ts : List (List ℕ)) (a b d e : Draft) → clash qs rs ≡ true → fill_by number qs ts a ≡ Some d → fill_by number rs ts b ≡ Some e → ⊥
+no_both : (number : List ℕ → Option ℕ) (qs rs : List Piece) (ts : List (List ℕ)) (a b d e : Draft)
+    → clash qs rs ≡ true → fill_by number qs ts a ≡ Some d → fill_by number rs ts b ≡ Some e → ⊥
 no_both number [] [] ts a b d e c h k = absurd cc
 no_both number [] (r ∷ rs) [] a b d e c h k = absurd cc
 no_both number [] (r ∷ rs) (t ∷ ts) a b d e c h k = absurd cc
@@ -89,45 +98,60 @@ no_both number (q ∷ qs) (r ∷ rs) (t ∷ ts) a b d e c h k =
       | inl here ↦
           let u = and_parts (is_fixed q) (is_fixed r && disjoint (spellings q) (spellings r)) here in
           let v = and_parts (is_fixed r) (disjoint (spellings q) (spellings r)) u.1 in
-          not_in_disjoint t (spellings q) (spellings r) v.1 (put_fixed number q t a x.0 u.0 x.1) (put_fixed number r t b y.0 v.0 y.1)
+          not_in_disjoint t (spellings q) (spellings r) v.1 (put_fixed number q t a x.0 u.0 x.1)
+          (put_fixed number r t b y.0 v.0 y.1)
       | inr later ↦ no_both number qs rs ts x.0 y.0 d e later x.2 y.2
     ]
 
-not_both : (number : List ℕ → Option ℕ) (f g : Form) (t : List ℕ) (ts : List (List ℕ)) (d e : Draft) → apart f g ≡ true → read_in number f t ts ≡ Some d → read_in number g t ts ≡ Some e → ⊥
+not_both : (number : List ℕ → Option ℕ) (f g : Form) (t : List ℕ) (ts : List (List ℕ)) (d e : Draft)
+    → apart f g ≡ true → read_in number f t ts ≡ Some d → read_in number g t ts ≡ Some e → ⊥
 not_both number f g t ts d e a h k =
     let x = chosen_true (has_mnemonic t f) (fill_by number (pieces_of f.shape) ts (blank f)) d h in
     let y = chosen_true (has_mnemonic t g) (fill_by number (pieces_of g.shape) ts (blank g)) e k in
     let fm = is_same t (mnemonic_text f.mnemonic) x.0 in
-    let same : bytes_eq (mnemonic_text f.mnemonic) (mnemonic_text g.mnemonic) ≡ true = subst (λ (s : List ℕ). bytes_eq s (mnemonic_text g.mnemonic) ≡ true) fm y.0 in
-    elim (or_cases (not (bytes_eq (mnemonic_text f.mnemonic) (mnemonic_text g.mnemonic))) (clash (pieces_of f.shape) (pieces_of g.shape)) a) [
+    let same : bytes_eq (mnemonic_text f.mnemonic) (mnemonic_text g.mnemonic) ≡ true =
+    subst (λ (s : List ℕ). bytes_eq s (mnemonic_text g.mnemonic) ≡ true) fm y.0 in
+    elim (or_cases (not (bytes_eq (mnemonic_text f.mnemonic) (mnemonic_text g.mnemonic)))
+    (clash (pieces_of f.shape) (pieces_of g.shape)) a) [
       | inl other ↦ let no = not-true (bytes_eq (mnemonic_text f.mnemonic) (mnemonic_text g.mnemonic)) other in cc
       | inr clashes ↦ no_both number (pieces_of f.shape) (pieces_of g.shape) ts (blank f) (blank g) d e clashes x.1 y.1
     ]
 
 -- each form that takes the tokens reads what the first one reads
 abbrev pub IsRead : (List ℕ → Option ℕ) → List Form → Form → Type 0
-IsRead number fs f = (t : List ℕ) (ts : List (List ℕ)) (d : Draft) → read_in number f t ts ≡ Some d → read_by number fs t ts ≡ Some d
+IsRead number fs f = (t : List ℕ) (ts : List (List ℕ)) (d : Draft) → read_in number f t ts ≡ Some d
+    → read_by number fs t ts ≡ Some d
 
 first_read : (number : List ℕ → Option ℕ) (f : Form) (fs : List Form) → IsRead number (f ∷ fs) f
 first_read number f fs t ts d h = rw h refl
 
-later_read : (number : List ℕ → Option ℕ) (f g : Form) (fs : List Form) → apart f g ≡ true → IsRead number fs g → IsRead number (f ∷ fs) g
+later_read : (number : List ℕ → Option ℕ) (f g : Form) (fs : List Form) → apart f g ≡ true → IsRead number fs g
+    → IsRead number (f ∷ fs) g
 later_read number f g fs a r t ts d h = go (read_in number f t ts) refl where
-  go : (o : Option Draft) → read_in number f t ts ≡ o → option_or (read_in number f t ts) (read_by number fs t ts) ≡ Some d
+  go : (o : Option Draft) → read_in number f t ts ≡ o
+      → option_or (read_in number f t ts) (read_by number fs t ts) ≡ Some d
   go None e = rw e (r t ts d h)
   go (Some x) e = absurd (not_both number f g t ts x d a e h)
 
-tail_read : (number : List ℕ → Option ℕ) (f : Form) (fs gs : List Form) → list_all (apart f) gs ≡ true → AllByRecursion (IsRead number fs) gs → AllByRecursion (IsRead number (f ∷ fs)) gs
+tail_read : (number : List ℕ → Option ℕ) (f : Form) (fs gs : List Form) → list_all (apart f) gs ≡ true
+    → AllByRecursion (IsRead number fs) gs → AllByRecursion (IsRead number (f ∷ fs)) gs
 tail_read number f fs [] a r = tt
-tail_read number f fs (g ∷ gs) a r = let b = and_parts (apart f g) (list_all (apart f) gs) a in (later_read number f g fs b.0 r.0, tail_read number f fs gs b.1 r.1)
+tail_read number f fs (g ∷ gs) a r = let b = and_parts (apart f g) (list_all (apart f) gs) a in
+    (later_read number f g fs b.0 r.0, tail_read number f fs gs b.1 r.1)
 
 all_read : (number : List ℕ → Option ℕ) (fs : List Form) → all_apart fs ≡ true → AllByRecursion (IsRead number fs) fs
 all_read number [] a = tt
-all_read number (f ∷ fs) a = let b = and_parts (list_all (apart f) fs) (all_apart fs) a in (first_read number f fs, tail_read number f fs fs b.0 (all_read number fs b.1))
+all_read number (f ∷ fs) a = let b = and_parts (list_all (apart f) fs) (all_apart fs) a in
+    (first_read number f fs, tail_read number f fs fs b.0 (all_read number fs b.1))
 
 -- what a form reads is what all of them read
 pub only_reading : (number : List ℕ → Option ℕ) → AllByRecursion (IsRead number forms) forms
 only_reading number = all_read number forms forms_apart
+
+-- what a mnemonic and the tokens behind it say in this form is what they say
+abbrev pub IsOnlyReading : Form → Type 0
+IsOnlyReading form = (t : List ℕ) (ts : List (List ℕ)) (d : Draft)
+    → read_in number_of form t ts ≡ Some d → draft_of t ts ≡ Some d
 
 pub one_reading : AllByRecursion IsOnlyReading forms
 unfolding draft_of

@@ -1,31 +1,25 @@
 -- What reading a text gives.
-use Rattle.std.proofs.Common.{◌≡◌, ◌≢◌, ℕ, List, [], ◌++◌, Option, Some, None, Result, Ok, Err, refl, sym, ap, subst, ◌∙◌}
-use Rattle.std.specs.Prelude.{MatchResult, IfOk, IfErr}
+use Rattle.std.proofs.Common.{◌≡◌, ◌≢◌, ℕ, List, [], Option, Some, None, Result, Ok, Err, refl, ap}
+use Rattle.std.specs.Prelude.{IfOk, IfErr}
 use Rattle.std.specs.Global.{Vec}
 use Rattle.std.specs.Borrow.{Bor}
 use Rattle.std.specs.BTreeMap.{BTreeMap, IsEmpty, is_at}
 use Rattle.std.specs.Cmp.Lexicographic.{slice_cmp}
-use Rattle.std.specs.List.{AllByRecursion}
 use Rattle.std.specs.Map.{lookup}
 use Rattle.std.specs.Ordering.{nat_cmp}
 use Rattle.std.proofs.Math.Path.{fun_ext}
-use Rattle.std.specs.Option.{option_or}
-use Rattle.scf_insn.specs.Insn.{IsInsn}
 use Rattle.scf_insn.specs.declared.insn.Insn.{Insn}
 use Rattle.scf_text.specs.declared.fault.TextFault.{TextFault}
 use Rattle.scf_text.specs.declared.fault.TextFault.TheVariants as fault
 use Rattle.scf_text.specs.Drafts as drafts
 use Rattle.scf_text.specs.Statements.{Places, place_of, statements_of, labels_of, drafts_of}
-use Rattle.scf_text.specs.Spelling.{SaysEach, Spells}
+use Rattle.scf_text.specs.Spelling.{Spells}
 use Rattle.scf_text.specs.Faults.{ascii_fault, statements_fault, all_targets_fault, fault_in, fault_of, IsFault}
 use Rattle.scf_text.specs.declared.line.Line.{Line}
-use Rattle.scf_text.specs.Reading.{places_view, drafts_view, HasRead}
+use Rattle.scf_text.specs.internal.Results.{TellsInsns, TellsText}
+use Rattle.scf_text.specs.internal.Reading.{places_view, drafts_view, HasRead}
 use Rattle.scf_text.proofs.ReadLemmas.{fault_first, fault_then}
 use Rattle.scf_text.proofs.LawLemmas.{no_fault, spelled}
-
--- the instructions are what the text says, or the fault is its first
-abbrev pub Tells : Option TextFault → List ℕ → Result (Vec Insn) TextFault → Type 0
-Tells o text r = MatchResult r (λ insns. (o ≡ None) × SaysEach (place_of (labels_of text)) 0 (drafts_of text) insns.items × AllByRecursion IsInsn insns.items) (λ e. IsFault e o)
 
 pub is_fault : (e : TextFault) (o : Option TextFault) → o ≡ Some e → IsFault e o
 is_fault (fault.NotAscii n) o h = h
@@ -37,44 +31,54 @@ is_fault (fault.JumpTooFar n) o h = h
 is_fault (fault.TooLong n) o h = h
 is_fault fault.Memory o h = tt
 
-pub statements_fail : (x : TextFault) (text : List ℕ) → IsFault x (statements_fault [] (statements_of text)) → IsFault x (fault_in text)
+pub statements_fail : (x : TextFault) (text : List ℕ) → IsFault x (statements_fault [] (statements_of text))
+    → IsFault x (fault_in text)
 unfolding fault_in
-statements_fail x text h = fault_first x (statements_fault [] (statements_of text)) (all_targets_fault (place_of (labels_of text)) 0 (drafts_of text)) h
+statements_fail x text h =
+    fault_first x (statements_fault [] (statements_of text))
+    (all_targets_fault (place_of (labels_of text)) 0 (drafts_of text)) h
 
 targets_tell : (text : List ℕ) (r : Result (Vec Insn) TextFault) → statements_fault [] (statements_of text) ≡ None
-    → MatchResult r (λ insns. (all_targets_fault (place_of (labels_of text)) 0 (drafts_of text) ≡ None) × SaysEach (place_of (labels_of text)) 0 (drafts_of text) insns.items × AllByRecursion IsInsn insns.items) (λ e. IsFault e (all_targets_fault (place_of (labels_of text)) 0 (drafts_of text)))
-    → Tells (fault_in text) text r
+    → TellsInsns (place_of (labels_of text)) (drafts_of text) r
+    → TellsText (fault_in text) text r
 unfolding fault_in
 targets_tell text (Ok v) none h = (rw none h.0, h.1, h.2)
-targets_tell text (Err e) none h = fault_then e (statements_fault [] (statements_of text)) (all_targets_fault (place_of (labels_of text)) 0 (drafts_of text)) none h
+targets_tell text (Err e) none h =
+    fault_then e (statements_fault [] (statements_of text))
+    (all_targets_fault (place_of (labels_of text)) 0 (drafts_of text)) none h
 
 -- before the first statement
-pub nothing_read : (kept : BTreeMap (Bor (List ℕ)) ℕ) (lines : List Line) → IsEmpty kept → lines ≡ [] → HasRead [] (places_view kept) (drafts_view lines)
+pub nothing_read : (kept : BTreeMap (Bor (List ℕ)) ℕ) (lines : List Line) → IsEmpty kept → lines ≡ []
+    → HasRead [] (places_view kept) (drafts_view lines)
 nothing_read kept lines empty none = record {
   places = fun_ext λ name. ap (lookup (is_at (λ key. slice_cmp nat_cmp name key.now))) empty;
   drafts = rw none refl;
   count = rw none refl;
 }
 
-pub text_tells : (text : List ℕ) (places : Places) (ds : List (ℕ × drafts.Draft)) (r : Result (Vec Insn) TextFault) → (statements_fault [] (statements_of text) ≡ None) × HasRead (statements_of text) places ds
-    → MatchResult r (λ insns. (all_targets_fault places 0 ds ≡ None) × SaysEach places 0 ds insns.items × AllByRecursion IsInsn insns.items) (λ e. IsFault e (all_targets_fault places 0 ds))
-    → Tells (fault_in text) text r
+pub text_tells : (text : List ℕ) (places : Places) (ds : List (ℕ × drafts.Draft)) (r : Result (Vec Insn) TextFault)
+    → (statements_fault [] (statements_of text) ≡ None) × HasRead (statements_of text) places ds
+    → TellsInsns places ds r
+    → TellsText (fault_in text) text r
 text_tells text places ds r read h = targets_tell text r read.0 (rw (read.1.places, read.1.drafts) at h)
 
 pub ascii_fails : (e : TextFault) (text : List ℕ) → ascii_fault 1 text ≡ Some e → IsFault e (fault_of text)
 unfolding fault_of
 ascii_fails e text h = fault_first e (ascii_fault 1 text) (fault_in text) (is_fault e (ascii_fault 1 text) h)
 
-pub ascii_tells : (text : List ℕ) (r : Result (Vec Insn) TextFault) → ascii_fault 1 text ≡ None → Tells (fault_in text) text r → Tells (fault_of text) text r
+pub ascii_tells : (text : List ℕ) (r : Result (Vec Insn) TextFault) → ascii_fault 1 text ≡ None
+    → TellsText (fault_in text) text r → TellsText (fault_of text) text r
 unfolding fault_of
 ascii_tells text (Ok v) none h = (rw none h.0, h.1, h.2)
 ascii_tells text (Err e) none h = fault_then e (ascii_fault 1 text) (fault_in text) none h
 
-pub is_spelled : (text : List ℕ) (r : Result (Vec Insn) TextFault) → Tells (fault_of text) text r → IfOk r (λ insns. Spells text insns.items)
+pub is_spelled : (text : List ℕ) (r : Result (Vec Insn) TextFault) → TellsText (fault_of text) text r
+    → IfOk r (λ insns. Spells text insns.items)
 is_spelled text (Ok v) h = spelled text v.items h.0 h.1 h.2
 is_spelled text (Err e) h = tt
 
-nothing_spelled : (text : List ℕ) (e : TextFault) → e ≢ fault.Memory → IsFault e (fault_of text) → (is : List Insn) → Spells text is → ⊥
+nothing_spelled : (text : List ℕ) (e : TextFault) → e ≢ fault.Memory → IsFault e (fault_of text) → (is : List Insn)
+    → Spells text is → ⊥
 nothing_spelled text (fault.NotAscii n) other h is s = let k = no_fault text is s in cc
 nothing_spelled text (fault.Mnemonic n) other h is s = let k = no_fault text is s in cc
 nothing_spelled text (fault.Operand n) other h is s = let k = no_fault text is s in cc
@@ -84,6 +88,7 @@ nothing_spelled text (fault.JumpTooFar n) other h is s = let k = no_fault text i
 nothing_spelled text (fault.TooLong n) other h is s = let k = no_fault text is s in cc
 nothing_spelled text fault.Memory other h is s = other refl
 
-pub is_not_spelled : (text : List ℕ) (r : Result (Vec Insn) TextFault) → Tells (fault_of text) text r → IfErr r (λ e. e ≢ fault.Memory → (insns : List Insn) → Spells text insns → ⊥)
+pub is_not_spelled : (text : List ℕ) (r : Result (Vec Insn) TextFault) → TellsText (fault_of text) text r
+    → IfErr r (λ e. e ≢ fault.Memory → (insns : List Insn) → Spells text insns → ⊥)
 is_not_spelled text (Ok v) h = tt
 is_not_spelled text (Err e) h = λ other is s. nothing_spelled text e other h is s

@@ -5,6 +5,7 @@ use Rattle.scf_insn.specs.declared.insn.Insn.{Insn}
 use Rattle.scf_text.specs.declared.form.Piece.{Piece}
 use Rattle.scf_text.specs.Listing.{operands_text, piece_text}
 
-pub operands_some : (i : Insn) (ps : List Piece) → eqb (length ps) 0 ≡ false → operands_text i ps ≡ 32 ∷ flat_map (piece_text i) ps
+pub operands_some : (i : Insn) (ps : List Piece) → eqb (length ps) 0 ≡ false
+    → operands_text i ps ≡ 32 ∷ flat_map (piece_text i) ps
 operands_some i [] h = absurd cc
 operands_some i (p ∷ ps) h = refl

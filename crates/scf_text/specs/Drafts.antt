@@ -1,5 +1,6 @@
 -- What the tokens of an instruction say.
-use Rattle.std.specs.Prelude.{◌≡◌, ℕ, ◌&&◌, ◌^◌, Bool, true, false, List, [], ◌∷◌, Option, Some, None, nat_lt, codes, if◌then◌else◌}
+use Rattle.std.specs.Prelude.{ℕ, ◌&&◌, ◌^◌, Bool, true, false, List, [], ◌∷◌, Option, Some, None, nat_lt, codes}
+use Rattle.std.specs.Prelude.{if◌then◌else◌}
 use Rattle.std.specs.Option.{option_map, option_and_then, option_or}
 use Rattle.std.specs.List.{list_any}
 use Rattle.std.specs.Str.{bytes_eq}
@@ -51,7 +52,9 @@ module _ (number : List ℕ → Option ℕ) where
   -- the draft after a token stands for a piece
   abbrev pub put_by : Piece → List ℕ → Draft → Option Draft
   put_by (p.Number field style) t d = option_map (λ n. with_field field (Number n) d) (number t)
-  put_by (p.Target field) t d = if is_name t then Some (with_field field (Label t) d) else option_map (λ n. with_field field (Number n) d) (number t)
+  put_by (p.Target field) t d =
+      if is_name t then Some (with_field field (Label t) d)
+      else option_map (λ n. with_field field (Number n) d) (number t)
   put_by piece t d = if list_any (bytes_eq t) (spellings piece) then Some d else None
 
   abbrev pub fill_by : List Piece → List (List ℕ) → Draft → Option Draft
@@ -81,10 +84,6 @@ module _ (number : List ℕ → Option ℕ) where
 unfoldable pub draft_of : List ℕ → List (List ℕ) → Option Draft
 draft_of t ts = read_by number_of forms t ts
 
--- what a mnemonic and the tokens behind it say in this form is what they say
-abbrev pub IsOnlyReading : Form → Type 0
-IsOnlyReading form = (t : List ℕ) (ts : List (List ℕ)) (d : Draft) → read_in number_of form t ts ≡ Some d → draft_of t ts ≡ Some d
-
 abbrev pub limit_of : Field → ℕ
 limit_of Code = 2 ^ 16
 limit_of Jt = 2 ^ 8
@@ -97,4 +96,6 @@ is_below limit (Label name) = true
 
 -- each number fits its field
 abbrev pub is_in_range : Draft → Bool
-is_in_range d = nat_lt d.code (limit_of Code) && (is_below (limit_of Jt) d.jt && (is_below (limit_of Jf) d.jf && is_below (limit_of K) d.k))
+is_in_range d =
+    nat_lt d.code (limit_of Code)
+    && (is_below (limit_of Jt) d.jt && (is_below (limit_of Jf) d.jf && is_below (limit_of K) d.k))

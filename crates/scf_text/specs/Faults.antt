@@ -1,13 +1,16 @@
 -- The first fault of a text.
-use Rattle.std.specs.Prelude.{◌≡◌, ℕ, ◌+◌, ◌-◌, ◌==◌, ◌||◌, ◌^◌, not, List, [], ◌∷◌, ◌++◌, Option, Some, None, nat_lt, nat_le, if◌then◌else◌}
+use Rattle.std.specs.Prelude.{◌≡◌, ℕ, ◌+◌, ◌-◌, ◌==◌, ◌||◌, ◌^◌, not, List, [], ◌∷◌, ◌++◌, Option, Some, None, nat_lt}
+use Rattle.std.specs.Prelude.{nat_le, if◌then◌else◌}
 use Rattle.std.specs.Option.{is_some, option_or}
 use Rattle.std.specs.List.{list_any}
+use Rattle.scf_insn.specs.Kernel.{bpf_maxinsns}
 use Rattle.scf_text.specs.declared.fault.TextFault.{TextFault}
 use Rattle.scf_text.specs.declared.fault.TextFault.TheVariants as fault
 use Rattle.scf_text.specs.Characters.{line_feed}
 use Rattle.scf_text.specs.Forms.{forms}
 use Rattle.scf_text.specs.Drafts.{Written, Number, Label, Draft, draft_of, has_mnemonic, is_in_range}
-use Rattle.scf_text.specs.Statements.{Statement, Places, place_of, places_in, statements_of, labels_of, drafts_of, label_in, instruction_in, instruction_count}
+use Rattle.scf_text.specs.Statements.{Statement, Places, place_of, places_in, statements_of, labels_of, drafts_of}
+use Rattle.scf_text.specs.Statements.{label_in, instruction_in, instruction_count}
 
 -- The fault is the first one, or want of memory.
 abbrev pub IsFault : TextFault → Option TextFault → Type 0
@@ -17,25 +20,31 @@ IsFault e first = first ≡ Some e
 -- The first byte that isn't ASCII. The text begins in this line.
 abbrev pub ascii_fault : ℕ → List ℕ → Option TextFault
 ascii_fault line [] = None
-ascii_fault line (b ∷ bs) = if nat_lt b 128 then ascii_fault (if b == line_feed then line + 1 else line) bs else Some (fault.NotAscii line)
+ascii_fault line (b ∷ bs) =
+    if nat_lt b 128 then ascii_fault (if b == line_feed then line + 1 else line) bs else Some (fault.NotAscii line)
 
 -- the label has a place already
 abbrev pub label_fault : Places → ℕ → Option (List ℕ) → Option TextFault
 label_fault places line None = None
 label_fault places line (Some name) = if is_some (places name) then Some (fault.Label line) else None
 
--- the tokens have no form, a number doesn't fit, or 4096 instructions stand before this one
+-- the tokens have no form, a number doesn't fit, or the most instructions stand before this one
 abbrev pub draft_fault : ℕ → ℕ → Option Draft → Option TextFault
 draft_fault at line None = Some (fault.Operand line)
-draft_fault at line (Some d) = if not (is_in_range d) then Some (fault.NumberRange line) else if nat_le 4096 at then Some (fault.TooLong line) else None
+draft_fault at line (Some d) =
+    if not (is_in_range d) then Some (fault.NumberRange line)
+    else if nat_le bpf_maxinsns at then Some (fault.TooLong line) else None
 
 abbrev pub instruction_fault : ℕ → ℕ → List (List ℕ) → Option TextFault
 instruction_fault at line [] = None
-instruction_fault at line (t ∷ ts) = if list_any (has_mnemonic t) forms then draft_fault at line (draft_of t ts) else Some (fault.Mnemonic line)
+instruction_fault at line (t ∷ ts) =
+    if list_any (has_mnemonic t) forms then draft_fault at line (draft_of t ts) else Some (fault.Mnemonic line)
 
 -- the first fault of a statement behind others
 abbrev pub statement_fault : List Statement → Statement → Option TextFault
-statement_fault before s = option_or (label_fault (places_in before) s.line (label_in s.tokens)) (instruction_fault (instruction_count before) s.line (instruction_in s.tokens))
+statement_fault before s =
+    option_or (label_fault (places_in before) s.line (label_in s.tokens))
+    (instruction_fault (instruction_count before) s.line (instruction_in s.tokens))
 
 -- the first fault of statements behind others
 abbrev pub statements_fault : List Statement → List Statement → Option TextFault
@@ -45,7 +54,8 @@ statements_fault before (s ∷ ss) = option_or (statement_fault before s) (state
 -- A name with no place, or a place that the field doesn't reach. Places behind the jump alone are reached.
 abbrev pub reach_fault : ℕ → ℕ → ℕ → Option ℕ → Option TextFault
 reach_fault at line limit None = Some (fault.Label line)
-reach_fault at line limit (Some place) = if nat_lt place (at + 1) || nat_le limit (place - (at + 1)) then Some (fault.JumpTooFar line) else None
+reach_fault at line limit (Some place) =
+    if nat_lt place (at + 1) || nat_le limit (place - (at + 1)) then Some (fault.JumpTooFar line) else None
 
 abbrev pub target_fault : Places → ℕ → ℕ → ℕ → Written → Option TextFault
 target_fault places at line limit (Number n) = None
@@ -53,17 +63,23 @@ target_fault places at line limit (Label name) = reach_fault at line limit (plac
 
 -- the targets of an instruction: of a conditional jump its JT and then its JF
 abbrev pub targets_fault : Places → ℕ → ℕ → Draft → Option TextFault
-targets_fault places at line d = option_or (target_fault places at line (2 ^ 8) d.jt) (option_or (target_fault places at line (2 ^ 8) d.jf) (target_fault places at line (2 ^ 32) d.k))
+targets_fault places at line d =
+    option_or (target_fault places at line (2 ^ 8) d.jt)
+    (option_or (target_fault places at line (2 ^ 8) d.jf) (target_fault places at line (2 ^ 32) d.k))
 
 -- the targets of instructions with their lines, the first at this place
 abbrev pub all_targets_fault : Places → ℕ → List (ℕ × Draft) → Option TextFault
 all_targets_fault places at [] = None
-all_targets_fault places at (d ∷ ds) = option_or (targets_fault places at d.0 d.1) (all_targets_fault places (at + 1) ds)
+all_targets_fault places at (d ∷ ds) =
+    option_or (targets_fault places at d.0 d.1) (all_targets_fault places (at + 1) ds)
 
 -- of the statements of a text
 unfoldable pub fault_in : List ℕ → Option TextFault
-fault_in text = option_or (statements_fault [] (statements_of text)) (all_targets_fault (place_of (labels_of text)) 0 (drafts_of text))
+fault_in text =
+    option_or (statements_fault [] (statements_of text))
+    (all_targets_fault (place_of (labels_of text)) 0 (drafts_of text))
 
--- The first fault: first of all a byte that isn't ASCII, then the first fault of a statement, then the first wrong target.
+-- The first fault: first of all a byte that isn't ASCII, then the first fault of a statement, then the first wrong
+-- target.
 unfoldable pub fault_of : List ℕ → Option TextFault
 fault_of text = option_or (ascii_fault 1 text) (fault_in text)

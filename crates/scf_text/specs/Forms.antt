@@ -1,5 +1,6 @@
 -- The forms of an instruction, for the assembler and the disassembler alike.
-use Rattle.std.specs.Prelude.{ℕ, ◌==◌, ◌&&◌, ◌||◌, Bool, true, false, List, [], ◌∷◌, Option, None, Some, codes, map, if◌then◌else◌}
+use Rattle.std.specs.Prelude.{ℕ, ◌==◌, ◌&&◌, ◌||◌, Bool, true, false, List, [], ◌∷◌, Option, None, Some, codes, map}
+use Rattle.std.specs.Prelude.{if◌then◌else◌}
 use Rattle.std.specs.Option.{option_map}
 use Rattle.std.specs.List.{list_any}
 use Rattle.scf_insn.specs.declared.insn.Insn.{Insn}
@@ -12,7 +13,10 @@ use Rattle.scf_insn.specs.declared.operation.Arithmetic.TheVariants as o
 use Rattle.scf_insn.specs.declared.operation.Test.{Test}
 use Rattle.scf_insn.specs.declared.operation.Test.TheVariants.{Equal, Greater, GreaterOrEqual, CommonBit}
 use Rattle.scf_insn.specs.declared.operation.Operation.{Operation}
-use Rattle.scf_insn.specs.declared.operation.Operation.TheVariants.{LoadWord, LoadLength, LoadConstant, LoadScratch, StoreScratch, Compute, Negate, Jump, JumpIf, ReturnConstant, ReturnAccumulator, CopyToIndex, CopyToAccumulator}
+use Rattle.scf_insn.specs.declared.operation.Operation.TheVariants.{LoadWord, LoadLength, LoadConstant, LoadScratch}
+use Rattle.scf_insn.specs.declared.operation.Operation.TheVariants.{StoreScratch, Compute, Negate, Jump, JumpIf}
+use Rattle.scf_insn.specs.declared.operation.Operation.TheVariants.{ReturnConstant, ReturnAccumulator}
+use Rattle.scf_insn.specs.declared.operation.Operation.TheVariants.{CopyToIndex, CopyToAccumulator}
 use Rattle.scf_text.specs.Characters.{number_sign, comma, left_bracket, right_bracket}
 use Rattle.scf_text.specs.declared.form.Mnemonic.{Mnemonic}
 use Rattle.scf_text.specs.declared.form.Mnemonic.TheVariants as m
@@ -67,7 +71,9 @@ pieces_of s.Scratch = Memory ∷ Mark left_bracket ∷ Number K Decimal ∷ Mark
 pieces_of s.Jump = Target K ∷ []
 pieces_of s.TestConstant = Mark number_sign ∷ Number K Hexadecimal ∷ both_targets
 pieces_of s.TestIndex = Index ∷ both_targets
-pieces_of s.Raw = Number Code FourDigits ∷ Mark comma ∷ Number Jt Decimal ∷ Mark comma ∷ Number Jf Decimal ∷ Mark comma ∷ Number K Hexadecimal ∷ []
+pieces_of s.Raw =
+    Number Code FourDigits ∷ Mark comma ∷ Number Jt Decimal ∷ Mark comma ∷ Number Jf Decimal
+    ∷ Mark comma ∷ Number K Hexadecimal ∷ []
 
 abbrev pub mnemonic_of_arithmetic : Arithmetic → Mnemonic
 mnemonic_of_arithmetic o.Add = m.Add

@@ -6,5 +6,4 @@ pub mod Drafts
 pub mod Statements
 pub mod Spelling
 pub mod Faults
-pub mod Views
-pub mod Reading
+pub mod internal

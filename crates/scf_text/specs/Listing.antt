@@ -13,7 +13,9 @@ use Rattle.scf_text.specs.Forms.{mnemonic_text, pieces_of, field_of, form_for}
 
 -- the last four hexadecimal digits
 abbrev pub four_digits : ℕ → List ℕ
-four_digits n = digit_glyph false (n / 4096 % 16) ∷ digit_glyph false (n / 256 % 16) ∷ digit_glyph false (n / 16 % 16) ∷ digit_glyph false (n % 16) ∷ []
+four_digits n =
+    digit_glyph false (n / 4096 % 16) ∷ digit_glyph false (n / 256 % 16)
+    ∷ digit_glyph false (n / 16 % 16) ∷ digit_glyph false (n % 16) ∷ []
 
 abbrev pub number_text : Style → ℕ → List ℕ
 number_text Decimal n = decimal n

@@ -2,9 +2,11 @@
 use Rattle.std.specs.Prelude.{◌≡◌, ℕ, ◌+◌, ◌<◌, ◌≤◌, List, [], ◌∷◌, ◌++◌, length, Some, None}
 use Rattle.std.specs.List.{AllByRecursion}
 use Rattle.scf_insn.specs.Insn.{IsInsn}
+use Rattle.scf_insn.specs.Kernel.{bpf_maxinsns}
 use Rattle.scf_insn.specs.declared.insn.Insn.{Insn}
 use Rattle.scf_text.specs.Drafts.{Written, Number, Label, Draft}
-use Rattle.scf_text.specs.Statements.{Statement, Labels, Places, place_of, statements_of, labels_of, drafts_of, instruction_in, IsRead}
+use Rattle.scf_text.specs.Statements.{Statement, Labels, Places, place_of, statements_of, labels_of, drafts_of}
+use Rattle.scf_text.specs.Statements.{instruction_in, IsRead}
 
 -- What is written says the number. A name says how far its place is behind the next instruction.
 abbrev pub Says : Places → ℕ → Written → ℕ → Type 0
@@ -31,11 +33,11 @@ AreNew earlier [] = Unit {0}
 AreNew earlier (l ∷ ls) = (place_of earlier l.0 ≡ None) × AreNew (earlier ++ l ∷ []) ls
 
 -- The text is ASCII and no name is given twice. What stands behind the labels of its statements are forms of
--- instructions, and they say the list, which has at most 4096.
+-- instructions, and they say the list, which has at most as many as a filter may have.
 pub record Spells (text : List ℕ) (is : List Insn) : Type 0 where
   pub ascii : AllByRecursion (λ b. b < 128) text
   pub distinct : AreNew [] (labels_of text)
-  pub few : length is ≤ 4096
+  pub few : length is ≤ bpf_maxinsns
   pub fields : AllByRecursion IsInsn is
   pub read : AllByRecursion (λ (s : Statement). IsRead (instruction_in s.tokens)) (statements_of text)
   pub each : SaysEach (place_of (labels_of text)) 0 (drafts_of text) is

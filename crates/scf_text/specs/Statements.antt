@@ -1,5 +1,5 @@
 -- The statements of a text.
-use Rattle.std.specs.Prelude.{◌≡◌, ℕ, ◌+◌, ◌&&◌, Bool, true, List, [], ◌∷◌, ◌++◌, drop, map, Option, Some, None, if◌then◌else◌}
+use Rattle.std.specs.Prelude.{ℕ, ◌+◌, ◌&&◌, Bool, List, [], ◌∷◌, ◌++◌, drop, map, Option, Some, None, if◌then◌else◌}
 use Rattle.std.specs.Option.{is_some, IsSome, option_to_list, option_map}
 use Rattle.std.specs.List.{slice_split, flat_map}
 use Rattle.std.specs.Map.{lookup}
@@ -23,7 +23,8 @@ tokens_of_statements line = slice_split is_semicolon (words_of_line line)
 -- the statements of lines, the first of which has this number
 abbrev pub statements_from : ℕ → List (List ℕ) → List Statement
 statements_from n [] = []
-statements_from n (line ∷ lines) = map (λ ts. record { line = n; tokens = ts }) (tokens_of_statements line) ++ statements_from (n + 1) lines
+statements_from n (line ∷ lines) =
+    map (λ ts. record { line = n; tokens = ts }) (tokens_of_statements line) ++ statements_from (n + 1) lines
 
 abbrev pub statements_of : List ℕ → List Statement
 statements_of text = statements_from 1 (lines_of text)

@@ -1,5 +1,6 @@
 -- The tokens of a text.
-use Rattle.std.specs.Prelude.{◌≡◌, ℕ, ◌+◌, Bool, false, ◌==◌, ◌&&◌, List, [], ◌∷◌, ◌++◌, length, map, take, drop, if◌then◌else◌}
+use Rattle.std.specs.Prelude.{◌≡◌, ℕ, ◌+◌, Bool, false, ◌==◌, ◌&&◌, List, [], ◌∷◌, ◌++◌, length, map, take, drop}
+use Rattle.std.specs.Prelude.{if◌then◌else◌}
 use Rattle.std.specs.List.{slice_split}
 use Rattle.scf_text.specs.declared.token.Token.{Token}
 use Rattle.scf_text.specs.Characters.{line_feed, slash, is_blank, is_word_byte}
@@ -57,7 +58,8 @@ lexemes_from at (b ∷ bs) =
 -- the tokens of lines, the first of which begins at this place
 abbrev pub lexemes_of_lines : ℕ → List (List ℕ) → List Lexeme
 lexemes_of_lines at [] = []
-lexemes_of_lines at (line ∷ lines) = lexemes_from at (before_comment line) ++ lexemes_of_lines (at + length line + 1) lines
+lexemes_of_lines at (line ∷ lines) =
+    lexemes_from at (before_comment line) ++ lexemes_of_lines (at + length line + 1) lines
 
 -- the tokens of a text, in order
 unfoldable pub tokens_of : List ℕ → List Lexeme

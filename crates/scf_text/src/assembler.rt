@@ -1,14 +1,15 @@
 //! Text as instructions.
-ghost use Rattle.std.specs.Prelude.{◌≡◌, ◌≢◌, ◌^◌, ◌<◌, [], ℕ, List, IsTrue, IfOk, IfErr, MatchResult};
-ghost use Rattle.std.specs.List.{AllByRecursion};
+ghost use Rattle.std.specs.Prelude.{◌≡◌, ◌≢◌, ◌<◌, [], ℕ, List, length, IsTrue, IfOk, IfErr, OnErr, MatchResult};
 ghost use Rattle.scf_insn.specs.declared.insn.Insn.{Insn};
-ghost use Rattle.scf_insn.specs.Insn.{IsInsn};
+ghost use Rattle.scf_text.specs.declared.fault.TextFault.{TextFault};
 ghost use Rattle.scf_text.specs.Drafts.{is_below};
-ghost use Rattle.scf_text.specs.Views.{written_view, draft_view};
-ghost use Rattle.scf_text.specs.Statements.{place_of, statements_of, labels_of, drafts_of};
-ghost use Rattle.scf_text.specs.Spelling.{Says, SaysInsn, SaysEach, Spells};
-ghost use Rattle.scf_text.specs.Faults.{IsFault, ascii_fault, target_fault, targets_fault, all_targets_fault, fault_in, fault_of};
-ghost use Rattle.scf_text.specs.Reading.{places_view, drafts_view, HasRead, ReadsMore};
+ghost use Rattle.scf_text.specs.Statements.{statements_of};
+ghost use Rattle.scf_text.specs.Spelling.{Spells};
+ghost use Rattle.scf_text.specs.Tokens.{tokens_of};
+ghost use Rattle.scf_text.specs.Faults.{IsFault, ascii_fault, fault_in, fault_of};
+ghost use Rattle.scf_text.specs.internal.Reading.{places_view, drafts_view, HasRead, HasWords, ReadsMore};
+ghost use Rattle.scf_text.specs.internal.Results.{TellsTarget, TellsInsn, TellsInsns, TellsText};
+ghost use Rattle.scf_text.specs.internal.Views.{written_view, draft_view};
 
 use crate::draft::{Draft, Written};
 use crate::fault::TextFault;
@@ -21,7 +22,8 @@ use std::collections::BTreeMap;
 
 /// The first byte that isn't ASCII.
 fn check_ascii(text: &[u8]) -> Result<(), TextFault>
-    ensures { MatchResult result (λ _. ascii_fault 1 text.now ≡ None) (λ e. ascii_fault 1 text.now ≡ Some e) }
+    ensures first { MatchResult result (λ _. ascii_fault 1 text.now ≡ None) (λ e. ascii_fault 1 text.now ≡ Some e) }
+    ensures kind { result ≢ Err TextFault.Memory }
 {
     let mut line = 1;
     for byte in text {
@@ -42,7 +44,9 @@ fn read_text<'a>(
     lines: &mut Vec<Line<'a>>,
     text: &'a [u8],
 ) -> Result<(), TextFault>
-    ensures { HasRead [] (places_view places.old) (drafts_view lines.old.items) → ReadsMore result [] (statements_of text.now) (places_view places.new) (drafts_view lines.new.items) }
+    ensures reads { HasRead [] (places_view places.old) (drafts_view lines.old.items)
+        → ReadsMore result [] (statements_of text.now) (places_view places.new) (drafts_view lines.new.items) }
+    ensures some { OnErr result (HasWords text.now) }
 {
     let mut tokens = Vec::new(alloc);
     let mut rest = text;
@@ -71,9 +75,7 @@ fn value_of<'a>(
     line: usize,
 ) -> Result<u64, TextFault>
     requires { IsTrue (is_below limit (written_view written)) }
-    ensures { MatchResult result
-        (λ value. (target_fault (places_view places.now) at line limit (written_view written.entry) ≡ None) × Says (places_view places.now) at (written_view written.entry) value × (value < limit))
-        (λ e. target_fault (places_view places.now) at line limit (written_view written.entry) ≡ Some e) }
+    ensures { TellsTarget (places_view places.now) at line limit (written_view written.entry) result }
 {
     match written {
         Written::Number(number) => Ok(number),
@@ -95,9 +97,7 @@ fn value_of<'a>(
 
 /// The instruction that is written, at this place.
 fn resolve<'a>(places: &Places<'a>, written: &Line<'a>, at: usize) -> Result<Insn, TextFault>
-    ensures { MatchResult result
-        (λ i. (targets_fault (places_view places.now) at written.now.line (draft_view written.now.draft) ≡ None) × SaysInsn (places_view places.now) at (draft_view written.now.draft) i × IsInsn i)
-        (λ e. targets_fault (places_view places.now) at written.now.line (draft_view written.now.draft) ≡ Some e) }
+    ensures { TellsInsn (places_view places.now) at written.now.line (draft_view written.now.draft) result }
 {
     let line = written.line;
     let draft = written.draft;
@@ -118,9 +118,8 @@ fn resolve_all<'a>(
     places: &Places<'a>,
     lines: &[Line<'a>],
 ) -> Result<Vec<Insn>, TextFault>
-    ensures { MatchResult result
-        (λ insns. (all_targets_fault (places_view places.now) 0 (drafts_view lines.now) ≡ None) × SaysEach (places_view places.now) 0 (drafts_view lines.now) insns.items × AllByRecursion IsInsn insns.items)
-        (λ e. IsFault e (all_targets_fault (places_view places.now) 0 (drafts_view lines.now))) }
+    ensures tells { TellsInsns (places_view places.now) (drafts_view lines.now) result }
+    ensures some { OnErr result (0 < length lines.now) }
 {
     let mut insns = Vec::new(alloc);
     for (at, line) in lines.iter().enumerate() {
@@ -131,9 +130,8 @@ fn resolve_all<'a>(
 
 /// What the statements of an ASCII text say.
 fn read_all(alloc: Global, text: &[u8]) -> Result<Vec<Insn>, TextFault>
-    ensures { MatchResult result
-        (λ insns. (fault_in text.now ≡ None) × SaysEach (place_of (labels_of text.now)) 0 (drafts_of text.now) insns.items × AllByRecursion IsInsn insns.items)
-        (λ e. IsFault e (fault_in text.now)) }
+    ensures tells { TellsText (fault_in text.now) text.now result }
+    ensures some { OnErr result (HasWords text.now) }
 {
     let mut places = BTreeMap::new(alloc);
     let mut lines = Vec::new(alloc);
@@ -143,9 +141,9 @@ fn read_all(alloc: Global, text: &[u8]) -> Result<Vec<Insn>, TextFault>
 
 /// What a text says.
 fn read_ascii(alloc: Global, text: &[u8]) -> Result<Vec<Insn>, TextFault>
-    ensures { MatchResult result
-        (λ insns. (fault_of text.now ≡ None) × SaysEach (place_of (labels_of text.now)) 0 (drafts_of text.now) insns.items × AllByRecursion IsInsn insns.items)
-        (λ e. IsFault e (fault_of text.now)) }
+    ensures tells { TellsText (fault_of text.now) text.now result }
+    ensures ascii { (e : TextFault) → ascii_fault 1 text.now ≡ Some e → result ≡ Err e }
+    ensures wanted { result ≡ Err TextFault.Memory → HasWords text.now }
 {
     check_ascii(text)?;
     read_all(alloc, text)
@@ -154,13 +152,17 @@ fn read_ascii(alloc: Global, text: &[u8]) -> Result<Vec<Insn>, TextFault>
 /// The instructions that a text spells.
 ///
 /// Where it spells none, the first of its faults is answered: first of all a byte that isn't ASCII; then the first
-/// statement with a label given before, no mnemonic, operands that its mnemonic doesn't have, a number that doesn't fit,
-/// or the 4097th instruction; then the first jump to a label that isn't given or isn't reached. `Memory` comes where
-/// memory was refused.
+/// statement with a label given before, no mnemonic, operands that its mnemonic doesn't have, a number that doesn't
+/// fit, or the 4097th instruction; then the first jump to a label that isn't given or isn't reached. `Memory` comes
+/// where memory was refused, and not for a text that isn't ASCII or has no token.
 pub fn assemble(alloc: Global, text: &[u8]) -> Result<Vec<Insn>, TextFault>
     ensures spelled { IfOk result (λ insns. Spells text.now insns.items) }
     // A refusal is for memory, or the first fault of the text.
     ensures fault { IfErr result (λ e. IsFault e (fault_of text.now)) }
+    // A text that isn't ASCII is refused for that, since nothing has grown.
+    ensures ascii { (e : TextFault) → ascii_fault 1 text.now ≡ Some e → result ≡ Err e }
+    // Memory is wanted only for a text with a token.
+    ensures wanted { result ≡ Err TextFault.Memory → tokens_of text.now ≢ [] }
     // A text with a fault spells nothing.
     ensures none { IfErr result (λ e. e ≢ TextFault.Memory → (insns : List Insn) → Spells text.now insns → ⊥) }
 {

@@ -4,25 +4,28 @@ ghost use Rattle.std.specs.Option.{option_map};
 ghost use Rattle.std.specs.List.{list_any};
 ghost use Rattle.std.specs.Str.{bytes_eq};
 ghost use Rattle.scf_text.specs.Forms.{form_of_code, forms};
-ghost use Rattle.scf_text.specs.Drafts.{is_name, with_field, spellings, put_by, fill_by, blank, has_mnemonic, read_in, read_by, is_below, is_in_range};
-ghost use Rattle.scf_text.specs.Views.{read_as, is_mnemonic_of, written_view, draft_view, capped_number, texts};
+ghost use Rattle.scf_text.specs.Drafts.{is_name, with_field, spellings, put_by, fill_by, blank, has_mnemonic};
+ghost use Rattle.scf_text.specs.Drafts.{read_in, read_by, is_below, is_in_range};
+ghost use Rattle.scf_text.specs.internal.Results.{Reads, reading_or};
+ghost use Rattle.scf_text.specs.internal.Views.{read_as, is_mnemonic_of, written_view, draft_view, capped_number};
+ghost use Rattle.scf_text.specs.internal.Views.{texts};
 
 use crate::form::{Field, Form, Piece};
 use crate::token::Token;
-use scf_insn::{NumberError, parse_number};
+use scf_insn::{NumeralFault, parse_number};
 
 /// Each of the 41 codes is below this one.
 const KNOWN_CODES_END: u16 = 0x100;
 
 /// What stands for a field: a number, where `u64::MAX` stands for each larger one too, or the name of a place.
-#[derive(Clone, Copy, Debug)]
+#[derive(Clone, Copy)]
 pub(crate) enum Written<'a> {
     Number(u64),
     Label(&'a [u8]),
 }
 
 /// An instruction as it is written.
-#[derive(Clone, Copy, Debug)]
+#[derive(Clone, Copy)]
 pub(crate) struct Draft<'a> {
     pub code: u64,
     pub jt: Written<'a>,
@@ -36,8 +39,8 @@ fn token_number(token: &[u8]) -> Option<u64>
 {
     match parse_number(token) {
         Ok(number) => Some(number),
-        Err(NumberError::TooLarge) => Some(u64::MAX),
-        Err(NumberError::Malformed) => None,
+        Err(NumeralFault::TooLarge) => Some(u64::MAX),
+        Err(NumeralFault::Malformed) => None,
     }
 }
 
@@ -129,7 +132,8 @@ fn put<'a>(piece: Piece, token: &'a [u8], draft: Draft<'a>) -> Option<Draft<'a>>
 /// The draft after tokens stand for pieces.
 #[tactic(auto, using(crate::proofs::DraftLemmas::fill_unequal, crate::proofs::DraftLemmas::fill_both_empty))]
 fn fill<'a>(pieces: &[Piece], tokens: &[Token<'a>], draft: Draft<'a>) -> Option<Draft<'a>>
-    ensures { option_map draft_view result ≡ fill_by capped_number pieces.now (texts tokens.now) (draft_view draft.entry) }
+    ensures { option_map draft_view result
+        ≡ fill_by capped_number pieces.now (texts tokens.now) (draft_view draft.entry) }
 {
     if pieces.len() != tokens.len() {
         return None;
@@ -144,36 +148,65 @@ fn fill<'a>(pieces: &[Piece], tokens: &[Token<'a>], draft: Draft<'a>) -> Option<
 }
 
 /// What a mnemonic and the tokens behind it say.
-#[tactic(auto, using(crate::proofs::FormLemmas::reads_raw, crate::proofs::FormLemmas::reads_code, crate::proofs::FormLemmas::reads_none))]
-pub(crate) fn read<'a>(mnemonic: &[u8], tokens: &[Token<'a>]) -> Option<Draft<'a>>
-    ensures { option_map draft_view result ≡ read_by capped_number forms mnemonic.now (texts tokens.now) }
-{
-    if let Some(draft) = read_in(Form::raw(), mnemonic, tokens) {
-        return Some(draft);
-    }
-    for code in 0..KNOWN_CODES_END {
-        if let Some(draft) = read_as(code, mnemonic, tokens) {
-            return Some(draft);
+#[derive(Clone, Copy)]
+pub(crate) enum Reading<'a> {
+    /// Nothing, since no form has the mnemonic.
+    Unknown,
+    /// Nothing, since no form of the mnemonic has the tokens.
+    Unfit,
+    Said(Draft<'a>),
+}
+
+impl<'a> Reading<'a> {
+    /// This one, unless the other one says more.
+    fn or(self, other: Reading<'a>) -> Reading<'a>
+        ensures { result ≡ reading_or self.entry other.entry }
+    {
+        match self {
+            Reading::Unknown => other,
+            Reading::Unfit => match other {
+                Reading::Said(draft) => Reading::Said(draft),
+                Reading::Unknown | Reading::Unfit => Reading::Unfit,
+            },
+            Reading::Said(draft) => Reading::Said(draft),
         }
     }
-    None
+}
+
+/// What a mnemonic and the tokens behind it say, by each of the forms in turn.
+pub(crate) fn read<'a>(mnemonic: &[u8], tokens: &[Token<'a>]) -> Reading<'a>
+    ensures { Reads (list_any (has_mnemonic mnemonic.now) forms)
+        (read_by capped_number forms mnemonic.now (texts tokens.now)) result }
+{
+    let mut found = read_in(Form::raw(), mnemonic, tokens);
+    for code in 0..KNOWN_CODES_END {
+        found = found.or(read_as(code, mnemonic, tokens));
+    }
+    found
 }
 
 /// What they say in the form of a code, if it is one of the 41.
-fn read_as<'a>(code: u16, mnemonic: &[u8], tokens: &[Token<'a>]) -> Option<Draft<'a>>
-    ensures { option_map draft_view result ≡ read_as capped_number mnemonic.now (texts tokens.now) (form_of_code code) }
+fn read_as<'a>(code: u16, mnemonic: &[u8], tokens: &[Token<'a>]) -> Reading<'a>
+    ensures { Reads (is_mnemonic_of mnemonic.now (form_of_code code))
+        (read_as capped_number mnemonic.now (texts tokens.now) (form_of_code code)) result }
 {
-    read_in(Form::of_code(code)?, mnemonic, tokens)
+    match Form::of_code(code) {
+        Some(form) => read_in(form, mnemonic, tokens),
+        None => Reading::Unknown,
+    }
 }
 
 /// What they say in this form.
-fn read_in<'a>(form: Form, mnemonic: &[u8], tokens: &[Token<'a>]) -> Option<Draft<'a>>
-    ensures { option_map draft_view result ≡ read_in capped_number form mnemonic.now (texts tokens.now) }
+fn read_in<'a>(form: Form, mnemonic: &[u8], tokens: &[Token<'a>]) -> Reading<'a>
+    ensures { Reads (has_mnemonic mnemonic.now form)
+        (read_in capped_number form mnemonic.now (texts tokens.now)) result }
 {
-    if has_mnemonic(&form, mnemonic) {
-        fill(form.shape.pieces(), tokens, Draft::blank(form))
-    } else {
-        None
+    if mnemonic != form.mnemonic.text().as_bytes() {
+        return Reading::Unknown;
+    }
+    match fill(form.shape.pieces(), tokens, Draft::blank(form)) {
+        Some(draft) => Reading::Said(draft),
+        None => Reading::Unfit,
     }
 }
 
@@ -197,37 +230,4 @@ impl<'a> Draft<'a> {
             && is_below(self.jf, 1 << 8)
             && is_below(self.k, 1 << 32)
     }
-}
-
-/// Whether the token is the mnemonic of the form.
-fn has_mnemonic(form: &Form, token: &[u8]) -> bool
-    ensures { result ≡ has_mnemonic token.now form.now }
-{
-    token == form.mnemonic.text().as_bytes()
-}
-
-/// Whether the form of a code has the mnemonic.
-fn has_code_mnemonic(code: u16, token: &[u8]) -> bool
-    ensures { result ≡ is_mnemonic_of token.now (form_of_code code) }
-{
-    match Form::of_code(code) {
-        Some(form) => has_mnemonic(&form, token),
-        None => false,
-    }
-}
-
-/// Whether a form has the mnemonic.
-#[tactic(auto, using(crate::proofs::FormLemmas::known_raw, crate::proofs::FormLemmas::known_code, crate::proofs::FormLemmas::unknown))]
-pub(crate) fn is_mnemonic(token: &[u8]) -> bool
-    ensures { result ≡ list_any (has_mnemonic token.now) forms }
-{
-    if has_mnemonic(&Form::raw(), token) {
-        return true;
-    }
-    for code in 0..KNOWN_CODES_END {
-        if has_code_mnemonic(code, token) {
-            return true;
-        }
-    }
-    false
 }

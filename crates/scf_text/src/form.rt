@@ -1,12 +1,14 @@
 //! The forms of an instruction, for the assembler and the disassembler alike.
 ghost use Rattle.std.specs.Prelude.{◌≡◌, ◌==◌, ◌||◌, IsTrue};
 ghost use Rattle.std.specs.List.{list_any};
-ghost use Rattle.scf_text.specs.Forms.{mnemonic_text, mnemonic_of_load, mnemonic_of_store, mnemonic_of_arithmetic, mnemonic_of_test, mnemonic_of, shape_of, pieces_of, form_of_code, raw, names, tells_all, form_for};
+ghost use Rattle.scf_text.specs.Forms.{mnemonic_text, mnemonic_of_load, mnemonic_of_store, mnemonic_of_arithmetic};
+ghost use Rattle.scf_text.specs.Forms.{mnemonic_of_test, mnemonic_of, shape_of, pieces_of, form_of_code, raw};
+ghost use Rattle.scf_text.specs.Forms.{names, tells_all, form_for};
 
 use scf_insn::{Arithmetic, Insn, Operand, Operation, Register, Test};
 
 /// The word that stands first.
-#[derive(Clone, Copy, Debug, PartialEq, Eq)]
+#[derive(Clone, Copy)]
 pub(crate) enum Mnemonic {
     Ld,
     Ldx,
@@ -34,7 +36,7 @@ pub(crate) enum Mnemonic {
 }
 
 /// Which operands follow the mnemonic.
-#[derive(Clone, Copy, Debug, PartialEq, Eq)]
+#[derive(Clone, Copy)]
 pub(crate) enum Shape {
     Nothing,
     /// `len`
@@ -60,7 +62,7 @@ pub(crate) enum Shape {
 }
 
 /// A field of an instruction.
-#[derive(Clone, Copy, Debug, PartialEq, Eq)]
+#[derive(Clone, Copy, PartialEq, Eq)]
 pub(crate) enum Field {
     Code,
     Jt,
@@ -69,7 +71,7 @@ pub(crate) enum Field {
 }
 
 /// How a number is listed.
-#[derive(Clone, Copy, Debug, PartialEq, Eq)]
+#[derive(Clone, Copy)]
 pub(crate) enum Style {
     Decimal,
     /// `0x` and the digits, without leading zeros
@@ -79,7 +81,7 @@ pub(crate) enum Style {
 }
 
 /// What stands at one place of a form.
-#[derive(Clone, Copy, Debug, PartialEq, Eq)]
+#[derive(Clone, Copy)]
 pub(crate) enum Piece {
     /// This byte.
     Mark(u8),
@@ -94,7 +96,7 @@ pub(crate) enum Piece {
 }
 
 /// A form, and the code of the instructions that have it.
-#[derive(Clone, Copy, Debug)]
+#[derive(Clone, Copy)]
 pub(crate) struct Form {
     pub code: u16,
     pub mnemonic: Mnemonic,

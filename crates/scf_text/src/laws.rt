@@ -3,6 +3,7 @@ ghost use Rattle.std.specs.Prelude.{◌≡◌, ◌≤◌, ℕ, List, length, map
 ghost use Rattle.std.specs.List.{AllByRecursion, flat_map};
 ghost use Rattle.scf_insn.specs.declared.insn.Insn.{Insn};
 ghost use Rattle.scf_insn.specs.Insn.{IsInsn};
+ghost use Rattle.scf_insn.specs.Kernel.{bpf_maxinsns};
 ghost use Rattle.scf_text.specs.Tokens.{Lexeme, lines_of, tokens_of, words_of_line};
 ghost use Rattle.scf_text.specs.Spelling.{Spells};
 ghost use Rattle.scf_text.specs.Listing.{text_of};
@@ -12,9 +13,10 @@ pub fn one_spelling()
     ensures { (text : List ℕ) (a b : List Insn) → Spells text a → Spells text b → a ≡ b }
 {}
 
-/// The canonical text of instructions, of which there are at most 4096, spells them.
+/// The canonical text of instructions, of which there are at most as many as a filter may have, spells them.
 pub fn listing_spells()
-    ensures { (insns : List Insn) → AllByRecursion IsInsn insns → length insns ≤ 4096 → Spells (text_of insns) insns }
+    ensures { (insns : List Insn) → AllByRecursion IsInsn insns → length insns ≤ bpf_maxinsns
+        → Spells (text_of insns) insns }
 {}
 
 /// The assembler works on the tokens: the words of the lines of a text, in order, are the texts of its tokens.

@@ -1,12 +1,12 @@
 //! An instruction as it is written, in its line.
 ghost use Rattle.std.specs.Prelude.{IsTrue};
 ghost use Rattle.scf_text.specs.Drafts.{is_in_range};
-ghost use Rattle.scf_text.specs.Views.{draft_view};
+ghost use Rattle.scf_text.specs.internal.Views.{draft_view};
 
 use crate::draft::Draft;
 
 /// An instruction as it is written, whose numbers fit their fields, and its line.
-#[derive(Clone, Copy, Debug)]
+#[derive(Clone, Copy)]
 pub(crate) struct Line<'a> {
     pub(crate) line: usize,
     pub(crate) draft: Draft<'a>,

@@ -1,52 +1,13 @@
 //! Instructions as text.
-ghost use Rattle.std.specs.Prelude.{◌≡◌, ◌≤◌, ◌<◌, ◌/◌, ◌%◌, ◌++◌, ◌∷◌, [], ℕ, false, codes, drop, length};
+ghost use Rattle.std.specs.Prelude.{◌≡◌, ◌++◌, ◌∷◌, [], false, codes};
 ghost use Rattle.std.specs.List.{flat_map};
-ghost use Rattle.std.specs.Fmt.{decimal, digits, digit_glyph};
+ghost use Rattle.std.specs.Fmt.{digits};
 ghost use Rattle.scf_insn.specs.Streams.{Writes};
 ghost use Rattle.scf_text.specs.Forms.{mnemonic_text, pieces_of, field_of, form_for};
 ghost use Rattle.scf_text.specs.Listing.{four_digits, number_text, piece_text, operands_text, line_of, text_of};
 
 use crate::form::{Field, Form, Mnemonic, Piece, Style};
-use scf_insn::{Insn, Sink, WriteFault, write_whole};
-
-/// The digit below 16, as a hexadecimal digit in lower case.
-fn glyph(digit: u32) -> u8
-    requires { digit < 16 }
-    ensures { result ≡ digit_glyph false digit }
-{
-    if digit < 10 {
-        b'0' + digit as u8
-    } else {
-        b'a' + (digit as u8 - 10)
-    }
-}
-
-/// The digits of a number, at the end of the bytes.
-#[derive(Drop)]
-struct Digits {
-    bytes: [u8; 10],
-    start: usize,
-    ghost within: { start ≤ 10 },
-}
-
-impl Digits {
-    fn of(number: u32, base: u32) -> Digits
-        requires low { 10 ≤ base }
-        requires high { base ≤ 16 }
-        ensures { drop result.start result.bytes ≡ digits base false number }
-    {
-        let mut bytes = [0; 10];
-        let mut start = 9;
-        bytes[9] = glyph(number % base);
-        let mut left = number / base;
-        while left > 0 {
-            start -= 1;
-            bytes[start] = glyph(left % base);
-            left /= base;
-        }
-        Digits { bytes, start }
-    }
-}
+use scf_insn::{Insn, Sink, WriteFault, digit_byte, write_numeral, write_whole};
 
 /// Writes `0x` and the last four hexadecimal digits.
 fn write_code<S: Sink>(sink: &mut S, code: u32) -> Result<(), WriteFault>
@@ -55,22 +16,12 @@ fn write_code<S: Sink>(sink: &mut S, code: u32) -> Result<(), WriteFault>
     let digits = [
         b'0',
         b'x',
-        glyph(code / 4096 % 16),
-        glyph(code / 256 % 16),
-        glyph(code / 16 % 16),
-        glyph(code % 16),
+        digit_byte(code / 4096 % 16),
+        digit_byte(code / 256 % 16),
+        digit_byte(code / 16 % 16),
+        digit_byte(code % 16),
     ];
     write_whole(sink, &digits)
-}
-
-/// Writes the digits of a number, without leading zeros.
-fn write_digits<S: Sink>(sink: &mut S, number: u32, base: u32) -> Result<(), WriteFault>
-    requires low { 10 ≤ base }
-    requires high { base ≤ 16 }
-    ensures { Writes S.contents S.failures sink.old (digits base false number) result sink.new }
-{
-    let digits = Digits::of(number, base);
-    write_whole(sink, &digits.bytes[digits.start..])
 }
 
 /// Writes `0x` and the hexadecimal digits, without leading zeros.
@@ -78,7 +29,7 @@ fn write_hexadecimal<S: Sink>(sink: &mut S, number: u32) -> Result<(), WriteFaul
     ensures { Writes S.contents S.failures sink.old (codes "0x" ++ digits 16 false number) result sink.new }
 {
     write_whole(sink, &[b'0', b'x'])?;
-    write_digits(sink, number, 16)
+    write_numeral(sink, u64::from(number), 16)
 }
 
 /// Writes a number in a style.
@@ -86,7 +37,7 @@ fn write_number<S: Sink>(sink: &mut S, style: Style, number: u32) -> Result<(), 
     ensures { Writes S.contents S.failures sink.old (number_text style number) result sink.new }
 {
     match style {
-        Style::Decimal => write_digits(sink, number, 10),
+        Style::Decimal => write_numeral(sink, u64::from(number), 10),
         Style::Hexadecimal => write_hexadecimal(sink, number),
         Style::FourDigits => write_code(sink, number),
     }
@@ -116,7 +67,7 @@ fn write_piece<S: Sink>(sink: &mut S, insn: &Insn, piece: Piece) -> Result<(), W
         Piece::Accumulator => write_whole(sink, "a".as_bytes()),
         Piece::Index => write_whole(sink, "x".as_bytes()),
         Piece::Number(field, style) => write_number(sink, style, value_of(insn, field)),
-        Piece::Target(field) => write_digits(sink, value_of(insn, field), 10),
+        Piece::Target(field) => write_numeral(sink, u64::from(value_of(insn, field)), 10),
     }
 }
 
@@ -166,8 +117,9 @@ fn write_line<S: Sink>(sink: &mut S, insn: &Insn) -> Result<(), WriteFault>
     write_rest(sink, insn, form.shape.pieces())
 }
 
-/// Writes the canonical text of instructions, or fails after a beginning of it. Any instructions may be listed: one with
-/// an unknown code, or with a field that isn't 0 and that its code doesn't use, is listed as `raw`. Takes no memory.
+/// Writes the canonical text of instructions, or fails after a beginning of it. Any instructions may be listed: one
+/// with an unknown code, or with a field that isn't 0 and that its code doesn't use, is listed as `raw`. Takes no
+/// memory.
 #[tactic(auto, using(scf_insn::proofs::Written::takes_nothing))]
 pub fn disassemble<S: Sink>(insns: &[Insn], sink: &mut S) -> Result<(), WriteFault>
     ensures { Writes S.contents S.failures sink.old (text_of insns.now) result sink.new }

@@ -1,21 +1,18 @@
 //! The statements of a text.
-ghost use Rattle.std.specs.Prelude.{◌≡◌, ◌≤◌, ◌++◌, ◌∷◌, [], List, IsTrue, length, MatchResult};
+ghost use Rattle.std.specs.Prelude.{◌≡◌, ◌<◌, ◌≤◌, ◌∷◌, [], List, length, OnErr, IsSome};
 ghost use Rattle.std.specs.Option.{option_map};
 ghost use Rattle.std.specs.List.{position_or_len};
-ghost use Rattle.scf_text.specs.Drafts.{draft_of, is_in_range};
-ghost use Rattle.scf_text.specs.Views.{draft_view, texts};
-ghost use Rattle.scf_text.specs.Statements.{Statement, is_semicolon, label_in, instruction_in, drafts_by, place_after};
-ghost use Rattle.scf_text.specs.Faults.{IsFault, instruction_fault, label_fault};
-ghost use Rattle.scf_text.specs.Reading.{places_view, with_label, drafts_view, line_statements, HasRead, ReadsMore};
+ghost use Rattle.scf_text.specs.Statements.{Statement, is_semicolon, label_in, instruction_in};
+ghost use Rattle.scf_text.specs.internal.Reading.{places_view, drafts_view, line_statements, HasRead, ReadsMore};
+ghost use Rattle.scf_text.specs.internal.Results.{TellsDraft, AddsLabel, AddsInstruction};
+ghost use Rattle.scf_text.specs.internal.Views.{texts};
 
-use crate::draft::{Draft, is_mnemonic, is_token_name, read};
+use crate::draft::{Draft, Reading, is_token_name, read};
 use crate::fault::TextFault;
 use crate::line::Line;
 use crate::token::Token;
+use scf_insn::kernel::BPF_MAXINSNS;
 use std::collections::BTreeMap;
-
-/// The most instructions that a text may have.
-const MAX_INSNS: usize = 4096;
 
 /// The instruction that a mnemonic and operands are, in this line and behind as many others.
 fn read_instruction<'a>(
@@ -24,19 +21,16 @@ fn read_instruction<'a>(
     at: usize,
     line: usize,
 ) -> Result<Draft<'a>, TextFault>
-    ensures { MatchResult result
-        (λ d. IsTrue (is_in_range (draft_view d)) × (instruction_fault at line (mnemonic.now ∷ texts operands.now) ≡ None) × (draft_of mnemonic.now (texts operands.now) ≡ Some (draft_view d)))
-        (λ e. instruction_fault at line (mnemonic.now ∷ texts operands.now) ≡ Some e) }
+    ensures { TellsDraft at line mnemonic.now (texts operands.now) result }
 {
-    if !is_mnemonic(mnemonic) {
-        return Err(TextFault::Mnemonic { line });
-    }
-    let Some(draft) = read(mnemonic, operands) else {
-        return Err(TextFault::Operand { line });
+    let draft = match read(mnemonic, operands) {
+        Reading::Unknown => return Err(TextFault::Mnemonic { line }),
+        Reading::Unfit => return Err(TextFault::Operand { line }),
+        Reading::Said(draft) => draft,
     };
     if !draft.is_in_range() {
         Err(TextFault::NumberRange { line })
-    } else if at >= MAX_INSNS {
+    } else if at >= BPF_MAXINSNS {
         Err(TextFault::TooLong { line })
     } else {
         Ok(draft)
@@ -57,6 +51,8 @@ pub(crate) fn find_place<'a>(places: &Places<'a>, name: &'a [u8]) -> Option<usiz
 fn split_label<'a, 't>(tokens: &'t [Token<'a>]) -> (Option<&'a [u8]>, &'t [Token<'a>])
     ensures label { option_map (λ name. name.now) result.0 ≡ label_in (texts tokens.now) }
     ensures rest { texts result.1.now ≡ instruction_in (texts tokens.now) }
+    ensures some { IsSome result.0 → 0 < length tokens.now }
+    ensures within { length result.1.now ≤ length tokens.now }
 {
     if let [name, mark, rest @ ..] = tokens {
         if is_token_name(name.text) && mark.text == b":".as_slice() {
@@ -73,9 +69,9 @@ fn add_label<'a>(
     place: usize,
     line: usize,
 ) -> Result<(), TextFault>
-    ensures { MatchResult result
-        (λ _. (label_fault (places_view places.old) line (option_map (λ name. name.now) label.entry) ≡ None) × (places_view places.new ≡ with_label (places_view places.old) place (option_map (λ name. name.now) label.entry)))
-        (λ e. IsFault e (label_fault (places_view places.old) line (option_map (λ name. name.now) label.entry))) }
+    ensures adds { AddsLabel (places_view places.old) place line (option_map (λ name. name.now) label.entry) result
+        (places_view places.new) }
+    ensures some { OnErr result (IsSome label.entry) }
 {
     if let Some(name) = label {
         if places.insert(name, place)?.is_some() {
@@ -91,9 +87,9 @@ fn add_instruction<'a>(
     tokens: &[Token<'a>],
     line: usize,
 ) -> Result<(), TextFault>
-    ensures { MatchResult result
-        (λ _. (instruction_fault (length (drafts_view lines.old.items)) line (texts tokens.now) ≡ None) × (drafts_view lines.new.items ≡ drafts_view lines.old.items ++ drafts_by line (texts tokens.now)) × (length (drafts_view lines.new.items) ≡ place_after (length (drafts_view lines.old.items)) (texts tokens.now)))
-        (λ e. IsFault e (instruction_fault (length (drafts_view lines.old.items)) line (texts tokens.now))) }
+    ensures adds { AddsInstruction (drafts_view lines.old.items) line (texts tokens.now) result
+        (drafts_view lines.new.items) }
+    ensures some { OnErr result (0 < length tokens.now) }
 {
     if let [mnemonic, operands @ ..] = tokens {
         let draft = read_instruction(mnemonic.text, operands, lines.len(), line)?;
@@ -109,7 +105,10 @@ fn add_statement<'a>(
     tokens: &[Token<'a>],
     line: usize,
 ) -> Result<(), TextFault>
-    ensures { (before : List Statement) → HasRead before (places_view places.old) (drafts_view lines.old.items) → ReadsMore result before ((record { line = line; tokens = texts tokens.now }) ∷ []) (places_view places.new) (drafts_view lines.new.items) }
+    ensures reads { (before : List Statement) → HasRead before (places_view places.old) (drafts_view lines.old.items)
+        → ReadsMore result before ((record { line = line; tokens = texts tokens.now }) ∷ []) (places_view places.new)
+        (drafts_view lines.new.items) }
+    ensures some { OnErr result (0 < length tokens.now) }
 {
     let (label, instruction) = split_label(tokens);
     add_label(places, label, lines.len(), line)?;
@@ -136,7 +135,10 @@ pub(crate) fn add_line<'a>(
     tokens: &[Token<'a>],
     line: usize,
 ) -> Result<(), TextFault>
-    ensures { (before : List Statement) → HasRead before (places_view places.old) (drafts_view lines.old.items) → ReadsMore result before (line_statements line (texts tokens.now)) (places_view places.new) (drafts_view lines.new.items) }
+    ensures reads { (before : List Statement) → HasRead before (places_view places.old) (drafts_view lines.old.items)
+        → ReadsMore result before (line_statements line (texts tokens.now)) (places_view places.new)
+        (drafts_view lines.new.items) }
+    ensures some { OnErr result (0 < length tokens.now) }
 {
     let mut start = 0;
     'statements: loop {

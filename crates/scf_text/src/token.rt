@@ -1,9 +1,11 @@
 //! The tokens of a text.
-ghost use Rattle.std.specs.Prelude.{◌≡◌, ℕ, ◌+◌, ◌≤◌, ◌<◌, ◌^◌, ◌++◌, ◌∷◌, [], ◌↔◌, ◌==◌, length, map, take, drop, IsTrue, OnOk, IfOk, MatchOption, false};
+ghost use Rattle.std.specs.Prelude.{◌≡◌, ◌≢◌, ℕ, ◌+◌, ◌≤◌, ◌<◌, ◌^◌, ◌++◌, ◌∷◌, [], ◌==◌, length, take, drop};
+ghost use Rattle.std.specs.Prelude.{OnOk, OnErr, IfOk, MatchOption, false};
 ghost use Rattle.std.specs.List.{All, position_or_len, prefix_len};
 ghost use Rattle.scf_text.specs.Characters.{is_blank, is_word_byte};
-ghost use Rattle.scf_text.specs.Tokens.{Lexeme, lines_of, begins_comment, before_comment, lexemes_from, lexemes_of_lines, tokens_of, IsSliceOf, lexemes};
-ghost use Rattle.scf_text.specs.Views.{HeadIsBlank};
+ghost use Rattle.scf_text.specs.Tokens.{lines_of, begins_comment, before_comment, lexemes_from, tokens_of};
+ghost use Rattle.scf_text.specs.Tokens.{IsSliceOf, lexemes};
+ghost use Rattle.scf_text.specs.internal.Views.{HeadIsBlank};
 
 use scf_insn::Memory;
 use std::alloc::{AllocError, Global};
@@ -56,8 +58,10 @@ fn line_len(text: &[u8]) -> usize
 /// The first line, and what follows its end.
 #[tactic(auto, using(crate::proofs::TokenLemmas::line_ends, crate::proofs::TokenLemmas::line_lasts))]
 pub(crate) fn first_line(text: &[u8]) -> (&[u8], Option<&[u8]>)
-    ensures lines { MatchOption result.1 (lines_of text.now ≡ result.0.now ∷ []) (λ rest. lines_of text.now ≡ result.0.now ∷ lines_of rest.now) }
-    ensures len { MatchOption result.1 (result.0.now ≡ text.now) (λ rest. length text.now ≡ length result.0.now + 1 + length rest.now) }
+    ensures lines { MatchOption result.1 (lines_of text.now ≡ result.0.now ∷ [])
+        (λ rest. lines_of text.now ≡ result.0.now ∷ lines_of rest.now) }
+    ensures len { MatchOption result.1 (result.0.now ≡ text.now)
+        (λ rest. length text.now ≡ length result.0.now + 1 + length rest.now) }
 {
     let end = line_len(text);
     if end < text.len() {
@@ -98,7 +102,8 @@ fn token_len(bytes: &[u8]) -> usize
     requires shown { HeadIsBlank bytes.now false }
     ensures some { 0 < result }
     ensures within { result ≤ length bytes.now }
-    ensures token { (at : ℕ) → lexemes_from at bytes.now ≡ (record { start = at; text = take result bytes.now }) ∷ lexemes_from (at + result) (drop result bytes.now) }
+    ensures token { (at : ℕ) → lexemes_from at bytes.now
+        ≡ (record { start = at; text = take result bytes.now }) ∷ lexemes_from (at + result) (drop result bytes.now) }
 {
     word_len(bytes).max(1)
 }
@@ -110,7 +115,9 @@ pub(crate) fn push_tokens<'a>(
     line: &'a [u8],
 ) -> Result<(), AllocError>
     requires { start + length line.now < 2 ^ 64 }
-    ensures { OnOk result (lexemes found.new.items ≡ lexemes found.old.items ++ lexemes_from start (before_comment line.now)) }
+    ensures found { OnOk result
+        (lexemes found.new.items ≡ lexemes found.old.items ++ lexemes_from start (before_comment line.now)) }
+    ensures refused { OnErr result (lexemes_from start (before_comment line.now) ≢ []) }
 {
     let line = without_comment(line);
     let mut at = 0;
@@ -132,11 +139,12 @@ pub(crate) fn push_tokens<'a>(
 /// The tokens of a text, in order: the words, the numbers and the other single bytes that stand outside blanks, line
 /// ends and comments. `;` is one of them, and so is a byte that isn't ASCII.
 ///
-/// Each borrows its slice of the text. `Memory` comes where memory was refused.
+/// Each borrows its slice of the text. `Memory` comes where memory was refused, and not where there is no token.
 #[tactic(auto, unfolding(crate::specs::Tokens::tokens_of))]
 pub fn tokens(alloc: Global, text: &[u8]) -> Result<Vec<Token<'_>>, Memory>
     ensures pieces { IfOk result (λ found. lexemes found.items ≡ tokens_of text.now) }
     ensures slices { IfOk result (λ found. All (λ t. IsSliceOf text.now t.start t.text.now) found.items) }
+    ensures refused { OnErr result (tokens_of text.now ≢ []) }
 {
     let mut found = Vec::new(alloc);
     let mut start = 0;

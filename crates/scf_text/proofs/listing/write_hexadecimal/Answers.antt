@@ -10,4 +10,6 @@ returns-in_err-write_whole g c =
     rw p.1 (fails_first (digits 16 false c.args.number) c.in_err-write_whole.ensures)
 
 pub returns : goal.returns
-returns g c = writes_then g.S.Sink.contents g.S.Sink.failures _ _ (48 ∷ 120 ∷ []) _ _ _ c.in_ok-write_whole.ensures c.write_digits.ensures
+returns g c =
+    writes_then g.S.Sink.contents g.S.Sink.failures _ _ (48 ∷ 120 ∷ []) _ _ _ c.in_ok-write_whole.ensures
+    (rw c.from.ensures at c.write_numeral.ensures)

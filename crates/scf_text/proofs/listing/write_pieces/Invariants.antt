@@ -8,4 +8,5 @@ abbrev pub invariant-loop-piece : goal.invariant-loop-piece
 invariant-loop-piece g l =
     let contents = g.S.Sink.contents in
     let failures = g.S.Sink.failures in
-    TakesAll (contents l.fn.sink) (flat_map (piece_text l.insn) (take l.piece-index l.pieces)) (contents l.sink) (failures l.fn.sink) (failures l.sink)
+    TakesAll (contents l.fn.sink) (flat_map (piece_text l.insn) (take l.piece-index l.pieces)) (contents l.sink)
+    (failures l.fn.sink) (failures l.sink)

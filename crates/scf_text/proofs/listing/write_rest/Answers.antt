@@ -9,4 +9,5 @@ returns-in_err-write_operands g c =
     rw p.1 (fails_first (10 ∷ []) c.in_err-write_operands.ensures)
 
 pub returns : goal.returns
-returns g c = writes_then g.S.Sink.contents g.S.Sink.failures _ _ _ _ _ _ c.in_ok-write_operands.ensures c.write_whole.ensures
+returns g c =
+    writes_then g.S.Sink.contents g.S.Sink.failures _ _ _ _ _ _ c.in_ok-write_operands.ensures c.write_whole.ensures

@@ -1,8 +1,9 @@
-use Rattle.std.proofs.Common.{◌≡◌, ◌++◌, List, true, sym, ap, ◌∙◌, arith, get_or}
-use Rattle.std.proofs.lemmas.List.{append-nil}
+use Rattle.std.proofs.Common.{◌≡◌, ◌+◌, ◌++◌, List, true, sym, ap, ◌∙◌, arith, get_or}
+use Rattle.std.proofs.lemmas.List.{append-nil, length-map, take_rest}
+use Rattle.std.proofs.lemmas.Result.{err_from_is_err_and}
 use Rattle.scf_text.specs.Characters.{is_blank}
 use Rattle.scf_text.specs.Tokens.{Lexeme, lexemes}
-use Rattle.scf_text.proofs.TokenLemmas.{blank_at, nothing_after}
+use Rattle.scf_text.proofs.TokenLemmas.{blank_at, nothing_after, some_tokens}
 use Rattle.scf_text.proofs.token.push_tokens.Goals as goal
 
 pub loop-at-preserved-then-is_blank_byte : goal.loop-at-preserved-then-is_blank_byte
@@ -10,13 +11,24 @@ loop-at-preserved-then-is_blank_byte c =
     let line = c.without_comment-line.result.now in
     let blank : is_blank (get_or line c.loop-at.at 0) ≡ true = cc in
     record {
+      more = c.loop-at.invariant.more;
       within = omega arith;
       room = c.loop-at.invariant.room;
-      rest = ap (λ (ts : List Lexeme). lexemes c.loop-at.found.items ++ ts) (blank_at c.args.start c.loop-at.at line (omega arith) blank) ∙ c.loop-at.invariant.rest;
+      rest = ap (λ (ts : List Lexeme). lexemes c.loop-at.found.items ++ ts)
+          (blank_at c.args.start c.loop-at.at line (omega arith) blank) ∙ c.loop-at.invariant.rest;
     }
 
-pub returns : goal.returns
-returns c =
+pub returns-clause-found : goal.returns-clause-found
+returns-clause-found c =
     let line = c.without_comment-line.result.now in
     let none = nothing_after c.args.start c.loop-at.at line c.loop-at-test.false in
-    sym (append-nil (lexemes c.loop-at.found.items)) ∙ ap (λ (ts : List Lexeme). lexemes c.loop-at.found.items ++ ts) (sym none) ∙ c.loop-at.invariant.rest
+    sym (append-nil (lexemes c.loop-at.found.items))
+    ∙ ap (λ (ts : List Lexeme). lexemes c.loop-at.found.items ++ ts) (sym none) ∙ c.loop-at.invariant.rest
+
+pub returns-in_err-push-clause-refused : goal.returns-in_err-push-clause-refused
+returns-in_err-push-clause-refused c =
+    let p = err_from_is_err_and c.from_residual.result c.from_residual.ensures.1 in
+    let token = c.token_len-len.ensures.token (c.args.start + c.loop-at.at) in
+    rw p.1
+    (some_tokens (lexemes c.args.found.now.items) (lexemes c.loop-at.found.items) _ _ _ _
+    (simp length-map c.loop-at.invariant.more) (rw take_rest at token) c.loop-at.invariant.rest)

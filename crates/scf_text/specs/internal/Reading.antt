@@ -1,5 +1,5 @@
 -- What the code keeps of the statements that it has read.
-use Rattle.std.specs.Prelude.{◌≡◌, ℕ, List, [], ◌++◌, length, map, Option, None, Some, Result, Ok, Err}
+use Rattle.std.specs.Prelude.{◌≡◌, ◌≢◌, ℕ, List, [], ◌++◌, length, map, Option, None, Some, Result, Ok, Err}
 use Rattle.std.specs.Borrow.{Bor}
 use Rattle.std.specs.BTreeMap.{BTreeMap, get_by}
 use Rattle.std.specs.Cmp.Lexicographic.{slice_cmp}
@@ -10,7 +10,8 @@ use Rattle.std.specs.Str.{bytes_eq}
 use Rattle.scf_text.specs.declared.fault.TextFault.{TextFault}
 use Rattle.scf_text.specs.declared.line.Line.{Line}
 use Rattle.scf_text.specs.Drafts as drafts
-use Rattle.scf_text.specs.Views.{draft_view}
+use Rattle.scf_text.specs.internal.Views.{draft_view}
+use Rattle.scf_text.specs.Tokens.{lines_of, words_of_line}
 use Rattle.scf_text.specs.Statements.{Statement, Places, is_semicolon, places_in, instruction_count, drafts_in}
 use Rattle.scf_text.specs.Faults.{IsFault, statements_fault}
 
@@ -30,6 +31,10 @@ drafts_view kept = map (λ l. (l.line, draft_view l.draft)) kept
 abbrev pub line_statements : ℕ → List (List ℕ) → List Statement
 line_statements line tokens = map (λ ts. record { line = line; tokens = ts }) (slice_split is_semicolon tokens)
 
+-- Some line of the text has a token.
+abbrev pub HasWords : List ℕ → Type 0
+HasWords text = flat_map words_of_line (lines_of text) ≢ []
+
 -- The places and the instructions of these statements are kept.
 pub record HasRead (statements : List Statement) (kept : Places) (kept_drafts : List (ℕ × drafts.Draft)) : Type 0 where
   pub places : kept ≡ places_in statements
@@ -37,13 +42,8 @@ pub record HasRead (statements : List Statement) (kept : Places) (kept_drafts : 
   pub count : length kept_drafts ≡ instruction_count statements
 
 -- Statements behind others were read, or the first fault is among them.
-abbrev pub ReadsMore : {T : Type 0} → Result T TextFault → List Statement → List Statement → Places → List (ℕ × drafts.Draft) → Type 0
-ReadsMore (Ok _) before more kept kept_drafts = (statements_fault before more ≡ None) × HasRead (before ++ more) kept kept_drafts
+abbrev pub ReadsMore : {T : Type 0} → Result T TextFault → List Statement → List Statement → Places
+    → List (ℕ × drafts.Draft) → Type 0
+ReadsMore (Ok _) before more kept kept_drafts =
+    (statements_fault before more ≡ None) × HasRead (before ++ more) kept kept_drafts
 ReadsMore (Err e) before more kept kept_drafts = IsFault e (statements_fault before more)
-
--- Of all these statements behind others, those up to the rest were read.
-pub record HasReadUpTo (before all rest : List Statement) (kept : Places) (kept_drafts : List (ℕ × drafts.Draft)) : Type 0 where
-  pub done : List Statement
-  pub whole : all ≡ done ++ rest
-  pub none : statements_fault before done ≡ None
-  pub read : HasRead (before ++ done) kept kept_drafts

@@ -1,0 +1,72 @@
+-- Which texts have a token, so that memory may be wanted for them.
+use Rattle.std.proofs.Common.{◌≡◌, ◌≢◌, ℕ, ◌+◌, ◌<◌, List, [], ◌∷◌, ◌++◌, length, map, Result, Ok, Err, refl, sym, ap}
+use Rattle.std.proofs.Common.{◌∙◌}
+use Rattle.std.proofs.Common.{arith}
+use Rattle.std.specs.Prelude.{OnErr}
+use Rattle.std.specs.List.{flat_map}
+use Rattle.scf_text.specs.declared.token.Token.{Token}
+use Rattle.scf_text.specs.declared.line.Line.{Line}
+use Rattle.scf_text.specs.Tokens.{Lexeme, lexemes, lexemes_from, lines_of, before_comment, words_of_line, tokens_of}
+use Rattle.scf_text.specs.Statements.{statements_from, drafts_in, drafts_of}
+use Rattle.scf_text.specs.internal.Reading.{HasWords, drafts_view}
+use Rattle.scf_text.proofs.SliceLemmas.{words_are_tokens}
+
+none_mapped : {A B : Type 0} (f : A → B) (xs : List A) → map f xs ≡ [] → xs ≡ []
+none_mapped f [] e = refl
+none_mapped f (x ∷ xs) e = absurd cc
+
+none_in_front : {A : Type 0} (xs ys : List A) → xs ++ ys ≡ [] → xs ≡ []
+none_in_front [] ys e = refl
+none_in_front (x ∷ xs) ys e = absurd cc
+
+none_behind : {A : Type 0} (xs ys : List A) → xs ++ ys ≡ [] → ys ≡ []
+none_behind [] ys e = e
+none_behind (x ∷ xs) ys e = absurd cc
+
+-- the first line has a token
+pub first_words : (text line : List ℕ) (lines : List (List ℕ)) → lines_of text ≡ line ∷ lines
+    → lexemes_from 0 (before_comment line) ≢ [] → HasWords text
+first_words text line lines e some = λ none.
+    some (none_mapped (λ (t : Lexeme). t.text) (lexemes_from 0 (before_comment line))
+    (none_in_front (words_of_line line) (flat_map words_of_line lines) (sym (ap (flat_map words_of_line) e) ∙ none)))
+
+-- a later line has one
+pub later_words : (text line : List ℕ) (lines : List (List ℕ)) → lines_of text ≡ line ∷ lines
+    → flat_map words_of_line lines ≢ [] → HasWords text
+later_words text line lines e some = λ none.
+    some (none_behind (words_of_line line) (flat_map words_of_line lines) (sym (ap (flat_map words_of_line) e) ∙ none))
+
+-- tokens of a line were found
+pub found_tokens : (line : List ℕ) (old ts us : List Token) → old ≡ []
+    → lexemes ts ≡ lexemes old ++ lexemes_from 0 (before_comment line) → us ≡ ts → 0 < length us
+    → lexemes_from 0 (before_comment line) ≢ []
+found_tokens line old ts us cleared found same some = λ none.
+    let no_lexemes : lexemes ts ≡ [] = found
+    ∙ ap (λ o. lexemes o ++ lexemes_from 0 (before_comment line)) cleared ∙ none in
+    let no_tokens : us ≡ [] = same ∙ none_mapped _ ts no_lexemes in
+    omega (arith, ap length no_tokens, some)
+
+no_drafts : (n : ℕ) (lines : List (List ℕ)) → flat_map words_of_line lines ≡ []
+    → flat_map drafts_in (statements_from n lines) ≡ []
+no_drafts n [] none = refl
+no_drafts n (line ∷ lines) none =
+    let here : words_of_line line ≡ [] = none_in_front (words_of_line line) (flat_map words_of_line lines) none in
+    let later = none_behind (words_of_line line) (flat_map words_of_line lines) none in
+    rw here (no_drafts (n + 1) lines later)
+
+read_words : (text : List ℕ) (lines : List Line) → drafts_view lines ≡ drafts_of text → 0 < length lines
+    → HasWords text
+read_words text lines read some = λ none.
+    let no_lines = none_mapped _ lines (read ∙ no_drafts 1 (lines_of text) none) in
+    omega (arith, ap length no_lines, some)
+
+-- some instruction was read where one of them is refused
+pub text_words : {T E : Type 0} (text : List ℕ) (lines kept : List Line) (r : Result T E) → kept ≡ lines
+    → drafts_view lines ≡ drafts_of text → OnErr r (0 < length kept) → OnErr r (HasWords text)
+text_words text lines kept (Ok v) same read some = tt
+text_words text lines kept (Err e) same read some = read_words text lines read (omega (arith, ap length same, some))
+
+-- then the text has a token
+pub words_tokens : (text : List ℕ) → HasWords text → tokens_of text ≢ []
+words_tokens text some = λ none.
+    some (sym (words_are_tokens text) ∙ ap (map (λ (t : Lexeme). t.text)) none)

@@ -1,0 +1,78 @@
+-- What the functions of the assembler answer: what was asked for, or the fault that stands in its place.
+use Rattle.std.specs.Prelude.{◌≡◌, ℕ, ◌<◌, Bool, true, false, List, ◌∷◌, ◌++◌, length, Option, Some, None, Result, Ok}
+use Rattle.std.specs.Prelude.{Err, IsTrue}
+use Rattle.std.specs.List.{AllByRecursion}
+use Rattle.std.specs.Global.{Vec}
+use Rattle.scf_insn.specs.Insn.{IsInsn}
+use Rattle.scf_insn.specs.declared.insn.Insn.{Insn}
+use Rattle.scf_text.specs.declared.draft.Draft.{Draft}
+use Rattle.scf_text.specs.declared.draft.Reading.{Reading}
+use Rattle.scf_text.specs.declared.draft.Reading.TheVariants.{Unknown, Unfit, Said}
+use Rattle.scf_text.specs.declared.fault.TextFault.{TextFault}
+use Rattle.scf_text.specs.Drafts as drafts
+use Rattle.scf_text.specs.Faults.{IsFault, label_fault, instruction_fault}
+use Rattle.scf_text.specs.Faults.{target_fault, targets_fault, all_targets_fault}
+use Rattle.scf_text.specs.Spelling.{Says, SaysInsn, SaysEach}
+use Rattle.scf_text.specs.Statements.{Places, place_of, labels_of, drafts_of, drafts_by, place_after}
+use Rattle.scf_text.specs.internal.Reading.{with_label}
+use Rattle.scf_text.specs.internal.Views.{draft_view}
+
+-- the number that is written, or the offset to the label, below the limit
+abbrev pub TellsTarget : Places → ℕ → ℕ → ℕ → drafts.Written → Result ℕ TextFault → Type 0
+TellsTarget places at line limit written (Ok value) =
+    (target_fault places at line limit written ≡ None) × Says places at written value × (value < limit)
+TellsTarget places at line limit written (Err e) = target_fault places at line limit written ≡ Some e
+
+-- the instruction that is written at this place
+abbrev pub TellsInsn : Places → ℕ → ℕ → drafts.Draft → Result Insn TextFault → Type 0
+TellsInsn places at line draft (Ok insn) =
+    (targets_fault places at line draft ≡ None) × SaysInsn places at draft insn × IsInsn insn
+TellsInsn places at line draft (Err e) = targets_fault places at line draft ≡ Some e
+
+-- the instructions that are written, the first at place 0
+abbrev pub TellsInsns : Places → List (ℕ × drafts.Draft) → Result (Vec Insn) TextFault → Type 0
+TellsInsns places written (Ok insns) =
+    (all_targets_fault places 0 written ≡ None) × SaysEach places 0 written insns.items
+    × AllByRecursion IsInsn insns.items
+TellsInsns places written (Err e) = IsFault e (all_targets_fault places 0 written)
+
+-- the instructions that a text without this fault says
+abbrev pub TellsText : Option TextFault → List ℕ → Result (Vec Insn) TextFault → Type 0
+TellsText first text (Ok insns) =
+    (first ≡ None) × SaysEach (place_of (labels_of text)) 0 (drafts_of text) insns.items
+    × AllByRecursion IsInsn insns.items
+TellsText first text (Err e) = IsFault e first
+
+-- what a mnemonic and its operands say, in a line and behind as many instructions
+abbrev pub TellsDraft : ℕ → ℕ → List ℕ → List (List ℕ) → Result Draft TextFault → Type 0
+TellsDraft at line mnemonic operands (Ok draft) =
+    IsTrue (drafts.is_in_range (draft_view draft)) × (instruction_fault at line (mnemonic ∷ operands) ≡ None)
+    × (drafts.draft_of mnemonic operands ≡ Some (draft_view draft))
+TellsDraft at line mnemonic operands (Err e) = instruction_fault at line (mnemonic ∷ operands) ≡ Some e
+
+-- A label got this place, if there is one.
+abbrev pub AddsLabel : {T : Type 0} → Places → ℕ → ℕ → Option (List ℕ) → Result T TextFault → Places → Type 0
+AddsLabel old place line label (Ok _) new = (label_fault old line label ≡ None) × (new ≡ with_label old place label)
+AddsLabel old place line label (Err e) new = IsFault e (label_fault old line label)
+
+-- The instruction of these tokens, if there are any, stands behind the others.
+abbrev pub AddsInstruction : {T : Type 0} → List (ℕ × drafts.Draft) → ℕ → List (List ℕ) → Result T TextFault
+    → List (ℕ × drafts.Draft) → Type 0
+AddsInstruction old line tokens (Ok _) new =
+    (instruction_fault (length old) line tokens ≡ None) × (new ≡ old ++ drafts_by line tokens)
+    × (length new ≡ place_after (length old) tokens)
+AddsInstruction old line tokens (Err e) new = IsFault e (instruction_fault (length old) line tokens)
+
+-- A mnemonic is known or not, and it says this draft with the tokens behind it, or nothing.
+abbrev pub Reads : Bool → Option drafts.Draft → Reading → Type 0
+Reads known said Unknown = known ≡ false
+Reads known said Unfit = (known ≡ true) × (said ≡ None)
+Reads known said (Said draft) = (known ≡ true) × (said ≡ Some (draft_view draft))
+
+-- the reading in the first form that says something, or else in one that has the mnemonic
+abbrev pub reading_or : Reading → Reading → Reading
+reading_or Unknown other = other
+reading_or Unfit Unknown = Unfit
+reading_or Unfit Unfit = Unfit
+reading_or Unfit (Said draft) = Said draft
+reading_or (Said draft) other = Said draft
