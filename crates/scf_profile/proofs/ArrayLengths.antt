@@ -1,5 +1,6 @@
 -- An array has no more items than its text has bytes.
-use Rattle.std.proofs.Common.{◌≡◌, ℕ, zero, suc, ◌<◌, ◌≤◌, Bool, true, false, List, [], ◌∷◌, length, Option, Some, None, Result, Ok, Err, refl, sym, ap, subst, arith}
+use Rattle.std.proofs.Common.{◌≡◌, ℕ, zero, suc, ◌<◌, ◌≤◌, Bool, true, false, List, [], ◌∷◌, length, Option, Some, None}
+use Rattle.std.proofs.Common.{Result, Ok, Err, refl, sym, ap, subst, arith}
 use Rattle.std.specs.Prelude.{IfSome, IfOk, codes, option_map, option_and_then, ⊤}
 use Rattle.std.proofs.lemmas.Result.{IfOk-at_ok}
 use Rattle.std.specs.declared.cmp.Ordering.TheVariants.{Less, Equal, Greater}
@@ -9,25 +10,29 @@ use Rattle.json.specs.Token.{Token}
 use Rattle.json.specs.Token as token
 use Rattle.json.specs.Lex as lexer
 use Rattle.json.specs.Json as json
-use Rattle.serde_json.specs.Data.{Data, Items, item, Members, no_members, member, put, null, boolean, number, string, array, object}
+use Rattle.serde_json.specs.Data.{Data, Items, item, Members, no_members, member, put, null, boolean, number, string}
+use Rattle.serde_json.specs.Data.{array, object}
 use Rattle.serde_json.specs.Events.{items_len}
 use Rattle.serde_json.specs.Find.{get, get_member, as_array, as_object}
 use Rattle.serde_json.specs.Read.{of_json, of_items, of_members, number_of, read, max_depth}
 use Rattle.scf_profile.specs.JsonMembers.{unless_null}
 use Rattle.scf_profile.specs.JsonMembers as members
 use Rattle.scf_profile.specs.declared.load_fault.LoadFault.TheVariants as faults
+use Rattle.scf_profile.specs.Limits.{max_text_len}
 use Rattle.scf_profile.specs.Loading.{IsText}
 use Rattle.scf_profile.specs.Steps.{◌>>=◌, some_or}
 use Rattle.scf_profile.specs.StatedProfile.{seccomp_in, root_or_linux, seccomp_of}
-use Rattle.scf_profile.specs.ShortArrays.{HasShortArrays, ItemsHaveShortArrays, MembersHaveShortArrays}
+use Rattle.scf_profile.specs.internal.ShortArrays.{HasShortArrays, ItemsHaveShortArrays, MembersHaveShortArrays}
 
 -- ---- options
 
-map_some : {A B : Type 0} (P : A → Type 0) (Q : B → Type 0) (f : A → B) (o : Option A) → IfSome o P → ((x : A) → P x → Q (f x)) → IfSome (option_map f o) Q
+map_some : {A B : Type 0} (P : A → Type 0) (Q : B → Type 0) (f : A → B) (o : Option A) → IfSome o P
+    → ((x : A) → P x → Q (f x)) → IfSome (option_map f o) Q
 map_some P Q f None h k = tt
 map_some P Q f (Some x) h k = k x h
 
-then_some : {A B : Type 0} (P : A → Type 0) (Q : B → Type 0) (f : A → Option B) (o : Option A) → IfSome o P → ((x : A) → P x → IfSome (f x) Q) → IfSome (option_and_then f o) Q
+then_some : {A B : Type 0} (P : A → Type 0) (Q : B → Type 0) (f : A → Option B) (o : Option A) → IfSome o P
+    → ((x : A) → P x → IfSome (f x) Q) → IfSome (option_and_then f o) Q
 then_some P Q f None h k = tt
 then_some P Q f (Some x) h k = k x h
 
@@ -37,7 +42,8 @@ always (Some x) = tt
 
 -- ---- no more tokens than bytes, and one
 
-lexemes_after : (n : ℕ) (m : lexer.Mode) (c : lexer.Class) (x : ℕ) (xs : List ℕ) (k : lexer.Mode → List lexer.Lexeme) → ((next : lexer.Mode) → length (k next) ≤ n) → length (lexer.lex_byte m c x xs k) ≤ suc n
+lexemes_after : (n : ℕ) (m : lexer.Mode) (c : lexer.Class) (x : ℕ) (xs : List ℕ) (k : lexer.Mode → List lexer.Lexeme)
+    → ((next : lexer.Mode) → length (k next) ≤ n) → length (lexer.lex_byte m c x xs k) ≤ suc n
 lexemes_after n lexer.between lexer.quote x xs k h = omega (arith, h lexer.in_string)
 lexemes_after n lexer.between lexer.backslash x xs k h = omega (arith, h lexer.in_word)
 lexemes_after n lexer.between lexer.operator x xs k h = omega (arith, h lexer.between)
@@ -58,13 +64,16 @@ lexemes_after n lexer.in_escape c x xs k h = omega (arith, h lexer.in_string)
 lexemes_count : (m : lexer.Mode) (text : List ℕ) → length (lexer.lex m text) ≤ length text
 unfolding lexer.lex
 lexemes_count m [] = omega arith
-lexemes_count m (x ∷ xs) = lexemes_after (length xs) m (lexer.class x) x xs (λ next. lexer.lex next xs) (λ next. lexemes_count next xs)
+lexemes_count m (x ∷ xs) =
+    lexemes_after (length xs) m (lexer.class x) x xs (λ next. lexer.lex next xs) (λ next. lexemes_count next xs)
 
-allowed_count : (n : ℕ) (b : Bool) (t : Token) (k : lexer.Place → List Token) (next : lexer.Place) → length (k next) ≤ n → length (lexer.if_allowed b t k next) ≤ suc n
+allowed_count : (n : ℕ) (b : Bool) (t : Token) (k : lexer.Place → List Token) (next : lexer.Place) → length (k next) ≤ n
+    → length (lexer.if_allowed b t k next) ≤ suc n
 allowed_count n true t k next h = omega (arith, h)
 allowed_count n false t k next h = omega arith
 
-placed_count : (n : ℕ) (p : lexer.Place) (t : Token) (b : Bool) (k : lexer.Place → List Token) → ((next : lexer.Place) → length (k next) ≤ n) → length (lexer.place_token p t b k) ≤ suc n
+placed_count : (n : ℕ) (p : lexer.Place) (t : Token) (b : Bool) (k : lexer.Place → List Token)
+    → ((next : lexer.Place) → length (k next) ≤ n) → length (lexer.place_token p t b k) ≤ suc n
 placed_count n p token.begin_object b k h = allowed_count n _ _ k _ (h lexer.fresh)
 placed_count n p token.end_object b k h = allowed_count n _ _ k _ (h lexer.after_value)
 placed_count n p token.begin_array b k h = allowed_count n _ _ k _ (h lexer.fresh)
@@ -83,10 +92,14 @@ tokens_count lexer.fresh [] = omega arith
 tokens_count lexer.after_value [] = omega arith
 tokens_count lexer.after_comma [] = omega arith
 tokens_count lexer.after_key [] = omega arith
-tokens_count lexer.fresh (lexer.token t ∷ ls) = placed_count (suc (length ls)) lexer.fresh t _ _ (λ next. tokens_count next ls)
-tokens_count lexer.after_value (lexer.token t ∷ ls) = placed_count (suc (length ls)) lexer.after_value t _ _ (λ next. tokens_count next ls)
-tokens_count lexer.after_comma (lexer.token t ∷ ls) = placed_count (suc (length ls)) lexer.after_comma t _ _ (λ next. tokens_count next ls)
-tokens_count lexer.after_key (lexer.token t ∷ ls) = placed_count (suc (length ls)) lexer.after_key t _ _ (λ next. tokens_count next ls)
+tokens_count lexer.fresh (lexer.token t ∷ ls) =
+    placed_count (suc (length ls)) lexer.fresh t _ _ (λ next. tokens_count next ls)
+tokens_count lexer.after_value (lexer.token t ∷ ls) =
+    placed_count (suc (length ls)) lexer.after_value t _ _ (λ next. tokens_count next ls)
+tokens_count lexer.after_comma (lexer.token t ∷ ls) =
+    placed_count (suc (length ls)) lexer.after_comma t _ _ (λ next. tokens_count next ls)
+tokens_count lexer.after_key (lexer.token t ∷ ls) =
+    placed_count (suc (length ls)) lexer.after_key t _ _ (λ next. tokens_count next ls)
 tokens_count lexer.fresh (lexer.comma ∷ ls) = omega arith
 tokens_count lexer.after_value (lexer.comma ∷ ls) = omega (arith, tokens_count lexer.after_comma ls)
 tokens_count lexer.after_comma (lexer.comma ∷ ls) = omega arith
@@ -156,31 +169,43 @@ module _ (limit : ℕ) where
   key_rest (token.null ∷ ts) = tt
   key_rest (token.bad ∷ ts) = tt
 
-  module _ (value : List Token → Option (json.Json × List Token)) (reads : (ts : List Token) → length ts ≤ limit → ReadsShort ts (value ts)) where
-    items_step : (n : ℕ) (more : List Token → Option (json.Items × List Token)) → ((ts : List Token) → length ts ≤ limit → ReadsItems n ts (more ts))
-        → (ts : List Token) → length ts ≤ limit → (closed : Option (List Token)) → IfSome closed (λ rest. length rest ≤ length ts) → ReadsItems (suc n) ts (json.items_step value more ts closed)
+  module _ (value : List Token → Option (json.Json × List Token))
+      (reads : (ts : List Token) → length ts ≤ limit → ReadsShort ts (value ts)) where
+    items_step : (n : ℕ) (more : List Token → Option (json.Items × List Token))
+        → ((ts : List Token) → length ts ≤ limit → ReadsItems n ts (more ts))
+        → (ts : List Token) → length ts ≤ limit → (closed : Option (List Token))
+        → IfSome closed (λ rest. length rest ≤ length ts) → ReadsItems (suc n) ts (json.items_step value more ts closed)
     items_step n more h ts le (Some rest) shorter = (omega arith, tt, shorter)
     items_step n more h ts le None shorter =
-        then_some (λ p. Short limit p.0 × (length p.1 ≤ length ts)) (λ q. (json_count q.0 ≤ suc n) × ShortItems limit q.0 × (length q.1 ≤ length ts)) _ (value ts) (reads ts le)
+        then_some (λ p. Short limit p.0 × (length p.1 ≤ length ts))
+        (λ q. (json_count q.0 ≤ suc n) × ShortItems limit q.0 × (length q.1 ≤ length ts)) _ (value ts) (reads ts le)
         (λ p first. let less : length p.1 ≤ length ts = first.1 in
-        map_some (λ q. (json_count q.0 ≤ n) × ShortItems limit q.0 × (length q.1 ≤ length p.1)) (λ q. (json_count q.0 ≤ suc n) × ShortItems limit q.0 × (length q.1 ≤ length ts)) _ (more p.1) (h p.1 (omega arith))
+        map_some (λ q. (json_count q.0 ≤ n) × ShortItems limit q.0 × (length q.1 ≤ length p.1))
+        (λ q. (json_count q.0 ≤ suc n) × ShortItems limit q.0 × (length q.1 ≤ length ts)) _ (more p.1)
+        (h p.1 (omega arith))
         (λ q rest. let few = rest.0 in let less_too = rest.2 in (omega arith, (first.0, rest.1), omega arith)))
 
     items_short : (n : ℕ) (ts : List Token) → length ts ≤ limit → ReadsItems n ts (json.items value n ts)
     unfolding json.items
     items_short zero ts le = tt
-    items_short (suc n) ts le = items_step n (json.items value n) (items_short n) ts le (json.after_end_array ts) (end_rest ts)
+    items_short (suc n) ts le =
+        items_step n (json.items value n) (items_short n) ts le (json.after_end_array ts) (end_rest ts)
 
-    members_step : (more : List Token → Option (json.Members × List Token)) → ((ts : List Token) → length ts ≤ limit → ReadsMembers ts (more ts))
-        → (key : Option (List ℕ)) (ts : List Token) → length ts ≤ limit → ReadsMembers ts (json.members_step value more key ts)
+    members_step : (more : List Token → Option (json.Members × List Token))
+        → ((ts : List Token) → length ts ≤ limit → ReadsMembers ts (more ts))
+        → (key : Option (List ℕ)) (ts : List Token) → length ts ≤ limit
+        → ReadsMembers ts (json.members_step value more key ts)
     members_step more h None ts le = (tt, omega arith)
     members_step more h (Some k) ts le =
-        then_some (λ p. Short limit p.0 × (length p.1 ≤ length ts)) (λ q. ShortMembers limit q.0 × (length q.1 ≤ length ts)) _ (value ts) (reads ts le)
+        then_some (λ p. Short limit p.0 × (length p.1 ≤ length ts))
+        (λ q. ShortMembers limit q.0 × (length q.1 ≤ length ts)) _ (value ts) (reads ts le)
         (λ p first. let less : length p.1 ≤ length ts = first.1 in
-        map_some (λ q. ShortMembers limit q.0 × (length q.1 ≤ length p.1)) (λ q. ShortMembers limit q.0 × (length q.1 ≤ length ts)) _ (more p.1) (h p.1 (omega arith))
+        map_some (λ q. ShortMembers limit q.0 × (length q.1 ≤ length p.1))
+        (λ q. ShortMembers limit q.0 × (length q.1 ≤ length ts)) _ (more p.1) (h p.1 (omega arith))
         (λ q rest. let less_too = rest.1 in ((first.0, rest.0), omega arith)))
 
-    weaker_members : (ts us : List Token) (r : Option (json.Members × List Token)) → length us ≤ length ts → ReadsMembers us r → ReadsMembers ts r
+    weaker_members : (ts us : List Token) (r : Option (json.Members × List Token)) → length us ≤ length ts
+        → ReadsMembers us r → ReadsMembers ts r
     weaker_members ts us None le h = tt
     weaker_members ts us (Some p) le h = let less = h.1 in (h.0, omega arith)
 
@@ -188,18 +213,26 @@ module _ (limit : ℕ) where
     unfolding json.members
     members_short zero ts le = tt
     members_short (suc n) ts le =
-        then_some (λ p. length p.1 ≤ length ts) (λ q. ShortMembers limit q.0 × (length q.1 ≤ length ts)) _ (json.read_key ts) (key_rest ts)
-        (λ p less. weaker_members ts p.1 _ less (members_step (json.members value n) (members_short n) p.0 p.1 (omega arith)))
+        then_some (λ p. length p.1 ≤ length ts) (λ q. ShortMembers limit q.0 × (length q.1 ≤ length ts)) _
+        (json.read_key ts) (key_rest ts)
+        (λ p less. weaker_members ts p.1 _ less
+        (members_step (json.members value n) (members_short n) p.0 p.1 (omega arith)))
 
-  value_with_short : (a : List Token → Option (json.Items × List Token)) (o : List Token → Option (json.Members × List Token))
-      → ((ts : List Token) → length ts ≤ limit → ReadsItems limit ts (a ts)) → ((ts : List Token) → length ts ≤ limit → ReadsMembers ts (o ts))
+  value_with_short : (a : List Token → Option (json.Items × List Token))
+      (o : List Token → Option (json.Members × List Token))
+      → ((ts : List Token) → length ts ≤ limit → ReadsItems limit ts (a ts))
+      → ((ts : List Token) → length ts ≤ limit → ReadsMembers ts (o ts))
       → (ts : List Token) → length ts ≤ limit → ReadsShort ts (json.value_with a o ts)
   value_with_short a o h k [] le = tt
   value_with_short a o h k (token.begin_object ∷ ts) le =
-      map_some (λ q. ShortMembers limit q.0 × (length q.1 ≤ length ts)) (λ q. Short limit q.0 × (length q.1 ≤ suc (length ts))) _ (o ts) (k ts (omega arith)) (λ q rest. let less = rest.1 in (rest.0, omega arith))
+      map_some (λ q. ShortMembers limit q.0 × (length q.1 ≤ length ts))
+      (λ q. Short limit q.0 × (length q.1 ≤ suc (length ts))) _ (o ts) (k ts (omega arith))
+      (λ q rest. let less = rest.1 in (rest.0, omega arith))
   value_with_short a o h k (token.end_object ∷ ts) le = tt
   value_with_short a o h k (token.begin_array ∷ ts) le =
-      map_some (λ q. (json_count q.0 ≤ limit) × ShortItems limit q.0 × (length q.1 ≤ length ts)) (λ q. Short limit q.0 × (length q.1 ≤ suc (length ts))) _ (a ts) (h ts (omega arith)) (λ q rest. let less = rest.2 in ((rest.0, rest.1), omega arith))
+      map_some (λ q. (json_count q.0 ≤ limit) × ShortItems limit q.0 × (length q.1 ≤ length ts))
+      (λ q. Short limit q.0 × (length q.1 ≤ suc (length ts))) _ (a ts) (h ts (omega arith))
+      (λ q rest. let less = rest.2 in ((rest.0, rest.1), omega arith))
   value_with_short a o h k (token.end_array ∷ ts) le = tt
   value_with_short a o h k (token.key s ∷ ts) le = tt
   value_with_short a o h k (token.string s ∷ ts) le = (tt, omega arith)
@@ -208,7 +241,8 @@ module _ (limit : ℕ) where
   value_with_short a o h k (token.null ∷ ts) le = (tt, omega arith)
   value_with_short a o h k (token.bad ∷ ts) le = tt
 
-  weaker_items : (n : ℕ) (ts : List Token) (r : Option (json.Items × List Token)) → n ≤ limit → ReadsItems n ts r → ReadsItems limit ts r
+  weaker_items : (n : ℕ) (ts : List Token) (r : Option (json.Items × List Token)) → n ≤ limit → ReadsItems n ts r
+      → ReadsItems limit ts r
   weaker_items n ts None le h = tt
   weaker_items n ts (Some p) le h = let few = h.0 in (omega arith, h.1, h.2)
 
@@ -216,16 +250,20 @@ module _ (limit : ℕ) where
   unfolding json.value
   value_short zero ts le = value_with_short (λ us. None) (λ us. None) (λ us _. tt) (λ us _. tt) ts le
   value_short (suc depth) ts le =
-      value_with_short (λ us. json.items (json.value depth) (length us) us) (λ us. json.members (json.value depth) (length us) us)
-      (λ us few. weaker_items (length us) us _ few (items_short (json.value depth) (value_short depth) (length us) us few))
+      value_with_short (λ us. json.items (json.value depth) (length us) us)
+      (λ us. json.members (json.value depth) (length us) us)
+      (λ us few. weaker_items (length us) us _ few
+      (items_short (json.value depth) (value_short depth) (length us) us few))
       (λ us few. members_short (json.value depth) (value_short depth) (length us) us few) ts le
 
   -- ---- and the value of the grammar is the value that is read
 
-  put_short : (k : List ℕ) (d : Data) (ms : Members) → HasShortArrays limit d → MembersHaveShortArrays limit ms → MembersHaveShortArrays limit (put k d ms)
+  put_short : (k : List ℕ) (d : Data) (ms : Members) → HasShortArrays limit d → MembersHaveShortArrays limit ms
+      → MembersHaveShortArrays limit (put k d ms)
   put_short k d no_members h hs = (h, tt)
   put_short k d (member l e ms) h hs =
-      elim (slice_cmp nat_cmp k l) as (λ o. MembersHaveShortArrays limit (match_ordering o (member k d (member l e ms)) (member l d ms) (member l e (put k d ms)))) [
+      elim (slice_cmp nat_cmp k l) as (λ o. MembersHaveShortArrays limit
+      (match_ordering o (member k d (member l e ms)) (member l d ms) (member l e (put k d ms)))) [
         | Less ↦ (h, hs)
         | Equal ↦ (h, hs.1)
         | Greater ↦ (hs.0, put_short k d ms h hs.1)
@@ -237,26 +275,38 @@ module _ (limit : ℕ) where
     data_short (json.boolean b) h = tt
     data_short (json.number s) h = map_some (λ n. ⊤) (HasShortArrays limit) number (number_of s) (always _) (λ n _. tt)
     data_short (json.string s) h = tt
-    data_short (json.array js) h = map_some (λ ds. (items_len ds ≡ json_count js) × ItemsHaveShortArrays limit ds) (HasShortArrays limit) array (of_items js) (data_items_short js h.1) (λ ds k. let same = k.0 in let few = h.0 in (omega arith, k.1))
-    data_short (json.object ms) h = map_some (MembersHaveShortArrays limit) (HasShortArrays limit) object (of_members ms no_members) (data_members_short ms no_members h tt) (λ ms k. k)
+    data_short (json.array js) h =
+        map_some (λ ds. (items_len ds ≡ json_count js) × ItemsHaveShortArrays limit ds) (HasShortArrays limit) array
+        (of_items js) (data_items_short js h.1) (λ ds k. let same = k.0 in let few = h.0 in (omega arith, k.1))
+    data_short (json.object ms) h =
+        map_some (MembersHaveShortArrays limit) (HasShortArrays limit) object (of_members ms no_members)
+        (data_members_short ms no_members h tt) (λ ms k. k)
 
-    data_items_short : (js : json.Items) → ShortItems limit js → IfSome (of_items js) (λ ds. (items_len ds ≡ json_count js) × ItemsHaveShortArrays limit ds)
+    data_items_short : (js : json.Items) → ShortItems limit js
+        → IfSome (of_items js) (λ ds. (items_len ds ≡ json_count js) × ItemsHaveShortArrays limit ds)
     data_items_short json.no_items h = (refl, tt)
     data_items_short (json.item j js) h =
-        then_some (HasShortArrays limit) (λ ds. (items_len ds ≡ suc (json_count js)) × ItemsHaveShortArrays limit ds) _ (of_json j) (data_short j h.0)
-        (λ d first. map_some (λ ds. (items_len ds ≡ json_count js) × ItemsHaveShortArrays limit ds) (λ ds. (items_len ds ≡ suc (json_count js)) × ItemsHaveShortArrays limit ds) (item d) (of_items js) (data_items_short js h.1) (λ ds rest. (ap suc rest.0, (first, rest.1))))
+        then_some (HasShortArrays limit) (λ ds. (items_len ds ≡ suc (json_count js)) × ItemsHaveShortArrays limit ds) _
+        (of_json j) (data_short j h.0)
+        (λ d first. map_some (λ ds. (items_len ds ≡ json_count js) × ItemsHaveShortArrays limit ds)
+        (λ ds. (items_len ds ≡ suc (json_count js)) × ItemsHaveShortArrays limit ds) (item d) (of_items js)
+        (data_items_short js h.1) (λ ds rest. (ap suc rest.0, (first, rest.1))))
 
-    data_members_short : (ms : json.Members) (found : Members) → ShortMembers limit ms → MembersHaveShortArrays limit found → IfSome (of_members ms found) (MembersHaveShortArrays limit)
+    data_members_short : (ms : json.Members) (found : Members) → ShortMembers limit ms
+        → MembersHaveShortArrays limit found → IfSome (of_members ms found) (MembersHaveShortArrays limit)
     data_members_short json.no_members found h k = k
     data_members_short (json.member key j ms) found h k =
-        then_some (HasShortArrays limit) (MembersHaveShortArrays limit) _ (of_json j) (data_short j h.0) (λ d first. data_members_short ms (put key d found) h.1 (put_short key d found first k))
+        then_some (HasShortArrays limit) (MembersHaveShortArrays limit) _ (of_json j) (data_short j h.0)
+        (λ d first. data_members_short ms (put key d found) h.1 (put_short key d found first k))
 
   -- ---- the parts of a value
 
-  get_member_short : (k : List ℕ) (ms : Members) → MembersHaveShortArrays limit ms → IfSome (get_member k ms) (HasShortArrays limit)
+  get_member_short : (k : List ℕ) (ms : Members) → MembersHaveShortArrays limit ms
+      → IfSome (get_member k ms) (HasShortArrays limit)
   get_member_short k no_members h = tt
   get_member_short k (member l e ms) h =
-      elim (slice_cmp nat_cmp k l) as (λ o. IfSome (match_ordering o (get_member k ms) (Some e) (get_member k ms)) (HasShortArrays limit)) [
+      elim (slice_cmp nat_cmp k l) as (λ o. IfSome (match_ordering o (get_member k ms) (Some e) (get_member k ms))
+      (HasShortArrays limit)) [
         | Less ↦ get_member_short k ms h.1
         | Equal ↦ h.0
         | Greater ↦ get_member_short k ms h.1
@@ -278,10 +328,13 @@ module _ (limit : ℕ) where
   unless_null_short (array ds) h = h
   unless_null_short (object ms) h = h
 
-  pub member_short : (k : List ℕ) (d : Data) → HasShortArrays limit d → IfSome (members.member k d) (HasShortArrays limit)
-  member_short k d h = then_some (HasShortArrays limit) (HasShortArrays limit) unless_null (get k d) (get_short k d h) unless_null_short
+  pub member_short : (k : List ℕ) (d : Data) → HasShortArrays limit d
+      → IfSome (members.member k d) (HasShortArrays limit)
+  member_short k d h =
+      then_some (HasShortArrays limit) (HasShortArrays limit) unless_null (get k d) (get_short k d h) unless_null_short
 
-  ok_then : {A B E : Type 0} (P : A → Type 0) (Q : B → Type 0) (r : Result A E) (f : A → Result B E) → IfOk r P → ((x : A) → P x → IfOk (f x) Q) → IfOk (r >>= f) Q
+  ok_then : {A B E : Type 0} (P : A → Type 0) (Q : B → Type 0) (r : Result A E) (f : A → Result B E) → IfOk r P
+      → ((x : A) → P x → IfOk (f x) Q) → IfOk (r >>= f) Q
   ok_then P Q (Ok x) f h k = k x h
   ok_then P Q (Err e) f h k = tt
 
@@ -292,11 +345,17 @@ module _ (limit : ℕ) where
   seccomp_in_short : (linux : Data) → HasShortArrays limit linux → IfOk (seccomp_in linux) (HasShortArrays limit)
   unfolding seccomp_in
   seccomp_in_short linux h =
-      ok_then (λ _. ⊤) (HasShortArrays limit) (some_or (as_object linux) (faults.Kind None)) _ (some_ok (λ _. ⊤) (as_object linux) (faults.Kind None) (always (as_object linux)))
-      (λ _ _. ok_then (HasShortArrays limit) (HasShortArrays limit) (some_or (members.member (codes "seccomp") linux) (faults.Missing None)) _ (some_ok (HasShortArrays limit) (members.member (codes "seccomp") linux) (faults.Missing None) (member_short (codes "seccomp") linux h))
-      (λ seccomp short. ok_then (λ _. ⊤) (HasShortArrays limit) (some_or (as_object seccomp) (faults.Kind None)) _ (some_ok (λ _. ⊤) (as_object seccomp) (faults.Kind None) (always (as_object seccomp))) (λ _ _. short)))
+      ok_then (λ _. ⊤) (HasShortArrays limit) (some_or (as_object linux) (faults.Kind None)) _
+      (some_ok (λ _. ⊤) (as_object linux) (faults.Kind None) (always (as_object linux)))
+      (λ _ _. ok_then (HasShortArrays limit) (HasShortArrays limit)
+      (some_or (members.member (codes "seccomp") linux) (faults.Missing None)) _
+      (some_ok (HasShortArrays limit) (members.member (codes "seccomp") linux) (faults.Missing None)
+      (member_short (codes "seccomp") linux h))
+      (λ seccomp short. ok_then (λ _. ⊤) (HasShortArrays limit) (some_or (as_object seccomp) (faults.Kind None)) _
+      (some_ok (λ _. ⊤) (as_object seccomp) (faults.Kind None) (always (as_object seccomp))) (λ _ _. short)))
 
-  root_short : (root : Data) (action linux : Option Data) → HasShortArrays limit root → IfSome linux (HasShortArrays limit) → IfOk (root_or_linux root action linux) (HasShortArrays limit)
+  root_short : (root : Data) (action linux : Option Data) → HasShortArrays limit root
+      → IfSome linux (HasShortArrays limit) → IfOk (root_or_linux root action linux) (HasShortArrays limit)
   root_short root (Some action) linux h k = h
   root_short root None None h k = h
   root_short root None (Some linux) h k = seccomp_in_short linux k
@@ -304,8 +363,10 @@ module _ (limit : ℕ) where
   pub seccomp_short : (root : Data) → HasShortArrays limit root → IfOk (seccomp_of root) (HasShortArrays limit)
   unfolding seccomp_of
   seccomp_short root h =
-      ok_then (λ _. ⊤) (HasShortArrays limit) (some_or (as_object root) (faults.Kind None)) _ (some_ok (λ _. ⊤) (as_object root) (faults.Kind None) (always (as_object root)))
-      (λ _ _. root_short root (members.member (codes "defaultAction") root) (members.member (codes "linux") root) h (member_short (codes "linux") root h))
+      ok_then (λ _. ⊤) (HasShortArrays limit) (some_or (as_object root) (faults.Kind None)) _
+      (some_ok (λ _. ⊤) (as_object root) (faults.Kind None) (always (as_object root)))
+      (λ _ _. root_short root (members.member (codes "defaultAction") root) (members.member (codes "linux") root) h
+      (member_short (codes "linux") root h))
 
   pub array_short : (d : Data) (ds : Items) → HasShortArrays limit d → as_array d ≡ Some ds → items_len ds ≤ limit
   array_short (array es) ds h is = let same : es ≡ ds = cc in subst (λ (l : Items). items_len l ≤ limit) same h.0
@@ -318,19 +379,25 @@ module _ (limit : ℕ) where
 -- the value of a text
 pub text_short : (limit : ℕ) (text : List ℕ) → length text < limit → IfSome (read text) (HasShortArrays limit)
 text_short limit text lt =
-    let few : length (lexer.tokens text) ≤ limit = omega (arith, tokens_count lexer.fresh (lexer.lex lexer.between text), lexemes_count lexer.between text) in
+    let few : length (lexer.tokens text) ≤ limit =
+    omega (arith, tokens_count lexer.fresh (lexer.lex lexer.between text), lexemes_count lexer.between text) in
     then_some (Short limit) (HasShortArrays limit) of_json _
-    (then_some (λ p. Short limit p.0 × (length p.1 ≤ length (lexer.tokens text))) (Short limit) _ (json.value max_depth (lexer.tokens text)) (value_short limit max_depth (lexer.tokens text) few) (λ p h. last_short p.0 p.1 h.0))
+    (then_some (λ p. Short limit p.0 × (length p.1 ≤ length (lexer.tokens text))) (Short limit) _
+    (json.value max_depth (lexer.tokens text)) (value_short limit max_depth (lexer.tokens text) few)
+    (λ p h. last_short p.0 p.1 h.0))
     (data_short limit) where
       last_short : (j : json.Json) (ts : List Token) → Short limit j → IfSome (json.if_last j ts) (Short limit)
       last_short j [] h = h
       last_short j (t ∷ ts) h = tt
 
 -- the seccomp object in it
-pub object_short : (text : List ℕ) (d seccomp : Data) → IsText text d → Ok seccomp ≡ seccomp_of d → HasShortArrays 0xffffffff seccomp
+pub object_short : (text : List ℕ) (d seccomp : Data) → IsText text d → Ok seccomp ≡ seccomp_of d
+    → HasShortArrays 0xffffffff seccomp
 object_short text d seccomp is_text is =
-    let short : length text ≤ 4194304 = is_text.short in
-    let whole : HasShortArrays 0xffffffff d = IfSome_at (read text) d is_text.value (text_short 0xffffffff text (omega arith)) in
+    let short : length text ≤ max_text_len = is_text.short in
+    let whole : HasShortArrays 0xffffffff d =
+    IfSome_at (read text) d is_text.value (text_short 0xffffffff text (omega arith)) in
     IfOk-at_ok (HasShortArrays 0xffffffff) (sym is) (seccomp_short 0xffffffff d whole) where
-      IfSome_at : (o : Option Data) (x : Data) → o ≡ Some x → IfSome o (HasShortArrays 0xffffffff) → HasShortArrays 0xffffffff x
+      IfSome_at : (o : Option Data) (x : Data) → o ≡ Some x → IfSome o (HasShortArrays 0xffffffff)
+          → HasShortArrays 0xffffffff x
       IfSome_at o x e h = rw e at h

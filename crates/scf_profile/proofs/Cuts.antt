@@ -1,5 +1,6 @@
 -- The first line of a text, and the first field of a line.
-use Rattle.std.proofs.Common.{◌≡◌, ℕ, ◌+◌, ◌<◌, Bool, true, false, cond, eqb, ltb, List, [], ◌∷◌, ◌++◌, length, get_or, take, drop, All, refl, sym, ap, ◌∙◌, arith, add-one, inl, inr, ◌⊎◌}
+use Rattle.std.proofs.Common.{◌≡◌, ℕ, ◌+◌, ◌<◌, Bool, true, false, cond, eqb, ltb, List, [], ◌∷◌, ◌++◌, length, get_or}
+use Rattle.std.proofs.Common.{take, drop, All, refl, sym, ap, ◌∙◌, arith, add-one, inl, inr, ◌⊎◌}
 use Rattle.std.specs.List.{slice_split, filter}
 use Rattle.std.specs.Str.Lines.{lines, lines_of_parts, strip_carriage_return}
 use Rattle.std.proofs.Math.Seq.{drop-cons}
@@ -10,17 +11,24 @@ use Rattle.scf_profile.specs.Table.{is_blank, fields}
 
 -- a list cut at a place
 pub cut_at : (xs : List ℕ) (i : ℕ) → i < length xs → xs ≡ take i xs ++ get_or xs i 0 ∷ drop (i + 1) xs
-cut_at xs i lt = sym (take-append-drop i xs) ∙ ap (λ (ys : List ℕ). take i xs ++ ys) (drop-cons xs i 0 lt ∙ ap (λ (n : ℕ). get_or xs i 0 ∷ drop n xs) (sym (add-one i)))
+cut_at xs i lt =
+    sym (take-append-drop i xs)
+    ∙ ap (λ (ys : List ℕ). take i xs ++ ys)
+    (drop-cons xs i 0 lt ∙ ap (λ (n : ℕ). get_or xs i 0 ∷ drop n xs) (sym (add-one i)))
 
-more_parts : (x : List ℕ) (parts : List (List ℕ)) → 0 < length parts → lines_of_parts (x ∷ parts) ≡ strip_carriage_return x ∷ lines_of_parts parts
+more_parts : (x : List ℕ) (parts : List (List ℕ)) → 0 < length parts
+    → lines_of_parts (x ∷ parts) ≡ strip_carriage_return x ∷ lines_of_parts parts
 more_parts x [] h = absurd (omega arith)
 more_parts x (y ∷ parts) h = refl
 
-pub line_ends : (xs : List ℕ) (i : ℕ) → i < length xs → All (λ b. eqb b 10 ≡ false) (take i xs) → eqb (get_or xs i 0) 10 ≡ true → lines xs ≡ strip_carriage_return (take i xs) ∷ lines (drop (i + 1) xs)
+pub line_ends : (xs : List ℕ) (i : ℕ) → i < length xs → All (λ b. eqb b 10 ≡ false) (take i xs)
+    → eqb (get_or xs i 0) 10 ≡ true → lines xs ≡ strip_carriage_return (take i xs) ∷ lines (drop (i + 1) xs)
 line_ends xs i lt none here =
     let p : ℕ → Bool = λ b. eqb b 10 in
     let parts = slice_split p (drop (i + 1) xs) in
-    let cut : slice_split p xs ≡ take i xs ∷ parts = ap (slice_split p) (cut_at xs i lt) ∙ slice_split_at p (take i xs) (get_or xs i 0) (drop (i + 1) xs) none here in
+    let cut : slice_split p xs ≡ take i xs ∷ parts =
+    ap (slice_split p) (cut_at xs i lt)
+    ∙ slice_split_at p (take i xs) (get_or xs i 0) (drop (i + 1) xs) none here in
     ap lines_of_parts cut ∙ more_parts (take i xs) parts (omega (arith, length-slice_split p (drop (i + 1) xs)))
 
 nonempty : (x : List ℕ) → 0 < length x → lines_of_parts (x ∷ []) ≡ x ∷ []
@@ -33,23 +41,33 @@ last_line xs h none = ap lines_of_parts (slice_split_none (λ b. eqb b 10) xs no
 pub blank_in_front : (b : ℕ) (bs : List ℕ) → is_blank b ≡ true → fields (b ∷ bs) ≡ fields bs
 blank_in_front b bs h = ap (filter (λ part. ltb 0 (length part))) (slice_split-cons_yes is_blank b bs h)
 
-kept : (x : List ℕ) (parts : List (List ℕ)) → 0 < length x → filter (λ part. ltb 0 (length part)) (x ∷ parts) ≡ x ∷ filter (λ part. ltb 0 (length part)) parts
+kept : (x : List ℕ) (parts : List (List ℕ)) → 0 < length x
+    → filter (λ part. ltb 0 (length part)) (x ∷ parts) ≡ x ∷ filter (λ part. ltb 0 (length part)) parts
 kept x parts h = rw (lt-ltb 0 (length x) h) refl
 
-pub field_ends : (xs : List ℕ) (i : ℕ) → 0 < i → i < length xs → All (λ b. is_blank b ≡ false) (take i xs) → is_blank (get_or xs i 0) ≡ true → fields xs ≡ take i xs ∷ fields (drop i xs)
+pub field_ends : (xs : List ℕ) (i : ℕ) → 0 < i → i < length xs → All (λ b. is_blank b ≡ false) (take i xs)
+    → is_blank (get_or xs i 0) ≡ true → fields xs ≡ take i xs ∷ fields (drop i xs)
 field_ends xs i pos lt none here =
-    let cut : slice_split is_blank xs ≡ take i xs ∷ slice_split is_blank (drop (i + 1) xs) = ap (slice_split is_blank) (cut_at xs i lt) ∙ slice_split_at is_blank (take i xs) (get_or xs i 0) (drop (i + 1) xs) none here in
-    let rest : fields (drop i xs) ≡ fields (drop (i + 1) xs) = ap fields (drop-cons xs i 0 lt ∙ ap (λ (n : ℕ). get_or xs i 0 ∷ drop n xs) (sym (add-one i))) ∙ blank_in_front (get_or xs i 0) (drop (i + 1) xs) here in
-    ap (filter (λ part. ltb 0 (length part))) cut ∙ kept (take i xs) (slice_split is_blank (drop (i + 1) xs)) (omega (arith, length-take i xs)) ∙ ap (λ (fs : List (List ℕ)). take i xs ∷ fs) (sym rest)
+    let cut : slice_split is_blank xs ≡ take i xs ∷ slice_split is_blank (drop (i + 1) xs) =
+    ap (slice_split is_blank) (cut_at xs i lt)
+    ∙ slice_split_at is_blank (take i xs) (get_or xs i 0) (drop (i + 1) xs) none here in
+    let rest : fields (drop i xs) ≡ fields (drop (i + 1) xs) =
+    ap fields (drop-cons xs i 0 lt ∙ ap (λ (n : ℕ). get_or xs i 0 ∷ drop n xs) (sym (add-one i)))
+    ∙ blank_in_front (get_or xs i 0) (drop (i + 1) xs) here in
+    ap (filter (λ part. ltb 0 (length part))) cut
+    ∙ kept (take i xs) (slice_split is_blank (drop (i + 1) xs)) (omega (arith, length-take i xs))
+    ∙ ap (λ (fs : List (List ℕ)). take i xs ∷ fs) (sym rest)
 
 pub last_field : (xs : List ℕ) → 0 < length xs → All (λ b. is_blank b ≡ false) xs → fields xs ≡ xs ∷ []
 last_field xs h none = ap (filter (λ part. ltb 0 (length part))) (slice_split_none is_blank xs none) ∙ kept xs [] h
 
 -- the words of the contract of `first_field`
-pub first_or_none : (fs : List (List ℕ)) (x rest : List ℕ) → fs ≡ x ∷ fields rest → 0 < length x → fs ≡ cond (ltb 0 (length x)) (x ∷ fields rest) []
+pub first_or_none : (fs : List (List ℕ)) (x rest : List ℕ) → fs ≡ x ∷ fields rest → 0 < length x
+    → fs ≡ cond (ltb 0 (length x)) (x ∷ fields rest) []
 first_or_none fs x rest e h = e ∙ sym (cond-true (ltb 0 (length x)) (x ∷ fields rest) [] (lt-ltb 0 (length x) h))
 
-all_or_none_at : (xs : List ℕ) → (length xs ≡ 0) ⊎ (length xs ≡ 0 → ⊥) → All (λ b. is_blank b ≡ false) xs → fields xs ≡ cond (ltb 0 (length xs)) (xs ∷ []) []
+all_or_none_at : (xs : List ℕ) → (length xs ≡ 0) ⊎ (length xs ≡ 0 → ⊥) → All (λ b. is_blank b ≡ false) xs
+    → fields xs ≡ cond (ltb 0 (length xs)) (xs ∷ []) []
 all_or_none_at [] h none = refl
 all_or_none_at (b ∷ bs) h none = first_or_none _ (b ∷ bs) [] (last_field (b ∷ bs) (omega arith) none) (omega arith)
 

@@ -1,11 +1,15 @@
 pub mod Answering
 pub mod ArrayLengths
+pub mod ByNumber
 pub mod ConditionLists
 pub mod Cuts
 pub mod LeastClash
 pub mod Loops
+pub mod Masks
+pub mod NamedCalls
 pub mod NamesOf
 pub mod Numbers
+pub mod Overlaps
 pub mod StatedRules
 pub mod TableLines
 pub mod TestFaults

@@ -1,5 +1,6 @@
 -- Loops over the items of an array.
-use Rattle.std.proofs.Common.{◌≡◌, ℕ, suc, ◌+◌, ◌<◌, ◌≤◌, List, [], ◌∷◌, ◌++◌, length, get_or, drop, Result, Ok, Err, refl, sym, ap, ◌∙◌, add-one, eqb, not, String, Global, zero, Bool, true, Bor, map, arith}
+use Rattle.std.proofs.Common.{◌≡◌, ℕ, suc, ◌+◌, ◌<◌, ◌≤◌, List, [], ◌∷◌, ◌++◌, length, get_or, drop, Result, Ok, Err}
+use Rattle.std.proofs.Common.{refl, sym, ap, ◌∙◌, add-one, eqb, not, String, Global, zero, Bool, true, Bor, arith}
 use Rattle.std.proofs.Math.Seq.{drop-cons}
 use Rattle.std.specs.List.{list_any}
 use Rattle.std.proofs.lemmas.Bool.{ne_eqb, or_left, or_right}
@@ -9,29 +10,37 @@ use Rattle.serde_json.specs.Data.{Data, item}
 use Rattle.serde_json.specs.Events.{items_len}
 use Rattle.serde_json.specs.View.{view, items_view, members_view}
 use Rattle.scf_profile.specs.JsonMembers.{has_items, has_members, each}
+use Rattle.scf_profile.specs.References.{texts_at}
 
 -- the items from a place on
-pub items_from : (vs : List Value) (i : ℕ) (v : Value) → i < length vs → v ≡ get_or vs i v → items_view (drop i vs) ≡ item (view v) (items_view (drop (i + 1) vs))
+pub items_from : (vs : List Value) (i : ℕ) (v : Value) → i < length vs → v ≡ get_or vs i v
+    → items_view (drop i vs) ≡ item (view v) (items_view (drop (i + 1) vs))
 items_from vs i v lt is =
-    ap items_view (drop-cons vs i v lt) ∙ ap (λ (x : Value). item (view x) (items_view (drop (suc i) vs))) (sym is) ∙ ap (λ (n : ℕ). item (view v) (items_view (drop n vs))) (sym (add-one i))
+    ap items_view (drop-cons vs i v lt) ∙ ap (λ (x : Value). item (view x) (items_view (drop (suc i) vs))) (sym is)
+    ∙ ap (λ (n : ℕ). item (view v) (items_view (drop n vs))) (sym (add-one i))
 
 -- `so far` says that what was made of the items before a place and the items from there on give the total
 module _ {A E : Type 0} (test : List A → Data → Result A E) (vs : List Value) (total : Result (List A) E) where
-  pub goes_on : (before : List A) (i : ℕ) (v : Value) (x : A) → i < length vs → v ≡ get_or vs i v → test before (view v) ≡ Ok x
-      → each test before (items_view (drop i vs)) ≡ total → each test (before ++ x ∷ []) (items_view (drop (i + 1) vs)) ≡ total
+  pub goes_on : (before : List A) (i : ℕ) (v : Value) (x : A) → i < length vs → v ≡ get_or vs i v
+      → test before (view v) ≡ Ok x
+      → each test before (items_view (drop i vs)) ≡ total
+      → each test (before ++ x ∷ []) (items_view (drop (i + 1) vs)) ≡ total
   unfolding each
   goes_on before i v x lt is ok so_far =
-      let one : each test before (items_view (drop i vs)) ≡ each test (before ++ x ∷ []) (items_view (drop (i + 1) vs)) = rw (items_from vs i v lt is, ok) refl in
+      let one : each test before (items_view (drop i vs))
+      ≡ each test (before ++ x ∷ []) (items_view (drop (i + 1) vs)) = rw (items_from vs i v lt is, ok) refl in
       sym one ∙ so_far
 
-  pub ends : (before : List A) (i : ℕ) (v : Value) (e : E) → i < length vs → v ≡ get_or vs i v → test before (view v) ≡ Err e
+  pub ends : (before : List A) (i : ℕ) (v : Value) (e : E) → i < length vs → v ≡ get_or vs i v
+      → test before (view v) ≡ Err e
       → each test before (items_view (drop i vs)) ≡ total → total ≡ Err e
   unfolding each
   ends before i v e lt is err so_far =
       let one : each test before (items_view (drop i vs)) ≡ Err e = rw (items_from vs i v lt is, err) refl in
       sym so_far ∙ one
 
-  pub is_done : (before : List A) (i : ℕ) → length vs ≤ i → each test before (items_view (drop i vs)) ≡ total → total ≡ Ok before
+  pub is_done : (before : List A) (i : ℕ) → length vs ≤ i → each test before (items_view (drop i vs)) ≡ total
+      → total ≡ Ok before
   unfolding each
   is_done before i le so_far =
       let one : each test before (items_view (drop i vs)) ≡ Ok before = rw (drop_all i vs le) refl in
@@ -50,7 +59,8 @@ items_counted [] = refl
 items_counted (v ∷ vs) = let e = items_counted vs in omega (arith, e)
 
 -- a text that passes is among them
-pub any_at : (p : List ℕ → Bool) (xs : List (Bor (List ℕ))) (i : ℕ) (d : Bor (List ℕ)) → i < length xs → p (get_or xs i d).now ≡ true → true ≡ list_any p (map (λ s. s.now) xs)
+pub any_at : (p : List ℕ → Bool) (xs : List (Bor (List ℕ))) (i : ℕ) (d : Bor (List ℕ)) → i < length xs
+    → p (get_or xs i d).now ≡ true → true ≡ list_any p (texts_at xs)
 any_at p [] i d lt h = absurd (omega arith)
 any_at p (y ∷ ys) zero d lt h = sym (or_left (p y.now) _ h)
 any_at p (y ∷ ys) (suc i) d lt h = sym (or_right (p y.now) _ (sym (any_at p ys i d (omega arith) h)))

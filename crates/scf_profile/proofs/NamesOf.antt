@@ -1,5 +1,6 @@
 -- The map behind a tree from texts to numbers, and names as text.
-use Rattle.std.proofs.Common.{◌≡◌, ℕ, zero, suc, ◌<◌, ◌^◌, inl, inr, Option, None, true, cond, List, [], ◌∷◌, map, Some, String, string_bytes, Global, BTreeMap, refl, sym, ap, ◌∙◌, arith, string_cmp, nat_cmp}
+use Rattle.std.proofs.Common.{◌≡◌, ℕ, zero, suc, ◌<◌, inl, inr, Option, None, true, cond, List, [], ◌∷◌, map, Some}
+use Rattle.std.proofs.Common.{String, string_bytes, Global, BTreeMap, refl, sym, ap, ◌∙◌, arith, string_cmp, nat_cmp}
 use Rattle.std.specs.Prelude.{IsAscii, IfSome}
 use Rattle.std.specs.Str.{IsUtf8}
 use Rattle.std.specs.List.{list_all}
@@ -14,22 +15,29 @@ use Rattle.std.proofs.lemmas.Bool.Decides.{nat_tests}
 use Rattle.std.proofs.lemmas.Str.{IsUtf8-from_ascii}
 use Rattle.std.proofs.lemmas.Map.Lookups.{exact_bytes}
 use Rattle.std.proofs.lemmas.Map.Text.{btree_map_updates_text, is_eq-slice_cmp}
+use Rattle.scf_insn.specs.Kernel.{x32_syscall_bit}
 use Rattle.scf_profile.specs.Table.{Names, AreCallNumbers, is_name, is_in_name}
 use Rattle.scf_profile.specs.Names.{named, names_of}
 
-find_named : (es : List (String Global × ℕ)) (q : List ℕ) → find (slice_cmp nat_cmp) q (map named es) ≡ lookup (is_at (λ k. slice_cmp nat_cmp q (string_bytes k))) es
+find_named : (es : List (String Global × ℕ)) (q : List ℕ)
+    → find (slice_cmp nat_cmp) q (map named es) ≡ lookup (is_at (λ k. slice_cmp nat_cmp q (string_bytes k))) es
 find_named [] q = refl
 find_named (e ∷ es) q = ap (cond (is_eq (slice_cmp nat_cmp q (string_bytes e.0))) (Some e.1)) (find_named es q)
 
-pub get_named : (es : List (String Global × ℕ)) (q : List ℕ) → get (names_of es) q ≡ lookup (is_at (λ k. slice_cmp nat_cmp q (string_bytes k))) es
+pub get_named : (es : List (String Global × ℕ)) (q : List ℕ)
+    → get (names_of es) q ≡ lookup (is_at (λ k. slice_cmp nat_cmp q (string_bytes k))) es
 get_named es q = get-from_entries nat_list_cmp_total (map named es) q ∙ find_named es q
 
 -- one more name
-pub insert_named : (m n : BTreeMap (String Global) ℕ) (k : List ℕ) (v : ℕ) → UpdatesBy string_cmp (λ x. slice_cmp nat_cmp k (string_bytes x)) m n (Some v) → names_of n.entries ≡ insert (names_of m.entries) k v
+pub insert_named : (m n : BTreeMap (String Global) ℕ) (k : List ℕ) (v : ℕ)
+    → UpdatesBy string_cmp (λ x. slice_cmp nat_cmp k (string_bytes x)) m n (Some v)
+    → names_of n.entries ≡ insert (names_of m.entries) k v
 insert_named m n k v updates = same_map nat_list_cmp_total exact_bytes _ _ (λ q.
     get_named n.entries q ∙ btree_map_updates_text k m n (Some v) updates q
-    ∙ ap (λ b. cond b (Some v) (lookup (is_at (λ x. slice_cmp nat_cmp q (string_bytes x))) m.entries)) (sym (is_eq-slice_cmp k q) ∙ (eq_by_cmp_equiv nat_list_cmp_total).symm k q)
-    ∙ sym (get-insert nat_list_cmp_total (names_of m.entries) k v q ∙ ap (cond (eq_by_cmp (slice_cmp nat_cmp) q k) (Some v)) (get_named m.entries q)))
+    ∙ ap (λ b. cond b (Some v) (lookup (is_at (λ x. slice_cmp nat_cmp q (string_bytes x))) m.entries))
+    (sym (is_eq-slice_cmp k q) ∙ (eq_by_cmp_equiv nat_list_cmp_total).symm k q)
+    ∙ sym (get-insert nat_list_cmp_total (names_of m.entries) k v q
+    ∙ ap (cond (eq_by_cmp (slice_cmp nat_cmp) q k) (Some v)) (get_named m.entries q)))
 
 word_is_ascii : (b : ℕ) → is_in_name b ≡ true → b < 128
 word_is_ascii b h = grind (arith, nat_tests)
@@ -47,7 +55,8 @@ pub call_numbers_empty : AreCallNumbers (names_of [])
 call_numbers_empty name number h = let none = get-empty {X = ℕ} (slice_cmp nat_cmp) name in cc
 
 -- names with one more number
-pub call_numbers_insert : (names : Names) (name : List ℕ) (number : ℕ) → AreCallNumbers names → number < 2 ^ 30 → AreCallNumbers (insert names name number)
+pub call_numbers_insert : (names : Names) (name : List ℕ) (number : ℕ) → AreCallNumbers names → number < x32_syscall_bit
+    → AreCallNumbers (insert names name number)
 call_numbers_insert names name number each below other n h =
     let found = sym (get-insert nat_list_cmp_total names name number other) ∙ h in
     elim (cases_cond (eq_by_cmp (slice_cmp nat_cmp) other name) (Some number) (get names other) _ refl) [
@@ -56,6 +65,7 @@ call_numbers_insert names name number each below other n h =
     ]
 
 -- what is found among the names is a call number
-pub found_below : (names : Names) (name : List ℕ) (found : Option ℕ) → AreCallNumbers names → found ≡ get names name → IfSome found (λ n. n < 2 ^ 30)
+pub found_below : (names : Names) (name : List ℕ) (found : Option ℕ) → AreCallNumbers names → found ≡ get names name
+    → IfSome found (λ n. n < x32_syscall_bit)
 found_below names name None each is = tt
 found_below names name (Some n) each is = each name n (sym is)

@@ -1,40 +1,49 @@
 -- The rules that entries state: their ranges, and one answer for each entry.
-use Rattle.std.proofs.Common.{◌≡◌, ℕ, true, false, suc, ◌+◌, ◌<◌, ◌≤◌, ◌^◌, ◌⊎◌, List, [], ◌∷◌, ◌++◌, length, take, drop, get_or, Some, None, Ok, Err, All, refl, sym, ap, ◌∙◌, subst, arith, inl, inr, append_assoc, append-nil, length-append, add-one, map, Bor}
+use Rattle.std.proofs.Common.{◌≡◌, ℕ, true, false, ◌+◌, ◌<◌, ◌≤◌, ◌^◌, ◌⊎◌, List, [], ◌∷◌, ◌++◌, length, take, drop}
+use Rattle.std.proofs.Common.{get_or, Some, None, Ok, All, refl, sym, ap, ◌∙◌, subst, arith, inl, inr, append_assoc}
+use Rattle.std.proofs.Common.{length-append, Bor}
 use Rattle.std.specs.Prelude.{Contains, nat_lt, option_map}
-use Rattle.std.specs.List.{cons_option, filter, flat_map}
+use Rattle.std.specs.List.{cons_option}
 use Rattle.std.specs.FinMap.{get}
-use Rattle.std.proofs.Math.Seq.{drop-cons}
 use Rattle.std.proofs.lemmas.Bool.{cases_lt, cases_order, lt-ltb, le-ltb}
-use Rattle.std.proofs.lemmas.List.{drop_all, map_more, take-append-drop, map-append}
-use Rattle.std.proofs.lemmas.List.Elements.{recursion_from_All, All-nil, All-cons, All-append, All-head, All-tail, All-contains, Contains-append_cases, filter_map-append, filter-append}
+use Rattle.std.proofs.lemmas.List.{map_more, take-append-drop, map-append}
+use Rattle.std.proofs.lemmas.List.Elements.{recursion_from_All, All-nil, All-cons, All-append, All-head, All-tail}
+use Rattle.std.proofs.lemmas.List.Elements.{All-contains, Contains-append_cases, filter_map-append}
 use Rattle.scf_profile.specs.declared.entry.Entry.{Entry}
-use Rattle.scf_profile.specs.declared.load_fault.LoadFault.TheVariants as faults
 use Rattle.scf_profile.specs.declared.rule.Rule.{Rule}
-use Rattle.scf_profile.specs.EntryRanges.{IsEntry, AreStatedRules}
+use Rattle.scf_profile.specs.internal.EntryRanges.{IsEntry, AreStatedRules}
 use Rattle.scf_insn.specs.declared.answer.Answer.{Answer}
 use Rattle.scf_profile.specs.Loading.{EntriesConflict}
-use Rattle.scf_profile.specs.Policy.{IsProfile, HaveNoConflict}
+use Rattle.scf_profile.specs.Limits.{max_rules}
+use Rattle.scf_profile.specs.Profile.{IsProfile, HaveNoConflict}
+use Rattle.scf_profile.specs.References.{texts_at}
 use Rattle.scf_profile.specs.Rule.{IsRule}
 use Rattle.scf_profile.proofs.Answering.{conflicts_both_ways}
 use Rattle.scf_profile.specs.Table.{Names, AreCallNumbers}
-use Rattle.scf_profile.specs.StatedProfile.{rule_for, rules_named, rules_from, rules_in, is_skipped, skipped_names}
+use Rattle.scf_profile.specs.StatedProfile.{rule_for, rules_named, rules_from, rules_in}
 
 -- what holds of the rule for each number that a name has
-module _ (P : Rule → Type 0) (table : Names) (place : ℕ) (e : Entry) (each : (name : List ℕ) (number : ℕ) → get table name ≡ Some number → P (rule_for place e number)) where
+module _ (P : Rule → Type 0) (table : Names) (place : ℕ) (e : Entry)
+    (each : (name : List ℕ) (number : ℕ) → get table name ≡ Some number → P (rule_for place e number)) where
   all_named : (names : List (List ℕ)) → All P (rules_named table place e names)
   all_named [] = All-nil P
   all_named (name ∷ names) =
-      elim (get table name) as (λ o. get table name ≡ o → All P (cons_option (option_map (rule_for place e) o) (rules_named table place e names))) [
+      elim (get table name) as (λ o. get table name ≡ o
+      → All P (cons_option (option_map (rule_for place e) o) (rules_named table place e names))) [
         | None ↦ λ _. all_named names
-        | Some number ↦ λ is. All-cons P (rule_for place e number) (rules_named table place e names) (each name number is) (all_named names)
+        | Some number ↦ λ is. All-cons P (rule_for place e number) (rules_named table place e names)
+            (each name number is) (all_named names)
       ] refl
 
-pub all_rules : (table : Names) → AreCallNumbers table → (place : ℕ) (es : List Entry) → All IsEntry es → All IsRule (rules_from table place es)
+pub all_rules : (table : Names) → AreCallNumbers table → (place : ℕ) (es : List Entry) → All IsEntry es
+    → All IsRule (rules_from table place es)
 all_rules table below place [] h = All-nil IsRule
 all_rules table below place (e ∷ es) h =
     let here : IsEntry e = All-head IsEntry e es h in
     All-append IsRule (rules_named table place e e.names) (rules_from table (place + 1) es)
-    (all_named IsRule table place e (λ name number is. record { number = below name number is; answer = here.answer; conditions = here.conditions }) e.names)
+    (all_named IsRule table place e
+    (λ name number is. record { number = below name number is; answer = here.answer; conditions = here.conditions })
+    e.names)
     (all_rules table below (place + 1) es (All-tail IsEntry e es h))
 
 -- rules of entries from a place on
@@ -45,121 +54,152 @@ from_place table place (e ∷ es) =
     (all_named (λ r. place ≤ r.entry) table place e (λ name number is. omega arith) e.names)
     (λ k d lt. let h = from_place table (place + 1) es k d lt in omega arith)
 
-module _ (table : Names) (place : ℕ) (e : Entry) (es : List Entry) (r s : Rule) (same : r.entry ≡ s.entry) (more : Contains (rules_from table (place + 1) es) r → Contains (rules_from table (place + 1) es) s → r.answer ≡ s.answer) where
+module _ (table : Names) (place : ℕ) (e : Entry) (es : List Entry) (r s : Rule) (same : r.entry ≡ s.entry)
+    (more : Contains (rules_from table (place + 1) es) r → Contains (rules_from table (place + 1) es) s
+    → r.answer ≡ s.answer) where
   here : (x : Rule) → Contains (rules_named table place e e.names) x → (x.entry ≡ place) × (x.answer ≡ e.answer)
-  here x c = All-contains (λ x. (x.entry ≡ place) × (x.answer ≡ e.answer)) _ x (all_named (λ x. (x.entry ≡ place) × (x.answer ≡ e.answer)) table place e (λ name number is. (refl, refl)) e.names) c
+  here x c =
+      All-contains (λ x. (x.entry ≡ place) × (x.answer ≡ e.answer)) _ x
+      (all_named (λ x. (x.entry ≡ place) × (x.answer ≡ e.answer)) table place e (λ name number is. (refl, refl))
+      e.names) c
 
   later : (x : Rule) → Contains (rules_from table (place + 1) es) x → place + 1 ≤ x.entry
   later x c = All-contains (λ x. place + 1 ≤ x.entry) _ x (from_place table (place + 1) es) c
 
-  either_answer : Contains (rules_named table place e e.names) r ⊎ Contains (rules_from table (place + 1) es) r → Contains (rules_named table place e e.names) s ⊎ Contains (rules_from table (place + 1) es) s → r.answer ≡ s.answer
+  either_answer : Contains (rules_named table place e e.names) r ⊎ Contains (rules_from table (place + 1) es) r
+      → Contains (rules_named table place e e.names) s ⊎ Contains (rules_from table (place + 1) es) s
+      → r.answer ≡ s.answer
   either_answer (inl a) (inl b) = (here r a).1 ∙ sym (here s b).1
   either_answer (inl a) (inr b) = absurd (let x = (here r a).0 in let y = later s b in omega arith)
   either_answer (inr a) (inl b) = absurd (let x = later r a in let y = (here s b).0 in omega arith)
   either_answer (inr a) (inr b) = more a b
 
-pub one_answer_each : (table : Names) (place : ℕ) (es : List Entry) (r s : Rule) → Contains (rules_from table place es) r → Contains (rules_from table place es) s → r.entry ≡ s.entry → r.answer ≡ s.answer
+pub one_answer_each : (table : Names) (place : ℕ) (es : List Entry) (r s : Rule)
+    → Contains (rules_from table place es) r → Contains (rules_from table place es) s → r.entry ≡ s.entry
+    → r.answer ≡ s.answer
 one_answer_each table place [] r s h k same = absurd (let lt : h.0 < 0 = h.1 in omega arith)
 one_answer_each table place (e ∷ es) r s h k same =
     either_answer table place e es r s same (λ a b. one_answer_each table (place + 1) es r s a b same)
-    (Contains-append_cases (rules_named table place e e.names) (rules_from table (place + 1) es) r h) (Contains-append_cases (rules_named table place e e.names) (rules_from table (place + 1) es) s k)
+    (Contains-append_cases (rules_named table place e e.names) (rules_from table (place + 1) es) r h)
+    (Contains-append_cases (rules_named table place e e.names) (rules_from table (place + 1) es) s k)
 
 -- ---- the loops over names and entries
 
 -- one more name
-pub named_more : (table : Names) (place : ℕ) (e : Entry) (names : List (Bor (List ℕ))) (i : ℕ) (d : Bor (List ℕ)) → i < length names
-    → rules_named table place e (map (λ s. s.now) (take (i + 1) names)) ≡ rules_named table place e (map (λ s. s.now) (take i names)) ++ rules_named table place e ((get_or names i d).now ∷ [])
+pub named_more : (table : Names) (place : ℕ) (e : Entry) (names : List (Bor (List ℕ))) (i : ℕ) (d : Bor (List ℕ))
+    → i < length names
+    → rules_named table place e (texts_at (take (i + 1) names))
+    ≡ rules_named table place e (texts_at (take i names))
+    ++ rules_named table place e ((get_or names i d).now ∷ [])
 named_more table place e names i d lt =
-    ap (rules_named table place e) (map_more (λ (s : Bor (List ℕ)). s.now) names i d lt) ∙ filter_map-append _ (map (λ s. s.now) (take i names)) ((get_or names i d).now ∷ [])
+    ap (rules_named table place e) (map_more (λ (s : Bor (List ℕ)). s.now) names i d lt)
+    ∙ filter_map-append _ (texts_at (take i names)) ((get_or names i d).now ∷ [])
 
-pub rules_more : (first old new : List Rule) (table : Names) (place : ℕ) (e : Entry) (names : List (Bor (List ℕ))) (i : ℕ) (d : Bor (List ℕ)) → i < length names
-    → old ≡ first ++ rules_named table place e (map (λ s. s.now) (take i names)) → new ≡ old ++ rules_named table place e ((get_or names i d).now ∷ [])
-    → new ≡ first ++ rules_named table place e (map (λ s. s.now) (take (i + 1) names))
+pub rules_more : (first old new : List Rule) (table : Names) (place : ℕ) (e : Entry) (names : List (Bor (List ℕ)))
+    (i : ℕ) (d : Bor (List ℕ)) → i < length names
+    → old ≡ first ++ rules_named table place e (texts_at (take i names))
+    → new ≡ old ++ rules_named table place e ((get_or names i d).now ∷ [])
+    → new ≡ first ++ rules_named table place e (texts_at (take (i + 1) names))
 rules_more first old new table place e names i d lt so_far one =
     one ∙ ap (λ (l : List Rule). l ++ rules_named table place e ((get_or names i d).now ∷ [])) so_far
     ∙ append_assoc first _ _ ∙ ap (λ (l : List Rule). first ++ l) (sym (named_more table place e names i d lt))
 
 -- a beginning is no longer than the whole
-rest_of_names : (table : Names) (place : ℕ) (e : Entry) (front back : List (List ℕ)) → length (rules_named table place e front) ≤ length (rules_named table place e (front ++ back))
-rest_of_names table place e front back = omega (arith, ap length (filter_map-append (λ name. option_map (rule_for place e) (get table name)) front back), length-append (rules_named table place e front) (rules_named table place e back))
+rest_of_names : (table : Names) (place : ℕ) (e : Entry) (front back : List (List ℕ))
+    → length (rules_named table place e front) ≤ length (rules_named table place e (front ++ back))
+rest_of_names table place e front back =
+    omega (
+      arith,
+      ap length (filter_map-append (λ name. option_map (rule_for place e) (get table name)) front back),
+      length-append (rules_named table place e front) (rules_named table place e back),
+    )
 
 -- too many rules for the names so far are too many for all names
-pub too_many_named : (first old : List Rule) (table : Names) (place : ℕ) (e : Entry) (names : List (Bor (List ℕ))) (all : List (List ℕ)) (i : ℕ) (d : Bor (List ℕ)) → i < length names → map (λ s. s.now) names ≡ all
-    → old ≡ first ++ rules_named table place e (map (λ s. s.now) (take i names)) → 4096 < length (old ++ rules_named table place e ((get_or names i d).now ∷ []))
-    → 4096 < length (first ++ rules_named table place e all)
+pub too_many_named : (first old : List Rule) (table : Names) (place : ℕ) (e : Entry) (names : List (Bor (List ℕ)))
+    (all : List (List ℕ)) (i : ℕ) (d : Bor (List ℕ)) → i < length names → texts_at names ≡ all
+    → old ≡ first ++ rules_named table place e (texts_at (take i names))
+    → max_rules < length (old ++ rules_named table place e ((get_or names i d).now ∷ []))
+    → max_rules < length (first ++ rules_named table place e all)
 too_many_named first old table place e names all i d lt is so_far many =
-    let front = map (λ (s : Bor (List ℕ)). s.now) (take (i + 1) names) in
-    let back = map (λ (s : Bor (List ℕ)). s.now) (drop (i + 1) names) in
-    let more = rules_more first old (old ++ rules_named table place e ((get_or names i d).now ∷ [])) table place e names i d lt so_far refl in
-    let whole : front ++ back ≡ all = sym (map-append (λ (s : Bor (List ℕ)). s.now) (take (i + 1) names) (drop (i + 1) names)) ∙ ap (map (λ (s : Bor (List ℕ)). s.now)) (take-append-drop (i + 1) names) ∙ is in
-    let shorter : length (rules_named table place e front) ≤ length (rules_named table place e all) = subst (λ (l : List (List ℕ)). length (rules_named table place e front) ≤ length (rules_named table place e l)) whole (rest_of_names table place e front back) in
-    omega (arith, ap length more, length-append first (rules_named table place e front), length-append first (rules_named table place e all))
-
--- the entries from a place on
-pub entries_from : (table : Names) (es : List Entry) (i : ℕ) (d : Entry) → i < length es → rules_from table i (drop i es) ≡ rules_named table i (get_or es i d) (get_or es i d).names ++ rules_from table (i + 1) (drop (i + 1) es)
-entries_from table es i d lt =
-    ap (rules_from table i) (drop-cons es i d lt) ∙ ap (λ (n : ℕ). rules_named table i (get_or es i d) (get_or es i d).names ++ rules_from table (i + 1) (drop n es)) (sym (add-one i))
-
-pub entry_more : (table : Names) (es : List Entry) (i : ℕ) (e : Entry) (old new : List Rule) → i < length es → e ≡ get_or es i e → new ≡ old ++ rules_named table i e e.names
-    → old ++ rules_from table i (drop i es) ≡ rules_from table 0 es → new ++ rules_from table (i + 1) (drop (i + 1) es) ≡ rules_from table 0 es
-entry_more table es i e old new lt is one so_far =
-    let here : rules_from table i (drop i es) ≡ rules_named table i e e.names ++ rules_from table (i + 1) (drop (i + 1) es) =
-    entries_from table es i e lt ∙ ap (λ (x : Entry). rules_named table i x x.names ++ rules_from table (i + 1) (drop (i + 1) es)) (sym is) in
-    ap (λ (l : List Rule). l ++ rules_from table (i + 1) (drop (i + 1) es)) one ∙ append_assoc old _ _ ∙ ap (λ (l : List Rule). old ++ l) (sym here) ∙ so_far
-
--- too many rules so far are too many in all
-pub too_many : (table : Names) (es : List Entry) (i : ℕ) (e : Entry) (old : List Rule) → i < length es → e ≡ get_or es i e → 4096 < length (old ++ rules_named table i e e.names)
-    → old ++ rules_from table i (drop i es) ≡ rules_from table 0 es → rules_in table es ≡ Err faults.TooMany
-unfolding rules_in
-too_many table es i e old lt is many so_far =
-    let whole = entry_more table es i e old (old ++ rules_named table i e e.names) lt is refl so_far in
-    let longer : 4096 < length (rules_from table 0 es) = omega (arith, ap length whole, length-append (old ++ rules_named table i e e.names) (rules_from table (i + 1) (drop (i + 1) es))) in
-    let test : nat_lt 4096 (length (rules_from table 0 es)) ≡ true = lt-ltb 4096 (length (rules_from table 0 es)) longer in
-    rw test refl
-
-pub all_entries : (table : Names) (es : List Entry) (i : ℕ) (rules : List Rule) → length es ≤ i → length rules ≤ 4096
-    → rules ++ rules_from table i (drop i es) ≡ rules_from table 0 es → rules_in table es ≡ Ok rules
-unfolding rules_in
-all_entries table es i rules le few so_far =
-    let whole : rules ≡ rules_from table 0 es = sym (append-nil rules) ∙ ap (λ (l : List Entry). rules ++ rules_from table i l) (sym (drop_all i es le)) ∙ so_far in
-    let short : length (rules_from table 0 es) ≤ 4096 = omega (arith, ap length whole) in
-    let test : nat_lt 4096 (length (rules_from table 0 es)) ≡ false = le-ltb 4096 (length (rules_from table 0 es)) short in
-    rw test (ap Ok (sym whole))
+    let front = texts_at (take (i + 1) names) in
+    let back = texts_at (drop (i + 1) names) in
+    let more =
+    rules_more first old (old ++ rules_named table place e ((get_or names i d).now ∷ [])) table place e names i d lt
+    so_far refl in
+    let whole : front ++ back ≡ all =
+    sym (map-append (λ (s : Bor (List ℕ)). s.now) (take (i + 1) names) (drop (i + 1) names))
+    ∙ ap texts_at (take-append-drop (i + 1) names) ∙ is in
+    let shorter : length (rules_named table place e front) ≤ length (rules_named table place e all) =
+    subst (λ (l : List (List ℕ)). length (rules_named table place e front) ≤ length (rules_named table place e l))
+    whole (rest_of_names table place e front back) in
+    omega (
+      arith,
+      ap length more,
+      length-append first (rules_named table place e front),
+      length-append first (rules_named table place e all),
+    )
 
 -- the rules that pass the tests
-pub stated_rules : (table : Names) (es : List Entry) (rules : List Rule) → AreCallNumbers table → All IsEntry es → rules_in table es ≡ Ok rules → AreStatedRules rules
+pub stated_rules : (table : Names) (es : List Entry) (rules : List Rule) → AreCallNumbers table → All IsEntry es
+    → rules_in table es ≡ Ok rules → AreStatedRules rules
 unfolding rules_in
 stated_rules table es rules below each is =
-    elim (cases_lt 4096 (length (rules_from table 0 es))) [
+    elim (cases_lt max_rules (length (rules_from table 0 es))) [
       | inl many ↦ absurd (
-          let test : nat_lt 4096 (length (rules_from table 0 es)) ≡ true = lt-ltb 4096 (length (rules_from table 0 es)) many in
+          let test : nat_lt max_rules (length (rules_from table 0 es)) ≡ true =
+          lt-ltb max_rules (length (rules_from table 0 es)) many in
           let impossible = rw test at is in
           cc)
       | inr few ↦
-          let test : nat_lt 4096 (length (rules_from table 0 es)) ≡ false = le-ltb 4096 (length (rules_from table 0 es)) few in
+          let test : nat_lt max_rules (length (rules_from table 0 es)) ≡ false =
+          le-ltb max_rules (length (rules_from table 0 es)) few in
           let fine = rw test at is in
           let same : rules_from table 0 es ≡ rules = cc in
-          subst AreStatedRules same (record { few = few; each = all_rules table below 0 es each; one_answer = one_answer_each table 0 es })
+          subst AreStatedRules same
+          (record { few = few; each = all_rules table below 0 es each; one_answer = one_answer_each table 0 es })
     ]
 
--- ---- names that the table lacks
-
-pub skipped_more : (table : Names) (es : List Entry) (i : ℕ) (e : Entry) (old new : List (List ℕ)) → i < length es → e ≡ get_or es i e → new ≡ old ++ filter (is_skipped table) e.names
-    → old ++ skipped_names table (drop i es) ≡ skipped_names table es → new ++ skipped_names table (drop (i + 1) es) ≡ skipped_names table es
-skipped_more table es i e old new lt is one so_far =
-    let here : skipped_names table (drop i es) ≡ filter (is_skipped table) e.names ++ skipped_names table (drop (i + 1) es) =
-    ap (skipped_names table) (drop-cons es i e lt) ∙ ap (λ (x : Entry). skipped_names table (x ∷ drop (suc i) es)) (sym is)
-    ∙ filter-append (is_skipped table) e.names (flat_map (λ x. x.names) (drop (suc i) es)) ∙ ap (λ (n : ℕ). filter (is_skipped table) e.names ++ skipped_names table (drop n es)) (sym (add-one i)) in
-    ap (λ (l : List (List ℕ)). l ++ skipped_names table (drop (i + 1) es)) one ∙ append_assoc old _ _ ∙ ap (λ (l : List (List ℕ)). old ++ l) (sym here) ∙ so_far
+-- ---- conflicts
 
 -- rules of which no two entries conflict
-pub have_no_conflict : (rules : List Rule) → AreStatedRules rules → ((first second number : ℕ) → EntriesConflict rules first second number → ⊥) → HaveNoConflict rules
+pub have_no_conflict : (rules : List Rule) → AreStatedRules rules
+    → ((first second number : ℕ) → EntriesConflict rules first second number → ⊥) → HaveNoConflict rules
 have_no_conflict rules stated none r s has_r has_s conflict =
     elim (cases_order r.entry s.entry) [
       | inl same ↦ conflict.answer (stated.one_answer r s has_r has_s same)
-      | inr (inl before) ↦ none r.entry s.entry r.number (record { rule = r; later = s; has_rule = has_r; has_later = has_s; entry = refl; later_entry = refl; order = before; rule_number = refl; conflict = conflict })
-      | inr (inr after) ↦ none s.entry r.entry s.number (record { rule = s; later = r; has_rule = has_s; has_later = has_r; entry = refl; later_entry = refl; order = after; rule_number = refl; conflict = conflicts_both_ways r s conflict })
+      | inr (inl before) ↦ none r.entry s.entry r.number
+          (record {
+            rule = r;
+            later = s;
+            has_rule = has_r;
+            has_later = has_s;
+            entry = refl;
+            later_entry = refl;
+            order = before;
+            rule_number = refl;
+            conflict = conflict;
+          })
+      | inr (inr after) ↦ none s.entry r.entry s.number
+          (record {
+            rule = s;
+            later = r;
+            has_rule = has_s;
+            has_later = has_r;
+            entry = refl;
+            later_entry = refl;
+            order = after;
+            rule_number = refl;
+            conflict = conflicts_both_ways r s conflict;
+          })
     ]
 
-pub profile_of_rules : (default_answer : Answer) (rules : List Rule) → default_answer.0 < 2 ^ 32 → AreStatedRules rules → ((first second number : ℕ) → EntriesConflict rules first second number → ⊥) → IsProfile (record { default_answer = default_answer; rules = rules })
-profile_of_rules default_answer rules fits stated none = record { default_answer = fits; few = stated.few; each = recursion_from_All IsRule rules stated.each; no_conflict = have_no_conflict rules stated none }
+pub profile_of_rules : (default_answer : Answer) (rules : List Rule) → default_answer.0 < 2 ^ 32 → AreStatedRules rules
+    → ((first second number : ℕ) → EntriesConflict rules first second number → ⊥)
+    → IsProfile (record { default_answer = default_answer; rules = rules })
+profile_of_rules default_answer rules fits stated none =
+    record {
+      default_answer = fits;
+      few = stated.few;
+      each = recursion_from_All IsRule rules stated.each;
+      no_conflict = have_no_conflict rules stated none;
+    }

@@ -1,11 +1,12 @@
 -- When a condition holds of a 64-bit number: the operators of the OCI runtime specification (config-linux.md, seccomp).
 use Rattle.std.specs.Prelude.{ℕ, Bool, not, ◌==◌, nat_lt, nat_le, bit_and}
-use Rattle.scf_profile.specs.declared.condition.Comparison.{Comparison}
-use Rattle.scf_profile.specs.declared.condition.Comparison.TheVariants.{NotEqual, Less, LessOrEqual, Equal, GreaterOrEqual, Greater, MaskedEqual}
+use Rattle.scf_profile.specs.declared.condition.Operator.{Operator}
+use Rattle.scf_profile.specs.declared.condition.Operator.TheVariants.{NotEqual, Less, LessOrEqual, Equal}
+use Rattle.scf_profile.specs.declared.condition.Operator.TheVariants.{GreaterOrEqual, Greater, MaskedEqual}
 use Rattle.scf_profile.specs.declared.condition.Condition.{Condition}
 
 -- a number against a value; a mask takes the bits to compare from the value, and their values from the second one
-abbrev pub compares : Comparison → ℕ → ℕ → ℕ → Bool
+abbrev pub compares : Operator → ℕ → ℕ → ℕ → Bool
 compares NotEqual number value value_two = not (number == value)
 compares Less number value value_two = nat_lt number value
 compares LessOrEqual number value value_two = nat_le number value

@@ -1,5 +1,6 @@
 -- Members of a JSON object, the numbers that they hold, and arrays item by item.
-use Rattle.std.specs.Prelude.{ℕ, ℤ, List, [], ◌∷◌, ◌++◌, Bool, true, false, Option, Some, None, Result, Ok, if◌then◌else◌, is_some, option_and_then}
+use Rattle.std.specs.Prelude.{ℕ, ℤ, List, [], ◌∷◌, ◌++◌, Bool, true, false, Option, Some, None, Result, Ok}
+use Rattle.std.specs.Prelude.{if◌then◌else◌, is_some, option_and_then}
 use Rattle.serde_json.specs.Data.{Data, Items, no_items, item, Members, no_members, member as one_member}
 use Rattle.serde_json.specs.Find.{get, as_null, as_number, as_integer, as_u64}
 use Rattle.scf_profile.specs.Steps.{◌>>=◌}

@@ -7,19 +7,20 @@ use Rattle.scf_profile.specs.declared.load_fault.LoadFault.{LoadFault}
 use Rattle.scf_profile.specs.declared.load_fault.LoadFault.TheVariants as faults
 use Rattle.scf_profile.specs.declared.loaded.Loaded.{Loaded}
 use Rattle.scf_profile.specs.Rule.{Conflicts}
-use Rattle.scf_profile.specs.Policy.{HaveNoConflict}
+use Rattle.scf_profile.specs.Limits.{max_text_len}
+use Rattle.scf_profile.specs.Profile.{HaveNoConflict}
 use Rattle.scf_profile.specs.Table.{Names}
 use Rattle.scf_profile.specs.StatedProfile.{profile_of}
 
 -- the text is short enough, and JSON for the value, nested at most 127 deep
 pub record IsText (text : List ℕ) (d : Data) : Type 0 where
-  pub short : length text ≤ 4194304
+  pub short : length text ≤ max_text_len
   pub utf8 : IsUtf8 text
   pub value : read text ≡ Some d
 
 -- the text is short enough, but no UTF-8, or no JSON that is nested at most 127 deep
 pub record HasNoReading (text : List ℕ) : Type 0 where
-  pub short : length text ≤ 4194304
+  pub short : length text ≤ max_text_len
   pub no_value : IsUtf8 text → read text ≡ None
 
 -- a rule of one entry and a rule of a later one conflict, on calls of this number
@@ -63,22 +64,10 @@ pub record FailsFirst (text : List ℕ) (table : Names) (fault : LoadFault) : Ty
   pub is_text : IsText text value
   pub fails : profile_of table value ≡ Err fault
 
--- the conflict that a fault names is the least of the rules
-abbrev pub NamesLeastConflict : List Rule → LoadFault → Type 0
-NamesLeastConflict rules (faults.Conflict number first second) = IsLeastConflict rules number first second
-NamesLeastConflict rules fault = ⊥
-
--- when a text is refused before a value of it is looked at
-abbrev pub ParseRefuses : List ℕ → LoadFault → Type 0
-ParseRefuses text faults.Memory = Unit {0}
-ParseRefuses text faults.Json = HasNoReading text
-ParseRefuses text faults.TooMany = 4194304 < length text
-ParseRefuses text fault = ⊥
-
 -- When a text is refused with a fault. Want of memory may come in place of anything.
 abbrev pub Refuses : List ℕ → Names → LoadFault → Type 0
 Refuses text table faults.Memory = Unit {0}
 Refuses text table faults.Json = HasNoReading text
-Refuses text table faults.TooMany = (4194304 < length text) ⊎ FailsFirst text table faults.TooMany
+Refuses text table faults.TooMany = (max_text_len < length text) ⊎ FailsFirst text table faults.TooMany
 Refuses text table (faults.Conflict number first second) = StatesConflict text table number first second
 Refuses text table fault = FailsFirst text table fault

@@ -2,10 +2,10 @@
 use Rattle.std.specs.Prelude.{◌≡◌, All}
 use Rattle.scf_insn.specs.SimpleMask.{IsSimpleMask}
 use Rattle.scf_insn.specs.Words.{low, high}
-use Rattle.scf_profile.specs.declared.condition.Comparison.TheVariants.{MaskedEqual}
+use Rattle.scf_profile.specs.declared.condition.Operator.TheVariants.{MaskedEqual}
 use Rattle.scf_profile.specs.declared.condition.Condition.{Condition}
 use Rattle.scf_profile.specs.declared.rule.Rule.{Rule}
-use Rattle.scf_profile.specs.Policy.{Policy}
+use Rattle.scf_profile.specs.Profile.{Profile}
 
 -- both 32-bit halves of a mask are simple
 pub record HasSimpleMask (c : Condition) : Type 0 where
@@ -18,5 +18,5 @@ IsPlainCondition c = c.op ≡ MaskedEqual → HasSimpleMask c
 pub record IsPlainRule (r : Rule) : Type 0 where
   pub conditions : All IsPlainCondition r.conditions
 
-abbrev pub IsPlainProfile : Policy → Type 0
+abbrev pub IsPlainProfile : Profile → Type 0
 IsPlainProfile p = All IsPlainRule p.rules

@@ -1,8 +1,9 @@
 -- Which calls a rule meets, and when two rules conflict.
-use Rattle.std.specs.Prelude.{◌≡◌, ◌≢◌, ◌<◌, ◌^◌, Bool, ◌&&◌, ◌==◌, List, [], ◌∷◌}
+use Rattle.std.specs.Prelude.{◌≡◌, ◌≢◌, ◌<◌, ◌^◌, Bool, true, ◌&&◌, ◌==◌, List, [], ◌∷◌}
 use Rattle.std.specs.List.{list_all, AllByRecursion}
 use Rattle.scf_insn.specs.declared.record.CallRecord.{CallRecord}
-use Rattle.scf_insn.specs.Words.{argument}
+use Rattle.scf_insn.specs.Kernel.{x32_syscall_bit}
+use Rattle.scf_insn.specs.Words.{IsRecord, argument}
 use Rattle.scf_profile.specs.declared.condition.Condition.{Condition}
 use Rattle.scf_profile.specs.declared.rule.Rule.{Rule}
 use Rattle.scf_profile.specs.Condition.{holds}
@@ -15,9 +16,12 @@ all_hold call conditions = list_all (λ c. holds c (argument call c.index)) cond
 abbrev pub meets : Rule → CallRecord → Bool
 meets r call = (call.nr == r.number) && all_hold call r.conditions
 
--- two rules of one number that answer differently
+-- some call record meets both rules, and their answers differ
 pub record Conflicts (r s : Rule) : Type 0 where
-  pub number : r.number ≡ s.number
+  pub call : CallRecord
+  pub is_record : IsRecord call
+  pub meets_first : meets r call ≡ true
+  pub meets_second : meets s call ≡ true
   pub answer : r.answer ≢ s.answer
 
 pub record IsCondition (c : Condition) : Type 0 where
@@ -37,6 +41,6 @@ pub record AreConditions (conditions : List Condition) : Type 0 where
 
 -- the number of an x86-64 call, an answer of 32 bits, and conditions
 pub record IsRule (r : Rule) : Type 0 where
-  pub number : r.number < 2 ^ 30
+  pub number : r.number < x32_syscall_bit
   pub answer : r.answer.0 < 2 ^ 32
   pub conditions : AreConditions r.conditions

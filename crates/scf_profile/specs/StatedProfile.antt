@@ -1,7 +1,8 @@
 -- What a JSON value and a call table state as a profile (OCI runtime specification, config-linux.md, seccomp): the
 -- tests in their order, each a function to what is stated or to its fault. A fault carries the place of the entry of
 -- `syscalls` in which it stands, and none where it stands outside of them.
-use Rattle.std.specs.Prelude.{ℕ, ◌+◌, Bool, true, false, not, ◌&&◌, ◌==◌, List, [], ◌∷◌, ◌++◌, codes, length, ℤ, pos, negsuc, Option, Some, None, Result, Ok, nat_lt, if◌then◌else◌, is_none, option_map, ⊤}
+use Rattle.std.specs.Prelude.{ℕ, ◌+◌, Bool, true, false, not, ◌&&◌, ◌==◌, List, [], ◌∷◌, ◌++◌, codes, length, ℤ, pos}
+use Rattle.std.specs.Prelude.{negsuc, Option, Some, None, Result, Ok, nat_lt, if◌then◌else◌, is_none, option_map, ⊤}
 use Rattle.std.specs.List.{list_any, filter, flat_map, filter_map}
 use Rattle.std.specs.Str.{bytes_eq}
 use Rattle.std.specs.FinMap.{get}
@@ -12,8 +13,8 @@ use Rattle.scf_insn.specs.declared.answer.Action.TheVariants as actions
 use Rattle.scf_insn.specs.Answers.{answer_of}
 use Rattle.serde_json.specs.Data.{Data, Items, no_items}
 use Rattle.serde_json.specs.Find.{as_array, as_object, as_str}
-use Rattle.scf_profile.specs.declared.condition.Comparison.{Comparison}
-use Rattle.scf_profile.specs.declared.condition.Comparison.TheVariants as operators
+use Rattle.scf_profile.specs.declared.condition.Operator.{Operator}
+use Rattle.scf_profile.specs.declared.condition.Operator.TheVariants as operators
 use Rattle.scf_profile.specs.declared.condition.Condition.{Condition}
 use Rattle.scf_profile.specs.declared.rule.Rule.{Rule}
 use Rattle.scf_profile.specs.declared.entry.Entry.{Entry}
@@ -22,6 +23,7 @@ use Rattle.scf_profile.specs.declared.load_fault.LoadFault.TheVariants as faults
 use Rattle.scf_profile.specs.declared.loaded.Loaded.{Loaded}
 use Rattle.scf_profile.specs.Steps.{◌>>=◌, some_or, refused_if}
 use Rattle.scf_profile.specs.JsonMembers.{member, whole_number, unsigned_number, has_items, has_members, each}
+use Rattle.scf_profile.specs.Limits.{max_rules}
 use Rattle.scf_profile.specs.Table.{Names}
 
 -- ---- an action and its answer
@@ -104,7 +106,7 @@ items_or_none entry (Some d) = some_or (as_array d) (faults.Kind entry)
 -- ---- a member of `args`
 
 -- the seven operators by name
-abbrev pub operator_named : List ℕ → Option Comparison
+abbrev pub operator_named : List ℕ → Option Operator
 operator_named name =
     if bytes_eq name (codes "SCMP_CMP_NE") then Some operators.NotEqual
     else if bytes_eq name (codes "SCMP_CMP_LT") then Some operators.Less
@@ -126,7 +128,7 @@ index_in entry d = do
   number ← some_or (whole_number found) (faults.Kind entry)
   some_or (argument_index number) (faults.Index entry)
 
-unfoldable pub operator_in : Option ℕ → Data → Result Comparison LoadFault
+unfoldable pub operator_in : Option ℕ → Data → Result Operator LoadFault
 operator_in entry d = do
   found ← some_or (member (codes "op") d) (faults.Missing entry)
   name ← some_or (as_str found) (faults.Kind entry)
@@ -254,7 +256,7 @@ skipped_names table entries = filter (is_skipped table) (flat_map (λ e. e.names
 
 unfoldable pub rules_in : Names → List Entry → Result (List Rule) LoadFault
 rules_in table entries = do
-  _ ← refused_if (nat_lt 4096 (length (rules_from table 0 entries))) faults.TooMany
+  _ ← refused_if (nat_lt max_rules (length (rules_from table 0 entries))) faults.TooMany
   Ok (rules_from table 0 entries)
 
 -- what the seccomp object states

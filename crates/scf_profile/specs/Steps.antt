@@ -19,8 +19,3 @@ refused_if test fault = if test then Err fault else Ok tt
 abbrev pub Gives : {A E : Type 0} → E → Result A E → Result A E → Type 0
 Gives memory (Ok x) stated = stated ≡ Ok x
 Gives memory (Err e) stated = e ≢ memory → stated ≡ Err e
-
--- a result with what it holds seen by view
-abbrev pub result_map : {A B E : Type 0} → (A → B) → Result A E → Result B E
-result_map view (Ok x) = Ok (view x)
-result_map view (Err e) = Err e

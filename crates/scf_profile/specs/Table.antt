@@ -1,10 +1,13 @@
 -- What a text states as a call table: a map from names to numbers, or the first fault of the first faulty line.
-use Rattle.std.specs.Prelude.{◌≡◌, ℕ, ◌+◌, ◌<◌, ◌^◌, Bool, not, ◌&&◌, ◌||◌, ◌==◌, List, [], ◌∷◌, length, slice_index, Option, Some, None, Result, Ok, Err, if◌then◌else◌, is_some, nat_lt, nat_le, option_and_then}
+use Rattle.std.specs.Prelude.{◌≡◌, ℕ, ◌+◌, ◌<◌, Bool, not, ◌&&◌, ◌||◌, ◌==◌, List, [], ◌∷◌, length, slice_index}
+use Rattle.std.specs.Prelude.{Option, Some, None, Result, Ok, Err, if◌then◌else◌, is_some, nat_lt, nat_le}
+use Rattle.std.specs.Prelude.{option_and_then}
 use Rattle.std.specs.List.{list_all, filter, slice_split}
 use Rattle.std.specs.Ordering.{nat_cmp}
 use Rattle.std.specs.Cmp.Lexicographic.{slice_cmp}
 use Rattle.std.specs.FinMap.{FinMap, get, insert, empty}
 use Rattle.std.specs.Str.Lines.{lines}
+use Rattle.scf_insn.specs.Kernel.{x32_syscall_bit}
 use Rattle.scf_insn.specs.Numbers.{numeral}
 use Rattle.scf_profile.specs.declared.table_fault.TableFault.{TableFault}
 use Rattle.scf_profile.specs.declared.table_fault.TableFault.TheVariants as faults
@@ -16,7 +19,7 @@ Names = FinMap (slice_cmp nat_cmp) ℕ
 
 -- numbers of x86-64 calls, which are below those of x32
 abbrev pub AreCallNumbers : Names → Type 0
-AreCallNumbers names = (name : List ℕ) (number : ℕ) → get names name ≡ Some number → number < 2 ^ 30
+AreCallNumbers names = (name : List ℕ) (number : ℕ) → get names name ≡ Some number → number < x32_syscall_bit
 
 -- space or tab
 abbrev pub is_blank : ℕ → Bool
@@ -38,9 +41,9 @@ is_in_name byte = begins_name byte || (nat_le 48 byte && nat_le byte 57)
 abbrev pub is_name : List ℕ → Bool
 is_name text = begins_name (slice_index text 0) && list_all is_in_name text
 
--- a number below 2^30
+-- a number below those of x32 calls
 abbrev pub if_call_number : ℕ → Option ℕ
-if_call_number number = if nat_lt number (2 ^ 30) then Some number else None
+if_call_number number = if nat_lt number x32_syscall_bit then Some number else None
 
 -- decimal digits of such a number
 abbrev pub call_number : List ℕ → Option ℕ

@@ -2,7 +2,8 @@
 
 ghost use Rattle.std.specs.Prelude.{◌≡◌, ◌<◌, ◌^◌, IfOk};
 ghost use Rattle.serde_json.specs.View.{view};
-ghost use Rattle.scf_profile.specs.StatedProfile.{action_named, takes_errno as errno_taken, action_in, errno_of as errno_stated, answer_in};
+ghost use Rattle.scf_profile.specs.StatedProfile.{action_named, takes_errno as errno_taken, action_in};
+ghost use Rattle.scf_profile.specs.StatedProfile.{errno_of as errno_stated, answer_in};
 
 use crate::json_members::member_of;
 use crate::load_fault::LoadFault;

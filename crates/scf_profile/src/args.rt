@@ -6,26 +6,28 @@ ghost use Rattle.serde_json.specs.View.{view, items_view};
 ghost use Rattle.scf_profile.specs.declared.load_fault.LoadFault.TheVariants.{Memory};
 ghost use Rattle.scf_profile.specs.JsonMembers.{each};
 ghost use Rattle.scf_profile.specs.Rule.{IsCondition, AreConditions};
-ghost use Rattle.scf_profile.specs.StatedProfile.{operator_named, index_in, operator_in, value_in, value_two_in, condition_of as condition_stated, conditions_in};
-ghost use Rattle.scf_profile.specs.Steps.{Gives, result_map};
+ghost use Rattle.scf_profile.specs.StatedProfile.{operator_named, index_in, operator_in, value_in, value_two_in};
+ghost use Rattle.scf_profile.specs.StatedProfile.{condition_of as condition_stated, conditions_in};
+ghost use Rattle.scf_profile.specs.Steps.{Gives};
+ghost use Rattle.scf_profile.specs.internal.Results.{result_map};
 
-use crate::condition::{Comparison, Condition, Conditions};
+use crate::condition::{Condition, Conditions, Operator};
 use crate::json_members::member_of;
 use crate::load_fault::LoadFault;
 use serde_json::Value;
 use std::alloc::Global;
 
-fn operator_of(name: &str) -> Option<Comparison>
+fn operator_of(name: &str) -> Option<Operator>
     ensures { result ≡ operator_named name.now }
 {
     match name {
-        "SCMP_CMP_NE" => Some(Comparison::NotEqual),
-        "SCMP_CMP_LT" => Some(Comparison::Less),
-        "SCMP_CMP_LE" => Some(Comparison::LessOrEqual),
-        "SCMP_CMP_EQ" => Some(Comparison::Equal),
-        "SCMP_CMP_GE" => Some(Comparison::GreaterOrEqual),
-        "SCMP_CMP_GT" => Some(Comparison::Greater),
-        "SCMP_CMP_MASKED_EQ" => Some(Comparison::MaskedEqual),
+        "SCMP_CMP_NE" => Some(Operator::NotEqual),
+        "SCMP_CMP_LT" => Some(Operator::Less),
+        "SCMP_CMP_LE" => Some(Operator::LessOrEqual),
+        "SCMP_CMP_EQ" => Some(Operator::Equal),
+        "SCMP_CMP_GE" => Some(Operator::GreaterOrEqual),
+        "SCMP_CMP_GT" => Some(Operator::Greater),
+        "SCMP_CMP_MASKED_EQ" => Some(Operator::MaskedEqual),
         _ => None,
     }
 }
@@ -50,7 +52,7 @@ fn find_index(entry: Option<u32>, object: &Value) -> Result<u8, LoadFault>
 }
 
 #[tactic(auto, unfolding(crate::specs::StatedProfile::operator_in))]
-fn find_operator(entry: Option<u32>, object: &Value) -> Result<Comparison, LoadFault>
+fn find_operator(entry: Option<u32>, object: &Value) -> Result<Operator, LoadFault>
     ensures { result ≡ operator_in entry (view object.now) }
 {
     let found = member_of(object, "op").ok_or(LoadFault::Missing { entry })?;

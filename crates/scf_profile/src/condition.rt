@@ -1,16 +1,18 @@
 //! Conditions on the arguments of a call (OCI runtime specification, config-linux.md, seccomp).
 
-ghost use Rattle.std.specs.Prelude.{◌≡◌, ◌↔◌, IsTrue, All, IfOk};
+ghost use Rattle.std.specs.Prelude.{◌≡◌, ◌<◌, ◌^◌, ◌↔◌, ℕ, IsTrue, All, IfOk, IfSome};
 ghost use Rattle.scf_profile.specs.Condition.{holds};
+ghost use Rattle.scf_profile.specs.internal.NumberSets.{IsNumberSet, is_in_some};
 ghost use Rattle.scf_profile.specs.PlainProfile.{IsPlainCondition, HasSimpleMask};
 
+use crate::number_set::NumberSet;
 use scf_insn::{high_half, is_simple_mask, low_half};
 use std::alloc::{AllocError, Global};
 use std::marker::Model;
 
 /// How an argument is compared with a condition's value. Each operator compares whole unsigned 64-bit numbers.
 #[derive(Clone, Copy, Debug, PartialEq, Eq)]
-pub enum Comparison {
+pub enum Operator {
     NotEqual,
     Less,
     LessOrEqual,
@@ -26,7 +28,7 @@ pub enum Comparison {
 #[derive(Clone, Copy, Debug, PartialEq, Eq)]
 pub struct Condition {
     pub index: u8,
-    pub op: Comparison,
+    pub op: Operator,
     pub value: u64,
     pub value_two: u64,
 }
@@ -43,7 +45,7 @@ impl Condition {
     fn is_plain(&self) -> bool
         ensures { IsTrue result ↔ IsPlainCondition self.now }
     {
-        self.op != Comparison::MaskedEqual || self.has_simple_mask()
+        self.op != Operator::MaskedEqual || self.has_simple_mask()
     }
 
     /// Whether it holds of an argument.
@@ -51,13 +53,36 @@ impl Condition {
         ensures { result ≡ holds self.now argument }
     {
         match self.op {
-            Comparison::NotEqual => argument != self.value,
-            Comparison::Less => argument < self.value,
-            Comparison::LessOrEqual => argument <= self.value,
-            Comparison::Equal => argument == self.value,
-            Comparison::GreaterOrEqual => argument >= self.value,
-            Comparison::Greater => argument > self.value,
-            Comparison::MaskedEqual => argument & self.value == self.value_two & self.value,
+            Operator::NotEqual => argument != self.value,
+            Operator::Less => argument < self.value,
+            Operator::LessOrEqual => argument <= self.value,
+            Operator::Equal => argument == self.value,
+            Operator::GreaterOrEqual => argument >= self.value,
+            Operator::Greater => argument > self.value,
+            Operator::MaskedEqual => argument & self.value == self.value_two & self.value,
+        }
+    }
+
+    /// The numbers of which it holds, where there are any.
+    pub(crate) fn numbers(&self) -> Option<NumberSet>
+        ensures same { (n : ℕ) → n < 2 ^ 64 → is_in_some result n ≡ holds self.now n }
+        ensures set { IfSome result IsNumberSet }
+    {
+        let value = self.value;
+        match self.op {
+            Operator::NotEqual => Some(NumberSet::AllBut(value)),
+            Operator::Less => value.checked_sub(1).map(NumberSet::AtMost),
+            Operator::LessOrEqual => Some(NumberSet::AtMost(value)),
+            Operator::Equal => Some(NumberSet::Masked {
+                mask: u64::MAX,
+                value,
+            }),
+            Operator::GreaterOrEqual => Some(NumberSet::AtLeast(value)),
+            Operator::Greater => value.checked_add(1).map(NumberSet::AtLeast),
+            Operator::MaskedEqual => Some(NumberSet::Masked {
+                mask: value,
+                value: self.value_two & value,
+            }),
         }
     }
 }
@@ -79,7 +104,7 @@ impl Model for Conditions {
 
 impl Conditions {
     /// These conditions, in their order.
-    pub fn from_vec(list: Vec<Condition>) -> Conditions
+    pub(crate) fn from_vec(list: Vec<Condition>) -> Conditions
         ensures { result ≡ list.items }
     {
         Conditions { list }
@@ -92,13 +117,6 @@ impl Conditions {
         Ok(Conditions {
             list: Vec::from_slice(alloc, &self.list)?,
         })
-    }
-
-    /// The conditions in their order.
-    pub fn into_vec(self) -> Vec<Condition>
-        ensures { result.items ≡ self }
-    {
-        self.list
     }
 
     /// Whether each of them is plain.

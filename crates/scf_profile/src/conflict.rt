@@ -1,33 +1,37 @@
-//! Conflicts among rules.
+//! Conflicts among rules: the least one, among all pairs.
 
-ghost use Rattle.std.specs.Prelude.{◌≡◌, ◌↔◌, ◌⊎◌, ℕ, IsTrue, IfSome, IfNone, All, Some};
+ghost use Rattle.std.specs.Prelude.{◌≡◌, ◌⊎◌, ℕ, IfSome, IfNone, All, Some};
 ghost use Rattle.std.specs.Bool.{MatchBool};
 ghost use Rattle.scf_profile.specs.declared.conflict.Clash.{Clash};
-ghost use Rattle.scf_profile.specs.Clashes.{IsAtMost, IsBoundedBy, IsClash, IsClashAmong};
+ghost use Rattle.scf_profile.specs.internal.Clashes.{IsBoundedBy, IsClash, IsClashAmong};
 ghost use Rattle.scf_profile.specs.Loading.{IsLeastConflict, EntriesConflict};
-ghost use Rattle.scf_profile.specs.Rule.{Conflicts};
+ghost use Rattle.scf_profile.specs.Rule.{IsRule};
 
 use crate::rule::Rule;
 
 /// Two entries that conflict, and the number of the calls on which they do.
-#[derive(Clone, Copy, Debug, PartialEq, Eq)]
+#[derive(Clone, Copy)]
 pub(crate) struct Clash {
     pub(crate) second: u32,
     pub(crate) first: u32,
     pub(crate) number: u32,
 }
 
-/// Whether a clash stands before another or is it: the second entry counts first, then the first, then the number.
-fn is_at_most(clash: Clash, other: Clash) -> bool
-    ensures { MatchBool result (IsAtMost clash other) (IsAtMost other clash) }
-{
-    if clash.second != other.second {
-        return clash.second < other.second;
+impl Clash {
+    ghost use Rattle.scf_profile.specs.internal.Clashes.{IsAtMost};
+
+    /// Whether it stands before another or is it: the second entry counts first, then the first, then the number.
+    fn is_at_most(self, other: Clash) -> bool
+        ensures { MatchBool result (IsAtMost self other) (IsAtMost other self) }
+    {
+        if self.second != other.second {
+            return self.second < other.second;
+        }
+        if self.first != other.first {
+            return self.first < other.first;
+        }
+        self.number <= other.number
     }
-    if clash.first != other.first {
-        return clash.first < other.first;
-    }
-    clash.number <= other.number
 }
 
 /// The lesser of two clashes, where there are any.
@@ -40,24 +44,19 @@ fn lesser(least: Option<Clash>, clash: Option<Clash>) -> Option<Clash>
         return least;
     };
     match least {
-        Some(known) if is_at_most(known, other) => Some(known),
+        Some(known) if known.is_at_most(other) => Some(known),
         _ => Some(other),
     }
 }
 
-/// Whether two rules conflict.
-fn do_conflict(rule: &Rule, other: &Rule) -> bool
-    ensures { IsTrue result ↔ Conflicts rule.now other.now }
-{
-    rule.number == other.number && rule.answer != other.answer
-}
-
 /// The clash of a rule and a later one, where they are of different entries and conflict.
 fn clash_of(rule: &Rule, later: &Rule) -> Option<Clash>
+    requires rule { IsRule rule.now }
+    requires later { IsRule later.now }
     ensures some { IfSome result (λ c. IsClash rule.now later.now c) }
     ensures all { (c : Clash) → IsClash rule.now later.now c → result ≡ Some c }
 {
-    if !do_conflict(rule, later) || rule.entry >= later.entry {
+    if rule.entry >= later.entry || !rule.conflicts_with(later) {
         return None;
     }
     Some(Clash {
@@ -69,6 +68,8 @@ fn clash_of(rule: &Rule, later: &Rule) -> Option<Clash>
 
 /// The least of a clash and those of the rules with a later one.
 fn least_with(rules: &[Rule], later: &Rule, known: Option<Clash>) -> Option<Clash>
+    requires rules { All IsRule rules.now }
+    requires later { IsRule later.now }
     ensures one { IfSome result (λ c. (known ≡ Some c) ⊎ IsClashAmong rules.now later.now c) }
     ensures bounds { (c : Clash)
         → All (λ rule. IsClash rule later.now c → IsBoundedBy result c) rules.now }
@@ -83,6 +84,7 @@ fn least_with(rules: &[Rule], later: &Rule, known: Option<Clash>) -> Option<Clas
 
 /// The least conflict among rules.
 pub(crate) fn least_conflict(rules: &[Rule]) -> Option<Clash>
+    requires { All IsRule rules.now }
     ensures least { IfSome result (λ c. IsLeastConflict rules.now c.number c.first c.second) }
     ensures none { IfNone result
         ((first second number : ℕ) → EntriesConflict rules.now first second number → ⊥) }

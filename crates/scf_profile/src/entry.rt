@@ -24,7 +24,7 @@ pub(crate) struct Entry<'v> {
 }
 
 impl<'v> Entry<'v> {
-    ghost use Rattle.scf_profile.specs.EntryRanges.{IsEntry};
+    ghost use Rattle.scf_profile.specs.internal.EntryRanges.{IsEntry};
     ghost use Rattle.scf_profile.specs.StatedProfile.{entry_of as entry_stated};
 
     /// What the entry at a place states.

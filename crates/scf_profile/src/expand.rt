@@ -1,21 +1,24 @@
 //! From the names of entries to the numbers that the call table has for them.
 
-ghost use Rattle.std.specs.Prelude.{◌≡◌, ◌<◌, ◌≤◌, ◌^◌, ◌++◌, ◌∷◌, [], length, vec_len, map, IfOk, IfErr, OnOk};
+ghost use Rattle.std.specs.Prelude.{◌≡◌, ◌<◌, ◌≤◌, ◌^◌, ◌++◌, ◌∷◌, [], length, vec_len, IfOk, IfErr, OnOk};
 ghost use Rattle.std.specs.List.{filter};
 ghost use Rattle.scf_profile.specs.declared.load_fault.LoadFault.TheVariants.{Memory};
-ghost use Rattle.scf_profile.specs.EntryRanges.{TellsTooMany};
-ghost use Rattle.scf_profile.specs.StatedProfile.{rules_named, rules_in, is_skipped, skipped_names, is_other_architecture};
-ghost use Rattle.scf_profile.specs.Steps.{Gives, result_map};
+ghost use Rattle.scf_profile.specs.internal.EntryRanges.{TellsTooMany};
+ghost use Rattle.scf_profile.specs.Limits.{max_rules};
+ghost use Rattle.scf_profile.specs.References.{texts_at};
+ghost use Rattle.scf_profile.specs.StatedProfile.{rules_named, rules_in, is_skipped, skipped_names};
+ghost use Rattle.scf_profile.specs.StatedProfile.{is_other_architecture};
+ghost use Rattle.scf_profile.specs.Steps.{Gives};
+ghost use Rattle.scf_profile.specs.internal.Results.{result_map};
 
 use crate::entry::Entry;
+use crate::limits::MAX_RULES;
 use crate::load_fault::LoadFault;
+use crate::object::is_x86_64;
 use crate::rule::Rule;
 use crate::table::CallTable;
 use crate::texts::Texts;
 use std::alloc::{AllocError, Global};
-
-/// How many rules a profile has at most.
-const RULE_LIMIT: usize = 4096;
 
 /// Adds the rule that an entry at a place states for a name, where the table has the name.
 fn add_rule(
@@ -26,17 +29,17 @@ fn add_rule(
     entry: &Entry,
     name: &str,
 ) -> Result<(), LoadFault>
-    requires { vec_len rules.old ≤ 4096 }
+    requires { vec_len rules.old ≤ max_rules }
     ensures ok { OnOk result (rules.new.items
         ≡ rules.old.items ++ rules_named table.now place entry.now (name.now ∷ [])) }
-    ensures few { OnOk result (vec_len rules.new ≤ 4096) }
+    ensures few { OnOk result (vec_len rules.new ≤ max_rules) }
     ensures err { IfErr result (TellsTooMany
         (rules.old.items ++ rules_named table.now place entry.now (name.now ∷ []))) }
 {
     let Some(number) = table.number_of(name) else {
         return Ok(());
     };
-    if rules.len() == RULE_LIMIT {
+    if rules.len() == MAX_RULES {
         return Err(LoadFault::TooMany);
     }
     let conditions = entry.conditions.try_clone(alloc)?;
@@ -57,10 +60,10 @@ fn add_rules(
     place: u32,
     entry: &Entry,
 ) -> Result<(), LoadFault>
-    requires { vec_len rules.old ≤ 4096 }
+    requires { vec_len rules.old ≤ max_rules }
     ensures ok { OnOk result (rules.new.items
         ≡ rules.old.items ++ rules_named table.now place entry.now entry.now.names) }
-    ensures few { OnOk result (vec_len rules.new ≤ 4096) }
+    ensures few { OnOk result (vec_len rules.new ≤ max_rules) }
     ensures err { IfErr result (TellsTooMany
         (rules.old.items ++ rules_named table.now place entry.now entry.now.names)) }
 {
@@ -70,7 +73,7 @@ fn add_rules(
     Ok(())
 }
 
-/// The rules that entries state, at most 4096.
+/// The rules that entries state, at most `MAX_RULES`.
 #[tactic(auto, unfolding(crate::specs::StatedProfile::rules_in))]
 pub(crate) fn rules_of(
     alloc: Global,
@@ -95,7 +98,7 @@ fn add_skipped(
     names: &[&str],
 ) -> Result<(), AllocError>
     ensures { OnOk result (skipped.new
-        ≡ skipped.old ++ filter (is_skipped table.now) (map (λ s. s.now) names.now)) }
+        ≡ skipped.old ++ filter (is_skipped table.now) (texts_at names.now)) }
 {
     for name in names {
         skipped.push_if(alloc, table.number_of(name).is_none(), name)?;
@@ -124,11 +127,11 @@ pub(crate) fn other_architectures(
     architectures: &[&str],
 ) -> Result<Texts, AllocError>
     ensures { IfOk result (λ texts.
-        texts ≡ filter is_other_architecture (map (λ s. s.now) architectures.now)) }
+        texts ≡ filter is_other_architecture (texts_at architectures.now)) }
 {
     let mut others = Texts::new(alloc);
     for name in architectures {
-        others.push_if(alloc, "SCMP_ARCH_X86_64" != *name, name)?;
+        others.push_if(alloc, !is_x86_64(name), name)?;
     }
     Ok(others)
 }

@@ -3,8 +3,10 @@
 ghost use Rattle.std.specs.Prelude.{◌≡◌};
 ghost use Rattle.serde_json.specs.View.{view, items_view};
 ghost use Rattle.scf_profile.specs.declared.load_fault.LoadFault.TheVariants.{Memory};
-ghost use Rattle.scf_profile.specs.StatedProfile.{is_empty as empty_value, no_engine_form, text_of as text_stated, texts_of as texts_stated, names_in};
-ghost use Rattle.scf_profile.specs.Steps.{Gives, result_map};
+ghost use Rattle.scf_profile.specs.StatedProfile.{is_empty as empty_value, no_engine_form, text_of as text_stated};
+ghost use Rattle.scf_profile.specs.StatedProfile.{texts_of as texts_stated, names_in};
+ghost use Rattle.scf_profile.specs.Steps.{Gives};
+ghost use Rattle.scf_profile.specs.internal.Results.{result_map};
 
 use crate::json_members::{has_items, has_members, member_of};
 use crate::load_fault::LoadFault;

@@ -3,6 +3,7 @@
 
 mod action;
 mod args;
+mod by_number;
 mod condition;
 mod conflict;
 mod entry;
@@ -10,9 +11,13 @@ mod expand;
 mod forms;
 mod json_members;
 mod laws;
+mod limits;
 mod load_fault;
 mod loaded;
+mod named_call;
+mod number_set;
 mod object;
+mod overlap;
 mod profile;
 mod profile_text;
 mod rule;
@@ -21,10 +26,13 @@ mod table_fault;
 mod table_line;
 mod texts;
 
-pub use condition::{Comparison, Condition, Conditions};
+pub use by_number::rules_by_number;
+pub use condition::{Condition, Conditions, Operator};
 pub use laws::{one_answer, some_answer};
+pub use limits::{MAX_RULES, MAX_TEXT_LEN};
 pub use load_fault::LoadFault;
 pub use loaded::Loaded;
+pub use named_call::NamedCall;
 pub use profile::Profile;
 pub use profile_text::load;
 pub use rule::Rule;

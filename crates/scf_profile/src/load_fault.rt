@@ -3,6 +3,7 @@
 ghost use Rattle.std.specs.Prelude.{◌≡◌};
 ghost use Rattle.scf_profile.specs.declared.load_fault.LoadFault.TheVariants.{Memory};
 
+use crate::limits::{MAX_RULES, MAX_TEXT_LEN};
 use std::alloc::{AllocError, AllocFailed};
 use thiserror::Error;
 
@@ -58,10 +59,10 @@ pub enum LoadFault {
     EngineForm {
         entry: Option<u32>,
     },
-    /// More than 4194304 bytes of text, or more than 4096 rules.
-    #[error("more than 4194304 bytes, or more than 4096 rules")]
+    /// More than `MAX_TEXT_LEN` bytes of text, or more than `MAX_RULES` rules.
+    #[error("more than {bytes} bytes, or more than {rules} rules", bytes = MAX_TEXT_LEN, rules = MAX_RULES)]
     TooMany,
-    /// Two entries have rules for a call of this number, and answer differently.
+    /// Some call of this number meets a rule of both entries, and they answer it differently.
     #[error("entries {first} and {second} conflict on call {number}")]
     Conflict {
         number: u32,

@@ -1,16 +1,19 @@
 //! The seccomp object.
 
-ghost use Rattle.std.specs.Prelude.{◌≡◌, ◌<◌, ◌^◌, [], IfOk, All, map, vec_len};
+ghost use Rattle.std.specs.Prelude.{◌≡◌, ◌<◌, ◌^◌, [], IfOk, All, vec_len};
 ghost use Rattle.std.specs.List.{list_any};
 ghost use Rattle.std.specs.Str.{bytes_eq};
 ghost use Rattle.serde_json.specs.Events.{items_len};
 ghost use Rattle.serde_json.specs.View.{view, items_view};
 ghost use Rattle.scf_profile.specs.declared.load_fault.LoadFault.TheVariants.{Memory};
-ghost use Rattle.scf_profile.specs.EntryRanges.{IsEntry};
+ghost use Rattle.scf_profile.specs.internal.EntryRanges.{IsEntry};
 ghost use Rattle.scf_profile.specs.JsonMembers.{each};
-ghost use Rattle.scf_profile.specs.ShortArrays.{HasShortArrays};
-ghost use Rattle.scf_profile.specs.StatedProfile.{seccomp_in, seccomp_of, next_entry, entries_in, architectures_in, x86_64};
-ghost use Rattle.scf_profile.specs.Steps.{Gives, result_map};
+ghost use Rattle.scf_profile.specs.References.{texts_at};
+ghost use Rattle.scf_profile.specs.internal.ShortArrays.{HasShortArrays};
+ghost use Rattle.scf_profile.specs.StatedProfile.{seccomp_in, seccomp_of, next_entry, entries_in, architectures_in};
+ghost use Rattle.scf_profile.specs.StatedProfile.{x86_64};
+ghost use Rattle.scf_profile.specs.Steps.{Gives};
+ghost use Rattle.scf_profile.specs.internal.Results.{result_map};
 
 use crate::entry::Entry;
 use crate::forms::texts_of;
@@ -53,11 +56,18 @@ pub(crate) fn find_seccomp(root: &Value) -> Result<&Value, LoadFault>
     }
 }
 
+/// Whether an architecture is x86-64.
+pub(crate) fn is_x86_64(name: &str) -> bool
+    ensures { result ≡ bytes_eq x86_64 name.now }
+{
+    "SCMP_ARCH_X86_64" == name
+}
+
 fn has_x86_64(names: &[&str]) -> bool
-    ensures { result ≡ list_any (bytes_eq x86_64) (map (λ s. s.now) names.now) }
+    ensures { result ≡ list_any (bytes_eq x86_64) (texts_at names.now) }
 {
     for name in names {
-        if "SCMP_ARCH_X86_64" == *name {
+        if is_x86_64(name) {
             return true;
         }
     }

@@ -1,24 +1,18 @@
-//! A profile: a default answer, and rules of which no two conflict.
+//! A profile: a default answer, and rules that never answer one call differently.
 
 ghost use Rattle.std.specs.Prelude.{◌≡◌, ◌↔◌, IsTrue, All};
-ghost use Rattle.scf_profile.specs.Policy.{IsProfile, IsNative};
+ghost use Rattle.scf_profile.specs.Profile.{IsProfile, IsNative};
 ghost use Rattle.scf_profile.specs.PlainProfile.{IsPlainProfile, IsPlainRule};
 ghost use Rattle.scf_profile.specs.ProfileAnswers.{ProfileAnswers};
 
-use crate::rule::{Rule, is_met};
+use crate::rule::Rule;
+use scf_insn::kernel::{AUDIT_ARCH_X86_64, SECCOMP_RET_KILL_PROCESS, X32_SYSCALL_BIT};
 use scf_insn::{Answer, CallRecord};
 use std::marker::Model;
 
-/// AUDIT_ARCH_X86_64 of the kernel's audit.h.
-const X86_64: u32 = 0xc000_003e;
-
-/// The first number that no call of x86-64 has: __X32_SYSCALL_BIT of the kernel's asm/unistd.h.
-const FOREIGN_NUMBERS: u32 = 0x4000_0000;
-
-const KILL_PROCESS: Answer = Answer(0x8000_0000);
-
-/// What a profile states: a default answer, and rules in the order of the text. No two rules conflict; numbers are
-/// below 0x40000000, indices below 6 and none twice in a rule; there are at most 4096 rules.
+/// What a profile states: a default answer, and rules in the order of the text. No call meets two rules that answer it
+/// differently; numbers are below `X32_SYSCALL_BIT`, indices below 6 and none twice in a rule; there are at most
+/// `MAX_RULES` rules.
 #[derive(Debug, Drop)]
 pub struct Profile {
     default_answer: Answer,
@@ -26,9 +20,9 @@ pub struct Profile {
 }
 
 impl Model for Profile {
-    ghost use Rattle.scf_profile.specs.Policy.{Policy, IsProfile};
+    ghost use Rattle.scf_profile.specs.Profile.{Profile, IsProfile};
 
-    ghost Value = { Policy };
+    ghost Value = { Profile };
 
     ghost view = { λ p. record { default_answer = p.default_answer; rules = p.rules.items } };
 
@@ -75,8 +69,8 @@ impl Profile {
     pub fn answer(&self, call: &CallRecord) -> Answer
         ensures { ProfileAnswers self.now call.now result.0 }
     {
-        if call.arch != X86_64 || call.nr >= FOREIGN_NUMBERS {
-            return KILL_PROCESS;
+        if call.arch != AUDIT_ARCH_X86_64 || call.nr >= X32_SYSCALL_BIT {
+            return Answer(SECCOMP_RET_KILL_PROCESS);
         }
         answer_of(self.default_answer, &self.rules, call)
     }
@@ -102,7 +96,7 @@ fn answer_of(default_answer: Answer, rules: &[Rule], call: &CallRecord) -> Answe
         call.now result.0 }
 {
     for rule in rules {
-        if is_met(rule, call) {
+        if rule.is_met(call) {
             return rule.answer;
         }
     }

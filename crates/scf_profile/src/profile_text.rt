@@ -3,17 +3,20 @@
 ghost use Rattle.std.specs.Prelude.{◌<◌, ◌^◌, IfOk, IfErr};
 ghost use Rattle.serde_json.specs.View.{view};
 ghost use Rattle.scf_profile.specs.declared.load_fault.LoadFault.TheVariants.{Memory};
-ghost use Rattle.scf_profile.specs.EntryRanges.{AreStatedRules};
-ghost use Rattle.scf_profile.specs.Loading.{IsText, Loads, Refuses, ParseRefuses, NamesLeastConflict};
-ghost use Rattle.scf_profile.specs.ShortArrays.{HasShortArrays};
-ghost use Rattle.scf_profile.specs.Stated.{loaded_of, IsLoaded};
+ghost use Rattle.scf_profile.specs.internal.EntryRanges.{AreStatedRules};
+ghost use Rattle.scf_profile.specs.Loading.{IsText, Loads, Refuses};
+ghost use Rattle.scf_profile.specs.internal.Refusals.{NamesLeastConflict, ParseRefuses};
+ghost use Rattle.scf_profile.specs.internal.ShortArrays.{HasShortArrays};
+ghost use Rattle.scf_profile.specs.internal.Stated.{loaded_of, IsLoaded};
 ghost use Rattle.scf_profile.specs.StatedProfile.{object_states};
-ghost use Rattle.scf_profile.specs.Steps.{Gives, result_map};
+ghost use Rattle.scf_profile.specs.Steps.{Gives};
+ghost use Rattle.scf_profile.specs.internal.Results.{result_map};
 
 use crate::action::{find_action, find_answer};
 use crate::conflict::least_conflict;
 use crate::expand::{other_architectures, rules_of, skipped_of};
 use crate::forms::check_no_engine_form;
+use crate::limits::MAX_TEXT_LEN;
 use crate::load_fault::LoadFault;
 use crate::loaded::Loaded;
 use crate::object::{find_architectures, find_entries, find_seccomp};
@@ -25,15 +28,12 @@ use scf_insn::Answer;
 use serde_json::Value;
 use std::alloc::Global;
 
-/// How many bytes the text of a profile has at most.
-const TEXT_LIMIT: usize = 4_194_304;
-
 /// The JSON value of a text.
 fn parse(alloc: Global, text: &[u8]) -> Result<Value, LoadFault>
     ensures ok { IfOk result (λ v. IsText text.now (view v)) }
     ensures err { IfErr result (λ e. ParseRefuses text.now e) }
 {
-    if text.len() > TEXT_LIMIT {
+    if text.len() > MAX_TEXT_LEN {
         return Err(LoadFault::TooMany);
     }
     match Value::from_slice(alloc, text) {
@@ -100,7 +100,7 @@ fn without_conflict(stated: Stated) -> Result<Loaded, LoadFault>
 }
 
 /// The profile that a text states, whose names get their numbers from a call table. The first test that fails is
-/// answered.
+/// answered; that no two rules conflict is the last. `Memory` comes where a growth was refused.
 pub fn load(alloc: Global, text: &[u8], table: &CallTable) -> Result<Loaded, LoadFault>
     ensures ok { IfOk result (λ loaded. Loads text.now table.now loaded) }
     ensures err { IfErr result (λ fault. Refuses text.now table.now fault) }

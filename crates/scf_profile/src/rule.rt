@@ -2,9 +2,10 @@
 
 ghost use Rattle.std.specs.Prelude.{◌≡◌, ◌<◌, ◌↔◌, IsTrue, All};
 ghost use Rattle.scf_profile.specs.PlainProfile.{IsPlainRule};
-ghost use Rattle.scf_profile.specs.Rule.{all_hold as all_conditions_hold, meets};
+ghost use Rattle.scf_profile.specs.Rule.{Conflicts, IsRule, all_hold as all_conditions_hold, meets};
 
 use crate::condition::{Condition, Conditions};
+use crate::overlap::conditions_overlap;
 use scf_insn::{Answer, CallRecord};
 
 /// A rule gives its answer to the calls of its number of which all its conditions hold.
@@ -24,6 +25,25 @@ impl Rule {
     {
         self.conditions.are_plain()
     }
+
+    /// Whether a call meets it.
+    pub(crate) fn is_met(&self, call: &CallRecord) -> bool
+        requires { All (λ c. c.index < 6) self.now.conditions }
+        ensures { result ≡ meets self.now call.now }
+    {
+        call.nr == self.number && all_hold(self.conditions.as_slice(), call)
+    }
+
+    /// Whether some call meets both rules, and they answer it differently.
+    pub(crate) fn conflicts_with(&self, other: &Rule) -> bool
+        requires own { IsRule self.now }
+        requires other { IsRule other.now }
+        ensures { IsTrue result ↔ Conflicts self.now other.now }
+    {
+        self.number == other.number
+            && self.answer != other.answer
+            && conditions_overlap(self.conditions.as_slice(), other.conditions.as_slice())
+    }
 }
 
 /// Whether each condition holds of the argument at its index.
@@ -37,12 +57,4 @@ fn all_hold(conditions: &[Condition], call: &CallRecord) -> bool
         }
     }
     true
-}
-
-/// Whether a call meets a rule.
-pub(crate) fn is_met(rule: &Rule, call: &CallRecord) -> bool
-    requires { All (λ c. c.index < 6) rule.now.conditions }
-    ensures { result ≡ meets rule.now call.now }
-{
-    call.nr == rule.number && all_hold(rule.conditions.as_slice(), call)
 }

@@ -1,18 +1,22 @@
 //! The call table: numbers of calls by name, read from a text.
 
-ghost use Rattle.std.specs.Prelude.{◌≡◌, ◌≢◌, ◌<◌, ◌^◌, IfSome, OnOk, IfErr, OnErr, Ok, Err};
+ghost use Rattle.std.specs.Prelude.{◌≡◌, ◌≢◌, ◌<◌, IfSome, IfOk, OnOk, IfErr, OnErr, Ok, Err};
 ghost use Rattle.std.specs.FinMap.{get};
-ghost use Rattle.scf_profile.specs.declared.table_fault.TableFault.TheVariants.{Memory};
+ghost use Rattle.scf_insn.specs.Kernel.{x32_syscall_bit};
+ghost use Rattle.scf_profile.specs.declared.table_fault.TableFault.TheVariants as faults;
+ghost use Rattle.scf_profile.specs.NamedCalls.{AreCallsOf};
 ghost use Rattle.scf_profile.specs.Steps.{Gives};
 ghost use Rattle.scf_profile.specs.Table.{AreCallNumbers, table_of, with_line};
 
+use crate::named_call::{NamedCall, named_calls};
 use crate::table_fault::TableFault;
 use crate::table_line::{entry_on, first_line};
+use scf_insn::Memory;
 use std::alloc::Global;
 use std::collections::BTreeMap;
 use std::marker::Model;
 
-/// Numbers of calls by name. Each is below 0x40000000.
+/// Numbers of calls by name. Each is the number of an x86-64 call, below those of x32 calls.
 #[derive(Drop)]
 pub struct CallTable {
     numbers: BTreeMap<String, u32>,
@@ -36,9 +40,10 @@ impl Model for CallTable {
 
 impl CallTable {
     /// The table that a text states: on each line a name and a decimal number, divided by blanks; blank lines and those
-    /// that begin with `#` aside. The first fault of the first faulty line is answered.
+    /// that begin with `#` aside. The first fault of the first faulty line is answered, and `Memory` where a growth was
+    /// refused.
     pub fn read(alloc: Global, text: &[u8]) -> Result<CallTable, TableFault>
-        ensures { Gives Memory result (table_of text.now) }
+        ensures { Gives faults.Memory result (table_of text.now) }
     {
         let mut table = CallTable {
             numbers: BTreeMap::new(alloc),
@@ -57,9 +62,16 @@ impl CallTable {
     /// The number of a call, where the table has its name.
     pub fn number_of(&self, name: &str) -> Option<u32>
         ensures value { result ≡ get self.now name.now }
-        ensures range { IfSome result (λ n. n < 2 ^ 30) }
+        ensures range { IfSome result (λ n. n < x32_syscall_bit) }
     {
         self.numbers.get(name).copied()
+    }
+
+    /// The calls of the table, by number: each number that it has, with its names. `Err`: a growth was refused.
+    pub fn calls(&self, alloc: Global) -> Result<Vec<NamedCall<'_>>, Memory>
+        ensures { IfOk result (λ calls. AreCallsOf self.now calls.items) }
+    {
+        Ok(named_calls(alloc, &self.numbers)?)
     }
 
     /// Its numbers are call numbers: a law for proofs, which does nothing.
@@ -73,7 +85,7 @@ impl CallTable {
     #[tactic(auto, unfolding(crate::specs::Table::with_line))]
     fn add_line(&mut self, alloc: Global, line: usize, text: &[u8]) -> Result<(), TableFault>
         ensures ok { OnOk result (with_line line self.old text.now ≡ Ok self.new) }
-        ensures err { IfErr result (λ e. e ≢ Memory → with_line line self.old text.now ≡ Err e) }
+        ensures err { IfErr result (λ e. e ≢ faults.Memory → with_line line self.old text.now ≡ Err e) }
         ensures kept { OnErr result (self.new ≡ self.old) }
     {
         let Some((name, number)) = entry_on(line, text)? else {

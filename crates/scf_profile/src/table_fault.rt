@@ -15,7 +15,7 @@ pub enum TableFault {
     /// The first field isn't a letter or `_` followed by letters, digits and `_`.
     #[error("line {line}: no name of a call")]
     Name { line: usize },
-    /// The second field isn't a decimal number below 0x40000000.
+    /// The second field isn't a decimal number below `X32_SYSCALL_BIT`.
     #[error("line {line}: no number of a call")]
     Number { line: usize },
     #[error("line {line}: the name stands on an earlier line")]

@@ -1,16 +1,17 @@
 //! The lines of a call table, and the name and the number on one.
 
-ghost use Rattle.std.specs.Prelude.{◌≡◌, ◌<◌, ◌≤◌, ◌^◌, [], ◌∷◌, length, nat_lt, if◌then◌else◌, slice_index, false, option_map, IfOk, IfSome};
+ghost use Rattle.std.specs.Prelude.{◌≡◌, ◌<◌, ◌≤◌, [], ◌∷◌, length, nat_lt, if◌then◌else◌, slice_index, false};
+ghost use Rattle.std.specs.Prelude.{option_map, IfOk, IfSome};
 ghost use Rattle.std.specs.List.{list_all};
 ghost use Rattle.std.specs.Str.Lines.{lines, strip_carriage_return as without_carriage_return};
-ghost use Rattle.scf_profile.specs.Steps.{result_map};
-ghost use Rattle.scf_profile.specs.Table.{is_blank as blank, fields, begins_name as name_begins, is_in_name as in_name, is_name as name_is, call_number as number_stated, entry_in};
+ghost use Rattle.scf_insn.specs.Kernel.{x32_syscall_bit};
+ghost use Rattle.scf_profile.specs.internal.Results.{result_map};
+ghost use Rattle.scf_profile.specs.Table.{is_blank as blank, fields, begins_name as name_begins, is_in_name as in_name};
+ghost use Rattle.scf_profile.specs.Table.{is_name as name_is, call_number as number_stated, entry_in};
 
 use crate::table_fault::TableFault;
+use scf_insn::kernel::X32_SYSCALL_BIT;
 use scf_insn::parse_numeral;
-
-/// The first number that no call of x86-64 has.
-const FOREIGN_NUMBERS: u64 = 0x4000_0000;
 
 fn strip_carriage_return(line: &[u8]) -> &[u8]
     ensures { result.now ≡ without_carriage_return line.now }
@@ -99,10 +100,10 @@ fn is_name(text: &[u8]) -> bool
 /// The value of decimal digits, where it is a call number.
 fn call_number(digits: &[u8]) -> Option<u32>
     ensures value { result ≡ number_stated digits.now }
-    ensures range { IfSome result (λ n. n < 2 ^ 30) }
+    ensures range { IfSome result (λ n. n < x32_syscall_bit) }
 {
     match parse_numeral(digits, 10) {
-        Ok(number) if number < FOREIGN_NUMBERS => Some(number as u32),
+        Ok(number) if number < u64::from(X32_SYSCALL_BIT) => Some(number as u32),
         _ => None,
     }
 }
@@ -112,7 +113,7 @@ fn call_number(digits: &[u8]) -> Option<u32>
 pub(crate) fn entry_on(line: usize, text: &[u8]) -> Result<Option<(&str, u32)>, TableFault>
     ensures value { result_map (option_map (λ e. (e.0.now, e.1))) result
         ≡ entry_in line (fields text.now) }
-    ensures range { IfOk result (λ found. IfSome found (λ e. e.1 < 2 ^ 30)) }
+    ensures range { IfOk result (λ found. IfSome found (λ e. e.1 < x32_syscall_bit)) }
 {
     let (name, rest) = first_field(text);
     if name.is_empty() || name[0] == b'#' {

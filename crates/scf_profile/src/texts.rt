@@ -1,6 +1,7 @@
 //! Lists of texts.
 
 ghost use Rattle.std.specs.Prelude.{◌≡◌, ◌++◌, ◌∷◌, [], map, string_bytes, OnOk, if◌then◌else◌};
+ghost use Rattle.scf_profile.specs.References.{texts_at};
 
 use std::alloc::{AllocError, Global};
 use std::marker::Model;
@@ -52,13 +53,6 @@ impl Texts {
     }
 
     /// The texts in their order.
-    pub fn into_vec(self) -> Vec<String>
-        ensures { map string_bytes result.items ≡ self }
-    {
-        self.list
-    }
-
-    /// The texts in their order.
     pub fn as_slice(&self) -> &[String]
         ensures { map string_bytes result.now ≡ self.now }
     {
@@ -73,11 +67,12 @@ pub(crate) struct BorrowedTexts<'v> {
 }
 
 impl<'v> Model for BorrowedTexts<'v> {
-    ghost use Rattle.std.specs.Prelude.{List, ℕ, map};
+    ghost use Rattle.std.specs.Prelude.{List, ℕ};
+    ghost use Rattle.scf_profile.specs.References.{texts_at};
 
     ghost Value = { List (List ℕ) };
 
-    ghost view = { λ t. map (λ s. s.now) t.texts.items };
+    ghost view = { λ t. texts_at t.texts.items };
 }
 
 impl<'v> BorrowedTexts<'v> {
@@ -100,7 +95,7 @@ impl<'v> BorrowedTexts<'v> {
 
     /// The texts in their order.
     pub(crate) fn as_slice(&self) -> &[&'v str]
-        ensures { map (λ s. s.now) result.now ≡ self.now }
+        ensures { texts_at result.now ≡ self.now }
     {
         &self.texts
     }

@@ -8,6 +8,7 @@ use Rattle.scf_profile.proofs.args.conditions_of.Given as goal
 -- the conditions so far and the members that are left give what all members give
 abbrev pub invariant-loop-member : goal.invariant-loop-member
 invariant-loop-member l = record {
-  so_far : each (condition_stated l.entry) l.conditions.items (items_view (drop l.member-index l.members)) ≡ each (condition_stated l.entry) [] (items_view l.members);
+  so_far : each (condition_stated l.entry) l.conditions.items (items_view (drop l.member-index l.members))
+      ≡ each (condition_stated l.entry) [] (items_view l.members);
   range : AreConditions l.conditions.items;
 }

@@ -1,7 +1,7 @@
 use Rattle.std.proofs.Common.{◌≡◌, take, Some, All, ◌⊎◌}
 use Rattle.std.specs.Prelude.{IfSome}
 use Rattle.scf_profile.specs.declared.conflict.Clash.{Clash}
-use Rattle.scf_profile.specs.Clashes.{IsBoundedBy, IsClash, IsClashAmong}
+use Rattle.scf_profile.specs.internal.Clashes.{IsBoundedBy, IsClash, IsClashAmong}
 use Rattle.scf_profile.proofs.conflict.least_with.Given as goal
 
 -- the least so far of the one that was known and the clashes of the rules so far

@@ -4,5 +4,7 @@ use Rattle.scf_profile.specs.StatedProfile.{x86_64}
 use Rattle.scf_profile.proofs.Loops.{any_at}
 use Rattle.scf_profile.proofs.object.has_x86_64.Goals as goal
 
-pub returns-then-eq : goal.returns-then-eq
-returns-then-eq c = any_at (bytes_eq x86_64) c.args.names.now c.loop-name.name-index _ c.loop-name-test.true (sym c.eq.ensures ∙ c.if-eq.true)
+pub returns-then-is_x86_64 : goal.returns-then-is_x86_64
+returns-then-is_x86_64 c =
+    any_at (bytes_eq x86_64) c.args.names.now c.loop-name.name-index _ c.loop-name-test.true
+    (sym c.is_x86_64.ensures ∙ c.if-is_x86_64.true)

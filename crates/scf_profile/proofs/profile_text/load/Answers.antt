@@ -3,8 +3,8 @@ use Rattle.std.proofs.lemmas.Result.{err_from_is_err_and, IfOk-weaker, MatchResu
 use Rattle.serde_json.specs.View.{view}
 use Rattle.scf_profile.specs.declared.loaded.Loaded.{Loaded}
 use Rattle.scf_profile.specs.Loading.{Loads}
-use Rattle.scf_profile.specs.Policy.{HaveNoConflict}
-use Rattle.scf_profile.specs.Stated.{loaded_of, IsLoaded}
+use Rattle.scf_profile.specs.Profile.{HaveNoConflict}
+use Rattle.scf_profile.specs.internal.Stated.{loaded_of, IsLoaded}
 use Rattle.scf_profile.specs.StatedProfile.{profile_of}
 use Rattle.scf_profile.proofs.ArrayLengths.{object_short}
 use Rattle.scf_profile.proofs.TestFaults.{refuses_of_fault, refuses_of_conflict}
@@ -15,17 +15,22 @@ unfolding profile_of
 returns-in_err-object-clause-err c =
     let p = err_from_is_err_and c.from_residual-in_err-object.result c.from_residual-in_err-object.ensures.1 in
     let e = c.in_err-object.ensures in
-    rw (p.1, p.2) (refuses_of_fault c.args.text.now c.args.table.now (view c.in_ok-value.value) c.in_err-object.field-0.0 c.in_ok-value.ensures.ok (λ _. rw (← e) refl))
+    rw (p.1, p.2) (refuses_of_fault c.args.text.now c.args.table.now (view c.in_ok-value.value)
+    c.in_err-object.field-0.0 c.in_ok-value.ensures.ok (λ _. rw (← e) refl))
 
 pub read_object-requires : goal.read_object-requires
-read_object-requires c = object_short c.args.text.now (view c.in_ok-value.value) (view c.in_ok-object.object.now) c.in_ok-value.ensures.ok c.in_ok-object.ensures
+read_object-requires c =
+    object_short c.args.text.now (view c.in_ok-value.value) (view c.in_ok-object.object.now) c.in_ok-value.ensures.ok
+    c.in_ok-object.ensures
 
 pub returns-in_err-read_object-clause-err : goal.returns-in_err-read_object-clause-err
 unfolding profile_of
 returns-in_err-read_object-clause-err c =
-    let p = err_from_is_err_and c.from_residual-in_err-read_object.result c.from_residual-in_err-read_object.ensures.1 in
+    let p =
+    err_from_is_err_and c.from_residual-in_err-read_object.result c.from_residual-in_err-read_object.ensures.1 in
     let s = c.in_ok-object.ensures in
-    rw (p.1, p.2) (refuses_of_fault c.args.text.now c.args.table.now (view c.in_ok-value.value) c.in_err-read_object.field-0.0 c.in_ok-value.ensures.ok
+    rw (p.1, p.2) (refuses_of_fault c.args.text.now c.args.table.now (view c.in_ok-value.value)
+    c.in_err-read_object.field-0.0 c.in_ok-value.ensures.ok
     (λ not_memory. let h = c.in_err-read_object.ensures.value not_memory in rw (← s, h) refl))
 
 pub returns-clause-ok : goal.returns-clause-ok
@@ -33,8 +38,10 @@ unfolding profile_of
 returns-clause-ok c =
     let s = c.in_ok-object.ensures in
     let h = c.in_ok-read_object.ensures.value in
-    let stated : profile_of c.args.table.now (view c.in_ok-value.value) ≡ Ok (loaded_of c.in_ok-read_object.field-0) = rw (← s, h) refl in
-    IfOk-weaker c.without_conflict.result (IsLoaded c.in_ok-read_object.field-0) (λ loaded. Loads c.args.text.now c.args.table.now loaded)
+    let stated : profile_of c.args.table.now (view c.in_ok-value.value) ≡ Ok (loaded_of c.in_ok-read_object.field-0) =
+    rw (← s, h) refl in
+    IfOk-weaker c.without_conflict.result (IsLoaded c.in_ok-read_object.field-0)
+    (λ loaded. Loads c.args.text.now c.args.table.now loaded)
     (λ loaded k. record {
       value = view c.in_ok-value.value;
       is_text = c.in_ok-value.ensures.ok;
@@ -47,6 +54,8 @@ unfolding profile_of
 returns-clause-err c =
     let s = c.in_ok-object.ensures in
     let h = c.in_ok-read_object.ensures.value in
-    let stated : profile_of c.args.table.now (view c.in_ok-value.value) ≡ Ok (loaded_of c.in_ok-read_object.field-0) = rw (← s, h) refl in
+    let stated : profile_of c.args.table.now (view c.in_ok-value.value) ≡ Ok (loaded_of c.in_ok-read_object.field-0) =
+    rw (← s, h) refl in
     MatchResult-weaker c.without_conflict.result c.without_conflict.ensures.err (λ loaded k. k)
-    (λ e k. refuses_of_conflict c.args.text.now c.args.table.now (view c.in_ok-value.value) (loaded_of c.in_ok-read_object.field-0) c.in_ok-value.ensures.ok stated e k)
+    (λ e k. refuses_of_conflict c.args.text.now c.args.table.now (view c.in_ok-value.value)
+    (loaded_of c.in_ok-read_object.field-0) c.in_ok-value.ensures.ok stated e k)

@@ -8,7 +8,9 @@ use Rattle.scf_profile.proofs.profile_text.read_object.Goals as goal
 pub returns-in_err-default_answer-clause-value : goal.returns-in_err-default_answer-clause-value
 unfolding object_states
 returns-in_err-default_answer-clause-value c =
-    let p = err_from_is_err_and c.from_residual-in_err-default_answer.result c.from_residual-in_err-default_answer.ensures.1 in
+    let p =
+    err_from_is_err_and c.from_residual-in_err-default_answer.result
+    c.from_residual-in_err-default_answer.ensures.1 in
     let a = c.in_ok-action.ensures in
     let e = c.in_err-default_answer.ensures.value in
     rw (p.1, p.2) (λ _. rw (← a, ← e) refl)
@@ -16,7 +18,9 @@ returns-in_err-default_answer-clause-value c =
 pub returns-in_err-architectures-clause-value : goal.returns-in_err-architectures-clause-value
 unfolding object_states
 returns-in_err-architectures-clause-value c =
-    let p = err_from_is_err_and c.from_residual-in_err-architectures.result c.from_residual-in_err-architectures.ensures.1 in
+    let p =
+    err_from_is_err_and c.from_residual-in_err-architectures.result
+    c.from_residual-in_err-architectures.ensures.1 in
     let a = c.in_ok-action.ensures in
     let b = c.in_ok-default_answer.ensures.value in
     rw (p.1, p.2) (λ not_memory. let e = c.in_err-architectures.ensures not_memory in rw (← a, ← b, e) refl)
@@ -24,7 +28,9 @@ returns-in_err-architectures-clause-value c =
 pub returns-in_err-check_no_engine_form-clause-value : goal.returns-in_err-check_no_engine_form-clause-value
 unfolding object_states
 returns-in_err-check_no_engine_form-clause-value c =
-    let p = err_from_is_err_and c.from_residual-in_err-check_no_engine_form.result c.from_residual-in_err-check_no_engine_form.ensures.1 in
+    let p =
+    err_from_is_err_and c.from_residual-in_err-check_no_engine_form.result
+    c.from_residual-in_err-check_no_engine_form.ensures.1 in
     let a = c.in_ok-action.ensures in
     let b = c.in_ok-default_answer.ensures.value in
     let d = c.in_ok-architectures.ensures in
@@ -50,7 +56,8 @@ returns-in_err-rules-clause-value c =
     let d = c.in_ok-architectures.ensures in
     let e = c.in_ok-check_no_engine_form.ensures in
     let f = c.in_ok-entries.ensures.value in
-    rw (p.1, p.2) (λ not_memory. let g = ap (rules_in c.args.table.now) (sym c.deref.ensures.value) ∙ c.in_err-rules.ensures not_memory in rw (← a, ← b, d, ← e, f, g) refl)
+    rw (p.1, p.2) (λ not_memory. let g = ap (rules_in c.args.table.now) (sym c.deref.ensures.value)
+    ∙ c.in_err-rules.ensures not_memory in rw (← a, ← b, d, ← e, f, g) refl)
 
 pub returns-clause-value : goal.returns-clause-value
 unfolding object_states
@@ -61,11 +68,15 @@ returns-clause-value c =
     let e = c.in_ok-check_no_engine_form.ensures in
     let f = c.in_ok-entries.ensures.value in
     let g = ap (rules_in c.args.table.now) (sym c.deref.ensures.value) ∙ c.in_ok-rules.ensures in
-    let s : skipped_names c.args.table.now c.in_ok-entries.entries.items ≡ c.in_ok-skipped.skipped = ap (skipped_names c.args.table.now) (sym c.deref-2.ensures.value) ∙ sym c.in_ok-skipped.ensures in
-    let o : filter is_other_architecture c.in_ok-architectures.architectures ≡ c.in_ok-other_architectures.other_architectures = ap (filter is_other_architecture) (sym c.as_slice.ensures) ∙ sym c.in_ok-other_architectures.ensures in
+    let s : skipped_names c.args.table.now c.in_ok-entries.entries.items ≡ c.in_ok-skipped.skipped =
+    ap (skipped_names c.args.table.now) (sym c.deref-2.ensures.value) ∙ sym c.in_ok-skipped.ensures in
+    let o : filter is_other_architecture c.in_ok-architectures.architectures
+    ≡ c.in_ok-other_architectures.other_architectures =
+    ap (filter is_other_architecture) (sym c.as_slice.ensures) ∙ sym c.in_ok-other_architectures.ensures in
     rw (← a, ← b, d, ← e, f, g, s, o) refl
 
 pub returns-clause-range : goal.returns-clause-range
 returns-clause-range c =
-    stated_rules c.args.table.now c.in_ok-entries.entries.items c.in_ok-rules.rules.items c.within_range.ensures c.in_ok-entries.ensures.range
+    stated_rules c.args.table.now c.in_ok-entries.entries.items c.in_ok-rules.rules.items c.within_range.ensures
+    c.in_ok-entries.ensures.range
     (ap (rules_in c.args.table.now) (sym c.deref.ensures.value) ∙ c.in_ok-rules.ensures)

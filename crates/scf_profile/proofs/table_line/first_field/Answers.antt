@@ -10,12 +10,20 @@ returns-then-is_blank c =
     let xs = c.trimmed-rest.result.now in
     let here : blank (get_or xs c.loop-i.i 0) ≡ true = sym c.is_blank.ensures ∙ c.if-is_blank.true in
     let pos : 0 < c.loop-i.i = first_passes xs c.loop-i.i (c.trimmed-rest.ensures.begins (omega arith)) here in
-    rw (c.split_at.ensures.front, c.split_at.ensures.back) (sym c.trimmed-rest.ensures.fields ∙ first_or_none _ (take c.loop-i.i xs) (drop c.loop-i.i xs) (field_ends xs c.loop-i.i pos c.loop-i-test.true c.loop-i.invariant here) (omega (arith, length-take c.loop-i.i xs)))
+    rw (c.split_at.ensures.front, c.split_at.ensures.back)
+    (sym c.trimmed-rest.ensures.fields
+    ∙ first_or_none _ (take c.loop-i.i xs) (drop c.loop-i.i xs)
+    (field_ends xs c.loop-i.i pos c.loop-i-test.true c.loop-i.invariant here)
+    (omega (arith, length-take c.loop-i.i xs)))
 
 pub loop-i-preserved : goal.loop-i-preserved
-loop-i-preserved c = All-more (λ b. blank b ≡ false) _ c.loop-i.i 0 c.loop-i-test.true c.loop-i.invariant (sym c.is_blank.ensures ∙ c.if-is_blank.false)
+loop-i-preserved c =
+    All-more (λ b. blank b ≡ false) _ c.loop-i.i 0 c.loop-i-test.true c.loop-i.invariant
+    (sym c.is_blank.ensures ∙ c.if-is_blank.false)
 
 pub returns : goal.returns
 returns c =
     let xs = c.trimmed-rest.result.now in
-    sym c.trimmed-rest.ensures.fields ∙ all_or_none xs (All-same (λ b. blank b ≡ false) xs _ (sym (take_all _ _ c.loop-i-test.false)) c.loop-i.invariant)
+    sym c.trimmed-rest.ensures.fields
+    ∙ all_or_none xs (All-same (λ b. blank b ≡ false) xs _ (sym (take_all _ _ c.loop-i-test.false))
+    c.loop-i.invariant)

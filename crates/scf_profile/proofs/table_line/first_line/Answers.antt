@@ -8,13 +8,18 @@ use Rattle.scf_profile.proofs.table_line.first_line.Goals as goal
 pub returns-then-byte-eq10-clause-lines : goal.returns-then-byte-eq10-clause-lines
 returns-then-byte-eq10-clause-lines c =
     let xs = c.args.text.now in
-    let whole : take (length xs - (c.loop-i.i + 1)) (drop (c.loop-i.i + 1) xs) ≡ drop (c.loop-i.i + 1) xs = take_all _ _ (omega (arith, length-drop (c.loop-i.i + 1) xs)) in
-    rw (c.strip_carriage_return.ensures, whole) (line_ends xs c.loop-i.i c.loop-i-test.true c.loop-i.invariant (eq-eqb _ 10 c.if-byte-eq10.true))
+    let whole : take (length xs - (c.loop-i.i + 1)) (drop (c.loop-i.i + 1) xs) ≡ drop (c.loop-i.i + 1) xs =
+    take_all _ _ (omega (arith, length-drop (c.loop-i.i + 1) xs)) in
+    rw (c.strip_carriage_return.ensures, whole)
+    (line_ends xs c.loop-i.i c.loop-i-test.true c.loop-i.invariant (eq-eqb _ 10 c.if-byte-eq10.true))
 
 pub loop-i-preserved : goal.loop-i-preserved
-loop-i-preserved c = All-more (λ b. eqb b 10 ≡ false) _ c.loop-i.i 0 c.loop-i-test.true c.loop-i.invariant (ne_eqb _ 10 c.if-byte-eq10.false)
+loop-i-preserved c =
+    All-more (λ b. eqb b 10 ≡ false) _ c.loop-i.i 0 c.loop-i-test.true c.loop-i.invariant
+    (ne_eqb _ 10 c.if-byte-eq10.false)
 
 pub returns-clause-lines : goal.returns-clause-lines
 returns-clause-lines c =
     let xs = c.args.text.now in
-    last_line xs c.requires (All-same (λ b. eqb b 10 ≡ false) xs _ (sym (take_all _ _ c.loop-i-test.false)) c.loop-i.invariant)
+    last_line xs c.requires
+    (All-same (λ b. eqb b 10 ≡ false) xs _ (sym (take_all _ _ c.loop-i-test.false)) c.loop-i.invariant)

@@ -9,7 +9,8 @@ use Rattle.scf_profile.proofs.TableLines.{line_fails, line_read, no_lines}
 use Rattle.scf_profile.proofs.table.CallTable.read.Goals as goal
 
 pub invariant_of-table : goal.invariant_of-table
-invariant_of-table c = subst (λ (es : List (String Global × ℕ)). AreCallNumbers (names_of es)) (sym c.new.ensures.empty) call_numbers_empty
+invariant_of-table c =
+    subst (λ (es : List (String Global × ℕ)). AreCallNumbers (names_of es)) (sym c.new.ensures.empty) call_numbers_empty
 
 pub returns-in_err-add_line : goal.returns-in_err-add_line
 returns-in_err-add_line c =
@@ -27,5 +28,6 @@ loop-rest-preserved c =
 
 pub returns : goal.returns
 returns c =
-    let nil : c.loop-rest.rest.now ≡ [] = nil_from_length _ (eqb-true _ 0 (sym c.is_empty.ensures ∙ c.loop-rest-test.false)) in
+    let nil : c.loop-rest.rest.now ≡ [] =
+    nil_from_length _ (eqb-true _ 0 (sym c.is_empty.ensures ∙ c.loop-rest-test.false)) in
     no_lines _ _ _ (rw nil at c.loop-rest.invariant.so_far)

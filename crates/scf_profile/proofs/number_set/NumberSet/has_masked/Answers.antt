@@ -1,0 +1,18 @@
+use Rattle.std.proofs.Common.{sym, subst, arith}
+use Rattle.std.proofs.lemmas.Bool.{eq-eqb, eqb-true}
+use Rattle.scf_profile.specs.declared.number_set.NumberSet.{NumberSet}
+use Rattle.scf_profile.specs.declared.number_set.NumberSet.TheVariants.{Masked}
+use Rattle.scf_profile.specs.internal.NumberSets.{HaveCommonNumber, IsNumberSet}
+use Rattle.scf_profile.proofs.Masks.{two_masks, two_masks_agree}
+use Rattle.scf_profile.proofs.number_set.NumberSet.has_masked.Goals as goal
+
+pub returns-in-Masked : goal.returns-in-Masked
+returns-in-Masked c =
+    let m = c.in-Masked.own_mask in
+    let v = c.in-Masked.own_value in
+    let set = subst IsNumberSet c.in-Masked.is c.requires.own in (
+      λ h. subst (λ (s : NumberSet). HaveCommonNumber s (Masked c.args.mask c.args.value)) (sym c.in-Masked.is)
+          (two_masks m v c.args.mask c.args.value (omega arith) (omega arith) set c.requires.masked (eqb-true _ _ h)),
+      λ s. eq-eqb _ _ (two_masks_agree m v c.args.mask c.args.value
+          (subst (λ (t : NumberSet). HaveCommonNumber t (Masked c.args.mask c.args.value)) c.in-Masked.is s)),
+    )

@@ -1,0 +1,7 @@
+use Rattle.std.proofs.Common.{ℕ, ◌<◌}
+use Rattle.scf_profile.specs.internal.Overlaps.{OverlapAt}
+use Rattle.scf_profile.proofs.overlap.conditions_overlap.Given as goal
+
+-- the conditions overlap on each argument so far
+abbrev pub invariant-loop-index : goal.invariant-loop-index
+invariant-loop-index l = (i : ℕ) → i < l.index → OverlapAt l.first l.second i

@@ -1,0 +1,19 @@
+-- Conditions of two rules that hold together.
+use Rattle.std.specs.Prelude.{◌≡◌, ℕ, ◌<◌, ◌^◌, true, List, All}
+use Rattle.scf_profile.specs.declared.condition.Condition.{Condition}
+use Rattle.scf_profile.specs.Condition.{holds}
+
+-- the conditions on an argument hold of a number
+abbrev pub HoldAt : List Condition → ℕ → ℕ → Type 0
+HoldAt conditions index number = All (λ c. c.index ≡ index → holds c number ≡ true) conditions
+
+-- the conditions of both lists on an argument hold of some 64-bit number
+pub record OverlapAt (cs ds : List Condition) (index : ℕ) : Type 0 where
+  pub number : ℕ
+  pub fits : number < 2 ^ 64
+  pub first : HoldAt cs index number
+  pub second : HoldAt ds index number
+
+-- they do on each of the six arguments
+abbrev pub Overlap : List Condition → List Condition → Type 0
+Overlap cs ds = (index : ℕ) → index < 6 → OverlapAt cs ds index

@@ -1,0 +1,72 @@
+//! The calls of a table by number, each with its names.
+
+ghost use Rattle.std.specs.Prelude.{◌≡◌, ℕ, ◌||◌, ◌==◌, ◌++◌, ◌∷◌, [], if◌then◌else◌, is_some, map, IfOk, OnOk};
+ghost use Rattle.std.specs.BTreeMap.{get, IsOrdered};
+ghost use Rattle.std.specs.Ordering.{nat_cmp};
+ghost use Rattle.scf_profile.specs.NamedCalls.{AreCallsOf};
+ghost use Rattle.scf_profile.specs.Names.{names_of};
+ghost use Rattle.scf_profile.specs.internal.NamesByNumber.{AreByNumber, call_of, names_under};
+
+use std::alloc::{AllocError, Global};
+use std::collections::BTreeMap;
+
+/// A call number of a table, and the names that it has, in the order of their bytes.
+#[derive(Debug, Drop)]
+pub struct NamedCall<'a> {
+    pub number: u32,
+    pub names: Vec<&'a str>,
+}
+
+/// Adds a name to those of its number.
+fn add_name<'a>(
+    named: &mut BTreeMap<u32, Vec<&'a str>>,
+    number: u32,
+    name: &'a str,
+) -> Result<(), AllocError>
+    ensures names { OnOk result ((n : ℕ) → names_under named.new n
+        ≡ names_under named.old n ++ (if n == number then name.now ∷ [] else [])) }
+    ensures numbers { OnOk result ((n : ℕ) → is_some (get nat_cmp named.new n)
+        ≡ (is_some (get nat_cmp named.old n) || n == number)) }
+{
+    named.entry(number)?.or_default().push(name)?;
+    Ok(())
+}
+
+/// The names of each number.
+fn names_by_number(
+    alloc: Global,
+    numbers: &BTreeMap<String, u32>,
+) -> Result<BTreeMap<u32, Vec<&str>>, AllocError>
+    ensures { IfOk result (AreByNumber numbers.now) }
+{
+    let mut named = BTreeMap::new(alloc);
+    for (name, number) in numbers {
+        add_name(&mut named, *number, name)?;
+    }
+    Ok(named)
+}
+
+/// The calls of a tree from numbers to names.
+fn calls_of(
+    alloc: Global,
+    named: BTreeMap<u32, Vec<&str>>,
+) -> Result<Vec<NamedCall<'_>>, AllocError>
+    ensures calls { IfOk result (λ calls. calls.items ≡ map call_of named.entry.entries) }
+    ensures ordered { IsOrdered nat_cmp named.entry }
+{
+    named
+        .into_iter()
+        .map(|(number, names)| NamedCall { number, names })
+        .collect(alloc)
+}
+
+/// The calls of a tree from names to numbers.
+pub(crate) fn named_calls(
+    alloc: Global,
+    numbers: &BTreeMap<String, u32>,
+) -> Result<Vec<NamedCall<'_>>, AllocError>
+    ensures { IfOk result (λ calls. AreCallsOf (names_of numbers.now.entries) calls.items) }
+{
+    let named = names_by_number(alloc, numbers)?;
+    calls_of(alloc, named)
+}

@@ -1,0 +1,56 @@
+//! Whether a call can meet the conditions of two rules.
+
+ghost use Rattle.std.specs.Prelude.{◌≡◌, ◌<◌, ◌^◌, ◌↔◌, ℕ, IfSome, IsTrue, true};
+ghost use Rattle.scf_profile.specs.Rule.{HaveDistinctIndices};
+ghost use Rattle.scf_profile.specs.internal.NumberSets.{IsNumberSet, is_in_some};
+ghost use Rattle.scf_profile.specs.internal.Overlaps.{HoldAt, Overlap, OverlapAt};
+
+use crate::condition::Condition;
+use crate::number_set::NumberSet;
+
+/// How many arguments a call has.
+const ARGUMENTS: u8 = 6;
+
+/// The numbers of which the conditions on an argument hold, where there are any.
+fn numbers_at(conditions: &[Condition], index: u8) -> Option<NumberSet>
+    requires { HaveDistinctIndices conditions.now }
+    ensures same { (n : ℕ) → n < 2 ^ 64
+        → (is_in_some result n ≡ true) ↔ HoldAt conditions.now index n }
+    ensures set { IfSome result IsNumberSet }
+{
+    for condition in conditions {
+        if condition.index == index {
+            return condition.numbers();
+        }
+    }
+    Some(NumberSet::AtLeast(0))
+}
+
+/// Whether the conditions of both lists on an argument hold of some number.
+fn overlap_at(first: &[Condition], second: &[Condition], index: u8) -> bool
+    requires first { HaveDistinctIndices first.now }
+    requires second { HaveDistinctIndices second.now }
+    ensures { IsTrue result ↔ OverlapAt first.now second.now index }
+{
+    let Some(numbers) = numbers_at(first, index) else {
+        return false;
+    };
+    let Some(others) = numbers_at(second, index) else {
+        return false;
+    };
+    numbers.has_common_with(others)
+}
+
+/// Whether the conditions of both lists hold of some six arguments.
+pub(crate) fn conditions_overlap(first: &[Condition], second: &[Condition]) -> bool
+    requires first { HaveDistinctIndices first.now }
+    requires second { HaveDistinctIndices second.now }
+    ensures { IsTrue result ↔ Overlap first.now second.now }
+{
+    for index in 0..ARGUMENTS {
+        if !overlap_at(first, second, index) {
+            return false;
+        }
+    }
+    true
+}
