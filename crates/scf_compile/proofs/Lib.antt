@@ -1,9 +1,14 @@
+pub mod Lists
 pub mod Leads
 pub mod Masks
 pub mod Conditions
 pub mod Plans
 pub mod Same
 pub mod Valid
-pub mod Chains
+pub mod Counts
+pub mod Cutting
+pub mod OwnRules
+pub mod Laying
+pub mod Searches
 pub mod Sizes
 pub mod Plain

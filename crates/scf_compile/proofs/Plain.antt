@@ -1,29 +1,35 @@
 -- The filter of a plain profile is a plain program.
-use Rattle.std.proofs.Common.{ℕ, ◌+◌, Bool, true, false, cond, leb, All, List, [], ◌∷◌, ◌++◌, length, refl, bit_and}
+use Rattle.std.proofs.Common.{ℕ, ◌+◌, Bool, true, false, cond, leb, List, [], ◌∷◌, ◌++◌, length, refl, bit_and}
 use Rattle.std.specs.List.{AllByRecursion}
 use Rattle.std.proofs.lemmas.List.Elements.{All-from_recursion, recursion_from_All}
 use Rattle.scf_insn.specs.declared.insn.Insn.{Insn}
 use Rattle.scf_insn.specs.declared.answer.Answer.{Answer}
 use Rattle.scf_insn.specs.declared.operation.Operand.TheVariants.{Constant}
 use Rattle.scf_insn.specs.declared.operation.Test.{Test}
-use Rattle.scf_insn.specs.declared.operation.Test.TheVariants.{Equal as SameWord, Greater as Above, GreaterOrEqual as AtLeast, CommonBit}
+use Rattle.scf_insn.specs.declared.operation.Test.TheVariants.{Equal as SameWord, Greater as Above}
+use Rattle.scf_insn.specs.declared.operation.Test.TheVariants.{GreaterOrEqual as AtLeast, CommonBit}
 use Rattle.scf_insn.specs.declared.operation.Operation.TheVariants.{LoadWord, Jump, JumpIf, ReturnConstant}
 use Rattle.scf_insn.specs.Codes.{operation_of, code_table}
+use Rattle.scf_insn.specs.Kernel.{audit_arch_x86_64, x32_syscall_bit, seccomp_ret_kill_process}
 use Rattle.scf_insn.specs.SimpleMask.{IsSimpleMask}
+use Rattle.scf_insn.specs.Masks.{mask_kind}
 use Rattle.scf_insn.specs.Words.{low, high}
 use Rattle.scf_machine.specs.Plain.{IsPlainInsn, IsPlainProgram}
-use Rattle.scf_profile.specs.declared.condition.Comparison.{Comparison}
-use Rattle.scf_profile.specs.declared.condition.Comparison.TheVariants.{NotEqual, Less, LessOrEqual, Equal, GreaterOrEqual, Greater, MaskedEqual}
+use Rattle.scf_profile.specs.declared.condition.Operator.{Operator}
+use Rattle.scf_profile.specs.declared.condition.Operator.TheVariants.{NotEqual, Less, LessOrEqual, Equal}
+use Rattle.scf_profile.specs.declared.condition.Operator.TheVariants.{GreaterOrEqual, Greater, MaskedEqual}
 use Rattle.scf_profile.specs.declared.condition.Condition.{Condition}
 use Rattle.scf_profile.specs.declared.rule.Rule.{Rule}
 use Rattle.scf_profile.specs.PlainProfile.{IsPlainCondition, IsPlainRule}
-use Rattle.scf_compile.specs.declared.mask.MaskKind.{MaskKind}
-use Rattle.scf_compile.specs.declared.mask.MaskKind.TheVariants.{Empty, OneBit, Full, Mixed}
-use Rattle.scf_compile.specs.Insns.{load_word, jump_if, jump_over, return_with}
-use Rattle.scf_compile.specs.Blocks.{word_code, equal_code, order_code, kind_of, half_code_of, half_code, masked_code, comparison_code, condition_code, argument_word}
-use Rattle.scf_compile.specs.Plans.{conditions_code, rule_code, rules_code, Plan, Apply, Branch, chain, branch_code, plan_code, arch_code, range_code, filter_code}
-use Rattle.scf_compile.proofs.Masks.{IsOfKind, is_of_kind}
-use Rattle.scf_compile.proofs.Same.{all_of_number}
+use Rattle.scf_insn.specs.declared.mask.MaskKind.{MaskKind}
+use Rattle.scf_insn.specs.declared.mask.MaskKind.TheVariants.{Empty, OneBit, Full, Mixed}
+use Rattle.scf_compile.specs.internal.Insns.{load_word, jump_if, jump_over, return_with}
+use Rattle.scf_compile.specs.internal.Blocks.{word_code, equal_code, order_code, half_code_of, half_code}
+use Rattle.scf_compile.specs.internal.Blocks.{masked_code, operator_code, condition_code, argument_word}
+use Rattle.scf_compile.specs.internal.Plans.{conditions_code, rule_code, behind_rule, rules_code, Plan, Apply, Branch}
+use Rattle.scf_compile.specs.internal.Plans.{branch_code, plan_code, arch_code, range_code, filter_code}
+use Rattle.scf_insn.proofs.Masks.{IsOfKind, is_of_kind}
+use Rattle.scf_compile.proofs.Plans.{Applies}
 
 abbrev ArePlain : List Insn → Type 0
 ArePlain insns = AllByRecursion IsPlainInsn insns
@@ -39,11 +45,12 @@ unfolding operation_of code_table
 load_is_plain word = record { operation = LoadWord; known = refl; plain = tt }
 
 -- the tests that a plain program makes
-abbrev pub IsPlainTest : Test → ℕ → Type 0
+abbrev IsPlainTest : Test → ℕ → Type 0
 IsPlainTest CommonBit constant = IsSimpleMask constant
 IsPlainTest _ constant = Unit {0}
 
-jump_is_plain : (test : Test) (constant hit miss : ℕ) → IsPlainTest test constant → IsPlainInsn (jump_if test constant hit miss)
+jump_is_plain : (test : Test) (constant hit miss : ℕ) → IsPlainTest test constant
+    → IsPlainInsn (jump_if test constant hit miss)
 unfolding operation_of code_table
 jump_is_plain SameWord constant hit miss h = record { operation = JumpIf SameWord Constant; known = refl; plain = tt }
 jump_is_plain Above constant hit miss h = record { operation = JumpIf Above Constant; known = refl; plain = tt }
@@ -60,26 +67,33 @@ return_is_plain answer = record { operation = ReturnConstant; known = refl; plai
 
 -- ---- the code of a condition
 
-word_plain : (test : Test) (word constant hit miss : ℕ) → IsPlainTest test constant → ArePlain (word_code test word constant hit miss)
+word_plain : (test : Test) (word constant hit miss : ℕ) → IsPlainTest test constant
+    → ArePlain (word_code test word constant hit miss)
 word_plain test word constant hit miss h = (load_is_plain word, (jump_is_plain test constant hit miss h, tt))
 
 equal_plain : (word value hit miss : ℕ) → ArePlain (equal_code word value hit miss)
 unfolding equal_code
 equal_plain word value hit miss =
-    plain-append (word_code SameWord (word + 1) (high value) 0 (2 + miss)) (word_code SameWord word (low value) hit miss)
+    plain-append (word_code SameWord (word + 1) (high value) 0 (2 + miss))
+    (word_code SameWord word (low value) hit miss)
     (word_plain SameWord (word + 1) (high value) 0 (2 + miss) tt) (word_plain SameWord word (low value) hit miss tt)
 
-order_plain : (test : Test) (word value hit miss : ℕ) → IsPlainTest test (low value) → ArePlain (order_code test word value hit miss)
+order_plain : (test : Test) (word value hit miss : ℕ) → IsPlainTest test (low value)
+    → ArePlain (order_code test word value hit miss)
 unfolding order_code
 order_plain test word value hit miss h =
-    plain-append (word_code Above (word + 1) (high value) (3 + hit) 0) (jump_if SameWord (high value) 0 (2 + miss) ∷ word_code test word (low value) hit miss)
-    (word_plain Above (word + 1) (high value) (3 + hit) 0 tt) (jump_is_plain SameWord (high value) 0 (2 + miss) tt, word_plain test word (low value) hit miss h)
+    plain-append (word_code Above (word + 1) (high value) (3 + hit) 0)
+    (jump_if SameWord (high value) 0 (2 + miss) ∷ word_code test word (low value) hit miss)
+    (word_plain Above (word + 1) (high value) (3 + hit) 0 tt)
+    (jump_is_plain SameWord (high value) 0 (2 + miss) tt, word_plain test word (low value) hit miss h)
 
-bit_plain : (none : Bool) (word mask out : ℕ) → IsSimpleMask mask → ArePlain (cond none (word_code CommonBit word mask out 0) (word_code CommonBit word mask 0 out))
+bit_plain : (none : Bool) (word mask out : ℕ) → IsSimpleMask mask
+    → ArePlain (cond none (word_code CommonBit word mask out 0) (word_code CommonBit word mask 0 out))
 bit_plain true word mask out simple = word_plain CommonBit word mask out 0 simple
 bit_plain false word mask out simple = word_plain CommonBit word mask 0 out simple
 
-half_plain_of : (kind : MaskKind) (word mask wanted out : ℕ) → IsOfKind kind mask → IsSimpleMask mask → ArePlain (half_code_of kind word mask wanted out)
+half_plain_of : (kind : MaskKind) (word mask wanted out : ℕ) → IsOfKind kind mask → IsSimpleMask mask
+    → ArePlain (half_code_of kind word mask wanted out)
 half_plain_of Empty word mask wanted out is simple = tt
 half_plain_of OneBit word mask wanted out is simple = bit_plain _ word mask out simple
 half_plain_of Full word mask wanted out is simple = word_plain SameWord word wanted 0 out tt
@@ -87,24 +101,29 @@ half_plain_of Mixed word mask wanted out is simple = absurd (is simple)
 
 half_plain : (word mask wanted out : ℕ) → IsSimpleMask mask → ArePlain (half_code word mask wanted out)
 unfolding half_code
-half_plain word mask wanted out simple = half_plain_of (kind_of mask) word mask wanted out (is_of_kind mask) simple
+half_plain word mask wanted out simple = half_plain_of (mask_kind mask) word mask wanted out (is_of_kind mask) simple
 
-masked_plain : (word mask wanted out : ℕ) → IsSimpleMask (low mask) → IsSimpleMask (high mask) → ArePlain (masked_code word mask wanted out)
+masked_plain : (word mask wanted out : ℕ) → IsSimpleMask (low mask) → IsSimpleMask (high mask)
+    → ArePlain (masked_code word mask wanted out)
 unfolding masked_code
 masked_plain word mask wanted out simple_low simple_high =
     let low_code = half_code word (low mask) (low wanted) out in
     plain-append (half_code (word + 1) (high mask) (high wanted) (length low_code + out)) low_code
-    (half_plain (word + 1) (high mask) (high wanted) (length low_code + out) simple_high) (half_plain word (low mask) (low wanted) out simple_low)
+    (half_plain (word + 1) (high mask) (high wanted) (length low_code + out) simple_high)
+    (half_plain word (low mask) (low wanted) out simple_low)
 
-condition_plain : (op : Comparison) (index value value_two out : ℕ) → IsPlainCondition (record { index = index; op = op; value = value; value_two = value_two })
-    → ArePlain (comparison_code op (argument_word index) value value_two out)
+condition_plain : (op : Operator) (index value value_two out : ℕ)
+    → IsPlainCondition (record { index = index; op = op; value = value; value_two = value_two })
+    → ArePlain (operator_code op (argument_word index) value value_two out)
 condition_plain NotEqual index value value_two out plain = equal_plain (argument_word index) value out 0
 condition_plain Less index value value_two out plain = order_plain AtLeast (argument_word index) value out 0 tt
 condition_plain LessOrEqual index value value_two out plain = order_plain Above (argument_word index) value out 0 tt
 condition_plain Equal index value value_two out plain = equal_plain (argument_word index) value 0 out
-condition_plain GreaterOrEqual index value value_two out plain = order_plain AtLeast (argument_word index) value 0 out tt
+condition_plain GreaterOrEqual index value value_two out plain =
+    order_plain AtLeast (argument_word index) value 0 out tt
 condition_plain Greater index value value_two out plain = order_plain Above (argument_word index) value 0 out tt
-condition_plain MaskedEqual index value value_two out plain = masked_plain (argument_word index) value (bit_and value_two value) out (plain refl).low_half (plain refl).high_half
+condition_plain MaskedEqual index value value_two out plain =
+    masked_plain (argument_word index) value (bit_and value_two value) out (plain refl).low_half (plain refl).high_half
 
 -- ---- the code of rules and plans
 
@@ -112,40 +131,44 @@ conditions_plain : (cs : List Condition) → AllByRecursion IsPlainCondition cs 
 conditions_plain [] plain = tt
 conditions_plain (c ∷ cs) plain =
     let out = length (conditions_code cs) + 1 in
-    plain-append (condition_code c out) (conditions_code cs) (condition_plain c.op c.index c.value c.value_two out plain.0) (conditions_plain cs plain.1)
+    plain-append (condition_code c out) (conditions_code cs)
+    (condition_plain c.op c.index c.value c.value_two out plain.0) (conditions_plain cs plain.1)
 
 rules_plain : (default : Answer) (rs : List Rule) → AllByRecursion IsPlainRule rs → ArePlain (rules_code default rs)
 rules_plain default [] plain = (return_is_plain default.0, tt)
 rules_plain default (r ∷ rs) plain =
-    plain-append (rule_code r) (rules_code default rs)
-    (plain-append (conditions_code r.conditions) (return_with r.answer.0 ∷ []) (conditions_plain r.conditions (recursion_from_All IsPlainCondition r.conditions plain.0.conditions)) (return_is_plain r.answer.0, tt))
-    (rules_plain default rs plain.1)
+    plain-append (rule_code r) (behind_rule r.conditions (rules_code default rs))
+    (plain-append (conditions_code r.conditions) (return_with r.answer.0 ∷ [])
+    (conditions_plain r.conditions (recursion_from_All IsPlainCondition r.conditions plain.0.conditions))
+    (return_is_plain r.answer.0, tt))
+    (behind r.conditions (rules_code default rs) (rules_plain default rs plain.1))
+  where
+    behind : (cs : List Condition) (others : List Insn) → ArePlain others → ArePlain (behind_rule cs others)
+    behind [] others plain_others = tt
+    behind (c ∷ cs) others plain_others = plain_others
 
--- plans of plain tests and plain rules
-abbrev pub IsPlainPlan : Plan → Type 0
-IsPlainPlan (Apply rules) = AllByRecursion IsPlainRule rules
-IsPlainPlan (Branch test number hit miss) = IsPlainTest test number × IsPlainPlan hit × IsPlainPlan miss
+branch_plain : (near : Bool) (number count : ℕ)
+    → ArePlain (cond near (jump_if AtLeast number 0 count ∷ []) (jump_if AtLeast number 1 0 ∷ jump_over count ∷ []))
+branch_plain true number count = (jump_is_plain AtLeast number 0 count tt, tt)
+branch_plain false number count = (jump_is_plain AtLeast number 1 0 tt, (pass_is_plain count, tt))
 
-branch_plain : (near : Bool) (test : Test) (number count : ℕ) → IsPlainTest test number → ArePlain (cond near (jump_if test number 0 count ∷ []) (jump_if test number 1 0 ∷ jump_over count ∷ []))
-branch_plain true test number count h = (jump_is_plain test number 0 count h, tt)
-branch_plain false test number count h = (jump_is_plain test number 1 0 h, (pass_is_plain count, tt))
-
-plan_plain : (default : Answer) (plan : Plan) → IsPlainPlan plan → ArePlain (plan_code default plan)
+plan_plain : (default : Answer) (plan : Plan) → Applies IsPlainRule plan → ArePlain (plan_code default plan)
 plan_plain default (Apply rules) plain = rules_plain default rules plain
-plan_plain default (Branch test number hit miss) plain =
+plan_plain default (Branch number hit miss) plain =
     let h = plan_code default hit in
     let m = plan_code default miss in
-    plain-append (branch_code test number (length h)) (h ++ m) (branch_plain (leb (length h) 255) test number (length h) plain.0) (plain-append h m (plan_plain default hit plain.1) (plan_plain default miss plain.2))
+    plain-append (branch_code number (length h)) (h ++ m) (branch_plain (leb (length h) 255) number (length h))
+    (plain-append h m (plan_plain default hit plain.0) (plan_plain default miss plain.1))
 
-pub filter_is_plain : (default : Answer) (plan : Plan) → IsPlainPlan plan → IsPlainProgram (filter_code default plan)
+pub filter_is_plain : (default : Answer) (plan : Plan) → Applies IsPlainRule plan
+    → IsPlainProgram (filter_code (plan_code default plan))
 filter_is_plain default plan plain =
-    All-from_recursion IsPlainInsn (filter_code default plan)
-    (plain-append arch_code (range_code ++ plan_code default plan) (plain-append (word_code SameWord 1 0xc000003e 1 0) (return_with 0x80000000 ∷ []) (word_plain SameWord 1 0xc000003e 1 0 tt) (return_is_plain 0x80000000, tt))
-    (plain-append range_code (plan_code default plan) (plain-append (word_code AtLeast 0 0x40000000 0 1) (return_with 0x80000000 ∷ []) (word_plain AtLeast 0 0x40000000 0 1 tt) (return_is_plain 0x80000000, tt)) (plan_plain default plan plain)))
-
-chain_plain : (ns : List ℕ) (rules : List Rule) → AllByRecursion IsPlainRule rules → IsPlainPlan (chain ns rules)
-chain_plain [] rules plain = tt
-chain_plain (n ∷ ns) rules plain = (tt, all_of_number IsPlainRule n rules plain, chain_plain ns rules plain)
-
-pub chain_is_plain : (ns : List ℕ) (rules : List Rule) → All IsPlainRule rules → IsPlainPlan (chain ns rules)
-chain_is_plain ns rules plain = chain_plain ns rules (recursion_from_All IsPlainRule rules plain)
+    let code = plan_code default plan in
+    All-from_recursion IsPlainInsn (filter_code code)
+    (plain-append arch_code (range_code ++ code)
+    (plain-append (word_code SameWord 1 audit_arch_x86_64 1 0) (return_with seccomp_ret_kill_process ∷ [])
+    (word_plain SameWord 1 audit_arch_x86_64 1 0 tt) (return_is_plain seccomp_ret_kill_process, tt))
+    (plain-append range_code code
+    (plain-append (word_code AtLeast 0 x32_syscall_bit 0 1) (return_with seccomp_ret_kill_process ∷ [])
+    (word_plain AtLeast 0 x32_syscall_bit 0 1 tt) (return_is_plain seccomp_ret_kill_process, tt))
+    (plan_plain default plan plain)))

@@ -1,5 +1,6 @@
 -- The code of a filter keeps the rules of the checker.
-use Rattle.std.proofs.Common.{◌≡◌, ℕ, zero, suc, ◌+◌, ◌-◌, ◌%◌, ◌<◌, ◌≤◌, Bool, true, false, cond, leb, List, [], ◌∷◌, ◌++◌, length, Some, refl, sym, ap, ◌∙◌, subst, arith, length-append, append_assoc}
+use Rattle.std.proofs.Common.{◌≡◌, ℕ, zero, suc, ◌+◌, ◌-◌, ◌%◌, ◌<◌, ◌≤◌, Bool, true, false, cond, leb, List, [], ◌∷◌}
+use Rattle.std.proofs.Common.{◌++◌, length, Some, refl, sym, ap, ◌∙◌, subst, arith, length-append, append-nil}
 use Rattle.std.specs.Prelude.{slice_get}
 use Rattle.std.specs.List.{AllByRecursion}
 use Rattle.std.proofs.lemmas.Option.{same_Some}
@@ -8,22 +9,30 @@ use Rattle.scf_insn.specs.declared.answer.Answer.{Answer}
 use Rattle.scf_insn.specs.declared.operation.Operand.TheVariants.{Constant}
 use Rattle.scf_insn.specs.declared.operation.Arithmetic.TheVariants.{And}
 use Rattle.scf_insn.specs.declared.operation.Test.{Test}
-use Rattle.scf_insn.specs.declared.operation.Test.TheVariants.{Equal as SameWord, Greater as Above, GreaterOrEqual as AtLeast, CommonBit}
+use Rattle.scf_insn.specs.declared.operation.Test.TheVariants.{Equal as SameWord, Greater as Above}
+use Rattle.scf_insn.specs.declared.operation.Test.TheVariants.{GreaterOrEqual as AtLeast, CommonBit}
 use Rattle.scf_insn.specs.declared.operation.Operation.{Operation}
-use Rattle.scf_insn.specs.declared.operation.Operation.TheVariants.{LoadWord, LoadScratch, Compute, Jump, JumpIf, ReturnConstant}
+use Rattle.scf_insn.specs.declared.operation.Operation.TheVariants.{LoadWord, LoadScratch, Compute, Jump, JumpIf}
+use Rattle.scf_insn.specs.declared.operation.Operation.TheVariants.{ReturnConstant}
 use Rattle.scf_insn.specs.Codes.{operation_of, code_table}
+use Rattle.scf_insn.specs.Kernel.{bpf_maxinsns, audit_arch_x86_64, x32_syscall_bit, seccomp_ret_kill_process}
+use Rattle.scf_insn.specs.Masks.{mask_kind}
 use Rattle.scf_insn.specs.Words.{low, high}
 use Rattle.scf_machine.specs.Rules.{Stands, IsFine, IsFineAt, IsReturn, IsValidList, KeepsScratchRule}
-use Rattle.scf_profile.specs.declared.condition.Comparison.{Comparison}
-use Rattle.scf_profile.specs.declared.condition.Comparison.TheVariants.{NotEqual, Less, LessOrEqual, Equal, GreaterOrEqual, Greater, MaskedEqual}
+use Rattle.scf_profile.specs.declared.condition.Operator.{Operator}
+use Rattle.scf_profile.specs.declared.condition.Operator.TheVariants.{NotEqual, Less, LessOrEqual, Equal}
+use Rattle.scf_profile.specs.declared.condition.Operator.TheVariants.{GreaterOrEqual, Greater, MaskedEqual}
 use Rattle.scf_profile.specs.declared.condition.Condition.{Condition}
 use Rattle.scf_profile.specs.declared.rule.Rule.{Rule}
 use Rattle.scf_profile.specs.Rule.{IsCondition, IsRule}
-use Rattle.scf_compile.specs.declared.mask.MaskKind.{MaskKind}
-use Rattle.scf_compile.specs.declared.mask.MaskKind.TheVariants.{Empty, OneBit, Full, Mixed}
-use Rattle.scf_compile.specs.Insns.{load_word, and_with, jump_if, jump_over, return_with}
-use Rattle.scf_compile.specs.Blocks.{word_code, equal_code, order_code, kind_of, half_code_of, half_code, masked_code, comparison_code, condition_code, argument_word}
-use Rattle.scf_compile.specs.Plans.{conditions_code, rule_code, rules_code, Plan, Apply, Branch, branch_code, plan_code, arch_code, range_code, filter_code}
+use Rattle.scf_insn.specs.declared.mask.MaskKind.{MaskKind}
+use Rattle.scf_insn.specs.declared.mask.MaskKind.TheVariants.{Empty, OneBit, Full, Mixed}
+use Rattle.scf_compile.specs.internal.Insns.{load_word, and_with, jump_if, jump_over, return_with}
+use Rattle.scf_compile.specs.internal.Blocks.{word_code, equal_code, order_code, half_code_of, half_code}
+use Rattle.scf_compile.specs.internal.Blocks.{masked_code, operator_code, condition_code, argument_word}
+use Rattle.scf_compile.specs.internal.Plans.{conditions_code, rule_code, behind_rule, rules_code, Plan, Apply, Branch}
+use Rattle.scf_compile.specs.internal.Plans.{branch_code, plan_code, arch_code, range_code, filter_code}
+use Rattle.scf_compile.proofs.Plans.{Applies, EndsInAnswer, ends_behind, rules_end_in_answer, plan_ends_in_answer}
 
 -- What an instruction of a filter is, where this many instructions stand behind it: its jumps go to one of them.
 abbrev Keeps : Operation → Insn → ℕ → Type 0
@@ -44,7 +53,8 @@ abbrev AreSound : List Insn → ℕ → Type 0
 AreSound [] room = Unit {0}
 AreSound (i ∷ is) room = IsSound i (length is + room) × AreSound is room
 
-sound-append : (xs ys : List Insn) (room : ℕ) → AreSound xs (length ys + room) → AreSound ys room → AreSound (xs ++ ys) room
+sound-append : (xs ys : List Insn) (room : ℕ) → AreSound xs (length ys + room) → AreSound ys room
+    → AreSound (xs ++ ys) room
 sound-append [] ys room h k = k
 sound-append (x ∷ xs) ys room h k =
     let e : length xs + (length ys + room) ≡ length (xs ++ ys) + room = omega (arith, length-append xs ys) in
@@ -60,12 +70,17 @@ mask_is_sound : (mask behind : ℕ) → IsSound (and_with mask) behind
 unfolding operation_of code_table
 mask_is_sound mask behind = record { operation = Compute And Constant; known = refl; keeps = tt }
 
-jump_is_sound : (test : Test) (constant hit miss behind : ℕ) → hit < behind → miss < behind → IsSound (jump_if test constant hit miss) behind
+jump_is_sound : (test : Test) (constant hit miss behind : ℕ) → hit < behind → miss < behind
+    → IsSound (jump_if test constant hit miss) behind
 unfolding operation_of code_table
-jump_is_sound SameWord constant hit miss behind h m = record { operation = JumpIf SameWord Constant; known = refl; keeps = (h, m) }
-jump_is_sound Above constant hit miss behind h m = record { operation = JumpIf Above Constant; known = refl; keeps = (h, m) }
-jump_is_sound AtLeast constant hit miss behind h m = record { operation = JumpIf AtLeast Constant; known = refl; keeps = (h, m) }
-jump_is_sound CommonBit constant hit miss behind h m = record { operation = JumpIf CommonBit Constant; known = refl; keeps = (h, m) }
+jump_is_sound SameWord constant hit miss behind h m =
+    record { operation = JumpIf SameWord Constant; known = refl; keeps = (h, m) }
+jump_is_sound Above constant hit miss behind h m =
+    record { operation = JumpIf Above Constant; known = refl; keeps = (h, m) }
+jump_is_sound AtLeast constant hit miss behind h m =
+    record { operation = JumpIf AtLeast Constant; known = refl; keeps = (h, m) }
+jump_is_sound CommonBit constant hit miss behind h m =
+    record { operation = JumpIf CommonBit Constant; known = refl; keeps = (h, m) }
 
 pass_is_sound : (count behind : ℕ) → count < behind → IsSound (jump_over count) behind
 unfolding operation_of code_table
@@ -77,112 +92,161 @@ return_is_sound answer behind = record { operation = ReturnConstant; known = ref
 
 -- ---- the code of a condition
 
-word_sound : (test : Test) (word constant hit miss room : ℕ) → word < 16 → hit < room → miss < room → AreSound (word_code test word constant hit miss) room
-word_sound test word constant hit miss room lt h m = (load_is_sound word (1 + room) lt, (jump_is_sound test constant hit miss (0 + room) (omega arith) (omega arith), tt))
+word_sound : (test : Test) (word constant hit miss room : ℕ) → word < 16 → hit < room → miss < room
+    → AreSound (word_code test word constant hit miss) room
+word_sound test word constant hit miss room lt h m = (
+  load_is_sound word (1 + room) lt,
+  (jump_is_sound test constant hit miss (0 + room) (omega arith) (omega arith), tt),
+)
 
-equal_sound : (word value hit miss room : ℕ) → word + 1 < 16 → hit < room → miss < room → AreSound (equal_code word value hit miss) room
+equal_sound : (word value hit miss room : ℕ) → word + 1 < 16 → hit < room → miss < room
+    → AreSound (equal_code word value hit miss) room
 unfolding equal_code
 equal_sound word value hit miss room lt h m =
-    sound-append (word_code SameWord (word + 1) (high value) 0 (2 + miss)) (word_code SameWord word (low value) hit miss) room
-    (word_sound SameWord (word + 1) (high value) 0 (2 + miss) (2 + room) lt (omega arith) (omega arith)) (word_sound SameWord word (low value) hit miss room (omega arith) h m)
+    sound-append (word_code SameWord (word + 1) (high value) 0 (2 + miss))
+    (word_code SameWord word (low value) hit miss) room
+    (word_sound SameWord (word + 1) (high value) 0 (2 + miss) (2 + room) lt (omega arith) (omega arith))
+    (word_sound SameWord word (low value) hit miss room (omega arith) h m)
 
-order_sound : (test : Test) (word value hit miss room : ℕ) → word + 1 < 16 → hit < room → miss < room → AreSound (order_code test word value hit miss) room
+order_sound : (test : Test) (word value hit miss room : ℕ) → word + 1 < 16 → hit < room → miss < room
+    → AreSound (order_code test word value hit miss) room
 unfolding order_code
 order_sound test word value hit miss room lt h m =
-    sound-append (word_code Above (word + 1) (high value) (3 + hit) 0) (jump_if SameWord (high value) 0 (2 + miss) ∷ word_code test word (low value) hit miss) room
-    (word_sound Above (word + 1) (high value) (3 + hit) 0 (3 + room) lt (omega arith) (omega arith))
-    (jump_is_sound SameWord (high value) 0 (2 + miss) (2 + room) (omega arith) (omega arith), word_sound test word (low value) hit miss room (omega arith) h m)
+    sound-append (word_code Above (word + 1) (high value) (3 + hit) 0)
+    (jump_if SameWord (high value) 0 (2 + miss) ∷ word_code test word (low value) hit miss) room
+    (word_sound Above (word + 1) (high value) (3 + hit) 0 (3 + room) lt (omega arith) (omega arith)) (
+      jump_is_sound SameWord (high value) 0 (2 + miss) (2 + room) (omega arith) (omega arith),
+      word_sound test word (low value) hit miss room (omega arith) h m,
+    )
 
-bit_sound : (none : Bool) (word mask out room : ℕ) → word < 16 → out < room → AreSound (cond none (word_code CommonBit word mask out 0) (word_code CommonBit word mask 0 out)) room
+bit_sound : (none : Bool) (word mask out room : ℕ) → word < 16 → out < room
+    → AreSound (cond none (word_code CommonBit word mask out 0) (word_code CommonBit word mask 0 out)) room
 bit_sound true word mask out room lt h = word_sound CommonBit word mask out 0 room lt h (omega arith)
 bit_sound false word mask out room lt h = word_sound CommonBit word mask 0 out room lt (omega arith) h
 
-half_sound_of : (kind : MaskKind) (word mask wanted out room : ℕ) → word < 16 → out < room → AreSound (half_code_of kind word mask wanted out) room
+half_sound_of : (kind : MaskKind) (word mask wanted out room : ℕ) → word < 16 → out < room
+    → AreSound (half_code_of kind word mask wanted out) room
 half_sound_of Empty word mask wanted out room lt h = tt
 half_sound_of OneBit word mask wanted out room lt h = bit_sound _ word mask out room lt h
 half_sound_of Full word mask wanted out room lt h = word_sound SameWord word wanted 0 out room lt (omega arith) h
-half_sound_of Mixed word mask wanted out room lt h = (load_is_sound word (2 + room) lt, (mask_is_sound mask (1 + room), (jump_is_sound SameWord wanted 0 out (0 + room) (omega arith) (omega arith), tt)))
+half_sound_of Mixed word mask wanted out room lt h = (
+  load_is_sound word (2 + room) lt,
+  (mask_is_sound mask (1 + room), (jump_is_sound SameWord wanted 0 out (0 + room) (omega arith) (omega arith), tt)),
+)
 
 half_sound : (word mask wanted out room : ℕ) → word < 16 → out < room → AreSound (half_code word mask wanted out) room
 unfolding half_code
-half_sound word mask wanted out room lt h = half_sound_of (kind_of mask) word mask wanted out room lt h
+half_sound word mask wanted out room lt h = half_sound_of (mask_kind mask) word mask wanted out room lt h
 
-masked_sound : (word mask wanted out room : ℕ) → word + 1 < 16 → out < room → AreSound (masked_code word mask wanted out) room
+masked_sound : (word mask wanted out room : ℕ) → word + 1 < 16 → out < room
+    → AreSound (masked_code word mask wanted out) room
 unfolding masked_code
 masked_sound word mask wanted out room lt h =
     let low_code = half_code word (low mask) (low wanted) out in
     sound-append (half_code (word + 1) (high mask) (high wanted) (length low_code + out)) low_code room
-    (half_sound (word + 1) (high mask) (high wanted) (length low_code + out) (length low_code + room) lt (omega arith)) (half_sound word (low mask) (low wanted) out room (omega arith) h)
+    (half_sound (word + 1) (high mask) (high wanted) (length low_code + out) (length low_code + room) lt (omega arith))
+    (half_sound word (low mask) (low wanted) out room (omega arith) h)
 
-comparison_sound : (op : Comparison) (word value value_two out room : ℕ) → word + 1 < 16 → out < room → AreSound (comparison_code op word value value_two out) room
-comparison_sound NotEqual word value value_two out room lt h = equal_sound word value out 0 room lt h (omega arith)
-comparison_sound Less word value value_two out room lt h = order_sound AtLeast word value out 0 room lt h (omega arith)
-comparison_sound LessOrEqual word value value_two out room lt h = order_sound Above word value out 0 room lt h (omega arith)
-comparison_sound Equal word value value_two out room lt h = equal_sound word value 0 out room lt (omega arith) h
-comparison_sound GreaterOrEqual word value value_two out room lt h = order_sound AtLeast word value 0 out room lt (omega arith) h
-comparison_sound Greater word value value_two out room lt h = order_sound Above word value 0 out room lt (omega arith) h
-comparison_sound MaskedEqual word value value_two out room lt h = masked_sound word value _ out room lt h
+operator_sound : (op : Operator) (word value value_two out room : ℕ) → word + 1 < 16 → out < room
+    → AreSound (operator_code op word value value_two out) room
+operator_sound NotEqual word value value_two out room lt h = equal_sound word value out 0 room lt h (omega arith)
+operator_sound Less word value value_two out room lt h = order_sound AtLeast word value out 0 room lt h (omega arith)
+operator_sound LessOrEqual word value value_two out room lt h =
+    order_sound Above word value out 0 room lt h (omega arith)
+operator_sound Equal word value value_two out room lt h = equal_sound word value 0 out room lt (omega arith) h
+operator_sound GreaterOrEqual word value value_two out room lt h =
+    order_sound AtLeast word value 0 out room lt (omega arith) h
+operator_sound Greater word value value_two out room lt h = order_sound Above word value 0 out room lt (omega arith) h
+operator_sound MaskedEqual word value value_two out room lt h = masked_sound word value _ out room lt h
 
 -- ---- the code of rules and plans
 
-conditions_sound : (cs : List Condition) (room : ℕ) → AllByRecursion IsCondition cs → 1 < room → AreSound (conditions_code cs) room
+conditions_sound : (cs : List Condition) (room : ℕ) → AllByRecursion IsCondition cs → 1 < room
+    → AreSound (conditions_code cs) room
 conditions_sound [] room fine h = tt
 conditions_sound (c ∷ cs) room fine h =
     let rest = conditions_code cs in
     let index = fine.0.index in
-    sound-append (condition_code c (length rest + 1)) rest room (comparison_sound c.op (argument_word c.index) c.value c.value_two (length rest + 1) (length rest + room) (omega arith) (omega arith)) (conditions_sound cs room fine.1 h)
+    sound-append (condition_code c (length rest + 1)) rest room
+    (operator_sound c.op (argument_word c.index) c.value c.value_two (length rest + 1) (length rest + room)
+    (omega arith) (omega arith)) (conditions_sound cs room fine.1 h)
 
 rule_sound : (r : Rule) (room : ℕ) → IsRule r → 0 < room → AreSound (rule_code r) room
 rule_sound r room fine h =
-    sound-append (conditions_code r.conditions) (return_with r.answer.0 ∷ []) room (conditions_sound r.conditions (1 + room) fine.conditions.each (omega arith)) (return_is_sound r.answer.0 (0 + room), tt)
+    sound-append (conditions_code r.conditions) (return_with r.answer.0 ∷ []) room
+    (conditions_sound r.conditions (1 + room) fine.conditions.each (omega arith))
+    (return_is_sound r.answer.0 (0 + room), tt)
 
-some_of_rules : (default : Answer) (rs : List Rule) → 0 < length (rules_code default rs)
-some_of_rules default [] = omega arith
-some_of_rules default (r ∷ rs) = omega (arith, length-append (rule_code r) (rules_code default rs), some_of_rules default rs)
+some_of_code : (code : List Insn) → EndsInAnswer code → 0 < length code
+some_of_code code e =
+    omega (arith, ap (λ (l : List Insn). length l) e.whole, length-append e.front (return_with e.answer ∷ []))
 
-rules_sound : (default : Answer) (rs : List Rule) (room : ℕ) → AllByRecursion IsRule rs → AreSound (rules_code default rs) room
+rules_sound : (default : Answer) (rs : List Rule) (room : ℕ) → AllByRecursion IsRule rs
+    → AreSound (rules_code default rs) room
 rules_sound default [] room fine = (return_is_sound default.0 (0 + room), tt)
-rules_sound default (r ∷ rs) room fine =
-    sound-append (rule_code r) (rules_code default rs) room (rule_sound r (length (rules_code default rs) + room) fine.0 (omega (arith, some_of_rules default rs))) (rules_sound default rs room fine.1)
+rules_sound default (r ∷ rs) room fine = behind r.conditions refl (rules_sound default rs room fine.1)
+  where
+    others : List Insn
+    others = rules_code default rs
 
-branch_sound : (near : Bool) (test : Test) (number count room : ℕ) → count < room → AreSound (cond near (jump_if test number 0 count ∷ []) (jump_if test number 1 0 ∷ jump_over count ∷ [])) room
-branch_sound true test number count room h = (jump_is_sound test number 0 count (0 + room) (omega arith) (omega arith), tt)
-branch_sound false test number count room h = (jump_is_sound test number 1 0 (1 + room) (omega arith) (omega arith), (pass_is_sound count (0 + room) (omega arith), tt))
+    behind : (cs : List Condition) → r.conditions ≡ cs → AreSound others room
+        → AreSound (rule_code r ++ behind_rule cs others) room
+    behind [] none sound =
+        let code : rule_code r ++ [] ≡ return_with r.answer.0 ∷ [] =
+        append-nil (rule_code r)
+        ∙ ap (λ (cs : List Condition). conditions_code cs ++ return_with r.answer.0 ∷ []) none in
+        subst (λ (l : List Insn). AreSound l room) (sym code) (return_is_sound r.answer.0 (0 + room), tt)
+    behind (c ∷ cs) some sound =
+        sound-append (rule_code r) others room
+        (rule_sound r (length others + room) fine.0
+        (omega (arith, some_of_code others (rules_end_in_answer default rs)))) sound
+
+branch_sound : (near : Bool) (number count room : ℕ) → count < room
+    → AreSound (cond near (jump_if AtLeast number 0 count ∷ []) (jump_if AtLeast number 1 0 ∷ jump_over count ∷ []))
+    room
+branch_sound true number count room h =
+    (jump_is_sound AtLeast number 0 count (0 + room) (omega arith) (omega arith), tt)
+branch_sound false number count room h = (
+  jump_is_sound AtLeast number 1 0 (1 + room) (omega arith) (omega arith),
+  (pass_is_sound count (0 + room) (omega arith), tt),
+)
 
 some_of_plan : (default : Answer) (plan : Plan) → 0 < length (plan_code default plan)
-some_of_plan default (Apply rules) = some_of_rules default rules
-some_of_plan default (Branch test number hit miss) =
-    let h = plan_code default hit in
-    let m = plan_code default miss in
-    omega (arith, length-append (branch_code test number (length h)) (h ++ m), length-append h m, some_of_plan default miss)
+some_of_plan default plan = some_of_code (plan_code default plan) (plan_ends_in_answer default plan)
 
--- the rules that a plan applies to some number or other
-abbrev pub AppliesRules : Plan → Type 0
-AppliesRules (Apply rules) = AllByRecursion IsRule rules
-AppliesRules (Branch test number hit miss) = AppliesRules hit × AppliesRules miss
-
-plan_sound : (default : Answer) (plan : Plan) (room : ℕ) → AppliesRules plan → AreSound (plan_code default plan) room
+plan_sound : (default : Answer) (plan : Plan) (room : ℕ) → Applies IsRule plan → AreSound (plan_code default plan) room
 plan_sound default (Apply rules) room fine = rules_sound default rules room fine
-plan_sound default (Branch test number hit miss) room fine =
+plan_sound default (Branch number hit miss) room fine =
     let h = plan_code default hit in
     let m = plan_code default miss in
-    sound-append (branch_code test number (length h)) (h ++ m) room
-    (branch_sound (leb (length h) 255) test number (length h) (length (h ++ m) + room) (omega (arith, length-append h m, some_of_plan default miss)))
+    sound-append (branch_code number (length h)) (h ++ m) room
+    (branch_sound (leb (length h) 255) number (length h) (length (h ++ m) + room)
+    (omega (arith, length-append h m, some_of_plan default miss)))
     (sound-append h m room (plan_sound default hit (length m + room) fine.0) (plan_sound default miss room fine.1))
 
-filter_sound : (default : Answer) (plan : Plan) → AppliesRules plan → AreSound (filter_code default plan) 0
+filter_sound : (default : Answer) (plan : Plan) → Applies IsRule plan
+    → AreSound (filter_code (plan_code default plan)) 0
 filter_sound default plan fine =
     let code = plan_code default plan in
     let rest = range_code ++ code in
     sound-append arch_code rest 0
-    (sound-append (word_code SameWord 1 0xc000003e 1 0) (return_with 0x80000000 ∷ []) (length rest + 0) (word_sound SameWord 1 0xc000003e 1 0 (1 + (length rest + 0)) (omega arith) (omega (arith, length-append range_code code)) (omega arith)) (return_is_sound 0x80000000 (0 + (length rest + 0)), tt))
+    (sound-append (word_code SameWord 1 audit_arch_x86_64 1 0) (return_with seccomp_ret_kill_process ∷ [])
+    (length rest + 0)
+    (word_sound SameWord 1 audit_arch_x86_64 1 0 (1 + (length rest + 0)) (omega arith)
+    (omega (arith, length-append range_code code)) (omega arith))
+    (return_is_sound seccomp_ret_kill_process (0 + (length rest + 0)), tt))
     (sound-append range_code code 0
-    (sound-append (word_code AtLeast 0 0x40000000 0 1) (return_with 0x80000000 ∷ []) (length code + 0) (word_sound AtLeast 0 0x40000000 0 1 (1 + (length code + 0)) (omega arith) (omega arith) (omega (arith, some_of_plan default plan))) (return_is_sound 0x80000000 (0 + (length code + 0)), tt))
+    (sound-append (word_code AtLeast 0 x32_syscall_bit 0 1) (return_with seccomp_ret_kill_process ∷ [])
+    (length code + 0)
+    (word_sound AtLeast 0 x32_syscall_bit 0 1 (1 + (length code + 0)) (omega arith) (omega arith)
+    (omega (arith, some_of_plan default plan)))
+    (return_is_sound seccomp_ret_kill_process (0 + (length code + 0)), tt))
     (plan_sound default plan 0 fine))
 
 -- ---- the rules of the checker
 
-fine_of : (operation : Operation) (i : Insn) (len place behind : ℕ) → place + 1 + behind ≡ len → Keeps operation i behind → IsFine len place i operation
+fine_of : (operation : Operation) (i : Insn) (len place behind : ℕ) → place + 1 + behind ≡ len
+    → Keeps operation i behind → IsFine len place i operation
 fine_of LoadWord i len place behind e h = h
 fine_of (Compute And Constant) i len place behind e h = tt
 fine_of Jump i len place behind e h = omega arith
@@ -195,10 +259,17 @@ record Found (is : List Insn) (room place : ℕ) (i : Insn) : Type 0 where
   count : place + 1 + behind ≡ length is + room
   sound : IsSound i behind
 
-sound_at : (is : List Insn) (room place : ℕ) (i : Insn) → AreSound is room → slice_get is place ≡ Some i → Found is room place i
+sound_at : (is : List Insn) (room place : ℕ) (i : Insn) → AreSound is room → slice_get is place ≡ Some i
+    → Found is room place i
 sound_at [] room place i h e = absurd (cc)
-sound_at (x ∷ xs) room zero i h e = record { behind = length xs + room; count = omega arith; sound = subst (λ (j : Insn). IsSound j (length xs + room)) (same_Some x i e) h.0 }
-sound_at (x ∷ xs) room (suc place) i h e = let f = sound_at xs room place i h.1 e in let count = f.count in record { behind = f.behind; count = omega arith; sound = f.sound }
+sound_at (x ∷ xs) room zero i h e =
+    record {
+      behind = length xs + room;
+      count = omega arith;
+      sound = subst (λ (j : Insn). IsSound j (length xs + room)) (same_Some x i e) h.0;
+    }
+sound_at (x ∷ xs) room (suc place) i h e = let f = sound_at xs room place i h.1 e in let count =
+    f.count in record { behind = f.behind; count = omega arith; sound = f.sound }
 
 insn_at : (is : List Insn) (place : ℕ) → place < length is → (i : Insn) × (slice_get is place ≡ Some i)
 insn_at [] place lt = absurd (omega arith)
@@ -221,52 +292,46 @@ fine_at is place h lt =
 keeps_scratch_rule : (is : List Insn) → AreSound is 0 → KeepsScratchRule is
 keeps_scratch_rule is h place n earlier loads path =
     let f = sound_at is 0 place loads.insn h loads.stands.here in
-    let same : f.sound.operation ≡ LoadScratch loads.register = same_Some _ _ (sym f.sound.known ∙ loads.stands.known) in
+    let same : f.sound.operation ≡ LoadScratch loads.register =
+    same_Some _ _ (sym f.sound.known ∙ loads.stands.known) in
     absurd (subst (λ (o : Operation). Keeps o loads.insn f.behind) same f.sound.keeps)
-
--- the last instruction returns
-record EndsInReturn (code : List Insn) : Type 0 where
-  front : List Insn
-  answer : ℕ
-  whole : code ≡ front ++ return_with answer ∷ []
-
-ends_behind : (front back : List Insn) → EndsInReturn back → EndsInReturn (front ++ back)
-ends_behind front back e = record { front = front ++ e.front; answer = e.answer; whole = ap (λ (l : List Insn). front ++ l) e.whole ∙ sym (append_assoc front e.front (return_with e.answer ∷ [])) }
-
-rules_end_in_return : (default : Answer) (rs : List Rule) → EndsInReturn (rules_code default rs)
-rules_end_in_return default [] = record { front = []; answer = default.0; whole = refl }
-rules_end_in_return default (r ∷ rs) = ends_behind (rule_code r) (rules_code default rs) (rules_end_in_return default rs)
-
-plan_ends_in_return : (default : Answer) (plan : Plan) → EndsInReturn (plan_code default plan)
-plan_ends_in_return default (Apply rules) = rules_end_in_return default rules
-plan_ends_in_return default (Branch test number hit miss) =
-    let h = plan_code default hit in
-    let m = plan_code default miss in
-    ends_behind (branch_code test number (length h)) (h ++ m) (ends_behind h m (plan_ends_in_return default miss))
 
 at_seam : (front : List Insn) (i : Insn) → slice_get (front ++ i ∷ []) (length front) ≡ Some i
 at_seam [] i = refl
 at_seam (x ∷ xs) i = at_seam xs i
 
-last_returns : (code : List Insn) → EndsInReturn code → (i : Insn) (operation : Operation) → Stands code (length code - 1) i operation → IsReturn operation
+last_returns : (code : List Insn) → EndsInAnswer code → (i : Insn) (operation : Operation)
+    → Stands code (length code - 1) i operation → IsReturn operation
 unfolding operation_of code_table
 last_returns code e i operation stands =
     let last = return_with e.answer in
-    let len : length code ≡ length e.front + 1 = ap (λ (l : List Insn). length l) e.whole ∙ length-append e.front (last ∷ []) in
+    let len : length code ≡ length e.front + 1 =
+    ap (λ (l : List Insn). length l) e.whole ∙ length-append e.front (last ∷ []) in
     let place : length code - 1 ≡ length e.front = omega arith in
-    let there : slice_get code (length code - 1) ≡ Some last = ap (slice_get code) place ∙ ap (λ (l : List Insn). slice_get l (length e.front)) e.whole ∙ at_seam e.front last in
+    let there : slice_get code (length code - 1) ≡ Some last =
+    ap (slice_get code) place ∙ ap (λ (l : List Insn). slice_get l (length e.front)) e.whole
+    ∙ at_seam e.front last in
     let same : i ≡ last = same_Some i last (sym stands.here ∙ there) in
-    let is : operation ≡ ReturnConstant = same_Some operation ReturnConstant (sym stands.known ∙ ap (λ (j : Insn). operation_of j.code) same) in
+    let is : operation ≡ ReturnConstant =
+    same_Some operation ReturnConstant (sym stands.known ∙ ap (λ (j : Insn). operation_of j.code) same) in
     subst IsReturn (sym is) tt
 
--- A filter of no more than 4096 instructions keeps the rules on its places, and of any length the rule on scratch words.
-pub filter_is_valid : (default : Answer) (plan : Plan) → AppliesRules plan → length (filter_code default plan) ≤ 4096 → IsValidList (filter_code default plan)
-filter_is_valid default plan fine few = record {
-  some = omega arith;
-  few = few;
-  each = λ place lt. fine_at (filter_code default plan) place (filter_sound default plan fine) lt;
-  last = last_returns (filter_code default plan) (ends_behind arch_code (range_code ++ plan_code default plan) (ends_behind range_code (plan_code default plan) (plan_ends_in_return default plan)));
-}
+-- A filter that isn't too long keeps the rules on its places, and of any length the rule on scratch words.
+pub filter_is_valid : (default : Answer) (plan : Plan) → Applies IsRule plan
+    → length (filter_code (plan_code default plan)) ≤ bpf_maxinsns
+    → IsValidList (filter_code (plan_code default plan))
+filter_is_valid default plan fine few =
+    let code = plan_code default plan in
+    let end = ends_behind arch_code (range_code ++ code)
+    (ends_behind range_code code (plan_ends_in_answer default plan)) in
+    record {
+      some = some_of_code (filter_code code) end;
+      few = few;
+      each = λ place lt. fine_at (filter_code code) place (filter_sound default plan fine) lt;
+      last = last_returns (filter_code code) end;
+    }
 
-pub filter_keeps_scratch : (default : Answer) (plan : Plan) → AppliesRules plan → KeepsScratchRule (filter_code default plan)
-filter_keeps_scratch default plan fine = keeps_scratch_rule (filter_code default plan) (filter_sound default plan fine)
+pub filter_keeps_scratch : (default : Answer) (plan : Plan) → Applies IsRule plan
+    → KeepsScratchRule (filter_code (plan_code default plan))
+filter_keeps_scratch default plan fine =
+    keeps_scratch_rule (filter_code (plan_code default plan)) (filter_sound default plan fine)

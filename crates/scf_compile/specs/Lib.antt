@@ -1,4 +1,3 @@
-pub mod Insns
-pub mod Blocks
-pub mod Plans
+pub mod SearchBound
 pub mod SizeBound
+pub mod internal

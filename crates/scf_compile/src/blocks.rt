@@ -2,16 +2,15 @@
 //! Where the condition holds the filter goes on behind them, and where it fails it passes more instructions.
 
 ghost use Rattle.std.specs.Prelude.{◌≡◌, ◌++◌, ◌<◌, ◌≤◌, ℕ, OnOk, length};
-ghost use Rattle.scf_compile.specs.Blocks.{equal_code, order_code, half_code, masked_code, condition_code};
+ghost use Rattle.scf_compile.specs.internal.Blocks.{equal_code, order_code, half_code, masked_code, condition_code};
 
 use crate::insns::{and_with, jump_if, load_word};
-use crate::mask::{MaskKind, kind_of};
-use scf_insn::{Insn, Test, high_half, low_half};
-use scf_profile::{Comparison, Condition};
+use scf_insn::{Insn, MaskKind, Test, high_half, low_half, mask_kind};
+use scf_profile::{Condition, Operator};
 use std::alloc::AllocError;
 
 /// Tests whether a number equals a value.
-#[tactic(auto, unfolding(crate::specs::Blocks::equal_code))]
+#[tactic(auto, unfolding(crate::specs::internal::Blocks::equal_code))]
 fn put_equal(
     code: &mut Vec<Insn>,
     word: u8,
@@ -32,7 +31,7 @@ fn put_equal(
 }
 
 /// Tests whether a number is above a value or, where `test` is so, at least it.
-#[tactic(auto, unfolding(crate::specs::Blocks::order_code))]
+#[tactic(auto, unfolding(crate::specs::internal::Blocks::order_code))]
 fn put_order(
     code: &mut Vec<Insn>,
     test: Test,
@@ -61,7 +60,7 @@ fn half_len(mask: u32) -> u8
     ensures len { (word wanted out : ℕ) → length (half_code word mask wanted out) ≡ result }
     ensures few { result ≤ 3 }
 {
-    match kind_of(mask) {
+    match mask_kind(mask) {
         MaskKind::Empty => 0,
         MaskKind::OneBit | MaskKind::Full => 2,
         MaskKind::Mixed => 3,
@@ -69,7 +68,7 @@ fn half_len(mask: u32) -> u8
 }
 
 /// Tests whether a word has the wanted bits under a mask, which has them all.
-#[tactic(auto, unfolding(crate::specs::Blocks::half_code))]
+#[tactic(auto, unfolding(crate::specs::internal::Blocks::half_code))]
 fn put_half(
     code: &mut Vec<Insn>,
     word: u8,
@@ -80,7 +79,7 @@ fn put_half(
     requires { word < 16 }
     ensures { OnOk result (code.new.items ≡ code.old.items ++ half_code word mask wanted out) }
 {
-    match kind_of(mask) {
+    match mask_kind(mask) {
         MaskKind::Empty => Ok(()),
         MaskKind::OneBit if wanted == 0 => {
             code.extend_from_slice(&[load_word(word), jump_if(Test::CommonBit, mask, out, 0)])
@@ -100,7 +99,7 @@ fn put_half(
 }
 
 /// Tests whether a number has the wanted bits under a mask, which has them all.
-#[tactic(auto, unfolding(crate::specs::Blocks::masked_code))]
+#[tactic(auto, unfolding(crate::specs::internal::Blocks::masked_code))]
 fn put_masked(
     code: &mut Vec<Insn>,
     word: u8,
@@ -118,18 +117,15 @@ fn put_masked(
 }
 
 /// How many instructions test a condition.
-#[tactic(auto, using(crate::proofs::Sizes::masked_len), unfolding(crate::specs::Blocks::equal_code, crate::specs::Blocks::order_code, crate::specs::Blocks::masked_code))]
+#[tactic(auto, using(crate::proofs::Sizes::masked_len), unfolding(crate::specs::internal::Blocks::equal_code, crate::specs::internal::Blocks::order_code, crate::specs::internal::Blocks::masked_code))]
 pub(crate) fn condition_len(condition: &Condition) -> u8
     ensures len { (out : ℕ) → length (condition_code condition.now out) ≡ result }
     ensures few { result ≤ 6 }
 {
     match condition.op {
-        Comparison::NotEqual | Comparison::Equal => 4,
-        Comparison::Less
-        | Comparison::LessOrEqual
-        | Comparison::GreaterOrEqual
-        | Comparison::Greater => 5,
-        Comparison::MaskedEqual => {
+        Operator::NotEqual | Operator::Equal => 4,
+        Operator::Less | Operator::LessOrEqual | Operator::GreaterOrEqual | Operator::Greater => 5,
+        Operator::MaskedEqual => {
             half_len(high_half(condition.value)) + half_len(low_half(condition.value))
         }
     }
@@ -148,14 +144,12 @@ pub(crate) fn put_condition(
     let word = 2 * condition.index + 4;
     let value = condition.value;
     match condition.op {
-        Comparison::NotEqual => put_equal(code, word, value, out, 0),
-        Comparison::Less => put_order(code, Test::GreaterOrEqual, word, value, out, 0),
-        Comparison::LessOrEqual => put_order(code, Test::Greater, word, value, out, 0),
-        Comparison::Equal => put_equal(code, word, value, 0, out),
-        Comparison::GreaterOrEqual => put_order(code, Test::GreaterOrEqual, word, value, 0, out),
-        Comparison::Greater => put_order(code, Test::Greater, word, value, 0, out),
-        Comparison::MaskedEqual => {
-            put_masked(code, word, value, condition.value_two & value, out)
-        }
+        Operator::NotEqual => put_equal(code, word, value, out, 0),
+        Operator::Less => put_order(code, Test::GreaterOrEqual, word, value, out, 0),
+        Operator::LessOrEqual => put_order(code, Test::Greater, word, value, out, 0),
+        Operator::Equal => put_equal(code, word, value, 0, out),
+        Operator::GreaterOrEqual => put_order(code, Test::GreaterOrEqual, word, value, 0, out),
+        Operator::Greater => put_order(code, Test::Greater, word, value, 0, out),
+        Operator::MaskedEqual => { put_masked(code, word, value, condition.value_two & value, out) }
     }
 }

@@ -1,6 +1,6 @@
 //! Why a profile isn't compiled.
 
-use std::alloc::AllocError;
+use scf_insn::Memory;
 use thiserror::Error;
 
 /// Why a profile isn't compiled.
@@ -13,13 +13,13 @@ pub enum CompileFault {
     Memory,
 }
 
-impl From<AllocError> for CompileFault {
+impl From<Memory> for CompileFault {
     ghost use Rattle.std.specs.Prelude.{◌≡◌};
-    ghost use Rattle.scf_compile.specs.declared.fault.CompileFault.TheVariants.{Memory};
+    ghost use Rattle.scf_compile.specs.declared.fault.CompileFault.TheVariants as faults;
 
-    ghost from_gives = { λ _ e. e ≡ Memory };
+    ghost from_gives = { λ _ e. e ≡ faults.Memory };
 
-    fn from(_e: AllocError) -> CompileFault {
+    fn from(_refused: Memory) -> CompileFault {
         CompileFault::Memory
     }
 }

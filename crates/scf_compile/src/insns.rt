@@ -1,9 +1,9 @@
 //! The instructions that compiled filters are made of (Linux uapi filter.h).
 
 ghost use Rattle.std.specs.Prelude.{◌≡◌, ◌<◌};
-ghost use Rattle.scf_compile.specs.Insns.{load_word, and_with, test_code, jump_if, jump_over, return_with};
+ghost use Rattle.scf_compile.specs.internal.Insns.{load_word, and_with, jump_if, jump_over, return_with};
 
-use scf_insn::{Answer, Insn, Test};
+use scf_insn::{Answer, Arithmetic, Insn, Operand, Operation, Test};
 
 /// Loads a word of the record.
 pub(crate) fn load_word(word: u8) -> Insn
@@ -11,7 +11,7 @@ pub(crate) fn load_word(word: u8) -> Insn
     ensures { result ≡ load_word word }
 {
     Insn {
-        code: 0x20,
+        code: Operation::LoadWord.code(),
         jt: 0,
         jf: 0,
         k: 4 * u32::from(word),
@@ -23,22 +23,10 @@ pub(crate) fn and_with(mask: u32) -> Insn
     ensures { result ≡ and_with mask }
 {
     Insn {
-        code: 0x54,
+        code: Operation::Compute(Arithmetic::And, Operand::Constant).code(),
         jt: 0,
         jf: 0,
         k: mask,
-    }
-}
-
-/// The code of a test of the accumulator against a constant.
-fn test_code(test: Test) -> u16
-    ensures { result ≡ test_code test }
-{
-    match test {
-        Test::Equal => 0x15,
-        Test::Greater => 0x25,
-        Test::GreaterOrEqual => 0x35,
-        Test::CommonBit => 0x45,
     }
 }
 
@@ -47,7 +35,7 @@ pub(crate) fn jump_if(test: Test, constant: u32, hit: u8, miss: u8) -> Insn
     ensures { result ≡ jump_if test constant hit miss }
 {
     Insn {
-        code: test_code(test),
+        code: Operation::JumpIf(test, Operand::Constant).code(),
         jt: hit,
         jf: miss,
         k: constant,
@@ -59,7 +47,7 @@ pub(crate) fn jump_over(count: u32) -> Insn
     ensures { result ≡ jump_over count }
 {
     Insn {
-        code: 0x05,
+        code: Operation::Jump.code(),
         jt: 0,
         jf: 0,
         k: count,
@@ -71,7 +59,7 @@ pub(crate) fn return_with(answer: Answer) -> Insn
     ensures { result ≡ return_with answer.0 }
 {
     Insn {
-        code: 0x06,
+        code: Operation::ReturnConstant.code(),
         jt: 0,
         jf: 0,
         k: answer.0,

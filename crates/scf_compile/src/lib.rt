@@ -5,9 +5,11 @@ mod blocks;
 mod compiler;
 mod fault;
 mod insns;
-mod mask;
+mod numbers;
 mod rules;
+mod search;
 mod size;
+mod stretches;
 
 pub use compiler::compile;
 pub use fault::CompileFault;

@@ -1,10 +1,22 @@
 //! A count of instructions that the filter of a profile stays within.
 
-ghost use Rattle.std.specs.Prelude.{◌≡◌};
+ghost use Rattle.std.specs.Prelude.{◌≡◌, ◌==◌, not};
+ghost use Rattle.std.specs.List.{list_any};
 ghost use Rattle.scf_compile.specs.SizeBound.{size_bound_of};
 
-use crate::rules::is_new;
-use scf_profile::Profile;
+use scf_profile::{Profile, Rule};
+
+/// Whether no earlier rule has the number.
+fn is_new(number: u32, earlier: &[Rule]) -> bool
+    ensures { result ≡ not (list_any (λ r. r.number == number) earlier.now) }
+{
+    for rule in earlier {
+        if rule.number == number {
+            return false;
+        }
+    }
+    true
+}
 
 /// 8, and 4 for each distinct call number, and for each rule 2 and 8 for each of its conditions. `compile` answers
 /// `TooLarge` only where this exceeds 4096. It takes no memory.

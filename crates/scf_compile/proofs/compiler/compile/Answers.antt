@@ -1,76 +1,104 @@
-use Rattle.std.proofs.Common.{◌≡◌, ◌≤◌, List, length, sym, ap, ap₂, ◌∙◌, subst, arith}
+use Rattle.std.proofs.Common.{◌≡◌, ◌≤◌, List, length, sym, ap, ◌∙◌, subst, arith}
 use Rattle.std.specs.List.{AllByRecursion}
-use Rattle.std.proofs.lemmas.List.Elements.{All-from_recursion}
-use Rattle.scf_insn.specs.declared.insn.Insn.{Insn}
+use Rattle.std.proofs.lemmas.List.Elements.{All-from_recursion, recursion_from_All}
 use Rattle.scf_insn.specs.declared.answer.Answer.{Answer}
+use Rattle.scf_insn.specs.declared.insn.Insn.{Insn}
+use Rattle.scf_insn.specs.Kernel.{bpf_maxinsns}
 use Rattle.scf_machine.specs.Machine.{RunAnswers}
+use Rattle.scf_machine.specs.Plain.{IsPlainProgram}
 use Rattle.scf_machine.specs.Rules.{IsValidList, KeepsScratchRule}
 use Rattle.scf_profile.specs.declared.rule.Rule.{Rule}
+use Rattle.scf_profile.specs.PlainProfile.{IsPlainProfile, IsPlainRule}
+use Rattle.scf_profile.specs.Profile.{Profile, IsProfile}
 use Rattle.scf_profile.specs.Rule.{IsRule}
-use Rattle.scf_profile.specs.Policy.{Policy, IsProfile}
-use Rattle.scf_profile.specs.RulesByNumber.{numbers_of}
 use Rattle.scf_profile.specs.SameAnswers.{SameAnswers}
-use Rattle.scf_compile.specs.Plans.{chain, filter_code}
-use Rattle.scf_compile.proofs.Same.{filter_is_same}
+use Rattle.scf_compile.specs.SearchBound.{AnswersWithin, search_bound_of}
+use Rattle.scf_compile.specs.SizeBound.{size_bound_of}
+use Rattle.scf_compile.specs.internal.Plans.{plan_code, filter_code, IsFilterOf}
+use Rattle.scf_compile.proofs.Counts.{applies, quick, serves, within_size}
+use Rattle.scf_compile.proofs.Plain.{filter_is_plain}
+use Rattle.scf_compile.proofs.Same.{filter_is_quick, filter_is_same}
 use Rattle.scf_compile.proofs.Valid.{filter_is_valid, filter_keeps_scratch}
-use Rattle.scf_compile.proofs.Chains.{chain_serves, chain_applies_rules}
-use Rattle.scf_compile.proofs.Sizes.{filter_within_bound}
-use Rattle.scf_compile.proofs.Plain.{filter_is_plain, chain_is_plain}
-use Rattle.scf_machine.specs.Plain.{IsPlainProgram}
-use Rattle.scf_profile.specs.PlainProfile.{IsPlainProfile}
 use Rattle.scf_compile.proofs.compiler.compile.Goals as goal
 
--- the filter that goes over the distinct numbers
-abbrev linear : Policy → List Insn
-linear p = filter_code p.default_answer (chain (numbers_of p.rules) p.rules)
+-- what holds of the filter that was made
+record Made (code : List Insn) (p : Profile) : Type 0 where
+  same : SameAnswers (RunAnswers code) p
+  quick_enough : AnswersWithin code (search_bound_of p)
+  small : length code ≤ size_bound_of p
+  is_plain : IsPlainProfile p → IsPlainProgram code
+  is_valid : length code ≤ bpf_maxinsns → IsValidList code
+  keeps_scratch : KeepsScratchRule code
 
-emitted : (code : List Insn) (default : Answer) (rules : List Rule) (p : Policy) → code ≡ filter_code default (chain (numbers_of rules) rules) → default ≡ p.default_answer → rules ≡ p.rules → code ≡ linear p
-emitted code default rules p is d r = is ∙ ap₂ (λ (answer : Answer) (rs : List Rule). filter_code answer (chain (numbers_of rs) rs)) d r
+made : (code : List Insn) (p : Profile) → IsProfile p → IsFilterOf p.default_answer p.rules code → Made code p
+made code p valid filter =
+    let default = p.default_answer in
+    let plan = filter.search.plan in
+    let fine = applies p code filter IsRule valid.each in
+    let most = search_bound_of p in
+    let small : length (filter_code (plan_code default plan)) ≤ size_bound_of p =
+    subst (λ (c : List Insn). length c ≤ size_bound_of p) (filter.is ∙ ap filter_code filter.search.is)
+    (within_size p code filter) in
+    subst (λ (c : List Insn). Made c p) (sym (filter.is ∙ ap filter_code filter.search.is))
+    (record {
+      same = filter_is_same p plan most fine (serves p code filter) (quick p code filter);
+      quick_enough = filter_is_quick p plan most fine (serves p code filter) (quick p code filter);
+      small = small;
+      is_plain = λ plain. filter_is_plain default plan
+          (applies p code filter IsPlainRule (recursion_from_All IsPlainRule p.rules plain));
+      is_valid = filter_is_valid default plan fine;
+      keeps_scratch = filter_keeps_scratch default plan fine;
+    })
 
-linear_is_same : (code : List Insn) (p : Policy) → IsProfile p → code ≡ linear p → SameAnswers (RunAnswers code) p
-linear_is_same code p valid e = subst (λ (c : List Insn). SameAnswers (RunAnswers c) p) (sym e) (filter_is_same p (chain (numbers_of p.rules) p.rules) valid (chain_serves p.rules))
-
-linear_is_valid : (code : List Insn) (p : Policy) → IsProfile p → code ≡ linear p → length code ≤ 4096 → IsValidList code
-linear_is_valid code p valid e few =
-    subst IsValidList (sym e) (filter_is_valid p.default_answer (chain (numbers_of p.rules) p.rules) (chain_applies_rules (numbers_of p.rules) p.rules valid.each) (subst (λ (c : List Insn). length c ≤ 4096) e few))
-
-linear_keeps_scratch : (code : List Insn) (p : Policy) → IsProfile p → code ≡ linear p → KeepsScratchRule code
-linear_keeps_scratch code p valid e =
-    subst (λ (c : List Insn). KeepsScratchRule c) (sym e) (filter_keeps_scratch p.default_answer (chain (numbers_of p.rules) p.rules) (chain_applies_rules (numbers_of p.rules) p.rules valid.each))
-
-linear_is_plain : (code : List Insn) (p : Policy) → IsPlainProfile p → code ≡ linear p → IsPlainProgram code
-linear_is_plain code p plain e = subst (λ (c : List Insn). IsPlainProgram c) (sym e) (filter_is_plain p.default_answer (chain (numbers_of p.rules) p.rules) (chain_is_plain (numbers_of p.rules) p.rules plain))
+found : (code : List Insn) (p : Profile) (default : Answer) (rules : List Rule) → IsProfile p
+    → default ≡ p.default_answer → rules ≡ p.rules → IsFilterOf default rules code → Made code p
+found code p default rules valid d r filter =
+    made code p valid (subst (λ (rs : List Rule). IsFilterOf p.default_answer rs code) r
+    (subst (λ (answer : Answer). IsFilterOf answer rules code) d filter))
 
 pub filter_of-requires : goal.filter_of-requires
 filter_of-requires c =
     let p = c.rules.ensures.profile in
     record {
-      rules = All-from_recursion IsRule c.rules.result.now (subst (λ (rs : List Rule). AllByRecursion IsRule rs) (sym c.rules.ensures.rules) p.each);
+      rules = All-from_recursion IsRule c.rules.result.now
+          (subst (λ (rs : List Rule). AllByRecursion IsRule rs) (sym c.rules.ensures.rules) p.each);
       few = subst (λ (rs : List Rule). length rs ≤ 4096) (sym c.rules.ensures.rules) p.few;
     }
 
-pub returns-then-as_slice-gt-MAX_INSNS-clause-large : goal.returns-then-as_slice-gt-MAX_INSNS-clause-large
-returns-then-as_slice-gt-MAX_INSNS-clause-large c = λ _.
-    let more = c.if-as_slice-gt-MAX_INSNS.true in
-    let e = emitted c.in_ok-code.code.items c.default_answer.result c.rules.result.now c.args.profile.now c.in_ok-code.ensures c.default_answer.ensures c.rules.ensures.rules in
-    let len = ap (λ (l : List Insn). length l) (c.as_slice.ensures.value ∙ e) in
-    omega (arith, more, len, filter_within_bound c.args.profile.now)
+pub returns-then-as_slice-gt-BPF_MAXINSNS-clause-large : goal.returns-then-as_slice-gt-BPF_MAXINSNS-clause-large
+returns-then-as_slice-gt-BPF_MAXINSNS-clause-large c = λ _.
+    let more = c.if-as_slice-gt-BPF_MAXINSNS.true in
+    let is = found c.in_ok-code.code.items c.args.profile.now c.default_answer.result c.rules.result.now
+    c.rules.ensures.profile c.default_answer.ensures c.rules.ensures.rules c.in_ok-code.ensures in
+    let small = is.small in
+    omega (arith, more, ap (λ (l : List Insn). length l) c.as_slice.ensures.value)
 
 pub returns-in-Ok-clause-same : goal.returns-in-Ok-clause-same
 returns-in-Ok-clause-same c =
-    let e = emitted c.in_ok-code.code.items c.default_answer.result c.rules.result.now c.args.profile.now c.in_ok-code.ensures c.default_answer.ensures c.rules.ensures.rules in
-    linear_is_same c.in-Ok.program c.args.profile.now c.rules.ensures.profile (c.in-Ok.ensures.accepted.0 ∙ e)
+    let is = found c.in_ok-code.code.items c.args.profile.now c.default_answer.result c.rules.result.now
+    c.rules.ensures.profile c.default_answer.ensures c.rules.ensures.rules c.in_ok-code.ensures in
+    subst (λ (code : List Insn). SameAnswers (RunAnswers code) c.args.profile.now)
+    (sym c.in-Ok.ensures.accepted.0) is.same
+
+pub returns-in-Ok-clause-searched : goal.returns-in-Ok-clause-searched
+returns-in-Ok-clause-searched c =
+    let is = found c.in_ok-code.code.items c.args.profile.now c.default_answer.result c.rules.result.now
+    c.rules.ensures.profile c.default_answer.ensures c.rules.ensures.rules c.in_ok-code.ensures in
+    subst (λ (code : List Insn). AnswersWithin code (search_bound_of c.args.profile.now))
+    (sym c.in-Ok.ensures.accepted.0) is.quick_enough
 
 pub returns-in-Ok-clause-plain : goal.returns-in-Ok-clause-plain
 returns-in-Ok-clause-plain c = λ plain.
-    let e = emitted c.in_ok-code.code.items c.default_answer.result c.rules.result.now c.args.profile.now c.in_ok-code.ensures c.default_answer.ensures c.rules.ensures.rules in
-    linear_is_plain c.in-Ok.program c.args.profile.now plain (c.in-Ok.ensures.accepted.0 ∙ e)
+    let is = found c.in_ok-code.code.items c.args.profile.now c.default_answer.result c.rules.result.now
+    c.rules.ensures.profile c.default_answer.ensures c.rules.ensures.rules c.in_ok-code.ensures in
+    subst (λ (code : List Insn). IsPlainProgram code) (sym c.in-Ok.ensures.accepted.0) (is.is_plain plain)
 
 -- a list that keeps both rules is refused for want of memory alone
 pub unreachable-requires : goal.unreachable-requires
 unreachable-requires c =
-    let e = emitted c.in_ok-code.code.items c.default_answer.result c.rules.result.now c.args.profile.now c.in_ok-code.ensures c.default_answer.ensures c.rules.ensures.rules in
-    let few : length c.in_ok-code.code.items ≤ 4096 = subst (λ (l : List Insn). length l ≤ 4096) c.as_slice.ensures.value c.if-as_slice-gt-MAX_INSNS.false in
-    c.in-Err.ensures.only_where c.in_default.not-Memory
-    (linear_is_valid c.in_ok-code.code.items c.args.profile.now c.rules.ensures.profile e few)
-    (linear_keeps_scratch c.in_ok-code.code.items c.args.profile.now c.rules.ensures.profile e)
+    let is = found c.in_ok-code.code.items c.args.profile.now c.default_answer.result c.rules.result.now
+    c.rules.ensures.profile c.default_answer.ensures c.rules.ensures.rules c.in_ok-code.ensures in
+    let few : length c.in_ok-code.code.items ≤ bpf_maxinsns =
+    subst (λ (l : List Insn). length l ≤ bpf_maxinsns) c.as_slice.ensures.value c.if-as_slice-gt-BPF_MAXINSNS.false
+    in
+    c.in-Err.ensures.only_where c.in_default.not-Memory (is.is_valid few) is.keeps_scratch

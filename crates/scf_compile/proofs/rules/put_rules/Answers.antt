@@ -1,0 +1,25 @@
+use Rattle.std.proofs.Common.{rules, ◌+◌, ◌<◌, ◌++◌, List, length, drop, sym, ap, ◌∙◌, append_assoc}
+use Rattle.scf_insn.specs.declared.insn.Insn.{Insn}
+use Rattle.scf_profile.specs.ByNumber.{rules_at}
+use Rattle.scf_compile.specs.internal.Plans.{rule_code, rules_code}
+use Rattle.scf_compile.proofs.Sizes.{rules_code_from}
+use Rattle.scf_profile.specs.Rule.{IsRule}
+use Rattle.scf_compile.proofs.Cutting.{rule_at}
+use Rattle.scf_compile.proofs.rules.put_rules.Goals as goal
+
+pub put_rule-requires : goal.put_rule-requires
+put_rule-requires c =
+    rule_at IsRule c.args.rules.now c.loop-rule.rule-index c.rule-item.result c.requires c.loop-rule-test.true
+    c.rule-item.is
+
+pub loop-rule-preserved : goal.loop-rule-preserved
+loop-rule-preserved c =
+    let r = c.rule-item.result in
+    let some : 0 < length r.now.conditions = search rules in
+    let rest = rules_code c.args.default (rules_at (drop (c.loop-rule.rule-index + 1) c.args.rules.now)) in
+    ap (λ (code : List Insn). code ++ rest) c.in_ok-put_rule.ensures
+    ∙ append_assoc c.loop-rule.code.items (rule_code r.now) rest
+    ∙ ap (λ (code : List Insn). c.loop-rule.code.items ++ code)
+    (sym (rules_code_from c.args.default c.args.rules.now c.loop-rule.rule-index r c.loop-rule-test.true
+    c.rule-item.is some))
+    ∙ c.loop-rule.invariant

@@ -1,0 +1,16 @@
+use Rattle.std.proofs.Common.{rules, refl}
+use Rattle.scf_compile.specs.internal.Stretches.{begins}
+use Rattle.scf_compile.proofs.Laying.{goes_on_last}
+use Rattle.scf_compile.proofs.stretches.put_stretch.Goals as goal
+use Rattle.scf_compile.proofs.stretches.put_stretch.Goals.{in-Some, in-None}
+
+pub returns-in_ok-push : goal.returns-in_ok-push
+returns-in_ok-push c =
+    begins (record { first = c.args.first; rules = c.args.rules }) refl refl c.in_ok-push.ensures.items
+
+pub returns-else-not-goes_on : goal.returns-else-not-goes_on
+returns-else-not-goes_on c = elim c.match-last.branch [
+  | in-Some w ↦ goes_on_last c.args.stretches.now.items c.args.first w.in-Some.last.now c.args.rules.now (search rules)
+      (search rules) (w.are_alike-goes_on.ensures (search rules))
+  | in-None w ↦ absurd (cc)
+]

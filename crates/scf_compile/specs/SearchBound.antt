@@ -1,0 +1,36 @@
+-- Within how many steps the filter of a profile answers each call.
+use Rattle.std.specs.Prelude.{ℕ, zero, suc, ◌+◌, ◌*◌, ◌/◌, ◌≤◌, ◌==◌, List, [], ◌∷◌, length, map, max, sum_by}
+use Rattle.std.specs.Prelude.{if◌then◌else◌}
+use Rattle.scf_insn.specs.declared.insn.Insn.{Insn}
+use Rattle.scf_insn.specs.declared.record.CallRecord.{CallRecord}
+use Rattle.scf_insn.specs.Words.{IsRecord, words_of}
+use Rattle.scf_machine.specs.Machine.{IsRun}
+use Rattle.scf_profile.specs.Profile.{Profile}
+use Rattle.scf_profile.specs.RulesByNumber.{numbers_of, rules_of}
+use Rattle.scf_compile.specs.SizeBound.{rule_bound}
+
+-- the binary digits of a number, of which no more than this many are counted
+abbrev pub digits_within : ℕ → ℕ → ℕ
+digits_within zero n = 0
+digits_within (suc most) n = (if n == 0 then 0 else suc (digits_within most (n / 2)))
+
+-- how many binary digits a number has; 0 has none
+unfoldable pub binary_digits : ℕ → ℕ
+binary_digits n = digits_within n n
+
+-- the greatest of some numbers, 0 where there are none
+abbrev pub greatest : List ℕ → ℕ
+greatest [] = 0
+greatest (n ∷ ns) = max n (greatest ns)
+
+-- 8, and 2 for each binary digit of the count of distinct numbers, and the greatest sum over the rules of one number
+-- of 2 and 8 for each condition
+abbrev pub search_bound_of : Profile → ℕ
+search_bound_of p =
+    8 + 2 * binary_digits (length (numbers_of p.rules))
+    + greatest (map (λ number. sum_by rule_bound (rules_of number p.rules)) (numbers_of p.rules))
+
+-- Every run over a call record, of whatever architecture and number, ends within so many steps.
+abbrev pub AnswersWithin : List Insn → ℕ → Type 0
+AnswersWithin insns most =
+    (call : CallRecord) → IsRecord call → (answer steps : ℕ) → IsRun insns (words_of call) answer steps → steps ≤ most

@@ -1,0 +1,93 @@
+//! The rules that apply from each number on: what a profile says of a number is the same along a stretch of numbers.
+
+ghost use Rattle.std.specs.Prelude.{◌≡◌, IfOk, IsTrue, OnOk};
+ghost use Rattle.scf_insn.specs.Kernel.{x32_syscall_bit};
+ghost use Rattle.scf_profile.specs.ByNumber.{rules_at};
+ghost use Rattle.scf_compile.specs.internal.Numbers.{RiseBetween};
+ghost use Rattle.scf_compile.specs.internal.Stretches.{AreAlike, AreStretchesOf, AreTelling, IsPut};
+
+use crate::numbers::NumberRules;
+use scf_insn::Answer;
+use scf_insn::kernel::X32_SYSCALL_BIT;
+use scf_profile::Rule;
+use std::alloc::{AllocError, Global};
+
+/// The rules that apply from a call number on, up to the first number of the next stretch. Where none of them is met
+/// the default answer is given.
+#[derive(Drop)]
+pub(crate) struct Stretch<'a> {
+    pub(crate) first: u32,
+    pub(crate) rules: &'a [&'a Rule],
+}
+
+/// Whether two lists of rules answer alike, whatever their numbers: equal conditions and answers in the same order.
+fn are_alike(rules: &[&Rule], others: &[&Rule]) -> bool
+    ensures { IsTrue result → AreAlike (rules_at rules.now) (rules_at others.now) }
+{
+    if rules.len() != others.len() {
+        return false;
+    }
+    for i in 0..rules.len() {
+        let (rule, other) = (rules[i], others[i]);
+        if rule.answer != other.answer
+            || rule.conditions.as_slice() != other.conditions.as_slice()
+        {
+            return false;
+        }
+    }
+    true
+}
+
+/// The rules of a number, or none where all of them answer as the default does.
+fn telling_rules<'a>(own: &NumberRules<'a>, default: Answer) -> &'a [&'a Rule]
+    ensures { AreTelling default result.now own.now.rules.now }
+{
+    if own.rules.iter().all(|rule| rule.answer == default) {
+        &own.rules[..0]
+    } else {
+        own.rules
+    }
+}
+
+/// From a number on these rules apply: a new stretch begins where the last one has others.
+fn put_stretch<'a>(
+    stretches: &mut Vec<Stretch<'a>>,
+    first: u32,
+    rules: &'a [&'a Rule],
+) -> Result<(), AllocError>
+    ensures { OnOk result (IsPut stretches.old.items first rules.now stretches.new.items) }
+{
+    let goes_on = match stretches.last() {
+        Some(last) => are_alike(last.rules, rules),
+        None => false,
+    };
+    if !goes_on {
+        stretches.push(Stretch { first, rules })?;
+    }
+    Ok(())
+}
+
+/// The stretches of rising numbers: numbers that follow one another and have like rules are one stretch, and those
+/// between them, which have no rules, are others.
+pub(crate) fn stretches_of<'a>(
+    alloc: Global,
+    numbers: &[NumberRules<'a>],
+    default: Answer,
+) -> Result<Vec<Stretch<'a>>, AllocError>
+    requires { RiseBetween 0 x32_syscall_bit numbers.now }
+    ensures { IfOk result (λ stretches. AreStretchesOf default stretches.items numbers.now) }
+{
+    let mut stretches = Vec::new(alloc);
+    let mut next = 0;
+    for own in numbers {
+        if next < own.number {
+            put_stretch(&mut stretches, next, &[])?;
+        }
+        put_stretch(&mut stretches, own.number, telling_rules(own, default))?;
+        next = own.number + 1;
+    }
+    if next < X32_SYSCALL_BIT {
+        put_stretch(&mut stretches, next, &[])?;
+    }
+    Ok(stretches)
+}
