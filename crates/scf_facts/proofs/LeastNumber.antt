@@ -1,5 +1,6 @@
 -- Numbers that share a wrong bit.
-use Rattle.std.proofs.Common.{◌≡◌, ◌≢◌, ◌⊎◌, inl, inr, ℕ, suc, ◌+◌, ◌-◌, ◌*◌, ◌/◌, ◌%◌, ◌<◌, ◌≤◌, ◌^◌, sym, ap, subst, ◌∙◌, arith, div-mul-le_self}
+use Rattle.std.proofs.Common.{◌≡◌, ◌≢◌, inl, inr, ℕ, suc, ◌+◌, ◌-◌, ◌*◌, ◌/◌, ◌%◌, ◌<◌, ◌≤◌, ◌^◌, sym, ap, subst, ◌∙◌}
+use Rattle.std.proofs.Common.{arith}
 use Rattle.std.specs.Prelude.{bit_and, bit_xor, min}
 use Rattle.std.specs.Int.{bit_at}
 use Rattle.std.specs.Int.Count.{count_leading_zeros}
@@ -10,19 +11,16 @@ use Rattle.std.proofs.lemmas.Bool.{cases_lt}
 use Rattle.std.proofs.Math.Nat.{pow-succ'}
 
 -- a number whose bits from a place on are those of x has the same wrong bit there
-pub mismatch : (x y known value place : ℕ) → bit_at (bit_xor (bit_and x known) value) place ≡ 1 → y / 2 ^ place ≡ x / 2 ^ place → bit_and y known ≢ value
+pub mismatch : (x y known value place : ℕ)
+    → bit_at (bit_xor (bit_and x known) value) place ≡ 1 → y / 2 ^ place ≡ x / 2 ^ place → bit_and y known ≢ value
 mismatch x y known value place wrong same e =
     let bit : bit_at y place ≡ bit_at x place = ap (λ q. q % 2) same in
     let masked : bit_at (bit_and x known) place ≡ bit_at value place =
-    bit_at_and x known place ∙ ap (λ b. min b (bit_at known place)) (sym bit) ∙ sym (bit_at_and y known place) ∙ ap (λ n. bit_at n place) e in
-    let both : (bit_at (bit_and x known) place + bit_at value place) % 2 ≡ 1 = sym (bit_at_xor (bit_and x known) value place) ∙ wrong in
+    bit_at_and x known place ∙ ap (λ b. min b (bit_at known place)) (sym bit)
+    ∙ sym (bit_at_and y known place) ∙ ap (λ n. bit_at n place) e in
+    let both : (bit_at (bit_and x known) place + bit_at value place) % 2 ≡ 1 =
+    sym (bit_at_xor (bit_and x known) value place) ∙ wrong in
     omega (arith, masked, both, bit_at-lt value place)
-
--- from x up to the next multiple of a power, the quotient is that of x
-pub same-block : (x y power : ℕ) → 0 < power → x ≤ y → y < (x / power + 1) * power → y / power ≡ x / power
-same-block x y power p from to =
-    let low : x / power * power ≤ y = omega (arith, div-mul-le_self x power) in
-    omega (arith, le-div (x / power) y power p low, div_below y power (x / power + 1) p to)
 
 top-digit : (n power : ℕ) → 0 < power → power ≤ n → n < 2 * power → n / power ≡ 1
 top-digit n power p a b =
@@ -30,7 +28,8 @@ top-digit n power p a b =
     omega (arith, le-div 1 n power p one, div_below n power 2 p b)
 
 -- the highest digit of a number that isn't 0
-pub highest : (n : ℕ) → 0 < n → n < 2 ^ 32 → (31 - count_leading_zeros 32 n < 32) × (bit_at n (31 - count_leading_zeros 32 n) ≡ 1)
+pub highest : (n : ℕ) → 0 < n → n < 2 ^ 32
+    → (31 - count_leading_zeros 32 n < 32) × (bit_at n (31 - count_leading_zeros 32 n) ≡ 1)
 highest n p fits =
     let top = leading_top 32 n p fits in
     let place : 31 - count_leading_zeros 32 n ≡ top.0 = omega (arith, top.1) in
@@ -39,10 +38,9 @@ highest n p fits =
     let one : n / 2 ^ top.0 ≡ 1 = top-digit n (2 ^ top.0) (pow_pos top.0) top.2 below in
     (omega (arith, place), subst (λ k. bit_at n k ≡ 1) (sym place) (ap (λ q. q % 2) one))
 
-below-or-from : (y x : ℕ) → (y < x) ⊎ (x ≤ y)
-below-or-from y x = cases_lt y x
-
 -- where no number from low to x has the known bits, and x has a wrong one, none has up to the next block
-pub none-past : (low x next known value place : ℕ) → ((y : ℕ) → low ≤ y → y < x → bit_and y known ≢ value) → bit_at (bit_xor (bit_and x known) value) place ≡ 1 → ((y : ℕ) → x ≤ y → y < next → y / 2 ^ place ≡ x / 2 ^ place) → (y : ℕ) → low ≤ y → y < next → bit_and y known ≢ value
-none-past low x next known value place none wrong same y from to = elim (below-or-from y x)
+pub none-past : (low x next known value place : ℕ) → ((y : ℕ) → low ≤ y → y < x → bit_and y known ≢ value)
+    → bit_at (bit_xor (bit_and x known) value) place ≡ 1 → ((y : ℕ) → x ≤ y → y < next → y / 2 ^ place ≡ x / 2 ^ place)
+    → (y : ℕ) → low ≤ y → y < next → bit_and y known ≢ value
+none-past low x next known value place none wrong same y from to = elim (cases_lt y x)
     [ inl h ↦ none y from h | inr h ↦ mismatch x y known value place wrong (same y h to) ]

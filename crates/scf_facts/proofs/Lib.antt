@@ -1,6 +1,9 @@
 pub mod ApartLaws
+pub mod AtomLaws
+pub mod CountLaws
 pub mod IntervalLaws
 pub mod LeastNumber
 pub mod MaskLaws
 pub mod SetLaws
 pub mod StoreLaws
+pub mod TrailLaws

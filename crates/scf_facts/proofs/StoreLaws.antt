@@ -1,17 +1,20 @@
 -- What facts of each word say of lists of words.
-use Rattle.std.proofs.Common.{◌≡◌, ◌≢◌, ◌⊎◌, inl, inr, ℕ, zero, suc, ◌+◌, ◌-◌, ◌<◌, ◌^◌, ◌↔◌, List, [], ◌∷◌, refl, sym, ap, subst, ◌∙◌, arith, length, get_or}
-use Rattle.std.specs.Prelude.{Bool, true, false, ◌&&◌, IsTrue, slice_get, slice_index, slice_set, replicate, Option, Some, None, IsSome}
+use Rattle.std.proofs.Common.{◌≡◌, ◌≢◌, ◌⊎◌, inl, inr, ℕ, zero, suc, ◌+◌, ◌-◌, ◌<◌, ◌^◌, ◌↔◌, List, [], ◌∷◌, refl, sym}
+use Rattle.std.proofs.Common.{ap, subst, ◌∙◌, arith, length, get_or}
+use Rattle.std.specs.Prelude.{Bool, true, false, ◌&&◌, IsTrue, slice_get, slice_index, slice_set, replicate, Option}
+use Rattle.std.specs.Prelude.{Some, None, IsSome}
 use Rattle.std.specs.List.{list_all, AllByRecursion}
 use Rattle.std.specs.Int.Bits.{and_zero_r}
 use Rattle.std.proofs.lemmas.Bool.{cases_eq, cases_lt}
 use Rattle.std.proofs.lemmas.List.{get_or-set_same, get_or-set_other}
 use Rattle.std.proofs.lemmas.Option.{slice_get_read}
 use Rattle.scf_insn.specs.Words.{IsWords}
-use Rattle.scf_facts.specs.WordSets.{NumberFacts, AllowsNumber, AllowsWords, no_facts}
+use Rattle.scf_facts.specs.internal.WordSets.{NumberFacts, AllowsNumber, AllowsWords, no_facts}
 
 -- ---- elements of lists
 
-get-set_same : {A : Type 0} (xs : List A) (k : ℕ) (x y : A) → slice_get xs k ≡ Some x → slice_get (slice_set xs k y) k ≡ Some y
+get-set_same : {A : Type 0} (xs : List A) (k : ℕ) (x y : A)
+    → slice_get xs k ≡ Some x → slice_get (slice_set xs k y) k ≡ Some y
 get-set_same [] k x y e = cc
 get-set_same (z ∷ xs) zero x y e = refl
 get-set_same (z ∷ xs) (suc k) x y e = get-set_same xs k x y e
@@ -36,21 +39,20 @@ and_true : (a b : Bool) → IsTrue a → IsTrue b → IsTrue (a && b)
 and_true true b p q = q
 and_true false b p q = cc
 
-pub list_all-get : {A : Type 0} (p : A → Bool) (xs : List A) (k : ℕ) (x : A) → IsTrue (list_all p xs) → slice_get xs k ≡ Some x → IsTrue (p x)
+pub list_all-get : {A : Type 0} (p : A → Bool) (xs : List A) (k : ℕ) (x : A)
+    → IsTrue (list_all p xs) → slice_get xs k ≡ Some x → IsTrue (p x)
 list_all-get p [] k x h e = cc
-list_all-get p (y ∷ xs) zero x h e = let same : y ≡ x = cc in subst (λ z. IsTrue (p z)) same (both_true (p y) (list_all p xs) h).0
+list_all-get p (y ∷ xs) zero x h e = let same : y ≡ x = cc in
+    subst (λ z. IsTrue (p z)) same (both_true (p y) (list_all p xs) h).0
 list_all-get p (y ∷ xs) (suc k) x h e = list_all-get p xs k x (both_true (p y) (list_all p xs) h).1 e
 
-pub list_all-set : {A : Type 0} (p : A → Bool) (xs : List A) (k : ℕ) (y : A) → IsTrue (list_all p xs) → IsTrue (p y) → IsTrue (list_all p (slice_set xs k y))
+pub list_all-set : {A : Type 0} (p : A → Bool) (xs : List A) (k : ℕ) (y : A)
+    → IsTrue (list_all p xs) → IsTrue (p y) → IsTrue (list_all p (slice_set xs k y))
 list_all-set p [] k y h q = h
 list_all-set p (x ∷ xs) zero y h q = and_true (p y) (list_all p xs) q (both_true (p x) (list_all p xs) h).1
 list_all-set p (x ∷ xs) (suc k) y h q =
     let parts = both_true (p x) (list_all p xs) h in
     and_true (p x) (list_all p (slice_set xs k y)) parts.0 (list_all-set p xs k y parts.1 q)
-
-pub list_all-replicate : {A : Type 0} (p : A → Bool) (n : ℕ) (x : A) → p x ≡ true → list_all p (replicate n x) ≡ true
-list_all-replicate p zero x h = refl
-list_all-replicate p (suc n) x h = and_true (p x) (list_all p (replicate n x)) h (list_all-replicate p n x h)
 
 -- each of the words is a number of 32 bits
 fits_at : (words : List ℕ) → AllByRecursion (λ word. word < 2 ^ 32) words → (k : ℕ) → slice_index words k < 2 ^ 32
@@ -74,22 +76,30 @@ all_numbers x fits = record {
 pub allows_all : (n : ℕ) (words : List ℕ) → AllowsWords (replicate n no_facts) words ↔ IsWords words
 allows_all n words = (
   λ h. h.sixteen,
-  λ h. record { sixteen = h; each = λ place facts e. subst (λ f. AllowsNumber f (slice_index words place)) (get-replicate n no_facts facts place e) (all_numbers (slice_index words place) (word_fits words place h)) },
+  λ h. record {
+    sixteen = h;
+    each = λ place facts e. subst (λ f. AllowsNumber f (slice_index words place))
+        (get-replicate n no_facts facts place e) (all_numbers (slice_index words place) (word_fits words place h));
+  },
 )
 
 -- other facts of one word
-pub allows_set : (sets : List NumberFacts) (place : ℕ) (old new : NumberFacts) (P : ℕ → Type 0) → slice_get sets place ≡ Some old → ((x : ℕ) → x < 2 ^ 32 → AllowsNumber new x ↔ (AllowsNumber old x × P x))
-    → (words : List ℕ) → AllowsWords (slice_set sets place new) words ↔ (AllowsWords sets words × P (slice_index words place))
+pub allows_set : (sets : List NumberFacts) (place : ℕ) (old new : NumberFacts) (P : ℕ → Type 0)
+    → slice_get sets place ≡ Some old → ((x : ℕ) → x < 2 ^ 32 → AllowsNumber new x ↔ (AllowsNumber old x × P x))
+    → (words : List ℕ)
+    → AllowsWords (slice_set sets place new) words ↔ (AllowsWords sets words × P (slice_index words place))
 allows_set sets place old new P at same words = (to, from)
   where
     to : AllowsWords (slice_set sets place new) words → AllowsWords sets words × P (slice_index words place)
     to h =
         let x = slice_index words place in
-        let r = (same x (word_fits words place h.sixteen)).0 (h.each place new (get-set_same sets place old new at)) in (
+        let new_at = get-set_same sets place old new at in
+        let r = (same x (word_fits words place h.sixteen)).0 (h.each place new new_at) in (
           record {
             sixteen = h.sixteen;
             each = λ k facts e. elim (cases_eq k place) [
-              | inl here ↦ let f : old ≡ facts = cc in subst (λ g. AllowsNumber g (slice_index words k)) f (subst (λ j. AllowsNumber old (slice_index words j)) (sym here) r.0)
+              | inl here ↦ let f : old ≡ facts = cc in subst (λ g. AllowsNumber g (slice_index words k)) f
+                  (subst (λ j. AllowsNumber old (slice_index words j)) (sym here) r.0)
               | inr other ↦ h.each k facts (get-set_other sets place k new other ∙ e)
             ];
           },
@@ -103,39 +113,49 @@ allows_set sets place old new P at same words = (to, from)
         record {
           sixteen = h.0.sixteen;
           each = λ k facts e. elim (cases_eq k place) [
-            | inl here ↦ let f : new ≡ facts = now k facts e here in subst (λ g. AllowsNumber g (slice_index words k)) f (subst (λ j. AllowsNumber new (slice_index words j)) (sym here) r)
+            | inl here ↦ let f : new ≡ facts = now k facts e here in subst (λ g. AllowsNumber g (slice_index words k)) f
+                (subst (λ j. AllowsNumber new (slice_index words j)) (sym here) r)
             | inr other ↦ h.0.each k facts (sym (get-set_other sets place k new other) ∙ e)
           ];
         }
       where
-        now : (k : ℕ) (facts : NumberFacts) → slice_get (slice_set sets place new) k ≡ Some facts → k ≡ place → new ≡ facts
+        now : (k : ℕ) (facts : NumberFacts)
+            → slice_get (slice_set sets place new) k ≡ Some facts → k ≡ place → new ≡ facts
         now k facts e here =
             let this = get-set_same sets place old new at in
             let that = subst (λ j. slice_get (slice_set sets place new) j ≡ Some facts) here e in
             cc
 
 -- where each word may be some number, some list of words is allowed
-some_words : (sets : List NumberFacts) → ((place : ℕ) (facts : NumberFacts) → slice_get sets place ≡ Some facts → (x : ℕ) × (x < 2 ^ 32) × AllowsNumber facts x)
-    → (words : List ℕ) × (length words ≡ length sets) × AllByRecursion (λ word. word < 2 ^ 32) words × ((place : ℕ) (facts : NumberFacts) → slice_get sets place ≡ Some facts → AllowsNumber facts (slice_index words place))
+some_words : (sets : List NumberFacts) → ((place : ℕ) (facts : NumberFacts)
+    → slice_get sets place ≡ Some facts → (x : ℕ) × (x < 2 ^ 32) × AllowsNumber facts x)
+    → (words : List ℕ) × (length words ≡ length sets) × AllByRecursion (λ word. word < 2 ^ 32) words × ((place : ℕ)
+    (facts : NumberFacts) → slice_get sets place ≡ Some facts → AllowsNumber facts (slice_index words place))
 some_words [] some = ([], refl, tt, λ place facts e. cc)
 some_words (s ∷ sets) some =
     let here = some 0 s refl in
     let rest = some_words sets (λ place facts e. some (suc place) facts e) in
     (here.0 ∷ rest.0, ap suc rest.1, (here.1, rest.2), each here rest)
   where
-    each : (here : (x : ℕ) × (x < 2 ^ 32) × AllowsNumber s x) (rest : (words : List ℕ) × (length words ≡ length sets) × AllByRecursion (λ word. word < 2 ^ 32) words × ((place : ℕ) (facts : NumberFacts) → slice_get sets place ≡ Some facts → AllowsNumber facts (slice_index words place)))
-        → (place : ℕ) (facts : NumberFacts) → slice_get (s ∷ sets) place ≡ Some facts → AllowsNumber facts (slice_index (here.0 ∷ rest.0) place)
+    each : (here : (x : ℕ) × (x < 2 ^ 32) × AllowsNumber s x) (rest : (words : List ℕ) × (length words ≡ length sets)
+        × AllByRecursion (λ word. word < 2 ^ 32) words × ((place : ℕ) (facts : NumberFacts)
+        → slice_get sets place ≡ Some facts → AllowsNumber facts (slice_index words place)))
+        → (place : ℕ) (facts : NumberFacts)
+        → slice_get (s ∷ sets) place ≡ Some facts → AllowsNumber facts (slice_index (here.0 ∷ rest.0) place)
     each here rest zero facts e = let same : s ≡ facts = cc in subst (λ f. AllowsNumber f here.0) same here.2
     each here rest (suc place) facts e = rest.3 place facts e
 
-pub allows_some : (sets : List NumberFacts) → length sets ≡ 16 → ((place : ℕ) (facts : NumberFacts) → slice_get sets place ≡ Some facts → (x : ℕ) × (x < 2 ^ 32) × AllowsNumber facts x) → (words : List ℕ) × AllowsWords sets words
+pub allows_some : (sets : List NumberFacts) → length sets ≡ 16 → ((place : ℕ) (facts : NumberFacts) → slice_get
+    sets place ≡ Some facts → (x : ℕ) × (x < 2 ^ 32) × AllowsNumber facts x) → (words : List ℕ) × AllowsWords sets words
 allows_some sets sixteen some =
     let r = some_words sets some in
     (r.0, record { sixteen = record { count = r.1 ∙ sixteen; each = r.2 }; each = r.3 })
 
 -- ---- one word more in a walk over all of them
 
-more_places : (sets : List NumberFacts) (i : ℕ) (s : NumberFacts) → i < length sets → s ≡ get_or sets i s → (place : ℕ) (facts : NumberFacts) → place < i + 1 → slice_get sets place ≡ Some facts → (place < i) ⊎ ((place ≡ i) × (s ≡ facts))
+more_places : (sets : List NumberFacts) (i : ℕ) (s : NumberFacts)
+    → i < length sets → s ≡ get_or sets i s → (place : ℕ) (facts : NumberFacts)
+    → place < i + 1 → slice_get sets place ≡ Some facts → (place < i) ⊎ ((place ≡ i) × (s ≡ facts))
 more_places sets i s lt item place facts more e = elim (cases_lt place i) [
   | inl before ↦ inl before
   | inr from ↦ inr (
@@ -148,25 +168,35 @@ more_places sets i s lt item place facts more e = elim (cases_lt place i) [
     same_some : (a b : NumberFacts) → Some a ≡ Some b → a ≡ b
     same_some a b h = cc
 
-pub more_facts : (sets : List NumberFacts) (i : ℕ) (s : NumberFacts) (Q : NumberFacts → Type 0) → i < length sets → s ≡ get_or sets i s → ((place : ℕ) (facts : NumberFacts) → place < i → slice_get sets place ≡ Some facts → Q facts) → Q s
+pub more_facts : (sets : List NumberFacts) (i : ℕ) (s : NumberFacts) (Q : NumberFacts → Type 0)
+    → i < length sets → s ≡ get_or sets i s
+    → ((place : ℕ) (facts : NumberFacts) → place < i → slice_get sets place ≡ Some facts → Q facts) → Q s
     → (place : ℕ) (facts : NumberFacts) → place < i + 1 → slice_get sets place ≡ Some facts → Q facts
 more_facts sets i s Q lt item before here place facts more e = elim (more_places sets i s lt item place facts more e) [
   | inl earlier ↦ before place facts earlier e
   | inr now ↦ subst Q now.1 here
 ]
 
-pub more_numbers : (sets : List NumberFacts) (words : List ℕ) (i : ℕ) (s : NumberFacts) (x : ℕ) → i < length sets → i < length words → s ≡ get_or sets i s → AllowsNumber s x → ((place : ℕ) (facts : NumberFacts) → place < i → slice_get sets place ≡ Some facts → AllowsNumber facts (slice_index words place))
-    → (place : ℕ) (facts : NumberFacts) → place < i + 1 → slice_get sets place ≡ Some facts → AllowsNumber facts (slice_index (slice_set words i x) place)
-more_numbers sets words i s x lt room item allowed before place facts more e = elim (more_places sets i s lt item place facts more e) [
-  | inl earlier ↦ let ne : place ≢ i = omega arith in subst (AllowsNumber facts) (sym (get_or-set_other words i place x 0 ne)) (before place facts earlier e)
-  | inr now ↦
-      let at : slice_index (slice_set words i x) place ≡ x = ap (slice_index (slice_set words i x)) now.0 ∙ get_or-set_same words i x 0 room in
-      subst (AllowsNumber facts) (sym at) (subst (λ f. AllowsNumber f x) now.1 allowed)
-]
+pub more_numbers : (sets : List NumberFacts) (words : List ℕ) (i : ℕ) (s : NumberFacts) (x : ℕ)
+    → i < length sets → i < length words → s ≡ get_or sets i s → AllowsNumber s x → ((place : ℕ) (facts : NumberFacts)
+    → place < i → slice_get sets place ≡ Some facts → AllowsNumber facts (slice_index words place))
+    → (place : ℕ) (facts : NumberFacts) → place < i + 1
+    → slice_get sets place ≡ Some facts → AllowsNumber facts (slice_index (slice_set words i x) place)
+more_numbers sets words i s x lt room item allowed before place facts more e =
+    elim (more_places sets i s lt item place facts more e) [
+      | inl earlier ↦ let ne : place ≢ i = omega arith in
+          subst (AllowsNumber facts) (sym (get_or-set_other words i place x 0 ne)) (before place facts earlier e)
+      | inr now ↦
+          let at : slice_index (slice_set words i x) place ≡ x = ap (slice_index (slice_set words i x)) now.0
+          ∙ get_or-set_same words i x 0 room in
+          subst (AllowsNumber facts) (sym at) (subst (λ f. AllowsNumber f x) now.1 allowed)
+    ]
 
 -- a word without a number leaves no list
-pub none_allowed : (sets : List NumberFacts) (i : ℕ) (s : NumberFacts) → i < length sets → s ≡ get_or sets i s → ((x : ℕ) → x < 2 ^ 32 → AllowsNumber s x → ⊥) → (words : List ℕ) → AllowsWords sets words → ⊥
-none_allowed sets i s lt item none words h = none (slice_index words i) (word_fits words i h.sixteen) (h.each i s (slice_get_read sets (length sets) i s refl lt item))
+pub none_allowed : (sets : List NumberFacts) (i : ℕ) (s : NumberFacts) → i < length sets → s ≡ get_or sets i s
+    → ((x : ℕ) → x < 2 ^ 32 → AllowsNumber s x → ⊥) → (words : List ℕ) → AllowsWords sets words → ⊥
+none_allowed sets i s lt item none words h = none (slice_index words i)
+    (word_fits words i h.sixteen) (h.each i s (slice_get_read sets (length sets) i s refl lt item))
 
 pub no_some : (o : Option ℕ) → o ≡ None → IsSome o → ⊥
 no_some None e h = cc

@@ -1,5 +1,5 @@
--- What atoms ask of the words of a call record, and what facts about words mean.
-use Rattle.std.specs.Prelude.{◌↔◌, ◌==◌, ℕ, List, Bool, slice_index, bit_and, nat_lt, nat_le}
+-- What atoms ask of the words of a call record.
+use Rattle.std.specs.Prelude.{◌==◌, ℕ, List, Bool, slice_index, bit_and, nat_lt, nat_le}
 use Rattle.scf_facts.specs.declared.atom.Atom.{Atom}
 use Rattle.scf_facts.specs.declared.atom.Atom.TheVariants.{Eq, Gt, Ge}
 
@@ -18,7 +18,3 @@ answer_at (Ge word value) number = nat_le value number
 -- what an atom answers of a list of words
 abbrev pub atom_answer : Atom → List ℕ → Bool
 atom_answer atom words = answer_at atom (slice_index words (word_of atom))
-
--- two stores allow the same lists
-abbrev pub AllowsSame : {S : Type 0} → (S → List ℕ → Type 0) → S → S → Type 0
-AllowsSame allows facts other = (words : List ℕ) → allows facts words ↔ allows other words

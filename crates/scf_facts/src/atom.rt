@@ -1,9 +1,9 @@
-//! Questions about one word, and what can be told of them.
+//! What is asked of one word, and what can be told of that.
 
 ghost use Rattle.std.specs.Prelude.{◌≡◌};
 ghost use Rattle.scf_facts.specs.Atoms.{answer_at, word_of};
 
-/// A question about one of the sixteen words of a call record, by its number from 0 to 15.
+/// What is asked of one of the sixteen words of a call record, by its number from 0 to 15: an answer is true or false.
 #[derive(Clone, Copy, Debug, PartialEq, Eq)]
 pub enum Atom {
     /// The word AND the mask equals the value.

@@ -1,9 +1,10 @@
 //! Facts as the list of what was learned.
 
-ghost use Rattle.std.specs.Prelude.{◌≡◌, ◌<◌, ◌↔◌, ℕ, List, All, IsTrue, false};
+ghost use Rattle.std.specs.Prelude.{◌≡◌, ◌<◌, ◌↔◌, ℕ, List, All, IfOk, IsOk, IsTrue, false, length};
 ghost use Rattle.scf_insn.specs.Words.{IsWords};
 ghost use Rattle.scf_facts.specs.Atoms.{word_of};
-ghost use Rattle.scf_facts.specs.Learned.{AllGive};
+ghost use Rattle.scf_facts.specs.internal.Counts.{AreRising};
+ghost use Rattle.scf_facts.specs.internal.Learned.{AllGive, AllowsByAtoms};
 
 use crate::atom::{Atom, Tell};
 use crate::learned::Learned;
@@ -11,38 +12,59 @@ use crate::word_facts::WordFacts;
 use scf_insn::Memory;
 use std::alloc::Global;
 
-/// The learned atoms with their answers, in order.
+/// The learned atoms with their answers, in order, and how many there were at each open mark.
 ///
 /// It tells of an atom that was learned itself, of an `Eq` with mask 0, and of any atom on a word that a true `Eq` with
 /// all bits in its mask has fixed. It picks the words that are 0 save those so fixed, where every learned atom agrees.
 #[derive(Drop)]
 pub struct AtomList {
     learned: Vec<Learned>,
+    marks: Vec<usize>,
     ghost about_words: { All (λ known. word_of known.atom < 16) learned.items },
+    ghost rising: { AreRising marks.items (length learned.items) },
 }
 
 impl WordFacts for AtomList {
-    ghost allows = { λ facts words. IsWords words × AllGive facts.learned.items words };
+    ghost level = { λ facts. length facts.marks.items };
 
-    ghost is_exact = { λ _. false };
+    ghost allows = { λ facts. AllowsByAtoms facts.learned.items facts.marks.items };
+
+    ghost is_exact = { λ _ _. false };
 
     ghost starts_exact = { false };
 
-    fn all(alloc: Global) -> Result<Self, Memory> {
+    fn all(alloc: Global) -> Result<Self, Memory>
+        ensures unmarked { IfOk result (λ facts. ⟦<AtomList as WordFacts>⟧.level facts ≡ 0) }
+        ensures law_all { IfOk result (λ facts. (words : List ℕ)
+            → ⟦<AtomList as WordFacts>⟧.allows facts 0 words ↔ IsWords words) }
+        // No memory is wanted for nothing learned.
+        ensures never_refused { IsOk result }
+    {
         Ok(AtomList {
             learned: Vec::new(alloc),
-        })
-    }
-
-    fn copy(&self, alloc: Global) -> Result<Self, Memory> {
-        Ok(AtomList {
-            learned: Vec::from_slice(alloc, &self.learned)?,
+            marks: Vec::new(alloc),
         })
     }
 
     fn learn(&mut self, atom: Atom, holds: bool) -> Result<(), Memory> {
         self.learned.push(Learned { atom, holds })?;
         Ok(())
+    }
+
+    fn mark(&mut self) -> Result<(), Memory> {
+        let count = self.learned.len();
+        self.marks.push(count)?;
+        Ok(())
+    }
+
+    fn undo(&mut self) {
+        if let Some(count) = self.marks.pop() {
+            self.learned.truncate(count);
+        }
+    }
+
+    fn open_marks(&self) -> usize {
+        self.marks.len()
     }
 
     fn tell(&self, atom: Atom) -> Tell {

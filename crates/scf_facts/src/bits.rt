@@ -2,10 +2,10 @@
 
 ghost use Rattle.std.specs.Prelude.{◌≡◌, ◌↔◌, ◌⊎◌, ℕ, IsTrue, IfSome, IfNone, bit_and};
 ghost use Rattle.std.specs.Int.{IsPowerOfTwo};
-ghost use Rattle.scf_facts.specs.Bits.{HasBits, LacksBits};
+ghost use Rattle.scf_facts.specs.internal.Bits.{HasBits, LacksBits};
 
 /// A mask and a value. A number has these bits where it AND the mask is the value.
-#[derive(Clone, Copy, Debug, PartialEq, Eq)]
+#[derive(Clone, Copy)]
 pub(crate) struct Bits {
     pub(crate) mask: u32,
     pub(crate) value: u32,

@@ -1,13 +1,10 @@
-//! Intervals of numbers.
+//! Intervals of numbers, one alone.
 
-ghost use Rattle.std.specs.Prelude.{◌≡◌, ◌++◌, ◌↔◌, IsTrue, IfOk};
-ghost use Rattle.std.specs.List.{filter_map};
-ghost use Rattle.scf_facts.specs.Intervals.{IsWithin, IsInside, part_within, part_below, part_above};
-
-use std::alloc::{AllocError, Global};
+ghost use Rattle.std.specs.Prelude.{◌≡◌, ◌↔◌, IsTrue};
+ghost use Rattle.scf_facts.specs.internal.Intervals.{LiesIn, part_within, part_below, part_above};
 
 /// The numbers from one to another, both included.
-#[derive(Clone, Copy, Debug, PartialEq, Eq)]
+#[derive(Clone, Copy)]
 pub(crate) struct Interval {
     pub(crate) low: u32,
     pub(crate) high: u32,
@@ -29,7 +26,7 @@ impl Interval {
 
     /// Whether a number lies in it.
     pub(crate) fn contains(self, x: u32) -> bool
-        ensures { IsTrue result ↔ IsWithin self x }
+        ensures { IsTrue result ↔ LiesIn self x }
     {
         self.low <= x && x <= self.high
     }
@@ -74,48 +71,4 @@ impl Interval {
             None
         }
     }
-}
-
-/// The parts of sorted intervals within a range, in their order.
-pub(crate) fn parts_within(
-    alloc: Global,
-    intervals: &[Interval],
-    range: Interval,
-) -> Result<Vec<Interval>, AllocError>
-    ensures { IfOk result (λ parts. parts.items ≡ filter_map (part_within range) intervals.now) }
-{
-    intervals
-        .iter()
-        .filter_map(|interval| interval.part_within(range))
-        .collect(alloc)
-}
-
-/// The parts of sorted intervals outside a range, in their order.
-pub(crate) fn parts_outside(
-    alloc: Global,
-    intervals: &[Interval],
-    range: Interval,
-) -> Result<Vec<Interval>, AllocError>
-    ensures { IfOk result (λ parts. parts.items
-        ≡ filter_map (part_below range.low) intervals.now ++ filter_map (part_above range.high) intervals.now) }
-{
-    let below = intervals
-        .iter()
-        .filter_map(|interval| interval.part_below(range.low));
-    let above = intervals
-        .iter()
-        .filter_map(|interval| interval.part_above(range.high));
-    below.chain(above).collect(alloc)
-}
-
-/// Whether a number lies in one of the intervals.
-pub(crate) fn lies_inside(intervals: &[Interval], x: u32) -> bool
-    ensures { IsTrue result ↔ IsInside intervals.now x }
-{
-    for interval in intervals {
-        if interval.contains(x) {
-            return true;
-        }
-    }
-    false
 }

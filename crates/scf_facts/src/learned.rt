@@ -7,7 +7,7 @@ ghost use Rattle.scf_facts.specs.Atoms.{atom_answer, answer_at, word_of};
 use crate::atom::{Atom, Tell};
 
 /// An atom with its answer.
-#[derive(Clone, Copy, Debug, PartialEq, Eq)]
+#[derive(Clone, Copy)]
 pub(crate) struct Learned {
     pub(crate) atom: Atom,
     pub(crate) holds: bool,

@@ -2,8 +2,8 @@
 
 ghost use Rattle.std.specs.Prelude.{◌≡◌, ◌<◌, ◌≤◌, ◌^◌, ◌/◌, ℕ, IfSome, IfNone};
 ghost use Rattle.std.specs.Int.{bit_at};
-ghost use Rattle.scf_facts.specs.Bits.{HasBits, LacksBits};
-ghost use Rattle.scf_facts.specs.Intervals.{IsWithin, IsInside, AreApart};
+ghost use Rattle.scf_facts.specs.internal.Bits.{HasBits, LacksBits};
+ghost use Rattle.scf_facts.specs.internal.Intervals.{LiesIn, LiesInOne, AreApart};
 
 use crate::bits::Bits;
 use crate::interval::Interval;
@@ -49,9 +49,9 @@ fn least_from(low: u32, bits: Bits) -> Option<u32>
 /// The first number of sorted intervals that lies in a range and has the bits.
 pub(crate) fn first_number(intervals: &[Interval], range: Interval, bits: Bits) -> Option<u32>
     requires { AreApart intervals.now }
-    ensures found { IfSome result (λ x. IsInside intervals.now x × IsWithin range x × HasBits bits x) }
+    ensures found { IfSome result (λ x. LiesInOne intervals.now x × LiesIn range x × HasBits bits x) }
     ensures none { IfNone result ((x : ℕ) → x < 2 ^ 32
-        → IsInside intervals.now x → IsWithin range x → HasBits bits x → ⊥) }
+        → LiesInOne intervals.now x → LiesIn range x → HasBits bits x → ⊥) }
 {
     for interval in intervals {
         if interval.low > range.high {
@@ -66,8 +66,8 @@ pub(crate) fn first_number(intervals: &[Interval], range: Interval, bits: Bits) 
 
 /// The least number of an interval that lies in a range and has the bits.
 fn first_of(interval: Interval, range: Interval, bits: Bits) -> Option<u32>
-    ensures found { IfSome result (λ x. IsWithin interval x × IsWithin range x × HasBits bits x) }
-    ensures none { IfNone result ((x : ℕ) → x < 2 ^ 32 → IsWithin interval x → IsWithin range x → HasBits bits x → ⊥) }
+    ensures found { IfSome result (λ x. LiesIn interval x × LiesIn range x × HasBits bits x) }
+    ensures none { IfNone result ((x : ℕ) → x < 2 ^ 32 → LiesIn interval x → LiesIn range x → HasBits bits x → ⊥) }
 {
     let low = interval.low.max(range.low);
     let high = interval.high.min(range.high);

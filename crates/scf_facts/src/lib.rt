@@ -1,18 +1,22 @@
 //! What is known of the sixteen words of a call record.
 #![tactic(auto)]
 
+mod asked;
 mod atom;
 mod atom_list;
 mod bits;
 mod interval;
+mod intervals;
+mod laws;
 mod learned;
 mod least;
-mod question;
+mod trail;
 mod word_facts;
 mod word_set;
 mod word_sets;
 
 pub use atom::{Atom, Tell};
 pub use atom_list::AtomList;
+pub use laws::word_sets_start_exact;
 pub use word_facts::WordFacts;
-pub use word_sets::{WordSets, word_sets_start_exact};
+pub use word_sets::WordSets;

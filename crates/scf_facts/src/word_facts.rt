@@ -1,9 +1,11 @@
 //! The laws of a store of facts about words.
 
-ghost use Rattle.std.specs.Prelude.{◌≡◌, ◌<◌, ◌↔◌, ℕ, List, Bool, IsTrue, IsSome, IfOk, OnOk, OnErr, IfSome, true, false};
+ghost use Rattle.std.specs.Prelude.{◌≡◌, ◌+◌, ◌<◌, ◌≤◌, ◌↔◌, ℕ, List, Bool, IsTrue, true, false};
+ghost use Rattle.std.specs.Prelude.{IsSome, IfSome, IfOk, OnOk, OnErr};
 ghost use Rattle.scf_insn.specs.Words.{IsWords};
-ghost use Rattle.scf_facts.specs.Atoms.{atom_answer, word_of, AllowsSame};
+ghost use Rattle.scf_facts.specs.Atoms.{atom_answer, word_of};
 ghost use Rattle.scf_facts.specs.Exactness.{KeepsExact};
+ghost use Rattle.scf_facts.specs.Levels.{IsSameLevel};
 
 use crate::atom::{Atom, Tell};
 use scf_insn::Memory;
@@ -11,53 +13,82 @@ use std::alloc::Global;
 
 /// What is known of the sixteen words of a call record: a set of lists of sixteen words, those that are allowed.
 ///
+/// A mark is opened before something is tried, and undone to go back to what was known then. A level is the place of
+/// an open mark, 0 being the oldest, or the count of the open marks, which is the level of what is known now.
+///
 /// Facts may be exact. Then it is always seen where no list is allowed, and a list is found wherever one is.
 pub trait WordFacts: Sized + Drop {
-    /// The lists of words that are allowed.
-    ghost allows: { Self → List ℕ → Type 0 };
+    /// How many marks are open: the level of what is known now.
+    ghost level: { Self → ℕ };
 
-    /// Whether the facts are exact.
-    ghost is_exact: { Self → Bool };
+    /// The lists of words that are allowed at a level.
+    ghost allows: { Self → ℕ → List ℕ → Type 0 };
+
+    /// Whether the facts are exact at a level.
+    ghost is_exact: { Self → ℕ → Bool };
 
     /// Whether facts that allow every list are exact.
     ghost starts_exact: { Bool };
 
-    /// Facts that allow every list of sixteen words.
+    /// Facts that allow every list of sixteen words, with no open mark.
     fn all(alloc: Global) -> Result<Self, Memory>
-        ensures law_all { IfOk result (λ facts. (words : List ℕ) → allows facts words ↔ IsWords words) }
-        ensures exact { IfOk result (λ facts. is_exact facts ≡ starts_exact) };
+        ensures unmarked { IfOk result (λ facts. level facts ≡ 0) }
+        ensures law_all { IfOk result (λ facts. (words : List ℕ) → allows facts 0 words ↔ IsWords words) }
+        ensures exact { IfOk result (λ facts. is_exact facts 0 ≡ starts_exact) };
 
-    /// Other facts that allow the same lists and are as exact. These stay as they are.
-    fn copy(&self, alloc: Global) -> Result<Self, Memory>
-        ensures law_copy { IfOk result (λ facts. AllowsSame allows facts self.now) }
-        ensures exact { IfOk result (λ facts. is_exact facts ≡ is_exact self.now) };
-
-    /// Keeps of the allowed lists those that give the atom this answer. Where memory is refused, all of them stay.
+    /// Keeps of the allowed lists those that give the atom this answer. The marks stay as they are. Where memory is
+    /// refused, all lists stay.
     fn learn(&mut self, atom: Atom, holds: bool) -> Result<(), Memory>
         requires word { word_of atom < 16 }
-        ensures law_learn { OnOk result (
-            (words : List ℕ) → allows self.new words ↔ (allows self.old words × (atom_answer atom words ≡ holds))) }
-        ensures refused { OnErr result (AllowsSame allows self.new self.old) }
-        ensures exact { OnOk result (KeepsExact atom holds → IsTrue (is_exact self.old) → IsTrue (is_exact self.new)) }
-        ensures refused_exact { OnErr result (is_exact self.new ≡ is_exact self.old) };
+        ensures marks { level self.new ≡ level self.old }
+        ensures at_marks { (place : ℕ) → place < level self.old
+            → IsSameLevel allows is_exact self.old place self.new place }
+        ensures law_learn { OnOk result ((words : List ℕ) → allows self.new (level self.old) words
+            ↔ (allows self.old (level self.old) words × (atom_answer atom words ≡ holds))) }
+        ensures exact { OnOk result (KeepsExact atom holds
+            → IsTrue (is_exact self.old (level self.old)) → IsTrue (is_exact self.new (level self.old))) }
+        ensures refused { OnErr result (
+            IsSameLevel allows is_exact self.old (level self.old) self.new (level self.old)) };
+
+    /// Opens a mark at what is known now. Where memory is refused, none is opened.
+    fn mark(&mut self) -> Result<(), Memory>
+        ensures opened { OnOk result (level self.new ≡ level self.old + 1) }
+        ensures known { OnOk result (
+            IsSameLevel allows is_exact self.old (level self.old) self.new (level self.old + 1)) }
+        ensures refused { OnErr result (level self.new ≡ level self.old) }
+        ensures at_marks { (place : ℕ) → place ≤ level self.old
+            → IsSameLevel allows is_exact self.old place self.new place };
+
+    /// Goes back to what was known at the newest open mark, and closes it. Older marks stay. It takes no memory.
+    fn undo(&mut self)
+        requires marked { 0 < level self.old }
+        ensures closed { level self.new + 1 ≡ level self.old }
+        ensures law_undo { (place : ℕ) → place < level self.old
+            → IsSameLevel allows is_exact self.old place self.new place };
+
+    /// How many marks are open.
+    fn open_marks(&self) -> usize
+        ensures { result ≡ level self.now };
 
     /// What the atom answers of every allowed list, where that is known.
     fn tell(&self, atom: Atom) -> Tell
         requires word { word_of atom < 16 }
         ensures law_always { result ≡ Tell.Always
-            → (words : List ℕ) → allows self.now words
+            → (words : List ℕ) → allows self.now (level self.now) words
             → atom_answer atom words ≡ true }
         ensures law_never { result ≡ Tell.Never
-            → (words : List ℕ) → allows self.now words
+            → (words : List ℕ) → allows self.now (level self.now) words
             → atom_answer atom words ≡ false };
 
     /// Whether it is known that no list is allowed.
     fn is_empty(&self) -> bool
-        ensures law_empty { IsTrue result → (words : List ℕ) → allows self.now words → ⊥ }
-        ensures seen { IsTrue (is_exact self.now) → ((words : List ℕ) → allows self.now words → ⊥) → IsTrue result };
+        ensures law_empty { IsTrue result → (words : List ℕ) → allows self.now (level self.now) words → ⊥ }
+        ensures seen { IsTrue (is_exact self.now (level self.now))
+            → ((words : List ℕ) → allows self.now (level self.now) words → ⊥) → IsTrue result };
 
     /// An allowed list, if one is found.
     fn pick(&self) -> Option<[u32; 16]>
-        ensures law_pick { IfSome result (λ words. allows self.now words) }
-        ensures found { IsTrue (is_exact self.now) → (words : List ℕ) → allows self.now words → IsSome result };
+        ensures law_pick { IfSome result (λ words. allows self.now (level self.now) words) }
+        ensures found { IsTrue (is_exact self.now (level self.now))
+            → (words : List ℕ) → allows self.now (level self.now) words → IsSome result };
 }

@@ -1,53 +1,43 @@
 //! What is known of one word.
 
-ghost use Rattle.std.specs.Prelude.{◌≡◌, ◌↔◌, ◌⊎◌, ◌<◌, ◌≤◌, ◌^◌, ℕ, IsTrue, IsSome, IfOk, IfSome, OnOk, OnErr, All, true, false};
+ghost use Rattle.std.specs.Prelude.{◌≡◌, ◌↔◌, ◌⊎◌, ◌<◌, ◌≤◌, ◌^◌, ℕ, All, IsTrue, true, false};
+ghost use Rattle.std.specs.Prelude.{IsSome, IfSome, IfOk, OnOk, OnErr};
 ghost use Rattle.std.specs.Int.{IsPowerOfTwo};
 ghost use Rattle.scf_facts.specs.Atoms.{answer_at};
-ghost use Rattle.scf_facts.specs.Bits.{HasBits, LacksBits};
+ghost use Rattle.scf_facts.specs.internal.Bits.{HasBits, LacksBits};
 ghost use Rattle.scf_facts.specs.Exactness.{KeepsExact};
-ghost use Rattle.scf_facts.specs.Intervals.{IsWithin, IsOutside, IsInside, AreApart};
-ghost use Rattle.scf_facts.specs.WordSets.{AllowsNumber, EachNumber, is_exact_set, no_facts};
+ghost use Rattle.scf_facts.specs.internal.Intervals.{LiesIn, LiesOutside, LiesInOne};
+ghost use Rattle.scf_facts.specs.internal.Trail.{facts_before};
+ghost use Rattle.scf_facts.specs.internal.WordSets.{AllowsNumber, EachNumber, is_exact_set, no_facts};
 
+use crate::asked::Asked;
 use crate::atom::{Atom, Tell};
 use crate::bits::Bits;
-use crate::interval::{Interval, lies_inside, parts_outside, parts_within};
+use crate::interval::Interval;
+use crate::intervals::{Intervals, lies_in_one};
 use crate::least::first_number;
-use crate::question::Question;
+use crate::trail::Former;
 use scf_insn::Memory;
 use std::alloc::Global;
 use std::marker::Model;
-
-/// The interval of all numbers alone.
-static ALL_INTERVALS: [Interval; 1] = [Interval {
-    low: 0,
-    high: u32::MAX,
-}];
+use std::mem;
 
 /// The numbers that one word may be: those in the intervals that have the known bits and none of the refuted ones.
 ///
 /// Bits under a mask of a single bit are never among the refuted ones: the bit's other value is known then.
 #[derive(Drop)]
 pub(crate) struct WordSet {
-    /// Intervals in order and apart, once some numbers were cut away. Until then no memory is needed.
-    cut: Option<Vec<Interval>>,
+    intervals: Intervals,
     known: Bits,
     refuted: Vec<Bits>,
 }
 
 impl Model for WordSet {
-    ghost use Rattle.std.specs.Option.{option_map_or};
-    ghost use Rattle.scf_facts.specs.Intervals.{AreApart};
-    ghost use Rattle.scf_facts.specs.WordSets.{NumberFacts, all_intervals};
+    ghost use Rattle.scf_facts.specs.internal.WordSets.{NumberFacts};
 
     ghost Value = { NumberFacts };
 
-    ghost view = { λ s. record {
-      intervals = option_map_or (λ v. v.items) s.cut all_intervals;
-      known = s.known;
-      refuted = s.refuted.items;
-    } };
-
-    ghost invariant = { λ s. AreApart (option_map_or (λ v. v.items) s.cut all_intervals) };
+    ghost view = { λ s. record { intervals = s.intervals; known = s.known; refuted = s.refuted.items } };
 }
 
 impl WordSet {
@@ -56,122 +46,121 @@ impl WordSet {
         ensures { result ≡ no_facts }
     {
         WordSet {
-            cut: None,
+            intervals: Intervals::all(),
             known: Bits::NONE,
             refuted: Vec::new(alloc),
         }
     }
 
-    /// Another set of the same numbers.
-    pub(crate) fn copy(&self, alloc: Global) -> Result<WordSet, Memory>
-        ensures { IfOk result (λ copied. copied ≡ self.now) }
-    {
-        let cut = match &self.cut {
-            Some(intervals) => Some(Vec::from_slice(alloc, intervals)?),
-            None => None,
-        };
-        Ok(WordSet {
-            cut,
-            known: self.known,
-            refuted: Vec::from_slice(alloc, &self.refuted)?,
-        })
-    }
-
-    /// The intervals.
-    fn intervals(&self) -> &[Interval]
-        ensures same { result.now ≡ self.now.intervals }
-        ensures apart { AreApart result.now }
-    {
-        match &self.cut {
-            Some(intervals) => intervals,
-            None => &ALL_INTERVALS,
-        }
-    }
-
-    /// Keeps the numbers for which the atom has this answer. Where memory is refused, all of them stay.
-    pub(crate) fn learn(&mut self, alloc: Global, atom: Atom, holds: bool) -> Result<(), Memory>
+    /// Keeps the numbers for which the atom has this answer, and says how the facts were before. Where memory is
+    /// refused, all of them stay.
+    pub(crate) fn learn(&mut self, alloc: Global, atom: Atom, holds: bool) -> Result<Former, Memory>
         ensures learned { OnOk result ((x : ℕ) → x < 2 ^ 32
             → AllowsNumber self.new x ↔ (AllowsNumber self.old x × (answer_at atom x ≡ holds))) }
+        ensures before { IfOk result (λ former. facts_before former self.new ≡ self.old) }
         ensures refused { OnErr result (self.new ≡ self.old) }
         ensures exact { OnOk result (KeepsExact atom holds
             → IsTrue (is_exact_set self.old) → IsTrue (is_exact_set self.new)) }
     {
-        match Question::of(atom) {
-            Question::Within { range, answer } => {
+        match Asked::of(atom) {
+            Asked::Within { range, answer } => {
                 if answer == holds {
-                    self.keep_range(alloc, range)?;
-                    Ok(())
+                    Ok(self.keep_range(alloc, range)?)
                 } else {
-                    self.drop_range(alloc, range)?;
-                    Ok(())
+                    Ok(self.drop_range(alloc, range)?)
                 }
             }
-            Question::Masked(bits) => {
+            Asked::Masked(bits) => {
                 if holds {
-                    self.keep_bits(alloc, bits);
-                    Ok(())
+                    Ok(self.keep_bits(alloc, bits))
                 } else {
-                    self.drop_bits(alloc, bits)?;
-                    Ok(())
+                    Ok(self.drop_bits(alloc, bits)?)
                 }
+            }
+        }
+    }
+
+    /// Takes the last change back.
+    pub(crate) fn take_back(&mut self, former: Former)
+        ensures { self.new ≡ facts_before former self.old }
+    {
+        match former {
+            Former::Same => {}
+            Former::Intervals(intervals) => self.intervals = intervals,
+            Former::Known(known) => self.known = known,
+            Former::Unrefuted => {
+                self.refuted.pop();
             }
         }
     }
 
     /// Keeps the numbers within a range.
-    fn keep_range(&mut self, alloc: Global, range: Interval) -> Result<(), Memory>
-        ensures kept { OnOk result ((x : ℕ) → AllowsNumber self.new x ↔ (AllowsNumber self.old x × IsWithin range x)) }
+    fn keep_range(&mut self, alloc: Global, range: Interval) -> Result<Former, Memory>
+        ensures kept { OnOk result ((x : ℕ) → AllowsNumber self.new x ↔ (AllowsNumber self.old x × LiesIn range x)) }
+        ensures before { IfOk result (λ former. facts_before former self.new ≡ self.old) }
         ensures refused { OnErr result (self.new ≡ self.old) }
         ensures refuted { self.new.refuted ≡ self.old.refuted }
     {
-        let kept = parts_within(alloc, self.intervals(), range)?;
-        self.cut = Some(kept);
-        Ok(())
+        let kept = self.intervals.within(alloc, range)?;
+        let former = mem::replace(&mut self.intervals, kept);
+        Ok(Former::Intervals(former))
     }
 
     /// Keeps the numbers outside a range.
-    fn drop_range(&mut self, alloc: Global, range: Interval) -> Result<(), Memory>
+    fn drop_range(&mut self, alloc: Global, range: Interval) -> Result<Former, Memory>
         requires { range.low ≤ range.high }
-        ensures kept { OnOk result ((x : ℕ) → AllowsNumber self.new x ↔ (AllowsNumber self.old x × IsOutside range x)) }
+        ensures kept { OnOk result ((x : ℕ)
+            → AllowsNumber self.new x ↔ (AllowsNumber self.old x × LiesOutside range x)) }
+        ensures before { IfOk result (λ former. facts_before former self.new ≡ self.old) }
         ensures refused { OnErr result (self.new ≡ self.old) }
         ensures refuted { self.new.refuted ≡ self.old.refuted }
     {
-        let kept = parts_outside(alloc, self.intervals(), range)?;
-        self.cut = Some(kept);
-        Ok(())
+        let kept = self.intervals.outside(alloc, range)?;
+        let former = mem::replace(&mut self.intervals, kept);
+        Ok(Former::Intervals(former))
+    }
+
+    /// Keeps no number.
+    fn keep_none(&mut self, alloc: Global) -> Former
+        ensures kept { (x : ℕ) → AllowsNumber self.new x → ⊥ }
+        ensures before { facts_before result self.new ≡ self.old }
+        ensures refuted { self.new.refuted ≡ self.old.refuted }
+    {
+        let former = mem::replace(&mut self.intervals, Intervals::none(alloc));
+        Former::Intervals(former)
     }
 
     /// Keeps the numbers that have the bits.
-    fn keep_bits(&mut self, alloc: Global, bits: Bits)
+    fn keep_bits(&mut self, alloc: Global, bits: Bits) -> Former
         ensures kept { (x : ℕ) → AllowsNumber self.new x ↔ (AllowsNumber self.old x × HasBits bits x) }
+        ensures before { facts_before result self.new ≡ self.old }
         ensures refuted { self.new.refuted ≡ self.old.refuted }
     {
         match self.known.join(bits) {
-            Some(known) => self.known = known,
-            None => self.cut = Some(Vec::new(alloc)),
+            Some(known) => Former::Known(mem::replace(&mut self.known, known)),
+            None => self.keep_none(alloc),
         }
     }
 
     /// Keeps the numbers that don't have the bits.
-    fn drop_bits(&mut self, alloc: Global, bits: Bits) -> Result<(), Memory>
+    fn drop_bits(&mut self, alloc: Global, bits: Bits) -> Result<Former, Memory>
         ensures kept { OnOk result ((x : ℕ) → AllowsNumber self.new x ↔ (AllowsNumber self.old x × LacksBits bits x)) }
+        ensures before { IfOk result (λ former. facts_before former self.new ≡ self.old) }
         ensures refused { OnErr result (self.new ≡ self.old) }
         ensures refuted { (bits.mask ≡ 0) ⊎ IsPowerOfTwo bits.mask → self.new.refuted ≡ self.old.refuted }
     {
         if self.known.join(bits).is_none() {
-            return Ok(());
+            return Ok(Former::Same);
         }
         let open = bits.beyond(self.known);
         if open.mask == 0 {
-            self.cut = Some(Vec::new(alloc));
-            return Ok(());
+            return Ok(self.keep_none(alloc));
         }
         if open.is_single() {
-            self.keep_bits(alloc, open.flipped());
-            return Ok(());
+            return Ok(self.keep_bits(alloc, open.flipped()));
         }
         self.refuted.push(bits)?;
-        Ok(())
+        Ok(Former::Unrefuted)
     }
 
     /// What the atom answers of every number, where that is known.
@@ -179,12 +168,12 @@ impl WordSet {
         ensures always { result ≡ Tell.Always → EachNumber self.now (λ x. answer_at atom x ≡ true) }
         ensures never { result ≡ Tell.Never → EachNumber self.now (λ x. answer_at atom x ≡ false) }
     {
-        let told = match Question::of(atom) {
-            Question::Within { range, answer } => match self.lies_within(range) {
+        let told = match Asked::of(atom) {
+            Asked::Within { range, answer } => match self.lies_within(range) {
                 Some(within) => Some(within == answer),
                 None => None,
             },
-            Question::Masked(bits) => self.has_bits(bits),
+            Asked::Masked(bits) => self.has_bits(bits),
         };
         match told {
             Some(true) => Tell::Always,
@@ -195,8 +184,8 @@ impl WordSet {
 
     /// Whether all numbers lie within a range, or none does.
     fn lies_within(&self, range: Interval) -> Option<bool>
-        ensures all { result ≡ Some true → EachNumber self.now (IsWithin range) }
-        ensures none { result ≡ Some false → EachNumber self.now (λ x. IsWithin range x → ⊥) }
+        ensures all { result ≡ Some true → EachNumber self.now (LiesIn range) }
+        ensures none { result ≡ Some false → EachNumber self.now (λ x. LiesIn range x → ⊥) }
     {
         if self.has_none(range, self.known) {
             Some(false)
@@ -236,13 +225,13 @@ impl WordSet {
 
     /// Whether no number lies in the range and has the bits, as far as that is known.
     fn has_none(&self, range: Interval, bits: Bits) -> bool
-        ensures none { IsTrue result → EachNumber self.now (λ x. IsWithin range x → LacksBits bits x) }
-        ensures some { result ≡ false → (x : ℕ) × IsInside self.now.intervals x × IsWithin range x × HasBits bits x }
+        ensures none { IsTrue result → EachNumber self.now (λ x. LiesIn range x → LacksBits bits x) }
+        ensures some { result ≡ false → (x : ℕ) × LiesInOne self.now.intervals x × LiesIn range x × HasBits bits x }
     {
         if self.refutes(bits) {
             return true;
         }
-        first_number(self.intervals(), range, bits).is_none()
+        first_number(self.intervals.as_slice(), range, bits).is_none()
     }
 
     /// Whether no number has these bits beside the known ones.
@@ -257,7 +246,7 @@ impl WordSet {
 
     /// Whether no number lies outside the range.
     fn has_none_outside(&self, range: Interval) -> bool
-        ensures { IsTrue result → EachNumber self.now (IsWithin range) }
+        ensures { IsTrue result → EachNumber self.now (LiesIn range) }
     {
         let below = Interval::ALL.part_below(range.low);
         let above = Interval::ALL.part_above(range.high);
@@ -266,7 +255,7 @@ impl WordSet {
 
     /// Whether no number lies in the part, if there is one.
     fn has_none_in(&self, part: Option<Interval>) -> bool
-        ensures { IsTrue result → IfSome part (λ range. EachNumber self.now (λ x. IsWithin range x → ⊥)) }
+        ensures { IsTrue result → IfSome part (λ range. EachNumber self.now (λ x. LiesIn range x → ⊥)) }
     {
         match part {
             Some(range) => self.has_none(range, self.known),
@@ -290,7 +279,7 @@ impl WordSet {
     fn only_number(&self) -> Option<u32>
         ensures { IfSome result (λ only. EachNumber self.now (λ x. x ≡ only)) }
     {
-        let first = first_number(self.intervals(), Interval::ALL, self.known)?;
+        let first = first_number(self.intervals.as_slice(), Interval::ALL, self.known)?;
         if self.has_none_outside(Interval::point(first)) {
             Some(first)
         } else {
@@ -319,7 +308,7 @@ impl WordSet {
     {
         self.known.are_in(x)
             && self.refuted.iter().all(|refuted| refuted.are_missing(x))
-            && lies_inside(self.intervals(), x)
+            && lies_in_one(self.intervals.as_slice(), x)
     }
 
     /// One of the numbers, if one is found: the least one, where no bits were refuted.
@@ -328,7 +317,7 @@ impl WordSet {
         ensures found { IsTrue (is_exact_set self.now)
             → (x : ℕ) → x < 2 ^ 32 → AllowsNumber self.now x → IsSome result }
     {
-        let first = first_number(self.intervals(), Interval::ALL, self.known)?;
+        let first = first_number(self.intervals.as_slice(), Interval::ALL, self.known)?;
         if self.allows(first) {
             return Some(first);
         }
@@ -342,7 +331,7 @@ impl WordSet {
     fn pick_end(&self) -> Option<u32>
         ensures { IfSome result (λ x. AllowsNumber self.now x) }
     {
-        for interval in self.intervals() {
+        for interval in self.intervals.as_slice() {
             if self.allows(interval.low) {
                 return Some(interval.low);
             }

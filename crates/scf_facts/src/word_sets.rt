@@ -1,10 +1,13 @@
 //! Facts as a set of numbers for each word.
 
-ghost use Rattle.std.specs.Prelude.{◌≡◌, length, true};
+ghost use Rattle.std.specs.Prelude.{◌≡◌, ◌<◌, ◌≤◌, All, length, take, drop, true};
 ghost use Rattle.std.specs.List.{list_all};
-ghost use Rattle.scf_facts.specs.WordSets.{AllowsWords, is_exact_set};
+ghost use Rattle.scf_facts.specs.internal.Counts.{AreRising};
+ghost use Rattle.scf_facts.specs.internal.Trail.{restored, sets_at};
+ghost use Rattle.scf_facts.specs.internal.WordSets.{AllowsWords, is_exact_set};
 
 use crate::atom::{Atom, Tell};
+use crate::trail::Change;
 use crate::word_facts::WordFacts;
 use crate::word_set::WordSet;
 use scf_insn::Memory;
@@ -16,17 +19,27 @@ use std::alloc::Global;
 /// is none of these, the facts are exact. Beside them it tells of what was learned itself and of an `Eq` under known
 /// bits, sees a word whose known bits or only number were refuted, and picks the ends of intervals, the known value or
 /// one bit more.
+///
+/// Where a mark is open, a trail has what each `learn` changed, in order, and a mark how long it was then. `learn`
+/// makes room in it first, so that nothing has changed where memory is refused.
 #[derive(Drop)]
 pub struct WordSets {
     alloc: Global,
     sets: Vec<WordSet>,
+    trail: Vec<Change>,
+    marks: Vec<usize>,
     ghost sixteen: { length sets.items ≡ 16 },
+    ghost about_words: { All (λ change. change.word < 16) trail.items },
+    ghost rising: { AreRising marks.items (length trail.items) },
 }
 
 impl WordFacts for WordSets {
-    ghost allows = { λ facts words. AllowsWords facts.sets.items words };
+    ghost level = { λ facts. length facts.marks.items };
 
-    ghost is_exact = { λ facts. list_all is_exact_set facts.sets.items };
+    ghost allows = { λ facts level. AllowsWords (sets_at facts.sets.items facts.trail.items facts.marks.items level) };
+
+    ghost is_exact = { λ facts level.
+        list_all is_exact_set (sets_at facts.sets.items facts.trail.items facts.marks.items level) };
 
     ghost starts_exact = { true };
 
@@ -35,21 +48,40 @@ impl WordFacts for WordSets {
         while sets.len() < 16 {
             sets.push(WordSet::new(alloc))?;
         }
-        Ok(WordSets { alloc, sets })
-    }
-
-    fn copy(&self, alloc: Global) -> Result<Self, Memory> {
-        let mut sets = Vec::with_capacity(alloc, self.sets.len())?;
-        for set in &self.sets {
-            sets.push(set.copy(alloc)?)?;
-        }
-        Ok(WordSets { alloc, sets })
+        Ok(WordSets {
+            alloc,
+            sets,
+            trail: Vec::new(alloc),
+            marks: Vec::new(alloc),
+        })
     }
 
     fn learn(&mut self, atom: Atom, holds: bool) -> Result<(), Memory> {
-        let set = &mut self.sets[atom.word() as usize];
-        set.learn(self.alloc, atom, holds)?;
+        let word = atom.word();
+        if self.marks.is_empty() {
+            self.sets[word as usize].learn(self.alloc, atom, holds)?;
+            return Ok(());
+        }
+        self.trail.reserve(1)?;
+        let former = self.sets[word as usize].learn(self.alloc, atom, holds)?;
+        self.trail.push(Change { word, former })?;
         Ok(())
+    }
+
+    fn mark(&mut self) -> Result<(), Memory> {
+        let count = self.trail.len();
+        self.marks.push(count)?;
+        Ok(())
+    }
+
+    fn undo(&mut self) {
+        if let Some(count) = self.marks.pop() {
+            take_back(&mut self.sets, &mut self.trail, count);
+        }
+    }
+
+    fn open_marks(&self) -> usize {
+        self.marks.len()
     }
 
     fn tell(&self, atom: Atom) -> Tell {
@@ -74,7 +106,17 @@ impl WordFacts for WordSets {
     }
 }
 
-/// Where nothing is learned yet, these facts are exact: a caller need not ask for that.
-pub fn word_sets_start_exact()
-    ensures { ⟦<WordSets as WordFacts>⟧.starts_exact ≡ true }
-{}
+/// Takes back the changes past a count of them, the last one first.
+fn take_back(sets: &mut [WordSet], trail: &mut Vec<Change>, count: usize)
+    requires sixteen { length sets.old ≡ 16 }
+    requires about_words { All (λ change. change.word < 16) trail.old.items }
+    requires within { count ≤ length trail.old.items }
+    ensures sets { sets.new ≡ restored sets.old (drop count trail.old.items) }
+    ensures trail { trail.new.items ≡ take count trail.old.items }
+{
+    while trail.len() > count {
+        if let Some(change) = trail.pop() {
+            sets[change.word as usize].take_back(change.former);
+        }
+    }
+}

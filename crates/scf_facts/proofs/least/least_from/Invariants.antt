@@ -1,5 +1,5 @@
 use Rattle.std.proofs.Common.{◌<◌, ◌≤◌, ◌-◌, ◌^◌, ℕ}
-use Rattle.scf_facts.specs.Bits.{LacksBits}
+use Rattle.scf_facts.specs.internal.Bits.{LacksBits}
 use Rattle.scf_facts.proofs.least.least_from.Given as goal
 
 abbrev pub invariant-loop-place : goal.invariant-loop-place

@@ -1,17 +1,15 @@
-use Rattle.std.proofs.Common.{◌++◌, ap, subst, sym, List, ◌∙◌}
+use Rattle.std.proofs.Common.{ap, sym, ◌∙◌, ◌++◌}
 use Rattle.std.specs.List.{filter_map}
-use Rattle.scf_facts.specs.declared.interval.Interval.{Interval}
-use Rattle.scf_facts.specs.Intervals.{AreApart, part_below, part_above}
-use Rattle.scf_facts.specs.WordSets.{NumberFacts}
-use Rattle.scf_facts.proofs.ApartLaws.{apart_outside}
+use Rattle.scf_facts.specs.internal.Intervals.{part_below, part_above}
+use Rattle.scf_facts.specs.internal.WordSets.{NumberFacts}
 use Rattle.scf_facts.proofs.SetLaws.{allows_outside}
 use Rattle.scf_facts.proofs.word_set.WordSet.drop_range.Goals as goal
 
 pub returns-clause-kept : goal.returns-clause-kept
 returns-clause-kept c =
-    let kept = c.in_ok-kept.kept.items in
-    let parts = c.in_ok-kept.ensures ∙ ap (λ (is : List Interval). filter_map (part_below c.args.range.low) is ++ filter_map (part_above c.args.range.high) is) c.intervals.ensures.same in
-    λ x. allows_outside c.args.self.now _ c.args.range kept x (ap (λ (s : NumberFacts). record s { intervals = kept }) (sym c.self.view_is)) parts
-
-pub invariant_of-self : goal.invariant_of-self
-invariant_of-self c = subst AreApart (sym c.in_ok-kept.ensures) (apart_outside c.args.range c.intervals.result.now c.requires c.intervals.ensures.apart)
+    let kept = c.replace-former.new.dest in
+    let parts = c.replace-former.ensures.after ∙ c.in_ok-kept.ensures
+    ∙ ap (λ (s : NumberFacts). filter_map (part_below c.args.range.low) s.intervals ++ filter_map
+    (part_above c.args.range.high) s.intervals) c.self.view_is in
+    λ x. allows_outside c.args.self.now _ c.args.range kept x
+    (ap (λ (s : NumberFacts). record s { intervals = kept }) (sym c.self.view_is)) parts

@@ -1,10 +1,10 @@
 -- What is known of each word, and which lists of words that allows.
-use Rattle.std.specs.Prelude.{◌≡◌, ◌==◌, ◌-◌, ◌<◌, ◌^◌, ℕ, List, [], ◌∷◌, Bool, All, Some, length, slice_get, slice_index}
+use Rattle.std.specs.Prelude.{◌≡◌, ◌==◌, ◌<◌, ◌^◌, ℕ, List, [], Bool, All, Some, length, slice_get, slice_index}
 use Rattle.scf_insn.specs.Words.{IsWords}
 use Rattle.scf_facts.specs.declared.bits.Bits.{Bits}
 use Rattle.scf_facts.specs.declared.interval.Interval.{Interval}
-use Rattle.scf_facts.specs.Bits.{HasBits, LacksBits}
-use Rattle.scf_facts.specs.Intervals.{IsInside}
+use Rattle.scf_facts.specs.internal.Bits.{HasBits, LacksBits}
+use Rattle.scf_facts.specs.internal.Intervals.{LiesInOne, all_intervals}
 
 -- what is known of one word: it lies in one of the intervals, has the known bits and none of the refuted ones
 pub record NumberFacts : Type 0 where
@@ -12,17 +12,13 @@ pub record NumberFacts : Type 0 where
   pub known : Bits
   pub refuted : List Bits
 
--- the interval of all numbers alone
-abbrev pub all_intervals : List Interval
-all_intervals = record { low = 0; high = 2 ^ 32 - 1 } ∷ []
-
 -- nothing is known
 abbrev pub no_facts : NumberFacts
 no_facts = record { intervals = all_intervals; known = record { mask = 0; value = 0 }; refuted = [] }
 
 -- the numbers that a word may be
 pub record AllowsNumber (facts : NumberFacts) (x : ℕ) : Type 0 where
-  pub inside : IsInside facts.intervals x
+  pub inside : LiesInOne facts.intervals x
   pub known : HasBits facts.known x
   pub unrefuted : All (λ bits. LacksBits bits x) facts.refuted
 
@@ -37,4 +33,5 @@ is_exact_set facts = length facts.refuted == 0
 -- the lists of words that are allowed, where each word has its facts
 pub record AllowsWords (sets : List NumberFacts) (words : List ℕ) : Type 0 where
   pub sixteen : IsWords words
-  pub each : (place : ℕ) (facts : NumberFacts) → slice_get sets place ≡ Some facts → AllowsNumber facts (slice_index words place)
+  pub each : (place : ℕ) (facts : NumberFacts)
+      → slice_get sets place ≡ Some facts → AllowsNumber facts (slice_index words place)

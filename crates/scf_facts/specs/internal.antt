@@ -1,0 +1,7 @@
+pub mod Asked
+pub mod Bits
+pub mod Counts
+pub mod Intervals
+pub mod Learned
+pub mod Trail
+pub mod WordSets

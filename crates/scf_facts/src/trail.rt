@@ -1,0 +1,26 @@
+//! Changes of what is known of words, and how to take them back.
+
+use crate::bits::Bits;
+use crate::intervals::Intervals;
+
+/// How the facts of a word were before a change.
+#[derive(Drop)]
+pub(crate) enum Former {
+    /// As they are.
+    Same,
+    /// With these intervals.
+    Intervals(Intervals),
+    /// With these known bits.
+    Known(Bits),
+    /// Without the bits that were refuted last.
+    Unrefuted,
+}
+
+/// A change of the facts of a word.
+#[derive(Drop)]
+pub(crate) struct Change {
+    /// The word's number, below 16.
+    pub(crate) word: u8,
+    /// The word's facts before.
+    pub(crate) former: Former,
+}
