@@ -20,16 +20,22 @@ opposite true = (λ h. cc, λ h. cc)
 opposite false = (λ h. refl, λ h. refl)
 
 -- a bit is common with a word under a mask where the word under both masks isn't 0
-pub common_bit : (w m v : ℕ) → (not (eqb (bit_and (bit_and w m) v) 0) ≡ true) ↔ (eqb (bit_and w (bit_and m v)) 0 ≡ false)
-common_bit w m v = subst (λ n. (not (eqb (bit_and (bit_and w m) v) 0) ≡ true) ↔ (eqb n 0 ≡ false)) (and_assoc v w m) (opposite (eqb (bit_and (bit_and w m) v) 0))
+pub common_bit : (w m v : ℕ)
+    → (not (eqb (bit_and (bit_and w m) v) 0) ≡ true) ↔ (eqb (bit_and w (bit_and m v)) 0 ≡ false)
+common_bit w m v =
+    subst (λ n. (not (eqb (bit_and (bit_and w m) v) 0) ≡ true) ↔ (eqb n 0 ≡ false)) (and_assoc v w m)
+    (opposite (eqb (bit_and (bit_and w m) v) 0))
 
 -- ---- what an atom's answer about a whole word means
 
-pub word_is : (words : List ℕ) (i v : ℕ) → IsWords words → eqb (bit_and (slice_index words i) 4294967295) v ≡ true → slice_index words i ≡ v
+pub word_is : (words : List ℕ) (i v : ℕ) → IsWords words → eqb (bit_and (slice_index words i) 4294967295) v ≡ true
+    → slice_index words i ≡ v
 word_is words i v w e = whole_word _ (word_below words w i) ∙ eqb-true _ _ e
 
-pub word_isnt : (words : List ℕ) (i v : ℕ) → IsWords words → eqb (bit_and (slice_index words i) 4294967295) v ≡ false → slice_index words i ≢ v
-word_isnt words i v w e = λ same. let both : true ≡ false = sym (eq-eqb _ _ (sym (whole_word _ (word_below words w i)) ∙ same)) ∙ e in cc
+pub word_isnt : (words : List ℕ) (i v : ℕ) → IsWords words → eqb (bit_and (slice_index words i) 4294967295) v ≡ false
+    → slice_index words i ≢ v
+word_isnt words i v w e = λ same. let both : true ≡ false =
+    sym (eq-eqb _ _ (sym (whole_word _ (word_below words w i)) ∙ same)) ∙ e in cc
 
 pub at_least : (x v : ℕ) → leb v x ≡ true → v ≤ x
 at_least x v e = grind (arith, nat_tests)

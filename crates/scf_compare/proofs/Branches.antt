@@ -1,33 +1,244 @@
--- The words in open branches, as one is opened and one is taken.
-use Rattle.std.proofs.Common.{◌≡◌, ℕ, ◌⊎◌, inl, inr, List, [], ◌∷◌, ◌++◌, sym, subst}
-use Rattle.std.specs.Prelude.{Contains}
-use Rattle.std.proofs.lemmas.List.Elements.{Contains-append_left, Contains-push, Contains-push_cases}
+-- Open branches, as one is opened and one is taken.
+use Rattle.std.proofs.Common.{◌≡◌, ℕ, zero, suc, ◌+◌, ◌<◌, ◌≤◌, ◌↔◌, ◌⊎◌, inl, inr, List, [], ◌∷◌, ◌++◌, Bool, length, refl, sym, ap, subst, ◌∙◌, arith, length-append}
+use Rattle.std.proofs.Math.Nat.{eq-or-lt_of_le}
+use Rattle.std.specs.Prelude.{Some, IsTrue, slice_get, sum_by}
+use Rattle.std.proofs.lemmas.Option.{slice_get_within}
+use Rattle.std.proofs.lemmas.List.Sums.{sum_by-append}
+use Rattle.scf_facts.specs.declared.word_facts.WordFacts.{Ghosts as Store}
+use Rattle.scf_facts.specs.Levels.{IsSameLevel}
 use Rattle.scf_compare.specs.declared.frontier.Branch.{Branch}
 use Rattle.scf_compare.specs.declared.frontier.Frontier.{Frontier}
-use Rattle.scf_compare.specs.Questions.{Questions}
-use Rattle.scf_compare.specs.Frontier.{IsIn, IsInSome}
+use Rattle.scf_compare.specs.internal.Compared.{Compared}
+use Rattle.scf_compare.specs.internal.Frontier.{Gives, LearnsExactly, IsBranch, IsInBranch, IsFrontier, IsExactBranch, AreExact, open_size}
+use Rattle.scf_compare.specs.internal.Stages.{IsTaken}
+use Rattle.scf_compare.specs.internal.Trees.{Tree}
 
-module _ {F N : Type 0} (allows : F → List ℕ → Type 0) (tree : Questions N) (fewer more : Frontier F N) (branch : Branch F N) (one_more : more.branches.items ≡ fewer.branches.items ++ branch ∷ []) (words : List ℕ) where
-  -- words in a branch are still in it once another was opened
-  pub still_in_some : IsInSome allows tree fewer words → IsInSome allows tree more words
-  still_in_some h = record {
-    branch = h.branch;
-    stands = subst (λ branches. Contains branches h.branch) (sym one_more) (Contains-append_left fewer.branches.items (branch ∷ []) h.branch h.stands);
-    inside = h.inside;
+-- ---- places in a list with one more at its end
+
+place_cases : {X : Type 0} (xs : List X) (x : X) (k : ℕ) (y : X) → slice_get (xs ++ x ∷ []) k ≡ Some y
+    → ((k < length xs) × (slice_get xs k ≡ Some y)) ⊎ ((k ≡ length xs) × (x ≡ y))
+place_cases [] x zero y e = inr (refl, cc)
+place_cases [] x (suc k) y e = cc
+place_cases (a ∷ xs) x zero y e = inl (omega arith, e)
+place_cases (a ∷ xs) x (suc k) y e =
+    elim (place_cases xs x k y e) [ inl h ↦ inl (omega arith, h.1) | inr h ↦ inr (ap suc h.0, h.1) ]
+
+place_before : {X : Type 0} (xs : List X) (x : X) (k : ℕ) (y : X) → slice_get xs k ≡ Some y
+    → slice_get (xs ++ x ∷ []) k ≡ Some y
+place_before [] x k y e = cc
+place_before (a ∷ xs) x zero y e = e
+place_before (a ∷ xs) x (suc k) y e = place_before xs x k y e
+
+place_last : {X : Type 0} (xs : List X) (x : X) → slice_get (xs ++ x ∷ []) (length xs) ≡ Some x
+place_last [] x = refl
+place_last (a ∷ xs) x = place_last xs x
+
+length_more : {X : Type 0} (xs ys : List X) (x : X) → ys ≡ xs ++ x ∷ [] → length ys ≡ length xs + 1
+length_more xs ys x e = ap length e ∙ length-append xs (x ∷ [])
+
+size_more : {F K N : Type 0} (tree : K → Tree N) (fewer more : Frontier F K N) (b : Branch K N)
+    → more.branches.items ≡ fewer.branches.items ++ b ∷ []
+    → open_size tree more ≡ open_size tree fewer + (tree b.known).size b.node
+size_more {K = K} {N = N} tree fewer more b e =
+    ap (sum_by (λ (branch : Branch K N). (tree branch.known).size branch.node)) e
+    ∙ sum_by-append (λ (branch : Branch K N). (tree branch.known).size branch.node) fewer.branches.items (b ∷ [])
+    ∙ grind arith
+
+-- ---- levels that stay
+
+pub same_then : {S : Type 0} (allows : S → ℕ → List ℕ → Type 0) (is_exact : S → ℕ → Bool) (a b c : S) (i j k : ℕ)
+    → IsSameLevel allows is_exact a i b j → IsSameLevel allows is_exact b j c k → IsSameLevel allows is_exact a i c k
+same_then allows is_exact a b c i j k f h =
+    (λ words. (λ x. (f.0 words).0 ((h.0 words).0 x), λ x. (h.0 words).1 ((f.0 words).1 x)), h.1 ∙ f.1)
+
+module _ {F K N : Type 0} (store : Store F) (tree : K → Tree N) (old new : Frontier F K N) where
+  exact_still : (place : ℕ) (branch : Branch K N)
+      → IsSameLevel store.allows store.is_exact old.facts place new.facts place
+      → IsExactBranch store tree old place branch → IsExactBranch store tree new place branch
+  exact_still place branch same e = record {
+    facts = same.1 ∙ e.facts;
+    keeps = e.keeps;
+    plain = e.plain;
+    reached = λ words allowed given. e.reached words ((same.0 words).0 allowed) given;
   }
 
-  -- words in the branch that was opened are in one of them
-  pub in_opened : IsIn allows tree branch words → IsInSome allows tree more words
-  in_opened h = record {
-    branch = branch;
-    stands = subst (λ branches. Contains branches branch) (sym one_more) (Contains-push fewer.branches.items branch);
-    inside = h;
+-- A branch was opened, and more may have been learned since.
+pub record HasOpened {F K N : Type 0} (store : Store F) (old new : Frontier F K N) (b : Branch K N) : Type 0 where
+  pub branches : new.branches.items ≡ old.branches.items ++ b ∷ []
+  pub marks : store.level new.facts ≡ store.level old.facts + 1
+  pub levels : (place : ℕ) → place ≤ store.level old.facts
+      → IsSameLevel store.allows store.is_exact old.facts place new.facts place
+  pub fewer : (words : List ℕ) → store.allows new.facts (store.level new.facts) words
+      → store.allows old.facts (store.level old.facts) words
+
+module _ {F K N : Type 0} (store : Store F) (tree : K → Tree N) (scope : List ℕ → Type 0) (old new : Frontier F K N)
+    (b : Branch K N) (f : IsFrontier store tree scope old) (opened : HasOpened store old new b) where
+  -- words in a branch are still in it
+  pub still_in_branch : (words : List ℕ) → IsInBranch store tree old words → IsInBranch store tree new words
+  still_in_branch words h =
+      let marks = f.marks in
+      let within : h.place < length old.branches.items =
+      slice_get_within old.branches.items h.place h.branch h.stands in
+      record {
+        place = h.place;
+        branch = h.branch;
+        stands =
+            subst (λ (branches : List (Branch K N)). slice_get branches h.place ≡ Some h.branch) (sym opened.branches)
+            (place_before old.branches.items b h.place h.branch h.stands);
+        allowed = ((opened.levels h.place (omega arith)).0 words).1 h.allowed;
+        given = h.given;
+        reached = h.reached;
+      }
+
+  -- and those that were allowed are in the new one, where they give what it learns and come to its node
+  pub in_opened : (words : List ℕ) → store.allows old.facts (store.level old.facts) words → Gives b.learned words
+      → (tree b.known).reaches b.node words → IsInBranch store tree new words
+  in_opened words allowed given reached = record {
+    place = length old.branches.items;
+    branch = b;
+    stands =
+        subst (λ (branches : List (Branch K N)). slice_get branches (length old.branches.items) ≡ Some b)
+        (sym opened.branches) (place_last old.branches.items b);
+    allowed =
+        subst (λ n. store.allows new.facts n words) f.marks
+        (((opened.levels (store.level old.facts) (omega arith)).0 words).1 allowed);
+    given = given;
+    reached = reached;
   }
 
-  -- words in a branch are in the one that was taken, or in one that is left
-  pub left_or_taken : IsInSome allows tree more words → IsInSome allows tree fewer words ⊎ IsIn allows tree branch words
-  left_or_taken h =
-      elim (Contains-push_cases fewer.branches.items branch h.branch (subst (λ branches. Contains branches h.branch) one_more h.stands)) [
-        | inl stands ↦ inl (record { branch = h.branch; stands = stands; inside = h.inside })
-        | inr same ↦ inr (subst (λ (b : Branch F N). IsIn allows tree b words) (sym same) h.inside)
+  pub frontier_opened : IsBranch tree b → IsFrontier store tree scope new
+  frontier_opened is_branch = record {
+    marks = omega (arith, opened.marks, f.marks, length_more old.branches.items new.branches.items b opened.branches);
+    branches = λ place branch stands.
+        elim (place_cases old.branches.items b place branch
+        (subst (λ (branches : List (Branch K N)). slice_get branches place ≡ Some branch) opened.branches stands)) [
+          | inl h ↦ f.branches place branch h.1
+          | inr h ↦ subst (IsBranch tree) h.1 is_branch
+        ];
+    within = λ level up_to words allowed.
+        let most : level ≤ store.level new.facts =
+        omega (arith, opened.marks, f.marks, length_more old.branches.items new.branches.items b opened.branches) in
+        elim (eq-or-lt_of_le most) [
+          | inl e ↦
+              f.within (store.level old.facts) (omega (arith, f.marks)) words
+              (opened.fewer words (subst (λ n. store.allows new.facts n words) e allowed))
+          | inr below ↦
+              let under : level ≤ store.level old.facts = omega (arith, opened.marks) in
+              f.within level (omega (arith, f.marks)) words (((opened.levels level under).0 words).0 allowed)
+        ];
+  }
+
+  pub size_opened : open_size tree new ≡ open_size tree old + (tree b.known).size b.node
+  size_opened = size_more tree old new b opened.branches
+
+  pub exact_opened : AreExact store tree old → IsTrue (store.is_exact old.facts (store.level old.facts))
+      → LearnsExactly b.learned → (tree b.known).is_plain b.node
+      → ((words : List ℕ) → store.allows old.facts (store.level old.facts) words → Gives b.learned words
+      → (tree b.known).reaches b.node words)
+      → AreExact store tree new
+  exact_opened are exact keeps plain reached =
+      λ place branch stands.
+      elim (place_cases old.branches.items b place branch
+      (subst (λ (branches : List (Branch K N)). slice_get branches place ≡ Some branch) opened.branches stands)) [
+        | inl h ↦
+            let under : place ≤ store.level old.facts = omega (arith, f.marks, h.0) in
+            exact_still store tree old new place branch (opened.levels place under) (are place branch h.1)
+        | inr h ↦
+            let same = opened.levels (store.level old.facts) (omega arith) in
+            let here : IsExactBranch store tree new (store.level old.facts) b = record {
+              facts = same.1 ∙ exact;
+              keeps = keeps;
+              plain = plain;
+              reached = λ words allowed given. reached words ((same.0 words).0 allowed) given;
+            } in
+            subst (IsExactBranch store tree new place) h.1
+            (subst (λ n. IsExactBranch store tree new n b) (f.marks ∙ sym h.0) here)
       ]
+
+-- the newest of the open branches is one of the tree
+pub newest_is_branch : {F K N : Type 0} (store : Store F) (tree : K → Tree N) (scope : List ℕ → Type 0)
+    (frontier : Frontier F K N) (others : List (Branch K N)) (b : Branch K N) → IsFrontier store tree scope frontier
+    → frontier.branches.items ≡ others ++ b ∷ [] → IsBranch tree b
+newest_is_branch {K = K} {N = N} store tree scope frontier others b f e =
+    f.branches (length others) b
+    (subst (λ (branches : List (Branch K N)). slice_get branches (length others) ≡ Some b) (sym e)
+    (place_last others b))
+
+-- The newest branch was taken: its mark was undone, and what leads into it was learned.
+pub record HasTaken {F K N : Type 0} (store : Store F) (old new : Frontier F K N) (b : Branch K N) : Type 0 where
+  pub branches : old.branches.items ≡ new.branches.items ++ b ∷ []
+  pub marks : store.level new.facts + 1 ≡ store.level old.facts
+  pub levels : (place : ℕ) → place < store.level new.facts
+      → IsSameLevel store.allows store.is_exact old.facts place new.facts place
+  pub known : (words : List ℕ)
+      → store.allows new.facts (store.level new.facts) words
+      ↔ (store.allows old.facts (store.level new.facts) words × Gives b.learned words)
+  pub exact : LearnsExactly b.learned → IsTrue (store.is_exact old.facts (store.level new.facts))
+      → IsTrue (store.is_exact new.facts (store.level new.facts))
+
+pub taken : {F K N : Type 0} (store : Store F) (compared : Compared) (tree : K → Tree N) (old new : Frontier F K N)
+    (b : Branch K N) → IsFrontier store tree compared.in_scope old → HasTaken store old new b
+    → IsTaken store compared tree old new (tree b.known) b.node
+taken {K = K} {N = N} store compared tree old new b f h =
+    let more = length_more new.branches.items old.branches.items b h.branches in
+    let marks : store.level new.facts ≡ length new.branches.items = omega (arith, f.marks, h.marks) in
+    let last : slice_get old.branches.items (store.level new.facts) ≡ Some b =
+    subst (λ n. slice_get old.branches.items n ≡ Some b) (sym marks)
+    (subst (λ (branches : List (Branch K N)). slice_get branches (length new.branches.items) ≡ Some b)
+    (sym h.branches) (place_last new.branches.items b)) in
+    let before = λ (place : ℕ) (branch : Branch K N) (stands : slice_get new.branches.items place ≡ Some branch).
+    subst (λ (branches : List (Branch K N)). slice_get branches place ≡ Some branch) (sym h.branches)
+    (place_before new.branches.items b place branch stands) in
+    let below = λ (place : ℕ) (branch : Branch K N) (stands : slice_get new.branches.items place ≡ Some branch).
+    let within : place < length new.branches.items = slice_get_within new.branches.items place branch stands in
+    let lower : place < store.level new.facts = omega arith in lower in
+    record {
+      frontier = record {
+        marks = marks;
+        branches = λ place branch stands. f.branches place branch (before place branch stands);
+        within = λ level up_to words allowed.
+            let most : level ≤ store.level new.facts = omega arith in
+            let of_old : level ≤ length old.branches.items = omega arith in
+            elim (eq-or-lt_of_le most) [
+              | inl e ↦
+                  f.within level of_old words
+                  (subst (λ n. store.allows old.facts n words) (sym e)
+                  ((h.known words).0 (subst (λ n. store.allows new.facts n words) e allowed)).0)
+              | inr lower ↦ f.within level of_old words (((h.levels level lower).0 words).0 allowed)
+            ];
+      };
+      node = (f.branches (store.level new.facts) b last).node;
+      words = λ words inside.
+          elim (place_cases new.branches.items b inside.place inside.branch
+          (subst (λ (branches : List (Branch K N)). slice_get branches inside.place ≡ Some inside.branch) h.branches
+          inside.stands)) [
+            | inl at ↦
+                let lower : inside.place < store.level new.facts = omega (arith, at.0, marks) in
+                inl (record {
+                  place = inside.place;
+                  branch = inside.branch;
+                  stands = at.1;
+                  allowed = ((h.levels inside.place lower).0 words).1 inside.allowed;
+                  given = inside.given;
+                  reached = inside.reached;
+                })
+            | inr at ↦ inr (
+              (h.known words).1 (
+                subst (λ n. store.allows old.facts n words) (at.0 ∙ sym marks) inside.allowed,
+                subst (λ (branch : Branch K N). Gives branch.learned words) (sym at.1) inside.given,
+              ),
+              subst (λ (branch : Branch K N). (tree branch.known).reaches branch.node words) (sym at.1) inside.reached,
+            )
+          ];
+      size = sym (size_more tree new old b h.branches);
+      exact = λ are.
+          let here = are (store.level new.facts) b last in
+          record {
+            branches = λ place branch stands.
+                exact_still store tree old new place branch (h.levels place (below place branch stands))
+                (are place branch (before place branch stands));
+            facts = h.exact here.keeps here.facts;
+            plain = here.plain;
+            reached = λ words allowed. let known = (h.known words).0 allowed in here.reached words known.0 known.1;
+          };
+    }

@@ -21,17 +21,21 @@ module _ (P : State → Type 0) where
   next_choice true n s t e h = absurd (cc)
   next_choice false n s t e h = next_is s t e h
 
-  loaded : (r : Register) (s t : State) (found : Option ℕ) → loads r s found ≡ Goes t → ((value : ℕ) → found ≡ Some value → P (sets r s value)) → P t
+  loaded : (r : Register) (s t : State) (found : Option ℕ) → loads r s found ≡ Goes t
+      → ((value : ℕ) → found ≡ Some value → P (sets r s value)) → P t
   loaded r s t None e h = absurd (cc)
   loaded r s t (Some value) e h = next_is (sets r s value) t e (h value refl)
 
   -- a scratch word that is loaded was stored
-  pub next_loaded : (b : Bool) (f : Fault) (r : Register) (s t : State) (found : Option ℕ) → unless b f (loads r s found) ≡ Goes t → ((value : ℕ) → found ≡ Some value → P (sets r s value)) → P t
+  pub next_loaded : (b : Bool) (f : Fault) (r : Register) (s t : State) (found : Option ℕ)
+      → unless b f (loads r s found) ≡ Goes t → ((value : ℕ) → found ≡ Some value → P (sets r s value)) → P t
   next_loaded true f r s t found e h = loaded r s t found e h
   next_loaded false f r s t found e h = absurd (cc)
 
   -- a computation that goes on sets the accumulator
-  pub next_computed : (arithmetic : Arithmetic) (operand : Operand) (i : Insn) (s t : State) → computation arithmetic operand i s ≡ Goes t → P (sets A s (value_computed arithmetic s.a (operand_in_computation arithmetic operand i s))) → P t
+  pub next_computed : (arithmetic : Arithmetic) (operand : Operand) (i : Insn) (s t : State)
+      → computation arithmetic operand i s ≡ Goes t
+      → P (sets A s (value_computed arithmetic s.a (operand_in_computation arithmetic operand i s))) → P t
   next_computed Div Constant i s t e h = next_unless _ _ _ t e h
   next_computed Div Index i s t e h = next_choice _ _ _ t e h
   next_computed Lsh Constant i s t e h = next_unless _ _ _ t e h

@@ -10,24 +10,35 @@ use Rattle.scf_compare.proofs.Bits.{whole_word}
 -- ---- the words of an argument
 
 pub low_of : (words : List ℕ) (i : ℕ) → IsWords words → slice_index words (2 * i + 4) ≡ low (argument (call_of words) i)
-low_of words i w = ap (λ (ws : List ℕ). slice_index ws (2 * i + 4)) (sym (words_of-call_of words w)) ∙ argument_low (call_of words) i
+low_of words i w =
+    ap (λ (ws : List ℕ). slice_index ws (2 * i + 4)) (sym (words_of-call_of words w)) ∙ argument_low (call_of words) i
 
-pub high_of : (words : List ℕ) (i : ℕ) → IsWords words → slice_index words (2 * i + 4 + 1) ≡ high (argument (call_of words) i)
-high_of words i w = ap (λ (ws : List ℕ). slice_index ws (2 * i + 4 + 1)) (sym (words_of-call_of words w)) ∙ argument_high (call_of words) i
+pub high_of : (words : List ℕ) (i : ℕ) → IsWords words
+    → slice_index words (2 * i + 4 + 1) ≡ high (argument (call_of words) i)
+high_of words i w =
+    ap (λ (ws : List ℕ). slice_index ws (2 * i + 4 + 1)) (sym (words_of-call_of words w))
+    ∙ argument_high (call_of words) i
 
-pub whole_low_of : (words : List ℕ) (i : ℕ) → IsWords words → bit_and (slice_index words (2 * i + 4)) 4294967295 ≡ low (argument (call_of words) i)
+pub whole_low_of : (words : List ℕ) (i : ℕ) → IsWords words
+    → bit_and (slice_index words (2 * i + 4)) 4294967295 ≡ low (argument (call_of words) i)
 whole_low_of words i w = sym (whole_word _ (word_below words w (2 * i + 4))) ∙ low_of words i w
 
-pub whole_high_of : (words : List ℕ) (i : ℕ) → IsWords words → bit_and (slice_index words (2 * i + 4 + 1)) 4294967295 ≡ high (argument (call_of words) i)
+pub whole_high_of : (words : List ℕ) (i : ℕ) → IsWords words
+    → bit_and (slice_index words (2 * i + 4 + 1)) 4294967295 ≡ high (argument (call_of words) i)
 whole_high_of words i w = sym (whole_word _ (word_below words w (2 * i + 4 + 1))) ∙ high_of words i w
 
 -- ---- under a mask
 
-pub masked_same : (n m u : ℕ) (t : Bool) → t ≡ eqb (bit_and (high n) (high m)) (high u) → t ≡ true → bit_and (high n) (high m) ≡ high u
+pub masked_same : (n m u : ℕ) (t : Bool) → t ≡ eqb (bit_and (high n) (high m)) (high u) → t ≡ true
+    → bit_and (high n) (high m) ≡ high u
 masked_same n m u t e y = eqb-true _ _ (sym e ∙ y)
 
-pub masked_apart : (n m u : ℕ) (t : Bool) → t ≡ eqb (bit_and (high n) (high m)) (high u) → t ≡ false → eqb (bit_and n m) u ≡ false
-masked_apart n m u t e f = masked_split n m u ∙ ap (λ b. cond b (eqb (bit_and (low n) (low m)) (low u)) false) (sym e ∙ f)
+pub masked_apart : (n m u : ℕ) (t : Bool) → t ≡ eqb (bit_and (high n) (high m)) (high u) → t ≡ false
+    → eqb (bit_and n m) u ≡ false
+masked_apart n m u t e f =
+    masked_split n m u ∙ ap (λ b. cond b (eqb (bit_and (low n) (low m)) (low u)) false) (sym e ∙ f)
 
-pub masked_by_low : (n m u : ℕ) → bit_and (high n) (high m) ≡ high u → eqb (bit_and n m) u ≡ eqb (bit_and (low n) (low m)) (low u)
-masked_by_low n m u same = masked_split n m u ∙ ap (λ b. cond b (eqb (bit_and (low n) (low m)) (low u)) false) (eq-eqb _ _ same)
+pub masked_by_low : (n m u : ℕ) → bit_and (high n) (high m) ≡ high u
+    → eqb (bit_and n m) u ≡ eqb (bit_and (low n) (low m)) (low u)
+masked_by_low n m u same =
+    masked_split n m u ∙ ap (λ b. cond b (eqb (bit_and (low n) (low m)) (low u)) false) (eq-eqb _ _ same)

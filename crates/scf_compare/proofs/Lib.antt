@@ -1,6 +1,7 @@
-pub mod Bits
 pub mod Branches
+pub mod Bits
 pub mod Effects
+pub mod Firsts
 pub mod Flows
 pub mod Halves
 pub mod PlainFlows
@@ -8,3 +9,5 @@ pub mod Ways
 pub mod Rules
 pub mod Verdicts
 pub mod Saturated
+pub mod Stacks
+pub mod Stages

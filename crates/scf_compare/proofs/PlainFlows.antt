@@ -12,7 +12,7 @@ use Rattle.scf_machine.specs.Plain.{IsPlainProgram, IsPlainInsn, IsPlainOperatio
 use Rattle.scf_machine.specs.Rules.{Stands}
 use Rattle.scf_compare.specs.declared.flow.Flow.{Flow}
 use Rattle.scf_compare.specs.declared.flow.Flow.TheVariants.{Branch, DivideByIndex, ReturnAccumulator}
-use Rattle.scf_compare.specs.Flow.{flow_at}
+use Rattle.scf_compare.specs.internal.Flow.{flow_at}
 use Rattle.scf_compare.proofs.Rules.{contains_here}
 
 -- a plain instruction tests against a constant, with a simple mask, divides nothing and returns no register
@@ -22,7 +22,8 @@ IsPlainFlow i (DivideByIndex next) = ⊥
 IsPlainFlow i ReturnAccumulator = ⊥
 IsPlainFlow i flow = Unit {0}
 
-flow_of : (operation : Operation) (i : Insn) (place : ℕ) → IsPlainOperation operation i → IsPlainFlow i (flow_at operation i place)
+flow_of : (operation : Operation) (i : Insn) (place : ℕ) → IsPlainOperation operation i
+    → IsPlainFlow i (flow_at operation i place)
 flow_of LoadWord i place plain = tt
 flow_of Jumps i place plain = tt
 flow_of (JumpIf Equal Constant) i place plain = (refl, λ e. absurd (cc))
@@ -33,8 +34,11 @@ flow_of ReturnsConstant i place plain = tt
 flow_of operation i place plain = absurd plain
 
 -- how an instruction of a plain program goes on
-pub plain_flow : (insns : List Insn) (place : ℕ) (i : Insn) (operation : Operation) (flow : Flow) → IsPlainProgram insns → Stands insns place i operation → flow_at operation i place ≡ flow → IsPlainFlow i flow
+pub plain_flow : (insns : List Insn) (place : ℕ) (i : Insn) (operation : Operation) (flow : Flow) → IsPlainProgram insns
+    → Stands insns place i operation → flow_at operation i place ≡ flow → IsPlainFlow i flow
 plain_flow insns place i operation flow plain stands f =
     let insn = All-contains IsPlainInsn insns i plain (contains_here insns place i stands.here) in
-    let same : insn.operation ≡ operation = let both : Some insn.operation ≡ Some operation = sym insn.known ∙ stands.known in cc in
-    subst (IsPlainFlow i) f (flow_of operation i place (subst (λ (o : Operation). IsPlainOperation o i) same insn.plain))
+    let same : insn.operation ≡ operation = let both : Some insn.operation ≡ Some operation =
+    sym insn.known ∙ stands.known in cc in
+    subst (IsPlainFlow i) f
+    (flow_of operation i place (subst (λ (o : Operation). IsPlainOperation o i) same insn.plain))

@@ -15,9 +15,9 @@ use Rattle.scf_profile.specs.RulesByNumber.{numbers_of, rules_of}
 use Rattle.scf_profile.proofs.Numbers.{numbers_of-contains}
 use Rattle.scf_compare.specs.declared.question.Part.{Part}
 use Rattle.scf_compare.specs.declared.question.Part.TheVariants.{High}
-use Rattle.scf_compare.specs.Conditions.{IsAtPart}
+use Rattle.scf_compare.specs.internal.Conditions.{IsAtPart}
 use Rattle.scf_compare.specs.Effort.{conditions_size}
-use Rattle.scf_compare.specs.Profiles.{StandsAt, IsAtCondition, KnowsPart, KnowsRule, condition_size, size_behind}
+use Rattle.scf_compare.specs.internal.Profiles.{StandsAt, IsAtCondition, KnowsPart, KnowsRule, condition_size, size_behind}
 
 -- ---- which rules a call meets
 
@@ -31,10 +31,13 @@ and_not false c e = refl
 pub unmet_failing : (call : CallRecord) (r : Rule) → all_hold call r.conditions ≡ false → meets r call ≡ false
 unmet_failing call r fails = and_not (eqb call.nr r.number) (all_hold call r.conditions) fails
 
-pub met_by : (call : CallRecord) (r : Rule) → call.nr ≡ r.number → all_hold call r.conditions ≡ true → meets r call ≡ true
+pub met_by : (call : CallRecord) (r : Rule) → call.nr ≡ r.number → all_hold call r.conditions ≡ true
+    → meets r call ≡ true
 met_by call r same hold = ap (λ b. b && all_hold call r.conditions) (eq-eqb call.nr r.number same) ∙ hold
 
-pub held_more : (call : CallRecord) (conditions : List Condition) (i : ℕ) (c : Condition) → slice_get conditions i ≡ Some c → all_hold call (take i conditions) ≡ true → holds c (argument call c.index) ≡ true → all_hold call (take (suc i) conditions) ≡ true
+pub held_more : (call : CallRecord) (conditions : List Condition) (i : ℕ) (c : Condition)
+    → slice_get conditions i ≡ Some c → all_hold call (take i conditions) ≡ true
+    → holds c (argument call c.index) ≡ true → all_hold call (take (suc i) conditions) ≡ true
 held_more call [] i c here before h = absurd (cc)
 held_more call (x ∷ conditions) zero c here before h =
     let same : c ≡ x = cc in
@@ -43,12 +46,14 @@ held_more call (x ∷ conditions) (suc i) c here before h =
     let both = and_parts (holds x (argument call x.index)) (all_hold call (take i conditions)) before in
     ap (λ b. b && all_hold call (take (suc i) conditions)) both.0 ∙ held_more call conditions i c here both.1 h
 
-pub fails_by : (call : CallRecord) (conditions : List Condition) (i : ℕ) (c : Condition) → slice_get conditions i ≡ Some c → holds c (argument call c.index) ≡ false → all_hold call conditions ≡ false
+pub fails_by : (call : CallRecord) (conditions : List Condition) (i : ℕ) (c : Condition)
+    → slice_get conditions i ≡ Some c → holds c (argument call c.index) ≡ false → all_hold call conditions ≡ false
 fails_by call [] i c here h = absurd (cc)
 fails_by call (x ∷ conditions) zero c here h =
     let same : c ≡ x = cc in
     ap (λ b. b && all_hold call conditions) (subst (λ (d : Condition). holds d (argument call d.index) ≡ false) same h)
-fails_by call (x ∷ conditions) (suc i) c here h = and_not (holds x (argument call x.index)) (all_hold call conditions) (fails_by call conditions i c here h)
+fails_by call (x ∷ conditions) (suc i) c here h =
+    and_not (holds x (argument call x.index)) (all_hold call conditions) (fails_by call conditions i c here h)
 
 -- ---- places in lists
 
@@ -57,7 +62,8 @@ drop_here [] i x here = absurd (cc)
 drop_here (y ∷ xs) zero x here = let same : y ≡ x = cc in ap (λ z. z ∷ xs) same
 drop_here (y ∷ xs) (suc i) x here = drop_here xs i x here
 
-pub take_here : {X : Type 0} (xs : List X) (i : ℕ) (x : X) → slice_get xs i ≡ Some x → take (suc i) xs ≡ take i xs ++ x ∷ []
+pub take_here : {X : Type 0} (xs : List X) (i : ℕ) (x : X) → slice_get xs i ≡ Some x
+    → take (suc i) xs ≡ take i xs ++ x ∷ []
 take_here [] i x here = absurd (cc)
 take_here (y ∷ xs) zero x here = let same : y ≡ x = cc in ap (λ z. z ∷ []) same
 take_here (y ∷ xs) (suc i) x here = ap (λ zs. y ∷ zs) (take_here xs i x here)
@@ -70,67 +76,101 @@ contains_here xs i x here =
     (i, within, same)
 
 -- each rule before a place is unmet, and so is the rule there
-pub unmet_more : (call : CallRecord) (rules : List Rule) (place : ℕ) (r : Rule) → slice_get rules place ≡ Some r → All (λ earlier. meets earlier call ≡ false) (take place rules) → meets r call ≡ false → All (λ earlier. meets earlier call ≡ false) (take (place + 1) rules)
+pub unmet_more : (call : CallRecord) (rules : List Rule) (place : ℕ) (r : Rule) → slice_get rules place ≡ Some r
+    → All (λ earlier. meets earlier call ≡ false) (take place rules) → meets r call ≡ false
+    → All (λ earlier. meets earlier call ≡ false) (take (place + 1) rules)
 unmet_more call rules place r here before unmet =
     let one : place + 1 ≡ suc place = omega arith in
-    subst (λ (xs : List Rule). All (λ earlier. meets earlier call ≡ false) xs) (sym (ap (λ n. take n rules) one ∙ take_here rules place r here)) (All-push (λ earlier. meets earlier call ≡ false) (take place rules) r before unmet)
+    subst (λ (xs : List Rule). All (λ earlier. meets earlier call ≡ false) xs)
+    (sym (ap (λ n. take n rules) one ∙ take_here rules place r here))
+    (All-push (λ earlier. meets earlier call ≡ false) (take place rules) r before unmet)
 
 -- where every rule up to the end is unmet, every rule is
-pub unmet_all : (call : CallRecord) (rules : List Rule) (place : ℕ) → length rules ≤ place → All (λ earlier. meets earlier call ≡ false) (take place rules) → (r : Rule) → Contains rules r → meets r call ≡ false
+pub unmet_all : (call : CallRecord) (rules : List Rule) (place : ℕ) → length rules ≤ place
+    → All (λ earlier. meets earlier call ≡ false) (take place rules) → (r : Rule) → Contains rules r
+    → meets r call ≡ false
 unmet_all call rules place past unmet r in_rules =
-    All-contains (λ earlier. meets earlier call ≡ false) rules r (subst (λ (xs : List Rule). All (λ earlier. meets earlier call ≡ false) xs) (take_all place rules past) unmet) in_rules
+    All-contains (λ earlier. meets earlier call ≡ false) rules r
+    (subst (λ (xs : List Rule). All (λ earlier. meets earlier call ≡ false) xs) (take_all place rules past) unmet)
+    in_rules
 
 -- a call whose number no rule has meets none
-pub unmet_numbers : (call : CallRecord) (rules : List Rule) (place : ℕ) → length (numbers_of rules) ≤ place → All (λ number. call.nr ≢ number) (take place (numbers_of rules)) → (r : Rule) → Contains rules r → meets r call ≡ false
+pub unmet_numbers : (call : CallRecord) (rules : List Rule) (place : ℕ) → length (numbers_of rules) ≤ place
+    → All (λ number. call.nr ≢ number) (take place (numbers_of rules)) → (r : Rule) → Contains rules r
+    → meets r call ≡ false
 unmet_numbers call rules place past apart r in_rules =
     unmet_apart call r
-    (All-contains (λ number. call.nr ≢ number) (numbers_of rules) r.number (subst (λ (xs : List ℕ). All (λ number. call.nr ≢ number) xs) (take_all place (numbers_of rules) past) apart) (numbers_of-contains rules r in_rules))
+    (All-contains (λ number. call.nr ≢ number) (numbers_of rules) r.number
+    (subst (λ (xs : List ℕ). All (λ number. call.nr ≢ number) xs) (take_all place (numbers_of rules) past) apart)
+    (numbers_of-contains rules r in_rules))
 
-pub apart_more : (call : CallRecord) (numbers : List ℕ) (place number : ℕ) → slice_get numbers place ≡ Some number → All (λ n. call.nr ≢ n) (take place numbers) → call.nr ≢ number → All (λ n. call.nr ≢ n) (take (place + 1) numbers)
-apart_more call numbers place number here before apart =
+pub apart_more : (nr : ℕ) (numbers : List ℕ) (place number : ℕ) → slice_get numbers place ≡ Some number
+    → All (λ n. nr ≢ n) (take place numbers) → nr ≢ number → All (λ n. nr ≢ n) (take (place + 1) numbers)
+apart_more nr numbers place number here before apart =
     let one : place + 1 ≡ suc place = omega arith in
-    subst (λ (xs : List ℕ). All (λ n. call.nr ≢ n) xs) (sym (ap (λ n. take n numbers) one ∙ take_here numbers place number here)) (All-push (λ n. call.nr ≢ n) (take place numbers) number before apart)
+    subst (λ (xs : List ℕ). All (λ n. nr ≢ n) xs)
+    (sym (ap (λ n. take n numbers) one ∙ take_here numbers place number here))
+    (All-push (λ n. nr ≢ n) (take place numbers) number before apart)
 
 -- ---- the rules of a number
 
-kept : (r : Rule) (rules : List Rule) (number : ℕ) → r.number ≡ number → rules_of number (r ∷ rules) ≡ r ∷ rules_of number rules
-kept r rules number same = ap (λ b. cond b (r ∷ rules_of number rules) (rules_of number rules)) (eq-eqb r.number number same)
+kept : (r : Rule) (rules : List Rule) (number : ℕ) → r.number ≡ number
+    → rules_of number (r ∷ rules) ≡ r ∷ rules_of number rules
+kept r rules number same =
+    ap (λ b. cond b (r ∷ rules_of number rules) (rules_of number rules)) (eq-eqb r.number number same)
 
-pub rules_kept : (rules : List Rule) (place number : ℕ) (r : Rule) → slice_get rules place ≡ Some r → r.number ≡ number → rules_of number (drop place rules) ≡ r ∷ rules_of number (drop (place + 1) rules)
+pub rules_kept : (rules : List Rule) (place number : ℕ) (r : Rule) → slice_get rules place ≡ Some r → r.number ≡ number
+    → rules_of number (drop place rules) ≡ r ∷ rules_of number (drop (place + 1) rules)
 rules_kept rules place number r here same =
     let one : suc place ≡ place + 1 = omega arith in
-    ap (rules_of number) (drop_here rules place r here) ∙ kept r (drop (suc place) rules) number same ∙ ap (λ n. r ∷ rules_of number (drop n rules)) one
+    ap (rules_of number) (drop_here rules place r here) ∙ kept r (drop (suc place) rules) number same
+    ∙ ap (λ n. r ∷ rules_of number (drop n rules)) one
 
 -- ---- what is known at a condition
 
-pub knows : (rules : List Rule) (place index : ℕ) (call : CallRecord) (asked : Part) (rule : Rule) (condition : Condition) → StandsAt rules place index rule condition → IsAtCondition rules place index rule call → IsAtPart condition asked (argument call condition.index) → KnowsRule rules place index call asked (slice_get rules place)
+pub knows : (rules : List Rule) (place index : ℕ) (call : CallRecord) (asked : Part) (rule : Rule)
+    (condition : Condition) → StandsAt rules place index rule condition → IsAtCondition rules place index rule call
+    → IsAtPart condition asked (argument call condition.index)
+    → KnowsRule rules place index call asked (slice_get rules place)
 knows rules place index call asked rule condition stands at_rule at_part =
-    subst (KnowsRule rules place index call asked) (sym stands.rule_here) (at_rule, subst (KnowsPart call asked) (sym stands.condition_here) at_part)
+    subst (KnowsRule rules place index call asked) (sym stands.rule_here)
+    (at_rule, subst (KnowsPart call asked) (sym stands.condition_here) at_part)
 
 -- ---- sizes
 
-pub conditions_more : (conditions : List Condition) (index : ℕ) (c : Condition) (fails : ℕ) → slice_get conditions index ≡ Some c → conditions_size (drop index conditions) fails ≡ 3 + 2 * conditions_size (drop (index + 1) conditions) fails + 2 * fails
+pub conditions_more : (conditions : List Condition) (index : ℕ) (c : Condition) (fails : ℕ)
+    → slice_get conditions index ≡ Some c
+    → conditions_size (drop index conditions) fails
+    ≡ 3 + 2 * conditions_size (drop (index + 1) conditions) fails + 2 * fails
 conditions_more conditions index c fails here =
     let one : suc index ≡ index + 1 = omega arith in
-    ap (λ (cs : List Condition). conditions_size cs fails) (drop_here conditions index c here) ∙ ap (λ n. 3 + 2 * conditions_size (drop n conditions) fails + 2 * fails) one
+    ap (λ (cs : List Condition). conditions_size cs fails) (drop_here conditions index c here)
+    ∙ ap (λ n. 3 + 2 * conditions_size (drop n conditions) fails + 2 * fails) one
 
 pub conditions_count : (conditions : List Condition) (fails : ℕ) → 1 ≤ conditions_size conditions fails
 conditions_count [] fails = omega arith
 conditions_count (c ∷ conditions) fails = omega arith
 
-pub size_at_condition : (rules : List Rule) (place index : ℕ) (rule : Rule) (c : Condition) → slice_get rules place ≡ Some rule → slice_get rule.conditions index ≡ Some c
-    → condition_size rules place index High (slice_get rules place) ≤ conditions_size (drop index rule.conditions) (size_behind rules place rule)
+pub size_at_condition : (rules : List Rule) (place index : ℕ) (rule : Rule) (c : Condition)
+    → slice_get rules place ≡ Some rule → slice_get rule.conditions index ≡ Some c
+    → condition_size rules place index High (slice_get rules place)
+    ≤ conditions_size (drop index rule.conditions) (size_behind rules place rule)
 size_at_condition rules place index rule c here first =
-    let all : conditions_size (drop index rule.conditions) (size_behind rules place rule) ≡ condition_size rules place index High (Some rule) = conditions_more rule.conditions index c (size_behind rules place rule) first in
-    let found : condition_size rules place index High (slice_get rules place) ≡ condition_size rules place index High (Some rule) = ap (condition_size rules place index High) here in
+    let all : conditions_size (drop index rule.conditions) (size_behind rules place rule)
+    ≡ condition_size rules place index High (Some rule) =
+    conditions_more rule.conditions index c (size_behind rules place rule) first in
+    let found : condition_size rules place index High (slice_get rules place)
+    ≡ condition_size rules place index High (Some rule) = ap (condition_size rules place index High) here in
     omega (arith, all, found)
 
 -- ---- what the code reads
 
-pub read_here : {X : Type 0} (xs : List X) (place : ℕ) (x : X) → place < length xs → x ≡ get_or xs place x → slice_get xs place ≡ Some x
+pub read_here : {X : Type 0} (xs : List X) (place : ℕ) (x : X) → place < length xs → x ≡ get_or xs place x
+    → slice_get xs place ≡ Some x
 read_here xs place x inside is = slice_get-get_or xs place x inside ∙ ap (λ y. Some y) (sym is)
 
-pub same_here : {X : Type 0} (xs : List X) (place : ℕ) (x y : X) → slice_get xs place ≡ Some x → slice_get xs place ≡ Some y → x ≡ y
+pub same_here : {X : Type 0} (xs : List X) (place : ℕ) (x y : X) → slice_get xs place ≡ Some x
+    → slice_get xs place ≡ Some y → x ≡ y
 same_here xs place x y a b = let both : Some x ≡ Some y = sym a ∙ b in cc
 
 pub none_of : {X : Type 0} (xs : List X) → length xs ≡ 0 → xs ≡ []

@@ -1,9 +1,11 @@
 -- Numbers that are cut at 2^64-1.
-use Rattle.std.proofs.Common.{◌≡◌, ℕ, suc, ◌+◌, ◌*◌, ◌-◌, ◌<◌, ◌≤◌, cond, Bool, true, false, List, [], ◌∷◌, ◌++◌, length, drop, take, slice_index_or, refl, ap, ◌∙◌, arith}
+use Rattle.std.proofs.Common.{◌≡◌, ℕ, suc, ◌+◌, ◌*◌, ◌-◌, ◌<◌, ◌≤◌, cond, Bool, true, false, List, [], ◌∷◌, ◌++◌, length, drop, take, slice_index_or, refl, ap, ◌∙◌, arith, inl, inr}
 use Rattle.std.specs.Prelude.{Some, slice_get, sum_by}
+use Rattle.std.proofs.Math.Nat.{mul-le-mul_left}
+use Rattle.std.proofs.lemmas.Bool.{cases_lt}
 use Rattle.std.proofs.lemmas.List.Sums.{sum_by-append}
 use Rattle.std.proofs.lemmas.Option.{slice_get-get_or}
-use Rattle.scf_profile.specs.declared.condition.Comparison.TheVariants.{Equal}
+use Rattle.scf_profile.specs.declared.condition.Operator.TheVariants.{Equal}
 use Rattle.scf_profile.specs.declared.condition.Condition.{Condition}
 use Rattle.scf_profile.specs.declared.rule.Rule.{Rule}
 use Rattle.scf_profile.specs.RulesByNumber.{numbers_of}
@@ -14,34 +16,66 @@ use Rattle.scf_compare.proofs.Rules.{take_here, conditions_more}
 pub added : (a b x y : ℕ) → a ≡ saturated x → b ≡ saturated y → saturated (a + b) ≡ saturated (x + y)
 added a b x y e f = omega arith
 
+pub multiplied : (a b x y : ℕ) → 0 < x → 0 < y → a ≡ saturated x → b ≡ saturated y
+    → saturated (a * b) ≡ saturated (x * y)
+multiplied a b x y some_x some_y e f =
+    let some_a : 1 ≤ a = omega arith in
+    let some_b : 1 ≤ b = omega arith in
+    let one_x : 1 ≤ x = omega arith in
+    let one_y : 1 ≤ y = omega arith in
+    let a_most : a * 1 ≤ a * b = mul-le-mul_left a some_b in
+    let b_most : b * 1 ≤ b * a = mul-le-mul_left b some_a in
+    let x_most : x * 1 ≤ x * y = mul-le-mul_left x one_y in
+    let y_most : y * 1 ≤ y * x = mul-le-mul_left y one_x in
+    elim (cases_lt 18446744073709551615 x) [
+      | inl large ↦ omega arith
+      | inr small ↦ elim (cases_lt 18446744073709551615 y) [
+        | inl large ↦ omega arith
+        | inr other_small ↦
+            let same_x : a ≡ x = omega arith in
+            let same_y : b ≡ y = omega arith in
+            ap (λ n. saturated (n * b)) same_x ∙ ap (λ n. saturated (x * n)) same_y
+      ]
+    ]
+
 sum_of_one : (f : ℕ → ℕ) (has : Bool) (number : ℕ) → sum_by f (cond has [] (number ∷ [])) ≡ cond has 0 (f number)
 sum_of_one f true number = refl
 sum_of_one f false number = omega arith
 
 -- what the number of one more rule adds to a sum over the distinct numbers
 pub sum_grows : (f : ℕ → ℕ) (rules : List Rule) (place : ℕ) (r : Rule) → slice_get rules place ≡ Some r
-    → sum_by f (numbers_of (take (place + 1) rules)) ≡ sum_by f (numbers_of (take place rules)) + cond (has_number r.number (take place rules)) 0 (f r.number)
+    → sum_by f (numbers_of (take (place + 1) rules))
+    ≡ sum_by f (numbers_of (take place rules)) + cond (has_number r.number (take place rules)) 0 (f r.number)
 sum_grows f rules place r here =
     let one : place + 1 ≡ suc place = omega arith in
     ap (λ n. sum_by f (numbers_of (take n rules))) one
     ∙ ap (λ (rs : List Rule). sum_by f (numbers_of rs)) (take_here rules place r here)
     ∙ ap (sum_by f) (numbers_of-push (take place rules) r)
     ∙ sum_by-append f (numbers_of (take place rules)) (cond (has_number r.number (take place rules)) [] (r.number ∷ []))
-    ∙ ap (λ n. sum_by f (numbers_of (take place rules)) + n) (sum_of_one f (has_number r.number (take place rules)) r.number)
+    ∙ ap (λ n. sum_by f (numbers_of (take place rules)) + n)
+    (sum_of_one f (has_number r.number (take place rules)) r.number)
 
-pub numbers_grow : (rules : List Rule) (place : ℕ) (r : Rule) → slice_get rules place ≡ Some r → numbers_of (take (place + 1) rules) ≡ numbers_of (take place rules) ++ cond (has_number r.number (take place rules)) [] (r.number ∷ [])
+pub numbers_grow : (rules : List Rule) (place : ℕ) (r : Rule) → slice_get rules place ≡ Some r
+    → numbers_of (take (place + 1) rules) ≡ numbers_of (take place rules)
+    ++ cond (has_number r.number (take place rules)) [] (r.number ∷ [])
 numbers_grow rules place r here =
     let one : place + 1 ≡ suc place = omega arith in
-    ap (λ n. numbers_of (take n rules)) one ∙ ap numbers_of (take_here rules place r here) ∙ numbers_of-push (take place rules) r
+    ap (λ n. numbers_of (take n rules)) one ∙ ap numbers_of (take_here rules place r here)
+    ∙ numbers_of-push (take place rules) r
 
 -- the conditions from one on, by those behind it
-pub conditions_step : (conditions : List Condition) (place behind : ℕ) → 0 < place → place ≤ length conditions → conditions_size (drop (place - 1) conditions) behind ≡ 3 + 2 * conditions_size (drop place conditions) behind + 2 * behind
+pub conditions_step : (conditions : List Condition) (place behind : ℕ) → 0 < place → place ≤ length conditions
+    → conditions_size (drop (place - 1) conditions) behind
+    ≡ 3 + 2 * conditions_size (drop place conditions) behind + 2 * behind
 conditions_step conditions place behind some within =
     let none : Condition = record { index = 0; op = Equal; value = 0; value_two = 0 } in
     let one : place - 1 + 1 ≡ place = omega arith in
     let inside : place - 1 < length conditions = omega arith in
-    conditions_more conditions (place - 1) (slice_index_or conditions (place - 1) none) behind (slice_get-get_or conditions (place - 1) none inside)
+    conditions_more conditions (place - 1) (slice_index_or conditions (place - 1) none) behind
+    (slice_get-get_or conditions (place - 1) none inside)
     ∙ ap (λ n. 3 + 2 * conditions_size (drop n conditions) behind + 2 * behind) one
 
-pub conditions_added : (size fails twice first second third x behind : ℕ) → size ≡ saturated x → fails ≡ saturated behind → twice ≡ saturated (fails + fails) → first ≡ saturated (size + size) → second ≡ saturated (first + twice) → third ≡ saturated (second + 3) → third ≡ saturated (3 + 2 * x + 2 * behind)
+pub conditions_added : (size fails twice first second third x behind : ℕ) → size ≡ saturated x
+    → fails ≡ saturated behind → twice ≡ saturated (fails + fails) → first ≡ saturated (size + size)
+    → second ≡ saturated (first + twice) → third ≡ saturated (second + 3) → third ≡ saturated (3 + 2 * x + 2 * behind)
 conditions_added size fails twice first second third x behind a b c d e f = omega arith

@@ -13,64 +13,109 @@ use Rattle.scf_compare.specs.declared.registers.Registers.{Registers}
 use Rattle.scf_compare.specs.declared.turn.Turn.{Turn}
 use Rattle.scf_compare.specs.declared.value.Decision.{Decision}
 use Rattle.scf_compare.specs.declared.value.Decision.TheVariants.{Known as Decided, Asks, Open}
-use Rattle.scf_compare.specs.Flow.{flow_at}
-use Rattle.scf_compare.specs.Questions.{Questions, IsProper, GoesOn, Costs, StaysPlain}
-use Rattle.scf_compare.specs.Values.{Describes, Decides, IsDecision, IsPlainDecision}
-use Rattle.scf_compare.specs.Filters.{ComesTo, IsTurnOf}
+use Rattle.scf_compare.specs.internal.Flow.{flow_at}
+use Rattle.scf_compare.specs.internal.Trees.{Tree, IsProper, GoesOn, Costs, StaysPlain}
+use Rattle.scf_compare.specs.internal.Values.{Describes, Decides, IsDecision, IsPlainDecision}
+use Rattle.scf_compare.specs.internal.Filters.{ComesTo, IsTurnOf}
 use Rattle.scf_compare.proofs.Flows.{next_never_ends, edge_next}
 
 -- what is known of registers doesn't hang on the place
-pub describes_at : (registers : Registers) (words : List ℕ) (s : State) (target : ℕ) → Describes registers words s → Describes registers words (jumps_to s target)
+pub describes_at : (registers : Registers) (words : List ℕ) (s : State) (target : ℕ) → Describes registers words s
+    → Describes registers words (jumps_to s target)
 describes_at registers words s target d = record { a = d.a; x = d.x; scratch = d.scratch }
 
-module _ (insns : List Insn) (words : List ℕ) (place : ℕ) (i : Insn) (operation : Operation) (registers : Registers) (stands : Stands insns place i operation) (c : ComesTo insns place registers words) where
+module _ (insns : List Insn) (words : List ℕ) (place : ℕ) (i : Insn) (operation : Operation) (registers : Registers)
+    (stands : Stands insns place i operation) (c : ComesTo insns place registers words) where
   step_here : step insns words c.state ≡ effect operation i words c.state
-  step_here = step_is insns words c.state i operation (subst (λ (p : ℕ). Stands insns p i operation) (sym c.there) stands)
+  step_here =
+      step_is insns words c.state i operation (subst (λ (p : ℕ). Stands insns p i operation) (sym c.there) stands)
 
-  pub comes_on : (t : State) (next : ℕ) (after : Registers) → effect operation i words c.state ≡ Goes t → t.place ≡ next → Describes after words t → ComesTo insns next after words
-  comes_on t next after e there d = record { state = t; earlier = c.state ∷ c.earlier; chain = (step_here ∙ e, c.chain); there = there; describes = d }
+  pub comes_on : (t : State) (next : ℕ) (after : Registers) → effect operation i words c.state ≡ Goes t → t.place ≡ next
+      → Describes after words t → ComesTo insns next after words
+  comes_on t next after e there d =
+      record {
+        state = t;
+        earlier = c.state ∷ c.earlier;
+        chain = (step_here ∙ e, c.chain);
+        there = there;
+        describes = d;
+      }
 
   pub comes_to_answer : (n : ℕ) → effect operation i words c.state ≡ Ends n → RunAnswers insns words n
-  comes_to_answer n e = (length c.earlier + 1, record { last = c.state; earlier = c.earlier; chain = c.chain; answers = step_here ∙ e; count = refl })
+  comes_to_answer n e = (
+    length c.earlier + 1,
+    record { last = c.state; earlier = c.earlier; chain = c.chain; answers = step_here ∙ e; count = refl },
+  )
 
-  straight_by : RunsSafely insns words → (o : Outcome) → effect operation i words c.state ≡ o → (next : ℕ) → flow_at operation i place ≡ Next next → (after : Registers) → ((t : State) → effect operation i words c.state ≡ Goes t → Describes after words t) → ComesTo insns next after words
+  straight_by : RunsSafely insns words → (o : Outcome) → effect operation i words c.state ≡ o → (next : ℕ)
+      → flow_at operation i place ≡ Next next → (after : Registers)
+      → ((t : State) → effect operation i words c.state ≡ Goes t → Describes after words t)
+      → ComesTo insns next after words
   straight_by safe (Goes t) e next f after d =
       let edge = step_edge insns words c.state t (step_here ∙ e) in
-      comes_on t next after e (edge_next insns place t.place next i operation stands (subst (λ (p : ℕ). Edge insns p t.place) c.there edge) f) (d t e)
+      comes_on t next after e
+      (edge_next insns place t.place next i operation stands (subst (λ (p : ℕ). Edge insns p t.place) c.there edge)
+      f)
+      (d t e)
   straight_by safe (Ends n) e next f after d = absurd (next_never_ends operation i words c.state place next n f e)
-  straight_by safe (Faults fault) e next f after d = absurd (safe.never_faults c.state c.earlier fault c.chain (step_here ∙ e))
+  straight_by safe (Faults fault) e next f after d =
+      absurd (safe.never_faults c.state c.earlier fault c.chain (step_here ∙ e))
 
   -- an instruction that goes on to the next one
-  pub straight : RunsSafely insns words → (next : ℕ) → flow_at operation i place ≡ Next next → (after : Registers) → ((t : State) → effect operation i words c.state ≡ Goes t → Describes after words t) → ComesTo insns next after words
+  pub straight : RunsSafely insns words → (next : ℕ) → flow_at operation i place ≡ Next next → (after : Registers)
+      → ((t : State) → effect operation i words c.state ≡ Goes t → Describes after words t)
+      → ComesTo insns next after words
   straight safe next f after d = straight_by safe (effect operation i words c.state) refl next f after d
 
 -- ---- the ways on from a test
 
-pub turn_proper : (tree : Questions FilterNode) (is_end : FilterEnd → Type 0) (decision : Decision) (if_true if_false : FilterNode) (turn : Turn FilterNode FilterEnd) → IsTurnOf decision if_true if_false turn → IsDecision decision → tree.is_node if_true → tree.is_node if_false → IsProper tree is_end turn
+pub turn_proper : (tree : Tree FilterNode) (is_end : FilterEnd → Type 0) (decision : Decision)
+    (if_true if_false : FilterNode) (turn : Turn FilterNode FilterEnd) → IsTurnOf decision if_true if_false turn
+    → IsDecision decision → tree.is_node if_true → tree.is_node if_false → IsProper tree is_end turn
 turn_proper tree is_end (Decided true) t f turn e d ht hf = subst (IsProper tree is_end) (sym e) ht
 turn_proper tree is_end (Decided false) t f turn e d ht hf = subst (IsProper tree is_end) (sym e) hf
 turn_proper tree is_end (Asks atom true) t f turn e d ht hf = subst (IsProper tree is_end) (sym e) (d, ht, hf)
 turn_proper tree is_end (Asks atom false) t f turn e d ht hf = subst (IsProper tree is_end) (sym e) (d, hf, ht)
 turn_proper tree is_end Open t f turn e d ht hf = subst (IsProper tree is_end) (sym e) (ht, hf)
 
-pub turn_costs : (tree : Questions FilterNode) (decision : Decision) (if_true if_false : FilterNode) (turn : Turn FilterNode FilterEnd) (n : ℕ) → IsTurnOf decision if_true if_false turn → tree.size if_true + tree.size if_false + 1 ≤ n → Costs tree turn n
-turn_costs tree (Decided true) t f turn n e h = subst (λ (u : Turn FilterNode FilterEnd). Costs tree u n) (sym e) (let k : tree.size t + 1 ≤ n = omega arith in k)
-turn_costs tree (Decided false) t f turn n e h = subst (λ (u : Turn FilterNode FilterEnd). Costs tree u n) (sym e) (let k : tree.size f + 1 ≤ n = omega arith in k)
+pub turn_costs : (tree : Tree FilterNode) (decision : Decision) (if_true if_false : FilterNode)
+    (turn : Turn FilterNode FilterEnd) (n : ℕ) → IsTurnOf decision if_true if_false turn
+    → tree.size if_true + tree.size if_false + 1 ≤ n → Costs tree turn n
+turn_costs tree (Decided true) t f turn n e h =
+    subst (λ (u : Turn FilterNode FilterEnd). Costs tree u n) (sym e) (let k : tree.size t + 1 ≤ n = omega arith in k)
+turn_costs tree (Decided false) t f turn n e h =
+    subst (λ (u : Turn FilterNode FilterEnd). Costs tree u n) (sym e) (let k : tree.size f + 1 ≤ n = omega arith in k)
 turn_costs tree (Asks atom true) t f turn n e h = subst (λ (u : Turn FilterNode FilterEnd). Costs tree u n) (sym e) h
-turn_costs tree (Asks atom false) t f turn n e h = subst (λ (u : Turn FilterNode FilterEnd). Costs tree u n) (sym e) (let k : tree.size f + tree.size t + 1 ≤ n = omega arith in k)
+turn_costs tree (Asks atom false) t f turn n e h =
+    subst (λ (u : Turn FilterNode FilterEnd). Costs tree u n) (sym e)
+    (let k : tree.size f + tree.size t + 1 ≤ n = omega arith in k)
 turn_costs tree Open t f turn n e h = subst (λ (u : Turn FilterNode FilterEnd). Costs tree u n) (sym e) h
 
-pub turn_leads : (tree : Questions FilterNode) (tells : FilterEnd → List ℕ → Type 0) (words : List ℕ) (decision : Decision) (if_true if_false : FilterNode) (turn : Turn FilterNode FilterEnd) (test : Bool) → IsTurnOf decision if_true if_false turn → Decides decision words test → (test ≡ true → tree.reaches if_true words) → (test ≡ false → tree.reaches if_false words) → GoesOn tree tells turn words
-turn_leads tree tells words (Decided true) t f turn test e d ht hf = subst (λ (u : Turn FilterNode FilterEnd). GoesOn tree tells u words) (sym e) (ht d)
-turn_leads tree tells words (Decided false) t f turn test e d ht hf = subst (λ (u : Turn FilterNode FilterEnd). GoesOn tree tells u words) (sym e) (hf d)
-turn_leads tree tells words (Asks atom true) t f turn test e d ht hf = subst (λ (u : Turn FilterNode FilterEnd). GoesOn tree tells u words) (sym e)
-    (λ a. ht (d.1 a), λ a. elim (cases_Bool test) [ inl y ↦ absurd (let both : true ≡ false = sym (d.0 y) ∙ a in cc) | inr n ↦ hf n ])
-turn_leads tree tells words (Asks atom false) t f turn test e d ht hf = subst (λ (u : Turn FilterNode FilterEnd). GoesOn tree tells u words) (sym e)
-    (λ a. elim (cases_Bool test) [ inl y ↦ absurd (let both : false ≡ true = sym (d.0 y) ∙ a in cc) | inr n ↦ hf n ], λ a. ht (d.1 a))
-turn_leads tree tells words Open t f turn test e d ht hf = subst (λ (u : Turn FilterNode FilterEnd). GoesOn tree tells u words) (sym e)
+pub turn_leads : (tree : Tree FilterNode) (tells : FilterEnd → List ℕ → Type 0) (words : List ℕ) (decision : Decision)
+    (if_true if_false : FilterNode) (turn : Turn FilterNode FilterEnd) (test : Bool)
+    → IsTurnOf decision if_true if_false turn → Decides decision words test → (test ≡ true → tree.reaches if_true words)
+    → (test ≡ false → tree.reaches if_false words) → GoesOn tree tells turn words
+turn_leads tree tells words (Decided true) t f turn test e d ht hf =
+    subst (λ (u : Turn FilterNode FilterEnd). GoesOn tree tells u words) (sym e) (ht d)
+turn_leads tree tells words (Decided false) t f turn test e d ht hf =
+    subst (λ (u : Turn FilterNode FilterEnd). GoesOn tree tells u words) (sym e) (hf d)
+turn_leads tree tells words (Asks atom true) t f turn test e d ht hf =
+    subst (λ (u : Turn FilterNode FilterEnd). GoesOn tree tells u words) (sym e) (
+      λ a. ht (d.1 a),
+      λ a. elim (cases_Bool test) [ inl y ↦ absurd (let both : true ≡ false = sym (d.0 y) ∙ a in cc) | inr n ↦ hf n ],
+    )
+turn_leads tree tells words (Asks atom false) t f turn test e d ht hf =
+    subst (λ (u : Turn FilterNode FilterEnd). GoesOn tree tells u words) (sym e) (
+      λ a. elim (cases_Bool test) [ inl y ↦ absurd (let both : false ≡ true = sym (d.0 y) ∙ a in cc) | inr n ↦ hf n ],
+      λ a. ht (d.1 a),
+    )
+turn_leads tree tells words Open t f turn test e d ht hf =
+    subst (λ (u : Turn FilterNode FilterEnd). GoesOn tree tells u words) (sym e)
     (elim (cases_Bool test) [ inl y ↦ inl (ht y) | inr n ↦ inr (hf n) ])
 
-pub turn_plain : (tree : Questions FilterNode) (tells_all : FilterEnd → Type 0) (decision : Decision) (if_true if_false : FilterNode) (turn : Turn FilterNode FilterEnd) → IsTurnOf decision if_true if_false turn → IsPlainDecision decision → tree.is_plain if_true → tree.is_plain if_false → StaysPlain tree tells_all turn
+pub turn_plain : (tree : Tree FilterNode) (tells_all : FilterEnd → Type 0) (decision : Decision)
+    (if_true if_false : FilterNode) (turn : Turn FilterNode FilterEnd) → IsTurnOf decision if_true if_false turn
+    → IsPlainDecision decision → tree.is_plain if_true → tree.is_plain if_false → StaysPlain tree tells_all turn
 turn_plain tree tells_all (Decided true) t f turn e d ht hf = subst (StaysPlain tree tells_all) (sym e) ht
 turn_plain tree tells_all (Decided false) t f turn e d ht hf = subst (StaysPlain tree tells_all) (sym e) hf
 turn_plain tree tells_all (Asks atom true) t f turn e d ht hf = subst (StaysPlain tree tells_all) (sym e) (d, ht, hf)

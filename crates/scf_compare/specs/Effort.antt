@@ -3,9 +3,9 @@ use Rattle.std.specs.Prelude.{◌+◌, ◌*◌, ◌-◌, ◌^◌, ℕ, List, [],
 use Rattle.scf_insn.specs.declared.insn.Insn.{Insn}
 use Rattle.scf_profile.specs.declared.condition.Condition.{Condition}
 use Rattle.scf_profile.specs.declared.rule.Rule.{Rule}
-use Rattle.scf_profile.specs.Policy.{Policy}
+use Rattle.scf_profile.specs.Profile.{Profile}
 use Rattle.scf_profile.specs.RulesByNumber.{numbers_of, rules_of}
-use Rattle.scf_compare.specs.Flow.{tree_size}
+use Rattle.scf_compare.specs.Paths.{tree_size}
 
 -- conditions, where what is asked once one of them fails has a size
 abbrev pub conditions_size : List Condition → ℕ → ℕ
@@ -25,8 +25,17 @@ abbrev pub spread : List Rule → ℕ
 spread rules = 8 + sum_by (number_size rules) (numbers_of rules)
 
 -- the effort: the size of the filter's tree of paths from its first place on, times the spread
-abbrev pub effort_of : List Insn → Policy → ℕ
+abbrev pub effort_of : List Insn → Profile → ℕ
 effort_of insns p = tree_size insns 0 * spread p.rules
+
+-- the product of the sizes of the trees of paths of filters, 1 for none
+abbrev pub stack_paths : List (List Insn) → ℕ
+stack_paths [] = 1
+stack_paths (filter ∷ filters) = tree_size filter 0 * stack_paths filters
+
+-- the effort of a stack: that product times the spread
+abbrev pub effort_of_stack : List (List Insn) → Profile → ℕ
+effort_of_stack filters p = stack_paths filters * spread p.rules
 
 -- the number, or 2^64-1 where it is larger
 abbrev pub saturated : ℕ → ℕ

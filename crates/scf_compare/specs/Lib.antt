@@ -1,12 +1,5 @@
-pub mod Conditions
 pub mod Effort
-pub mod Ends
-pub mod Filters
-pub mod Flow
-pub mod Frontier
-pub mod Laws
-pub mod Pairs
-pub mod Profiles
-pub mod Questions
-pub mod Values
+pub mod Paths
+pub mod Scope
 pub mod Verdicts
+pub mod internal

@@ -1,21 +1,26 @@
 //! The comparison of a filter with a profile.
 
-ghost use Rattle.std.specs.Prelude.{◌≡◌, IsTrue, IfOk};
+ghost use Rattle.std.specs.Prelude.{◌≡◌, ◌*◌, All, IsTrue, IfOk};
 ghost use Rattle.scf_machine.specs.Machine.{RunAnswers};
 ghost use Rattle.scf_machine.specs.Plain.{IsPlainProgram};
+ghost use Rattle.scf_machine.specs.Precedence.{StackAnswers};
 ghost use Rattle.scf_profile.specs.PlainProfile.{IsPlainProfile};
 ghost use Rattle.scf_profile.specs.SameAnswers.{SameAnswers};
-ghost use Rattle.scf_compare.specs.Effort.{effort_of};
-ghost use Rattle.scf_compare.specs.Verdicts.{IsTrueOf, IsWithin, IsDecided};
+ghost use Rattle.scf_compare.specs.Effort.{spread, effort_of, effort_of_stack};
+ghost use Rattle.scf_compare.specs.Scope.{SameAnswersIn};
+ghost use Rattle.scf_compare.specs.Verdicts.{IsTrueOf, IsTrueOfStack, IsWithin, IsDecided};
+ghost use Rattle.scf_compare.specs.internal.Compared.{AllAlike, IsTrueVerdict};
+ghost use Rattle.scf_compare.specs.internal.Scopes.{compared_in};
 
 use crate::explore::explore;
 use crate::pair::{Pair, PairNode};
 use crate::party::FilterTree;
 use crate::profile_numbers::ProfileNumbers;
+use crate::scope::{Scope, facts_of};
 use crate::verdict::Verdict;
 use scf_facts::WordFacts;
 use scf_insn::Memory;
-use scf_machine::Program;
+use scf_machine::{FilterStack, Program};
 use scf_profile::Profile;
 use std::alloc::Global;
 
@@ -40,12 +45,54 @@ pub fn compare<F: WordFacts>(
         (SameAnswers (RunAnswers program.now) profile.now)
         limit (effort_of program.now profile.now)) }
 {
+    compare_party::<Program, F>(alloc, program, profile, Scope::All, limit)
+}
+
+/// Compares what a stack of filters answers with a profile over the calls of a scope, in at most `limit` steps.
+///
+/// The verdicts are those of `compare`. A record that `Differs` shows is of the scope, and the filter's answer in it is
+/// that of the stack. `Undecided` names a place of one of the filters, and 0 for an empty stack. Facts that start exact
+/// decide a stack of plain programs and a plain profile.
+pub fn compare_stack<F: WordFacts>(
+    alloc: Global,
+    stack: &FilterStack,
+    profile: &Profile,
+    scope: Scope,
+    limit: u64,
+) -> Result<Verdict, Memory>
+    ensures holds { IfOk result (IsTrueOfStack stack.now profile.now scope) }
+    ensures within { IfOk result (IsWithin limit (effort_of_stack stack.now profile.now)) }
+    ensures decided { IsTrue F.starts_exact → All IsPlainProgram stack.now → IsPlainProfile profile.now
+        → IfOk result (IsDecided
+        (SameAnswersIn scope (StackAnswers stack.now) profile.now)
+        limit (effort_of_stack stack.now profile.now)) }
+{
+    compare_party::<FilterStack, F>(alloc, stack, profile, scope, limit)
+}
+
+/// Compares a filter, or what answers as one, with a profile over the words of the calls of a scope.
+fn compare_party<A: FilterTree, F: WordFacts>(
+    alloc: Global,
+    filter: &A,
+    profile: &Profile,
+    scope: Scope,
+    limit: u64,
+) -> Result<Verdict, Memory>
+    ensures holds { IfOk result (
+        IsTrueVerdict (compared_in scope (A.is_place filter.now) (A.answers filter.now) profile.now)) }
+    ensures within { IfOk result (IsWithin limit (A.whole_size filter.now * spread profile.now.rules)) }
+    ensures decided { IsTrue F.starts_exact → A.is_plain filter.now → IsPlainProfile profile.now
+        → IfOk result (IsDecided
+        (AllAlike (compared_in scope (A.is_place filter.now) (A.answers filter.now) profile.now))
+        limit (A.whole_size filter.now * spread profile.now.rules)) }
+{
     let numbers = ProfileNumbers::new(alloc, profile)?;
     let pair = Pair {
-        filter: program,
+        filter,
         profile: &numbers,
+        scope,
     };
-    let facts = F::all(alloc)?;
-    let root = PairNode::AtFilter(program.start());
-    explore(alloc, &pair, facts, root, limit)
+    let facts: F = facts_of(alloc, scope)?;
+    let (known, start) = filter.start();
+    explore(alloc, &pair, facts, known, PairNode::AtFilter(start), limit)
 }

@@ -1,39 +1,47 @@
 //! Explores the tree of a comparison.
 
-ghost use Rattle.std.specs.Prelude.{◌≡◌, ◌+◌, ◌<◌, ◌≤◌, ◌↔◌, ◌⊎◌, ℕ, List, Some, None, IsTrue, OnOk, IfOk, IfSome, IfNone, true, false};
-ghost use Rattle.scf_facts.specs.Atoms.{word_of, atom_answer};
-ghost use Rattle.scf_compare.specs.Ends.{IsEnd, Tells, KnowsBoth};
-ghost use Rattle.scf_compare.specs.Frontier.{IsInSome, IsFrontier, IsExactAt, AreExact, open_size};
-ghost use Rattle.scf_compare.specs.Verdicts.{AnswerAlike, AllAlike, IsTrueVerdict, IsWithin, IsDecided};
+ghost use Rattle.std.specs.Prelude.{◌≡◌, ◌↔◌, ℕ, List, IsTrue, IfOk, IfSome, IfNone};
+ghost use Rattle.scf_compare.specs.Verdicts.{IsWithin, IsDecided};
+ghost use Rattle.scf_compare.specs.internal.Compared.{AnswerAlike, AllAlike, IsTrueVerdict};
+ghost use Rattle.scf_compare.specs.internal.Ends.{IsEnd, Tells, KnowsBoth};
+ghost use Rattle.scf_compare.specs.internal.Frontier.{IsFrontier};
+ghost use Rattle.scf_compare.specs.internal.Stages.{IsStageAfter};
 
 use crate::comparison::{BothEnds, Comparison};
-use crate::frontier::{Frontier, branch_out, take_branch};
+use crate::frontier::{Frontier, ask, fork, take_branch};
 use crate::turn::Turn;
 use crate::verdict::Verdict;
-use scf_facts::{Atom, Tell, WordFacts};
+use scf_facts::WordFacts;
 use scf_insn::{CallRecord, Memory};
 use std::alloc::Global;
+
+/// Where an exploration stands after a step.
+#[derive(Drop)]
+pub(crate) enum Stage<N> {
+    /// At this node.
+    At(N),
+    /// At the end of the last branch.
+    AllSeen,
+    /// At a verdict.
+    Found(Verdict),
+}
 
 /// At an end of the tree: `None` where all that is allowed there is answered alike.
 ///
 /// A difference is shown only where the filter was really run and the profile really asked.
 fn judge<C: Comparison, F: WordFacts>(comparison: &C, facts: &F, end: BothEnds) -> Option<Verdict>
-    requires place { C.is_place comparison.now end.filter.at }
-    requires scope { (words : List ℕ) → F.allows facts.now words → C.in_scope comparison.now words }
-    ensures alike { IfNone result (
-        (words : List ℕ) → F.allows facts.now words
-        → Tells (C.filter_answers comparison.now) (C.profile_answers comparison.now) end words
-        → AnswerAlike (C.filter_answers comparison.now) (C.profile_answers comparison.now) words) }
-    ensures holds { IfSome result (
-        IsTrueVerdict (C.in_scope comparison.now) (C.is_place comparison.now)
-        (C.filter_answers comparison.now) (C.profile_answers comparison.now)) }
+    requires place { IsEnd (C.compared comparison.now) end }
+    requires scope { (words : List ℕ) → F.allows facts.now (F.level facts.now) words
+        → (C.compared comparison.now).in_scope words }
+    ensures alike { IfNone result ((words : List ℕ) → F.allows facts.now (F.level facts.now) words
+        → Tells (C.compared comparison.now) end words → AnswerAlike (C.compared comparison.now) words) }
+    ensures holds { IfSome result (IsTrueVerdict (C.compared comparison.now)) }
     ensures within { IfSome result (λ verdict. (limit effort : ℕ) → IsWithin limit effort verdict) }
-    ensures decided { IsTrue (F.is_exact facts.now) → KnowsBoth end
-        → ((words : List ℕ) → F.allows facts.now words
-        → Tells (C.filter_answers comparison.now) (C.profile_answers comparison.now) end words)
-        → IfSome result (λ verdict. (limit effort : ℕ) → IsDecided
-        (AllAlike (C.in_scope comparison.now) (C.filter_answers comparison.now) (C.profile_answers comparison.now))
-        limit effort verdict) }
+    ensures decided { IsTrue (F.is_exact facts.now (F.level facts.now)) → KnowsBoth end
+        → ((words : List ℕ) → F.allows facts.now (F.level facts.now) words
+        → Tells (C.compared comparison.now) end words)
+        → IfSome result (λ verdict. (limit effort : ℕ)
+        → IsDecided (AllAlike (C.compared comparison.now)) limit effort verdict) }
 {
     if let Some(answer) = end.filter.answer {
         if answer == end.profile {
@@ -57,182 +65,75 @@ fn judge<C: Comparison, F: WordFacts>(comparison: &C, facts: &F, end: BothEnds) 
     Some(Verdict::Undecided { at: end.filter.at })
 }
 
-/// Opens both ways on from a test that no atom decides.
-fn fork<C: Comparison, F: WordFacts>(
-    alloc: Global,
-    comparison: &C,
-    frontier: &mut Frontier<F, C::Node>,
-    if_true: C::Node,
-    if_false: C::Node,
-) -> Result<(), Memory>
-    requires sound { IsFrontier F.allows (C.questions comparison.now) (C.in_scope comparison.now) frontier.old }
-    requires node_if_true { (C.questions comparison.now).is_node if_true }
-    requires node_if_false { (C.questions comparison.now).is_node if_false }
-    ensures sound { OnOk result (
-        IsFrontier F.allows (C.questions comparison.now) (C.in_scope comparison.now) frontier.new) }
-    ensures kept { OnOk result (
-        (words : List ℕ) → IsInSome F.allows (C.questions comparison.now) frontier.old words
-        → IsInSome F.allows (C.questions comparison.now) frontier.new words) }
-    ensures entered { OnOk result (
-        (words : List ℕ) → F.allows frontier.old.facts words
-        → (C.questions comparison.now).reaches if_true words ⊎ (C.questions comparison.now).reaches if_false words
-        → IsInSome F.allows (C.questions comparison.now) frontier.new words) }
-    ensures size { OnOk result (
-        open_size (C.questions comparison.now) frontier.new
-        ≡ open_size (C.questions comparison.now) frontier.old
-        + (C.questions comparison.now).size if_true
-        + (C.questions comparison.now).size if_false) }
-{
-    branch_out(alloc, comparison, frontier, if_false, None)?;
-    branch_out(alloc, comparison, frontier, if_true, None)?;
-    Ok(())
-}
-
-/// Opens the ways on from an atom, those that the facts don't rule out.
-fn ask<C: Comparison, F: WordFacts>(
-    alloc: Global,
-    comparison: &C,
-    frontier: &mut Frontier<F, C::Node>,
-    atom: Atom,
-    if_true: C::Node,
-    if_false: C::Node,
-) -> Result<(), Memory>
-    requires asks { word_of atom < 16 }
-    requires sound { IsFrontier F.allows (C.questions comparison.now) (C.in_scope comparison.now) frontier.old }
-    requires node_if_true { (C.questions comparison.now).is_node if_true }
-    requires node_if_false { (C.questions comparison.now).is_node if_false }
-    ensures sound { OnOk result (
-        IsFrontier F.allows (C.questions comparison.now) (C.in_scope comparison.now) frontier.new) }
-    ensures kept { OnOk result (
-        (words : List ℕ) → IsInSome F.allows (C.questions comparison.now) frontier.old words
-        → IsInSome F.allows (C.questions comparison.now) frontier.new words) }
-    ensures entered { OnOk result (
-        (words : List ℕ) → F.allows frontier.old.facts words
-        → (atom_answer atom words ≡ true → (C.questions comparison.now).reaches if_true words)
-        → (atom_answer atom words ≡ false → (C.questions comparison.now).reaches if_false words)
-        → IsInSome F.allows (C.questions comparison.now) frontier.new words) }
-    ensures size { OnOk result (
-        open_size (C.questions comparison.now) frontier.new
-        ≤ open_size (C.questions comparison.now) frontier.old
-        + (C.questions comparison.now).size if_true
-        + (C.questions comparison.now).size if_false) }
-    ensures exact { OnOk result (AreExact F.allows F.is_exact (C.questions comparison.now) frontier.old
-        → IsExactAt F.allows F.is_exact (C.questions comparison.now) frontier.old.facts (Some (atom, true)) if_true
-        → IsExactAt F.allows F.is_exact (C.questions comparison.now) frontier.old.facts (Some (atom, false)) if_false
-        → AreExact F.allows F.is_exact (C.questions comparison.now) frontier.new) }
-{
-    match frontier.facts.tell(atom) {
-        Tell::Always => {
-            branch_out(alloc, comparison, frontier, if_true, None)?;
-            Ok(())
-        }
-        Tell::Never => {
-            branch_out(alloc, comparison, frontier, if_false, None)?;
-            Ok(())
-        }
-        Tell::Maybe => {
-            branch_out(alloc, comparison, frontier, if_false, Some((atom, false)))?;
-            branch_out(alloc, comparison, frontier, if_true, Some((atom, true)))?;
-            Ok(())
-        }
-    }
-}
-
-/// Explores a node, and opens what comes after it.
+/// Explores a node. At an end of the tree the newest branch is taken.
 fn advance<C: Comparison, F: WordFacts>(
-    alloc: Global,
     comparison: &C,
-    node: &C::Node,
-    frontier: &mut Frontier<F, C::Node>,
-) -> Result<Option<Verdict>, Memory>
-    requires sound { IsFrontier F.allows (C.questions comparison.now) (C.in_scope comparison.now) frontier.old }
-    requires node { (C.questions comparison.now).is_node node.now }
-    ensures sound { OnOk result (
-        IsFrontier F.allows (C.questions comparison.now) (C.in_scope comparison.now) frontier.new) }
-    ensures kept { OnOk result (
-        (words : List ℕ) → IsInSome F.allows (C.questions comparison.now) frontier.old words
-        → IsInSome F.allows (C.questions comparison.now) frontier.new words) }
-    ensures covered { IfOk result (λ verdict. IfNone verdict (
-        (words : List ℕ) → F.allows frontier.old.facts words
-        → (C.questions comparison.now).reaches node.now words
-        → AnswerAlike (C.filter_answers comparison.now) (C.profile_answers comparison.now) words
-        ⊎ IsInSome F.allows (C.questions comparison.now) frontier.new words)) }
-    ensures size { OnOk result (
-        open_size (C.questions comparison.now) frontier.new + 1
-        ≤ open_size (C.questions comparison.now) frontier.old + (C.questions comparison.now).size node.now) }
-    ensures holds { IfOk result (λ verdict. IfSome verdict (
-        IsTrueVerdict (C.in_scope comparison.now) (C.is_place comparison.now)
-        (C.filter_answers comparison.now) (C.profile_answers comparison.now))) }
-    ensures within { IfOk result (λ verdict. IfSome verdict (λ verdict.
-        (limit effort : ℕ) → IsWithin limit effort verdict)) }
-    ensures exact { OnOk result (AreExact F.allows F.is_exact (C.questions comparison.now) frontier.old
-        → IsExactAt F.allows F.is_exact (C.questions comparison.now) frontier.old.facts None node.now
-        → AreExact F.allows F.is_exact (C.questions comparison.now) frontier.new) }
-    ensures decided { IfOk result (λ verdict.
-        IsExactAt F.allows F.is_exact (C.questions comparison.now) frontier.old.facts None node.now
-        → IfSome verdict (λ verdict. (limit effort : ℕ) → IsDecided
-        (AllAlike (C.in_scope comparison.now) (C.filter_answers comparison.now) (C.profile_answers comparison.now))
-        limit effort verdict)) }
+    frontier: &mut Frontier<F, C::Known, C::Node>,
+    known: &mut C::Known,
+    node: C::Node,
+) -> Result<Stage<C::Node>, Memory>
+    requires frontier { IsFrontier F.WordFacts (C.tree comparison.now)
+        (C.compared comparison.now).in_scope frontier.old }
+    requires node { (C.tree comparison.now known.old).is_node node }
+    ensures { IfOk result (
+        IsStageAfter F.WordFacts (C.compared comparison.now) (C.tree comparison.now)
+        frontier.old frontier.new (C.tree comparison.now known.old) node (C.tree comparison.now known.new)) }
 {
-    match comparison.turn(node) {
-        Turn::Go(next) => {
-            branch_out(alloc, comparison, frontier, next, None)?;
-            Ok(None)
-        }
+    match comparison.turn(&frontier.facts, known, &node) {
+        Turn::Go(next) => Ok(Stage::At(next)),
         Turn::Ask {
             atom,
             if_true,
             if_false,
         } => {
-            ask(alloc, comparison, frontier, atom, if_true, if_false)?;
-            Ok(None)
+            let next = ask(comparison, frontier, known, atom, if_true, if_false)?;
+            Ok(Stage::At(next))
         }
         Turn::Fork { if_true, if_false } => {
-            fork(alloc, comparison, frontier, if_true, if_false)?;
-            Ok(None)
+            let next = fork(comparison, frontier, known, if_true, if_false)?;
+            Ok(Stage::At(next))
         }
         Turn::End(end) => {
-            let verdict = judge(comparison, &frontier.facts, end);
-            Ok(verdict)
+            if let Some(verdict) = judge(comparison, &frontier.facts, end) {
+                return Ok(Stage::Found(verdict));
+            }
+            match take_branch(comparison, frontier, known)? {
+                Some(next) => Ok(Stage::At(next)),
+                None => Ok(Stage::AllSeen),
+            }
         }
     }
 }
 
-/// Explores every branch of the tree from a node on, for the words that the facts allow.
+/// Explores every branch of the tree from a node on, and from what is known there, for the words that the facts allow.
 pub(crate) fn explore<C: Comparison, F: WordFacts>(
     alloc: Global,
     comparison: &C,
     facts: F,
+    start: C::Known,
     root: C::Node,
     limit: u64,
 ) -> Result<Verdict, Memory>
-    requires node { (C.questions comparison.now).is_node root }
-    requires scope { (words : List ℕ) → F.allows facts words ↔ C.in_scope comparison.now words }
-    requires reached { (words : List ℕ) → C.in_scope comparison.now words
-        → (C.questions comparison.now).reaches root words }
-    ensures holds { IfOk result (
-        IsTrueVerdict (C.in_scope comparison.now) (C.is_place comparison.now)
-        (C.filter_answers comparison.now) (C.profile_answers comparison.now)) }
-    ensures within { IfOk result (IsWithin limit ((C.questions comparison.now).size root)) }
-    ensures decided { IsTrue (F.is_exact facts) → (C.questions comparison.now).is_plain root
-        → IfOk result (IsDecided
-        (AllAlike (C.in_scope comparison.now) (C.filter_answers comparison.now) (C.profile_answers comparison.now))
-        limit ((C.questions comparison.now).size root)) }
+    requires node { (C.tree comparison.now start).is_node root }
+    requires unmarked { F.level facts ≡ 0 }
+    requires scope { (words : List ℕ) → F.allows facts 0 words ↔ (C.compared comparison.now).in_scope words }
+    requires reached { (words : List ℕ) → (C.compared comparison.now).in_scope words
+        → (C.tree comparison.now start).reaches root words }
+    ensures holds { IfOk result (IsTrueVerdict (C.compared comparison.now)) }
+    ensures within { IfOk result (IsWithin limit ((C.tree comparison.now start).size root)) }
+    ensures decided { let tree = C.tree comparison.now start in
+        IsTrue (F.is_exact facts 0) → tree.is_plain root
+        → IfOk result (IsDecided (AllAlike (C.compared comparison.now)) limit (tree.size root)) }
 {
-    let mut frontier = Frontier {
-        facts,
-        branches: Vec::new(alloc),
-    };
-    branch_out(alloc, comparison, &mut frontier, root, None)?;
-    let mut steps = 0;
-    while let Some(node) = take_branch(comparison, &mut frontier)? {
-        if steps == limit {
-            return Ok(Verdict::Unfinished);
-        }
-        steps += 1;
-        if let Some(verdict) = advance(alloc, comparison, &node, &mut frontier)? {
-            return Ok(verdict);
+    let mut frontier = Frontier::new(alloc, facts);
+    let mut known = start;
+    let mut node = root;
+    for steps in 0..limit {
+        match advance(comparison, &mut frontier, &mut known, node)? {
+            Stage::At(next) => node = next,
+            Stage::AllSeen => return Ok(Verdict::Same { steps: steps + 1 }),
+            Stage::Found(verdict) => return Ok(verdict),
         }
     }
-    Ok(Verdict::Same { steps })
+    Ok(Verdict::Unfinished)
 }

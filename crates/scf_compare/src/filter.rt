@@ -6,11 +6,11 @@ ghost use Rattle.scf_insn.specs.Codes.{operation_of};
 ghost use Rattle.scf_machine.specs.Machine.{RunAnswers, RunsSafely};
 ghost use Rattle.scf_machine.specs.Plain.{IsPlainProgram};
 ghost use Rattle.scf_machine.specs.Rules.{IsValidList, Stands};
-ghost use Rattle.scf_compare.specs.Questions.{IsProper, GoesOn, Costs, StaysPlain};
-ghost use Rattle.scf_compare.specs.Ends.{FilterTells, KnowsAnswer};
-ghost use Rattle.scf_compare.specs.Flow.{tree_size};
-ghost use Rattle.scf_compare.specs.Values.{AreValues, IsPlainValue, IsDecision};
-ghost use Rattle.scf_compare.specs.Filters.{ComesTo, IsTurnOf, filter_questions};
+ghost use Rattle.scf_compare.specs.internal.Trees.{IsProper, GoesOn, Costs, StaysPlain};
+ghost use Rattle.scf_compare.specs.internal.Ends.{FilterTells, KnowsAnswer};
+ghost use Rattle.scf_compare.specs.Paths.{tree_size};
+ghost use Rattle.scf_compare.specs.internal.Values.{AreValues, IsPlainValue, IsDecision};
+ghost use Rattle.scf_compare.specs.internal.Filters.{ComesTo, IsTurnOf, filter_tree};
 
 use crate::comparison::FilterEnd;
 use crate::flow::Flow;
@@ -21,34 +21,36 @@ use crate::value::{Decision, Value};
 use scf_insn::{Answer, CallRecord, Insn, Operation, Test};
 use scf_machine::{Program, run};
 
-/// A place of a filter with what is known of its registers there, or the end of a division by 0.
+/// A place of a filter, or the end of a division by 0.
 #[derive(Clone, Copy)]
 pub(crate) enum FilterNode {
-    At(usize, Registers),
+    At(usize),
     Stopped { answer: Answer, at: usize },
 }
 
 impl FilterTree for Program {
+    type Known = Registers;
+
     type Node = FilterNode;
 
     ghost answers = { RunAnswers };
 
     ghost is_place = { λ insns at. at < length insns };
 
-    ghost questions = { filter_questions };
+    ghost tree = { filter_tree };
 
     ghost whole_size = { λ insns. tree_size insns 0 };
 
     ghost is_plain = { IsPlainProgram };
 
-    fn start(&self) -> FilterNode {
+    fn start(&self) -> (Registers, FilterNode) {
         let _insns = self.insns();
-        FilterNode::At(0, Registers::at_start())
+        (Registers::at_start(), FilterNode::At(0))
     }
 
-    fn turn(&self, node: &FilterNode) -> Turn<FilterNode, FilterEnd> {
+    fn turn(&self, known: &mut Registers, node: &FilterNode) -> Turn<FilterNode, FilterEnd> {
         match *node {
-            FilterNode::At(place, registers) => turn_at(self.insns(), place, &registers),
+            FilterNode::At(place) => turn_at(self.insns(), place, known),
             FilterNode::Stopped { answer, at } => Turn::End(FilterEnd {
                 answer: Some(answer),
                 at,
@@ -60,24 +62,24 @@ impl FilterTree for Program {
         run(self, call).answer
     }
 
-    ghost use Rattle.scf_compare.specs.Laws.{node_counts};
+    ghost use Rattle.scf_compare.specs.internal.Laws.{node_counts};
 
     ghost counts = { node_counts };
 }
 
-/// What comes next at the instruction of a place.
-fn turn_at(insns: &[Insn], place: usize, registers: &Registers) -> Turn<FilterNode, FilterEnd>
+/// What comes next at the instruction of a place, and what is known of the registers there.
+fn turn_at(insns: &[Insn], place: usize, registers: &mut Registers) -> Turn<FilterNode, FilterEnd>
     requires place { place < length insns.now }
     requires valid { IsValidList insns.now }
     requires safe { (words : List ℕ) → RunsSafely insns.now words }
-    requires values { AreValues registers.now }
-    ensures proper { IsProper (filter_questions insns.now) (λ end. end.at < length insns.now) result }
+    requires values { AreValues registers.old }
+    ensures proper { IsProper (filter_tree insns.now registers.new) (λ end. end.at < length insns.now) result }
     ensures leads { (words : List ℕ) → IsWords words
-        → ComesTo insns.now place registers.now words
-        → GoesOn (filter_questions insns.now) (FilterTells (RunAnswers insns.now)) result words }
-    ensures costs { Costs (filter_questions insns.now) result (tree_size insns.now place) }
-    ensures plain { IsPlainProgram insns.now → IsPlainValue registers.now.a
-        → StaysPlain (filter_questions insns.now) KnowsAnswer result }
+        → ComesTo insns.now place registers.old words
+        → GoesOn (filter_tree insns.now registers.new) (FilterTells (RunAnswers insns.now)) result words }
+    ensures costs { Costs (filter_tree insns.now registers.new) result (tree_size insns.now place) }
+    ensures plain { IsPlainProgram insns.now → IsPlainValue registers.old.a
+        → StaysPlain (filter_tree insns.now registers.new) KnowsAnswer result }
 {
     let insn = insns[place];
     match insn.operation() {
@@ -92,33 +94,37 @@ fn turn_of(
     place: usize,
     insn: Insn,
     operation: Operation,
-    registers: &Registers,
+    registers: &mut Registers,
 ) -> Turn<FilterNode, FilterEnd>
     requires stands { Stands insns.now place insn operation }
     requires valid { IsValidList insns.now }
     requires safe { (words : List ℕ) → RunsSafely insns.now words }
-    requires values { AreValues registers.now }
-    ensures proper { IsProper (filter_questions insns.now) (λ end. end.at < length insns.now) result }
+    requires values { AreValues registers.old }
+    ensures proper { IsProper (filter_tree insns.now registers.new) (λ end. end.at < length insns.now) result }
     ensures leads { (words : List ℕ) → IsWords words
-        → ComesTo insns.now place registers.now words
-        → GoesOn (filter_questions insns.now) (FilterTells (RunAnswers insns.now)) result words }
-    ensures costs { Costs (filter_questions insns.now) result (tree_size insns.now place) }
-    ensures plain { IsPlainProgram insns.now → IsPlainValue registers.now.a
-        → StaysPlain (filter_questions insns.now) KnowsAnswer result }
+        → ComesTo insns.now place registers.old words
+        → GoesOn (filter_tree insns.now registers.new) (FilterTells (RunAnswers insns.now)) result words }
+    ensures costs { Costs (filter_tree insns.now registers.new) result (tree_size insns.now place) }
+    ensures plain { IsPlainProgram insns.now → IsPlainValue registers.old.a
+        → StaysPlain (filter_tree insns.now registers.new) KnowsAnswer result }
 {
     match Flow::of(insns, place, insn, operation) {
-        Flow::Next(next) => Turn::Go(FilterNode::At(next, registers.after(insn, operation))),
-        Flow::Jump(target) => Turn::Go(FilterNode::At(target, *registers)),
+        Flow::Next(next) => {
+            registers.apply(insn, operation);
+            Turn::Go(FilterNode::At(next))
+        }
+        Flow::Jump(target) => Turn::Go(FilterNode::At(target)),
         Flow::Branch {
             test,
             operand,
             if_true,
             if_false,
         } => {
+            if if_true == if_false {
+                return Turn::Go(FilterNode::At(if_true));
+            }
             let decision = registers.a.decide(test, registers.operand(operand, insn));
-            let if_true = FilterNode::At(if_true, *registers);
-            let if_false = FilterNode::At(if_false, *registers);
-            turn_by(decision, if_true, if_false)
+            turn_by(decision, FilterNode::At(if_true), FilterNode::At(if_false))
         }
         Flow::DivideByIndex(next) => {
             let decision = registers.x.decide(Test::Equal, Value::Known(0));
@@ -126,8 +132,8 @@ fn turn_of(
                 answer: Answer(0),
                 at: place,
             };
-            let divided = FilterNode::At(next, registers.after(insn, operation));
-            turn_by(decision, stopped, divided)
+            registers.apply(insn, operation);
+            turn_by(decision, stopped, FilterNode::At(next))
         }
         Flow::ReturnConstant => Turn::End(FilterEnd {
             answer: Some(Answer(insn.k)),

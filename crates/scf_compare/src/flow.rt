@@ -2,7 +2,7 @@
 
 ghost use Rattle.std.specs.Prelude.{◌≡◌, length};
 ghost use Rattle.scf_machine.specs.Rules.{IsValidList, Stands};
-ghost use Rattle.scf_compare.specs.Flow.{flow_at, IsInside};
+ghost use Rattle.scf_compare.specs.internal.Flow.{flow_at, IsInside};
 
 use scf_insn::{Arithmetic, Insn, Operand, Operation, Test};
 

@@ -1,114 +1,156 @@
 //! The branches of a tree that are still to be explored.
 
-ghost use Rattle.std.specs.Prelude.{◌≡◌, ◌+◌, ◌↔◌, ℕ, List, None, IsTrue, IfOk, OnOk, IfSome};
-ghost use Rattle.scf_facts.specs.Atoms.{AllowsSame};
-ghost use Rattle.scf_compare.specs.Frontier.{Gives, AsksOfWord, LearnsExactly, IsInSome, IsFrontier, IsExactAt, AreExact, IsLeft, open_size};
+ghost use Rattle.std.specs.Prelude.{◌≡◌, ◌+◌, ◌<◌, ◌≤◌, ◌↔◌, ◌++◌, ◌∷◌, [], ℕ, List, IsTrue, OnOk, IfOk, MatchOption};
+ghost use Rattle.scf_facts.specs.Levels.{IsSameLevel};
+ghost use Rattle.scf_compare.specs.internal.Ends.{IsEnd};
+ghost use Rattle.scf_compare.specs.internal.Frontier.{Gives, AsksOfWord, LearnsExactly, IsInBranch, IsFrontier};
+ghost use Rattle.scf_compare.specs.internal.Stages.{LeadsTo, IsTaken};
+ghost use Rattle.scf_compare.specs.internal.Trees.{IsProper};
 
 use crate::comparison::Comparison;
-use scf_facts::{Atom, WordFacts};
+use crate::turn::Turn;
+use scf_facts::{Atom, Tell, WordFacts};
 use scf_insn::Memory;
 use std::alloc::Global;
 
-/// A branch that is still to be explored: its node, what is known where it was opened, and the answer to an atom that
-/// is learned on the way in.
+/// A branch that is still to be explored: its node, what is known there, and the answer to an atom that is learned on
+/// the way in.
 #[derive(Drop)]
-pub(crate) struct Branch<F, N> {
+pub(crate) struct Branch<K, N> {
+    pub(crate) known: K,
     pub(crate) node: N,
-    pub(crate) facts: F,
     pub(crate) learned: Option<(Atom, bool)>,
 }
 
-/// What is known at the node that is explored, and the open branches, the newest last.
+/// The facts at the node that is explored, and the open branches, the newest last.
+///
+/// Each branch has an open mark of the facts, at what was known where it branched off.
 #[derive(Drop)]
-pub(crate) struct Frontier<F, N> {
+pub(crate) struct Frontier<F, K, N> {
     pub(crate) facts: F,
-    pub(crate) branches: Vec<Branch<F, N>>,
+    pub(crate) branches: Vec<Branch<K, N>>,
 }
 
-/// Opens a branch from what is known now.
-pub(crate) fn branch_out<C: Comparison, F: WordFacts>(
-    alloc: Global,
-    comparison: &C,
-    frontier: &mut Frontier<F, C::Node>,
-    node: C::Node,
-    learned: Option<(Atom, bool)>,
-) -> Result<(), Memory>
-    requires sound { IsFrontier F.allows (C.questions comparison.now) (C.in_scope comparison.now) frontier.old }
-    requires node { (C.questions comparison.now).is_node node }
-    requires asks { AsksOfWord learned }
-    ensures sound { OnOk result (
-        IsFrontier F.allows (C.questions comparison.now) (C.in_scope comparison.now) frontier.new) }
-    ensures known { OnOk result (AllowsSame F.allows frontier.new.facts frontier.old.facts) }
-    ensures kept { OnOk result (
-        (words : List ℕ) → IsInSome F.allows (C.questions comparison.now) frontier.old words
-        → IsInSome F.allows (C.questions comparison.now) frontier.new words) }
-    ensures entered { OnOk result (
-        (words : List ℕ) → F.allows frontier.old.facts words
-        → Gives learned words
-        → (C.questions comparison.now).reaches node words
-        → IsInSome F.allows (C.questions comparison.now) frontier.new words) }
-    ensures size { OnOk result (
-        open_size (C.questions comparison.now) frontier.new
-        ≡ open_size (C.questions comparison.now) frontier.old + (C.questions comparison.now).size node) }
-    ensures exact_now { OnOk result (F.is_exact frontier.new.facts ≡ F.is_exact frontier.old.facts) }
-    ensures exact { OnOk result (AreExact F.allows F.is_exact (C.questions comparison.now) frontier.old
-        → IsExactAt F.allows F.is_exact (C.questions comparison.now) frontier.old.facts learned node
-        → AreExact F.allows F.is_exact (C.questions comparison.now) frontier.new) }
-{
-    let _ = comparison;
-    let facts = frontier.facts.copy(alloc)?;
-    frontier.branches.push(Branch {
-        node,
-        facts,
-        learned,
-    })?;
-    Ok(())
-}
+impl<F: WordFacts, K: Copy, N: Drop> Frontier<F, K, N> {
+    /// Nothing branched off yet.
+    pub(crate) fn new(alloc: Global, facts: F) -> Frontier<F, K, N>
+        ensures facts { result.facts ≡ facts }
+        ensures branches { result.branches.items ≡ [] }
+    {
+        Frontier {
+            facts,
+            branches: Vec::new(alloc),
+        }
+    }
 
-/// Takes the newest branch: knows what is known there, and goes to its node.
-pub(crate) fn take_branch<C: Comparison, F: WordFacts>(
-    comparison: &C,
-    frontier: &mut Frontier<F, C::Node>,
-) -> Result<Option<C::Node>, Memory>
-    requires { IsFrontier F.allows (C.questions comparison.now) (C.in_scope comparison.now) frontier.old }
-    ensures sound { OnOk result (
-        IsFrontier F.allows (C.questions comparison.now) (C.in_scope comparison.now) frontier.new) }
-    ensures node { IfOk result (λ taken. IfSome taken (C.questions comparison.now).is_node) }
-    ensures left { IfOk result (λ taken.
-        (words : List ℕ) → IsInSome F.allows (C.questions comparison.now) frontier.old words
-        → IsLeft F.allows (C.questions comparison.now) frontier.new taken words) }
-    ensures size { IfOk result (λ taken. IfSome taken (λ node.
-        open_size (C.questions comparison.now) frontier.new + (C.questions comparison.now).size node
-        ≡ open_size (C.questions comparison.now) frontier.old)) }
-    ensures exact { OnOk result (AreExact F.allows F.is_exact (C.questions comparison.now) frontier.old
-        → AreExact F.allows F.is_exact (C.questions comparison.now) frontier.new) }
-    ensures exact_node { IfOk result (λ taken. AreExact F.allows F.is_exact (C.questions comparison.now) frontier.old
-        → IfSome taken (IsExactAt F.allows F.is_exact (C.questions comparison.now) frontier.new.facts None)) }
-{
-    let _ = comparison;
-    let Some(branch) = frontier.branches.pop() else {
-        return Ok(None);
-    };
-    let Branch {
-        node,
-        facts,
-        learned,
-    } = branch;
-    frontier.facts = facts;
-    learn_answer(&mut frontier.facts, learned)?;
-    Ok(Some(node))
+    /// Opens a branch where the exploration stands.
+    fn branch_out(&mut self, known: K, node: N, learned: Option<(Atom, bool)>) -> Result<(), Memory>
+        ensures branches { OnOk result (
+            self.new.branches.items
+            ≡ self.old.branches.items ++ record { known = known; node = node; learned = learned } ∷ []) }
+        ensures marks { OnOk result (F.level self.new.facts ≡ F.level self.old.facts + 1) }
+        ensures known { OnOk result (
+            IsSameLevel F.allows F.is_exact
+            self.old.facts (F.level self.old.facts) self.new.facts (F.level self.old.facts + 1)) }
+        ensures at_marks { OnOk result ((place : ℕ) → place ≤ F.level self.old.facts
+            → IsSameLevel F.allows F.is_exact self.old.facts place self.new.facts place) }
+    {
+        self.facts.mark()?;
+        self.branches.push(Branch {
+            known,
+            node,
+            learned,
+        })?;
+        Ok(())
+    }
 }
 
 /// Learns an answer, if there is one.
 fn learn_answer<F: WordFacts>(facts: &mut F, learned: Option<(Atom, bool)>) -> Result<(), Memory>
     requires { AsksOfWord learned }
-    ensures learned { OnOk result (
-        (words : List ℕ) → F.allows facts.new words ↔ (F.allows facts.old words × Gives learned words)) }
+    ensures marks { F.level facts.new ≡ F.level facts.old }
+    ensures at_marks { (place : ℕ) → place < F.level facts.old
+        → IsSameLevel F.allows F.is_exact facts.old place facts.new place }
+    ensures learned { OnOk result ((words : List ℕ) → F.allows facts.new (F.level facts.old) words
+        ↔ (F.allows facts.old (F.level facts.old) words × Gives learned words)) }
     ensures exact { OnOk result (LearnsExactly learned
-        → IsTrue (F.is_exact facts.old) → IsTrue (F.is_exact facts.new)) }
+        → IsTrue (F.is_exact facts.old (F.level facts.old)) → IsTrue (F.is_exact facts.new (F.level facts.old))) }
 {
     match learned {
         Some((atom, holds)) => facts.learn(atom, holds),
         None => Ok(()),
     }
+}
+
+/// Takes the newest branch: goes back to what was known at its mark, learns what leads into it, and is at its node.
+pub(crate) fn take_branch<C: Comparison, F: WordFacts>(
+    comparison: &C,
+    frontier: &mut Frontier<F, C::Known, C::Node>,
+    known: &mut C::Known,
+) -> Result<Option<C::Node>, Memory>
+    requires { IsFrontier F.WordFacts (C.tree comparison.now) (C.compared comparison.now).in_scope frontier.old }
+    ensures { IfOk result (λ taken. MatchOption taken
+        ((words : List ℕ) → IsInBranch F.WordFacts (C.tree comparison.now) frontier.old words → ⊥)
+        (IsTaken F.WordFacts (C.compared comparison.now) (C.tree comparison.now)
+        frontier.old frontier.new (C.tree comparison.now known.new))) }
+{
+    let _ = comparison;
+    let Some(branch) = frontier.branches.pop() else {
+        return Ok(None);
+    };
+    frontier.facts.undo();
+    learn_answer(&mut frontier.facts, branch.learned)?;
+    *known = branch.known;
+    Ok(Some(branch.node))
+}
+
+/// Goes on from an atom. What the facts tell is followed. Where they tell nothing, a branch is opened for the answer
+/// no.
+pub(crate) fn ask<C: Comparison, F: WordFacts>(
+    comparison: &C,
+    frontier: &mut Frontier<F, C::Known, C::Node>,
+    known: &C::Known,
+    atom: Atom,
+    if_true: C::Node,
+    if_false: C::Node,
+) -> Result<C::Node, Memory>
+    requires frontier { IsFrontier F.WordFacts (C.tree comparison.now)
+        (C.compared comparison.now).in_scope frontier.old }
+    requires proper { let turn = Turn.Ask atom if_true if_false in
+        IsProper (C.tree comparison.now known.now) (IsEnd (C.compared comparison.now)) turn }
+    ensures { let turn = Turn.Ask atom if_true if_false in
+        IfOk result (LeadsTo F.WordFacts (C.compared comparison.now) (C.tree comparison.now)
+        frontier.old frontier.new (C.tree comparison.now known.now) turn) }
+{
+    let _ = comparison;
+    match frontier.facts.tell(atom) {
+        Tell::Always => Ok(if_true),
+        Tell::Never => Ok(if_false),
+        Tell::Maybe => {
+            frontier.branch_out(*known, if_false, Some((atom, false)))?;
+            frontier.facts.learn(atom, true)?;
+            Ok(if_true)
+        }
+    }
+}
+
+/// Goes one way on from a test that no atom decides, and opens a branch for the other.
+pub(crate) fn fork<C: Comparison, F: WordFacts>(
+    comparison: &C,
+    frontier: &mut Frontier<F, C::Known, C::Node>,
+    known: &C::Known,
+    if_true: C::Node,
+    if_false: C::Node,
+) -> Result<C::Node, Memory>
+    requires frontier { IsFrontier F.WordFacts (C.tree comparison.now)
+        (C.compared comparison.now).in_scope frontier.old }
+    requires proper { let turn = Turn.Fork if_true if_false in
+        IsProper (C.tree comparison.now known.now) (IsEnd (C.compared comparison.now)) turn }
+    ensures { let turn = Turn.Fork if_true if_false in
+        IfOk result (LeadsTo F.WordFacts (C.compared comparison.now) (C.tree comparison.now)
+        frontier.old frontier.new (C.tree comparison.now known.now) turn) }
+{
+    let _ = comparison;
+    frontier.branch_out(*known, if_false, None)?;
+    Ok(if_true)
 }

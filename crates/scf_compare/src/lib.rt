@@ -14,12 +14,15 @@ mod profile;
 mod profile_numbers;
 mod question;
 mod registers;
+mod scope;
+mod stack;
 mod tree_sizes;
 mod turn;
 mod value;
 mod verdict;
 
-pub use comparer::compare;
+pub use comparer::{compare, compare_stack};
 pub use plain::is_plain;
-pub use tree_sizes::effort;
+pub use scope::Scope;
+pub use tree_sizes::{effort, effort_stack};
 pub use verdict::Verdict;

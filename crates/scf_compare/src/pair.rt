@@ -2,13 +2,16 @@
 
 ghost use Rattle.std.specs.Prelude.{◌≡◌, ◌<◌, ◌≤◌, ◌*◌, ℕ, List, ⊤};
 ghost use Rattle.scf_insn.specs.Words.{IsWords};
-ghost use Rattle.scf_compare.specs.Questions.{IsProper, GoesOn, Costs, StaysPlain};
-ghost use Rattle.scf_compare.specs.Ends.{FilterTells, Tells, IsEnd, KnowsAnswer, KnowsBoth};
-ghost use Rattle.scf_compare.specs.Pairs.{pair_questions};
+ghost use Rattle.scf_compare.specs.internal.Ends.{FilterTells, Tells, IsEnd, KnowsAnswer, KnowsBoth};
+ghost use Rattle.scf_compare.specs.internal.Pairs.{pair_tree, pair_compared};
+ghost use Rattle.scf_compare.specs.internal.Scopes.{AreWordsOf};
+ghost use Rattle.scf_compare.specs.internal.Trees.{IsProper, GoesOn, Costs, StaysPlain};
 
 use crate::comparison::{BothEnds, Comparison, FilterEnd};
 use crate::party::{FilterTree, ProfileTree};
+use crate::scope::Scope;
 use crate::turn::Turn;
+use scf_facts::WordFacts;
 use scf_insn::{Answer, CallRecord};
 
 /// A node of the filter's tree, or one of the profile's behind an end of the filter's.
@@ -18,33 +21,32 @@ pub(crate) enum PairNode<M, N> {
     AtProfile { end: FilterEnd, node: N },
 }
 
-/// A filter, and the profile that it is compared with on every call record.
+/// A filter, and the profile that it is compared with on the calls of a scope.
 #[derive(Drop)]
 pub(crate) struct Pair<'a, A, B> {
     pub(crate) filter: &'a A,
     pub(crate) profile: &'a B,
+    pub(crate) scope: Scope,
 }
 
 impl<A: FilterTree, B: ProfileTree> Comparison for Pair<'_, A, B> {
+    type Known = A::Known;
+
     type Node = PairNode<A::Node, B::Node>;
 
-    ghost filter_answers = { λ pair. A.answers pair.filter.now };
+    ghost compared = { λ pair. pair_compared A.FilterTree B.ProfileTree pair.filter.now pair.profile.now
+        (AreWordsOf pair.scope) };
 
-    ghost profile_answers = { λ pair. B.answers pair.profile.now };
+    ghost tree = { λ pair. pair_tree A.FilterTree B.ProfileTree pair.filter.now pair.profile.now };
 
-    ghost in_scope = { λ _. IsWords };
-
-    ghost is_place = { λ pair. A.is_place pair.filter.now };
-
-    ghost questions = { λ pair. pair_questions (A.questions pair.filter.now) (B.questions pair.profile.now)
-        (FilterTells (A.answers pair.filter.now)) (A.is_place pair.filter.now) (B.whole_size pair.profile.now) };
-
-    fn turn(
+    fn turn<F: WordFacts>(
         &self,
+        facts: &F,
+        known: &mut A::Known,
         node: &PairNode<A::Node, B::Node>,
     ) -> Turn<PairNode<A::Node, B::Node>, BothEnds> {
         match node {
-            PairNode::AtFilter(node) => match self.filter.turn(node) {
+            PairNode::AtFilter(node) => match self.filter.turn(known, node) {
                 Turn::Go(next) => Turn::Go(PairNode::AtFilter(next)),
                 Turn::Ask {
                     atom,
@@ -61,10 +63,10 @@ impl<A: FilterTree, B: ProfileTree> Comparison for Pair<'_, A, B> {
                 },
                 Turn::End(end) => {
                     let start = self.profile.start();
-                    self.ask_profile(end, &start)
+                    self.ask_profile(facts, end, &start)
                 }
             },
-            PairNode::AtProfile { end, node } => self.ask_profile(*end, node),
+            PairNode::AtProfile { end, node } => self.ask_profile(facts, *end, node),
         }
     }
 
@@ -72,50 +74,46 @@ impl<A: FilterTree, B: ProfileTree> Comparison for Pair<'_, A, B> {
         (self.filter.answer(call), self.profile.answer(call))
     }
 
-    ghost use Rattle.scf_compare.specs.Laws.{pair_counts};
+    ghost use Rattle.scf_compare.specs.internal.Laws.{pair_counts};
 
-    ghost of_words = { λ _ words within. within };
+    ghost of_words = { λ _ words within. within.0 };
 
-    ghost counts = { λ pair node. pair_counts (A.questions pair.filter.now) (B.questions pair.profile.now)
-        (FilterTells (A.answers pair.filter.now)) (A.is_place pair.filter.now) (B.whole_size pair.profile.now)
-        (A.counts pair.filter.now) (B.counts pair.profile.now) (B.counts_whole pair.profile.now) node };
+    ghost counts = { λ pair known. pair_counts (A.tree pair.filter.now known).size (B.tree pair.profile.now).size
+        (B.whole_size pair.profile.now) (A.counts pair.filter.now known) (B.counts pair.profile.now)
+        (B.counts_whole pair.profile.now) };
 }
 
 impl<A: FilterTree, B: ProfileTree> Pair<'_, A, B> {
     /// The profile's next question, behind an end of the filter's tree.
-    fn ask_profile(
+    fn ask_profile<F: WordFacts>(
         &self,
+        facts: &F,
         end: FilterEnd,
         node: &B::Node,
     ) -> Turn<PairNode<A::Node, B::Node>, BothEnds>
-        requires node { (B.questions self.now.profile.now).is_node node.now }
+        requires node { (B.tree self.now.profile.now).is_node node.now }
         requires place { A.is_place self.now.filter.now end.at }
-        ensures proper { IsProper
-            (pair_questions (A.questions self.now.filter.now) (B.questions self.now.profile.now)
-            (FilterTells (A.answers self.now.filter.now)) (A.is_place self.now.filter.now)
-            (B.whole_size self.now.profile.now))
-            (IsEnd (A.is_place self.now.filter.now)) result }
-        ensures leads { (words : List ℕ) → IsWords words
+        ensures proper { (known : A.Known)
+            → let tree = pair_tree A.FilterTree B.ProfileTree self.now.filter.now self.now.profile.now known in
+            IsProper tree (λ ends. A.is_place self.now.filter.now ends.filter.at) result }
+        ensures leads { (known : A.Known)
+            → let tree = pair_tree A.FilterTree B.ProfileTree self.now.filter.now self.now.profile.now known in
+            let compared = pair_compared A.FilterTree B.ProfileTree self.now.filter.now self.now.profile.now
+            (AreWordsOf self.now.scope) in
+            (words : List ℕ) → IsWords words
+            → F.allows facts.now (F.level facts.now) words
             → FilterTells (A.answers self.now.filter.now) end words
-            → (B.questions self.now.profile.now).reaches node.now words
-            → GoesOn
-            (pair_questions (A.questions self.now.filter.now) (B.questions self.now.profile.now)
-            (FilterTells (A.answers self.now.filter.now)) (A.is_place self.now.filter.now)
-            (B.whole_size self.now.profile.now))
-            (Tells (A.answers self.now.filter.now) (B.answers self.now.profile.now)) result words }
-        ensures costs { Costs
-            (pair_questions (A.questions self.now.filter.now) (B.questions self.now.profile.now)
-            (FilterTells (A.answers self.now.filter.now)) (A.is_place self.now.filter.now)
-            (B.whole_size self.now.profile.now))
-            result ((B.questions self.now.profile.now).size node.now) }
-        ensures plain { KnowsAnswer end → (B.questions self.now.profile.now).is_plain node.now
-            → StaysPlain
-            (pair_questions (A.questions self.now.filter.now) (B.questions self.now.profile.now)
-            (FilterTells (A.answers self.now.filter.now)) (A.is_place self.now.filter.now)
-            (B.whole_size self.now.profile.now))
-            KnowsBoth result }
+            → (B.tree self.now.profile.now).reaches node.now words
+            → GoesOn tree (Tells compared) result words }
+        ensures costs { (known : A.Known)
+            → let tree = pair_tree A.FilterTree B.ProfileTree self.now.filter.now self.now.profile.now known in
+            Costs tree result ((B.tree self.now.profile.now).size node.now) }
+        ensures plain { (known : A.Known)
+            → let tree = pair_tree A.FilterTree B.ProfileTree self.now.filter.now self.now.profile.now known in
+            KnowsAnswer end → (B.tree self.now.profile.now).is_plain node.now
+            → StaysPlain tree KnowsBoth result }
     {
-        match self.profile.turn(node) {
+        match self.profile.turn(facts, node) {
             Turn::Go(next) => Turn::Go(PairNode::AtProfile { end, node: next }),
             Turn::Ask {
                 atom,

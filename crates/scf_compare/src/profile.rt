@@ -10,6 +10,7 @@ ghost use Rattle.std.specs.Prelude.{
   List,
   All,
   Some,
+  IfSome,
   true,
   false,
   ⊤,
@@ -17,50 +18,47 @@ ghost use Rattle.std.specs.Prelude.{
   take,
   drop,
   slice_get,
+  slice_index,
 };
 ghost use Rattle.scf_insn.specs.Words.{IsWords, argument, call_of};
 ghost use Rattle.scf_profile.specs.declared.condition.Condition.{Condition};
 ghost use Rattle.scf_profile.specs.declared.rule.Rule.{Rule};
 ghost use Rattle.scf_profile.specs.PlainProfile.{IsPlainProfile};
-ghost use Rattle.scf_profile.specs.Policy.{IsProfile, IsNative, Policy};
+ghost use Rattle.scf_profile.specs.Profile.{IsProfile, IsNative, Profile};
 ghost use Rattle.scf_profile.specs.ProfileAnswers.{ProfileAnswers};
 ghost use Rattle.scf_profile.specs.Rule.{meets};
 ghost use Rattle.scf_profile.specs.RulesByNumber.{numbers_of, rules_of};
-ghost use Rattle.scf_compare.specs.Conditions.{IsOnWay, way_size};
+ghost use Rattle.scf_compare.specs.internal.Numbers.{AreFirstRules};
+ghost use Rattle.scf_compare.specs.internal.Conditions.{IsOnWay, way_size};
 ghost use Rattle.scf_compare.specs.Effort.{rules_size, spread};
-ghost use Rattle.scf_compare.specs.Profiles.{
-  policy_of,
+ghost use Rattle.scf_compare.specs.internal.Profiles.{
+  profile_with,
   IsAtCondition,
   StandsAt,
-  profile_questions,
-  question_is_node,
-  question_reaches,
-  question_size,
+  profile_tree,
+  profile_is_node,
+  profile_reaches,
+  profile_size,
   size_of_rule,
   size_of_rest,
   size_behind,
 };
-ghost use Rattle.scf_compare.specs.Questions.{IsProper, GoesOn, Costs, StaysPlain};
+ghost use Rattle.scf_compare.specs.internal.Trees.{IsProper, GoesOn, Costs, StaysPlain};
 
 use crate::party::ProfileTree;
-use crate::profile_numbers::ProfileNumbers;
-use crate::question::{Part, Way, question};
+use crate::profile_numbers::{FirstRule, ProfileNumbers};
+use crate::question::{Part, Way, question_of};
 use crate::turn::Turn;
-use scf_facts::Atom;
+use scf_facts::{Atom, Tell, WordFacts};
+use scf_insn::kernel::{AUDIT_ARCH_X86_64, SECCOMP_RET_KILL_PROCESS, X32_SYSCALL_BIT};
 use scf_insn::{Answer, CallRecord};
 use scf_profile::{Condition, Rule};
 
-/// AUDIT_ARCH_X86_64 of the kernel's audit.h.
-const X86_64: u32 = 0xc000_003e;
-
-/// The first number that no call of x86-64 has: __X32_SYSCALL_BIT of the kernel's asm/unistd.h.
-const FOREIGN_NUMBERS: u32 = 0x4000_0000;
-
-const KILL_PROCESS: Answer = Answer(0x8000_0000);
+const KILL_PROCESS: Answer = Answer(SECCOMP_RET_KILL_PROCESS);
 
 /// A node of a profile's tree.
 #[derive(Clone, Copy)]
-pub(crate) enum Question {
+pub(crate) enum ProfileNode {
     /// Is the call one of x86-64?
     Architecture,
     /// Is its number past those of x86-64?
@@ -78,46 +76,48 @@ pub(crate) enum Question {
 }
 
 impl ProfileTree for ProfileNumbers<'_> {
-    type Node = Question;
+    type Node = ProfileNode;
 
     ghost answers = { λ tree words answer. ProfileAnswers tree.profile.now (call_of words) answer };
 
-    ghost questions = { λ tree. profile_questions tree.profile.now };
+    ghost tree = { λ numbers. profile_tree numbers.profile.now };
 
-    ghost whole_size = { λ tree. spread tree.profile.now.rules };
+    ghost whole_size = { λ numbers. spread numbers.profile.now.rules };
 
-    fn start(&self) -> Question {
-        Question::Architecture
+    fn start(&self) -> ProfileNode {
+        ProfileNode::Architecture
     }
 
-    fn turn(&self, node: &Question) -> Turn<Question, Answer> {
+    fn turn<F: WordFacts>(&self, facts: &F, node: &ProfileNode) -> Turn<ProfileNode, Answer> {
         let rules = self.profile.rules();
         let default_answer = self.profile.default_answer();
         match *node {
-            Question::Architecture => Turn::Ask {
+            ProfileNode::Architecture => Turn::Ask {
                 atom: Atom::Eq {
                     word: 1,
                     mask: u32::MAX,
-                    value: X86_64,
+                    value: AUDIT_ARCH_X86_64,
                 },
-                if_true: Question::Range,
-                if_false: Question::Answer(KILL_PROCESS),
+                if_true: ProfileNode::Range,
+                if_false: ProfileNode::Answer(KILL_PROCESS),
             },
-            Question::Range => Turn::Ask {
+            ProfileNode::Range => Turn::Ask {
                 atom: Atom::Ge {
                     word: 0,
-                    value: FOREIGN_NUMBERS,
+                    value: X32_SYSCALL_BIT,
                 },
-                if_true: Question::Answer(KILL_PROCESS),
-                if_false: Question::Number(0),
+                if_true: ProfileNode::Answer(KILL_PROCESS),
+                if_false: ProfileNode::Number(0),
             },
-            Question::Number(place) => ask_number(default_answer, rules, &self.numbers, place),
-            Question::Condition {
+            ProfileNode::Number(place) => {
+                ask_number(facts, default_answer, rules, &self.firsts, place)
+            }
+            ProfileNode::Condition {
                 rule,
                 condition,
                 part,
             } => ask_condition(default_answer, rules, rule, condition, part),
-            Question::Answer(answer) => Turn::End(answer),
+            ProfileNode::Answer(answer) => Turn::End(answer),
         }
     }
 
@@ -127,57 +127,112 @@ impl ProfileTree for ProfileNumbers<'_> {
         self.profile.answer(call)
     }
 
-    ghost use Rattle.scf_compare.specs.Laws.{question_counts, spread_counts};
+    ghost use Rattle.scf_compare.specs.internal.Laws.{profile_node_counts, spread_counts};
 
-    ghost counts = { λ tree. question_counts tree.profile.now };
+    ghost counts = { λ numbers. profile_node_counts numbers.profile.now };
 
-    ghost counts_whole = { λ tree. spread_counts tree.profile.now.rules };
+    ghost counts_whole = { λ numbers. spread_counts numbers.profile.now.rules };
 }
 
 /// The question about one of the distinct numbers, or the default answer past the last one.
-fn ask_number(
+///
+/// Where the facts tell the number of the call, its rules are asked at once.
+fn ask_number<F: WordFacts>(
+    facts: &F,
     default_answer: Answer,
     rules: &[Rule],
-    numbers: &[u32],
+    firsts: &[FirstRule],
     place: usize,
-) -> Turn<Question, Answer>
-    requires { numbers.now ≡ numbers_of rules.now }
-    ensures proper { let p : Policy = policy_of default_answer rules.now in
-        IsProper (profile_questions p) (λ _. ⊤) result }
-    ensures leads { let p : Policy = policy_of default_answer rules.now in
+) -> Turn<ProfileNode, Answer>
+    requires { AreFirstRules firsts.now rules.now }
+    ensures proper { let p : Profile = profile_with default_answer rules.now in
+        IsProper (profile_tree p) (λ _. ⊤) result }
+    ensures leads { let p : Profile = profile_with default_answer rules.now in
         (words : List ℕ) → IsWords words
-        → question_reaches p (Question.Number place) words
-        → GoesOn (profile_questions p) (λ answer words. ProfileAnswers p (call_of words) answer.0) result words }
-    ensures costs { let p : Policy = policy_of default_answer rules.now in
-        Costs (profile_questions p) result (question_size p (Question.Number place)) }
-    ensures plain { let p : Policy = policy_of default_answer rules.now in
-        IsPlainProfile p → StaysPlain (profile_questions p) (λ _. ⊤) result }
+        → F.allows facts.now (F.level facts.now) words
+        → profile_reaches p (ProfileNode.Number place) words
+        → GoesOn (profile_tree p) (λ answer words. ProfileAnswers p (call_of words) answer.0) result words }
+    ensures costs { let p : Profile = profile_with default_answer rules.now in
+        Costs (profile_tree p) result (profile_size p (ProfileNode.Number place)) }
+    ensures plain { let p : Profile = profile_with default_answer rules.now in
+        IsPlainProfile p → StaysPlain (profile_tree p) (λ _. ⊤) result }
 {
-    if place >= numbers.len() {
+    if place == 0 {
+        if let Some(number) = told_number(facts) {
+            return ask_rules_of(default_answer, rules, firsts, number);
+        }
+    }
+    if place >= firsts.len() {
         return Turn::End(default_answer);
     }
-    let number = numbers[place];
+    let first = firsts[place];
     Turn::Ask {
         atom: Atom::Eq {
             word: 0,
             mask: u32::MAX,
-            value: number,
+            value: first.number,
         },
-        if_true: next_rule(default_answer, rules, number, 0),
-        if_false: Question::Number(place + 1),
+        if_true: next_rule(default_answer, rules, first.number, first.place),
+        if_false: ProfileNode::Number(place + 1),
     }
 }
 
+/// The call number of all that the facts allow, where they tell that it is one.
+fn told_number<F: WordFacts>(facts: &F) -> Option<u32>
+    ensures { IfSome result (λ number. (words : List ℕ) → IsWords words
+        → F.allows facts.now (F.level facts.now) words
+        → slice_index words 0 ≡ number) }
+{
+    let [number, ..] = facts.pick()?;
+    let tell = facts.tell(Atom::Eq {
+        word: 0,
+        mask: u32::MAX,
+        value: number,
+    });
+    match tell {
+        Tell::Always => Some(number),
+        Tell::Never | Tell::Maybe => None,
+    }
+}
+
+/// What is asked of calls with a number: its first rule, or the default answer where it has none.
+fn ask_rules_of(
+    default_answer: Answer,
+    rules: &[Rule],
+    firsts: &[FirstRule],
+    number: u32,
+) -> Turn<ProfileNode, Answer>
+    requires { AreFirstRules firsts.now rules.now }
+    ensures proper { let p : Profile = profile_with default_answer rules.now in
+        IsProper (profile_tree p) (λ _. ⊤) result }
+    ensures leads { let p : Profile = profile_with default_answer rules.now in
+        (words : List ℕ) → IsNative (call_of words)
+        → (call_of words).nr ≡ number
+        → GoesOn (profile_tree p) (λ answer words. ProfileAnswers p (call_of words) answer.0) result words }
+    ensures costs { let p : Profile = profile_with default_answer rules.now in
+        Costs (profile_tree p) result (profile_size p (ProfileNode.Number 0)) }
+    ensures plain { let p : Profile = profile_with default_answer rules.now in
+        IsPlainProfile p → StaysPlain (profile_tree p) (λ _. ⊤) result }
+{
+    for place in 0..firsts.len() {
+        let first = firsts[place];
+        if first.number == number {
+            return Turn::Go(next_rule(default_answer, rules, number, first.place));
+        }
+    }
+    Turn::End(default_answer)
+}
+
 /// What is asked first of the rules of a number from a place on: a condition, or else what is answered.
-fn next_rule(default_answer: Answer, rules: &[Rule], number: u32, from: usize) -> Question
+fn next_rule(default_answer: Answer, rules: &[Rule], number: u32, from: usize) -> ProfileNode
     requires { from ≤ length rules.now }
-    ensures node { question_is_node (policy_of default_answer rules.now) result }
-    ensures reached { let p : Policy = policy_of default_answer rules.now in
+    ensures node { profile_is_node (profile_with default_answer rules.now) result }
+    ensures reached { let p : Profile = profile_with default_answer rules.now in
         (words : List ℕ) → IsNative (call_of words)
         → (call_of words).nr ≡ number
         → All (λ earlier. meets earlier (call_of words) ≡ false) (take from rules.now)
-        → question_reaches p result words }
-    ensures size { question_size (policy_of default_answer rules.now) result
+        → profile_reaches p result words }
+    ensures size { profile_size (profile_with default_answer rules.now) result
         ≤ rules_size (rules_of number (drop from rules.now)) }
 {
     let mut place = from;
@@ -187,25 +242,25 @@ fn next_rule(default_answer: Answer, rules: &[Rule], number: u32, from: usize) -
         }
         place += 1;
     }
-    Question::Answer(default_answer)
+    ProfileNode::Answer(default_answer)
 }
 
 /// What is asked first of a rule: its first condition, or its answer where it has none.
-fn first_of_rule(default_answer: Answer, rules: &[Rule], place: usize) -> Question
+fn first_of_rule(default_answer: Answer, rules: &[Rule], place: usize) -> ProfileNode
     requires { place < length rules.now }
-    ensures node { question_is_node (policy_of default_answer rules.now) result }
-    ensures reached { let p : Policy = policy_of default_answer rules.now in
+    ensures node { profile_is_node (profile_with default_answer rules.now) result }
+    ensures reached { let p : Profile = profile_with default_answer rules.now in
         (words : List ℕ) (rule : Rule) → slice_get rules.now place ≡ Some rule
         → IsAtCondition rules.now place 0 rule (call_of words)
-        → question_reaches p result words }
+        → profile_reaches p result words }
     ensures size { (rule : Rule) → slice_get rules.now place ≡ Some rule
-        → question_size (policy_of default_answer rules.now) result ≤ size_of_rule rules.now place rule }
+        → profile_size (profile_with default_answer rules.now) result ≤ size_of_rule rules.now place rule }
 {
     let rule = &rules[place];
     if rule.conditions.as_slice().is_empty() {
-        Question::Answer(rule.answer)
+        ProfileNode::Answer(rule.answer)
     } else {
-        Question::Condition {
+        ProfileNode::Condition {
             rule: place,
             condition: 0,
             part: Part::High,
@@ -228,40 +283,47 @@ fn ask_condition(
     place: usize,
     index: usize,
     part: Part,
-) -> Turn<Question, Answer>
-    requires profile { IsProfile (policy_of default_answer rules.now) }
-    requires node { question_is_node (policy_of default_answer rules.now) (Question.Condition place index part) }
-    ensures proper { let p : Policy = policy_of default_answer rules.now in
-        IsProper (profile_questions p) (λ _. ⊤) result }
-    ensures leads { let p : Policy = policy_of default_answer rules.now in
+) -> Turn<ProfileNode, Answer>
+    requires profile { IsProfile (profile_with default_answer rules.now) }
+    requires node { profile_is_node (profile_with default_answer rules.now) (ProfileNode.Condition place index part) }
+    ensures proper { let p : Profile = profile_with default_answer rules.now in
+        IsProper (profile_tree p) (λ _. ⊤) result }
+    ensures leads { let p : Profile = profile_with default_answer rules.now in
         (words : List ℕ) → IsWords words
-        → question_reaches p (Question.Condition place index part) words
-        → GoesOn (profile_questions p) (λ answer words. ProfileAnswers p (call_of words) answer.0) result words }
-    ensures costs { let p : Policy = policy_of default_answer rules.now in
-        Costs (profile_questions p) result (question_size p (Question.Condition place index part)) }
-    ensures plain { let p : Policy = policy_of default_answer rules.now in
-        IsPlainProfile p → StaysPlain (profile_questions p) (λ _. ⊤) result }
+        → profile_reaches p (ProfileNode.Condition place index part) words
+        → GoesOn (profile_tree p) (λ answer words. ProfileAnswers p (call_of words) answer.0) result words }
+    ensures costs { let p : Profile = profile_with default_answer rules.now in
+        Costs (profile_tree p) result (profile_size p (ProfileNode.Condition place index part)) }
+    ensures plain { let p : Profile = profile_with default_answer rules.now in
+        IsPlainProfile p → StaysPlain (profile_tree p) (λ _. ⊤) result }
 {
-    let asked = question(condition_at(rules, place, index), part);
+    let question = question_of(condition_at(rules, place, index), part);
     Turn::Ask {
-        atom: asked.atom,
-        if_true: follow(default_answer, rules, place, index, asked.if_true),
-        if_false: follow(default_answer, rules, place, index, asked.if_false),
+        atom: question.atom,
+        if_true: follow(default_answer, rules, place, index, question.if_true),
+        if_false: follow(default_answer, rules, place, index, question.if_false),
     }
 }
 
 /// Where a way on from a condition leads.
-fn follow(default_answer: Answer, rules: &[Rule], place: usize, index: usize, way: Way) -> Question
+fn follow(
+    default_answer: Answer,
+    rules: &[Rule],
+    place: usize,
+    index: usize,
+    way: Way,
+) -> ProfileNode
     requires few { length rules.now ≤ 4096 }
-    requires node { question_is_node (policy_of default_answer rules.now) (Question.Condition place index Part.High) }
-    ensures node { question_is_node (policy_of default_answer rules.now) result }
-    ensures reached { let p : Policy = policy_of default_answer rules.now in
+    requires node { profile_is_node (profile_with default_answer rules.now)
+        (ProfileNode.Condition place index Part.High) }
+    ensures node { profile_is_node (profile_with default_answer rules.now) result }
+    ensures reached { let p : Profile = profile_with default_answer rules.now in
         (words : List ℕ) (rule : Rule) (condition : Condition) → StandsAt rules.now place index rule condition
         → IsAtCondition rules.now place index rule (call_of words)
         → IsOnWay condition way (argument (call_of words) condition.index)
-        → question_reaches p result words }
+        → profile_reaches p result words }
     ensures size { (rule : Rule) → slice_get rules.now place ≡ Some rule
-        → question_size (policy_of default_answer rules.now) result
+        → profile_size (profile_with default_answer rules.now) result
         ≤ way_size way (size_of_rest rules.now place index rule) (size_behind rules.now place rule) }
 {
     let rule = &rules[place];
@@ -269,9 +331,9 @@ fn follow(default_answer: Answer, rules: &[Rule], place: usize, index: usize, wa
         Way::Holds => {
             let conditions = rule.conditions.as_slice();
             if index + 1 == conditions.len() {
-                Question::Answer(rule.answer)
+                ProfileNode::Answer(rule.answer)
             } else {
-                Question::Condition {
+                ProfileNode::Condition {
                     rule: place,
                     condition: index + 1,
                     part: Part::High,
@@ -279,7 +341,7 @@ fn follow(default_answer: Answer, rules: &[Rule], place: usize, index: usize, wa
             }
         }
         Way::Fails => next_rule(default_answer, rules, rule.number, place + 1),
-        Way::Then(part) => Question::Condition {
+        Way::Then(part) => ProfileNode::Condition {
             rule: place,
             condition: index,
             part,

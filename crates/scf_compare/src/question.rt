@@ -5,12 +5,12 @@ ghost use Rattle.scf_insn.specs.SimpleMask.{IsSimpleMask};
 ghost use Rattle.scf_insn.specs.Words.{IsWords, argument, call_of, low, high};
 ghost use Rattle.scf_facts.specs.Atoms.{atom_answer, word_of};
 ghost use Rattle.scf_profile.specs.PlainProfile.{IsPlainCondition};
-ghost use Rattle.scf_compare.specs.Conditions.{IsAtPart, Splits, part_size, way_size};
-ghost use Rattle.scf_compare.specs.Questions.{KeepsEither};
+ghost use Rattle.scf_compare.specs.internal.Conditions.{IsAtPart, Splits, part_size, way_size};
+ghost use Rattle.scf_compare.specs.internal.Trees.{KeepsEither};
 
 use scf_facts::Atom;
 use scf_insn::{high_half, low_half};
-use scf_profile::{Comparison, Condition};
+use scf_profile::{Condition, Operator};
 
 /// Which question of a condition is asked.
 #[derive(Clone, Copy)]
@@ -36,14 +36,14 @@ pub(crate) enum Way {
 
 /// A question, and where its two answers lead.
 #[derive(Clone, Copy)]
-pub(crate) struct Asked {
+pub(crate) struct Question {
     pub(crate) atom: Atom,
     pub(crate) if_true: Way,
     pub(crate) if_false: Way,
 }
 
 /// What a part of a condition asks.
-pub(crate) fn question(condition: Condition, part: Part) -> Asked
+pub(crate) fn question_of(condition: Condition, part: Part) -> Question
     requires { condition.index < 6 }
     ensures word { word_of result.atom < 16 }
     ensures splits { (words : List ℕ) → IsWords words
@@ -61,7 +61,7 @@ pub(crate) fn question(condition: Condition, part: Part) -> Asked
     }
 }
 
-fn at_high(condition: Condition) -> Asked
+fn at_high(condition: Condition) -> Question
     requires { condition.index < 6 }
     ensures word { word_of result.atom < 16 }
     ensures splits { (words : List ℕ) → IsWords words
@@ -72,33 +72,31 @@ fn at_high(condition: Condition) -> Asked
     ensures keeps { IsPlainCondition condition → KeepsEither result.atom }
 {
     match condition.op {
-        Comparison::MaskedEqual => Asked {
+        Operator::MaskedEqual => Question {
             atom: high_is_under_mask(condition),
             if_true: Way::Then(Part::Low),
             if_false: Way::Fails,
         },
-        Comparison::Equal => Asked {
+        Operator::Equal => Question {
             atom: high_is(condition),
             if_true: Way::Then(Part::Low),
             if_false: Way::Fails,
         },
-        Comparison::NotEqual => Asked {
+        Operator::NotEqual => Question {
             atom: high_is(condition),
             if_true: Way::Then(Part::Low),
             if_false: Way::Holds,
         },
-        Comparison::Less
-        | Comparison::LessOrEqual
-        | Comparison::GreaterOrEqual
-        | Comparison::Greater => Asked {
-            atom: high_is(condition),
-            if_true: Way::Then(Part::Low),
-            if_false: Way::Then(Part::Above),
-        },
+        Operator::Less | Operator::LessOrEqual | Operator::GreaterOrEqual | Operator::Greater =>
+            Question {
+                atom: high_is(condition),
+                if_true: Way::Then(Part::Low),
+                if_false: Way::Then(Part::Above),
+            },
     }
 }
 
-fn at_above(condition: Condition) -> Asked
+fn at_above(condition: Condition) -> Question
     requires { condition.index < 6 }
     ensures word { word_of result.atom < 16 }
     ensures splits { (words : List ℕ) → IsWords words
@@ -110,16 +108,16 @@ fn at_above(condition: Condition) -> Asked
     ensures keeps { IsPlainCondition condition → KeepsEither result.atom }
 {
     match condition.op {
-        Comparison::Greater | Comparison::GreaterOrEqual => Asked {
+        Operator::Greater | Operator::GreaterOrEqual => Question {
             atom: high_is_above(condition),
             if_true: Way::Holds,
             if_false: Way::Fails,
         },
-        Comparison::Less
-        | Comparison::LessOrEqual
-        | Comparison::Equal
-        | Comparison::NotEqual
-        | Comparison::MaskedEqual => Asked {
+        Operator::Less
+        | Operator::LessOrEqual
+        | Operator::Equal
+        | Operator::NotEqual
+        | Operator::MaskedEqual => Question {
             atom: high_is_above(condition),
             if_true: Way::Fails,
             if_false: Way::Holds,
@@ -127,7 +125,7 @@ fn at_above(condition: Condition) -> Asked
     }
 }
 
-fn at_low(condition: Condition) -> Asked
+fn at_low(condition: Condition) -> Question
     requires { condition.index < 6 }
     ensures word { word_of result.atom < 16 }
     ensures splits { (words : List ℕ) → IsWords words
@@ -139,37 +137,37 @@ fn at_low(condition: Condition) -> Asked
     ensures keeps { IsPlainCondition condition → KeepsEither result.atom }
 {
     match condition.op {
-        Comparison::Equal => Asked {
+        Operator::Equal => Question {
             atom: low_is(condition),
             if_true: Way::Holds,
             if_false: Way::Fails,
         },
-        Comparison::NotEqual => Asked {
+        Operator::NotEqual => Question {
             atom: low_is(condition),
             if_true: Way::Fails,
             if_false: Way::Holds,
         },
-        Comparison::MaskedEqual => Asked {
+        Operator::MaskedEqual => Question {
             atom: low_is_under_mask(condition),
             if_true: Way::Holds,
             if_false: Way::Fails,
         },
-        Comparison::Greater => Asked {
+        Operator::Greater => Question {
             atom: low_is_above(condition),
             if_true: Way::Holds,
             if_false: Way::Fails,
         },
-        Comparison::LessOrEqual => Asked {
+        Operator::LessOrEqual => Question {
             atom: low_is_above(condition),
             if_true: Way::Fails,
             if_false: Way::Holds,
         },
-        Comparison::GreaterOrEqual => Asked {
+        Operator::GreaterOrEqual => Question {
             atom: low_is_at_least(condition),
             if_true: Way::Holds,
             if_false: Way::Fails,
         },
-        Comparison::Less => Asked {
+        Operator::Less => Question {
             atom: low_is_at_least(condition),
             if_true: Way::Fails,
             if_false: Way::Holds,

@@ -14,13 +14,11 @@ ghost use Rattle.scf_machine.specs.Machine.{
   Goes,
 };
 ghost use Rattle.scf_machine.specs.Checks.{UsesScratch};
-ghost use Rattle.scf_compare.specs.Values.{IsValue, StandsFor, IsPlainValue, AreValues, Describes};
+ghost use Rattle.scf_compare.specs.internal.Values.{IsValue, StandsFor, IsPlainValue, AreValues, Describes};
 
 use crate::value::Value;
+use scf_insn::kernel::SECCOMP_DATA_LEN;
 use scf_insn::{Arithmetic, Insn, Operand, Operation, Register};
-
-/// How many bytes a record has.
-const RECORD_LEN: u32 = 64;
 
 /// What is known of both registers and the sixteen scratch words.
 #[derive(Clone, Copy)]
@@ -56,37 +54,33 @@ impl Registers {
         }
     }
 
-    /// These with a register set.
-    fn with(&self, register: Register, value: Value) -> Registers
-        requires values { AreValues self.now }
+    /// Sets a register.
+    fn set(&mut self, register: Register, value: Value)
+        requires values { AreValues self.old }
         requires value { IsValue value }
-        ensures values { AreValues result }
-        ensures describes { (words : List ℕ) (s : State) (number : ℕ) → Describes self.now words s
+        ensures values { AreValues self.new }
+        ensures describes { (words : List ℕ) (s : State) (number : ℕ) → Describes self.old words s
             → StandsFor value words number
-            → Describes result words (sets register s number) }
-        ensures accumulator { register ≡ Register.A → result.a ≡ value }
+            → Describes self.new words (sets register s number) }
+        ensures accumulator { register ≡ Register.A → self.new.a ≡ value }
     {
-        let mut registers = *self;
         match register {
-            Register::A => registers.a = value,
-            Register::X => registers.x = value,
+            Register::A => self.a = value,
+            Register::X => self.x = value,
         }
-        registers
     }
 
-    /// These with a scratch word stored.
-    fn with_scratch(&self, index: u8, value: Value) -> Registers
-        requires values { AreValues self.now }
+    /// Stores a scratch word.
+    fn store(&mut self, index: u8, value: Value)
+        requires values { AreValues self.old }
         requires value { IsValue value }
         requires index { index < 16 }
-        ensures values { AreValues result }
-        ensures describes { (words : List ℕ) (s : State) (number : ℕ) → Describes self.now words s
+        ensures values { AreValues self.new }
+        ensures describes { (words : List ℕ) (s : State) (number : ℕ) → Describes self.old words s
             → StandsFor value words number
-            → Describes result words (stores s index number) }
+            → Describes self.new words (stores s index number) }
     {
-        let mut registers = *self;
-        registers.scratch[index as usize] = value;
-        registers
+        self.scratch[index as usize] = value;
     }
 
     /// The second operand of a test.
@@ -119,17 +113,17 @@ impl Registers {
         }
     }
 
-    /// These after an instruction that goes on.
-    pub(crate) fn after(&self, insn: Insn, operation: Operation) -> Registers
-        requires values { AreValues self.now }
+    /// Follows an instruction that goes on.
+    pub(crate) fn apply(&mut self, insn: Insn, operation: Operation)
+        requires values { AreValues self.old }
         requires load { operation ≡ Operation.LoadWord → insn.k < 64 }
         requires scratch { UsesScratch operation → insn.k < 16 }
-        ensures values { AreValues result }
+        ensures values { AreValues self.new }
         ensures describes { (words : List ℕ) (s t : State) → IsWords words
-            → Describes self.now words s
+            → Describes self.old words s
             → effect operation insn words s ≡ Goes t
-            → Describes result words t }
-        ensures plain { operation ≡ Operation.LoadWord → IsPlainValue result.a }
+            → Describes self.new words t }
+        ensures plain { operation ≡ Operation.LoadWord → IsPlainValue self.new.a }
     {
         match operation {
             Operation::LoadWord => {
@@ -137,27 +131,41 @@ impl Registers {
                     word: (insn.k / 4) as u8,
                     mask: u32::MAX,
                 };
-                self.with(Register::A, word)
+                self.set(Register::A, word)
             }
-            Operation::LoadLength(register) => self.with(register, Value::Known(RECORD_LEN)),
-            Operation::LoadConstant(register) => self.with(register, Value::Known(insn.k)),
+            Operation::LoadLength(register) => {
+                self.set(register, Value::Known(SECCOMP_DATA_LEN as u32))
+            }
+            Operation::LoadConstant(register) => self.set(register, Value::Known(insn.k)),
             Operation::LoadScratch(register) => {
-                self.with(register, self.scratch[insn.k as usize])
+                let value = self.scratch[insn.k as usize];
+                self.set(register, value)
             }
             Operation::StoreScratch(register) => {
-                self.with_scratch(insn.k as u8, self.get(register))
+                let value = self.get(register);
+                self.store(insn.k as u8, value)
             }
             Operation::Compute(arithmetic, operand) => {
                 let value = self.operand_in_computation(arithmetic, operand, insn);
-                self.with(Register::A, self.a.computed(arithmetic, value))
+                let computed = self.a.computed(arithmetic, value);
+                self.set(Register::A, computed)
             }
-            Operation::Negate => self.with(Register::A, self.a.negated()),
-            Operation::CopyToIndex => self.with(Register::X, self.a),
-            Operation::CopyToAccumulator => self.with(Register::A, self.x),
+            Operation::Negate => {
+                let negated = self.a.negated();
+                self.set(Register::A, negated)
+            }
+            Operation::CopyToIndex => {
+                let value = self.a;
+                self.set(Register::X, value)
+            }
+            Operation::CopyToAccumulator => {
+                let value = self.x;
+                self.set(Register::A, value)
+            }
             Operation::Jump
             | Operation::JumpIf(..)
             | Operation::ReturnConstant
-            | Operation::ReturnAccumulator => *self,
+            | Operation::ReturnAccumulator => {}
         }
     }
 }

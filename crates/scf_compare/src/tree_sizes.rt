@@ -1,35 +1,22 @@
 //! The effort of a comparison.
 
-ghost use Rattle.std.specs.Prelude.{
-  ◌≡◌,
-  ◌<◌,
-  ◌≤◌,
-  ◌==◌,
-  ◌∷◌,
-  ℕ,
-  List,
-  Some,
-  if◌then◌else◌,
-  length,
-  slice_index,
-  slice_get,
-  take,
-};
+ghost use Rattle.std.specs.Prelude.{◌≡◌, ◌<◌, ◌≤◌, ◌==◌, ◌∷◌, ℕ, List, Some, if◌then◌else◌, length, slice_index};
+ghost use Rattle.std.specs.Prelude.{slice_get, take};
 ghost use Rattle.std.specs.List.{list_any};
 ghost use Rattle.scf_profile.specs.declared.rule.Rule.{Rule};
 ghost use Rattle.scf_machine.specs.Rules.{IsValidList, Stands};
 ghost use Rattle.scf_profile.specs.RulesByNumber.{rules_of};
-ghost use Rattle.scf_compare.specs.Effort.{conditions_size, rules_size, number_size, spread, effort_of, saturated};
-ghost use Rattle.scf_compare.specs.Flow.{tree_size};
+ghost use Rattle.scf_compare.specs.Effort.{conditions_size, rules_size, number_size, spread, stack_paths, effort_of};
+ghost use Rattle.scf_compare.specs.Effort.{effort_of_stack, saturated};
+ghost use Rattle.scf_compare.specs.Paths.{tree_size};
 
 use crate::flow::Flow;
 use crate::profile_numbers::has_number;
+use crate::stack::filter_of;
+use scf_insn::kernel::BPF_MAXINSNS;
 use scf_insn::{Insn, Operation};
-use scf_machine::Program;
+use scf_machine::{FilterStack, Program};
 use scf_profile::{Condition, Profile, Rule};
-
-/// How many instructions a program has at most.
-const MAX_INSNS: usize = 4096;
 
 /// How many steps a comparison takes at most, or 2^64-1 where they are more: the size of the filter's tree of paths
 /// times the spread of the profile. A limit that isn't below the exact number is enough for every comparison of the
@@ -41,12 +28,35 @@ pub fn effort(program: &Program, profile: &Profile) -> u64
     paths.saturating_mul(spread_of(profile.rules()))
 }
 
+/// How many steps a comparison of a stack takes at most, or 2^64-1 where they are more: the product of the sizes of the
+/// filters' trees of paths, 1 for no filter, times the spread of the profile.
+pub fn effort_stack(stack: &FilterStack, profile: &Profile) -> u64
+    ensures { result ≡ saturated (effort_of_stack stack.now profile.now) }
+{
+    let paths = paths_of_stack(stack);
+    paths.saturating_mul(spread_of(profile.rules()))
+}
+
+/// The product of the sizes of the filters' trees of paths, the newest filter first.
+fn paths_of_stack(stack: &FilterStack) -> u64
+    ensures { result ≡ saturated (stack_paths stack.now) }
+{
+    let mut product: u64 = 1;
+    let mut place = stack.len();
+    while place > 0 {
+        place -= 1;
+        let paths = paths_of(filter_of(stack, place).insns());
+        product = paths.saturating_mul(product);
+    }
+    product
+}
+
 /// The size of the tree of paths.
 fn paths_of(insns: &[Insn]) -> u64
     requires { IsValidList insns.now }
     ensures { result ≡ saturated (tree_size insns.now 0) }
 {
-    let mut sizes = [0; MAX_INSNS];
+    let mut sizes = [0; BPF_MAXINSNS];
     fill_sizes(insns, &mut sizes);
     sizes[0]
 }

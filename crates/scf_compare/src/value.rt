@@ -4,7 +4,8 @@ ghost use Rattle.std.specs.Prelude.{◌≡◌, ℕ, ◌+◌, ◌-◌, ◌%◌, �
 ghost use Rattle.scf_insn.specs.SimpleMask.{IsSimpleMask};
 ghost use Rattle.scf_insn.specs.Words.{IsWords};
 ghost use Rattle.scf_machine.specs.Machine.{holds, value_computed};
-ghost use Rattle.scf_compare.specs.Values.{IsValue, StandsFor, IsPlainValue, IsDecision, Decides, IsPlainDecision};
+ghost use Rattle.scf_compare.specs.internal.Values.{IsValue, StandsFor, IsPlainValue, IsDecision, Decides};
+ghost use Rattle.scf_compare.specs.internal.Values.{IsPlainDecision};
 
 use scf_facts::Atom;
 use scf_insn::{Answer, Arithmetic, Test};

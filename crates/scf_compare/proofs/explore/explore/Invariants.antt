@@ -1,21 +1,22 @@
-use Rattle.std.proofs.Common.{◌-◌, ◌+◌, ◌≤◌, ◌⊎◌, ℕ, List}
-use Rattle.scf_compare.specs.Frontier.{IsInSome, IsFrontier, open_size, AreExact}
+use Rattle.std.proofs.Common.{◌+◌, ◌≤◌, ◌⊎◌, ℕ, List}
 use Rattle.std.specs.Prelude.{IsTrue}
-use Rattle.scf_compare.specs.Verdicts.{AnswerAlike}
+use Rattle.scf_compare.specs.internal.Compared.{AnswerAlike}
+use Rattle.scf_compare.specs.internal.Frontier.{IsAhead, IsFrontier, IsExact, open_size}
 use Rattle.scf_compare.proofs.explore.explore.Given as goal
 
-abbrev pub invariant-loop-frontier : goal.invariant-loop-frontier
-invariant-loop-frontier g l =
-    let C = g.C.Comparison in
-    let allows = g.F.WordFacts.allows in
-    let tree = C.questions l.comparison in
+abbrev pub invariant-loop-steps : goal.invariant-loop-steps
+invariant-loop-steps g l =
+    let store = g.F.WordFacts in
+    let compared = g.C.Comparison.compared l.comparison in
+    let tree = g.C.Comparison.tree l.comparison in
+    let here = tree l.known in
+    let whole = tree l.fn.start in
     record {
-      sound : IsFrontier allows tree (C.in_scope l.comparison) l.frontier;
-      covered : (words : List ℕ) → C.in_scope l.comparison words → AnswerAlike (C.filter_answers l.comparison) (C.profile_answers l.comparison) words ⊎ IsInSome allows tree l.frontier words;
-      spent : l.steps + open_size tree l.frontier ≤ tree.size l.fn.root;
-      limited : l.steps ≤ l.limit;
-      exact : IsTrue (g.F.WordFacts.is_exact l.fn.facts) → tree.is_plain l.fn.root → AreExact allows g.F.WordFacts.is_exact tree l.frontier;
+      frontier : IsFrontier store tree compared.in_scope l.frontier;
+      node : here.is_node l.node;
+      words : (words : List ℕ) → compared.in_scope words
+          → AnswerAlike compared words ⊎ IsAhead store tree l.frontier (here.reaches l.node) words;
+      size : l.steps + (open_size tree l.frontier + here.size l.node) ≤ whole.size l.fn.root;
+      exact : IsTrue (store.is_exact l.fn.facts 0) → whole.is_plain l.fn.root
+          → IsExact store tree l.frontier (here.is_plain l.node) (here.reaches l.node);
     }
-
-abbrev pub decreases-loop-frontier : goal.decreases-loop-frontier
-decreases-loop-frontier g l = l.limit - l.steps

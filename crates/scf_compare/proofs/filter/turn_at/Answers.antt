@@ -7,4 +7,5 @@ use Rattle.scf_compare.proofs.filter.turn_at.Goals as goal
 pub unreachable-requires : goal.unreachable-requires
 unreachable-requires c =
     let none : Insn = record { code = 0; jt = 0; jf = 0; k = 0 } in
-    has_operation c.args.insns.now c.args.place (slice_index_or c.args.insns.now c.args.place none) c.requires.valid (slice_get-get_or c.args.insns.now c.args.place none c.requires.place) (sym c.operation.ensures ∙ c.in-None.is)
+    has_operation c.args.insns.now c.args.place (slice_index_or c.args.insns.now c.args.place none) c.requires.valid
+    (slice_get-get_or c.args.insns.now c.args.place none c.requires.place) (sym c.operation.ensures ∙ c.in-None.is)

@@ -1,11 +1,42 @@
-use Rattle.std.proofs.Common.{inl, inr}
-use Rattle.scf_compare.proofs.Branches.{left_or_taken}
+use Rattle.std.proofs.Common.{◌≡◌, ◌<◌, ◌↔◌, sym, subst, ◌∙◌, arith}
+use Rattle.std.specs.Prelude.{IsTrue}
+use Rattle.scf_compare.specs.internal.Frontier.{Gives}
+use Rattle.scf_compare.proofs.Branches.{same_then, newest_is_branch, taken}
 use Rattle.scf_compare.proofs.frontier.take_branch.Goals as goal
 
-pub returns-clause-left : goal.returns-clause-left
-returns-clause-left g c =
-    λ words h.
-    elim (left_or_taken g.F.WordFacts.allows (g.C.Comparison.questions c.args.comparison.now) (record { facts = c.learn_answer.new.facts; branches = c.pop.new.self }) c.args.frontier.now c.in-Some.branch c.in-Some.ensures.items words h) [
-      | inl left ↦ inl left
-      | inr taken ↦ inr ((c.in_ok-learn_answer.ensures.learned words).1 (taken.allowed, taken.given), taken.reached)
-    ]
+pub learn_answer-requires : goal.learn_answer-requires
+learn_answer-requires g c =
+    (newest_is_branch g.F.WordFacts (g.C.Comparison.tree c.args.comparison.now) _ c.args.frontier.now
+    c.pop.new.self.items c.in-Some.branch c.requires c.in-Some.ensures.items).asks
+
+pub returns : goal.returns
+returns g c =
+    let store = g.F.WordFacts in
+    let old = c.args.frontier.now.facts in
+    let new = c.learn_answer.new.facts in
+    let back = c.undo.new.self in
+    let marks : store.level new ≡ store.level back = c.in_ok-learn_answer.ensures.marks in
+    let under : store.level back < store.level old = omega (arith, c.undo.ensures.closed) in
+    let same = c.undo.ensures.law_undo (store.level back) under in
+    taken store (g.C.Comparison.compared c.args.comparison.now) (g.C.Comparison.tree c.args.comparison.now)
+    c.args.frontier.now (record { facts = new; branches = c.pop.new.self }) c.in-Some.branch c.requires
+    (record {
+      branches = c.in-Some.ensures.items;
+      marks = omega (arith, marks, c.undo.ensures.closed);
+      levels = λ place below.
+          let before : place < store.level back = omega arith in
+          let still : place < store.level old = omega arith in
+          same_then store.allows store.is_exact old back new place place place (c.undo.ensures.law_undo place still)
+          (c.in_ok-learn_answer.ensures.at_marks place before);
+      known = λ words.
+          subst (λ n. store.allows new n words ↔ (store.allows old n words × Gives c.in-Some.branch.learned words))
+          (sym marks) (
+            λ allowed. let here = (c.in_ok-learn_answer.ensures.learned words).0 allowed in
+                ((same.0 words).0 here.0, here.1),
+            λ here. (c.in_ok-learn_answer.ensures.learned words).1 ((same.0 words).1 here.0, here.1),
+          );
+      exact = λ keeps was.
+          subst (λ n. IsTrue (store.is_exact new n)) (sym marks)
+          (c.in_ok-learn_answer.ensures.exact keeps
+          (same.1 ∙ subst (λ n. IsTrue (store.is_exact old n)) marks was));
+    })

@@ -11,6 +11,9 @@ returns-clause-plain c =
     let condition = c.condition_at.result in
     let here = c.condition_at.ensures rule stands.rule_here in
     λ plain.
-    let plain_rule = All-contains IsPlainRule rules rule plain (contains_here rules c.args.place rule stands.rule_here) in
-    let plain_condition = All-contains IsPlainCondition rule.conditions condition plain_rule.conditions (contains_here rule.conditions c.args.index condition here) in
-    (c.question-asked.ensures.keeps plain_condition, plain, plain)
+    let plain_rule =
+    All-contains IsPlainRule rules rule plain (contains_here rules c.args.place rule stands.rule_here) in
+    let plain_condition =
+    All-contains IsPlainCondition rule.conditions condition plain_rule.conditions
+    (contains_here rule.conditions c.args.index condition here) in
+    (c.question_of-question.ensures.keeps plain_condition, plain, plain)

@@ -1,10 +1,10 @@
 -- Where the ways on from a condition lead.
-use Rattle.std.proofs.Common.{◌≡◌, ◌+◌, ◌<◌, ◌≤◌, suc, List, length, take, drop, slice_index_or, true, sym, ap, subst, ◌∙◌, arith}
+use Rattle.std.proofs.Common.{◌≡◌, ◌+◌, ◌<◌, ◌≤◌, ℕ, suc, List, get_or, length, take, drop, slice_index_or, true, sym, ap, subst, ◌∙◌, arith}
 use Rattle.std.specs.Prelude.{slice_get, Some}
 use Rattle.std.proofs.lemmas.List.{take_all}
 use Rattle.std.proofs.lemmas.Option.{slice_get-get_or, slice_get_within}
 use Rattle.scf_insn.specs.Words.{call_of}
-use Rattle.scf_profile.specs.declared.condition.Comparison.TheVariants.{Equal}
+use Rattle.scf_profile.specs.declared.condition.Operator.TheVariants.{Equal}
 use Rattle.scf_profile.specs.declared.condition.Condition.{Condition}
 use Rattle.scf_profile.specs.declared.rule.Rule.{Rule}
 use Rattle.scf_profile.specs.Rule.{all_hold}
@@ -12,9 +12,18 @@ use Rattle.scf_profile.specs.ProfileAnswers.{ProfileAnswers, by_rule}
 use Rattle.scf_profile.specs.RulesByNumber.{rules_of}
 use Rattle.scf_compare.specs.declared.question.Part.TheVariants.{High}
 use Rattle.scf_compare.specs.Effort.{rules_size}
-use Rattle.scf_compare.specs.Profiles.{policy_of, IsAtCondition}
+use Rattle.scf_compare.specs.internal.Profiles.{profile_with, StandsAt, IsAtCondition}
 use Rattle.scf_compare.proofs.Rules.{read_here, same_here, contains_here, met_by, held_more, fails_by, unmet_failing, unmet_more, knows, size_at_condition, conditions_count}
 use Rattle.scf_compare.proofs.profile.follow.Goals as goal
+
+-- the rule that was read stands at its place, with the condition at its own
+rule_read : (rules : List Rule) (place index : ℕ) (a : Rule)
+    → ((rule : Rule) × (condition : Condition) × StandsAt rules place index rule condition) → a ≡ get_or rules place a
+    → (condition : Condition) × StandsAt rules place index a condition
+rule_read rules place index a node is =
+    let here = read_here rules place a (slice_get_within rules place node.0 node.2.rule_here) is in
+    let same : node.0 ≡ a = same_here rules place node.0 a node.2.rule_here here in
+    (node.1, subst (λ (r : Rule). StandsAt rules place index r node.1) same node.2)
 
 pub overflow_add-index : goal.overflow_add-index
 overflow_add-index c =
@@ -22,10 +31,8 @@ overflow_add-index c =
     let place = c.args.place in
     let index = c.args.index in
     let a = c.index-rules-place.result in
-    let inside = slice_get_within rules place c.requires.node.0 c.requires.node.2.rule_here in
-    let here = read_here rules place a inside c.index-rules-place.is in
-    let owner = same_here rules place c.requires.node.0 a c.requires.node.2.rule_here here in
-    let within : index < length a.conditions = subst (λ (r : Rule). index < length r.conditions) owner (slice_get_within c.requires.node.0.conditions index c.requires.node.1 c.requires.node.2.condition_here) in
+    let read = rule_read rules place index a c.requires.node c.index-rules-place.is in
+    let within : index < length a.conditions = slice_get_within a.conditions index read.0 read.1.condition_here in
     omega (arith, within, ap length c.as_slice-conditions.ensures, c.as_slice-conditions.type_inv.0)
 
 pub overflow_add-result : goal.overflow_add-result
@@ -34,10 +41,8 @@ overflow_add-result c =
     let place = c.args.place in
     let index = c.args.index in
     let a = c.index-rules-place.result in
-    let inside = slice_get_within rules place c.requires.node.0 c.requires.node.2.rule_here in
-    let here = read_here rules place a inside c.index-rules-place.is in
-    let owner = same_here rules place c.requires.node.0 a c.requires.node.2.rule_here here in
-    let within : index < length a.conditions = subst (λ (r : Rule). index < length r.conditions) owner (slice_get_within c.requires.node.0.conditions index c.requires.node.1 c.requires.node.2.condition_here) in
+    let read = rule_read rules place index a c.requires.node c.index-rules-place.is in
+    let within : index < length a.conditions = slice_get_within a.conditions index read.0 read.1.condition_here in
     omega (arith, within, ap length c.as_slice-conditions.ensures, c.as_slice-conditions.type_inv.0)
 
 pub overflow_add-place : goal.overflow_add-place
@@ -60,14 +65,20 @@ returns-then-index-conditions-clause-reached c =
     let place = c.args.place in
     let index = c.args.index in
     let a = c.index-rules-place.result in
-    let inside = slice_get_within rules place c.requires.node.0 c.requires.node.2.rule_here in
-    let here = read_here rules place a inside c.index-rules-place.is in
-    let all : length a.conditions ≤ suc index = omega (arith, c.if-index-conditions.true, ap length c.as_slice-conditions.ensures) in
+    let read = rule_read rules place index a c.requires.node c.index-rules-place.is in
+    let here = read.1.rule_here in
+    let all : length a.conditions ≤ suc index =
+    omega (arith, c.if-index-conditions.true, ap length c.as_slice-conditions.ensures) in
     λ words rule condition stands at. rw c.in-Holds.is (λ way.
     let same = same_here rules place rule a stands.rule_here here in
-    let whole : take (suc index) rule.conditions ≡ rule.conditions = take_all (suc index) rule.conditions (subst (λ (r : Rule). length r.conditions ≤ suc index) (sym same) all) in
-    let hold : all_hold (call_of words) rule.conditions ≡ true = subst (λ (cs : List Condition). all_hold (call_of words) cs ≡ true) whole (held_more (call_of words) rule.conditions index condition stands.condition_here at.held way) in
-    subst (λ (r : Rule). ProfileAnswers (policy_of c.args.default_answer rules) (call_of words) r.answer.0) same (by_rule rule at.native (contains_here rules place rule stands.rule_here) (met_by (call_of words) rule at.number hold)))
+    let whole : take (suc index) rule.conditions ≡ rule.conditions =
+    take_all (suc index) rule.conditions (subst (λ (r : Rule). length r.conditions ≤ suc index) (sym same) all) in
+    let hold : all_hold (call_of words) rule.conditions ≡ true =
+    subst (λ (cs : List Condition). all_hold (call_of words) cs ≡ true) whole
+    (held_more (call_of words) rule.conditions index condition stands.condition_here at.held way) in
+    subst (λ (r : Rule). ProfileAnswers (profile_with c.args.default_answer rules) (call_of words) r.answer.0) same
+    (by_rule rule at.native (contains_here rules place rule stands.rule_here)
+    (met_by (call_of words) rule at.number hold)))
 
 pub returns-then-index-conditions-clause-size : goal.returns-then-index-conditions-clause-size
 returns-then-index-conditions-clause-size c =
@@ -79,14 +90,15 @@ returns-else-index-conditions-clause-node c =
     let place = c.args.place in
     let index = c.args.index in
     let a = c.index-rules-place.result in
-    let inside = slice_get_within rules place c.requires.node.0 c.requires.node.2.rule_here in
-    let here = read_here rules place a inside c.index-rules-place.is in
-    let owner = same_here rules place c.requires.node.0 a c.requires.node.2.rule_here here in
-    let within : index < length a.conditions = subst (λ (r : Rule). index < length r.conditions) owner (slice_get_within c.requires.node.0.conditions index c.requires.node.1 c.requires.node.2.condition_here) in
+    let read = rule_read rules place index a c.requires.node c.index-rules-place.is in
+    let here = read.1.rule_here in
+    let within : index < length a.conditions = slice_get_within a.conditions index read.0 read.1.condition_here in
     let none : Condition = record { index = 0; op = Equal; value = 0; value_two = 0 } in
-    let more : index + 1 < length a.conditions = omega (arith, within, c.if-index-conditions.false, ap length c.as_slice-conditions.ensures) in
+    let more : index + 1 < length a.conditions =
+    omega (arith, within, c.if-index-conditions.false, ap length c.as_slice-conditions.ensures) in
     let x : Condition = slice_index_or a.conditions (index + 1) none in
-    let next_here : slice_get a.conditions (index + 1) ≡ Some (slice_index_or a.conditions (index + 1) none) = slice_get-get_or a.conditions (index + 1) none more in
+    let next_here : slice_get a.conditions (index + 1) ≡ Some (slice_index_or a.conditions (index + 1) none) =
+    slice_get-get_or a.conditions (index + 1) none more in
     (a, x, record { rule_here = here; condition_here = next_here })
 
 pub returns-else-index-conditions-clause-reached : goal.returns-else-index-conditions-clause-reached
@@ -95,20 +107,32 @@ returns-else-index-conditions-clause-reached c =
     let place = c.args.place in
     let index = c.args.index in
     let a = c.index-rules-place.result in
-    let inside = slice_get_within rules place c.requires.node.0 c.requires.node.2.rule_here in
-    let here = read_here rules place a inside c.index-rules-place.is in
-    let owner = same_here rules place c.requires.node.0 a c.requires.node.2.rule_here here in
-    let within : index < length a.conditions = subst (λ (r : Rule). index < length r.conditions) owner (slice_get_within c.requires.node.0.conditions index c.requires.node.1 c.requires.node.2.condition_here) in
+    let read = rule_read rules place index a c.requires.node c.index-rules-place.is in
+    let here = read.1.rule_here in
+    let within : index < length a.conditions = slice_get_within a.conditions index read.0 read.1.condition_here in
     let none : Condition = record { index = 0; op = Equal; value = 0; value_two = 0 } in
-    let more : index + 1 < length a.conditions = omega (arith, within, c.if-index-conditions.false, ap length c.as_slice-conditions.ensures) in
+    let more : index + 1 < length a.conditions =
+    omega (arith, within, c.if-index-conditions.false, ap length c.as_slice-conditions.ensures) in
     let x : Condition = slice_index_or a.conditions (index + 1) none in
-    let next_here : slice_get a.conditions (index + 1) ≡ Some (slice_index_or a.conditions (index + 1) none) = slice_get-get_or a.conditions (index + 1) none more in
+    let next_here : slice_get a.conditions (index + 1) ≡ Some (slice_index_or a.conditions (index + 1) none) =
+    slice_get-get_or a.conditions (index + 1) none more in
     λ words rule condition stands at. rw c.in-Holds.is (λ way.
     let same = same_here rules place rule a stands.rule_here here in
     let one : suc index ≡ index + 1 = omega arith in
     let held = held_more (call_of words) rule.conditions index condition stands.condition_here at.held way in
-    let next : IsAtCondition rules place (index + 1) rule (call_of words) = record { native = at.native; number = at.number; unmet = at.unmet; held = subst (λ n. all_hold (call_of words) (take n rule.conditions) ≡ true) one held } in
-    knows rules place (index + 1) (call_of words) High rule x (record { rule_here = stands.rule_here; condition_here = subst (λ (r : Rule). slice_get r.conditions (index + 1) ≡ Some x) (sym same) next_here }) next tt)
+    let next : IsAtCondition rules place (index + 1) rule (call_of words) =
+    record {
+      native = at.native;
+      number = at.number;
+      unmet = at.unmet;
+      held = subst (λ n. all_hold (call_of words) (take n rule.conditions) ≡ true) one held;
+    } in
+    knows rules place (index + 1) (call_of words) High rule x
+    (record {
+      rule_here = stands.rule_here;
+      condition_here = subst (λ (r : Rule). slice_get r.conditions (index + 1) ≡ Some x) (sym same) next_here;
+    })
+    next tt)
 
 pub returns-else-index-conditions-clause-size : goal.returns-else-index-conditions-clause-size
 returns-else-index-conditions-clause-size c =
@@ -116,17 +140,19 @@ returns-else-index-conditions-clause-size c =
     let place = c.args.place in
     let index = c.args.index in
     let a = c.index-rules-place.result in
-    let inside = slice_get_within rules place c.requires.node.0 c.requires.node.2.rule_here in
-    let here = read_here rules place a inside c.index-rules-place.is in
-    let owner = same_here rules place c.requires.node.0 a c.requires.node.2.rule_here here in
-    let within : index < length a.conditions = subst (λ (r : Rule). index < length r.conditions) owner (slice_get_within c.requires.node.0.conditions index c.requires.node.1 c.requires.node.2.condition_here) in
+    let read = rule_read rules place index a c.requires.node c.index-rules-place.is in
+    let here = read.1.rule_here in
+    let within : index < length a.conditions = slice_get_within a.conditions index read.0 read.1.condition_here in
     let none : Condition = record { index = 0; op = Equal; value = 0; value_two = 0 } in
-    let more : index + 1 < length a.conditions = omega (arith, within, c.if-index-conditions.false, ap length c.as_slice-conditions.ensures) in
+    let more : index + 1 < length a.conditions =
+    omega (arith, within, c.if-index-conditions.false, ap length c.as_slice-conditions.ensures) in
     let x : Condition = slice_index_or a.conditions (index + 1) none in
-    let next_here : slice_get a.conditions (index + 1) ≡ Some (slice_index_or a.conditions (index + 1) none) = slice_get-get_or a.conditions (index + 1) none more in
+    let next_here : slice_get a.conditions (index + 1) ≡ Some (slice_index_or a.conditions (index + 1) none) =
+    slice_get-get_or a.conditions (index + 1) none more in
     λ rule at. rw c.in-Holds.is (
     let same = same_here rules place rule a at here in
-    size_at_condition rules place (index + 1) rule x at (subst (λ (r : Rule). slice_get r.conditions (index + 1) ≡ Some x) (sym same) next_here))
+    size_at_condition rules place (index + 1) rule x
+    at (subst (λ (r : Rule). slice_get r.conditions (index + 1) ≡ Some x) (sym same) next_here))
 
 pub returns-in-Fails-clause-reached : goal.returns-in-Fails-clause-reached
 returns-in-Fails-clause-reached c =
@@ -134,21 +160,25 @@ returns-in-Fails-clause-reached c =
     let place = c.args.place in
     let index = c.args.index in
     let a = c.index-rules-place.result in
-    let inside = slice_get_within rules place c.requires.node.0 c.requires.node.2.rule_here in
-    let here = read_here rules place a inside c.index-rules-place.is in
+    let read = rule_read rules place index a c.requires.node c.index-rules-place.is in
+    let here = read.1.rule_here in
     λ words rule condition stands at. rw c.in-Fails.is (λ way.
     let same = same_here rules place rule a stands.rule_here here in
     c.next_rule.ensures.reached words at.native (at.number ∙ ap (λ (r : Rule). r.number) same)
-    (unmet_more (call_of words) rules place rule stands.rule_here at.unmet (unmet_failing (call_of words) rule (fails_by (call_of words) rule.conditions index condition stands.condition_here way))))
+    (unmet_more (call_of words) rules place rule stands.rule_here at.unmet
+    (unmet_failing (call_of words) rule
+    (fails_by (call_of words) rule.conditions index condition stands.condition_here way))))
 
 pub returns-in-Fails-clause-size : goal.returns-in-Fails-clause-size
 returns-in-Fails-clause-size c =
     let rules = c.args.rules.now in
     let place = c.args.place in
     let a = c.index-rules-place.result in
-    let inside = slice_get_within rules place c.requires.node.0 c.requires.node.2.rule_here in
-    let here = read_here rules place a inside c.index-rules-place.is in
+    let read = rule_read rules place c.args.index a c.requires.node c.index-rules-place.is in
+    let here = read.1.rule_here in
     λ rule at. rw c.in-Fails.is (
     let same = same_here rules place rule a at here in
-    let named : rules_size (rules_of rule.number (drop (place + 1) rules)) ≡ rules_size (rules_of a.number (drop (place + 1) rules)) = ap (λ (r : Rule). rules_size (rules_of r.number (drop (place + 1) rules))) same in
+    let named : rules_size (rules_of rule.number (drop (place + 1) rules))
+    ≡ rules_size (rules_of a.number (drop (place + 1) rules)) =
+    ap (λ (r : Rule). rules_size (rules_of r.number (drop (place + 1) rules))) same in
     omega (arith, named, c.next_rule.ensures.size))

@@ -13,9 +13,16 @@ returns-then-rules-place-clause-reached c =
     let place = c.loop-place.place in
     let a = c.index-rules-place.result in
     let here = read_here rules place a c.loop-place-test.true c.index-rules-place.is in
-    let number_is : a.number ≡ c.args.number = ap (λ (r : Rule). r.number) c.index-rules-place.is ∙ c.if-rules-place.true in
+    let number_is : a.number ≡ c.args.number =
+    ap (λ (r : Rule). r.number) c.index-rules-place.is ∙ c.if-rules-place.true in
     λ words native number unmet.
-    c.first_of_rule.ensures.reached words a here (record { native = native; number = number ∙ sym number_is; unmet = c.loop-place.invariant.unmet (call_of words) number unmet; held = refl })
+    c.first_of_rule.ensures.reached words a here
+    (record {
+      native = native;
+      number = number ∙ sym number_is;
+      unmet = c.loop-place.invariant.unmet (call_of words) number unmet;
+      held = refl;
+    })
 
 pub returns-then-rules-place-clause-size : goal.returns-then-rules-place-clause-size
 returns-then-rules-place-clause-size c =
@@ -23,13 +30,20 @@ returns-then-rules-place-clause-size c =
     let place = c.loop-place.place in
     let a = c.index-rules-place.result in
     let here = read_here rules place a c.loop-place-test.true c.index-rules-place.is in
-    let number_is : a.number ≡ c.args.number = ap (λ (r : Rule). r.number) c.index-rules-place.is ∙ c.if-rules-place.true in
+    let number_is : a.number ≡ c.args.number =
+    ap (λ (r : Rule). r.number) c.index-rules-place.is ∙ c.if-rules-place.true in
     let size = c.first_of_rule.ensures.size a here in
-    let whole : rules_size (rules_of c.args.number (drop c.args.from rules)) ≡ conditions_size a.conditions (rules_size (rules_of c.args.number (drop (place + 1) rules))) = ap rules_size (sym c.loop-place.invariant.skipped ∙ rules_kept rules place c.args.number a here number_is) in
-    let named : conditions_size a.conditions (rules_size (rules_of a.number (drop (place + 1) rules))) ≡ conditions_size a.conditions (rules_size (rules_of c.args.number (drop (place + 1) rules))) = ap (λ n. conditions_size a.conditions (rules_size (rules_of n (drop (place + 1) rules)))) number_is in
+    let whole : rules_size (rules_of c.args.number (drop c.args.from rules))
+    ≡ conditions_size a.conditions (rules_size (rules_of c.args.number (drop (place + 1) rules))) =
+    ap rules_size (sym c.loop-place.invariant.skipped ∙ rules_kept rules place c.args.number a here number_is) in
+    let named : conditions_size a.conditions (rules_size (rules_of a.number (drop (place + 1) rules)))
+    ≡ conditions_size a.conditions (rules_size (rules_of c.args.number (drop (place + 1) rules))) =
+    ap (λ n. conditions_size a.conditions (rules_size (rules_of n (drop (place + 1) rules)))) number_is in
     omega (arith, size, whole, named)
 
 pub returns-clause-reached : goal.returns-clause-reached
 returns-clause-reached c =
     λ words native number unmet.
-    by_default native (unmet_all (call_of words) c.args.rules.now c.loop-place.place c.loop-place-test.false (c.loop-place.invariant.unmet (call_of words) number unmet))
+    by_default native
+    (unmet_all (call_of words) c.args.rules.now c.loop-place.place c.loop-place-test.false
+    (c.loop-place.invariant.unmet (call_of words) number unmet))

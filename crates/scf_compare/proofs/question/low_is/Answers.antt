@@ -4,4 +4,6 @@ use Rattle.scf_compare.proofs.Halves.{whole_low_of}
 use Rattle.scf_compare.proofs.question.low_is.Goals as goal
 
 pub returns-clause-answers : goal.returns-clause-answers
-returns-clause-answers c = λ words w. rw (c.low_word.ensures, c.low_half.ensures) (ap (λ n. eqb n (low c.args.condition.value)) (whole_low_of words c.args.condition.index w))
+returns-clause-answers c = λ words w.
+    rw (c.low_word.ensures, c.low_half.ensures)
+    (ap (λ n. eqb n (low c.args.condition.value)) (whole_low_of words c.args.condition.index w))

@@ -1,7 +1,6 @@
-use Rattle.std.proofs.Common.{◌≡◌, sym, ap, subst, ◌∙◌, arith}
-use Rattle.scf_compare.specs.declared.flow.Flow.{Flow}
+use Rattle.std.proofs.Common.{◌≡◌, sym, subst, ◌∙◌, arith}
 use Rattle.scf_compare.specs.declared.flow.Flow.TheVariants.{Next, Jump, Branch, DivideByIndex, ReturnConstant, ReturnAccumulator}
-use Rattle.scf_compare.specs.Flow.{tree_size, flow_at, size_of_flow}
+use Rattle.scf_compare.specs.internal.Flow.{flow_at}
 use Rattle.scf_compare.proofs.Flows.{IsForward, forward_at, size_by_flow}
 use Rattle.scf_compare.proofs.tree_sizes.size_of.Goals as goal
 
@@ -12,7 +11,7 @@ returns-in-Next c =
     let insn = c.args.insn in
     let operation = c.args.operation in
     let f : flow_at operation insn place ≡ Next c.in-Next.next = sym c.of.ensures.flow ∙ c.in-Next.is in
-    let size : tree_size insns place ≡ size_of_flow (Next c.in-Next.next) (tree_size insns) = size_by_flow insns place insn operation c.requires.stands ∙ ap (λ (flow : Flow). size_of_flow flow (tree_size insns)) f in
+    let size = size_by_flow insns place insn operation (Next c.in-Next.next) c.requires.stands f in
     let forward = subst (IsForward place) f (forward_at operation insn place) in
     let inside = rw c.in-Next.is at c.of.ensures.inside in
     let later = c.requires.later c.in-Next.next forward inside in
@@ -25,7 +24,7 @@ returns-in-Jump c =
     let insn = c.args.insn in
     let operation = c.args.operation in
     let f : flow_at operation insn place ≡ Jump c.in-Jump.target = sym c.of.ensures.flow ∙ c.in-Jump.is in
-    let size : tree_size insns place ≡ size_of_flow (Jump c.in-Jump.target) (tree_size insns) = size_by_flow insns place insn operation c.requires.stands ∙ ap (λ (flow : Flow). size_of_flow flow (tree_size insns)) f in
+    let size = size_by_flow insns place insn operation (Jump c.in-Jump.target) c.requires.stands f in
     let forward = subst (IsForward place) f (forward_at operation insn place) in
     let inside = rw c.in-Jump.is at c.of.ensures.inside in
     let later = c.requires.later c.in-Jump.target forward inside in
@@ -37,8 +36,13 @@ returns-in-Branch c =
     let place = c.args.place in
     let insn = c.args.insn in
     let operation = c.args.operation in
-    let f : flow_at operation insn place ≡ Branch c.in-Branch.test c.in-Branch.operand c.in-Branch.if_true c.in-Branch.if_false = sym c.of.ensures.flow ∙ c.in-Branch.is in
-    let size : tree_size insns place ≡ size_of_flow (Branch c.in-Branch.test c.in-Branch.operand c.in-Branch.if_true c.in-Branch.if_false) (tree_size insns) = size_by_flow insns place insn operation c.requires.stands ∙ ap (λ (flow : Flow). size_of_flow flow (tree_size insns)) f in
+    let f : flow_at operation insn place
+    ≡ Branch c.in-Branch.test c.in-Branch.operand c.in-Branch.if_true c.in-Branch.if_false =
+    sym c.of.ensures.flow ∙ c.in-Branch.is in
+    let size =
+    size_by_flow insns place insn operation
+    (Branch c.in-Branch.test c.in-Branch.operand c.in-Branch.if_true c.in-Branch.if_false) c.requires.stands
+    f in
     let forward = subst (IsForward place) f (forward_at operation insn place) in
     let inside = rw c.in-Branch.is at c.of.ensures.inside in
     let first = c.requires.later c.in-Branch.if_true forward.0 inside.0 in
@@ -51,8 +55,9 @@ returns-in-DivideByIndex c =
     let place = c.args.place in
     let insn = c.args.insn in
     let operation = c.args.operation in
-    let f : flow_at operation insn place ≡ DivideByIndex c.in-DivideByIndex.next = sym c.of.ensures.flow ∙ c.in-DivideByIndex.is in
-    let size : tree_size insns place ≡ size_of_flow (DivideByIndex c.in-DivideByIndex.next) (tree_size insns) = size_by_flow insns place insn operation c.requires.stands ∙ ap (λ (flow : Flow). size_of_flow flow (tree_size insns)) f in
+    let f : flow_at operation insn place ≡ DivideByIndex c.in-DivideByIndex.next =
+    sym c.of.ensures.flow ∙ c.in-DivideByIndex.is in
+    let size = size_by_flow insns place insn operation (DivideByIndex c.in-DivideByIndex.next) c.requires.stands f in
     let forward = subst (IsForward place) f (forward_at operation insn place) in
     let inside = rw c.in-DivideByIndex.is at c.of.ensures.inside in
     let later = c.requires.later c.in-DivideByIndex.next forward inside in
@@ -65,7 +70,7 @@ returns-in-ReturnConstant c =
     let insn = c.args.insn in
     let operation = c.args.operation in
     let f : flow_at operation insn place ≡ ReturnConstant = sym c.of.ensures.flow ∙ c.in-ReturnConstant.is in
-    let size : tree_size insns place ≡ size_of_flow (ReturnConstant) (tree_size insns) = size_by_flow insns place insn operation c.requires.stands ∙ ap (λ (flow : Flow). size_of_flow flow (tree_size insns)) f in
+    let size = size_by_flow insns place insn operation ReturnConstant c.requires.stands f in
     omega (arith, size)
 
 pub returns-in-ReturnAccumulator : goal.returns-in-ReturnAccumulator
@@ -75,5 +80,5 @@ returns-in-ReturnAccumulator c =
     let insn = c.args.insn in
     let operation = c.args.operation in
     let f : flow_at operation insn place ≡ ReturnAccumulator = sym c.of.ensures.flow ∙ c.in-ReturnAccumulator.is in
-    let size : tree_size insns place ≡ size_of_flow (ReturnAccumulator) (tree_size insns) = size_by_flow insns place insn operation c.requires.stands ∙ ap (λ (flow : Flow). size_of_flow flow (tree_size insns)) f in
+    let size = size_by_flow insns place insn operation ReturnAccumulator c.requires.stands f in
     omega (arith, size)

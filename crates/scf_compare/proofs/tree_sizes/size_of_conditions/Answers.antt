@@ -10,7 +10,11 @@ loop-place-preserved c =
     record {
       within = omega (arith, c.loop-place.invariant.within);
       size = λ behind e.
-          conditions_added c.loop-place.size c.args.fails c.saturating_add-twice_fails.result c.saturating_add.result c.saturating_add-in-loop-place.result c.saturating_add-size.result (conditions_size (drop place conditions) behind) behind
-          (c.loop-place.invariant.size behind e) e c.saturating_add-twice_fails.ensures c.saturating_add.ensures c.saturating_add-in-loop-place.ensures c.saturating_add-size.ensures
-          ∙ ap saturated (sym (conditions_step conditions place behind c.loop-place-test.true c.loop-place.invariant.within));
+          conditions_added c.loop-place.size c.args.fails c.saturating_add-twice_fails.result c.saturating_add.result
+          c.saturating_add-in-loop-place.result c.saturating_add-size.result
+          (conditions_size (drop place conditions) behind) behind
+          (c.loop-place.invariant.size behind e) e c.saturating_add-twice_fails.ensures c.saturating_add.ensures
+          c.saturating_add-in-loop-place.ensures c.saturating_add-size.ensures
+          ∙ ap saturated
+          (sym (conditions_step conditions place behind c.loop-place-test.true c.loop-place.invariant.within));
     }

@@ -15,7 +15,15 @@ loop-place-preserved c =
     let none : Rule = record { number = 0; conditions = []; answer = record { 0 = 0 }; entry = 0 } in
     let here = slice_get-get_or rules place none c.loop-place-test.true in
     let before = sum_by (number_size rules) (numbers_of (take place rules)) in
-    let more = cond (has_number (slice_index_or rules place none).number (take place rules)) 0 (number_size rules (slice_index_or rules place none).number) in
+    let more =
+    cond (has_number (slice_index_or rules place none).number (take place rules)) 0
+    (number_size rules (slice_index_or rules place none).number) in
     let grown = sum_grows (number_size rules) rules place (slice_index_or rules place none) here in
-    let all : 8 + sum_by (number_size rules) (numbers_of (take place rules)) + cond (has_number (slice_index_or rules place none).number (take place rules)) 0 (number_size rules (slice_index_or rules place none).number) ≡ 8 + sum_by (number_size rules) (numbers_of (take (place + 1) rules)) = omega (arith, grown) in
-    c.saturating_add-sum.ensures ∙ added c.loop-place.sum c.size_of_number.result (8 + before) more c.loop-place.invariant (c.size_of_number.ensures (slice_index_or rules place none) here) ∙ ap saturated all
+    let all : 8 + sum_by (number_size rules) (numbers_of (take place rules)) + cond
+    (has_number (slice_index_or rules place none).number (take place rules)) 0
+    (number_size rules (slice_index_or rules place none).number)
+    ≡ 8 + sum_by (number_size rules) (numbers_of (take (place + 1) rules)) = omega (arith, grown) in
+    c.saturating_add-sum.ensures
+    ∙ added c.loop-place.sum c.size_of_number.result (8 + before) more c.loop-place.invariant
+    (c.size_of_number.ensures (slice_index_or rules place none) here)
+    ∙ ap saturated all

@@ -3,4 +3,5 @@ use Rattle.scf_machine.specs.Machine.{start}
 use Rattle.scf_compare.proofs.filter.ProgramFilterTree.start.Goals as goal
 
 pub returns-clause-reached : goal.returns-clause-reached
-returns-clause-reached c = λ words w. record { state = start; earlier = []; chain = refl; there = refl; describes = c.at_start.ensures.describes words }
+returns-clause-reached c = λ words w.
+    record { state = start; earlier = []; chain = refl; there = refl; describes = c.at_start.ensures.describes words }

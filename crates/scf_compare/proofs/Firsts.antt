@@ -1,0 +1,123 @@
+-- The first rules of numbers, and what it says of a call that no rule before one has its number.
+use Rattle.std.proofs.Common.{◌≡◌, ◌≢◌, ℕ, zero, suc, ◌+◌, ◌≤◌, ◌||◌, Bool, true, false, cond, eqb, List, [], ◌∷◌, ◌++◌, length, take, drop, get_or, refl, sym, ap, subst, ◌∙◌, arith}
+use Rattle.std.specs.Prelude.{All, map, option_map, slice_get, sum_by, Some}
+use Rattle.std.specs.List.{list_any}
+use Rattle.std.proofs.lemmas.Bool.{eq-eqb}
+use Rattle.std.proofs.lemmas.List.Sums.{get_or-le-sum_by, sum_by-append}
+use Rattle.std.proofs.lemmas.List.{length-map}
+use Rattle.std.proofs.lemmas.Option.{slice_get-map, slice_get-get_or, slice_get_within}
+use Rattle.std.proofs.lemmas.List.Elements.{All-nil, All-cons, All-push, All-contains}
+use Rattle.scf_insn.specs.declared.record.CallRecord.{CallRecord}
+use Rattle.scf_profile.specs.declared.rule.Rule.{Rule}
+use Rattle.scf_profile.specs.Rule.{meets}
+use Rattle.scf_profile.specs.RulesByNumber.{numbers_of, rules_of}
+use Rattle.scf_compare.specs.declared.profile_numbers.FirstRule.{FirstRule}
+use Rattle.scf_compare.specs.Effort.{rules_size, number_size}
+use Rattle.scf_compare.specs.internal.Numbers.{AreFirstRules}
+use Rattle.scf_compare.proofs.Rules.{unmet_apart, contains_here, drop_here}
+
+neither : (b c : Bool) → (b || c) ≡ false → (b ≡ false) × (c ≡ false)
+neither true c e = absurd (cc)
+neither false c e = (refl, e)
+
+append_nil : {X : Type 0} (xs : List X) → xs ++ [] ≡ xs
+append_nil [] = refl
+append_nil (x ∷ xs) = ap (λ ys. x ∷ ys) (append_nil xs)
+
+-- what holds of one more element, where it is added, holds of all
+pub all_with : {X : Type 0} (P : X → Type 0) (xs : List X) (x : X) (b : Bool) → All P xs → (b ≡ false → P x)
+    → All P (xs ++ cond b [] (x ∷ []))
+all_with P xs x true all here = subst (All P) (sym (append_nil xs)) all
+all_with P xs x false all here = All-push P xs x all (here refl)
+
+pub numbers_with : (firsts : List FirstRule) (first : FirstRule) (b : Bool)
+    → map (λ (f : FirstRule). f.number) (firsts ++ cond b [] (first ∷ [])) ≡ map (λ (f : FirstRule). f.number) firsts
+    ++ cond b [] (first.number ∷ [])
+numbers_with [] first true = refl
+numbers_with [] first false = refl
+numbers_with (f ∷ firsts) first b = ap (λ (ns : List ℕ). f.number ∷ ns) (numbers_with firsts first b)
+
+-- a call with a number that no rule has meets none of them
+pub unmet_others : (call : CallRecord) (rules : List Rule) (number : ℕ)
+    → list_any (λ (r : Rule). eqb r.number number) rules ≡ false → call.nr ≡ number
+    → All (λ earlier. meets earlier call ≡ false) rules
+unmet_others call [] number none same = All-nil (λ earlier. meets earlier call ≡ false)
+unmet_others call (r ∷ rules) number none same =
+    let both = neither (eqb r.number number) (list_any (λ (other : Rule). eqb other.number number) rules) none in
+    let apart : call.nr ≢ r.number = λ e. let yes_and_no : true ≡ false =
+    sym (eq-eqb r.number number (sym e ∙ same)) ∙ both.0 in cc in
+    All-cons (λ earlier. meets earlier call ≡ false) r rules (unmet_apart call r apart)
+    (unmet_others call rules number both.1 same)
+
+-- the rules of a number are behind those before its first one
+pub rules_behind : (rules : List Rule) (place number : ℕ)
+    → list_any (λ (r : Rule). eqb r.number number) (take place rules) ≡ false
+    → rules_of number (drop place rules) ≡ rules_of number rules
+rules_behind rules zero number none = refl
+rules_behind [] (suc place) number none = refl
+rules_behind (r ∷ rules) (suc place) number none =
+    let both =
+    neither (eqb r.number number) (list_any (λ (other : Rule). eqb other.number number) (take place rules)) none in
+    rules_behind rules place number both.1
+    ∙ sym (ap (λ b. cond b (r ∷ rules_of number rules) (rules_of number rules)) both.0)
+
+sum_split : (f : ℕ → ℕ) (xs : List ℕ) (place x : ℕ) → slice_get xs place ≡ Some x
+    → sum_by f (drop place xs) ≡ f x + sum_by f (drop (place + 1) xs)
+sum_split f xs place x here =
+    let one : suc place ≡ place + 1 = omega arith in
+    let split : sum_by f (drop place xs) ≡ sum_by f (x ∷ drop (suc place) xs) =
+    ap (sum_by f) (drop_here xs place x here) in
+    let rest : sum_by f (drop (suc place) xs) ≡ sum_by f (drop (place + 1) xs) = ap (λ n. sum_by f (drop n xs)) one in
+    let cons : sum_by f (x ∷ drop (suc place) xs) ≡ sum_by f (x ∷ []) + sum_by f (drop (suc place) xs) =
+    sum_by-append f (x ∷ []) (drop (suc place) xs) in
+    let alone : sum_by f (x ∷ []) ≡ f x = omega arith in
+    omega (arith, split, rest, cons, alone)
+
+-- ---- the first rule at a place
+
+module _ (firsts : List FirstRule) (rules : List Rule) (h : AreFirstRules firsts rules) (place : ℕ) (first : FirstRule)
+    (here : slice_get firsts place ≡ Some first) where
+  pub number_at : slice_get (numbers_of rules) place ≡ Some first.number
+  number_at =
+      let in_map : slice_get (map (λ (f : FirstRule). f.number) firsts) place ≡ Some first.number =
+      slice_get-map (λ (f : FirstRule). f.number) firsts place
+      ∙ ap (option_map (λ (f : FirstRule). f.number)) here in
+      subst (λ (numbers : List ℕ). slice_get numbers place ≡ Some first.number) h.numbers in_map
+
+  pub place_at : first.place ≤ length rules
+  place_at =
+      All-contains (λ (f : FirstRule). f.place ≤ length rules) firsts first h.inside
+      (contains_here firsts place first here)
+
+  none_before : list_any (λ (rule : Rule). eqb rule.number first.number) (take first.place rules) ≡ false
+  none_before =
+      All-contains
+      (λ (f : FirstRule). list_any (λ (rule : Rule). eqb rule.number f.number) (take f.place rules) ≡ false) firsts
+      first h.others_before (contains_here firsts place first here)
+
+  pub unmet_at : (call : CallRecord) → call.nr ≡ first.number
+      → All (λ earlier. meets earlier call ≡ false) (take first.place rules)
+  unmet_at call same = unmet_others call (take first.place rules) first.number none_before same
+
+  pub size_at : rules_size (rules_of first.number (drop first.place rules)) ≡ rules_size (rules_of first.number rules)
+  size_at = ap rules_size (rules_behind rules first.place first.number none_before)
+
+  pub sum_at : sum_by (number_size rules) (drop place (numbers_of rules))
+      ≡ number_size rules first.number + sum_by (number_size rules) (drop (place + 1) (numbers_of rules))
+  sum_at = sum_split (number_size rules) (numbers_of rules) place first.number number_at
+
+  pub within_sum : number_size rules first.number ≤ sum_by (number_size rules) (numbers_of rules)
+  within_sum =
+      let inside = slice_get_within (numbers_of rules) place first.number number_at in
+      let read : get_or (numbers_of rules) place first.number ≡ first.number =
+      let both : Some (get_or (numbers_of rules) place first.number) ≡ Some first.number =
+      sym (slice_get-get_or (numbers_of rules) place first.number inside) ∙ number_at in cc in
+      subst (λ n. number_size rules n ≤ sum_by (number_size rules) (numbers_of rules)) read
+      (get_or-le-sum_by (number_size rules) (numbers_of rules) place first.number inside)
+
+-- past the first rules there are no more numbers
+pub all_past : (firsts : List FirstRule) (rules : List Rule) → AreFirstRules firsts rules → (place : ℕ)
+    → length firsts ≤ place → length (numbers_of rules) ≤ place
+all_past firsts rules h place past =
+    let as_many : length (map (λ (f : FirstRule). f.number) firsts) ≡ length (numbers_of rules) = ap length h.numbers in
+    omega (arith, as_many, length-map firsts (λ (f : FirstRule). f.number))

@@ -1,0 +1,123 @@
+-- From one stage of an exploration to the next.
+use Rattle.std.proofs.Common.{◌≡◌, ℕ, ◌<◌, ◌≤◌, ◌↔◌, inl, inr, List, true, false, arith}
+use Rattle.std.specs.Prelude.{Some, None, IsTrue}
+use Rattle.std.proofs.lemmas.Bool.{cases_Bool}
+use Rattle.scf_facts.specs.declared.atom.Atom.{Atom}
+use Rattle.scf_facts.specs.declared.word_facts.WordFacts.{Ghosts as Store}
+use Rattle.scf_facts.specs.Atoms.{word_of, atom_answer}
+use Rattle.scf_facts.specs.Exactness.{KeepsExact}
+use Rattle.scf_compare.specs.declared.comparison.BothEnds.{BothEnds}
+use Rattle.scf_compare.specs.declared.frontier.Branch.{Branch}
+use Rattle.scf_compare.specs.declared.frontier.Frontier.{Frontier}
+use Rattle.scf_compare.specs.declared.turn.Turn.{Turn}
+use Rattle.scf_compare.specs.declared.turn.Turn.TheVariants.{Ask, Fork}
+use Rattle.scf_compare.specs.internal.Compared.{Compared, AnswerAlike}
+use Rattle.scf_compare.specs.internal.Ends.{Tells, KnowsBoth}
+use Rattle.scf_compare.specs.internal.Frontier.{IsFrontier}
+use Rattle.scf_compare.specs.internal.Stages.{LeadsTo, IsTaken, GoesOver}
+use Rattle.scf_compare.specs.internal.Trees.{Tree, GoesOn, StaysPlain, Costs}
+use Rattle.scf_compare.proofs.Branches.{HasOpened, still_in_branch, in_opened, frontier_opened, size_opened, exact_opened}
+
+module _ {F K N : Type 0} (store : Store F) (compared : Compared) (tree : K → Tree N) (old new : Frontier F K N)
+    (f : IsFrontier store tree compared.in_scope old) where
+  -- one way on from an atom is gone, and a branch stands open for the other
+  pub asked : (known : K) (atom : Atom) (if_true if_false : N)
+      → (word_of atom < 16) × (tree known).is_node if_true × (tree known).is_node if_false
+      → HasOpened store old new (record { known = known; node = if_false; learned = Some (atom, false) })
+      → ((words : List ℕ)
+      → store.allows new.facts (store.level new.facts) words
+      ↔ (store.allows old.facts (store.level old.facts) words × (atom_answer atom words ≡ true)))
+      → (KeepsExact atom true → IsTrue (store.is_exact old.facts (store.level old.facts))
+      → IsTrue (store.is_exact new.facts (store.level new.facts)))
+      → LeadsTo store compared tree old new (tree known) (Ask atom if_true if_false) if_true
+  asked known atom if_true if_false proper opened learned exact =
+      let other : Branch K N = record { known = known; node = if_false; learned = Some (atom, false) } in
+      record {
+        frontier =
+            frontier_opened store tree compared.in_scope old new other f opened
+            (record { node = proper.2; asks = proper.0 });
+        node = proper.1;
+        words = λ words ahead. elim ahead [
+          | inl inside ↦ inl (still_in_branch store tree compared.in_scope old new other f opened words inside)
+          | inr here ↦ elim (cases_Bool (atom_answer atom words)) [
+            | inl given ↦ inr ((learned words).1 (here.0, given), here.1.0 given)
+            | inr refused ↦
+                inl (in_opened store tree compared.in_scope old new other f opened words here.0 refused
+                (here.1.1 refused))
+          ]
+        ];
+        size = omega (arith, size_opened store tree compared.in_scope old new other f opened);
+        exact = λ all. record {
+          branches =
+              exact_opened store tree compared.in_scope old new other f opened all.branches all.facts all.plain.0.1
+              all.plain.2 (λ words allowed refused. (all.reached words allowed).1 refused);
+          facts = exact all.plain.0.0 all.facts;
+          plain = all.plain.1;
+          reached = λ words allowed. let both = (learned words).0 allowed in (all.reached words both.0).0 both.1;
+        };
+      }
+
+  -- one way on is gone that no atom decides, and a branch stands open for the other
+  pub forked : (known : K) (if_true if_false : N) → (tree known).is_node if_true × (tree known).is_node if_false
+      → HasOpened store old new (record { known = known; node = if_false; learned = None })
+      → ((words : List ℕ) → store.allows old.facts (store.level old.facts) words
+      → store.allows new.facts (store.level new.facts) words)
+      → LeadsTo store compared tree old new (tree known) (Fork if_true if_false) if_true
+  forked known if_true if_false proper opened still =
+      let other : Branch K N = record { known = known; node = if_false; learned = None } in
+      record {
+        frontier =
+            frontier_opened store tree compared.in_scope old new other f opened (record { node = proper.1; asks = tt });
+        node = proper.0;
+        words = λ words ahead. elim ahead [
+          | inl inside ↦ inl (still_in_branch store tree compared.in_scope old new other f opened words inside)
+          | inr here ↦ elim here.1 [
+            | inl first ↦ inr (still words here.0, first)
+            | inr second ↦ inl (in_opened store tree compared.in_scope old new other f opened words here.0 tt second)
+          ]
+        ];
+        size = omega (arith, size_opened store tree compared.in_scope old new other f opened);
+        exact = λ all. absurd all.plain;
+      }
+
+  -- where a turn of a node leads
+  pub led : (here : Tree N) (from : N) (there : Tree N) (turn : Turn N BothEnds) (next : N)
+      → ((words : List ℕ) → store.allows old.facts (store.level old.facts) words → here.reaches from words
+      → GoesOn there (Tells compared) turn words)
+      → Costs there turn (here.size from)
+      → (here.is_plain from → StaysPlain there KnowsBoth turn)
+      → LeadsTo store compared tree old new there turn next
+      → GoesOver store compared tree old new here from there next
+  led here from there turn next leads costs plain to = record {
+    frontier = to.frontier;
+    node = to.node;
+    words = λ words ahead. elim ahead [
+      | inl inside ↦ inr (to.words words (inl inside))
+      | inr now ↦ inr (to.words words (inr (now.0, leads words now.0 now.1)))
+    ];
+    size = omega (arith, to.size, costs);
+    exact = λ all. to.exact (record {
+      branches = all.branches;
+      facts = all.facts;
+      plain = plain all.plain;
+      reached = λ words allowed. leads words allowed (all.reached words allowed);
+    });
+  }
+
+  -- where all is answered alike at an end, and the newest branch was taken
+  pub ended : (here : Tree N) (from : N) (there : Tree N) (next : N)
+      → ((words : List ℕ) → store.allows old.facts (store.level old.facts) words → here.reaches from words
+      → AnswerAlike compared words)
+      → 1 ≤ here.size from
+      → IsTaken store compared tree old new there next
+      → GoesOver store compared tree old new here from there next
+  ended here from there next alike costs taken = record {
+    frontier = taken.frontier;
+    node = taken.node;
+    words = λ words ahead. elim ahead [
+      | inl inside ↦ inr (taken.words words inside)
+      | inr now ↦ inl (alike words now.0 now.1)
+    ];
+    size = omega (arith, taken.size, costs);
+    exact = λ all. taken.exact all.branches;
+  }

@@ -1,0 +1,23 @@
+use Rattle.std.proofs.Common.{◌≡◌, ◌<◌, List, length, refl, sym, subst}
+use Rattle.std.proofs.lemmas.Option.{slice_get_within}
+use Rattle.scf_insn.specs.declared.insn.Insn.{Insn}
+use Rattle.scf_machine.specs.Plain.{IsPlainProgram}
+use Rattle.scf_compare.specs.internal.Filters.{filter_is_plain}
+use Rattle.scf_compare.specs.internal.Stacks.{filter_at}
+use Rattle.scf_compare.proofs.Stacks.{filter_is, plain_at}
+use Rattle.scf_compare.proofs.stack.FilterStackFilterTree.start.Goals as goal
+
+pub returns-in-Some-clause-plain : goal.returns-in-Some-clause-plain
+returns-in-Some-clause-plain c =
+    let filters = c.args.self.now in
+    let program = c.in-Some.program.now in
+    let known = c.start-node.result.0 in
+    let node = c.start-node.result.1 in
+    let inside : 0 < length filters = slice_get_within filters 0 program (sym c.in-Some.ensures.at) in
+    let here : program ≡ filter_at filters 0 = filter_is filters 0 program (sym c.in-Some.ensures.at) in
+    λ plain.
+    let first = subst IsPlainProgram (sym here) (plain_at filters 0 plain inside) in (
+      plain,
+      refl,
+      subst (λ (insns : List Insn). filter_is_plain insns known node) here (c.start-node.ensures.plain first),
+    )

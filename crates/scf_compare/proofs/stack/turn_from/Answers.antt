@@ -1,0 +1,152 @@
+-- The turns of the filter that is asked are turns of the stack, and where it ends the next one begins.
+use Rattle.std.proofs.Common.{◌≡◌, ◌+◌, ◌*◌, ◌<◌, ◌≤◌, ℕ, List, length, drop, inl, inr, sym, subst, ap, ◌∙◌, arith}
+use Rattle.std.specs.Prelude.{IfSome}
+use Rattle.std.proofs.lemmas.List.{take_all}
+use Rattle.std.proofs.Math.Nat.{mul-le-mul_left}
+use Rattle.scf_insn.specs.declared.insn.Insn.{Insn}
+use Rattle.scf_machine.specs.Precedence.{StackAnswers}
+use Rattle.scf_compare.specs.Effort.{stack_paths}
+use Rattle.scf_compare.specs.Paths.{tree_size}
+use Rattle.scf_compare.specs.internal.Filters.{filter_size}
+use Rattle.scf_compare.specs.internal.Laws.{scaled_costs, paths_count}
+use Rattle.scf_compare.specs.internal.Stacks.{filter_at}
+use Rattle.scf_compare.proofs.Stacks.{is_stack_place, paths_from, plain_at}
+use Rattle.scf_compare.proofs.stack.turn_from.Goals as goal
+
+pub filter_of-requires : goal.filter_of-requires
+filter_of-requires c = c.loop-next.invariant.node.0
+
+pub turn-requires : goal.turn-requires
+turn-requires c = rw c.filter_of.ensures c.loop-next.invariant.node.1
+
+pub returns-in-Go-clause-leads : goal.returns-in-Go-clause-leads
+returns-in-Go-clause-leads c =
+    let leads = rw c.filter_of.ensures at c.in-Go.ensures.leads in
+    λ words w r. let before = c.loop-next.invariant.reaches words w r in (before.0, leads words w before.1)
+
+pub returns-in-Go-clause-costs : goal.returns-in-Go-clause-costs
+returns-in-Go-clause-costs c =
+    let filters = c.args.stack.now in
+    let place = c.loop-next.place in
+    let size = filter_size (filter_at filters place) in
+    let behind = stack_paths (drop (place + 1) filters) in
+    let costs : size c.in-Go.next + 1 ≤ size c.loop-next.node = rw c.filter_of.ensures at c.in-Go.ensures.costs in
+    let alone : size c.in-Go.next + 0 + 1 ≤ size c.loop-next.node = omega (arith, costs) in
+    let scaled =
+    scaled_costs (size c.in-Go.next) 0 (size c.loop-next.node) behind alone
+    (paths_count (drop (place + 1) filters)) in
+    omega (arith, scaled, c.loop-next.invariant.size)
+
+pub returns-in-Go-clause-plain : goal.returns-in-Go-clause-plain
+returns-in-Go-clause-plain c =
+    let stays = rw c.filter_of.ensures at c.in-Go.ensures.plain in
+    λ plain. let before = c.loop-next.invariant.plain plain in (before.0, before.1, stays before.2)
+
+-- a turn's costs in the tree of a filter, with the newer filters behind each of its ends
+whole_costs : (filters : List (List Insn)) (place a b n whole : ℕ) → a + b + 1 ≤ n
+    → n * stack_paths (drop (place + 1) filters) ≤ whole
+    → a * stack_paths (drop (place + 1) filters) + b * stack_paths (drop (place + 1) filters) + 1 ≤ whole
+whole_costs filters place a b n whole costs most =
+    let behind = drop (place + 1) filters in
+    let scaled = scaled_costs a b n (stack_paths behind) costs (paths_count behind) in
+    omega arith
+
+pub returns-in-Ask-clause-leads : goal.returns-in-Ask-clause-leads
+returns-in-Ask-clause-leads c =
+    let leads = rw c.filter_of.ensures at c.in-Ask.ensures.leads in
+    λ words w r. let before = c.loop-next.invariant.reaches words w r in let on = leads words w before.1 in
+    (λ e. (before.0, on.0 e), λ e. (before.0, on.1 e))
+
+pub returns-in-Ask-clause-costs : goal.returns-in-Ask-clause-costs
+returns-in-Ask-clause-costs c =
+    let filters = c.args.stack.now in
+    let place = c.loop-next.place in
+    let size = filter_size (filter_at filters place) in
+    let costs : size c.in-Ask.if_true + size c.in-Ask.if_false + 1 ≤ size c.loop-next.node =
+    rw c.filter_of.ensures at c.in-Ask.ensures.costs in
+    whole_costs filters place (size c.in-Ask.if_true) (size c.in-Ask.if_false) (size c.loop-next.node) _ costs
+    c.loop-next.invariant.size
+
+pub returns-in-Ask-clause-plain : goal.returns-in-Ask-clause-plain
+returns-in-Ask-clause-plain c =
+    let stays = rw c.filter_of.ensures at c.in-Ask.ensures.plain in
+    λ plain. let before = c.loop-next.invariant.plain plain in let on = stays before.2 in
+    (on.0, (before.0, before.1, on.1), (before.0, before.1, on.2))
+
+pub returns-in-Fork-clause-leads : goal.returns-in-Fork-clause-leads
+returns-in-Fork-clause-leads c =
+    let leads = rw c.filter_of.ensures at c.in-Fork.ensures.leads in
+    λ words w r.
+    let before = c.loop-next.invariant.reaches words w r in
+    elim (leads words w before.1) [ inl first ↦ inl (before.0, first) | inr second ↦ inr (before.0, second) ]
+
+pub returns-in-Fork-clause-costs : goal.returns-in-Fork-clause-costs
+returns-in-Fork-clause-costs c =
+    let filters = c.args.stack.now in
+    let place = c.loop-next.place in
+    let size = filter_size (filter_at filters place) in
+    let costs : size c.in-Fork.if_true + size c.in-Fork.if_false + 1 ≤ size c.loop-next.node =
+    rw c.filter_of.ensures at c.in-Fork.ensures.costs in
+    whole_costs filters place (size c.in-Fork.if_true) (size c.in-Fork.if_false) (size c.loop-next.node) _ costs
+    c.loop-next.invariant.size
+
+pub returns-in-Fork-clause-plain : goal.returns-in-Fork-clause-plain
+returns-in-Fork-clause-plain c =
+    let stays = rw c.filter_of.ensures at c.in-Fork.ensures.plain in
+    λ plain. absurd (stays (c.loop-next.invariant.plain plain).2)
+
+pub returns-then-place-count-clause-proper : goal.returns-then-place-count-clause-proper
+returns-then-place-count-clause-proper c =
+    let proper = rw c.filter_of.ensures at c.in-End.ensures.proper in
+    is_stack_place c.args.stack.now c.loop-next.place c.in-End.end.at c.loop-next.invariant.node.0 proper
+
+pub returns-then-place-count-clause-leads : goal.returns-then-place-count-clause-leads
+returns-then-place-count-clause-leads c =
+    let filters = c.args.stack.now in
+    let place = c.loop-next.place in
+    let leads = rw c.filter_of.ensures at c.in-End.ensures.leads in
+    let past : length filters ≤ place + 1 = omega (arith, c.if-place-count.true, c.len-count.ensures) in
+    λ words w r.
+    let before = c.loop-next.invariant.reaches words w r in
+    let decided =
+    c.decided_with-older.ensures.decides filters place words c.loop-next.invariant.node.0 before.0
+    (leads words w before.1) in
+    subst (λ (all : List (List Insn)). IfSome c.decided_with-older.result (λ answer. StackAnswers all words answer.0))
+    (take_all (place + 1) filters past) decided
+
+pub loop-next-preserved : goal.loop-next-preserved
+loop-next-preserved c =
+    let filters = c.args.stack.now in
+    let place = c.loop-next.place in
+    let size = filter_size (filter_at filters place) in
+    let inside : place + 1 < length filters =
+    omega (arith, c.loop-next.invariant.node.0, c.if-place-count.false, c.len-count.ensures) in
+    let leads = rw c.filter_of.ensures at c.in-End.ensures.leads in
+    let costs : 1 ≤ size c.loop-next.node = rw c.filter_of.ensures at c.in-End.ensures.costs in
+    let stays = rw c.filter_of.ensures at c.in-End.ensures.plain in
+    let is_node = rw c.filter_of-in-End.ensures at c.start-start.ensures.node in
+    let reached = rw c.filter_of-in-End.ensures at c.start-start.ensures.reached in
+    let start_size : filter_size (filter_at filters (place + 1)) c.start-start.result.1
+    ≡ tree_size (filter_at filters (place + 1)) 0 = rw c.filter_of-in-End.ensures at c.start-start.ensures.size in
+    let start_plain = rw c.filter_of-in-End.ensures at c.start-start.ensures.plain in
+    let behind = stack_paths (drop (place + 1 + 1) filters) in
+    let newer = stack_paths (drop (place + 1) filters) in
+    let whole : filter_size (filter_at filters (place + 1)) c.start-start.result.1 * behind ≡ newer =
+    ap (λ n. n * behind) start_size ∙ sym (paths_from filters (place + 1) inside) in
+    let most : newer * 1 ≤ newer * size c.loop-next.node = mul-le-mul_left newer costs in
+    record {
+      node = (inside, is_node);
+      reaches = λ words w r.
+          let before = c.loop-next.invariant.reaches words w r in (
+            c.decided_with-older.ensures.decides filters place words c.loop-next.invariant.node.0 before.0
+                (leads words w before.1),
+            reached words w,
+          );
+      size = omega (arith, whole, most, c.loop-next.invariant.size);
+      plain = λ plain.
+          let before = c.loop-next.invariant.plain plain in (
+            before.0,
+            c.decided_with-older.ensures.known before.1 (stays before.2),
+            start_plain (plain_at filters (place + 1) before.0 inside),
+          );
+    }

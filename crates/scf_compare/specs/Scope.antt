@@ -1,0 +1,24 @@
+-- Which call records are compared.
+use Rattle.std.specs.Prelude.{◌≡◌, ℕ, List}
+use Rattle.scf_insn.specs.declared.record.CallRecord.{CallRecord}
+use Rattle.scf_insn.specs.Kernel.{audit_arch_x86_64}
+use Rattle.scf_insn.specs.Words.{IsRecord}
+use Rattle.scf_profile.specs.Profile.{Profile, IsNative}
+use Rattle.scf_profile.specs.SameAnswers.{AnswersAlike}
+use Rattle.scf_compare.specs.declared.scope.Scope.{Scope}
+use Rattle.scf_compare.specs.declared.scope.Scope.TheVariants.{All, Native, Call}
+
+-- a call of x86-64 (AUDIT_ARCH_X86_64) with this number
+pub record IsCallOf (number : ℕ) (call : CallRecord) : Type 0 where
+  pub arch : call.arch ≡ audit_arch_x86_64
+  pub nr : call.nr ≡ number
+
+-- every record, those of x86-64 with a number that x32 calls don't have, or those of x86-64 with one number
+abbrev pub IsInScope : Scope → CallRecord → Type 0
+IsInScope All call = Unit {0}
+IsInScope Native call = IsNative call
+IsInScope (Call number) call = IsCallOf number call
+
+-- every call record of the scope is answered alike
+abbrev pub SameAnswersIn : Scope → (List ℕ → ℕ → Type 0) → Profile → Type 0
+SameAnswersIn scope answers p = (call : CallRecord) → IsRecord call → IsInScope scope call → AnswersAlike answers p call

@@ -1,0 +1,15 @@
+pub mod Compared
+pub mod Conditions
+pub mod Ends
+pub mod Filters
+pub mod Flow
+pub mod Frontier
+pub mod Laws
+pub mod Numbers
+pub mod Pairs
+pub mod Profiles
+pub mod Scopes
+pub mod Stacks
+pub mod Stages
+pub mod Trees
+pub mod Values

@@ -1,0 +1,57 @@
+-- A filter as a tree of questions.
+use Rattle.std.specs.Prelude.{◌≡◌, ◌<◌, ℕ, List, length, if◌then◌else◌}
+use Rattle.scf_insn.specs.declared.insn.Insn.{Insn}
+use Rattle.scf_machine.specs.Machine.{State, start, IsChain, RunAnswers}
+use Rattle.scf_machine.specs.Plain.{IsPlainProgram}
+use Rattle.scf_compare.specs.declared.comparison.FilterEnd.{FilterEnd}
+use Rattle.scf_compare.specs.declared.filter.FilterNode.{FilterNode}
+use Rattle.scf_compare.specs.declared.filter.FilterNode.TheVariants.{At, Stopped}
+use Rattle.scf_compare.specs.declared.registers.Registers.{Registers}
+use Rattle.scf_compare.specs.declared.turn.Turn.{Turn}
+use Rattle.scf_compare.specs.declared.turn.Turn.TheVariants.{Go, Ask, Fork}
+use Rattle.scf_compare.specs.declared.value.Decision.{Decision}
+use Rattle.scf_compare.specs.declared.value.Decision.TheVariants.{Known as Decided, Asks, Open}
+use Rattle.scf_compare.specs.Paths.{tree_size}
+use Rattle.scf_compare.specs.internal.Trees.{Tree}
+use Rattle.scf_compare.specs.internal.Values.{AreValues, IsPlainValue, Describes}
+
+-- The run over the words comes to a place with registers that the values stand for.
+pub record ComesTo (insns : List Insn) (place : ℕ) (registers : Registers) (words : List ℕ) : Type 0 where
+  pub state : State
+  pub earlier : List State
+  pub chain : IsChain insns words start state earlier
+  pub there : state.place ≡ place
+  pub describes : Describes registers words state
+
+abbrev pub filter_is_node : List Insn → Registers → FilterNode → Type 0
+filter_is_node insns registers (At place) = (place < length insns) × AreValues registers
+filter_is_node insns registers (Stopped answer at) = at < length insns
+
+abbrev pub filter_reaches : List Insn → Registers → FilterNode → List ℕ → Type 0
+filter_reaches insns registers (At place) words = ComesTo insns place registers words
+filter_reaches insns registers (Stopped answer at) words = RunAnswers insns words answer.0
+
+abbrev pub filter_size : List Insn → FilterNode → ℕ
+filter_size insns (At place) = tree_size insns place
+filter_size insns (Stopped answer at) = 1
+
+-- a plain program has a plain value in its accumulator, and divides nothing
+abbrev pub filter_is_plain : List Insn → Registers → FilterNode → Type 0
+filter_is_plain insns registers (At place) = IsPlainProgram insns × IsPlainValue registers.a
+filter_is_plain insns registers (Stopped answer at) = ⊥
+
+-- the tree, for what is known of the registers at its nodes
+abbrev pub filter_tree : List Insn → Registers → Tree FilterNode
+filter_tree insns registers = record {
+  is_node = filter_is_node insns registers;
+  reaches = filter_reaches insns registers;
+  size = filter_size insns;
+  is_plain = filter_is_plain insns registers;
+}
+
+-- the ways on from a test
+abbrev pub IsTurnOf : Decision → FilterNode → FilterNode → Turn FilterNode FilterEnd → Type 0
+IsTurnOf (Decided outcome) if_true if_false turn = turn ≡ Go (if outcome then if_true else if_false)
+IsTurnOf (Asks atom holds) if_true if_false turn =
+    turn ≡ (if holds then Ask atom if_true if_false else Ask atom if_false if_true)
+IsTurnOf Open if_true if_false turn = turn ≡ Fork if_true if_false

@@ -1,0 +1,103 @@
+-- Laws that the trees are given with.
+use Rattle.std.specs.Prelude.{◌+◌, ◌*◌, ◌<◌, ◌≤◌, ℕ, List, [], ◌∷◌, Option, None, Some, slice_get, drop}
+use Rattle.std.proofs.Common.{zero, suc, arith}
+use Rattle.std.proofs.Math.Nat.{mul-le-mul_left}
+use Rattle.scf_insn.specs.declared.insn.Insn.{Insn}
+use Rattle.scf_insn.specs.declared.operation.Operand.TheVariants.{Index}
+use Rattle.scf_insn.specs.declared.operation.Arithmetic.TheVariants.{Div}
+use Rattle.scf_insn.specs.declared.operation.Operation.{Operation}
+use Rattle.scf_insn.specs.declared.operation.Operation.TheVariants.{Compute, Jump as Jumps, JumpIf, ReturnConstant as ReturnsConstant, ReturnAccumulator as ReturnsAccumulator}
+use Rattle.scf_insn.specs.Codes.{operation_of}
+use Rattle.scf_compare.specs.declared.filter.FilterNode.{FilterNode}
+use Rattle.scf_compare.specs.declared.filter.FilterNode.TheVariants.{At, Stopped}
+use Rattle.scf_compare.specs.declared.pair.PairNode.{PairNode}
+use Rattle.scf_compare.specs.declared.pair.PairNode.TheVariants.{AtFilter, AtProfile}
+use Rattle.scf_compare.specs.declared.registers.Registers.{Registers}
+use Rattle.scf_compare.specs.declared.stack.StackNode.{StackNode}
+use Rattle.scf_compare.specs.declared.stack.StackNode.TheVariants.{Empty, At as InStack}
+use Rattle.scf_compare.specs.internal.Stacks.{filter_at, stack_tree}
+use Rattle.scf_compare.specs.declared.profile.ProfileNode.{ProfileNode}
+use Rattle.scf_compare.specs.declared.profile.ProfileNode.TheVariants.{Architecture, Range, Number, Condition as OfCondition, Answer as Answers}
+use Rattle.scf_compare.specs.declared.question.Part.{Part}
+use Rattle.scf_compare.specs.declared.question.Part.TheVariants.{High, Above, Low}
+use Rattle.scf_profile.specs.declared.rule.Rule.{Rule}
+use Rattle.scf_profile.specs.Profile.{Profile}
+use Rattle.scf_compare.specs.internal.Conditions.{part_size}
+use Rattle.scf_compare.specs.Effort.{spread, stack_paths}
+use Rattle.scf_compare.specs.internal.Profiles.{profile_tree, condition_size}
+use Rattle.scf_compare.specs.internal.Filters.{filter_size, filter_tree}
+use Rattle.scf_compare.specs.Paths.{size_of_insn, tree_sizes, tree_size}
+use Rattle.scf_compare.specs.internal.Pairs.{size_in_pair}
+
+-- one node and two trees behind it, with the same tree at each of their ends
+pub scaled_costs : (a b n scale : ℕ) → a + b + 1 ≤ n → 0 < scale → a * scale + b * scale + 1 ≤ n * scale
+scaled_costs a b n scale h s =
+    let all : scale * (a + b + 1) ≤ scale * n = mul-le-mul_left scale h in
+    omega arith
+
+pub scaled_counts : (a scale : ℕ) → 0 < a → 0 < scale → 0 < a * scale
+scaled_counts a scale h s =
+    let all : scale * 1 ≤ scale * a = mul-le-mul_left scale h in
+    omega arith
+
+-- each node of a pair counts
+pub pair_counts : {M N : Type 0} (filter : M → ℕ) (profile : N → ℕ) (whole : ℕ) → ((node : M) → 0 < filter node)
+    → ((node : N) → 0 < profile node) → 0 < whole → (node : PairNode M N) → 0 < size_in_pair filter profile whole node
+pair_counts filter profile whole f p w (AtFilter node) = scaled_counts (filter node) whole (f node) w
+pair_counts filter profile whole f p w (AtProfile end node) = p node
+
+insn_counts : (operation : Option Operation) (i : Insn) (later : List ℕ) → 0 < size_of_insn operation i later
+insn_counts (Some Jumps) i later = omega arith
+insn_counts (Some (JumpIf test operand)) i later = omega arith
+insn_counts (Some (Compute Div Index)) i later = omega arith
+insn_counts (Some ReturnsConstant) i later = omega arith
+insn_counts (Some ReturnsAccumulator) i later = omega arith
+insn_counts operation i later = omega arith
+
+place_counts : (insns : List Insn) (place : ℕ) → 0 < tree_size insns place
+unfolding tree_sizes
+place_counts [] place = omega arith
+place_counts (i ∷ insns) zero = insn_counts (operation_of i.code) i (tree_sizes insns)
+place_counts (i ∷ insns) (suc place) = place_counts insns place
+
+-- each node of a filter's tree counts
+pub node_counts : (insns : List Insn) (registers : Registers) (node : FilterNode)
+    → 0 < (filter_tree insns registers).size node
+node_counts insns registers (At place) = place_counts insns place
+node_counts insns registers (Stopped answer at) = omega arith
+
+pub paths_count : (filters : List (List Insn)) → 0 < stack_paths filters
+paths_count [] = omega arith
+paths_count (filter ∷ filters) =
+    scaled_counts (tree_size filter 0) (stack_paths filters) (place_counts filter 0) (paths_count filters)
+
+-- each node of a stack's tree counts
+pub stack_node_counts : (filters : List (List Insn)) (registers : Registers) (node : StackNode)
+    → 0 < (stack_tree filters registers).size node
+stack_node_counts filters registers Empty = omega arith
+stack_node_counts filters registers (InStack place older node) =
+    let here = filter_at filters place in
+    let behind = drop (place + 1) filters in
+    scaled_counts (filter_size here node) (stack_paths behind) (node_counts here registers node) (paths_count behind)
+
+part_counts : (part : Part) (holds fails : ℕ) → 0 < part_size part holds fails
+part_counts High holds fails = omega arith
+part_counts Above holds fails = omega arith
+part_counts Low holds fails = omega arith
+
+condition_counts : (rules : List Rule) (place index : ℕ) (part : Part) (found : Option Rule)
+    → 0 < condition_size rules place index part found
+condition_counts rules place index part None = omega arith
+condition_counts rules place index part (Some rule) = part_counts part _ _
+
+-- each node of a profile's tree counts
+pub profile_node_counts : (p : Profile) (node : ProfileNode) → 0 < (profile_tree p).size node
+profile_node_counts p Architecture = omega arith
+profile_node_counts p Range = omega arith
+profile_node_counts p (Number place) = omega arith
+profile_node_counts p (OfCondition place index part) =
+    condition_counts p.rules place index part (slice_get p.rules place)
+profile_node_counts p (Answers answer) = omega arith
+
+pub spread_counts : (rules : List Rule) → 0 < spread rules
+spread_counts rules = omega arith

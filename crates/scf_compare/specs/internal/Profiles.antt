@@ -1,0 +1,94 @@
+-- A profile as a tree of questions.
+use Rattle.std.specs.Prelude.{◌≡◌, ◌≢◌, ◌+◌, ℕ, List, true, false, All, Option, None, Some, take, drop, slice_get, sum_by}
+use Rattle.scf_insn.specs.declared.answer.Answer.{Answer}
+use Rattle.scf_insn.specs.declared.record.CallRecord.{CallRecord}
+use Rattle.scf_insn.specs.Kernel.{audit_arch_x86_64}
+use Rattle.scf_insn.specs.Words.{call_of, argument}
+use Rattle.scf_profile.specs.declared.condition.Condition.{Condition}
+use Rattle.scf_profile.specs.declared.rule.Rule.{Rule}
+use Rattle.scf_profile.specs.Rule.{all_hold, meets}
+use Rattle.scf_profile.specs.Profile.{Profile, IsNative}
+use Rattle.scf_profile.specs.PlainProfile.{IsPlainProfile}
+use Rattle.scf_profile.specs.ProfileAnswers.{ProfileAnswers}
+use Rattle.scf_profile.specs.RulesByNumber.{numbers_of, rules_of}
+use Rattle.scf_compare.specs.declared.profile.ProfileNode.{ProfileNode}
+use Rattle.scf_compare.specs.declared.profile.ProfileNode.TheVariants.{Architecture, Range, Number, Condition as OfCondition, Answer as Answers}
+use Rattle.scf_compare.specs.declared.question.Part.{Part}
+use Rattle.scf_compare.specs.internal.Conditions.{IsAtPart, part_size}
+use Rattle.scf_compare.specs.Effort.{conditions_size, rules_size, number_size}
+use Rattle.scf_compare.specs.internal.Trees.{Tree}
+
+abbrev pub profile_with : Answer → List Rule → Profile
+profile_with default_answer rules = record { default_answer = default_answer; rules = rules }
+
+-- A rule stands at a place of rules, and a condition at a place of its conditions.
+pub record StandsAt (rules : List Rule) (place : ℕ) (index : ℕ) (rule : Rule) (condition : Condition) : Type 0 where
+  pub rule_here : slice_get rules place ≡ Some rule
+  pub condition_here : slice_get rule.conditions index ≡ Some condition
+
+-- A native call has a rule's number, meets no rule before it, and the rule's conditions before one hold of it.
+pub record IsAtCondition (rules : List Rule) (place : ℕ) (index : ℕ) (rule : Rule) (call : CallRecord) : Type 0 where
+  pub native : IsNative call
+  pub number : call.nr ≡ rule.number
+  pub unmet : All (λ earlier. meets earlier call ≡ false) (take place rules)
+  pub held : all_hold call (take index rule.conditions) ≡ true
+
+-- the size of what is asked once a rule failed
+abbrev pub size_behind : List Rule → ℕ → Rule → ℕ
+size_behind rules place rule = rules_size (rules_of rule.number (drop (place + 1) rules))
+
+-- the size of what is asked once a condition of a rule holds
+abbrev pub size_of_rest : List Rule → ℕ → ℕ → Rule → ℕ
+size_of_rest rules place index rule = conditions_size (drop (index + 1) rule.conditions) (size_behind rules place rule)
+
+-- the size of what is asked at a rule
+abbrev pub size_of_rule : List Rule → ℕ → Rule → ℕ
+size_of_rule rules place rule = conditions_size rule.conditions (size_behind rules place rule)
+
+abbrev pub condition_size : List Rule → ℕ → ℕ → Part → Option Rule → ℕ
+condition_size rules place index part None = 1
+condition_size rules place index part (Some rule) =
+    part_size part (size_of_rest rules place index rule) (size_behind rules place rule)
+
+-- what is known of a call when a part of a condition of a rule is asked
+abbrev pub KnowsPart : CallRecord → Part → Option Condition → Type 0
+KnowsPart call part None = ⊥
+KnowsPart call part (Some condition) = IsAtPart condition part (argument call condition.index)
+
+abbrev pub KnowsRule : List Rule → ℕ → ℕ → CallRecord → Part → Option Rule → Type 0
+KnowsRule rules place index call part None = ⊥
+KnowsRule rules place index call part (Some rule) =
+    IsAtCondition rules place index rule call × KnowsPart call part (slice_get rule.conditions index)
+
+abbrev pub profile_is_node : Profile → ProfileNode → Type 0
+profile_is_node p Architecture = Unit {0}
+profile_is_node p Range = Unit {0}
+profile_is_node p (Number place) = Unit {0}
+profile_is_node p (OfCondition place index part) =
+    (rule : Rule) × (condition : Condition) × StandsAt p.rules place index rule condition
+profile_is_node p (Answers answer) = Unit {0}
+
+abbrev pub profile_reaches : Profile → ProfileNode → List ℕ → Type 0
+profile_reaches p Architecture words = Unit {0}
+profile_reaches p Range words = (call_of words).arch ≡ audit_arch_x86_64
+profile_reaches p (Number place) words =
+    IsNative (call_of words) × All (λ number. (call_of words).nr ≢ number) (take place (numbers_of p.rules))
+profile_reaches p (OfCondition place index part) words =
+    KnowsRule p.rules place index (call_of words) part (slice_get p.rules place)
+profile_reaches p (Answers answer) words = ProfileAnswers p (call_of words) answer.0
+
+abbrev pub profile_size : Profile → ProfileNode → ℕ
+profile_size p Architecture = 5 + sum_by (number_size p.rules) (numbers_of p.rules)
+profile_size p Range = 3 + sum_by (number_size p.rules) (numbers_of p.rules)
+profile_size p (Number place) = 1 + sum_by (number_size p.rules) (drop place (numbers_of p.rules))
+profile_size p (OfCondition place index part) = condition_size p.rules place index part (slice_get p.rules place)
+profile_size p (Answers answer) = 1
+
+-- all of a plain profile's nodes are plain
+abbrev pub profile_tree : Profile → Tree ProfileNode
+profile_tree p = record {
+  is_node = profile_is_node p;
+  reaches = profile_reaches p;
+  size = profile_size p;
+  is_plain = λ _. IsPlainProfile p;
+}

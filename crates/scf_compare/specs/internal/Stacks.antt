@@ -1,0 +1,47 @@
+-- A stack of filters as a tree of questions: the filters are asked one after another, the oldest first.
+use Rattle.std.specs.Prelude.{◌≡◌, ◌+◌, ◌*◌, ◌<◌, ℕ, List, [], All, IfSome, IsSome, length, take, drop, slice_index_or}
+use Rattle.scf_insn.specs.declared.insn.Insn.{Insn}
+use Rattle.scf_machine.specs.Plain.{IsPlainProgram}
+use Rattle.scf_machine.specs.Precedence.{StackAnswers}
+use Rattle.scf_compare.specs.declared.registers.Registers.{Registers}
+use Rattle.scf_compare.specs.declared.stack.StackNode.{StackNode}
+use Rattle.scf_compare.specs.declared.stack.StackNode.TheVariants.{Empty, At}
+use Rattle.scf_compare.specs.Effort.{stack_paths}
+use Rattle.scf_compare.specs.internal.Filters.{filter_is_node, filter_reaches, filter_size, filter_is_plain}
+use Rattle.scf_compare.specs.internal.Trees.{Tree}
+
+-- the filter at a place of a stack
+abbrev pub filter_at : List (List Insn) → ℕ → List Insn
+filter_at filters place = slice_index_or filters place []
+
+abbrev pub stack_is_node : List (List Insn) → Registers → StackNode → Type 0
+stack_is_node filters registers Empty = filters ≡ []
+stack_is_node filters registers (At place older node) =
+    (place < length filters) × filter_is_node (filter_at filters place) registers node
+
+-- the older filters decide so, where that is known, and the words come to the node of the filter
+abbrev pub stack_reaches : List (List Insn) → Registers → StackNode → List ℕ → Type 0
+stack_reaches filters registers Empty words = Unit {0}
+stack_reaches filters registers (At place older node) words =
+    IfSome older (λ answer. StackAnswers (take place filters) words answer.0)
+    × filter_reaches (filter_at filters place) registers node words
+
+-- the newer filters stand whole behind each end of a filter
+abbrev pub stack_size : List (List Insn) → StackNode → ℕ
+stack_size filters Empty = 1
+stack_size filters (At place older node) =
+    filter_size (filter_at filters place) node * stack_paths (drop (place + 1) filters)
+
+abbrev pub stack_is_plain : List (List Insn) → Registers → StackNode → Type 0
+stack_is_plain filters registers Empty = Unit {0}
+stack_is_plain filters registers (At place older node) =
+    All IsPlainProgram filters × IsSome older × filter_is_plain (filter_at filters place) registers node
+
+-- the tree, for what is known of the registers at its nodes
+abbrev pub stack_tree : List (List Insn) → Registers → Tree StackNode
+stack_tree filters registers = record {
+  is_node = stack_is_node filters registers;
+  reaches = stack_reaches filters registers;
+  size = stack_size filters;
+  is_plain = stack_is_plain filters registers;
+}

@@ -1,0 +1,60 @@
+-- From one stage of an exploration to the next.
+use Rattle.std.specs.Prelude.{◌≡◌, ◌+◌, ◌≤◌, ◌⊎◌, ℕ, List}
+use Rattle.scf_facts.specs.declared.word_facts.WordFacts.{Ghosts as Store}
+use Rattle.scf_compare.specs.declared.comparison.BothEnds.{BothEnds}
+use Rattle.scf_compare.specs.declared.explore.Stage.{Stage}
+use Rattle.scf_compare.specs.declared.explore.Stage.TheVariants.{At, AllSeen, Found}
+use Rattle.scf_compare.specs.declared.frontier.Frontier.{Frontier}
+use Rattle.scf_compare.specs.declared.turn.Turn.{Turn}
+use Rattle.scf_compare.specs.declared.verdict.Verdict.{Verdict}
+use Rattle.scf_compare.specs.Verdicts.{IsWithin, IsDecided}
+use Rattle.scf_compare.specs.internal.Compared.{Compared, AnswerAlike, AllAlike, IsTrueVerdict}
+use Rattle.scf_compare.specs.internal.Ends.{Tells, KnowsBoth}
+use Rattle.scf_compare.specs.internal.Frontier.{IsInBranch, IsAhead, IsFrontier, AreExact, IsExact, open_size}
+use Rattle.scf_compare.specs.internal.Trees.{Tree, GoesOn, StaysPlain, turn_size}
+
+-- The tree at a node is the one for what is known there.
+module _ {F K N : Type 0} (store : Store F) (compared : Compared) (tree : K → Tree N) (old new : Frontier F K N) where
+  -- A turn at one frontier leads to a node at another: no words are lost, no steps are added, and what exact facts
+  -- decide they still decide.
+  pub record LeadsTo (here : Tree N) (turn : Turn N BothEnds) (next : N) : Type 0 where
+    pub frontier : IsFrontier store tree compared.in_scope new
+    pub node : here.is_node next
+    pub words : (words : List ℕ) → IsAhead store tree old (GoesOn here (Tells compared) turn) words
+        → IsAhead store tree new (here.reaches next) words
+    pub size : open_size tree new + here.size next ≤ open_size tree old + turn_size here turn
+    pub exact : IsExact store tree old (StaysPlain here KnowsBoth turn) (GoesOn here (Tells compared) turn)
+        → IsExact store tree new (here.is_plain next) (here.reaches next)
+
+  -- The newest branch was taken, and the exploration is at its node: the words of all branches are still ahead.
+  pub record IsTaken (there : Tree N) (next : N) : Type 0 where
+    pub frontier : IsFrontier store tree compared.in_scope new
+    pub node : there.is_node next
+    pub words : (words : List ℕ) → IsInBranch store tree old words → IsAhead store tree new (there.reaches next) words
+    pub size : open_size tree new + there.size next ≡ open_size tree old
+    pub exact : AreExact store tree old → IsExact store tree new (there.is_plain next) (there.reaches next)
+
+  -- A step goes over from a node to another: the words that were ahead still are, or are answered alike; at least one
+  -- step fewer is left; and what exact facts decide they still decide.
+  pub record GoesOver (here : Tree N) (from : N) (there : Tree N) (next : N) : Type 0 where
+    pub frontier : IsFrontier store tree compared.in_scope new
+    pub node : there.is_node next
+    pub words : (words : List ℕ) → IsAhead store tree old (here.reaches from) words
+        → AnswerAlike compared words ⊎ IsAhead store tree new (there.reaches next) words
+    pub size : open_size tree new + there.size next + 1 ≤ open_size tree old + here.size from
+    pub exact : IsExact store tree old (here.is_plain from) (here.reaches from)
+        → IsExact store tree new (there.is_plain next) (there.reaches next)
+
+  -- A verdict that was found at a node is true, is neither Same nor Unfinished, and decides where exact facts do.
+  pub record IsFound (here : Tree N) (node : N) (verdict : Verdict) : Type 0 where
+    pub holds : IsTrueVerdict compared verdict
+    pub within : (limit effort : ℕ) → IsWithin limit effort verdict
+    pub decided : IsExact store tree old (here.is_plain node) (here.reaches node)
+        → (limit effort : ℕ) → IsDecided (AllAlike compared) limit effort verdict
+
+  -- what a stage says that comes after a node
+  abbrev pub IsStageAfter : Tree N → N → Tree N → Stage N → Type 0
+  IsStageAfter here node there (At next) = GoesOver here node there next
+  IsStageAfter here node there AllSeen =
+      (words : List ℕ) → IsAhead store tree old (here.reaches node) words → AnswerAlike compared words
+  IsStageAfter here node there (Found verdict) = IsFound here node verdict

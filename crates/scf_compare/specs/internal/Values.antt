@@ -1,0 +1,58 @@
+-- What is known of the numbers that a filter computes from the words of a record.
+use Rattle.std.specs.Prelude.{◌≡◌, ◌<◌, ◌↔◌, ℕ, List, Bool, true, Some, All, slice_index, slice_index_or, bit_and, ◌-◌, ◌^◌}
+use Rattle.scf_facts.specs.Atoms.{atom_answer, word_of}
+use Rattle.scf_machine.specs.Machine.{State, word_at}
+use Rattle.scf_compare.specs.declared.value.Value.{Value}
+use Rattle.scf_compare.specs.declared.value.Value.TheVariants.{Known, Masked, Unknown}
+use Rattle.scf_compare.specs.declared.value.Decision.{Decision}
+use Rattle.scf_compare.specs.declared.value.Decision.TheVariants.{Known as Decided, Asks, Open}
+use Rattle.scf_compare.specs.declared.registers.Registers.{Registers}
+use Rattle.scf_compare.specs.internal.Trees.{KeepsEither}
+
+-- a value is of one of the sixteen words
+abbrev pub IsValue : Value → Type 0
+IsValue (Known value) = Unit {0}
+IsValue (Masked word mask) = word < 16
+IsValue Unknown = Unit {0}
+
+-- over the words a value stands for a number
+abbrev pub StandsFor : Value → List ℕ → ℕ → Type 0
+StandsFor (Known value) words x = x ≡ value
+StandsFor (Masked word mask) words x = x ≡ bit_and (slice_index words word) mask
+StandsFor Unknown words x = Unit {0}
+
+-- a decision asks of one of the sixteen words
+abbrev pub IsDecision : Decision → Type 0
+IsDecision (Decided outcome) = Unit {0}
+IsDecision (Asks atom holds) = word_of atom < 16
+IsDecision Open = Unit {0}
+
+-- over the words a decision tells the outcome of a test
+abbrev pub Decides : Decision → List ℕ → Bool → Type 0
+Decides (Decided outcome) words test = test ≡ outcome
+Decides (Asks atom holds) words test = (test ≡ true) ↔ (atom_answer atom words ≡ holds)
+Decides Open words test = Unit {0}
+
+-- a known number, or a whole word of the record
+abbrev pub IsPlainValue : Value → Type 0
+IsPlainValue (Known value) = Unit {0}
+IsPlainValue (Masked word mask) = mask ≡ 2 ^ 32 - 1
+IsPlainValue Unknown = ⊥
+
+-- a decision that isn't left open, and that keeps exact facts exact
+abbrev pub IsPlainDecision : Decision → Type 0
+IsPlainDecision (Decided outcome) = Unit {0}
+IsPlainDecision (Asks atom holds) = KeepsEither atom
+IsPlainDecision Open = ⊥
+
+pub record AreValues (registers : Registers) : Type 0 where
+  pub a : IsValue registers.a
+  pub x : IsValue registers.x
+  pub scratch : All IsValue registers.scratch
+
+-- Over the words the values stand for the registers of a state, and for the scratch words that were stored.
+pub record Describes (registers : Registers) (words : List ℕ) (s : State) : Type 0 where
+  pub a : StandsFor registers.a words s.a
+  pub x : StandsFor registers.x words s.x
+  pub scratch : (n value : ℕ) (past : Value) → n < 16 → word_at s.scratch n ≡ Some value
+      → StandsFor (slice_index_or registers.scratch n past) words value

@@ -1,0 +1,66 @@
+//! Which calls are compared.
+
+ghost use Rattle.std.specs.Prelude.{◌≡◌, ◌↔◌, ℕ, List, IsTrue, IfOk};
+ghost use Rattle.scf_compare.specs.internal.Scopes.{AreWordsOf, AreWordsOfX86_64};
+
+use scf_facts::{Atom, WordFacts};
+use scf_insn::Memory;
+use scf_insn::kernel::{AUDIT_ARCH_X86_64, X32_SYSCALL_BIT};
+use std::alloc::Global;
+
+/// Which calls are compared.
+#[derive(Clone, Copy, Debug, PartialEq, Eq)]
+pub enum Scope {
+    /// Every call record.
+    All,
+    /// Those of x86-64 with a number that x32 calls don't have.
+    Native,
+    /// Those of x86-64 with this number.
+    Call(u32),
+}
+
+/// Facts that allow the words of the calls that are compared.
+pub(crate) fn facts_of<F: WordFacts>(alloc: Global, scope: Scope) -> Result<F, Memory>
+    ensures unmarked { IfOk result (λ facts. F.level facts ≡ 0) }
+    ensures scope { IfOk result (λ facts. (words : List ℕ) → F.allows facts 0 words ↔ AreWordsOf scope words) }
+    ensures exact { IfOk result (λ facts. IsTrue F.starts_exact → IsTrue (F.is_exact facts 0)) }
+{
+    match scope {
+        Scope::All => F::all(alloc),
+        Scope::Native => {
+            let is_foreign = Atom::Ge {
+                word: 0,
+                value: X32_SYSCALL_BIT,
+            };
+            let mut native: F = facts_of_x86_64(alloc)?;
+            native.learn(is_foreign, false)?;
+            Ok(native)
+        }
+        Scope::Call(number) => {
+            let is_number = Atom::Eq {
+                word: 0,
+                mask: u32::MAX,
+                value: number,
+            };
+            let mut of_call: F = facts_of_x86_64(alloc)?;
+            of_call.learn(is_number, true)?;
+            Ok(of_call)
+        }
+    }
+}
+
+/// Facts that allow the words of the calls of x86-64.
+fn facts_of_x86_64<F: WordFacts>(alloc: Global) -> Result<F, Memory>
+    ensures unmarked { IfOk result (λ facts. F.level facts ≡ 0) }
+    ensures scope { IfOk result (λ facts. (words : List ℕ) → F.allows facts 0 words ↔ AreWordsOfX86_64 words) }
+    ensures exact { IfOk result (λ facts. IsTrue F.starts_exact → IsTrue (F.is_exact facts 0)) }
+{
+    let is_x86_64 = Atom::Eq {
+        word: 1,
+        mask: u32::MAX,
+        value: AUDIT_ARCH_X86_64,
+    };
+    let mut facts = F::all(alloc)?;
+    facts.learn(is_x86_64, true)?;
+    Ok(facts)
+}
