@@ -13,10 +13,12 @@ use Rattle.scf_tool.proofs.HeaderLemmas.{same_header, header_some}
 -- ---- one part
 
 pub part_some : (o : ℕ) (p : Part) (a : List ℕ) → IsPart o p a → 0 < length a
-part_some o p a h = let some = header_some h.header p.kind (length h.content) h.is_header in rw (h.whole, length-append) (omega (arith, some))
+part_some o p a h = let some = header_some h.header p.kind (length h.content) h.is_header in rw
+    (h.whole, length-append) (omega (arith, some))
 
 same_front : (a b r s : List ℕ) → length a ≡ length b → a ++ r ≡ b ++ s → a ≡ b
-same_front a b r s long e = sym (take-append_seam a r) ∙ ap (λ (n : ℕ). take n (a ++ r)) long ∙ ap (λ (xs : List ℕ). take (length b) xs) e ∙ take-append_seam b s
+same_front a b r s long e = sym (take-append_seam a r) ∙ ap (λ (n : ℕ). take n (a ++ r)) long
+    ∙ ap (λ (xs : List ℕ). take (length b) xs) e ∙ take-append_seam b s
 
 same_fields : (p q : Part) → p.kind ≡ q.kind → p.start ≡ q.start → p.length ≡ q.length → p ≡ q
 same_fields p q k s l =
@@ -29,16 +31,22 @@ pub record SamePart (p q : Part) (a b r s : List ℕ) : Type 0 where
   pub bytes : a ≡ b
   pub rest : r ≡ s
 
-pub same_part : (o : ℕ) (p q : Part) (a b r s : List ℕ) → IsPart o p a → IsPart o q b → a ++ r ≡ b ++ s → SamePart p q a b r s
+pub same_part : (o : ℕ) (p q : Part) (a b r s : List ℕ) → IsPart o p a → IsPart o q b → a ++ r ≡ b ++ s
+    → SamePart p q a b r s
 same_part o p q a b r s h g e =
-    let left : a ++ r ≡ h.header ++ (h.content ++ r) = ap (λ (xs : List ℕ). xs ++ r) h.whole ∙ append_assoc h.header h.content r in
-    let right : b ++ s ≡ g.header ++ (g.content ++ s) = ap (λ (xs : List ℕ). xs ++ s) g.whole ∙ append_assoc g.header g.content s in
-    let same = same_header h.header g.header p.kind q.kind (length h.content) (length g.content) (h.content ++ r) (g.content ++ s) h.is_header g.is_header (sym left ∙ e ∙ right) in
+    let left : a ++ r ≡ h.header ++ (h.content ++ r) =
+    ap (λ (xs : List ℕ). xs ++ r) h.whole ∙ append_assoc h.header h.content r in
+    let right : b ++ s ≡ g.header ++ (g.content ++ s) =
+    ap (λ (xs : List ℕ). xs ++ s) g.whole ∙ append_assoc g.header g.content s in
+    let same = same_header h.header g.header p.kind q.kind (length h.content) (length g.content) (h.content ++ r)
+    (g.content ++ s) h.is_header g.is_header (sym left ∙ e ∙ right) in
     let content : h.content ≡ g.content = same_front h.content g.content r s same.count same.rest in
-    let bytes : a ≡ b = h.whole ∙ ap (λ (xs : List ℕ). xs ++ h.content) same.header ∙ ap (λ (xs : List ℕ). g.header ++ xs) content ∙ sym g.whole in
+    let bytes : a ≡ b = h.whole ∙ ap (λ (xs : List ℕ). xs ++ h.content) same.header
+    ∙ ap (λ (xs : List ℕ). g.header ++ xs) content ∙ sym g.whole in
     let long : length h.header ≡ length g.header = ap (λ (xs : List ℕ). length xs) same.header in
     record {
-      part = same_fields p q same.kind (h.start ∙ ap (λ (n : ℕ). o + n) long ∙ sym g.start) (h.size ∙ same.count ∙ sym g.size);
+      part = same_fields p q same.kind (h.start ∙ ap (λ (n : ℕ). o + n) long ∙ sym g.start)
+          (h.size ∙ same.count ∙ sym g.size);
       bytes = bytes;
       rest = append_cancel_left a r s (e ∙ ap (λ (xs : List ℕ). xs ++ s) (sym bytes));
     }
@@ -62,25 +70,35 @@ one_spelling o bs (p ∷ ps) (q ∷ qs) h g =
     rw (same.part, others) refl
 
 -- one more part behind the others
-pub one_more : (o : ℕ) (bs own : List ℕ) (ps : List Part) (p : Part) → SpellsFrom o bs ps → IsPart (o + length bs) p own → SpellsFrom o (bs ++ own) (ps ++ p ∷ [])
+pub one_more : (o : ℕ) (bs own : List ℕ) (ps : List Part) (p : Part) → SpellsFrom o bs ps
+    → IsPart (o + length bs) p own → SpellsFrom o (bs ++ own) (ps ++ p ∷ [])
 one_more o bs own [] p h part =
     let place : o + length bs ≡ o = rw h (omega arith) in
     let here : IsPart o p own = rw place at part in
     (own, [], rw h (sym (append-nil own)), here, refl)
 one_more o bs own (q ∷ ps) p h part =
-    let place : o + length bs ≡ (o + length h.0) + length h.1 = rw (h.2, length-append h.0 h.1) (omega arith) in
-    (h.0, h.1 ++ own, rw h.2 (append_assoc h.0 h.1 own), h.3, one_more (o + length h.0) h.1 own ps p h.4 (rw (← place) part))
+    let place : o + length bs ≡ (o + length h.0) + length h.1 = rw (h.2, length-append h.0 h.1) (omega arith) in (
+      h.0,
+      h.1 ++ own,
+      rw h.2 (append_assoc h.0 h.1 own),
+      h.3,
+      one_more (o + length h.0) h.1 own ps p h.4
+          (rw (← place) part),
+    )
 
 -- what stands behind whole parts is spelled too, where all is
-pub rest_is_spelled : (o : ℕ) (bs rest : List ℕ) (ps qs : List Part) → SpellsFrom o bs ps → SpellsFrom o (bs ++ rest) qs → (rs : List Part) × SpellsFrom (o + length bs) rest rs
+pub rest_is_spelled : (o : ℕ) (bs rest : List ℕ) (ps qs : List Part) → SpellsFrom o bs ps
+    → SpellsFrom o (bs ++ rest) qs → (rs : List Part) × SpellsFrom (o + length bs) rest rs
 rest_is_spelled o bs rest [] qs h g =
     let all : SpellsFrom o rest qs = rw h at g in
     let place : o + length bs ≡ o = rw h (omega arith) in
     (qs, rw place all)
 rest_is_spelled o bs rest (p ∷ ps) [] h g =
-    absurd (nothing_more o p h.0 (h.1 ++ rest) h.3 (sym (append_assoc h.0 h.1 rest) ∙ ap (λ (xs : List ℕ). xs ++ rest) (sym h.2) ∙ g))
+    absurd (nothing_more o p h.0 (h.1 ++ rest) h.3
+    (sym (append_assoc h.0 h.1 rest) ∙ ap (λ (xs : List ℕ). xs ++ rest) (sym h.2) ∙ g))
 rest_is_spelled o bs rest (p ∷ ps) (q ∷ qs) h g =
-    let whole : h.0 ++ (h.1 ++ rest) ≡ g.0 ++ g.1 = sym (append_assoc h.0 h.1 rest) ∙ ap (λ (xs : List ℕ). xs ++ rest) (sym h.2) ∙ g.2 in
+    let whole : h.0 ++ (h.1 ++ rest) ≡ g.0 ++ g.1 =
+    sym (append_assoc h.0 h.1 rest) ∙ ap (λ (xs : List ℕ). xs ++ rest) (sym h.2) ∙ g.2 in
     let same = same_part o p q h.0 g.0 (h.1 ++ rest) g.1 h.3 g.3 whole in
     let others : SpellsFrom (o + length h.0) (h.1 ++ rest) qs = rw (same.bytes, same.rest) g.4 in
     let found = rest_is_spelled (o + length h.0) h.1 rest ps qs h.4 others in
@@ -104,16 +122,21 @@ short_no_parts : (o : ℕ) (bs : List ℕ) (ps : List Part) → IsShort bs → S
 short_no_parts o bs [] short h =
     let some = header_some short.found.header short.kind short.count short.found.is_header in
     let none : length bs ≡ 0 = ap (λ (xs : List ℕ). length xs) h in
-    let long : length bs ≡ length short.found.header + length short.found.rest = ap (λ (xs : List ℕ). length xs) short.found.whole ∙ length-append short.found.header short.found.rest in
+    let long : length bs ≡ length short.found.header + length short.found.rest =
+    ap (λ (xs : List ℕ). length xs) short.found.whole ∙ length-append short.found.header short.found.rest in
     absurd (omega (arith, some, none, long))
 short_no_parts o bs (p ∷ ps) short h =
     let part = h.3 in
-    let whole : bs ≡ part.header ++ (part.content ++ h.1) = h.2 ∙ ap (λ (xs : List ℕ). xs ++ h.1) part.whole ∙ append_assoc part.header part.content h.1 in
-    let same = same_header short.found.header part.header short.kind p.kind short.count (length part.content) short.found.rest (part.content ++ h.1) short.found.is_header part.is_header (sym short.found.whole ∙ whole) in
-    let long : length short.found.rest ≡ length part.content + length h.1 = ap (λ (xs : List ℕ). length xs) same.rest ∙ length-append part.content h.1 in
+    let whole : bs ≡ part.header ++ (part.content ++ h.1) =
+    h.2 ∙ ap (λ (xs : List ℕ). xs ++ h.1) part.whole ∙ append_assoc part.header part.content h.1 in
+    let same = same_header short.found.header part.header short.kind p.kind short.count (length part.content)
+    short.found.rest (part.content ++ h.1) short.found.is_header part.is_header (sym short.found.whole ∙ whole) in
+    let long : length short.found.rest ≡ length part.content + length h.1 =
+    ap (λ (xs : List ℕ). length xs) same.rest ∙ length-append part.content h.1 in
     absurd (omega (arith, long, same.count, short.fewer))
 
-broken_no_parts : (o at : ℕ) (bs : List ℕ) (ps : List Part) (fault : BundleFault) → IsFaultAt bs at fault → SpellsFrom o bs ps → ⊥
+broken_no_parts : (o at : ℕ) (bs : List ℕ) (ps : List Part) (fault : BundleFault) → IsFaultAt bs at fault
+    → SpellsFrom o bs ps → ⊥
 broken_no_parts o at bs ps (Header offset) here h = no_header_no_parts o bs ps here.1 h
 broken_no_parts o at bs ps (Short offset) here h = short_no_parts o bs ps here.1 h
 broken_no_parts o at bs ps Memory here h = here
@@ -122,19 +145,23 @@ breaks_no_parts : (bs : List ℕ) (fault : BundleFault) (ps : List Part) → Bre
 breaks_no_parts bs fault ps breaks h =
     let whole : Spells (take breaks.offset bs ++ drop breaks.offset bs) ps = rw take-append-drop h in
     let rest = rest_is_spelled 0 (take breaks.offset bs) (drop breaks.offset bs) breaks.parts ps breaks.before whole in
-    broken_no_parts (0 + length (take breaks.offset bs)) breaks.offset (drop breaks.offset bs) rest.0 fault breaks.here rest.1
+    broken_no_parts (0 + length (take breaks.offset bs)) breaks.offset (drop breaks.offset bs) rest.0 fault breaks.here
+    rest.1
 
-pub fault_no_parts : (bs : List ℕ) (fault : BundleFault) → IsBundleFault bs fault → fault ≢ Memory → (ps : List Part) → Spells bs ps → ⊥
+pub fault_no_parts : (bs : List ℕ) (fault : BundleFault) → IsBundleFault bs fault → fault ≢ Memory → (ps : List Part)
+    → Spells bs ps → ⊥
 fault_no_parts bs (Header offset) h other ps g = breaks_no_parts bs (Header offset) ps h g
 fault_no_parts bs (Short offset) h other ps g = breaks_no_parts bs (Short offset) ps h g
 fault_no_parts bs Memory h other ps g = other refl
 
 -- ---- the part that a header in front begins
 
-pub part_in_front : (o : ℕ) (bs : List ℕ) (p : Part) (n : ℕ) → n ≤ length bs → p.length ≤ length bs - n → IsHeader (take n bs) p.kind p.length → p.start ≡ o + n → IsPart o p (take (n + p.length) bs)
+pub part_in_front : (o : ℕ) (bs : List ℕ) (p : Part) (n : ℕ) → n ≤ length bs → p.length ≤ length bs - n
+    → IsHeader (take n bs) p.kind p.length → p.start ≡ o + n → IsPart o p (take (n + p.length) bs)
 part_in_front o bs p n inside fits header start =
     let long : length (take n bs) ≡ n = length-take-le n bs inside in
-    let size : length (take p.length (drop n bs)) ≡ p.length = length-take-le p.length (drop n bs) (rw length-drop fits) in
+    let size : length (take p.length (drop n bs)) ≡ p.length =
+    length-take-le p.length (drop n bs) (rw length-drop fits) in
     record {
       header = take n bs;
       content = take p.length (drop n bs);
@@ -154,27 +181,32 @@ some_left o bs lt e =
     absurd (omega (arith, none, length-drop o bs))
 
 -- whole parts, and what stands behind them, are why bytes are refused
-pub breaks : (bs : List ℕ) (o : ℕ) (ps : List Part) (fault : BundleFault) → Spells (take o bs) ps → IsFaultAt (drop o bs) o fault → IsBundleFault bs fault
+pub breaks : (bs : List ℕ) (o : ℕ) (ps : List Part) (fault : BundleFault) → Spells (take o bs) ps
+    → IsFaultAt (drop o bs) o fault → IsBundleFault bs fault
 breaks bs o ps (Header offset) before here = record { offset = o; parts = ps; before = before; here = here }
 breaks bs o ps (Short offset) before here = record { offset = o; parts = ps; before = before; here = here }
 breaks bs o ps Memory before here = tt
 
 -- the next part
-pub next_part : (bs : List ℕ) (o n : ℕ) (ps : List Part) (p : Part) → o ≤ length bs → o ≤ n → Spells (take o bs) ps → IsPart o p (take (n - o) (drop o bs)) → Spells (take n bs) (ps ++ p ∷ [])
+pub next_part : (bs : List ℕ) (o n : ℕ) (ps : List Part) (p : Part) → o ≤ length bs → o ≤ n → Spells (take o bs) ps
+    → IsPart o p (take (n - o) (drop o bs)) → Spells (take n bs) (ps ++ p ∷ [])
 next_part bs o n ps p inside further before part =
     let long : length (take o bs) ≡ o = length-take-le o bs inside in
     let place : 0 + length (take o bs) ≡ o = omega (arith, long) in
     let sum : n ≡ o + (n - o) = omega arith in
-    let whole : take n bs ≡ take o bs ++ take (n - o) (drop o bs) = ap (λ (m : ℕ). take m bs) sum ∙ take-add o (n - o) bs in
+    let whole : take n bs ≡ take o bs ++ take (n - o) (drop o bs) =
+    ap (λ (m : ℕ). take m bs) sum ∙ take-add o (n - o) bs in
     rw whole (one_more 0 (take o bs) (take (n - o) (drop o bs)) ps p before (rw place part))
 
 -- each part lies within the bytes
-pub part_inside : (o : ℕ) (bs : List ℕ) (ps : List Part) (i : ℕ) (d : Part) → SpellsFrom o bs ps → i < length ps → (get_or ps i d).start + (get_or ps i d).length ≤ o + length bs
+pub part_inside : (o : ℕ) (bs : List ℕ) (ps : List Part) (i : ℕ) (d : Part) → SpellsFrom o bs ps → i < length ps
+    → (get_or ps i d).start + (get_or ps i d).length ≤ o + length bs
 part_inside o bs [] i d h lt = absurd (omega arith)
 part_inside o bs (p ∷ ps) zero d h lt =
     let part = h.3 in
     let long : length bs ≡ length h.0 + length h.1 = rw h.2 (length-append h.0 h.1) in
-    let own : length h.0 ≡ length part.header + length part.content = rw part.whole (length-append part.header part.content) in
+    let own : length h.0 ≡ length part.header + length part.content =
+    rw part.whole (length-append part.header part.content) in
     omega (arith, long, own, part.start, part.size)
 part_inside o bs (p ∷ ps) (suc i) d h lt =
     let long : length bs ≡ length h.0 + length h.1 = rw h.2 (length-append h.0 h.1) in

@@ -9,10 +9,9 @@ use Rattle.std.proofs.lemmas.Option.{cond_some}
 use Rattle.std.proofs.lemmas.List.{append_cancel_left, drop_more, take-append-drop}
 use Rattle.std.proofs.lemmas.Int.Digits.{digits_value-lt}
 use Rattle.std.proofs.Math.Nat.{pow-le-pow_right}
-use Rattle.std.proofs.Math.Seq.{get_or-append_seam}
 use Rattle.scf_insn.specs.Numbers.{numeral, ReadsNumber}
-use Rattle.scf_insn.specs.declared.number.NumberError.{NumberError}
-use Rattle.scf_insn.specs.declared.number.NumberError.TheVariants.{Malformed, TooLarge}
+use Rattle.scf_insn.specs.declared.number.NumeralFault.{NumeralFault}
+use Rattle.scf_insn.specs.declared.number.NumeralFault.TheVariants.{Malformed, TooLarge}
 use Rattle.scf_tool.specs.declared.bundle.PartKind.{PartKind}
 use Rattle.scf_tool.specs.declared.bundle.PartKind.TheVariants.{Filter, Profile, Table}
 use Rattle.scf_tool.specs.Bundle.{kind_word, IsCount, IsHeader, HasHeader}
@@ -21,10 +20,12 @@ use Rattle.scf_tool.specs.Bundle.{kind_word, IsCount, IsHeader, HasHeader}
 
 all_digits : (ds : List ℕ) → list_all (λ d. is_digit d 10) ds ≡ true → AllDigits 10 ds
 all_digits [] h = tt
-all_digits (d ∷ ds) h = let both = and_parts (is_digit d 10) (list_all (λ e. is_digit e 10) ds) h in (ltb-true _ 10 both.0, all_digits ds both.1)
+all_digits (d ∷ ds) h = let both = and_parts (is_digit d 10) (list_all (λ e. is_digit e 10) ds) h in
+    (ltb-true _ 10 both.0, all_digits ds both.1)
 
 -- a numeral has digits alone, and their value
-numeral_parts : (ds : List ℕ) (n : ℕ) → numeral 10 ds ≡ Some n → (list_all (λ d. is_digit d 10) ds ≡ true) × (digits_value 10 ds ≡ n)
+numeral_parts : (ds : List ℕ) (n : ℕ) → numeral 10 ds ≡ Some n
+    → (list_all (λ d. is_digit d 10) ds ≡ true) × (digits_value 10 ds ≡ n)
 numeral_parts ds n e =
     let parts = cond_some (nat_lt 0 (length ds) && list_all (λ d. is_digit d 10) ds) (digits_value 10 ds) n e in
     ((and_parts (nat_lt 0 (length ds)) (list_all (λ d. is_digit d 10) ds) parts.0).1, parts.1)
@@ -49,7 +50,9 @@ digits_are_line : (ds : List ℕ) → list_all (λ d. is_digit d 10) ds ≡ true
 digits_are_line [] h = refl
 digits_are_line (d ∷ ds) h =
     let both = and_parts (is_digit d 10) (list_all (λ e. is_digit e 10) ds) h in
-    let other : eqb d 10 ≡ false = ne_eqb d 10 (λ e. let end : is_digit 10 10 ≡ true = subst (λ (b : ℕ). is_digit b 10 ≡ true) e both.0 in absurd (false≢true end)) in
+    let other : eqb d 10 ≡ false = ne_eqb d 10
+    (λ e. let end : is_digit 10 10 ≡ true =
+    subst (λ (b : ℕ). is_digit b 10 ≡ true) e both.0 in absurd (false≢true end)) in
     and_from (not (eqb d 10)) _ (rw other refl) (digits_are_line ds both.1)
 
 word_is_line : (kind : PartKind) → IsLine (kind_word kind)
@@ -57,15 +60,18 @@ word_is_line Filter = refl
 word_is_line Profile = refl
 word_is_line Table = refl
 
-header_is_line : (kind : PartKind) (digits : List ℕ) (n : ℕ) → IsCount digits n → IsLine (kind_word kind ++ (codes " " ++ digits))
-header_is_line kind digits n count = line_join (kind_word kind) (codes " " ++ digits) (word_is_line kind) (line_join (codes " ") digits refl (digits_are_line digits (numeral_parts digits n count.1).0))
+header_is_line : (kind : PartKind) (digits : List ℕ) (n : ℕ) → IsCount digits n
+    → IsLine (kind_word kind ++ (codes " " ++ digits))
+header_is_line kind digits n count = line_join (kind_word kind) (codes " " ++ digits) (word_is_line kind)
+    (line_join (codes " ") digits refl (digits_are_line digits (numeral_parts digits n count.1).0))
 
 -- bytes begin with at most one line
 pub same_line : (a b r s : List ℕ) → IsLine a → IsLine b → a ++ 10 ∷ r ≡ b ++ 10 ∷ s → a ≡ b
 same_line [] [] r s h k e = refl
 same_line [] (y ∷ b) r s h k e =
     let both = and_parts (not (eqb y 10)) (list_all (λ x. not (eqb x 10)) b) k in
-    let end : 10 ≡ y = ap (λ (l : List ℕ). get_or l 0 0) e in absurd (eqb-false y 10 (not-true (eqb y 10) both.0) (sym end))
+    let end : 10 ≡ y = ap (λ (l : List ℕ). get_or l 0 0) e in absurd
+    (eqb-false y 10 (not-true (eqb y 10) both.0) (sym end))
 same_line (x ∷ a) [] r s h k e =
     let both = and_parts (not (eqb x 10)) (list_all (λ y. not (eqb y 10)) a) h in
     let end : x ≡ 10 = ap (λ (l : List ℕ). get_or l 0 0) e in absurd (eqb-false x 10 (not-true (eqb x 10) both.0) end)
@@ -83,11 +89,13 @@ line_before bs zero le h = refl
 line_before [] (suc n) le h = refl
 line_before (b ∷ bs) (suc n) le h =
     let inside : n ≤ length bs = omega arith in
-    and_from (not (eqb b 10)) _ (rw (ne_eqb b 10 (h 0 (omega arith))) refl) (line_before bs n inside (λ k lt. h (suc k) (omega arith)))
+    and_from (not (eqb b 10)) _ (rw (ne_eqb b 10 (h 0 (omega arith))) refl)
+    (line_before bs n inside (λ k lt. h (suc k) (omega arith)))
 
 -- ---- headers
 
-same_word : (k l : PartKind) (a b : List ℕ) → kind_word k ++ (codes " " ++ a) ≡ kind_word l ++ (codes " " ++ b) → (k ≡ l) × (a ≡ b)
+same_word : (k l : PartKind) (a b : List ℕ) → kind_word k ++ (codes " " ++ a) ≡ kind_word l ++ (codes " " ++ b)
+    → (k ≡ l) × (a ≡ b)
 same_word Filter Filter a b e = (refl, append_cancel_left (codes "filter ") a b e)
 same_word Profile Profile a b e = (refl, append_cancel_left (codes "profile ") a b e)
 same_word Table Table a b e = (refl, append_cancel_left (codes "table ") a b e)
@@ -108,13 +116,17 @@ pub record SameHeader (h g : List ℕ) (k l : PartKind) (m n : ℕ) (r s : List 
   pub count : m ≡ n
   pub rest : r ≡ s
 
-pub same_header : (h g : List ℕ) (k l : PartKind) (m n : ℕ) (r s : List ℕ) → IsHeader h k m → IsHeader g l n → h ++ r ≡ g ++ s → SameHeader h g k l m n r s
+pub same_header : (h g : List ℕ) (k l : PartKind) (m n : ℕ) (r s : List ℕ) → IsHeader h k m → IsHeader g l n
+    → h ++ r ≡ g ++ s → SameHeader h g k l m n r s
 same_header h g k l m n r s a b e =
     let first = header_is_line k a.digits m a.is_count in
     let second = header_is_line l b.digits n b.is_count in
-    let left : h ++ r ≡ (kind_word k ++ (codes " " ++ a.digits)) ++ 10 ∷ r = rw a.text (append_assoc (kind_word k ++ (codes " " ++ a.digits)) (codes "\n") r) in
-    let right : g ++ s ≡ (kind_word l ++ (codes " " ++ b.digits)) ++ 10 ∷ s = rw b.text (append_assoc (kind_word l ++ (codes " " ++ b.digits)) (codes "\n") s) in
-    let line : kind_word k ++ (codes " " ++ a.digits) ≡ kind_word l ++ (codes " " ++ b.digits) = same_line _ _ r s first second (sym left ∙ e ∙ right) in
+    let left : h ++ r ≡ (kind_word k ++ (codes " " ++ a.digits)) ++ 10 ∷ r =
+    rw a.text (append_assoc (kind_word k ++ (codes " " ++ a.digits)) (codes "\n") r) in
+    let right : g ++ s ≡ (kind_word l ++ (codes " " ++ b.digits)) ++ 10 ∷ s =
+    rw b.text (append_assoc (kind_word l ++ (codes " " ++ b.digits)) (codes "\n") s) in
+    let line : kind_word k ++ (codes " " ++ a.digits) ≡ kind_word l ++ (codes " " ++ b.digits) =
+    same_line _ _ r s first second (sym left ∙ e ∙ right) in
     let parts = same_word k l a.digits b.digits line in
     let header : h ≡ g = a.text ∙ ap (λ (xs : List ℕ). xs ++ codes "\n") line ∙ sym b.text in
     let numbers : numeral 10 a.digits ≡ numeral 10 b.digits = ap (λ (ds : List ℕ). numeral 10 ds) parts.1 in
@@ -129,30 +141,30 @@ same_header h g k l m n r s a b e =
 pub header_some : (h : List ℕ) (k : PartKind) (n : ℕ) → IsHeader h k n → 0 < length h
 header_some h k n a = rw (a.text, length-append) (omega arith)
 
--- no line end, no header
-pub header_ends : (bs : List ℕ) (k : PartKind) (n : ℕ) → HasHeader bs k n → (i : ℕ) × (i < length bs) × (get_or bs i 0 ≡ 10)
-header_ends bs k n found =
-    let line = kind_word k ++ (codes " " ++ found.is_header.digits) in
-    let whole : bs ≡ line ++ 10 ∷ found.rest = found.whole ∙ ap (λ (xs : List ℕ). xs ++ found.rest) found.is_header.text ∙ append_assoc line (codes "\n") found.rest in
-    (length line, rw (whole, length-append line (10 ∷ found.rest)) (omega arith), rw whole (get_or-append_seam line 10 found.rest 0))
-
 -- the header in front ends at the first line end
-pub header_by_line : (bs : List ℕ) (k : PartKind) (n end : ℕ) → end < length bs → get_or bs end 0 ≡ 10 → ((i : ℕ) → i < end → get_or bs i 0 ≢ 10) → HasHeader bs k n → IsHeader (take end bs ++ codes "\n") k n
+pub header_by_line : (bs : List ℕ) (k : PartKind) (n end : ℕ) → end < length bs → get_or bs end 0 ≡ 10
+    → ((i : ℕ) → i < end → get_or bs i 0 ≢ 10) → HasHeader bs k n → IsHeader (take end bs ++ codes "\n") k n
 header_by_line bs k n end inside here before found =
     let a = found.is_header in
     let line = kind_word k ++ (codes " " ++ a.digits) in
-    let left : bs ≡ line ++ 10 ∷ found.rest = found.whole ∙ ap (λ (xs : List ℕ). xs ++ found.rest) a.text ∙ append_assoc line (codes "\n") found.rest in
-    let right : bs ≡ take end bs ++ 10 ∷ drop (end + 1) bs = sym (take-append-drop end bs) ∙ ap (λ (xs : List ℕ). take end bs ++ xs) (drop_more bs end 0 inside ∙ ap (λ (b : ℕ). b ∷ drop (end + 1) bs) here) in
-    let same : line ≡ take end bs = same_line line (take end bs) found.rest (drop (end + 1) bs) (header_is_line k a.digits n a.is_count) (line_before bs end (omega arith) before) (sym left ∙ right) in
+    let left : bs ≡ line ++ 10 ∷ found.rest =
+    found.whole ∙ ap (λ (xs : List ℕ). xs ++ found.rest) a.text ∙ append_assoc line (codes "\n") found.rest in
+    let right : bs ≡ take end bs ++ 10 ∷ drop (end + 1) bs =
+    sym (take-append-drop end bs) ∙ ap (λ (xs : List ℕ). take end bs ++ xs)
+    (drop_more bs end 0 inside ∙ ap (λ (b : ℕ). b ∷ drop (end + 1) bs) here) in
+    let same : line ≡ take end bs = same_line line (take end bs) found.rest (drop (end + 1) bs)
+    (header_is_line k a.digits n a.is_count) (line_before bs end (omega arith) before) (sym left ∙ right) in
     record { digits = a.digits; is_count = a.is_count; text = ap (λ (xs : List ℕ). xs ++ codes "\n") (sym same) }
 
 -- ---- what a header's reader asks
 
-pub no_count : (ds : List ℕ) (n : ℕ) (e : NumberError) → ReadsNumber (numeral 10 ds) (Err e) → IsCount ds n → ⊥
-no_count ds n TooLarge reads count = let past : 2 ^ 64 ≤ n = rw count.1 at reads in let small : n < 2 ^ 64 = count_is_small ds n count in absurd (omega arith)
+pub no_count : (ds : List ℕ) (n : ℕ) (e : NumeralFault) → ReadsNumber (numeral 10 ds) (Err e) → IsCount ds n → ⊥
+no_count ds n TooLarge reads count = let past : 2 ^ 64 ≤ n = rw count.1 at reads in let small : n < 2 ^ 64 =
+    count_is_small ds n count in absurd (omega arith)
 no_count ds n Malformed reads count = rw count.1 at reads
 
-pub no_kind : (h : List ℕ) → ((n : ℕ) → IsHeader h Filter n → ⊥) → ((n : ℕ) → IsHeader h Profile n → ⊥) → ((n : ℕ) → IsHeader h Table n → ⊥) → (k : PartKind) (n : ℕ) → IsHeader h k n → ⊥
+pub no_kind : (h : List ℕ) → ((n : ℕ) → IsHeader h Filter n → ⊥) → ((n : ℕ) → IsHeader h Profile n → ⊥)
+    → ((n : ℕ) → IsHeader h Table n → ⊥) → (k : PartKind) (n : ℕ) → IsHeader h k n → ⊥
 no_kind h a b c Filter n = a n
 no_kind h a b c Profile n = b n
 no_kind h a b c Table n = c n

@@ -1,3 +1,10 @@
 pub mod BundleLemmas
-mod DigitLemmas
+mod ContentLemmas
+mod FaultLemmas
+mod JointLemmas
 pub mod HeaderLemmas
+mod OptionLemmas
+mod PartyLemmas
+pub mod StackLemmas
+mod CommandLineLemmas
+pub mod Refusals

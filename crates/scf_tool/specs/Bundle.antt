@@ -1,5 +1,5 @@
 -- Files one after another, each behind a header.
-use Rattle.std.specs.Prelude.{◌≡◌, ◌≢◌, ℕ, ◌+◌, ◌<◌, ◌≤◌, List, [], ◌∷◌, ◌++◌, length, take, drop, codes, Some}
+use Rattle.std.specs.Prelude.{◌≡◌, ◌≢◌, ℕ, ◌+◌, ◌<◌, ◌≤◌, Bool, true, false, List, [], ◌∷◌, ◌++◌, length, take, drop, codes, Some, if◌then◌else◌}
 use Rattle.scf_insn.specs.Numbers.{numeral}
 use Rattle.scf_tool.specs.declared.bundle.PartKind.{PartKind}
 use Rattle.scf_tool.specs.declared.bundle.PartKind.TheVariants.{Filter, Profile, Table}
@@ -42,7 +42,8 @@ pub record IsPart (offset : ℕ) (part : Part) (bytes : List ℕ) : Type 0 where
 abbrev pub SpellsFrom : ℕ → List ℕ → List Part → Type 0
 SpellsFrom offset bytes [] = bytes ≡ []
 SpellsFrom offset bytes (part ∷ parts) =
-    (own : List ℕ) × (rest : List ℕ) × (bytes ≡ own ++ rest) × IsPart offset part own × SpellsFrom (offset + length own) rest parts
+    (own : List ℕ) × (rest : List ℕ) × (bytes ≡ own ++ rest) × IsPart offset part own
+    × SpellsFrom (offset + length own) rest parts
 
 -- the bytes of a bundle spell its parts
 abbrev pub Spells : List ℕ → List Part → Type 0
@@ -77,3 +78,29 @@ pub record BreaksAt (bytes : List ℕ) (fault : BundleFault) : Type 0 where
 abbrev pub IsBundleFault : List ℕ → BundleFault → Type 0
 IsBundleFault bytes Memory = Unit {0}
 IsBundleFault bytes fault = BreaksAt bytes fault
+
+-- ---- what parts hold
+
+-- what a part holds: the bytes behind its header
+abbrev pub held : List ℕ → Part → List ℕ
+held bytes part = take part.length (drop part.start bytes)
+
+abbrev pub is_of : PartKind → PartKind → Bool
+is_of Filter Filter = true
+is_of Profile Profile = true
+is_of Table Table = true
+is_of kind other = false
+
+-- what the parts of a kind hold, in their order
+abbrev pub held_by : PartKind → List ℕ → List Part → List (List ℕ)
+held_by kind bytes [] = []
+held_by kind bytes (part ∷ parts) =
+    if is_of kind part.kind then held bytes part ∷ held_by kind bytes parts else held_by kind bytes parts
+
+-- Bytes are a bundle whose parts hold these filters, these profiles and these tables, those of each kind in order.
+pub record IsBundle (bytes : List ℕ) (filters profiles tables : List (List ℕ)) : Type 0 where
+  pub parts : List Part
+  pub spelled : Spells bytes parts
+  pub filters_held : filters ≡ held_by Filter bytes parts
+  pub profiles_held : profiles ≡ held_by Profile bytes parts
+  pub tables_held : tables ≡ held_by Table bytes parts

@@ -1,8 +1,8 @@
--- The call record that the options of the command line spell.
-use Rattle.std.specs.Prelude.{◌≡◌, ℕ, ◌-◌, ◌^◌, List, [], ◌∷◌, codes, map, find, nat_le, is_none, Option, Some, None, Result, Ok, Err, option_map, if◌then◌else◌}
-use Rattle.clap.specs.Words.{first_value}
-use Rattle.clap.specs.declared.parser.matches.Found.{Found}
+-- The options of the program, and the numbers that they spell.
+use Rattle.std.specs.Prelude.{◌≡◌, ℕ, Bool, false, ◌-◌, ◌^◌, List, [], ◌∷◌, codes, bytes_eq, map, find, nat_le, is_none, Option, Some, None, Result, Ok, Err, option_map, if◌then◌else◌}
+use Rattle.clap.specs.Words.{Row, first_of}
 use Rattle.scf_insn.specs.declared.record.CallRecord.{CallRecord}
+use Rattle.scf_insn.specs.Kernel.{audit_arch_x86_64}
 use Rattle.scf_insn.specs.Numbers.{number_of}
 use Rattle.scf_tool.specs.declared.options.NumberFault.{NumberFault}
 
@@ -22,36 +22,60 @@ abbrev pub number_by : NumberOption → Option (List ℕ) → Option ℕ
 number_by o None = Some o.default
 number_by o (Some text) = at_most o.most (number_of text)
 
--- the number of an option in the matches of a command line
-abbrev pub number_in : Found → NumberOption → Option ℕ
-number_in found o = number_by o (first_value found o.name)
+-- the number of an option among the values that a command line gives
+abbrev pub number_in : List Row → NumberOption → Option ℕ
+number_in rows o = number_by o (first_of o.name rows)
 
 -- an option of 32 bits, and one of 64
 abbrev pub word_option : List ℕ → ℕ → NumberOption
 word_option name default = record { name = name; default = default; most = 2 ^ 32 - 1 }
 
-abbrev pub long_option : List ℕ → NumberOption
-long_option name = record { name = name; default = 0; most = 2 ^ 64 - 1 }
+abbrev pub long_option : List ℕ → ℕ → NumberOption
+long_option name default = record { name = name; default = default; most = 2 ^ 64 - 1 }
 
--- the options of a call record, in the order of its fields; the architecture is x86-64's without one
+-- the options of a call record, in the order of its fields; without one the architecture is x86-64's
 abbrev pub call_options : List NumberOption
 call_options =
     word_option (codes "nr") 0
-    ∷ word_option (codes "arch") 0xc000003e
-    ∷ long_option (codes "ip")
-    ∷ long_option (codes "a0") ∷ long_option (codes "a1") ∷ long_option (codes "a2")
-    ∷ long_option (codes "a3") ∷ long_option (codes "a4") ∷ long_option (codes "a5")
+    ∷ word_option (codes "arch") audit_arch_x86_64
+    ∷ long_option (codes "ip") 0
+    ∷ long_option (codes "a0") 0 ∷ long_option (codes "a1") 0 ∷ long_option (codes "a2") 0
+    ∷ long_option (codes "a3") 0 ∷ long_option (codes "a4") 0 ∷ long_option (codes "a5") 0
     ∷ []
+
+-- the most steps of a comparison
+abbrev pub limit_option : NumberOption
+limit_option = long_option (codes "limit") 1000000
 
 -- the numbers of a record, in the order of its fields
 abbrev pub numbers_of : CallRecord → List ℕ
 numbers_of call = call.nr ∷ call.arch ∷ call.ip ∷ call.args
 
--- the name of the first option whose text is no number in its range
-abbrev pub first_wrong : Found → Option (List ℕ)
-first_wrong found = option_map (λ o. o.name) (find (λ o. is_none (number_in found o)) call_options)
+-- the name of the first of some options whose text is no number in its range
+abbrev pub first_wrong : List NumberOption → List Row → Option (List ℕ)
+first_wrong options rows = option_map (λ o. o.name) (find (λ o. is_none (number_in rows o)) options)
 
--- What the options spell: the record of their numbers, or the first that spells none.
-abbrev pub SpellsCall : Found → Result CallRecord NumberFault → Type 0
-SpellsCall found (Ok call) = map Some (numbers_of call) ≡ map (number_in found) call_options
-SpellsCall found (Err fault) = first_wrong found ≡ Some fault.name.now
+-- each option spells its number
+abbrev pub AreSpelled : List NumberOption → List Row → List ℕ → Type 0
+AreSpelled options rows numbers = map Some numbers ≡ map (number_in rows) options
+
+-- What the options of a call record spell: the record of their numbers, or the first that spells none.
+abbrev pub SpellsCall : List Row → Result CallRecord NumberFault → Type 0
+SpellsCall rows (Ok call) = AreSpelled call_options rows (numbers_of call)
+SpellsCall rows (Err fault) = first_wrong call_options rows ≡ Some fault.name.now
+
+-- A flag is given where its name has the text `true`.
+abbrev pub is_true_text : Option (List ℕ) → Bool
+is_true_text None = false
+is_true_text (Some text) = bytes_eq text (codes "true")
+
+abbrev pub is_given : List Row → List ℕ → Bool
+is_given rows name = is_true_text (first_of name rows)
+
+-- the flag that leaves all but the native calls out of a comparison
+abbrev pub native_flag : List ℕ
+native_flag = codes "native"
+
+-- the flag by which each named call is compared by itself
+abbrev pub calls_flag : List ℕ
+calls_flag = codes "calls"

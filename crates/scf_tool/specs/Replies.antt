@@ -1,26 +1,30 @@
--- What the program prints.
-use Rattle.std.specs.Prelude.{ℕ, List, ◌++◌, codes, string_bytes}
+-- What the program prints, and its exit status.
+use Rattle.std.specs.Prelude.{ℕ, List, ◌++◌, codes, string_bytes, Result, Ok, Err}
 use Rattle.std.specs.Fmt.{decimal}
+use Rattle.scf_tool.specs.declared.fault.Fault.{Fault}
 use Rattle.scf_tool.specs.declared.reply.Reply.{Reply}
-use Rattle.scf_tool.specs.declared.reply.Reply.TheVariants.{CommandLine, Accepted, Ran, Decided, Bytes, Fault}
+use Rattle.scf_tool.specs.declared.reply.Reply.TheVariants.{CommandLine, Accepted, Ran, Decided, Bytes, Compared}
 use Rattle.scf_tool.specs.declared.status.Status.{Status}
 use Rattle.scf_tool.specs.declared.status.Status.TheVariants.{Well}
-use Rattle.scf_tool.specs.Lines.{answer_text, fault_line, steps_text}
+use Rattle.scf_tool.specs.Faults.{fault_line, fault_status}
+use Rattle.scf_tool.specs.Lines.{answer_text, steps_text}
 
--- the text of a reply
-abbrev pub reply_text : Reply → List ℕ
-reply_text (CommandLine text status) = string_bytes text
-reply_text (Accepted count) = codes "accepted " ++ decimal count ++ codes "\n"
-reply_text (Ran ran) = answer_text ran.answer.0 ++ steps_text ran.steps
-reply_text (Decided answer) = answer_text answer.0 ++ codes "\n"
-reply_text (Bytes bytes status) = bytes.items
-reply_text (Fault fault) = fault_line fault
+-- the text that a run ends with
+abbrev pub ending_text : Result Reply Fault → List ℕ
+ending_text (Ok (CommandLine text status)) = string_bytes text
+ending_text (Ok (Accepted count)) = codes "accepted " ++ decimal count ++ codes "\n"
+ending_text (Ok (Ran ran)) = answer_text ran.answer.0 ++ steps_text ran.steps
+ending_text (Ok (Decided answer)) = answer_text answer.0 ++ codes "\n"
+ending_text (Ok (Bytes bytes)) = bytes.items
+ending_text (Ok (Compared text status)) = text.items
+ending_text (Err fault) = fault_line fault
 
--- the exit status that goes with a reply
-abbrev pub status_of : Reply → Status
-status_of (CommandLine text status) = status
-status_of (Accepted count) = Well
-status_of (Ran ran) = Well
-status_of (Decided answer) = Well
-status_of (Bytes bytes status) = status
-status_of (Fault fault) = fault.status
+-- the exit status that goes with it
+abbrev pub ending_status : Result Reply Fault → Status
+ending_status (Ok (CommandLine text status)) = status
+ending_status (Ok (Accepted count)) = Well
+ending_status (Ok (Ran ran)) = Well
+ending_status (Ok (Decided answer)) = Well
+ending_status (Ok (Bytes bytes)) = Well
+ending_status (Ok (Compared text status)) = status
+ending_status (Err fault) = fault_status fault

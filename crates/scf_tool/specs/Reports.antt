@@ -7,7 +7,7 @@ use Rattle.scf_compare.specs.declared.verdict.Verdict.{Verdict}
 use Rattle.scf_compare.specs.declared.verdict.Verdict.TheVariants.{Same, Differs, Undecided, Unfinished}
 use Rattle.scf_tool.specs.declared.verification.Outcome.{Outcome}
 use Rattle.scf_tool.specs.Lines.{answer_text}
-use Rattle.scf_tool.specs.Pieces.{hexadecimal}
+use Rattle.scf_tool.specs.Numerals.{hexadecimal}
 
 -- 0x and lower-case hexadecimal digits without leading zeros
 abbrev pub prefixed : ℕ → List ℕ
@@ -19,7 +19,8 @@ argument_text argument = codes " " ++ prefixed argument
 -- the line of a call record
 abbrev pub call_line : CallRecord → List ℕ
 call_line call =
-    (codes "call nr " ++ decimal call.nr ++ codes " arch " ++ prefixed call.arch ++ codes " ip " ++ prefixed call.ip ++ codes " args")
+    (codes "call nr " ++ decimal call.nr ++ codes " arch " ++ prefixed call.arch ++ codes " ip " ++ prefixed call.ip
+    ++ codes " args")
     ++ (flat_map argument_text call.args ++ codes "\n")
 
 -- who answers, and the answer
@@ -29,7 +30,9 @@ answer_line who answer = (who ++ codes " ") ++ (answer_text answer ++ codes "\n"
 -- the lines of a verdict
 abbrev pub verdict_text : Verdict → List ℕ
 verdict_text (Same steps) = codes "same\n"
-verdict_text (Differs call filter profile) = codes "differs\n" ++ (call_line call ++ (answer_line (codes "filter") filter.0 ++ answer_line (codes "profile") profile.0))
+verdict_text (Differs call filter profile) =
+    codes "differs\n"
+    ++ (call_line call ++ (answer_line (codes "filter") filter.0 ++ answer_line (codes "profile") profile.0))
 verdict_text (Undecided at) = codes "undecided at " ++ decimal at ++ codes "\n"
 verdict_text Unfinished = codes "unfinished\n"
 
@@ -37,9 +40,11 @@ verdict_text Unfinished = codes "unfinished\n"
 abbrev pub name_line : List ℕ → List ℕ → List ℕ
 name_line word name = word ++ codes " " ++ name ++ codes "\n"
 
--- The lines of an outcome: those of the verdict, one for each skipped name, and one for each other architecture.
+-- what was left out of a profile: a line for each skipped name, and one for each other architecture
+abbrev pub left_out_text : List (List ℕ) → List (List ℕ) → List ℕ
+left_out_text skipped others =
+    flat_map (name_line (codes "skipped")) skipped ++ flat_map (name_line (codes "other")) others
+
+-- The lines of an outcome: those of the verdict, and of what was left out.
 abbrev pub report_text : Outcome → List ℕ
-report_text outcome =
-    verdict_text outcome.verdict
-    ++ (flat_map (name_line (codes "skipped")) outcome.skipped
-    ++ flat_map (name_line (codes "other")) outcome.other_architectures)
+report_text outcome = verdict_text outcome.verdict ++ left_out_text outcome.skipped outcome.other_architectures

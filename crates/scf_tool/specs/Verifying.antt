@@ -21,6 +21,7 @@ use Rattle.scf_profile.specs.declared.loaded.Loaded.{Loaded}
 use Rattle.scf_profile.specs.declared.load_fault.LoadFault.{LoadFault}
 use Rattle.scf_profile.specs.declared.table_fault.TableFault.{TableFault}
 use Rattle.scf_profile.specs.declared.table_fault.TableFault.TheVariants as tables
+use Rattle.scf_profile.specs.Limits.{max_text_len}
 use Rattle.scf_profile.specs.Loading.{Loads, Refuses}
 use Rattle.scf_profile.specs.PlainProfile.{IsPlainProfile}
 use Rattle.scf_profile.specs.SameAnswers.{SameAnswers}
@@ -29,7 +30,7 @@ use Rattle.scf_compare.specs.Effort.{effort_of}
 use Rattle.scf_compare.specs.Verdicts.{IsTrueOf, IsWithin, IsDecided}
 use Rattle.scf_tool.specs.declared.verification.Outcome.{Outcome}
 use Rattle.scf_tool.specs.declared.verification.VerifyFault.{VerifyFault}
-use Rattle.scf_tool.specs.declared.verification.VerifyFault.TheVariants.{FilterRead, Check, TableRead, Table, ProfileRead, Profile, Memory}
+use Rattle.scf_tool.specs.declared.verification.VerifyFault.TheVariants.{FilterRead, Check, Stack, TableRead, Table, ProfileRead, Profile, Memory}
 
 -- ---- the readers
 
@@ -39,27 +40,36 @@ HasEnded remaining failures old new = IsAtEnd (remaining new) × (failures new �
 
 -- A reader failed where that is the fault, and only there.
 abbrev pub HasFailedWhere : {R : Type 0} → Type 0 → (R → ℕ) → R → R → Type 0
-HasFailedWhere is_failure failures old new = (is_failure → HasFailed (failures old) (failures new)) × ((is_failure → ⊥) → failures new ≡ failures old)
+HasFailedWhere is_failure failures old new =
+    (is_failure → HasFailed (failures old) (failures new)) × ((is_failure → ⊥) → failures new ≡ failures old)
 
 -- How the filter's reader is left. It is read first.
-abbrev pub LeavesFilterReader : {R T : Type 0} → (R → Option (List ℕ)) → (R → ℕ) → R → Result T VerifyFault → R → Type 0
-LeavesFilterReader remaining failures old (Err (FilterRead fault)) new = HasFailedWhere (fault ≡ filters.Read) failures old new
+abbrev pub LeavesFilterReader : {R T : Type 0} → (R → Option (List ℕ)) → (R → ℕ)
+    → R → Result T VerifyFault → R → Type 0
+LeavesFilterReader remaining failures old (Err (FilterRead fault)) new =
+    HasFailedWhere (fault ≡ filters.Read) failures old new
 LeavesFilterReader remaining failures old result new = HasEnded remaining failures old new
 
 -- How the table's reader is left. It isn't asked before the filter is accepted.
-abbrev pub LeavesTableReader : {R T : Type 0} → (R → Option (List ℕ)) → (R → ℕ) → R → Result T VerifyFault → R → Type 0
+abbrev pub LeavesTableReader : {R T : Type 0} → (R → Option (List ℕ)) → (R → ℕ)
+    → R → Result T VerifyFault → R → Type 0
 LeavesTableReader remaining failures old (Err (FilterRead fault)) new = new ≡ old
 LeavesTableReader remaining failures old (Err (Check fault)) new = new ≡ old
-LeavesTableReader remaining failures old (Err (TableRead fault)) new = HasFailedWhere (fault ≡ inputs.Read) failures old new
+LeavesTableReader remaining failures old (Err (Stack fault)) new = new ≡ old
+LeavesTableReader remaining failures old (Err (TableRead fault)) new =
+    HasFailedWhere (fault ≡ inputs.Read) failures old new
 LeavesTableReader remaining failures old result new = HasEnded remaining failures old new
 
 -- How the profile's reader is left. It isn't asked before the table is read.
-abbrev pub LeavesProfileReader : {R T : Type 0} → (R → Option (List ℕ)) → (R → ℕ) → R → Result T VerifyFault → R → Type 0
+abbrev pub LeavesProfileReader : {R T : Type 0} → (R → Option (List ℕ)) → (R → ℕ)
+    → R → Result T VerifyFault → R → Type 0
 LeavesProfileReader remaining failures old (Err (FilterRead fault)) new = new ≡ old
 LeavesProfileReader remaining failures old (Err (Check fault)) new = new ≡ old
+LeavesProfileReader remaining failures old (Err (Stack fault)) new = new ≡ old
 LeavesProfileReader remaining failures old (Err (TableRead fault)) new = new ≡ old
 LeavesProfileReader remaining failures old (Err (Table fault)) new = new ≡ old
-LeavesProfileReader remaining failures old (Err (ProfileRead fault)) new = HasFailedWhere (fault ≡ inputs.Read) failures old new
+LeavesProfileReader remaining failures old (Err (ProfileRead fault)) new =
+    HasFailedWhere (fault ≡ inputs.Read) failures old new
 LeavesProfileReader remaining failures old result new = HasEnded remaining failures old new
 
 -- ---- what the bytes are
@@ -76,7 +86,7 @@ pub record IsFilter (bytes : Option (List ℕ)) (insns : List Insn) : Type 0 whe
 
 -- few enough bytes of a call table or a profile
 abbrev pub IsWithinLimit : List ℕ → Type 0
-IsWithinLimit told = length told ≤ 4194304
+IsWithinLimit told = length told ≤ max_text_len
 
 -- a call table: the bytes spell the map
 abbrev pub IsTable : Option (List ℕ) → Names → Type 0
@@ -97,8 +107,8 @@ HasProfile table profile = (names : Names) × IsTable table names × (loaded : L
 
 -- ---- an outcome
 
--- The bytes are a filter, a call table and a profile, whose skipped names and other architectures these are. The verdict
--- is true of that filter and that profile, and decides between them where both are plain.
+-- The bytes are a filter, a call table and a profile, whose skipped names and other architectures these are. The
+-- verdict is true of that filter and that profile, and decides between them where both are plain.
 pub record IsVerified (filter table profile : Option (List ℕ)) (limit : ℕ) (outcome : Outcome) : Type 0 where
   pub insns : List Insn
   pub names : Names
@@ -121,7 +131,7 @@ IsUnreadFilter bytes fault = IfSome bytes (λ told. IsReading (λ (insns : List 
 
 -- why a call table or a profile isn't read
 abbrev pub IsUnread : Option (List ℕ) → InputFault → Type 0
-IsUnread bytes fault = IfSome bytes (λ told. IsInput (λ (read : List ℕ). read) 4194304 told (Err fault))
+IsUnread bytes fault = IfSome bytes (λ told. IsInput (λ (read : List ℕ). read) max_text_len told (Err fault))
 
 -- The bytes are those of instructions that aren't accepted, for this fault first.
 pub record IsRefusedFilter (bytes : Option (List ℕ)) (fault : CheckFault) : Type 0 where
@@ -132,7 +142,8 @@ pub record IsRefusedFilter (bytes : Option (List ℕ)) (fault : CheckFault) : Ty
 
 -- The bytes spell no call table, for this fault first. Want of memory may come in place of it.
 abbrev pub IsRefusedTable : Option (List ℕ) → TableFault → Type 0
-IsRefusedTable bytes fault = IfSome bytes (λ told. IsWithinLimit told × (fault ≢ tables.Memory → table_of told ≡ Err fault))
+IsRefusedTable bytes fault =
+    IfSome bytes (λ told. IsWithinLimit told × (fault ≢ tables.Memory → table_of told ≡ Err fault))
 
 -- The bytes and the map of the table state no profile, for this fault first.
 pub record IsRefusedProfile (table profile : Option (List ℕ)) (fault : LoadFault) : Type 0 where
@@ -144,6 +155,7 @@ pub record IsRefusedProfile (table profile : Option (List ℕ)) (fault : LoadFau
 abbrev pub IsRefused : Option (List ℕ) → Option (List ℕ) → Option (List ℕ) → VerifyFault → Type 0
 IsRefused filter table profile (FilterRead fault) = IsUnreadFilter filter fault
 IsRefused filter table profile (Check fault) = IsRefusedFilter filter fault
+IsRefused filter table profile (Stack fault) = ⊥
 IsRefused filter table profile (TableRead fault) = HasFilter filter × IsUnread table fault
 IsRefused filter table profile (Table fault) = HasFilter filter × IsRefusedTable table fault
 IsRefused filter table profile (ProfileRead fault) = HasFilter filter × HasTable table × IsUnread profile fault
@@ -154,20 +166,3 @@ IsRefused filter table profile Memory = HasFilter filter × HasProfile table pro
 abbrev pub Verifies : Option (List ℕ) → Option (List ℕ) → Option (List ℕ) → ℕ → Result Outcome VerifyFault → Type 0
 Verifies filter table profile limit (Ok outcome) = IsVerified filter table profile limit outcome
 Verifies filter table profile limit (Err fault) = IsRefused filter table profile fault
-
--- ---- whose fault it is
-
-abbrev pub IsOfFilter : VerifyFault → Type 0
-IsOfFilter (FilterRead fault) = Unit {0}
-IsOfFilter (Check fault) = Unit {0}
-IsOfFilter fault = ⊥
-
-abbrev pub IsOfTable : VerifyFault → Type 0
-IsOfTable (TableRead fault) = Unit {0}
-IsOfTable (Table fault) = Unit {0}
-IsOfTable fault = ⊥
-
-abbrev pub IsOfProfile : VerifyFault → Type 0
-IsOfProfile (ProfileRead fault) = Unit {0}
-IsOfProfile (Profile fault) = Unit {0}
-IsOfProfile fault = ⊥

@@ -1,7 +1,10 @@
 //! Bundles: files one after another, each behind a header that says what it is and how many bytes it has.
 
-ghost use Rattle.std.specs.Prelude.{◌≡◌, ◌≢◌, ◌+◌, ◌-◌, ◌<◌, ◌≤◌, ◌++◌, ◌∷◌, [], ℕ, List, codes, length, take, drop, slice_index, MatchOption, IfSome, IfNone, IfOk, IfErr};
-ghost use Rattle.scf_tool.specs.Bundle.{kind_word, IsCount, IsHeader, HasHeader, IsPart, IsFaultAt, Spells, IsBundleFault};
+ghost use Rattle.std.specs.Prelude.{◌≡◌, ◌≢◌, ◌+◌, ◌-◌, ◌<◌, ◌≤◌, ◌++◌, ◌∷◌, [], ℕ, List, codes, length, take, drop};
+ghost use Rattle.std.specs.Prelude.{slice_index, MatchOption, IfSome, IfNone, IfOk, IfErr};
+ghost use Rattle.scf_tool.specs.Bundle as spec;
+ghost use Rattle.scf_tool.specs.Bundle.{kind_word, IsCount, IsHeader, HasHeader, IsPart, IsFaultAt, Spells};
+ghost use Rattle.scf_tool.specs.Bundle.{IsBundleFault};
 
 use scf_insn::parse_numeral;
 use std::alloc::{AllocError, AllocFailed, Global};
@@ -92,7 +95,9 @@ fn count_of(digits: &[u8]) -> Option<usize>
 
 /// The count in a header of this kind, given without its line end.
 fn count_in(kind: PartKind, line: &[u8]) -> Option<usize>
-    ensures { MatchOption result ((n : ℕ) → IsHeader (line.now ++ codes "\n") kind n → ⊥) (IsHeader (line.now ++ codes "\n") kind) }
+    ensures { MatchOption result
+        ((n : ℕ) → IsHeader (line.now ++ codes "\n") kind n → ⊥)
+        (IsHeader (line.now ++ codes "\n") kind) }
 {
     let digits = line.strip_prefix(kind.word())?.strip_prefix(b" ")?;
     count_of(digits)
@@ -100,7 +105,9 @@ fn count_in(kind: PartKind, line: &[u8]) -> Option<usize>
 
 /// The kind and the count in a header, given without its line end.
 fn said_in(line: &[u8]) -> Option<(PartKind, usize)>
-    ensures { MatchOption result ((kind : PartKind) (n : ℕ) → IsHeader (line.now ++ codes "\n") kind n → ⊥) (λ said. IsHeader (line.now ++ codes "\n") said.0 said.1) }
+    ensures { MatchOption result
+        ((kind : PartKind) (n : ℕ) → IsHeader (line.now ++ codes "\n") kind n → ⊥)
+        (λ said. IsHeader (line.now ++ codes "\n") said.0 said.1) }
 {
     if let Some(count) = count_in(PartKind::Filter, line) {
         return Some((PartKind::Filter, count));
@@ -130,7 +137,8 @@ fn line_len(bytes: &[u8]) -> Option<usize>
 
 /// The header that stands in front.
 fn header_of(bytes: &[u8]) -> Option<Header>
-    ensures some { IfSome result (λ h. (h.length ≤ length bytes.now) × IsHeader (take h.length bytes.now) h.kind h.count) }
+    ensures some { IfSome result (λ h. (h.length ≤ length bytes.now)
+        × IsHeader (take h.length bytes.now) h.kind h.count) }
     ensures none { IfNone result ((kind : PartKind) (count : ℕ) → HasHeader bytes.now kind count → ⊥) }
 {
     let end = line_len(bytes)?;
@@ -145,8 +153,10 @@ fn header_of(bytes: &[u8]) -> Option<Header>
 /// The part at an offset.
 fn part_at(bytes: &[u8], offset: usize) -> Result<Part, BundleFault>
     requires { offset < length bytes.now }
-    ensures inside { IfOk result (λ part. (offset < part.start + part.length) × (part.start + part.length ≤ length bytes.now)) }
-    ensures part { IfOk result (λ part. IsPart offset part (take (part.start + part.length - offset) (drop offset bytes.now))) }
+    ensures inside { IfOk result (λ part. (offset < part.start + part.length)
+        × (part.start + part.length ≤ length bytes.now)) }
+    ensures part { IfOk result (λ part. IsPart offset part
+        (take (part.start + part.length - offset) (drop offset bytes.now))) }
     ensures fault { IfErr result (IsFaultAt (drop offset bytes.now) offset) }
 {
     let rest = &bytes[offset..];
@@ -163,18 +173,12 @@ fn part_at(bytes: &[u8], offset: usize) -> Result<Part, BundleFault>
     })
 }
 
-fn bytes_of<'a>(bytes: &'a [u8], part: Part) -> &'a [u8]
+/// What a part of a bundle holds.
+pub(crate) fn held<'a>(bytes: &'a [u8], part: Part) -> &'a [u8]
     requires { part.start + part.length ≤ length bytes.now }
+    ensures { result.now ≡ spec.held bytes.now part }
 {
     &bytes[part.start..part.start + part.length]
-}
-
-/// The bytes of a part of a bundle.
-pub(crate) fn content<'a>(bytes: &'a [u8], parts: &[Part], place: usize) -> &'a [u8]
-    requires spelled { Spells bytes.now parts.now }
-    requires inside { place < length parts.now }
-{
-    bytes_of(bytes, parts[place])
 }
 
 /// The parts that the bytes spell as a bundle: parts one after another, each a header and its bytes, and nothing
@@ -188,7 +192,8 @@ pub fn split(alloc: Global, bytes: &[u8]) -> Result<Vec<Part>, BundleFault>
     // No other list of parts is spelled.
     ensures only { IfOk result (λ parts. (others : List Part) → Spells bytes.now others → others ≡ parts.items) }
     ensures fault { IfErr result (IsBundleFault bytes.now) }
-    ensures none { IfErr result (λ fault. fault ≢ BundleFault.Memory → (parts : List Part) → Spells bytes.now parts → ⊥) }
+    ensures none { IfErr result (λ fault. fault ≢ BundleFault.Memory
+        → (parts : List Part) → Spells bytes.now parts → ⊥) }
 {
     let mut parts = Vec::new(alloc);
     let mut offset = 0;

@@ -1,12 +1,18 @@
 //! The words that the program takes.
 
-ghost use Rattle.std.specs.Prelude.{◌≡◌, ◌≢◌, ◌⊎◌};
+ghost use Rattle.std.specs.Prelude.{◌≡◌, ◌≢◌, ◌⊎◌, [], false, map, IfOk};
+ghost use Rattle.clap.specs.Words.{FailsBy, app_of, fault_of, kind_of, rule_of, subcommand_of, subcommand_rows_of};
+ghost use Rattle.scf_tool.specs.Requests.Command.{Compare};
+ghost use Rattle.scf_tool.specs.Runs.{flag_rule, rule_for, scf, shape_for, shape_with};
+ghost use Rattle.scf_tool.specs.internal.Parsing.{Explains, option_of, options_of};
 
-use crate::fault::{Fault, write_fault};
+use crate::fault::Fault;
+use crate::fault_line::write_fault;
+use crate::options::{CALLS_FLAG, NATIVE_FLAG, NumberOption, call_options, limit_option};
 use crate::reply::Reply;
 use crate::status::Status;
 use clap::error::ErrorKind;
-use clap::{Arg, ArgMatches, Command, Error};
+use clap::{Arg, ArgAction, ArgMatches, Command, Error};
 use scf_insn::{Sink, write_whole};
 use std::alloc::{AllocError, Global};
 use std::convert::AsStr;
@@ -22,96 +28,116 @@ const VERSION: &str = "0.1.0";
 const ABOUT: &str =
     "Checks, runs, lists, assembles, compiles and compares seccomp filters for x86-64. Input comes on standard input.";
 
-/// The options that say what call a filter is asked about.
-const CALL_OPTIONS: [(&str, &str); 9] = [
-    ("nr", "The number of the call [default: 0]"),
-    ("arch", "The architecture [default: 0xc000003e, x86-64]"),
-    ("ip", "The instruction pointer [default: 0]"),
-    ("a0", "Argument 0 [default: 0]"),
-    ("a1", "Argument 1 [default: 0]"),
-    ("a2", "Argument 2 [default: 0]"),
-    ("a3", "Argument 3 [default: 0]"),
-    ("a4", "Argument 4 [default: 0]"),
-    ("a5", "Argument 5 [default: 0]"),
-];
+/// An option, as the reader of the command line takes it.
+fn argument_of<'a>(alloc: Global, option: NumberOption) -> Arg<'a>
+    ensures rule { rule_of result ≡ rule_for (option_of option) }
+    ensures local { result.global ≡ false }
+{
+    Arg::new(alloc, option.name)
+        .long(option.name)
+        .value_name("NUMBER")
+        .help(option.help)
+}
 
-/// A command with the options of a call record.
-fn on_call<'a>(alloc: Global, name: &'a str, about: &'a str) -> Result<Command<'a>, AllocError> {
+/// A command with options that take numbers.
+fn command_with<'a>(
+    alloc: Global,
+    name: &'a str,
+    about: &'a str,
+    options: &[NumberOption],
+) -> Result<Command<'a>, AllocError>
+    ensures { IfOk result (λ command. app_of command
+        ≡ record { top = shape_with name.now (options_of options.now); subs = [] }) }
+{
     let mut command = Command::new(alloc, name).about(about);
-    for (name, help) in CALL_OPTIONS {
-        let option = Arg::new(alloc, name)
-            .long(name)
-            .value_name("NUMBER")
-            .help(help);
-        command = command.arg(option)?;
+    for option in options {
+        command = command.arg(argument_of(alloc, *option))?;
     }
     Ok(command)
 }
 
-/// The command that compares a filter with a profile.
-fn comparison<'a>(alloc: Global) -> Result<Command<'a>, AllocError> {
-    let limit = Arg::new(alloc, "limit")
-        .long("limit")
-        .value_name("NUMBER")
-        .help("The most steps of the comparison [default: 1000000]");
-    Command::new(alloc, "compare")
-        .about("Compares a bundle of a filter, a profile and a table")
-        .arg(limit)
+/// A flag, as the reader of the command line takes it.
+fn flag_argument<'a>(alloc: Global, name: &'a str, help: &'a str) -> Arg<'a>
+    ensures rule { rule_of result ≡ flag_rule name.now }
+    ensures local { result.global ≡ false }
+{
+    Arg::new(alloc, name)
+        .long(name)
+        .action(ArgAction::SetTrue)
+        .help(help)
+}
+
+/// The command that compares.
+fn comparison<'a>(alloc: Global) -> Result<Command<'a>, AllocError>
+    ensures { IfOk result (λ command. app_of command ≡ record { top = shape_for Compare; subs = [] }) }
+{
+    let about = "Compares a bundle of filters, a profile and a table";
+    let native = "Only calls of x86-64 with numbers below 0x40000000";
+    let calls =
+        "Each named call by itself, and a line for each that isn't the same; not with --native";
+    command_with(alloc, "compare", about, &[limit_option()])?
+        .arg(flag_argument(alloc, NATIVE_FLAG, native))?
+        .arg(flag_argument(alloc, CALLS_FLAG, calls))
 }
 
 /// The program's commands and their options.
-fn program<'a>(alloc: Global) -> Result<Command<'a>, AllocError> {
+fn program<'a>(alloc: Global) -> Result<Command<'a>, AllocError>
+    ensures { IfOk result (λ command. app_of command ≡ scf) }
+{
+    let check = command_with(alloc, "check", "Checks a filter", &[])?;
+    let run = command_with(alloc, "run", "Runs a filter on a call", &call_options())?;
+    let decide = command_with(
+        alloc,
+        "decide",
+        "Runs a bundle of filters on a call",
+        &call_options(),
+    )?;
+    let list = command_with(alloc, "dis", "Lists a filter, which isn't checked", &[])?;
+    let assemble = command_with(alloc, "asm", "Assembles a text, which isn't checked", &[])?;
+    let compile = command_with(
+        alloc,
+        "compile",
+        "Compiles a bundle of a profile and a table",
+        &[],
+    )?;
+    let compare = comparison(alloc)?;
     Command::new(alloc, "scf")
         .version(VERSION)
         .about(ABOUT)
         .subcommand_required(true)
-        .subcommand(Command::new(alloc, "check").about("Checks a filter"))?
-        .subcommand(on_call(alloc, "run", "Runs a filter on a call")?)?
-        .subcommand(on_call(alloc, "decide", "Runs a bundle of filters on a call")?)?
-        .subcommand(Command::new(alloc, "dis").about("Lists a filter, which isn't checked"))?
-        .subcommand(Command::new(alloc, "asm").about("Assembles a text, which isn't checked"))?
-        .subcommand(Command::new(alloc, "compile").about(
-            "Compiles a bundle of a profile and a table",
-        ))?
-        .subcommand(comparison(alloc)?)
-}
-
-fn help(alloc: Global) -> Result<String, AllocError> {
-    program(alloc)?.render_help()
+        .subcommand(check)?
+        .subcommand(run)?
+        .subcommand(decide)?
+        .subcommand(list)?
+        .subcommand(assemble)?
+        .subcommand(compile)?
+        .subcommand(compare)
 }
 
 /// What the words say, the first being the program's name.
-pub(crate) fn parse<'a, T: AsStr>(alloc: Global, words: &'a [T]) -> Result<ArgMatches<'a>, Error> {
+pub(crate) fn parse<'a, T: AsStr>(alloc: Global, words: &'a [T]) -> Result<ArgMatches<'a>, Error>
+    ensures matches { IfOk result (λ m. subcommand_rows_of m ≡ subcommand_of scf (map T.text words.now)) }
+    ensures kinds { FailsBy (fault_of scf (map T.text words.now)) result }
+{
     program(alloc)?.try_get_matches_from(words)
 }
 
-fn reply_with(alloc: Global, error: &Error) -> Result<Reply, AllocError> {
-    let text = format!(in alloc; "{error}")?;
+/// The reply to words that name no command to be run: help, the version, or what is wrong with them.
+pub(crate) fn explain(alloc: Global, error: &Error) -> Result<Reply, Fault>
+    ensures { Explains (kind_of error.now) result }
+{
+    if error.kind() == ErrorKind::OutOfMemory {
+        return Err(Fault::CommandLine);
+    }
     let status = if error.use_stderr() {
         Status::CommandLine
     } else {
         Status::Well
     };
-    Ok(Reply::CommandLine { text, status })
-}
-
-/// The reply where no command is named: the help.
-pub(crate) fn usage(alloc: Global) -> Result<Reply, Fault> {
-    match help(alloc) {
-        Ok(text) => Ok(Reply::CommandLine {
-            text,
-            status: Status::CommandLine,
-        }),
-        Err(_) => Err(Fault::memory("command")),
+    match format!(in alloc; "{error}") {
+        Ok(text) => Ok(Reply::CommandLine { text, status }),
+        Err(_) => Err(Fault::CommandLine),
     }
-}
-
-/// The reply to words that name no command to be run: help, the version, or what is wrong with them.
-pub(crate) fn explain(alloc: Global, error: &Error) -> Result<Reply, Fault> {
-    if error.kind() == ErrorKind::OutOfMemory {
-        return Err(Fault::memory("command"));
-    }
-    reply_with(alloc, error).map_err(|_| Fault::memory("command"))
 }
 
 /// Says why the program's words can't be had: one isn't UTF-8, or memory was refused. The answer is the exit status.
@@ -121,7 +147,7 @@ pub fn refuse_words<W: Sink>(error: &io::Error, out: &mut W) -> u8
 {
     let (written, status) = match error.kind() {
         io::ErrorKind::InvalidData => (write_whole(out, NOT_UTF8), Status::CommandLine),
-        _ => (write_fault(out, Fault::memory("command")), Status::Failed),
+        _ => (write_fault(out, Fault::CommandLine), Status::Failed),
     };
     match written {
         Ok(()) => status.code(),

@@ -1,8 +1,9 @@
 //! The program's commands.
 
-ghost use Rattle.std.specs.Prelude.{◌≡◌, ◌≢◌, ◌≤◌};
-ghost use Rattle.scf_tool.specs.Replies.{status_of};
-ghost use Rattle.scf_tool.specs.Statuses.{IsQuiet};
+ghost use Rattle.std.specs.Prelude.{map};
+ghost use Rattle.scf_tool.specs.Commands.{IsTrueOf};
+ghost use Rattle.scf_tool.specs.Runs.{Ends, IsRunOfProgram};
+ghost use Rattle.scf_tool.specs.Statuses.{LeavesInput};
 
 mod compare;
 mod filter;
@@ -10,60 +11,46 @@ mod profile;
 mod stack;
 mod text;
 
-use crate::command_line::{explain, parse, usage};
+use crate::command_line::{explain, parse};
 use crate::fault::Fault;
-use crate::reply::{Reply, write_reply};
+use crate::reply::{Reply, status_of, write_ending};
+use crate::request::{Request, request_of};
 use crate::status::Status;
-use clap::ArgMatches;
 use compare::compare_bundle;
-use filter::{check_filter, run_filter};
+use filter::{check_filter, list_filter, run_filter};
 use profile::compile_profile;
 use scf_insn::{Sink, Source};
 use stack::decide_stack;
 use std::alloc::Global;
 use std::convert::AsStr;
-use text::{assemble_text, list_filter};
+use text::assemble_text;
 
 /// The most bytes of standard input, where it isn't one filter.
 const MAX_INPUT: usize = 16_777_216;
 
-/// The reply of the command that the matches name.
-fn dispatch<R: Source>(
-    alloc: Global,
-    matches: &ArgMatches<'_>,
-    input: &mut R,
-) -> Result<Reply, Fault>
-    ensures { IsQuiet R.failures input.old result input.new }
+/// What a request ends with.
+fn answer<R: Source>(alloc: Global, request: &Request, input: &mut R) -> Result<Reply, Fault>
+    ensures answer { IsTrueOf request.now (R.remaining input.old) result }
+    ensures left { LeavesInput R.remaining R.failures input.old result input.new }
 {
-    match matches.subcommand() {
-        Some(("asm", _)) => assemble_text(alloc, input),
-        Some(("check", _)) => check_filter(alloc, input),
-        Some(("compare", options)) => compare_bundle(alloc, options, input),
-        Some(("compile", _)) => compile_profile(alloc, input),
-        Some(("decide", options)) => decide_stack(alloc, options, input),
-        Some(("dis", _)) => list_filter(alloc, input),
-        Some(("run", options)) => run_filter(alloc, options, input),
-        _ => usage(alloc),
+    match request {
+        Request::Assemble => assemble_text(alloc, input),
+        Request::Check => check_filter(alloc, input),
+        Request::Compare { limit, scopes } => compare_bundle(alloc, *limit, *scopes, input),
+        Request::Compile => compile_profile(alloc, input),
+        Request::Decide(call) => decide_stack(alloc, call, input),
+        Request::List => list_filter(alloc, input),
+        Request::Run(call) => run_filter(alloc, call, input),
     }
 }
 
-/// The reply to the words. All that takes memory is done once it is there.
-fn reply_to<T: AsStr, R: Source>(alloc: Global, words: &[T], input: &mut R) -> Result<Reply, Fault>
-    ensures { IsQuiet R.failures input.old result input.new }
+/// What a run on these words ends with. All that takes memory is done once it is there.
+fn ending_of<T: AsStr, R: Source>(alloc: Global, words: &[T], input: &mut R) -> Result<Reply, Fault>
+    ensures { Ends (map T.text words.now) R.remaining R.failures input.old result input.new }
 {
     match parse(alloc, words) {
-        Ok(matches) => dispatch(alloc, &matches, input),
+        Ok(matches) => answer(alloc, &request_of(&matches)?, input),
         Err(error) => explain(alloc, &error),
-    }
-}
-
-/// What the program prints.
-fn answer<T: AsStr, R: Source>(alloc: Global, words: &[T], input: &mut R) -> Reply
-    ensures { status_of result ≢ Status.Failed → R.failures input.new ≡ R.failures input.old }
-{
-    match reply_to(alloc, words, input) {
-        Ok(reply) => reply,
-        Err(fault) => Reply::Fault(fault),
     }
 }
 
@@ -79,13 +66,14 @@ pub fn run_command<T: AsStr, R: Source, W: Sink>(
     input: &mut R,
     out: &mut W,
 ) -> u8
-    ensures status { result ≤ 4 }
-    ensures input { result ≢ 3 → R.failures input.new ≡ R.failures input.old }
-    ensures output { result ≢ 3 → W.failures out.new ≡ W.failures out.old }
+    ensures { IsRunOfProgram (map T.text words.now)
+        R.remaining R.failures input.old input.new
+        W.contents W.failures out.old out.new
+        result }
 {
-    let reply = answer(alloc, words, input);
-    match write_reply(out, &reply) {
-        Ok(()) => reply.status().code(),
+    let ending = ending_of(alloc, words, input);
+    match write_ending(out, &ending) {
+        Ok(()) => status_of(&ending).code(),
         Err(_) => Status::Failed.code(),
     }
 }

@@ -1,9 +1,10 @@
 //! Bytes that are gathered in memory.
 
-ghost use Rattle.std.specs.Prelude.{◌≡◌, []};
-ghost use Rattle.scf_tool.specs.Gathering.{gathered};
+ghost use Rattle.std.specs.Prelude.{◌≡◌, [], IfOk};
+ghost use Rattle.scf_insn.specs.Insn.{program_bytes};
+ghost use Rattle.scf_tool.specs.internal.Gathering.{gathered};
 
-use scf_insn::{Failed, Sink};
+use scf_insn::{Failed, Insn, Memory, Sink, write_program};
 use std::alloc::Global;
 
 /// A writer that keeps what it takes. A write fails where memory is refused.
@@ -47,5 +48,16 @@ impl Sink for Gathered {
                 Err(Failed)
             }
         }
+    }
+}
+
+/// The bytes of instructions.
+pub(crate) fn encoding_of(alloc: Global, insns: &[Insn]) -> Result<Vec<u8>, Memory>
+    ensures { IfOk result (λ bytes. bytes.items ≡ program_bytes insns.now) }
+{
+    let mut bytes = Gathered::new(alloc);
+    match write_program(insns, &mut bytes) {
+        Ok(()) => Ok(bytes.into_bytes()),
+        Err(_) => Err(Memory),
     }
 }

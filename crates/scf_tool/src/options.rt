@@ -1,10 +1,12 @@
-//! Options of the command line that take a number.
+//! Options of the command line, each of which takes a number.
 
 ghost use Rattle.std.specs.Prelude.{◌≡◌, ◌≤◌, Some, None, IfOk, IfErr};
-ghost use Rattle.clap.specs.Words.{found_of};
-ghost use Rattle.scf_tool.specs.Options.{NumberOption, number_in, SpellsCall};
+ghost use Rattle.clap.specs.Words.{found_of, rows_of};
+ghost use Rattle.scf_tool.specs.Options as table;
+ghost use Rattle.scf_tool.specs.internal.Parsing.{option_of, options_of};
 
 use clap::ArgMatches;
+use scf_insn::kernel::AUDIT_ARCH_X86_64;
 use scf_insn::{CallRecord, parse_number};
 use thiserror::Error;
 
@@ -15,45 +17,104 @@ pub struct NumberFault {
     pub name: &'static str,
 }
 
-/// The architecture of a call record where none is named: that of x86-64 (Linux uapi audit.h).
-const ARCH_X86_64: u64 = 0xc000_003e;
+/// An option that takes a number.
+#[derive(Clone, Copy)]
+pub(crate) struct NumberOption {
+    pub name: &'static str,
+    /// The number that it has where it has no text.
+    pub default: u64,
+    /// The greatest number that it may have.
+    pub most: u64,
+    /// What the help says of it.
+    pub help: &'static str,
+}
 
 /// The greatest number of 32 bits.
 const MAX_WORD: u64 = 0xffff_ffff;
 
-/// The number that an option spells, up to `most`, or the default where it has no text.
-pub(crate) fn number_option(
-    matches: &ArgMatches<'_>,
-    name: &'static str,
-    default: u64,
-    most: u64,
-) -> Result<u64, NumberFault>
-    requires { default ≤ most }
-    ensures ok { IfOk result (λ n. number_in (found_of matches.now) (record { name = name.now; default = default; most = most }) ≡ Some n) }
-    ensures within { IfOk result (λ n. n ≤ most) }
-    ensures err { IfErr result (λ fault. number_in (found_of matches.now) (record { name = name.now; default = default; most = most }) ≡ None) }
-    ensures named { IfErr result (λ fault. fault.name.now ≡ name.now) }
+/// An option of 32 bits.
+fn word(name: &'static str, default: u64, help: &'static str) -> NumberOption
+    ensures { option_of result ≡ table.word_option name.now default }
 {
-    let Some(text) = matches.get_str(name) else {
-        return Ok(default);
-    };
-    match parse_number(text.as_bytes()) {
-        Ok(number) if number <= most => Ok(number),
-        _ => Err(NumberFault { name }),
+    NumberOption {
+        name,
+        default,
+        most: MAX_WORD,
+        help,
     }
 }
 
-fn word_option(
-    matches: &ArgMatches<'_>,
-    name: &'static str,
-    default: u64,
-) -> Result<u32, NumberFault>
-    requires { default ≤ MAX_WORD }
-    ensures ok { IfOk result (λ n. number_in (found_of matches.now) (record { name = name.now; default = default; most = MAX_WORD }) ≡ Some n) }
-    ensures err { IfErr result (λ fault. number_in (found_of matches.now) (record { name = name.now; default = default; most = MAX_WORD }) ≡ None) }
-    ensures named { IfErr result (λ fault. fault.name.now ≡ name.now) }
+/// An option of 64 bits.
+fn long(name: &'static str, default: u64, help: &'static str) -> NumberOption
+    ensures { option_of result ≡ table.long_option name.now default }
 {
-    Ok(number_option(matches, name, default, MAX_WORD)? as u32)
+    NumberOption {
+        name,
+        default,
+        most: u64::MAX,
+        help,
+    }
+}
+
+/// The options that say what call a filter is asked about.
+pub(crate) fn call_options() -> [NumberOption; 9]
+    ensures { options_of result ≡ table.call_options }
+{
+    let arch = "The architecture [default: 0xc000003e, x86-64]";
+    [
+        word("nr", 0, "The number of the call [default: 0]"),
+        word("arch", u64::from(AUDIT_ARCH_X86_64), arch),
+        long("ip", 0, "The instruction pointer [default: 0]"),
+        long("a0", 0, "Argument 0 [default: 0]"),
+        long("a1", 0, "Argument 1 [default: 0]"),
+        long("a2", 0, "Argument 2 [default: 0]"),
+        long("a3", 0, "Argument 3 [default: 0]"),
+        long("a4", 0, "Argument 4 [default: 0]"),
+        long("a5", 0, "Argument 5 [default: 0]"),
+    ]
+}
+
+/// How many steps a comparison takes at most.
+pub(crate) fn limit_option() -> NumberOption
+    ensures { option_of result ≡ table.limit_option }
+{
+    let help = "The most steps of the comparison [default: 1000000]";
+    long("limit", 1_000_000, help)
+}
+
+/// The flag that leaves all but the native calls out of a comparison.
+pub(crate) const NATIVE_FLAG: &str = "native";
+
+/// The flag by which each named call is compared by itself.
+pub(crate) const CALLS_FLAG: &str = "calls";
+
+/// Whether a flag is given.
+pub(crate) fn is_given(matches: &ArgMatches<'_>, name: &str) -> bool
+    ensures { result ≡ table.is_given (rows_of (found_of matches.now)) name.now }
+{
+    match matches.get_str(name) {
+        Some(text) => text == "true",
+        None => false,
+    }
+}
+
+impl NumberOption {
+    /// The number that the option spells, or its default where it has no text.
+    pub(crate) fn number_in(self, matches: &ArgMatches<'_>) -> Result<u64, NumberFault>
+        requires { self.default ≤ self.most }
+        ensures ok { IfOk result (λ n. table.number_in (rows_of (found_of matches.now)) (option_of self) ≡ Some n) }
+        ensures within { IfOk result (λ n. n ≤ self.most) }
+        ensures err { IfErr result (λ fault. table.number_in (rows_of (found_of matches.now)) (option_of self) ≡ None) }
+        ensures named { IfErr result (λ fault. fault.name.now ≡ self.name.now) }
+    {
+        let Some(text) = matches.get_str(self.name) else {
+            return Ok(self.default);
+        };
+        match parse_number(text.as_bytes()) {
+            Ok(number) if number <= self.most => Ok(number),
+            _ => Err(NumberFault { name: self.name }),
+        }
+    }
 }
 
 /// The call record that the options `nr`, `arch`, `ip` and `a0` to `a5` of these matches spell. Without a text `arch`
@@ -61,21 +122,19 @@ fn word_option(
 /// range: decimal digits, or `0x` or `0X` and hexadecimal digits, below 2^32 for `nr` and `arch` and below 2^64 for
 /// the others.
 pub fn record_of(matches: &ArgMatches<'_>) -> Result<CallRecord, NumberFault>
-    ensures { SpellsCall (found_of matches.now) result }
+    ensures { table.SpellsCall (rows_of (found_of matches.now)) result }
 {
-    let nr = word_option(matches, "nr", 0)?;
-    let arch = word_option(matches, "arch", ARCH_X86_64)?;
-    let ip = number_option(matches, "ip", 0, u64::MAX)?;
-    let a0 = number_option(matches, "a0", 0, u64::MAX)?;
-    let a1 = number_option(matches, "a1", 0, u64::MAX)?;
-    let a2 = number_option(matches, "a2", 0, u64::MAX)?;
-    let a3 = number_option(matches, "a3", 0, u64::MAX)?;
-    let a4 = number_option(matches, "a4", 0, u64::MAX)?;
-    let a5 = number_option(matches, "a5", 0, u64::MAX)?;
-    Ok(CallRecord {
-        nr,
-        arch,
-        ip,
-        args: [a0, a1, a2, a3, a4, a5],
-    })
+    let [nr, arch, ip, a0, a1, a2, a3, a4, a5] = call_options();
+    let nr = nr.number_in(matches)? as u32;
+    let arch = arch.number_in(matches)? as u32;
+    let ip = ip.number_in(matches)?;
+    let args = [
+        a0.number_in(matches)?,
+        a1.number_in(matches)?,
+        a2.number_in(matches)?,
+        a3.number_in(matches)?,
+        a4.number_in(matches)?,
+        a5.number_in(matches)?,
+    ];
+    Ok(CallRecord { nr, arch, ip, args })
 }

@@ -4,9 +4,10 @@ ghost use Rattle.std.specs.Prelude.{◌≡◌, ◌++◌, codes};
 ghost use Rattle.std.specs.Fmt.{decimal};
 ghost use Rattle.scf_insn.specs.Streams.{Writes};
 ghost use Rattle.scf_tool.specs.Lines.{answer_text, steps_text};
-ghost use Rattle.scf_tool.specs.Replies.{reply_text, status_of};
+ghost use Rattle.scf_tool.specs.Replies.{ending_status, ending_text};
 
-use crate::fault::{Fault, write_fault};
+use crate::fault::Fault;
+use crate::fault_line::write_fault;
 use crate::lines::{write_answer, write_steps};
 use crate::pieces::{Piece, write_pieces};
 use crate::status::Status;
@@ -14,7 +15,7 @@ use scf_insn::{Answer, Sink, WriteFault, write_whole};
 use scf_machine::Ran;
 
 /// What a command found, ready to be printed: printing it takes no memory.
-#[derive(Debug, Drop)]
+#[derive(Drop)]
 pub(crate) enum Reply {
     /// The text of the command line's reader: help, the version, or what is wrong with the words.
     CommandLine { text: String, status: Status },
@@ -25,30 +26,19 @@ pub(crate) enum Reply {
     /// A stack of filters was asked.
     Decided(Answer),
     /// These bytes.
-    Bytes { bytes: Vec<u8>, status: Status },
-    /// The command ended early.
-    Fault(Fault),
+    Bytes(Vec<u8>),
+    /// A comparison came to what this text reports.
+    Compared { text: Vec<u8>, status: Status },
 }
 
-impl Reply {
-    /// These bytes, where all is well.
-    pub(crate) fn well(bytes: Vec<u8>) -> Reply {
-        Reply::Bytes {
-            bytes,
-            status: Status::Well,
-        }
-    }
-
-    /// The exit status that goes with it.
-    pub(crate) fn status(&self) -> Status
-        ensures { result ≡ status_of self.now }
-    {
-        match self {
-            Reply::CommandLine { status, .. } => *status,
-            Reply::Accepted(_) | Reply::Ran(_) | Reply::Decided(_) => Status::Well,
-            Reply::Bytes { status, .. } => *status,
-            Reply::Fault(fault) => fault.status,
-        }
+/// The exit status that goes with how a command ended.
+pub(crate) fn status_of(ending: &Result<Reply, Fault>) -> Status
+    ensures { result ≡ ending_status ending.now }
+{
+    match ending {
+        Ok(Reply::CommandLine { status, .. } | Reply::Compared { status, .. }) => *status,
+        Ok(_) => Status::Well,
+        Err(fault) => fault.status(),
     }
 }
 
@@ -79,16 +69,20 @@ fn write_decided<S: Sink>(sink: &mut S, answer: Answer) -> Result<(), WriteFault
     write_whole(sink, b"\n")
 }
 
-/// Writes a reply, or fails after a beginning of its text.
-pub(crate) fn write_reply<S: Sink>(sink: &mut S, reply: &Reply) -> Result<(), WriteFault>
-    ensures { Writes S.contents S.failures sink.old (reply_text reply.now) result sink.new }
+/// Writes what a command ended with, or fails after a beginning of its text.
+pub(crate) fn write_ending<S: Sink>(
+    sink: &mut S,
+    ending: &Result<Reply, Fault>,
+) -> Result<(), WriteFault>
+    ensures { Writes S.contents S.failures sink.old (ending_text ending.now) result sink.new }
 {
-    match reply {
-        Reply::CommandLine { text, .. } => write_whole(sink, text.as_bytes()),
-        Reply::Accepted(count) => write_accepted(sink, *count),
-        Reply::Ran(ran) => write_ran(sink, *ran),
-        Reply::Decided(answer) => write_decided(sink, *answer),
-        Reply::Bytes { bytes, .. } => write_whole(sink, bytes),
-        Reply::Fault(fault) => write_fault(sink, *fault),
+    match ending {
+        Ok(Reply::CommandLine { text, .. }) => write_whole(sink, text.as_bytes()),
+        Ok(Reply::Accepted(count)) => write_accepted(sink, *count),
+        Ok(Reply::Ran(ran)) => write_ran(sink, *ran),
+        Ok(Reply::Decided(answer)) => write_decided(sink, *answer),
+        Ok(Reply::Bytes(bytes)) => write_whole(sink, bytes),
+        Ok(Reply::Compared { text, .. }) => write_whole(sink, text),
+        Err(fault) => write_fault(sink, *fault),
     }
 }

@@ -8,6 +8,7 @@ ghost use Rattle.scf_tool.specs.Reports.{
   answer_line,
   argument_text,
   call_line,
+  left_out_text,
   name_line,
   prefixed,
   report_text,
@@ -25,7 +26,10 @@ use std::alloc::Global;
 
 /// Writes the number, the architecture and the instruction pointer of a call.
 fn write_call_front<S: Sink>(sink: &mut S, call: &CallRecord) -> Result<(), WriteFault>
-    ensures { Writes S.contents S.failures sink.old (codes "call nr " ++ decimal call.now.nr ++ codes " arch " ++ prefixed call.now.arch ++ codes " ip " ++ prefixed call.now.ip ++ codes " args") result sink.new }
+    ensures { Writes S.contents S.failures sink.old
+        (codes "call nr " ++ decimal call.now.nr ++ codes " arch " ++ prefixed call.now.arch
+        ++ codes " ip " ++ prefixed call.now.ip ++ codes " args")
+        result sink.new }
 {
     write_pieces(
         sink,
@@ -47,7 +51,7 @@ fn write_argument<S: Sink>(sink: &mut S, argument: u64) -> Result<(), WriteFault
     write_pieces(sink, &[Piece::Text(" 0x"), Piece::Hexadecimal(argument)])
 }
 
-fn write_arguments<S: Sink>(sink: &mut S, arguments: &[u64]) -> Result<(), WriteFault>
+pub(crate) fn write_arguments<S: Sink>(sink: &mut S, arguments: &[u64]) -> Result<(), WriteFault>
     ensures { Writes S.contents S.failures sink.old (flat_map argument_text arguments.now) result sink.new }
 {
     for argument in arguments {
@@ -70,7 +74,11 @@ fn write_who<S: Sink>(sink: &mut S, who: &str) -> Result<(), WriteFault>
     write_pieces(sink, &[Piece::Text(who), Piece::Text(" ")])
 }
 
-fn write_answer_line<S: Sink>(sink: &mut S, who: &str, answer: Answer) -> Result<(), WriteFault>
+pub(crate) fn write_answer_line<S: Sink>(
+    sink: &mut S,
+    who: &str,
+    answer: Answer,
+) -> Result<(), WriteFault>
     ensures { Writes S.contents S.failures sink.old (answer_line who.now answer.0) result sink.new }
 {
     write_who(sink, who)?;
@@ -85,7 +93,10 @@ fn write_difference<S: Sink>(
     filter: Answer,
     profile: Answer,
 ) -> Result<(), WriteFault>
-    ensures { Writes S.contents S.failures sink.old (codes "differs\n" ++ (call_line call.now ++ (answer_line (codes "filter") filter.0 ++ answer_line (codes "profile") profile.0))) result sink.new }
+    ensures { Writes S.contents S.failures sink.old
+        (codes "differs\n" ++ (call_line call.now
+        ++ (answer_line (codes "filter") filter.0 ++ answer_line (codes "profile") profile.0)))
+        result sink.new }
 {
     write_whole(sink, b"differs\n")?;
     write_call(sink, call)?;
@@ -94,7 +105,8 @@ fn write_difference<S: Sink>(
 }
 
 fn write_undecided<S: Sink>(sink: &mut S, at: usize) -> Result<(), WriteFault>
-    ensures { Writes S.contents S.failures sink.old (codes "undecided at " ++ decimal at ++ codes "\n") result sink.new }
+    ensures { Writes S.contents S.failures sink.old
+        (codes "undecided at " ++ decimal at ++ codes "\n") result sink.new }
 {
     write_pieces(
         sink,
@@ -106,7 +118,7 @@ fn write_undecided<S: Sink>(sink: &mut S, at: usize) -> Result<(), WriteFault>
     )
 }
 
-fn write_verdict<S: Sink>(sink: &mut S, verdict: &Verdict) -> Result<(), WriteFault>
+pub(crate) fn write_verdict<S: Sink>(sink: &mut S, verdict: &Verdict) -> Result<(), WriteFault>
     ensures { Writes S.contents S.failures sink.old (verdict_text verdict.now) result sink.new }
 {
     match verdict {
@@ -137,7 +149,8 @@ fn write_name<'a, S: Sink>(sink: &mut S, word: &'a str, name: &'a String) -> Res
 
 /// Writes a line for each name, behind a word.
 fn write_names<S: Sink>(sink: &mut S, word: &str, names: &[String]) -> Result<(), WriteFault>
-    ensures { Writes S.contents S.failures sink.old (flat_map (λ name. name_line word.now (string_bytes name)) names.now) result sink.new }
+    ensures { Writes S.contents S.failures sink.old
+        (flat_map (λ name. name_line word.now (string_bytes name)) names.now) result sink.new }
 {
     for name in names {
         write_name(sink, word, name)?;
@@ -151,12 +164,23 @@ fn write_texts<S: Sink>(sink: &mut S, word: &str, names: &Texts) -> Result<(), W
     write_names(sink, word, names.as_slice())
 }
 
+/// Writes what was left out of a profile.
+pub(crate) fn write_left_out<S: Sink>(
+    sink: &mut S,
+    skipped: &Texts,
+    others: &Texts,
+) -> Result<(), WriteFault>
+    ensures { Writes S.contents S.failures sink.old (left_out_text skipped.now others.now) result sink.new }
+{
+    write_texts(sink, "skipped", skipped)?;
+    write_texts(sink, "other", others)
+}
+
 fn write_outcome<S: Sink>(sink: &mut S, outcome: &Outcome) -> Result<(), WriteFault>
     ensures { Writes S.contents S.failures sink.old (report_text outcome.now) result sink.new }
 {
     write_verdict(sink, &outcome.verdict)?;
-    write_texts(sink, "skipped", &outcome.skipped)?;
-    write_texts(sink, "other", &outcome.other_architectures)
+    write_left_out(sink, &outcome.skipped, &outcome.other_architectures)
 }
 
 /// What the program prints of an outcome: the verdict, then a line for each skipped name and one for each other

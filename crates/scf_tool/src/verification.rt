@@ -1,28 +1,23 @@
 //! The comparison of a filter with a profile, from their bytes.
 
 ghost use Rattle.std.specs.Prelude.{ℕ, List, Option, IfOk, IfErr};
-ghost use Rattle.std.specs.List.{AllByRecursion};
-ghost use Rattle.scf_insn.specs.Insn.{IsInsn};
 ghost use Rattle.scf_tool.specs.Verifying.{
-  HasFilter,
-  IsFilter,
   IsLoaded,
-  IsOfFilter,
-  IsOfProfile,
-  IsOfTable,
-  IsRefused,
   IsTable,
   LeavesFilterReader,
   LeavesProfileReader,
   LeavesTableReader,
   Verifies,
 };
+ghost use Rattle.scf_tool.specs.internal.Verification.{IsNoProfile, IsNoTable};
 
+use crate::filter::{FilterFault, read_filter};
+use crate::filter_stack::StackFault;
 use scf_compare::{Verdict, compare};
 use scf_facts::WordSets;
-use scf_insn::{InputFault, Insn, Memory, ReadFault, Source, read_input, read_program};
-use scf_machine::{CheckFault, Program, check};
-use scf_profile::{CallTable, LoadFault, Loaded, TableFault, Texts, load};
+use scf_insn::{InputFault, Memory, ReadFault, Source, read_input};
+use scf_machine::{CheckFault, PushFault};
+use scf_profile::{CallTable, LoadFault, Loaded, MAX_TEXT_LEN, TableFault, Texts, load};
 use std::alloc::Global;
 use thiserror::Error;
 
@@ -43,6 +38,9 @@ pub enum VerifyFault {
     FilterRead(ReadFault),
     #[error("filter: {0}")]
     Check(CheckFault),
+    /// A filter isn't pushed on those before. `verify` never answers this.
+    #[error("stack: {0}")]
+    Stack(PushFault),
     #[error("table: {0}")]
     TableRead(InputFault),
     #[error("table: {0}")]
@@ -55,14 +53,31 @@ pub enum VerifyFault {
     Memory,
 }
 
-impl From<ReadFault> for VerifyFault {
+impl From<FilterFault> for VerifyFault {
     ghost use Rattle.std.specs.Prelude.{◌≡◌};
-    ghost use Rattle.scf_tool.specs.declared.verification.VerifyFault.TheVariants.{FilterRead};
+    ghost use Rattle.scf_tool.specs.internal.Verification.{verify_fault};
 
-    ghost from_gives = { λ fault e. e ≡ FilterRead fault };
+    ghost from_gives = { λ fault e. e ≡ verify_fault fault };
 
-    fn from(fault: ReadFault) -> VerifyFault {
-        VerifyFault::FilterRead(fault)
+    fn from(fault: FilterFault) -> VerifyFault {
+        match fault {
+            FilterFault::Read(fault) => VerifyFault::FilterRead(fault),
+            FilterFault::Check(fault) => VerifyFault::Check(fault),
+        }
+    }
+}
+
+impl From<StackFault> for VerifyFault {
+    ghost use Rattle.std.specs.Prelude.{◌≡◌};
+    ghost use Rattle.scf_tool.specs.internal.Verification.{verify_stack_fault};
+
+    ghost from_gives = { λ fault e. e ≡ verify_stack_fault fault };
+
+    fn from(fault: StackFault) -> VerifyFault {
+        match fault {
+            StackFault::Filter(fault) => VerifyFault::from(fault),
+            StackFault::Push(fault) => VerifyFault::Stack(fault),
+        }
     }
 }
 
@@ -99,38 +114,10 @@ impl From<Memory> for VerifyFault {
     }
 }
 
-/// The most bytes of a call table or a profile.
-const MAX_TEXT_LEN: usize = 4_194_304;
-
-/// The fields of each instruction are within their widths.
-fn note_widths(insns: &[Insn])
-    ensures { AllByRecursion IsInsn insns.now }
-{
-    for insn in insns {
-        insn.within_widths();
-    }
-}
-
-/// The filter that a reader has.
-fn read_filter<R: Source>(alloc: Global, reader: &mut R) -> Result<Program, VerifyFault>
-    ensures filter { IfOk result (IsFilter (R.remaining reader.old)) }
-    ensures refused { (table profile : Option (List ℕ)) → IfErr result (IsRefused (R.remaining reader.old) table profile) }
-    ensures own { IfErr result IsOfFilter }
-    ensures reader { LeavesFilterReader R.remaining R.failures reader.old result reader.new }
-{
-    let insns = read_program(alloc, reader)?;
-    note_widths(&insns);
-    match check(alloc, insns) {
-        Ok(program) => Ok(program),
-        Err((fault, _)) => Err(VerifyFault::Check(fault)),
-    }
-}
-
 /// The call table that a reader has.
-fn read_table<R: Source>(alloc: Global, reader: &mut R) -> Result<CallTable, VerifyFault>
+pub(crate) fn read_table<R: Source>(alloc: Global, reader: &mut R) -> Result<CallTable, VerifyFault>
     ensures table { IfOk result (IsTable (R.remaining reader.old)) }
-    ensures refused { (filter profile : Option (List ℕ)) → HasFilter filter → IfErr result (IsRefused filter (R.remaining reader.old) profile) }
-    ensures own { IfErr result IsOfTable }
+    ensures refused { IfErr result (IsNoTable (R.remaining reader.old)) }
     ensures reader { LeavesTableReader R.remaining R.failures reader.old result reader.new }
 {
     match read_input(alloc, reader, MAX_TEXT_LEN) {
@@ -140,14 +127,14 @@ fn read_table<R: Source>(alloc: Global, reader: &mut R) -> Result<CallTable, Ver
 }
 
 /// What the text that a reader has states with a call table.
-fn read_profile<R: Source>(
+pub(crate) fn read_profile<R: Source>(
     alloc: Global,
     reader: &mut R,
     names: &CallTable,
 ) -> Result<Loaded, VerifyFault>
     ensures loaded { IfOk result (IsLoaded (R.remaining reader.old) names.now) }
-    ensures refused { (filter table : Option (List ℕ)) → HasFilter filter → IsTable table names.now → IfErr result (IsRefused filter table (R.remaining reader.old)) }
-    ensures own { IfErr result IsOfProfile }
+    ensures refused { (table : Option (List ℕ)) → IsTable table names.now
+        → IfErr result (IsNoProfile table (R.remaining reader.old)) }
     ensures reader { LeavesProfileReader R.remaining R.failures reader.old result reader.new }
 {
     match read_input(alloc, reader, MAX_TEXT_LEN) {
@@ -171,7 +158,9 @@ pub fn verify<F: Source, P: Source, T: Source>(
     table_reader: &mut T,
     limit: u64,
 ) -> Result<Outcome, VerifyFault>
-    ensures answer { Verifies (F.remaining filter_reader.old) (T.remaining table_reader.old) (P.remaining profile_reader.old) limit result }
+    ensures answer { Verifies
+        (F.remaining filter_reader.old) (T.remaining table_reader.old) (P.remaining profile_reader.old)
+        limit result }
     ensures filter_reader { LeavesFilterReader F.remaining F.failures filter_reader.old result filter_reader.new }
     ensures table_reader { LeavesTableReader T.remaining T.failures table_reader.old result table_reader.new }
     ensures profile_reader { LeavesProfileReader P.remaining P.failures profile_reader.old result profile_reader.new }

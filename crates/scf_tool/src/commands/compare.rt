@@ -1,27 +1,29 @@
-//! The comparison of a filter with a profile.
+//! The comparison of a stack of filters with a profile.
 
-ghost use Rattle.scf_tool.specs.Bundle.{Spells};
-ghost use Rattle.scf_tool.specs.Statuses.{IsQuiet};
+ghost use Rattle.std.specs.Prelude.{◌≡◌, map};
+ghost use Rattle.scf_tool.specs.Commands.{ComesTo, Compares, ComparesParts, IsReportedByCall, IsReportedIn};
+ghost use Rattle.scf_tool.specs.Statuses.{LeavesInput, joint_status, verdict_status};
+ghost use Rattle.scf_tool.specs.internal.Contents.{rest_of};
 
-use crate::bundle::{Part, PartKind, content, split};
+use crate::call_reporting::{joint_verdict, report_calls};
+use crate::call_verification::verify_calls;
 use crate::commands::MAX_INPUT;
-use crate::commands::profile::place_of;
+use crate::contents::{Contents, PartReader, only};
 use crate::fault::Fault;
-use crate::options::number_option;
 use crate::reply::Reply;
 use crate::reporting::report;
+use crate::request::Scopes;
+use crate::stack_verification::verify_stack;
 use crate::status::Status;
-use crate::verification::verify;
-use clap::ArgMatches;
-use scf_compare::Verdict;
-use scf_insn::{Counted, Source, read_input};
+use crate::verification::VerifyFault;
+use scf_compare::{Scope, Verdict};
+use scf_insn::{Source, read_input};
 use std::alloc::Global;
 
-/// How many steps a comparison takes at most, where no limit is named.
-const DEFAULT_LIMIT: u64 = 1_000_000;
-
 /// The exit status that goes with a verdict.
-fn status_of_verdict(verdict: &Verdict) -> Status {
+fn status_of_verdict(verdict: &Verdict) -> Status
+    ensures { result ≡ verdict_status verdict.now }
+{
     match verdict {
         Verdict::Same { .. } => Status::Well,
         Verdict::Differs { .. } => Status::Refused,
@@ -29,37 +31,89 @@ fn status_of_verdict(verdict: &Verdict) -> Status {
     }
 }
 
-/// Compares the filter of a bundle with its profile and its table.
-fn compare_parts(alloc: Global, bytes: &[u8], parts: &[Part], limit: u64) -> Result<Reply, Fault>
-    requires { Spells bytes.now parts.now }
+/// The exit status that goes with the verdict that speaks for calls.
+fn status_of_joint(joint: Option<Verdict>) -> Status
+    ensures { result ≡ joint_status joint }
 {
-    let filter = place_of(parts, PartKind::Filter);
-    let profile = place_of(parts, PartKind::Profile);
-    let table = place_of(parts, PartKind::Table);
-    let (Some(filter), Some(profile), Some(table), 3) = (filter, profile, table, parts.len()) else {
-        return Err(Fault::parts());
-    };
-    let mut filter = Counted::new(content(bytes, parts, filter));
-    let mut profile = Counted::new(content(bytes, parts, profile));
-    let mut table = Counted::new(content(bytes, parts, table));
-    let outcome = verify(alloc, &mut filter, &mut profile, &mut table, limit)?;
-    let status = status_of_verdict(&outcome.verdict);
-    match report(alloc, &outcome) {
-        Ok(bytes) => Ok(Reply::Bytes { bytes, status }),
-        Err(_) => Err(Fault::memory("compare")),
+    match joint {
+        None => Status::Well,
+        Some(verdict) => status_of_verdict(&verdict),
     }
 }
 
-/// `compare`: whether a filter answers as a profile does.
+/// What filters, a profile and a table come to over the calls of a scope.
+fn compare_in(
+    alloc: Global,
+    scope: Scope,
+    filters: &mut [PartReader<'_>],
+    profile: &mut PartReader<'_>,
+    table: &mut PartReader<'_>,
+    limit: u64,
+) -> Result<Reply, VerifyFault>
+    ensures { ComesTo
+        (IsReportedIn scope (map rest_of filters.old) (rest_of profile.old) (rest_of table.old) limit)
+        (map rest_of filters.old) (rest_of profile.old) (rest_of table.old) result }
+{
+    let outcome = verify_stack(alloc, filters, profile, table, scope, limit)?;
+    let status = status_of_verdict(&outcome.verdict);
+    let text = report(alloc, &outcome)?;
+    Ok(Reply::Compared { text, status })
+}
+
+/// What filters, a profile and a table come to, call by call.
+fn compare_each(
+    alloc: Global,
+    filters: &mut [PartReader<'_>],
+    profile: &mut PartReader<'_>,
+    table: &mut PartReader<'_>,
+    limit: u64,
+) -> Result<Reply, VerifyFault>
+    ensures { ComesTo
+        (IsReportedByCall (map rest_of filters.old) (rest_of profile.old) (rest_of table.old) limit)
+        (map rest_of filters.old) (rest_of profile.old) (rest_of table.old) result }
+{
+    let outcome = verify_calls(alloc, filters, profile, table, limit)?;
+    let status = status_of_joint(joint_verdict(&outcome.calls));
+    let text = report_calls(alloc, &outcome)?;
+    Ok(Reply::Compared { text, status })
+}
+
+/// What filters, a profile and a table come to.
+fn compare_parts(
+    alloc: Global,
+    filters: &mut [PartReader<'_>],
+    profile: &[u8],
+    table: &[u8],
+    scopes: Scopes,
+    limit: u64,
+) -> Result<Reply, VerifyFault>
+    ensures { ComparesParts (map rest_of filters.old) profile.now table.now scopes limit result }
+{
+    let profile = &mut PartReader::new(profile);
+    let table = &mut PartReader::new(table);
+    match scopes {
+        Scopes::All => compare_in(alloc, Scope::All, filters, profile, table, limit),
+        Scopes::Native => compare_in(alloc, Scope::Native, filters, profile, table, limit),
+        Scopes::EachCall => compare_each(alloc, filters, profile, table, limit),
+    }
+}
+
+/// `compare`: whether a stack of filters answers as a profile does.
 pub(super) fn compare_bundle<R: Source>(
     alloc: Global,
-    options: &ArgMatches<'_>,
+    limit: u64,
+    scopes: Scopes,
     input: &mut R,
 ) -> Result<Reply, Fault>
-    ensures { IsQuiet R.failures input.old result input.new }
+    ensures answer { Compares scopes limit (R.remaining input.old) result }
+    ensures left { LeavesInput R.remaining R.failures input.old result input.new }
 {
-    let limit = number_option(options, "limit", DEFAULT_LIMIT, u64::MAX)?;
     let bytes = read_input(alloc, input, MAX_INPUT)?;
-    let parts = split(alloc, &bytes)?;
-    compare_parts(alloc, &bytes, &parts, limit)
+    let mut contents = Contents::of(alloc, &bytes)?;
+    let profile = only(&contents.profiles);
+    let table = only(&contents.tables);
+    let (Some(profile), Some(table), false) = (profile, table, contents.filters.is_empty()) else {
+        return Err(Fault::Parts);
+    };
+    Ok(compare_parts(alloc, &mut contents.filters, profile, table, scopes, limit)?)
 }

@@ -1,55 +1,44 @@
 //! Commands on a profile and its call table.
 
-ghost use Rattle.std.specs.Prelude.{◌<◌, length, IfSome};
-ghost use Rattle.scf_tool.specs.Bundle.{Spells};
-ghost use Rattle.scf_tool.specs.Statuses.{IsQuiet};
+ghost use Rattle.std.specs.Prelude.{IfOk, IfErr};
+ghost use Rattle.scf_tool.specs.Commands.{CantCompile, Compiles, IsFilterOf};
+ghost use Rattle.scf_tool.specs.Statuses.{LeavesInput};
 
-use crate::bundle::{Part, PartKind, content, split};
 use crate::commands::MAX_INPUT;
-use crate::commands::text::encoding_of;
+use crate::contents::{Contents, only};
 use crate::fault::Fault;
+use crate::gathered::encoding_of;
 use crate::reply::Reply;
-use scf_compile::compile;
+use scf_compile::{CompileFault, compile};
 use scf_insn::{Source, read_input};
-use scf_machine::Program;
 use scf_profile::{CallTable, load};
 use std::alloc::Global;
 
-/// The place of the first part of a kind.
-pub(super) fn place_of(parts: &[Part], kind: PartKind) -> Option<usize>
-    ensures { IfSome result (λ place. place < length parts.now) }
+/// The bytes of the filter of a profile and a table.
+fn filter_bytes(alloc: Global, profile: &[u8], table: &[u8]) -> Result<Vec<u8>, Fault>
+    ensures filter { IfOk result (λ bytes. IsFilterOf profile.now table.now bytes.items) }
+    ensures fault { IfErr result (CantCompile profile.now table.now) }
 {
-    for (place, part) in parts.iter().enumerate() {
-        if part.kind == kind {
-            return Some(place);
-        }
+    let table = CallTable::read(alloc, table)?;
+    let loaded = load(alloc, profile, &table)?;
+    let program = compile(alloc, &loaded.profile)?;
+    match encoding_of(alloc, program.insns()) {
+        Ok(bytes) => Ok(bytes),
+        Err(_) => Err(Fault::Compile(CompileFault::Memory)),
     }
-    None
-}
-
-/// The filter of the profile and the table that a bundle has.
-fn compile_parts(alloc: Global, bytes: &[u8], parts: &[Part]) -> Result<Program, Fault>
-    requires { Spells bytes.now parts.now }
-{
-    let profile = place_of(parts, PartKind::Profile);
-    let table = place_of(parts, PartKind::Table);
-    let (Some(profile), Some(table), 2) = (profile, table, parts.len()) else {
-        return Err(Fault::parts());
-    };
-    let table = CallTable::read(alloc, content(bytes, parts, table))?;
-    let loaded = load(alloc, content(bytes, parts, profile), &table)?;
-    Ok(compile(alloc, &loaded.profile)?)
 }
 
 /// `compile`: the filter that answers as a profile does.
 pub(super) fn compile_profile<R: Source>(alloc: Global, input: &mut R) -> Result<Reply, Fault>
-    ensures { IsQuiet R.failures input.old result input.new }
+    ensures answer { Compiles (R.remaining input.old) result }
+    ensures left { LeavesInput R.remaining R.failures input.old result input.new }
 {
     let bytes = read_input(alloc, input, MAX_INPUT)?;
-    let parts = split(alloc, &bytes)?;
-    let program = compile_parts(alloc, &bytes, &parts)?;
-    match encoding_of(alloc, program.insns()) {
-        Ok(bytes) => Ok(Reply::well(bytes)),
-        Err(_) => Err(Fault::memory("compile")),
-    }
+    let contents = Contents::of(alloc, &bytes)?;
+    let profile = only(&contents.profiles);
+    let table = only(&contents.tables);
+    let (Some(profile), Some(table), true) = (profile, table, contents.filters.is_empty()) else {
+        return Err(Fault::Parts);
+    };
+    Ok(Reply::Bytes(filter_bytes(alloc, profile, table)?))
 }

@@ -1,54 +1,43 @@
 //! Commands on a stack of filters.
 
-ghost use Rattle.scf_tool.specs.Bundle.{Spells};
-ghost use Rattle.scf_tool.specs.Statuses.{IsQuiet};
+ghost use Rattle.std.specs.Prelude.{map, Some, IfOk, IfErr};
+ghost use Rattle.scf_tool.specs.Commands.{Decides};
+ghost use Rattle.scf_tool.specs.FilterStacks.{HasStack};
+ghost use Rattle.scf_tool.specs.Statuses.{LeavesInput};
+ghost use Rattle.scf_tool.specs.internal.Contents.{rest_of};
+ghost use Rattle.scf_tool.specs.internal.Pushing.{IsNoStackOf};
 
-use crate::bundle::{Part, PartKind, content, split};
 use crate::commands::MAX_INPUT;
-use crate::commands::filter::read_filter;
+use crate::contents::{Contents, PartReader};
 use crate::fault::Fault;
-use crate::options::record_of;
+use crate::filter_stack::read_stack;
 use crate::reply::Reply;
-use clap::ArgMatches;
-use scf_insn::{Counted, Source, read_input};
+use scf_insn::{CallRecord, Source, read_input};
 use scf_machine::FilterStack;
 use std::alloc::Global;
 
-/// Reads the filter that these bytes are, checks it and pushes it.
-fn push_filter(alloc: Global, stack: &mut FilterStack, bytes: &[u8]) -> Result<(), Fault> {
-    let mut source = Counted::new(bytes);
-    let program = read_filter(alloc, &mut source)?;
-    match stack.push(program) {
-        Ok(()) => Ok(()),
-        Err((fault, _)) => Err(Fault::from(fault)),
-    }
-}
-
-/// The stack of the filters of a bundle, the first being the oldest.
-fn stack_of(alloc: Global, bytes: &[u8], parts: &[Part]) -> Result<FilterStack, Fault>
-    requires { Spells bytes.now parts.now }
+/// The stack of the filters of a bundle.
+fn stack_of(alloc: Global, filters: &mut [PartReader<'_>]) -> Result<FilterStack, Fault>
+    ensures stack { IfOk result (HasStack (map Some (map rest_of filters.old))) }
+    ensures fault { IfErr result (IsNoStackOf (map rest_of filters.old)) }
 {
-    if !parts.iter().all(|part| part.kind == PartKind::Filter) {
-        return Err(Fault::parts());
-    }
-    let mut stack = FilterStack::new(alloc);
-    for place in 0..parts.len() {
-        push_filter(alloc, &mut stack, content(bytes, parts, place))?;
-    }
-    Ok(stack)
+    Ok(read_stack(alloc, filters)?)
 }
 
 /// `decide`: what a stack of filters answers to a call.
 pub(super) fn decide_stack<R: Source>(
     alloc: Global,
-    options: &ArgMatches<'_>,
+    call: &CallRecord,
     input: &mut R,
 ) -> Result<Reply, Fault>
-    ensures { IsQuiet R.failures input.old result input.new }
+    ensures answer { Decides call.now (R.remaining input.old) result }
+    ensures left { LeavesInput R.remaining R.failures input.old result input.new }
 {
-    let call = record_of(options)?;
     let bytes = read_input(alloc, input, MAX_INPUT)?;
-    let parts = split(alloc, &bytes)?;
-    let stack = stack_of(alloc, &bytes, &parts)?;
-    Ok(Reply::Decided(stack.decide(&call)))
+    let mut contents = Contents::of(alloc, &bytes)?;
+    if !contents.profiles.is_empty() || !contents.tables.is_empty() {
+        return Err(Fault::Parts);
+    }
+    let stack = stack_of(alloc, &mut contents.filters)?;
+    Ok(Reply::Decided(stack.decide(call)))
 }

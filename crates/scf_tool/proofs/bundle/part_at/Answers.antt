@@ -4,7 +4,14 @@ use Rattle.scf_tool.proofs.BundleLemmas.{part_in_front, some_left, tail}
 use Rattle.scf_tool.proofs.bundle.part_at.Goals as goal
 
 pub returns-in_default-clause-fault : goal.returns-in_default-clause-fault
-returns-in_default-clause-fault c = (refl, record { more = some_left c.args.offset c.args.bytes.now c.requires; none = rw (tail c.args.offset c.args.bytes.now) at c.in_default.ensures.none })
+returns-in_default-clause-fault c = (
+  refl,
+  record {
+    more = some_left c.args.offset c.args.bytes.now c.requires;
+    none =
+        rw (tail c.args.offset c.args.bytes.now) at c.in_default.ensures.none;
+  },
+)
 
 pub returns-then-rest-header-clause-fault : goal.returns-then-rest-header-clause-fault
 returns-then-rest-header-clause-fault c =
@@ -28,6 +35,8 @@ pub returns-clause-part : goal.returns-clause-part
 returns-clause-part c =
     let header = c.in-Some.header in
     let rest = drop c.args.offset c.args.bytes.now in
-    let sum : c.args.offset + header.length + header.count - c.args.offset ≡ header.length + header.count = omega arith in
+    let sum : c.args.offset + header.length + header.count - c.args.offset ≡ header.length + header.count =
+    omega arith in
     let whole = tail c.args.offset c.args.bytes.now in
-    rw sum (part_in_front c.args.offset rest _ header.length (rw whole at c.in-Some.ensures.some.0) (rw whole at c.if-rest-header.false) (rw whole at c.in-Some.ensures.some.1) refl)
+    rw sum (part_in_front c.args.offset rest _ header.length (rw whole at c.in-Some.ensures.some.0)
+    (rw whole at c.if-rest-header.false) (rw whole at c.in-Some.ensures.some.1) refl)

@@ -7,7 +7,8 @@ use Rattle.scf_tool.proofs.bundle.split.Goals as goal
 pub returns-in_err-part-clause-none : goal.returns-in_err-part-clause-none
 returns-in_err-part-clause-none c =
     let stopped = err_from_is_err_and c.from_residual.result c.from_residual.ensures.1 in
-    let here = breaks c.args.bytes.now c.loop-offset.offset c.loop-offset.parts.items c.in_err-part.field-0.0 c.loop-offset.invariant.spelled c.in_err-part.ensures.fault in
+    let here = breaks c.args.bytes.now c.loop-offset.offset c.loop-offset.parts.items c.in_err-part.field-0.0
+    c.loop-offset.invariant.spelled c.in_err-part.ensures.fault in
     rw (stopped.1, stopped.2) (fault_no_parts c.args.bytes.now c.in_err-part.field-0.0 here)
 
 pub loop-offset-preserved : goal.loop-offset-preserved
@@ -16,9 +17,13 @@ loop-offset-preserved c =
     let inside = c.in_ok-part.ensures.inside in
     record {
       inside = inside.1;
-      spelled = rw c.in_ok-push.ensures.items (next_part c.args.bytes.now c.loop-offset.offset _ c.loop-offset.parts.items part c.loop-offset.invariant.inside (omega (arith, inside.0)) c.loop-offset.invariant.spelled c.in_ok-part.ensures.part);
+      spelled = rw c.in_ok-push.ensures.items
+          (next_part c.args.bytes.now c.loop-offset.offset _ c.loop-offset.parts.items part
+          c.loop-offset.invariant.inside (omega (arith, inside.0)) c.loop-offset.invariant.spelled
+          c.in_ok-part.ensures.part);
     }
 
 pub returns-clause-only : goal.returns-clause-only
 returns-clause-only c =
-    λ others spelled. one_spelling 0 c.args.bytes.now others c.loop-offset.parts.items spelled (rw (take_all c.loop-offset.offset c.args.bytes.now c.loop-offset-test.false) at c.loop-offset.invariant.spelled)
+    λ others spelled. one_spelling 0 c.args.bytes.now others c.loop-offset.parts.items spelled
+    (rw (take_all c.loop-offset.offset c.args.bytes.now c.loop-offset-test.false) at c.loop-offset.invariant.spelled)

@@ -9,4 +9,5 @@ returns-in_err-write_answer g c =
     rw stopped.1 (fails_first (steps_text c.args.ran.steps) c.in_err-write_answer.ensures)
 
 pub returns : goal.returns
-returns g c = writes_then g.S.Sink.contents g.S.Sink.failures _ _ (answer_text c.args.ran.answer.0) _ _ _ c.in_ok-write_answer.ensures c.write_steps.ensures
+returns g c = writes_then g.S.Sink.contents g.S.Sink.failures _ _ (answer_text c.args.ran.answer.0) _ _ _
+    c.in_ok-write_answer.ensures c.write_steps.ensures

@@ -11,10 +11,13 @@ returns-in_err-write_who g c =
 
 pub returns-in_err-write_answer : goal.returns-in_err-write_answer
 returns-in_err-write_answer g c =
-    let stopped = err_from_is_err_and c.from_residual-in_err-write_answer.result c.from_residual-in_err-write_answer.ensures.1 in
+    let stopped = err_from_is_err_and c.from_residual-in_err-write_answer.result
+    c.from_residual-in_err-write_answer.ensures.1 in
     rw stopped.1 (fails_then c.in_ok-write_who.ensures (fails_first (codes "\n") c.in_err-write_answer.ensures))
 
 pub returns : goal.returns
-returns g c = writes_then g.S.Sink.contents g.S.Sink.failures _ _ (c.args.who.now ++ codes " ") _ _ _ c.in_ok-write_who.ensures
-    (writes_then g.S.Sink.contents g.S.Sink.failures _ _ (answer_text c.args.answer.0) _ _ _ c.in_ok-write_answer.ensures
+returns g c = writes_then g.S.Sink.contents g.S.Sink.failures _ _ (c.args.who.now ++ codes " ") _ _ _
+    c.in_ok-write_who.ensures
+    (writes_then g.S.Sink.contents g.S.Sink.failures _ _ (answer_text c.args.answer.0) _ _ _
+    c.in_ok-write_answer.ensures
     c.write_whole.ensures)

@@ -7,19 +7,21 @@ use Rattle.scf_profile.specs.Table.{Names}
 use Rattle.scf_tool.specs.Verifying.{IsWithinLimit}
 use Rattle.scf_tool.proofs.verification.read_profile.Goals as goal
 
-refused_text : (bytes : Option (List ℕ)) (text : List ℕ) (names : Names) (fault : LoadFault) → IfSome bytes (λ told. (told ≡ text) × (length told ≤ 4194304)) → Refuses text names fault → IfSome bytes (λ told. IsWithinLimit told × Refuses told names fault)
+refused_text : (bytes : Option (List ℕ)) (text : List ℕ) (names : Names) (fault : LoadFault)
+    → IfSome bytes (λ told. (told ≡ text) × (length told ≤ 4194304)) → Refuses text names fault
+    → IfSome bytes (λ told. IsWithinLimit told × Refuses told names fault)
 refused_text None text names fault h refused = tt
-refused_text (Some told) text names fault h refused = (h.1, subst (λ (t : List ℕ). Refuses t names fault) (sym h.0) refused)
+refused_text (Some told) text names fault h refused =
+    (h.1, subst (λ (t : List ℕ). Refuses t names fault) (sym h.0) refused)
 
 pub returns-in_err-load-in-Ok-clause-refused : goal.returns-in_err-load-in-Ok-clause-refused
-returns-in_err-load-in-Ok-clause-refused g c = λ filter table has_filter is_table.
+returns-in_err-load-in-Ok-clause-refused g c = λ table is_table.
     let p = err_from_is_err_and c.from_residual.result c.from_residual.ensures.1 in
-    let refused = subst (λ (t : List ℕ). Refuses t c.args.names.now c.in_err-load-in-Ok.field-0.0) c.deref.ensures.value c.in_err-load-in-Ok.ensures.err in
-    rw (p.1, p.2) (
-      has_filter,
-      record {
-        names = c.args.names.now;
-        is_table = is_table;
-        refused = refused_text (g.R.Source.remaining c.args.reader.now) c.in-Ok.text.items c.args.names.now c.in_err-load-in-Ok.field-0.0 c.in-Ok.ensures.input refused;
-      },
-    )
+    let refused = subst (λ (t : List ℕ). Refuses t c.args.names.now c.in_err-load-in-Ok.field-0.0)
+    c.deref.ensures.value c.in_err-load-in-Ok.ensures.err in
+    rw (p.1, p.2) record {
+      names = c.args.names.now;
+      is_table = is_table;
+      refused = refused_text (g.R.Source.remaining c.args.reader.now) c.in-Ok.text.items c.args.names.now
+          c.in_err-load-in-Ok.field-0.0 c.in-Ok.ensures.input refused;
+    }

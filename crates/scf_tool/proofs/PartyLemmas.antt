@@ -1,0 +1,43 @@
+-- The parties of a comparison.
+use Rattle.std.proofs.Common.{refl}
+use Rattle.std.specs.Prelude.{ℕ, List, Option}
+use Rattle.scf_insn.specs.declared.insn.Insn.{Insn}
+use Rattle.scf_profile.specs.Profile.{Profile}
+use Rattle.scf_profile.specs.Table.{Names}
+use Rattle.scf_tool.specs.declared.parties.Parties.{Parties}
+use Rattle.scf_tool.specs.declared.verification.VerifyFault.TheVariants.{Memory}
+use Rattle.scf_tool.specs.VerifyingStacks.{AreComparedParties, IsRefusedStack}
+use Rattle.scf_tool.specs.internal.Verification.{AreParties}
+
+module _ (filters : List (Option (List ℕ))) (table profile : Option (List ℕ)) where
+  -- once they are read, only memory can be refused
+  pub parties_are_read : (parties : Parties) → AreParties filters table profile parties
+      → IsRefusedStack filters table profile Memory
+  parties_are_read parties read = (
+    (parties.stack, read.has_stack),
+    (parties.names, read.is_table, parties.loaded, read.is_loaded),
+  )
+
+  -- and what holds of them is said of their bytes
+  pub parties_are_compared : (parties : Parties) (holds : List (List Insn) → Names → Profile → Type 0)
+      → AreParties filters table profile parties → holds parties.stack parties.names parties.loaded.profile
+      → AreComparedParties filters table profile parties.loaded.skipped parties.loaded.other_architectures holds
+  parties_are_compared parties holds read compared = record {
+    stack = parties.stack;
+    names = parties.names;
+    loaded = parties.loaded;
+    has_stack = read.has_stack;
+    is_table = read.is_table;
+    is_loaded = read.is_loaded;
+    skipped = refl;
+    other_architectures = refl;
+    compared = compared;
+  }
+
+  -- where they are compared, only the memory of the report can be refused
+  pub compared_are_read : (left_out others : List (List ℕ)) (holds : List (List Insn) → Names → Profile → Type 0)
+      → AreComparedParties filters table profile left_out others holds → IsRefusedStack filters table profile Memory
+  compared_are_read left_out others holds compared = (
+    (compared.stack, compared.has_stack),
+    (compared.names, compared.is_table, compared.loaded, compared.is_loaded),
+  )

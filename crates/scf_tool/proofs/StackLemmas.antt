@@ -1,0 +1,173 @@
+-- Readers of filters, one after another.
+use Rattle.std.proofs.Common.{◌≡◌, ℕ, ◌+◌, ◌<◌, ◌≤◌, List, [], ◌∷◌, ◌++◌, length, take, drop, set, get_or, map, Option, Some, Result, Bor, refl, sym, ap, ◌∙◌, ◌≢◌, arith, add-one, length-drop}
+use Rattle.std.proofs.lemmas.List.{drop_more, take_more, take_more_set, set_split, drop-set-lt, take-append-drop, map-append, length-map}
+use Rattle.std.proofs.lemmas.List.Sums.{sum_by_push}
+use Rattle.scf_insn.specs.declared.insn.Insn.{Insn}
+use Rattle.scf_machine.specs.Stack.{cost_of}
+use Rattle.scf_insn.specs.declared.encoding.ReadFault.TheVariants.{Read as CantRead}
+use Rattle.scf_insn.specs.Streams.{HasFailed}
+use Rattle.scf_tool.specs.declared.contents.PartReader.{PartReader}
+use Rattle.scf_tool.specs.declared.filter.FilterFault.{FilterFault}
+use Rattle.scf_tool.specs.declared.filter.FilterFault.TheVariants.{Read, Check}
+use Rattle.scf_tool.specs.declared.filter_stack.StackFault.{StackFault}
+use Rattle.scf_tool.specs.declared.filter_stack.StackFault.TheVariants.{Filter, Push}
+use Rattle.scf_tool.specs.Verifying.{HasEnded, IsFilter}
+use Rattle.scf_tool.specs.FilterStacks.{AreFilters, HasStack, HasNoStack, IsNotPushed, HaveEnded, HaveStopped, LeavesOwn}
+use Rattle.scf_tool.specs.declared.reply.Reply.{Reply}
+use Rattle.scf_tool.specs.declared.request.Scopes.{Scopes}
+use Rattle.scf_tool.specs.declared.verification.VerifyFault.{VerifyFault}
+use Rattle.scf_tool.specs.Bundle.{IsBundle}
+use Rattle.scf_tool.specs.Commands.{IsRead, IsCompared, ComparesParts}
+use Rattle.scf_profile.specs.References.{texts_at}
+use Rattle.scf_tool.specs.internal.Contents.{rest_of}
+use Rattle.scf_tool.specs.internal.Pushing.{PushesFilter, IsNoStackOf, stack_fault}
+
+-- one more filter
+one_more_filter : (filters : List (Option (List ℕ))) (stack : List (List Insn)) (bytes : Option (List ℕ))
+    (insns : List Insn) → AreFilters filters stack → IsFilter bytes insns
+    → AreFilters (filters ++ bytes ∷ []) (stack ++ insns ∷ [])
+one_more_filter [] [] bytes insns h own = (own, tt)
+one_more_filter (f ∷ fs) (s ∷ ss) bytes insns h own = (h.0, one_more_filter fs ss bytes insns h.1 own)
+one_more_filter [] (s ∷ ss) bytes insns h own = absurd h
+one_more_filter (f ∷ fs) [] bytes insns h own = absurd h
+
+-- one more reader
+one_more_reader : {R : Type 0} (remaining : R → Option (List ℕ)) (failures : R → ℕ) (olds news : List R) (old new : R)
+    → HaveEnded remaining failures olds news → HasEnded remaining failures old new
+    → HaveEnded remaining failures (olds ++ old ∷ []) (news ++ new ∷ [])
+one_more_reader remaining failures [] [] old new h own = (own, tt)
+one_more_reader remaining failures (o ∷ os) (n ∷ ns) old new h own =
+    (h.0, one_more_reader remaining failures os ns old new h.1 own)
+one_more_reader remaining failures [] (n ∷ ns) old new h own = absurd h
+one_more_reader remaining failures (o ∷ os) [] old new h own = absurd h
+
+-- the lists hold the same from a place on, and this stands there
+pub record SameFrom {R : Type 0} (i : ℕ) (olds news : List R) (old : R) : Type 0 where
+  pub within : i < length news
+  pub here : old ≡ get_or news i old
+  pub same : drop i news ≡ drop i olds
+
+module _ {R : Type 0} (i : ℕ) (olds news : List R) (old : R) (from : SameFrom i olds news old) where
+  within_olds : i < length olds
+  within_olds = omega (arith, from.within, ap length from.same, length-drop i news, length-drop i olds)
+
+  old_here : old ≡ get_or olds i old
+  old_here =
+      let behind = from.here in
+      let new = drop_more news i old from.within in
+      let was = drop_more olds i old within_olds in
+      let same = from.same in
+      cc
+
+  same_behind : drop (i + 1) news ≡ drop (i + 1) olds
+  same_behind =
+      ap (λ xs. drop 1 xs)
+      (sym (drop_more news i old from.within) ∙ from.same ∙ drop_more olds i old within_olds)
+
+  olds_split : olds ≡ take i olds ++ old ∷ drop (i + 1) news
+  olds_split =
+      sym (take-append-drop i olds)
+      ∙ ap (λ xs. take i olds ++ xs)
+      (drop_more olds i old within_olds ∙ ap (λ x. x ∷ drop (i + 1) olds) (sym old_here)
+      ∙ ap (λ xs. old ∷ xs) (sym same_behind))
+
+  olds_taken : take (i + 1) olds ≡ take i olds ++ old ∷ []
+  olds_taken = take_more olds i old within_olds ∙ ap (λ x. take i olds ++ x ∷ []) (sym old_here)
+
+-- what is known once the readers before a place had filters
+pub record IsStackUpTo {R : Type 0} (remaining : R → Option (List ℕ)) (failures : R → ℕ) (i : ℕ) (olds news : List R)
+    (stack : List (List Insn)) : Type 0 where
+  pub has_stack : HasStack (map remaining (take i olds)) stack
+  pub ended : HaveEnded remaining failures (take i olds) (take i news)
+  pub same : drop i news ≡ drop i olds
+
+-- one more filter is pushed
+pub stack_grows : {R : Type 0} (remaining : R → Option (List ℕ)) (failures : R → ℕ) (i : ℕ) (olds news : List R)
+    (old new : R) (stack pushed : List (List Insn)) → SameFrom i olds news old
+    → IsStackUpTo remaining failures i olds news stack → PushesFilter stack (remaining old) pushed
+    → HasEnded remaining failures old new → IsStackUpTo remaining failures (i + 1) olds (set news i new) pushed
+stack_grows remaining failures i olds news old new stack pushed from upto push end =
+    let accepted = one_more_filter (map remaining (take i olds)) stack (remaining old) push.insns
+    upto.has_stack.accepted push.is_filter in
+    let total : cost_of (stack ++ push.insns ∷ []) ≤ 32768 + 4 =
+    omega (arith, push.total, sum_by_push (λ filter. length filter + 4) stack push.insns) in
+    let told : map remaining (take (i + 1) olds) ≡ map remaining (take i olds) ++ remaining old ∷ [] =
+    ap (map remaining) (olds_taken i olds news old from) ∙ map-append remaining (take i olds) (old ∷ []) in
+    record {
+      has_stack = rw (told, push.on_top) record { accepted = accepted; total = total };
+      ended = rw (olds_taken i olds news old from, take_more_set news i new from.within)
+          (one_more_reader remaining failures (take i olds) (take i news) old new upto.ended end);
+      same = drop-set-lt (i + 1) news i new (omega arith) ∙ same_behind i olds news old from;
+    }
+
+-- a filter isn't pushed
+pub no_stack : {R : Type 0} (remaining : R → Option (List ℕ)) (failures : R → ℕ) (i : ℕ) (olds news : List R) (old : R)
+    (stack : List (List Insn)) (fault : StackFault) → SameFrom i olds news old
+    → IsStackUpTo remaining failures i olds news stack → IsNotPushed stack (remaining old) fault
+    → HasNoStack (map remaining olds) fault
+no_stack remaining failures i olds news old stack fault from upto refused = record {
+  before = map remaining (take i olds);
+  own = remaining old;
+  behind = map remaining (drop (i + 1) news);
+  whole = ap (map remaining) (olds_split i olds news old from)
+      ∙ map-append remaining (take i olds) (old ∷ drop (i + 1) news);
+  stack = stack;
+  has_stack = upto.has_stack;
+  why = refused;
+}
+
+-- and its reader is the last that was asked
+pub readers_stop : {R : Type 0} (remaining : R → Option (List ℕ)) (failures : R → ℕ) (i : ℕ) (olds news : List R)
+    (old new : R) (stack : List (List Insn)) (fault : StackFault) → SameFrom i olds news old
+    → IsStackUpTo remaining failures i olds news stack → LeavesOwn remaining failures fault old new
+    → HaveStopped remaining failures fault olds (set news i new)
+readers_stop remaining failures i olds news old new stack fault from upto left = record {
+  before = take i olds;
+  before_new = take i news;
+  old = old;
+  new = new;
+  behind = drop (i + 1) news;
+  olds_are = olds_split i olds news old from;
+  news_are = rw add-one (set_split news i new from.within);
+  ended = upto.ended;
+  left = left;
+}
+
+-- the readers of parts tell what the parts hold
+pub told_of_parts : (readers : List PartReader) → map (λ reader. Some (rest_of reader)) readers
+    ≡ map Some (map rest_of readers)
+told_of_parts [] = refl
+told_of_parts (reader ∷ readers) = ap (λ told. Some (rest_of reader) ∷ told) (told_of_parts readers)
+
+hasnt_failed : {R : Type 0} (remaining : R → Option (List ℕ)) (fault : FilterFault) (old new : R)
+    → LeavesOwn remaining (λ _. 0) (Filter fault) old new → fault ≢ Read CantRead
+hasnt_failed remaining (Read fault) old new left is = let failed : HasFailed 0 0 = left.0 (cc) in cc
+hasnt_failed remaining (Check fault) old new left is = cc
+
+-- a reader that never fails isn't why there is no stack
+pub never_fails : {R : Type 0} (remaining : R → Option (List ℕ)) (fault : FilterFault) (olds news : List R)
+    → HaveStopped remaining (λ _. 0) (Filter fault) olds news → fault ≢ Read CantRead
+never_fails remaining fault olds news stopped = hasnt_failed remaining fault stopped.old stopped.new stopped.left
+
+pub no_stack_of_parts : (texts : List (List ℕ)) (fault : StackFault) {R : Type 0} (remaining : R → Option (List ℕ))
+    (olds news : List R) → HasNoStack (map Some texts) fault → HaveStopped remaining (λ _. 0) fault olds news
+    → IsNoStackOf texts (stack_fault fault)
+no_stack_of_parts texts (Filter fault) remaining olds news none stopped =
+    (never_fails remaining fault olds news stopped, none)
+no_stack_of_parts texts (Push fault) remaining olds news none stopped = none
+
+-- a bundle of filters, a profile and a table that come to this
+pub bundle_compared : (told : Option (List ℕ)) (bytes : List ℕ) (over : Scopes) (limit : ℕ)
+    (ending : Result Reply VerifyFault) (readers : List PartReader) (profiles tables : List (Bor (List ℕ)))
+    (profile table : List ℕ) → IsRead told bytes
+    → IsBundle bytes (map rest_of readers) (texts_at profiles) (texts_at tables)
+    → texts_at profiles ≡ profile ∷ [] → texts_at tables ≡ table ∷ [] → 1 ≤ length readers
+    → ComparesParts (map rest_of readers) profile table over limit ending → IsCompared over limit told ending
+bundle_compared told bytes over limit ending readers profiles tables profile table read bundle one other some h = (
+  map rest_of readers,
+  profile,
+  table,
+  omega (arith, length-map readers rest_of),
+  (bytes, read, rw (← one, ← other) bundle),
+  h,
+)

@@ -1,0 +1,6 @@
+use Rattle.std.proofs.Common.{◌≡◌, map, string_bytes, take}
+use Rattle.scf_profile.specs.References.{texts_at}
+use Rattle.scf_tool.proofs.call_verification.kept.Given as goal
+
+abbrev pub invariant-loop-word : goal.invariant-loop-word
+invariant-loop-word l = map string_bytes l.list.items ≡ texts_at (take l.word-index l.words)

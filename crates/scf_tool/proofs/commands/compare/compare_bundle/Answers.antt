@@ -1,0 +1,32 @@
+use Rattle.std.proofs.Common.{rules, ◌≤◌, length, Ok, Err, arith}
+use Rattle.std.proofs.lemmas.Result.{err_from_is_err_and}
+use Rattle.std.proofs.lemmas.Bool.Decides.{nat_tests}
+use Rattle.scf_tool.specs.Commands.{IsRead}
+use Rattle.scf_tool.proofs.StackLemmas.{bundle_compared}
+use Rattle.scf_tool.proofs.commands.compare.compare_bundle.Goals as goal
+
+pub returns-in_err-compare_parts-clause-answer : goal.returns-in_err-compare_parts-clause-answer
+returns-in_err-compare_parts-clause-answer g c =
+    let p = err_from_is_err_and c.from_residual-in_err-compare_parts.result
+    c.from_residual-in_err-compare_parts.ensures.1 in
+    let read : IsRead (g.R.Source.remaining c.args.input.now) c.deref.result.now = search rules in
+    let profile = rw c.in-Some-Some-false.is-0 at c.only-profile.ensures in
+    let table = rw c.in-Some-Some-false.is-1 at c.only-table.ensures in
+    let some : 1 ≤ length c.deref_mut.result.now =
+    let e = c.in-Some-Some-false.ensures in let d = c.deref_mut.ensures in grind (arith, nat_tests) in
+    rw (p.1, p.2) (bundle_compared _ _ c.args.scopes c.args.limit (Err c.in_err-compare_parts.field-0.0)
+    c.deref_mut.result.now c.deref-2.result.now c.deref-3.result.now _ _ read
+    (rw (c.deref_mut.ensures.value, c.deref-2.ensures.value, c.deref-3.ensures.value) c.in_ok-contents.ensures.bundle)
+    profile table some c.in_err-compare_parts.ensures)
+
+pub returns-clause-answer : goal.returns-clause-answer
+returns-clause-answer g c =
+    let read : IsRead (g.R.Source.remaining c.args.input.now) c.deref.result.now = search rules in
+    let profile = rw c.in-Some-Some-false.is-0 at c.only-profile.ensures in
+    let table = rw c.in-Some-Some-false.is-1 at c.only-table.ensures in
+    let some : 1 ≤ length c.deref_mut.result.now =
+    let e = c.in-Some-Some-false.ensures in let d = c.deref_mut.ensures in grind (arith, nat_tests) in
+    bundle_compared _ _ c.args.scopes c.args.limit (Ok c.in_ok-compare_parts.field-0) c.deref_mut.result.now
+    c.deref-2.result.now c.deref-3.result.now _ _ read
+    (rw (c.deref_mut.ensures.value, c.deref-2.ensures.value, c.deref-3.ensures.value) c.in_ok-contents.ensures.bundle)
+    profile table some c.in_ok-compare_parts.ensures

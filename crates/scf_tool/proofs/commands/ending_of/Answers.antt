@@ -1,0 +1,40 @@
+use Rattle.std.proofs.Common.{◌≡◌, ◌⊎◌, ℕ, List, Option, [], map, inl, inr, refl, subst, Result, Ok, Err}
+use Rattle.std.proofs.lemmas.Result.{err_from_is_err_and}
+use Rattle.clap.specs.Words.{IsAmong, Row, Text, fault_of, subcommand_of}
+use Rattle.clap.specs.declared.error.kind.ErrorKind.{ErrorKind}
+use Rattle.clap.specs.declared.error.kind.ErrorKind.TheVariants.{OutOfMemory}
+use Rattle.scf_tool.specs.declared.fault.Fault.{Fault}
+use Rattle.scf_tool.specs.declared.fault.Fault.TheVariants as faults
+use Rattle.scf_tool.specs.declared.reply.Reply.{Reply}
+use Rattle.scf_tool.specs.declared.reply.Reply.TheVariants.{CommandLine}
+use Rattle.scf_tool.specs.Requests.{Asks}
+use Rattle.scf_tool.specs.Runs.{SpeaksOfWords, scf}
+use Rattle.scf_tool.specs.internal.Parsing.{Explains}
+use Rattle.scf_tool.proofs.commands.ending_of.Goals as goal
+
+refused : (words : List Text) (fault : Fault) → fault_of scf words ≡ [] → Asks (subcommand_of scf words) (Err fault)
+    → SpeaksOfWords words (Err fault)
+refused words faults.CommandLine taken asks = tt
+refused words fault taken asks = (taken, asks)
+
+explained : (words : List Text) (kind : ErrorKind) (reply : Result Reply Fault)
+    → (kind ≡ OutOfMemory) ⊎ IsAmong kind (fault_of scf words) → Explains kind reply → SpeaksOfWords words reply
+explained words kind (Ok (CommandLine text status)) (inl wanting) e = absurd (e.0 wanting)
+explained words kind (Ok (CommandLine text status)) (inr among) e = (kind, among, e.1)
+explained words kind (Ok reply) h e = absurd e
+explained words kind (Err fault) h e = rw e tt
+
+pub returns-in_err-request_of-in-Ok : goal.returns-in_err-request_of-in-Ok
+returns-in_err-request_of-in-Ok g c =
+    let words = map g.T.AsStr.text c.args.words.now in
+    let p = err_from_is_err_and c.from_residual.result c.from_residual.ensures.1 in
+    let asks = subst (λ (asked : Option (List ℕ × List Row)). Asks asked (Err c.in_err-request_of-in-Ok.field-0.0))
+    c.in-Ok.ensures.matches c.in_err-request_of-in-Ok.ensures in
+    rw (p.1, p.2) (inl (refused words c.in_err-request_of-in-Ok.field-0.0 c.in-Ok.ensures.kinds asks, refl))
+
+pub returns-in-Err : goal.returns-in-Err
+returns-in-Err g c = inl (
+  explained (map g.T.AsStr.text c.args.words.now) _ c.explain.result c.in-Err.ensures.kinds
+      c.explain.ensures,
+  refl,
+)

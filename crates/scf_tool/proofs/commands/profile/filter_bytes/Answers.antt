@@ -1,0 +1,42 @@
+use Rattle.std.proofs.lemmas.Result.{err_from_is_err_and}
+use Rattle.scf_tool.proofs.commands.profile.filter_bytes.Goals as goal
+
+pub returns-in_err-loaded-clause-fault : goal.returns-in_err-loaded-clause-fault
+returns-in_err-loaded-clause-fault c =
+    let p = err_from_is_err_and c.from_residual-in_err-loaded.result c.from_residual-in_err-loaded.ensures.1 in
+    rw (p.1, p.2) (c.in_ok-table.table, c.in_ok-table.ensures, c.in_err-loaded.ensures.err)
+
+pub returns-in_err-program-clause-fault : goal.returns-in_err-program-clause-fault
+returns-in_err-program-clause-fault c =
+    let p = err_from_is_err_and c.from_residual-in_err-program.result c.from_residual-in_err-program.ensures.1 in
+    rw (p.1, p.2) (
+      c.in_ok-table.table,
+      c.in_ok-table.ensures,
+      c.in_ok-loaded.loaded,
+      c.in_ok-loaded.ensures.ok,
+      c.in_err-program.ensures.large,
+    )
+
+pub returns-in-Ok-clause-filter : goal.returns-in-Ok-clause-filter
+returns-in-Ok-clause-filter c = record {
+  names = c.in_ok-table.table;
+  is_table = c.in_ok-table.ensures;
+  loaded = c.in_ok-loaded.loaded;
+  loads = c.in_ok-loaded.ensures.ok;
+  insns = c.in_ok-program.program;
+  is_filter = record {
+    encoded = (rw c.insns.ensures.same at c.in-Ok.ensures, c.insns.ensures.widths);
+    valid = c.insns.ensures.valid;
+    stored = c.insns.ensures.stored;
+  };
+  same = c.in_ok-program.ensures.same;
+}
+
+pub returns-clause-fault : goal.returns-clause-fault
+returns-clause-fault c = (
+  c.in_ok-table.table,
+  c.in_ok-table.ensures,
+  c.in_ok-loaded.loaded,
+  c.in_ok-loaded.ensures.ok,
+  λ e. cc,
+)

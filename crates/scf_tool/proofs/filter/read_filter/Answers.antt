@@ -1,0 +1,22 @@
+use Rattle.std.proofs.Common.{◌≡◌, ◌≤◌, ℕ, List, length, Option, Some, None}
+use Rattle.std.specs.Prelude.{IfSome}
+use Rattle.scf_insn.specs.declared.insn.Insn.{Insn}
+use Rattle.scf_insn.specs.Insn.{program_bytes}
+use Rattle.scf_tool.proofs.filter.read_filter.Goals as goal
+
+encoded : (bytes : Option (List ℕ)) (insns : List Insn)
+    → IfSome bytes (λ told. (told ≡ program_bytes insns) × (length told ≤ 32768))
+    → IfSome bytes (λ told. told ≡ program_bytes insns)
+encoded None insns h = tt
+encoded (Some told) insns h = h.0
+
+pub returns-clause-refused : goal.returns-clause-refused
+returns-clause-refused g c = record {
+  insns = c.in_ok-insns.insns.items;
+  encoded = (
+    encoded (g.R.Source.remaining c.args.input.now) c.in_ok-insns.insns.items c.in_ok-insns.ensures.reading,
+    c.in_ok-insns.ensures.widths,
+  );
+  first = c.in-Err.ensures.refused;
+  breaks = c.in-Err.ensures.only_where;
+}

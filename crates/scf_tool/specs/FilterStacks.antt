@@ -1,0 +1,71 @@
+-- The stacks of filters that readers have, the oldest first. The bytes of each reader count where it tells them.
+use Rattle.std.specs.Prelude.{◌≡◌, ◌≤◌, ◌+◌, ◌++◌, ℕ, List, [], ◌∷◌, Option, Result, Ok, Err}
+use Rattle.scf_insn.specs.declared.insn.Insn.{Insn}
+use Rattle.scf_insn.specs.Kernel.{max_insns_per_path}
+use Rattle.scf_machine.specs.Stack.{IsPush, cost_of}
+use Rattle.scf_tool.specs.declared.filter_stack.StackFault.{StackFault}
+use Rattle.scf_tool.specs.declared.filter_stack.StackFault.TheVariants.{Filter, Push}
+use Rattle.scf_tool.specs.Filters.{IsNoFilter, LeavesInput}
+use Rattle.scf_tool.specs.Verifying.{HasEnded, IsFilter}
+
+-- ---- the filters
+
+-- these are the bytes of accepted filters, one for each
+abbrev pub AreFilters : List (Option (List ℕ)) → List (List Insn) → Type 0
+AreFilters [] [] = Unit {0}
+AreFilters (bytes ∷ rest) (insns ∷ others) = IsFilter bytes insns × AreFilters rest others
+AreFilters [] (insns ∷ others) = ⊥
+AreFilters (bytes ∷ rest) [] = ⊥
+
+-- These are the bytes of accepted filters, few enough for a stack: the 4 of the newest are no part of its total.
+pub record HasStack (filters : List (Option (List ℕ))) (stack : List (List Insn)) : Type 0 where
+  pub accepted : AreFilters filters stack
+  pub total : cost_of stack ≤ max_insns_per_path + 4
+
+-- why a filter isn't pushed on a stack of these
+abbrev pub IsNotPushed : List (List Insn) → Option (List ℕ) → StackFault → Type 0
+IsNotPushed stack bytes (Filter fault) = IsNoFilter bytes fault
+IsNotPushed stack bytes (Push fault) =
+    (insns : List Insn) × IsFilter bytes insns × IsPush stack insns (Err (fault, insns)) stack
+
+-- Of these filters, the oldest first, the first that isn't pushed.
+pub record HasNoStack (filters : List (Option (List ℕ))) (fault : StackFault) : Type 0 where
+  pub before : List (Option (List ℕ))
+  pub own : Option (List ℕ)
+  pub behind : List (Option (List ℕ))
+  pub whole : filters ≡ before ++ own ∷ behind
+  pub stack : List (List Insn)
+  pub has_stack : HasStack before stack
+  pub why : IsNotPushed stack own fault
+
+-- ---- the readers
+
+module _ {R : Type 0} (remaining : R → Option (List ℕ)) (failures : R → ℕ) where
+  -- each reader came to its end, and didn't fail
+  abbrev pub HaveEnded : List R → List R → Type 0
+  HaveEnded [] [] = Unit {0}
+  HaveEnded (old ∷ olds) (new ∷ news) = HasEnded remaining failures old new × HaveEnded olds news
+  HaveEnded [] (new ∷ news) = ⊥
+  HaveEnded (old ∷ olds) [] = ⊥
+
+  -- how the reader is left whose filter isn't pushed
+  abbrev pub LeavesOwn : StackFault → R → R → Type 0
+  LeavesOwn (Filter fault) old new = LeavesInput {T = List Insn} remaining failures old (Err fault) new
+  LeavesOwn (Push fault) old new = HasEnded remaining failures old new
+
+  -- The readers before one have ended, this one is left so, and those behind it aren't asked.
+  pub record HaveStopped (fault : StackFault) (olds news : List R) : Type 0 where
+    pub before : List R
+    pub before_new : List R
+    pub old : R
+    pub new : R
+    pub behind : List R
+    pub olds_are : olds ≡ before ++ old ∷ behind
+    pub news_are : news ≡ before_new ++ new ∷ behind
+    pub ended : HaveEnded before before_new
+    pub left : LeavesOwn fault old new
+
+  -- how the readers of a stack's filters are left
+  abbrev pub LeavesReaders : {T : Type 0} → List R → Result T StackFault → List R → Type 0
+  LeavesReaders olds (Ok stack) news = HaveEnded olds news
+  LeavesReaders olds (Err fault) news = HaveStopped fault olds news

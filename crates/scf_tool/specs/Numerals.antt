@@ -1,0 +1,11 @@
+-- How the program writes numbers in hexadecimal.
+use Rattle.std.specs.Prelude.{ℕ, ◌/◌, ◌%◌, ◌^◌, false, List, [], ◌∷◌, map}
+use Rattle.std.specs.Fmt.{digits, digit_glyph}
+
+-- lower-case hexadecimal digits without leading zeros
+abbrev pub hexadecimal : ℕ → List ℕ
+hexadecimal n = digits 16 false n
+
+-- the last eight hexadecimal digits, in lower case
+abbrev pub eight_digits : ℕ → List ℕ
+eight_digits n = map (λ place. digit_glyph false (n / 16 ^ place % 16)) (7 ∷ 6 ∷ 5 ∷ 4 ∷ 3 ∷ 2 ∷ 1 ∷ 0 ∷ [])

@@ -1,0 +1,96 @@
+-- Whole runs of the program: from its words and standard input to what it prints and its exit status.
+use Rattle.std.specs.Prelude.{◌≡◌, ◌⊎◌, ℕ, true, false, List, [], ◌∷◌, ◌++◌, codes, map, Option, Some, Result, Ok, Err}
+use Rattle.clap.specs.declared.builder.action.ArgAction.TheVariants.{SetTrue}
+use Rattle.clap.specs.Words.{App, IsAmong, Rule, Shape, Text, fault_of, new_app, new_rule, subcommand_of}
+use Rattle.clap.specs.declared.error.kind.ErrorKind.{ErrorKind}
+use Rattle.clap.specs.declared.error.kind.ErrorKind.TheVariants.{DisplayHelp, DisplayVersion}
+use Rattle.scf_insn.specs.Streams.{TakesAll, TakesBeginning}
+use Rattle.scf_tool.specs.declared.fault.Fault.{Fault}
+use Rattle.scf_tool.specs.declared.fault.Fault.TheVariants as faults
+use Rattle.scf_tool.specs.declared.reply.Reply.{Reply}
+use Rattle.scf_tool.specs.declared.reply.Reply.TheVariants as replies
+use Rattle.scf_tool.specs.declared.request.Request.{Request}
+use Rattle.scf_tool.specs.declared.status.Status.{Status}
+use Rattle.scf_tool.specs.declared.status.Status.TheVariants.{Well, CommandLine}
+use Rattle.scf_tool.specs.Commands.{IsTrueOf}
+use Rattle.scf_tool.specs.Options.{NumberOption}
+use Rattle.scf_tool.specs.Replies.{ending_status, ending_text}
+use Rattle.scf_tool.specs.Requests.{Asks, Command, IsRequest, flags_of, options_of, word_of}
+use Rattle.scf_tool.specs.Requests.Command.{Asm, Check, Compare, Compile, Decide, Dis, Run}
+use Rattle.scf_tool.specs.Statuses.{LeavesInput, status_code}
+
+-- ---- the command line, as its reader sees it
+
+-- an option takes one value, behind its name and two dashes
+abbrev pub rule_for : NumberOption → Rule
+rule_for o = record (new_rule o.name) { long = Some o.name; value_names = 1 }
+
+-- a flag takes none
+abbrev pub flag_rule : List ℕ → Rule
+flag_rule name = record (new_rule name) { long = Some name; action = Some SetTrue }
+
+abbrev pub shape_with : List ℕ → List NumberOption → Shape
+shape_with name options = record (new_app name).top { rules = map rule_for options }
+
+abbrev pub shape_for : Command → Shape
+shape_for command =
+    record (new_app (word_of command)).top {
+      rules = map rule_for (options_of command) ++ map flag_rule (flags_of command);
+    }
+
+-- a command is named, and there is `--version`
+abbrev pub scf_shape : Shape
+scf_shape = record (new_app (codes "scf")).top { is_leaf = false; has_version = true; subcommand_required = true }
+
+abbrev pub scf : App
+scf = record { top = scf_shape; subs = map shape_for (Check ∷ Run ∷ Decide ∷ Dis ∷ Asm ∷ Compile ∷ Compare ∷ []) }
+
+-- ---- how a run ends
+
+-- help and the version are well
+abbrev pub kind_status : ErrorKind → Status
+kind_status DisplayHelp = Well
+kind_status DisplayVersion = Well
+kind_status kind = CommandLine
+
+-- The words are refused, or ask for help: this is one of the reasons that the command line's reader has.
+abbrev pub IsExplained : List Text → Status → Type 0
+IsExplained words status = (kind : ErrorKind) × IsAmong kind (fault_of scf words) × (status ≡ kind_status kind)
+
+-- The words are taken, but ask for nothing that can be done. Want of memory may come in place of anything.
+abbrev pub SpeaksOfWords : List Text → Result Reply Fault → Type 0
+SpeaksOfWords words (Ok (replies.CommandLine text status)) = IsExplained words status
+SpeaksOfWords words (Ok reply) = ⊥
+SpeaksOfWords words (Err faults.CommandLine) = Unit {0}
+SpeaksOfWords words (Err fault) = (fault_of scf words ≡ []) × Asks (subcommand_of scf words) (Err fault)
+
+-- The words ask for this, and what the run ends with is true of standard input.
+pub record IsAnswered {R : Type 0} (words : List Text) (remaining : R → Option (List ℕ)) (failures : R → ℕ)
+    (old : R) (ending : Result Reply Fault) (new : R) : Type 0 where
+  pub taken : fault_of scf words ≡ []
+  pub request : Request
+  pub asked : IsRequest (subcommand_of scf words) request
+  pub answered : IsTrueOf request (remaining old) ending
+  pub left : LeavesInput remaining failures old ending new
+
+-- How a run ends: it speaks of its words, before it reads any input, or answers what they ask for.
+abbrev pub Ends : {R : Type 0} → List Text → (R → Option (List ℕ)) → (R → ℕ) → R → Result Reply Fault → R → Type 0
+Ends words remaining failures old ending new =
+    (SpeaksOfWords words ending × (new ≡ old)) ⊎ IsAnswered words remaining failures old ending new
+
+-- The text was written and the status goes with it, or the writer failed after a beginning of the text.
+abbrev pub Prints : {W : Type 0} → (W → Option (List ℕ)) → (W → ℕ) → W → Result Reply Fault → ℕ → W → Type 0
+Prints contents failures old ending status new =
+    (TakesAll (contents old) (ending_text ending) (contents new) (failures old) (failures new)
+    × (status ≡ status_code (ending_status ending)))
+    ⊎ (TakesBeginning (contents old) (ending_text ending) (contents new) (failures old) (failures new) × (status ≡ 3))
+
+-- A run of the program: there is something that it ends with, which is true of the words and of standard input, and
+-- this is printed.
+pub record IsRunOfProgram {R W : Type 0} (words : List Text)
+    (remaining : R → Option (List ℕ)) (input_failures : R → ℕ) (input input_after : R)
+    (contents : W → Option (List ℕ)) (out_failures : W → ℕ) (out out_after : W)
+    (status : ℕ) : Type 0 where
+  pub ending : Result Reply Fault
+  pub ends : Ends words remaining input_failures input ending input_after
+  pub prints : Prints contents out_failures out ending status out_after

@@ -1,0 +1,85 @@
+-- What is known of a stack of filters, a call table and a profile once they are read and compared. The bytes of each
+-- reader count where the reader tells them.
+use Rattle.std.specs.Prelude.{◌≡◌, ℕ, List, All, Option, Result, Ok, Err}
+use Rattle.scf_insn.specs.declared.insn.Insn.{Insn}
+use Rattle.scf_machine.specs.Plain.{IsPlainProgram}
+use Rattle.scf_machine.specs.Precedence.{StackAnswers}
+use Rattle.scf_profile.specs.declared.loaded.Loaded.{Loaded}
+use Rattle.scf_profile.specs.Profile.{Profile}
+use Rattle.scf_profile.specs.PlainProfile.{IsPlainProfile}
+use Rattle.scf_profile.specs.Table.{Names}
+use Rattle.scf_compare.specs.declared.scope.Scope.{Scope}
+use Rattle.scf_compare.specs.declared.verdict.Verdict.{Verdict}
+use Rattle.scf_compare.specs.Effort.{effort_of_stack}
+use Rattle.scf_compare.specs.Scope.{SameAnswersIn}
+use Rattle.scf_compare.specs.Verdicts.{IsTrueOfStack, IsWithin, IsDecided}
+use Rattle.scf_tool.specs.declared.filter.FilterFault.TheVariants as reads
+use Rattle.scf_tool.specs.declared.filter_stack.StackFault.TheVariants as stacks
+use Rattle.scf_tool.specs.declared.verification.Outcome.{Outcome}
+use Rattle.scf_tool.specs.declared.verification.VerifyFault.{VerifyFault}
+use Rattle.scf_tool.specs.declared.verification.VerifyFault.TheVariants.{FilterRead, Check, Stack, TableRead, Table}
+use Rattle.scf_tool.specs.declared.verification.VerifyFault.TheVariants.{ProfileRead, Profile as RefusedProfile, Memory}
+use Rattle.scf_tool.specs.FilterStacks.{HasStack, HasNoStack, HaveEnded, HaveStopped}
+use Rattle.scf_tool.specs.Verifying.{IsTable, IsLoaded, HasTable, HasProfile, IsUnread, IsRefusedTable, IsRefusedProfile}
+
+-- A verdict is true of a stack and a profile over the calls of a scope, and within the limit and the effort. It decides
+-- between plain filters and a plain profile.
+pub record IsComparison (stack : List (List Insn)) (p : Profile) (scope : Scope) (limit : ℕ) (verdict : Verdict)
+    : Type 0 where
+  pub holds : IsTrueOfStack stack p scope verdict
+  pub within : IsWithin limit (effort_of_stack stack p) verdict
+  pub decided : All IsPlainProgram stack → IsPlainProfile p
+      → IsDecided (SameAnswersIn scope (StackAnswers stack) p) limit (effort_of_stack stack p) verdict
+
+-- The bytes are a stack of filters, a call table and a profile, whose skipped names and other architectures these are,
+-- and this holds of that stack, that table and that profile.
+pub record AreComparedParties (filters : List (Option (List ℕ))) (table profile : Option (List ℕ))
+    (left_out others : List (List ℕ)) (holds : List (List Insn) → Names → Profile → Type 0) : Type 0 where
+  pub stack : List (List Insn)
+  pub names : Names
+  pub loaded : Loaded
+  pub has_stack : HasStack filters stack
+  pub is_table : IsTable table names
+  pub is_loaded : IsLoaded profile names loaded
+  pub skipped : left_out ≡ loaded.skipped
+  pub other_architectures : others ≡ loaded.other_architectures
+  pub compared : holds stack names loaded.profile
+
+-- They are compared, and the verdict is one on that stack and that profile.
+abbrev pub IsVerifiedStack : List (Option (List ℕ)) → Option (List ℕ) → Option (List ℕ) → Scope → ℕ → Outcome → Type 0
+IsVerifiedStack filters table profile scope limit outcome =
+    AreComparedParties filters table profile outcome.skipped outcome.other_architectures
+    (λ stack names p. IsComparison stack p scope limit outcome.verdict)
+
+abbrev pub HasSomeStack : List (Option (List ℕ)) → Type 0
+HasSomeStack filters = (stack : List (List Insn)) × HasStack filters stack
+
+-- What each fault says: all that is read and looked at before is accepted, and this is why the next isn't.
+abbrev pub IsRefusedStack : List (Option (List ℕ)) → Option (List ℕ) → Option (List ℕ) → VerifyFault → Type 0
+IsRefusedStack filters table profile (FilterRead fault) = HasNoStack filters (stacks.Filter (reads.Read fault))
+IsRefusedStack filters table profile (Check fault) = HasNoStack filters (stacks.Filter (reads.Check fault))
+IsRefusedStack filters table profile (Stack fault) = HasNoStack filters (stacks.Push fault)
+IsRefusedStack filters table profile (TableRead fault) = HasSomeStack filters × IsUnread table fault
+IsRefusedStack filters table profile (Table fault) = HasSomeStack filters × IsRefusedTable table fault
+IsRefusedStack filters table profile (ProfileRead fault) =
+    HasSomeStack filters × HasTable table × IsUnread profile fault
+IsRefusedStack filters table profile (RefusedProfile fault) =
+    HasSomeStack filters × IsRefusedProfile table profile fault
+IsRefusedStack filters table profile Memory = HasSomeStack filters × HasProfile table profile
+
+-- What the comparison of a stack with a profile, from the bytes of their readers, answers.
+abbrev pub VerifiesStack : List (Option (List ℕ)) → Option (List ℕ) → Option (List ℕ) → Scope → ℕ
+    → Result Outcome VerifyFault → Type 0
+VerifiesStack filters table profile scope limit (Ok outcome) = IsVerifiedStack filters table profile scope limit outcome
+VerifiesStack filters table profile scope limit (Err fault) = IsRefusedStack filters table profile fault
+
+-- How the filters' readers are left. They are read first, each after those before it.
+abbrev pub LeavesFilterReaders : {R T : Type 0} → (R → Option (List ℕ)) → (R → ℕ)
+    → List R → Result T VerifyFault → List R → Type 0
+LeavesFilterReaders remaining failures olds (Err (FilterRead fault)) news =
+    HaveStopped remaining failures (stacks.Filter (reads.Read fault)) olds news
+LeavesFilterReaders remaining failures olds (Err (Check fault)) news =
+    HaveStopped remaining failures (stacks.Filter (reads.Check fault)) olds news
+LeavesFilterReaders remaining failures olds (Err (Stack fault)) news =
+    HaveStopped remaining failures (stacks.Push fault) olds news
+LeavesFilterReaders remaining failures olds result news = HaveEnded remaining failures olds news

@@ -1,0 +1,7 @@
+pub mod Contents
+pub mod Fields
+pub mod Gathering
+pub mod Parsing
+pub mod Pieces
+pub mod Pushing
+pub mod Verification

@@ -1,0 +1,38 @@
+-- The parties of a comparison, and its faults, by the part whose they are.
+use Rattle.std.specs.Prelude.{ℕ, List, Option}
+use Rattle.scf_tool.specs.declared.filter.FilterFault.{FilterFault}
+use Rattle.scf_tool.specs.declared.filter.FilterFault.TheVariants as filters
+use Rattle.scf_tool.specs.declared.filter_stack.StackFault.{StackFault}
+use Rattle.scf_tool.specs.declared.filter_stack.StackFault.TheVariants as stacks
+use Rattle.scf_tool.specs.declared.verification.VerifyFault.{VerifyFault}
+use Rattle.scf_tool.specs.declared.verification.VerifyFault.TheVariants.{FilterRead, Check, Stack, TableRead, Table, ProfileRead, Profile}
+use Rattle.scf_tool.specs.declared.parties.Parties.{Parties}
+use Rattle.scf_tool.specs.FilterStacks.{HasStack}
+use Rattle.scf_tool.specs.Verifying.{HasTable, IsLoaded, IsTable, IsUnread, IsRefusedTable, IsRefusedProfile}
+
+abbrev pub verify_fault : FilterFault → VerifyFault
+verify_fault (filters.Read fault) = FilterRead fault
+verify_fault (filters.Check fault) = Check fault
+
+abbrev pub verify_stack_fault : StackFault → VerifyFault
+verify_stack_fault (stacks.Filter fault) = verify_fault fault
+verify_stack_fault (stacks.Push fault) = Stack fault
+
+-- why a reader has no call table
+abbrev pub IsNoTable : Option (List ℕ) → VerifyFault → Type 0
+IsNoTable table (TableRead fault) = IsUnread table fault
+IsNoTable table (Table fault) = IsRefusedTable table fault
+IsNoTable table fault = ⊥
+
+-- why a reader has no profile, where the table is one
+abbrev pub IsNoProfile : Option (List ℕ) → Option (List ℕ) → VerifyFault → Type 0
+IsNoProfile table profile (ProfileRead fault) = HasTable table × IsUnread profile fault
+IsNoProfile table profile (Profile fault) = IsRefusedProfile table profile fault
+IsNoProfile table profile fault = ⊥
+
+-- the bytes are a stack of filters, a call table and a profile
+pub record AreParties (filters : List (Option (List ℕ))) (table profile : Option (List ℕ)) (parties : Parties)
+    : Type 0 where
+  pub has_stack : HasStack filters parties.stack
+  pub is_table : IsTable table parties.names
+  pub is_loaded : IsLoaded profile parties.names parties.loaded

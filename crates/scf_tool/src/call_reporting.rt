@@ -1,0 +1,206 @@
+//! What the program prints of a comparison call by call.
+
+ghost use Rattle.std.specs.Prelude.{◌≡◌, ◌++◌, codes, not, string_bytes, IfOk, Some, None, if◌then◌else◌};
+ghost use Rattle.std.specs.Fmt.{decimal};
+ghost use Rattle.std.specs.List.{flat_map, join_by};
+ghost use Rattle.scf_insn.specs.Streams.{Writes};
+ghost use Rattle.scf_tool.specs.CallReports.{
+  calls_text,
+  difference_text,
+  found_text,
+  front_text,
+  is_difference,
+  is_same,
+  joint_of,
+  joint_text,
+  named_line,
+  names_text,
+  verdicts_text,
+};
+
+use crate::call_verification::{CallVerdict, CallsOutcome};
+use crate::gathered::Gathered;
+use crate::lines::write_answer;
+use crate::pieces::{Piece, write_pieces};
+use crate::reporting::{write_answer_line, write_arguments, write_left_out, write_verdict};
+use scf_compare::Verdict;
+use scf_insn::{Answer, Memory, Sink, WriteFault, write_whole};
+use scf_profile::Texts;
+use std::alloc::Global;
+
+fn differs(verdict: &Verdict) -> bool
+    ensures { result ≡ is_difference verdict.now }
+{
+    matches!(verdict, Verdict::Differs { .. })
+}
+
+fn agrees(verdict: &Verdict) -> bool
+    ensures { result ≡ is_same verdict.now }
+{
+    matches!(verdict, Verdict::Same { .. })
+}
+
+/// The verdict, where it isn't that all answers are the same.
+fn unless_same(verdict: Verdict) -> Option<Verdict>
+    ensures { result ≡ (if not (is_same verdict) then Some verdict else None) }
+{
+    if agrees(&verdict) {
+        None
+    } else {
+        Some(verdict)
+    }
+}
+
+/// The verdict that speaks for all calls: the first that differs, else the first that isn't the same. None where all
+/// are.
+pub(crate) fn joint_verdict(calls: &[CallVerdict]) -> Option<Verdict>
+    ensures { result ≡ joint_of calls.now }
+{
+    let mut first = None;
+    for call in calls {
+        if differs(&call.verdict) {
+            return Some(call.verdict);
+        }
+        first = first.or(unless_same(call.verdict));
+    }
+    first
+}
+
+fn write_joint<S: Sink>(sink: &mut S, joint: Option<Verdict>) -> Result<(), WriteFault>
+    ensures { Writes S.contents S.failures sink.old (joint_text joint) result sink.new }
+{
+    match joint {
+        None => write_whole(sink, b"same\n"),
+        Some(Verdict::Differs { .. }) => write_whole(sink, b"differs\n"),
+        Some(verdict) => write_verdict(sink, &verdict),
+    }
+}
+
+fn write_other<'a, S: Sink>(sink: &mut S, text: &'a String) -> Result<(), WriteFault>
+    ensures { Writes S.contents S.failures sink.old (codes "," ++ string_bytes text.now) result sink.new }
+{
+    write_pieces(sink, &[Piece::Text(","), Piece::Text(text.as_str())])
+}
+
+/// Writes texts, each behind a comma.
+fn write_others<S: Sink>(sink: &mut S, texts: &[String]) -> Result<(), WriteFault>
+    ensures { Writes S.contents S.failures sink.old
+        (flat_map (λ text. codes "," ++ string_bytes text) texts.now) result sink.new }
+{
+    for text in texts {
+        write_other(sink, text)?;
+    }
+    Ok(())
+}
+
+/// Writes texts with commas between.
+fn write_joined<S: Sink>(sink: &mut S, texts: &[String]) -> Result<(), WriteFault>
+    ensures { Writes S.contents S.failures sink.old (join_by string_bytes (codes ",") texts.now) result sink.new }
+{
+    match texts.split_first() {
+        Some((first, others)) => {
+            write_whole(sink, first.as_bytes())?;
+            write_others(sink, others)
+        }
+        None => Ok(()),
+    }
+}
+
+fn write_call_names<S: Sink>(sink: &mut S, names: &Texts) -> Result<(), WriteFault>
+    ensures { Writes S.contents S.failures sink.old (names_text names.now) result sink.new }
+{
+    write_joined(sink, names.as_slice())
+}
+
+fn write_number<S: Sink>(sink: &mut S, number: u32) -> Result<(), WriteFault>
+    ensures { Writes S.contents S.failures sink.old (decimal number ++ codes " ") result sink.new }
+{
+    write_pieces(sink, &[Piece::Decimal(u64::from(number)), Piece::Text(" ")])
+}
+
+/// Writes the number and the names of a call.
+fn write_front<S: Sink>(sink: &mut S, call: &CallVerdict) -> Result<(), WriteFault>
+    ensures { Writes S.contents S.failures sink.old (front_text call.now) result sink.new }
+{
+    write_number(sink, call.number)?;
+    write_call_names(sink, &call.names)?;
+    write_whole(sink, b" ")
+}
+
+/// Writes the arguments of a call and its two answers.
+fn write_answered<S: Sink>(
+    sink: &mut S,
+    arguments: &[u64],
+    filter: Answer,
+    profile: Answer,
+) -> Result<(), WriteFault>
+    ensures { Writes S.contents S.failures sink.old (difference_text arguments.now filter.0 profile.0) result sink.new }
+{
+    write_whole(sink, b"differs args")?;
+    write_arguments(sink, arguments)?;
+    write_whole(sink, b" filter ")?;
+    write_answer(sink, filter)?;
+    write_answer_line(sink, " profile", profile)
+}
+
+fn write_found<S: Sink>(sink: &mut S, verdict: &Verdict) -> Result<(), WriteFault>
+    ensures { Writes S.contents S.failures sink.old (found_text verdict.now) result sink.new }
+{
+    match verdict {
+        Verdict::Differs {
+            call,
+            filter,
+            profile,
+        } => write_answered(sink, &call.args, *filter, *profile),
+        _ => write_verdict(sink, verdict),
+    }
+}
+
+/// Writes the line of a call that isn't the same, and nothing of one that is.
+fn write_named<S: Sink>(sink: &mut S, call: &CallVerdict) -> Result<(), WriteFault>
+    ensures { Writes S.contents S.failures sink.old (named_line call.now) result sink.new }
+{
+    if agrees(&call.verdict) {
+        return Ok(());
+    }
+    write_front(sink, call)?;
+    write_found(sink, &call.verdict)
+}
+
+fn write_calls<S: Sink>(sink: &mut S, calls: &[CallVerdict]) -> Result<(), WriteFault>
+    ensures { Writes S.contents S.failures sink.old (flat_map named_line calls.now) result sink.new }
+{
+    for call in calls {
+        write_named(sink, call)?;
+    }
+    Ok(())
+}
+
+fn write_verdicts<S: Sink>(sink: &mut S, calls: &[CallVerdict]) -> Result<(), WriteFault>
+    ensures { Writes S.contents S.failures sink.old (verdicts_text calls.now) result sink.new }
+{
+    write_joint(sink, joint_verdict(calls))?;
+    write_calls(sink, calls)
+}
+
+fn write_calls_outcome<S: Sink>(sink: &mut S, outcome: &CallsOutcome) -> Result<(), WriteFault>
+    ensures { Writes S.contents S.failures sink.old (calls_text outcome.now) result sink.new }
+{
+    write_verdicts(sink, &outcome.calls)?;
+    write_left_out(sink, &outcome.skipped, &outcome.other_architectures)
+}
+
+/// What the program prints of an outcome call by call: the joint verdict, then a line for each call that isn't the
+/// same, one for each skipped name and one for each other architecture, in their order.
+///
+/// The joint verdict is `same` where every call is the same, and `differs` where one differs; else it is that of the
+/// first call that isn't the same.
+pub fn report_calls(alloc: Global, outcome: &CallsOutcome) -> Result<Vec<u8>, Memory>
+    ensures { IfOk result (λ text. text.items ≡ calls_text outcome.now) }
+{
+    let mut text = Gathered::new(alloc);
+    match write_calls_outcome(&mut text, outcome) {
+        Ok(()) => Ok(text.into_bytes()),
+        Err(_) => Err(Memory),
+    }
+}

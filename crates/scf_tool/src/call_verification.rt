@@ -1,0 +1,126 @@
+//! The comparison of a stack of filters with a profile, call by call, from their bytes.
+
+ghost use Rattle.std.specs.Prelude.{◌≡◌, IfOk, map};
+ghost use Rattle.scf_profile.specs.References.{texts_at};
+ghost use Rattle.scf_tool.specs.Verifying.{LeavesProfileReader, LeavesTableReader};
+ghost use Rattle.scf_tool.specs.VerifyingCalls.{AreComparedCalls, IsVerdictOnCall, VerifiesCalls, named, told_of};
+ghost use Rattle.scf_tool.specs.VerifyingStacks.{LeavesFilterReaders};
+
+use crate::parties::read_parties;
+use crate::verification::VerifyFault;
+use scf_compare::{Scope, Verdict, compare_stack};
+use scf_facts::WordSets;
+use scf_insn::{Memory, Source};
+use scf_machine::FilterStack;
+use scf_profile::{CallTable, NamedCall, Profile, Texts};
+use std::alloc::{AllocError, Global};
+
+/// A call that a table names, and what the comparison over its records comes to.
+#[derive(Debug, Drop)]
+pub struct CallVerdict {
+    /// The number of the call.
+    pub number: u32,
+    /// All names that the table has for the number, in the order of their bytes.
+    pub names: Texts,
+    pub verdict: Verdict,
+}
+
+/// What the comparisons over the calls of a table come to, and what the profile's text states beside the profile.
+#[derive(Debug, Drop)]
+pub struct CallsOutcome {
+    /// The calls of the table, by number.
+    pub calls: Vec<CallVerdict>,
+    /// The names that the call table lacks, each occurrence, in the order of the text.
+    pub skipped: Texts,
+    /// The architectures beside SCMP_ARCH_X86_64, each occurrence, in the order of the text.
+    pub other_architectures: Texts,
+}
+
+/// These texts, kept.
+fn kept(alloc: Global, words: &[&str]) -> Result<Texts, AllocError>
+    ensures { IfOk result (λ own. own ≡ texts_at words.now) }
+{
+    let mut list = Vec::new(alloc);
+    for word in words {
+        list.push(String::from_str(alloc, word)?)?;
+    }
+    Ok(Texts::from_vec(list))
+}
+
+/// Compares a stack of filters with a profile over the records of a call.
+fn compare_call(
+    alloc: Global,
+    stack: &FilterStack,
+    profile: &Profile,
+    call: &NamedCall<'_>,
+    limit: u64,
+) -> Result<CallVerdict, Memory>
+    ensures call { IfOk result (λ own. told_of own ≡ named call.now) }
+    ensures compared { IfOk result (IsVerdictOnCall stack.now profile.now limit) }
+{
+    let verdict = compare_stack::<WordSets>(
+        alloc,
+        stack,
+        profile,
+        Scope::Call(call.number),
+        limit,
+    )?;
+    Ok(CallVerdict {
+        number: call.number,
+        names: kept(alloc, &call.names)?,
+        verdict,
+    })
+}
+
+/// Compares a stack of filters with a profile over the records of each call of a table.
+fn compare_calls(
+    alloc: Global,
+    stack: &FilterStack,
+    profile: &Profile,
+    table: &CallTable,
+    limit: u64,
+) -> Result<Vec<CallVerdict>, Memory>
+    ensures { IfOk result (λ calls. AreComparedCalls stack.now table.now profile.now limit calls.items) }
+{
+    let calls = table.calls(alloc)?;
+    let mut verdicts = Vec::new(alloc);
+    for call in &calls {
+        let verdict = compare_call(alloc, stack, profile, call, limit)?;
+        verdicts.push(verdict)?;
+    }
+    Ok(verdicts)
+}
+
+/// Compares the stack of filters with the profile that readers have, call by call: each call that the table names, by
+/// itself and in at most `limit` steps. The profile's names get their numbers from the same table.
+///
+/// What is read, in which order, and the faults are those of `verify_stack`. The verdict on a call is what
+/// `verify_stack` promises over the records of x86-64 with its number.
+pub fn verify_calls<F: Source, P: Source, T: Source>(
+    alloc: Global,
+    filter_readers: &mut [F],
+    profile_reader: &mut P,
+    table_reader: &mut T,
+    limit: u64,
+) -> Result<CallsOutcome, VerifyFault>
+    ensures answer { VerifiesCalls (map F.remaining filter_readers.old)
+        (T.remaining table_reader.old) (P.remaining profile_reader.old) limit result }
+    ensures filter_readers { LeavesFilterReaders F.remaining F.failures filter_readers.old result filter_readers.new }
+    ensures table_reader { LeavesTableReader T.remaining T.failures table_reader.old result table_reader.new }
+    ensures profile_reader { LeavesProfileReader P.remaining P.failures profile_reader.old result profile_reader.new }
+{
+    let parties = read_parties(alloc, filter_readers, profile_reader, table_reader)?;
+    let loaded = parties.loaded;
+    let calls = compare_calls(
+        alloc,
+        &parties.stack,
+        &loaded.profile,
+        &parties.names,
+        limit,
+    )?;
+    Ok(CallsOutcome {
+        calls,
+        skipped: loaded.skipped,
+        other_architectures: loaded.other_architectures,
+    })
+}

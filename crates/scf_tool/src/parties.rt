@@ -1,0 +1,46 @@
+//! The parties of a comparison, from their bytes.
+
+ghost use Rattle.std.specs.Prelude.{map, IfOk, IfErr};
+ghost use Rattle.scf_tool.specs.Verifying.{LeavesProfileReader, LeavesTableReader};
+ghost use Rattle.scf_tool.specs.VerifyingStacks.{IsRefusedStack, LeavesFilterReaders};
+ghost use Rattle.scf_tool.specs.internal.Verification.{AreParties};
+
+use crate::filter_stack::read_stack;
+use crate::verification::{VerifyFault, read_profile, read_table};
+use scf_insn::Source;
+use scf_machine::FilterStack;
+use scf_profile::{CallTable, Loaded};
+use std::alloc::Global;
+
+/// What is compared: a stack of filters and a profile, with the table that names the calls.
+#[derive(Drop)]
+pub(crate) struct Parties {
+    pub stack: FilterStack,
+    pub names: CallTable,
+    pub loaded: Loaded,
+}
+
+/// The stack, the call table and the profile that readers have, read in this order.
+pub(crate) fn read_parties<F: Source, P: Source, T: Source>(
+    alloc: Global,
+    filter_readers: &mut [F],
+    profile_reader: &mut P,
+    table_reader: &mut T,
+) -> Result<Parties, VerifyFault>
+    ensures parties { IfOk result (AreParties (map F.remaining filter_readers.old)
+        (T.remaining table_reader.old) (P.remaining profile_reader.old)) }
+    ensures refused { IfErr result (IsRefusedStack (map F.remaining filter_readers.old)
+        (T.remaining table_reader.old) (P.remaining profile_reader.old)) }
+    ensures filter_readers { LeavesFilterReaders F.remaining F.failures filter_readers.old result filter_readers.new }
+    ensures table_reader { LeavesTableReader T.remaining T.failures table_reader.old result table_reader.new }
+    ensures profile_reader { LeavesProfileReader P.remaining P.failures profile_reader.old result profile_reader.new }
+{
+    let stack = read_stack(alloc, filter_readers)?;
+    let names = read_table(alloc, table_reader)?;
+    let loaded = read_profile(alloc, profile_reader, &names)?;
+    Ok(Parties {
+        stack,
+        names,
+        loaded,
+    })
+}

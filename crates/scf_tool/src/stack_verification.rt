@@ -1,0 +1,45 @@
+//! The comparison of a stack of filters with a profile, from their bytes.
+
+ghost use Rattle.std.specs.Prelude.{map};
+ghost use Rattle.scf_tool.specs.Verifying.{LeavesProfileReader, LeavesTableReader};
+ghost use Rattle.scf_tool.specs.VerifyingStacks.{LeavesFilterReaders, VerifiesStack};
+
+use crate::parties::read_parties;
+use crate::verification::{Outcome, VerifyFault};
+use scf_compare::{Scope, compare_stack};
+use scf_facts::WordSets;
+use scf_insn::Source;
+use std::alloc::Global;
+
+/// Compares the stack of filters with the profile that readers have, over the calls of a scope, in at most `limit`
+/// steps. The profile's names get their numbers from the call table.
+///
+/// The filters' readers stand in the order of the stack, the oldest first. Each filter is read, checked and pushed
+/// before the next; then the table is read, then the profile; the first fault is answered. Tables and profiles have at
+/// most 4194304 bytes each.
+///
+/// `Same` is true of every call record of the scope, and `Differs` shows one of it that is answered differently: see
+/// `compare_stack`. Plain filters and a plain profile are never left undecided.
+pub fn verify_stack<F: Source, P: Source, T: Source>(
+    alloc: Global,
+    filter_readers: &mut [F],
+    profile_reader: &mut P,
+    table_reader: &mut T,
+    scope: Scope,
+    limit: u64,
+) -> Result<Outcome, VerifyFault>
+    ensures answer { VerifiesStack (map F.remaining filter_readers.old)
+        (T.remaining table_reader.old) (P.remaining profile_reader.old) scope limit result }
+    ensures filter_readers { LeavesFilterReaders F.remaining F.failures filter_readers.old result filter_readers.new }
+    ensures table_reader { LeavesTableReader T.remaining T.failures table_reader.old result table_reader.new }
+    ensures profile_reader { LeavesProfileReader P.remaining P.failures profile_reader.old result profile_reader.new }
+{
+    let parties = read_parties(alloc, filter_readers, profile_reader, table_reader)?;
+    let loaded = parties.loaded;
+    let verdict = compare_stack::<WordSets>(alloc, &parties.stack, &loaded.profile, scope, limit)?;
+    Ok(Outcome {
+        verdict,
+        skipped: loaded.skipped,
+        other_architectures: loaded.other_architectures,
+    })
+}
