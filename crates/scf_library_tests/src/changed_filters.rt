@@ -1,16 +1,20 @@
 //! Compiled filters, as they are and with one part changed: whether what the comparer says of each is true.
 
-use crate::fixtures::{
-    CLONE_MASK, EXTREMES, ONE_CALL, SOCKET_NOT_40, WHOLE_CONFIG, X86_64, call, checked, compared,
-    compiled, insn, is_true, profile_of,
-};
-use scf_compare::{Verdict, effort};
+use crate::fixtures::{call, insn, is_true, profile_of};
+use scf_compare::{Verdict, compare, effort};
+use scf_compile::compile;
 use scf_facts::{AtomList, WordFacts, WordSets};
 use scf_insn::{Answer, CallRecord, Insn};
-use scf_machine::{Program, run};
+use scf_machine::{CheckFault, Program, check, run};
 use scf_profile::Profile;
-use std::alloc::Global;
+use scf_test_fixtures::kernel::X86_64;
+use scf_test_fixtures::profiles::{
+    CLONE_MASK, CLONE_TABLE, EXTREMES, ONE_CALL, READ_TABLE, READ_WRITE_TABLE, SOCKET_NOT_40,
+    SOCKET_TABLE, WHOLE_CONFIG,
+};
+use std::alloc::{AllocError, Global};
 use std::process::Abort;
+use std::test::Fail;
 
 /// One rule for each operator, each with another answer.
 const ALL_OPERATORS: &str = r#"{"defaultAction":"SCMP_ACT_ERRNO","defaultErrnoRet":38,"syscalls":[
@@ -19,8 +23,10 @@ const ALL_OPERATORS: &str = r#"{"defaultAction":"SCMP_ACT_ERRNO","defaultErrnoRe
         {"names":["le"],"action":"SCMP_ACT_TRAP","args":[{"index":2,"value":4294967295,"op":"SCMP_CMP_LE"}]},
         {"names":["eq"],"action":"SCMP_ACT_KILL_THREAD","args":[{"index":3,"value":12884901893,"op":"SCMP_CMP_EQ"}]},
         {"names":["ge"],"action":"SCMP_ACT_TRACE","args":[{"index":4,"value":8589934599,"op":"SCMP_CMP_GE"}]},
-        {"names":["gt"],"action":"SCMP_ACT_KILL_PROCESS","args":[{"index":5,"value":18446744073709551614,"op":"SCMP_CMP_GT"}]},
-        {"names":["mask"],"action":"SCMP_ACT_NOTIFY","args":[{"index":0,"value":1095216660735,"valueTwo":1,"op":"SCMP_CMP_MASKED_EQ"}]}]}"#;
+        {"names":["gt"],"action":"SCMP_ACT_KILL_PROCESS",
+        "args":[{"index":5,"value":18446744073709551614,"op":"SCMP_CMP_GT"}]},
+        {"names":["mask"],"action":"SCMP_ACT_NOTIFY",
+        "args":[{"index":0,"value":1095216660735,"valueTwo":1,"op":"SCMP_CMP_MASKED_EQ"}]}]}"#;
 
 /// A profile and its table, and the numbers and arguments of the calls that it is probed with.
 struct Probed {
@@ -32,13 +38,13 @@ struct Probed {
 
 const PROBED: &[Probed] = &[
     Probed {
-        table: "read 0",
+        table: READ_TABLE,
         text: ONE_CALL,
         numbers: &[0, 1, 2, 0x3fff_ffff, 0x4000_0000, 0x8000_0000, u32::MAX],
         arguments: &[0, 1, 0x1_0000_0000, u64::MAX],
     },
     Probed {
-        table: "socket 41",
+        table: SOCKET_TABLE,
         text: SOCKET_NOT_40,
         numbers: &[
             0,
@@ -63,7 +69,7 @@ const PROBED: &[Probed] = &[
         ],
     },
     Probed {
-        table: "read 0\nwrite 1",
+        table: READ_WRITE_TABLE,
         text: EXTREMES,
         numbers: &[
             0,
@@ -87,7 +93,7 @@ const PROBED: &[Probed] = &[
         ],
     },
     Probed {
-        table: "clone 56",
+        table: CLONE_TABLE,
         text: CLONE_MASK,
         numbers: &[
             0,
@@ -116,7 +122,7 @@ const PROBED: &[Probed] = &[
         ],
     },
     Probed {
-        table: "read 0",
+        table: READ_TABLE,
         text: WHOLE_CONFIG,
         numbers: &[0, 1, 2, 0x3fff_ffff, 0x4000_0000, 0x8000_0000, u32::MAX],
         arguments: &[0, 1, 0x1_0000_0000, u64::MAX],
@@ -198,40 +204,33 @@ struct Probe {
     answer: Answer,
 }
 
-/// Adds the calls of a number and an architecture; `None` where memory was refused.
+/// Adds the calls of a number and an architecture.
 fn push_probes(
     probes: &mut Vec<Probe>,
     profile: &Profile,
     nr: u32,
     arch: u32,
     arguments: &[u64],
-) -> Option<()> {
+) -> Result<(), AllocError> {
     for argument in arguments {
         for place in 0..7 {
             let call = call(nr, arch, arguments_with(place, *argument));
             let answer = profile.answer(&call);
-            probes.push(Probe { call, answer }).ok()?;
+            probes.push(Probe { call, answer })?;
         }
     }
-    Some(())
+    Ok(())
 }
 
-fn probes_once(alloc: Global, case: &Probed, profile: &Profile) -> Option<Vec<Probe>> {
+/// The calls that a profile is probed with.
+fn probes_of(alloc: Global, case: &Probed, profile: &Profile) -> Result<Vec<Probe>, AllocError> {
     let mut probes = Vec::new(alloc);
     for nr in case.numbers {
         for arch in ARCHITECTURES {
             push_probes(&mut probes, profile, *nr, arch, case.arguments)?;
         }
     }
-    Some(probes)
-}
-
-/// The calls that a profile is probed with.
-fn probes_of(alloc: Global, case: &Probed, profile: &Profile) -> Option<Vec<Probe>> {
-    match probes_once(alloc, case, profile) {
-        None => probes_once(alloc, case, profile),
-        first => first,
-    }
+    Ok(probes)
 }
 
 /// A profile, its filter, and the calls that both are probed with.
@@ -242,11 +241,11 @@ struct Subject {
     probes: Vec<Probe>,
 }
 
-fn subject_of(alloc: Global, case: &Probed) -> Option<Subject> {
+fn subject_of(alloc: Global, case: &Probed) -> Result<Subject, Fail> {
     let profile = profile_of(alloc, case.table, case.text)?;
-    let program = compiled(alloc, &profile).ok()?;
+    let program = compile(alloc, &profile)?;
     let probes = probes_of(alloc, case, &profile)?;
-    Some(Subject {
+    Ok(Subject {
         profile,
         program,
         probes,
@@ -323,40 +322,48 @@ impl Subject {
     }
 
     /// What the comparer says of a filter at its effort.
-    fn compare<F: WordFacts>(&self, alloc: Global, program: &Program) -> Option<Verdict> {
-        compared::<F>(
-            alloc,
-            program,
-            &self.profile,
-            effort(program, &self.profile),
-        )
+    fn compare<F: WordFacts>(&self, alloc: Global, program: &Program) -> Result<Verdict, Fail> {
+        let limit = effort(program, &self.profile);
+        Ok(compare::<F>(alloc, program, &self.profile, limit)?)
     }
 
     /// Whether the filter as it was compiled is told to be the profile's. A list of atoms may leave that open.
-    fn is_own(&self, alloc: Global) -> bool {
-        let by_atoms = self.compare::<AtomList>(alloc, &self.program);
-        let by_sets = self.compare::<WordSets>(alloc, &self.program);
-        matches!(
-            by_atoms,
-            Some(Verdict::Same { .. } | Verdict::Undecided { .. })
-        ) && matches!(by_sets, Some(Verdict::Same { .. }))
-            && !self.is_told_apart(&self.program)
+    fn is_own(&self, alloc: Global) -> Result<bool, Fail> {
+        let by_atoms = self.compare::<AtomList>(alloc, &self.program)?;
+        let by_sets = self.compare::<WordSets>(alloc, &self.program)?;
+        Ok(
+            matches!(by_atoms, Verdict::Same { .. } | Verdict::Undecided { .. })
+                && matches!(by_sets, Verdict::Same { .. })
+                && !self.is_told_apart(&self.program),
+        )
     }
 
-    /// The filter with another instruction at a place, where that is accepted.
-    fn with_change(&self, alloc: Global, place: usize, changed: Insn) -> Option<Program> {
-        let mut list = self.program.insns().to_vec(alloc).ok()?;
-        *list.get_mut(place)? = changed;
-        checked(alloc, list).ok()
+    /// The filter with another instruction at a place, where the checker accepts that.
+    fn with_change(
+        &self,
+        alloc: Global,
+        place: usize,
+        changed: Insn,
+    ) -> Result<Option<Program>, Fail> {
+        let mut list = self.program.insns().to_vec(alloc)?;
+        *list.get_mut(place).ok_or("no such place")? = changed;
+        match check(alloc, list) {
+            Ok(program) => Ok(Some(program)),
+            Err((CheckFault::Memory, _)) => Err(Fail::new(CheckFault::Memory)),
+            Err(_) => Ok(None),
+        }
     }
 
     /// Whether what the comparer says of a changed filter can be true.
-    fn is_right_of(&self, alloc: Global, program: &Program, part: Part, seen: &mut Seen) -> bool {
-        let by_atoms = self.compare::<AtomList>(alloc, program);
-        let by_sets = self.compare::<WordSets>(alloc, program);
-        let (Some(by_atoms), Some(by_sets)) = (by_atoms, by_sets) else {
-            return false;
-        };
+    fn is_right_of(
+        &self,
+        alloc: Global,
+        program: &Program,
+        part: Part,
+        seen: &mut Seen,
+    ) -> Result<bool, Fail> {
+        let by_atoms = self.compare::<AtomList>(alloc, program)?;
+        let by_sets = self.compare::<WordSets>(alloc, program)?;
         let is_apart = self.is_told_apart(program);
         if is_apart {
             seen.note(part);
@@ -364,43 +371,45 @@ impl Subject {
         if let Verdict::Differs { .. } = by_atoms {
             seen.shown = true;
         }
-        is_true(by_atoms, program, &self.profile, is_apart)
-            && is_true(by_sets, program, &self.profile, is_apart)
+        Ok(
+            is_true(by_atoms, program, &self.profile, is_apart)
+                && is_true(by_sets, program, &self.profile, is_apart),
+        )
     }
 
     /// The same of each change of the instruction at a place.
-    fn is_right_at(&self, alloc: Global, place: usize, seen: &mut Seen) -> bool {
-        let Some(given) = self.program.insns().get(place) else {
-            return false;
-        };
+    fn is_right_at(&self, alloc: Global, place: usize, seen: &mut Seen) -> Result<bool, Fail> {
+        let given = self.program.insns().get(place).ok_or("no such place")?;
         for (part, changed) in changes_of(*given) {
-            if let Some(program) = self.with_change(alloc, place, changed) {
-                if !self.is_right_of(alloc, &program, part, seen) {
-                    return false;
-                }
+            if let Some(program) = self.with_change(alloc, place, changed)?
+                && !self.is_right_of(alloc, &program, part, seen)?
+            {
+                return Ok(false);
             }
         }
-        true
+        Ok(true)
     }
 }
 
-fn compare_all(rt: &impl Abort, alloc: Global, case: &Probed) {
-    let subject = subject_of(alloc, case).expect(rt, "a filter");
-    assert!(rt; subject.is_own(alloc), "{}", case.text);
+fn compare_all(rt: &impl Abort, alloc: Global, case: &Probed) -> Result<(), Fail> {
+    let subject = subject_of(alloc, case)?;
+    assert!(rt; subject.is_own(alloc)?, "{}", case.text);
     let mut seen = Seen::nothing();
     for place in 0..subject.program.len() {
         assert!(rt;
-            subject.is_right_at(alloc, place, &mut seen),
+            subject.is_right_at(alloc, place, &mut seen)?,
             "at {place} of {}",
             case.text
         );
     }
     assert!(rt; seen.is_all(), "{}", case.text);
+    Ok(())
 }
 
 #[test]
-fn changed_filters(rt: HostRuntime) {
+fn changed_filters(rt: HostRuntime) -> Result<(), Fail> {
     for case in cases() {
-        compare_all(&rt, rt.alloc(), case);
+        compare_all(&rt, rt.alloc(), case)?;
     }
+    Ok(())
 }

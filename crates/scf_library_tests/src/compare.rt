@@ -1,39 +1,23 @@
 //! The comparer on worked pairs of a filter and a profile, and the effort of a comparison.
 
-use crate::fixtures::{
-    ALLOW, CLONE_MASK, EXTREMES, ONE_CALL, X86_64, assembled, checked, compared, insn, is_true,
-    profile_of,
-};
-use scf_compare::{Verdict, effort, is_plain};
+use crate::fixtures::{assembled, is_true, profile_of};
+use scf_compare::{Verdict, compare, effort, is_plain};
 use scf_facts::{AtomList, WordFacts, WordSets};
 use scf_insn::{Answer, CallRecord, low_half};
 use scf_machine::Program;
 use scf_profile::Profile;
+use scf_test_fixtures::filters::{
+    ALLOW_ALL, ARCH_GATE, CLONE_BY_AND, CLONE_BY_FEWER_BITS, CLONE_BY_JSET, DIVISION, GATE,
+    ONE_MASK_TWICE, OVERLAPPING_MASKS,
+};
+use scf_test_fixtures::kernel::{ALLOW, KILL_THREAD, X86_64};
+use scf_test_fixtures::profiles::{
+    CLONE_MASK, CLONE_TABLE, DEFAULT_ALLOW, EXTREMES, ONE_CALL, READ_TABLE, READ_WRITE_TABLE,
+    SOCKET_TABLE, TWO_RULES,
+};
 use std::alloc::Global;
 use std::process::Abort;
-
-/// What leaves only calls of x86-64 with a number below 0x40000000: six instructions.
-const GATE: &str =
-    "ld [4]; jeq #0xc000003e, 1, 0; ret #0x80000000; ld [0]; jge #0x40000000, 0, 1; ret #0x80000000\n";
-
-const ALLOW_ALL: &str = "ret #0x7fff0000";
-
-const KILL_THREAD: u32 = 0;
-
-const ARCH_GATE: &str = "ld [4]; jeq #0xc000003e, 1, 0; ret #0x80000000; ret #0x7fff0000";
-
-/// The mask of `CLONE_MASK` by `and`, by `jset`, and by a `jset` that lacks one of its bits.
-const CLONE_AND: &str =
-    "jeq #56, 0, 3; ld [16]; and #0x7e020000; jeq #0, 1, 0; ret #0x50001; ret #0x7fff0000";
-
-const CLONE_JSET: &str =
-    "jeq #56, 0, 2; ld [16]; jset #0x7e020000, 0, 1; ret #0x50001; ret #0x7fff0000";
-
-const CLONE_OTHER_JSET: &str =
-    "jeq #56, 0, 2; ld [16]; jset #0x7c020000, 0, 1; ret #0x50001; ret #0x7fff0000";
-
-/// A division by the low word of the first argument, which ends the run where that is 0.
-const DIVISION: &str = "ld [16]; tax; ld #1; div x; ret #0x7fff0000";
+use std::test::Fail;
 
 /// `ONE_CALL` by scratch words; and with another answer in one.
 const STORED: &str =
@@ -41,12 +25,6 @@ const STORED: &str =
 
 const OTHER_STORED: &str =
     "st M[3]; ld #0x7fff0001; st M[4]; ldx M[3]; txa; jeq #0, 0, 2; ld M[4]; ret a; ret #0x50001";
-
-const DEFAULT_ALLOW: &str = r#"{"defaultAction":"SCMP_ACT_ALLOW"}"#;
-
-/// Two rules of one call, with two conditions and with one.
-const TWO_RULES: &str =
-    r#"{"defaultAction":"SCMP_ACT_ERRNO","syscalls":[{"names":["socket"],"action":"SCMP_ACT_ALLOW","args":[{"index":0,"value":16,"op":"SCMP_CMP_EQ"},{"index":2,"value":9,"op":"SCMP_CMP_EQ"}]},{"names":["socket"],"action":"SCMP_ACT_ALLOW","args":[{"index":2,"value":9,"op":"SCMP_CMP_NE"}]}]}"#;
 
 /// What a comparison comes to at a sufficient limit.
 #[derive(Clone, Copy, PartialEq, Eq)]
@@ -79,16 +57,16 @@ const PAIRS: &[Pair] = &[
     },
     Pair {
         head: GATE,
-        rest: CLONE_AND,
-        table: "clone 56",
+        rest: CLONE_BY_AND,
+        table: CLONE_TABLE,
         text: CLONE_MASK,
         effort: 208,
         wanted: Wanted::Same,
     },
     Pair {
         head: GATE,
-        rest: CLONE_JSET,
-        table: "clone 56",
+        rest: CLONE_BY_JSET,
+        table: CLONE_TABLE,
         text: CLONE_MASK,
         effort: 192,
         wanted: Wanted::Same,
@@ -96,9 +74,17 @@ const PAIRS: &[Pair] = &[
     Pair {
         head: GATE,
         rest: STORED,
-        table: "read 0",
+        table: READ_TABLE,
         text: ONE_CALL,
         effort: 150,
+        wanted: Wanted::Same,
+    },
+    Pair {
+        head: GATE,
+        rest: ONE_MASK_TWICE,
+        table: "",
+        text: DEFAULT_ALLOW,
+        effort: 96,
         wanted: Wanted::Same,
     },
     Pair {
@@ -112,7 +98,7 @@ const PAIRS: &[Pair] = &[
     Pair {
         head: GATE,
         rest: OTHER_STORED,
-        table: "read 0",
+        table: READ_TABLE,
         text: ONE_CALL,
         effort: 150,
         wanted: Wanted::Shown(0x7fff_0001, ALLOW),
@@ -127,8 +113,8 @@ const PAIRS: &[Pair] = &[
     },
     Pair {
         head: GATE,
-        rest: CLONE_OTHER_JSET,
-        table: "clone 56",
+        rest: CLONE_BY_FEWER_BITS,
+        table: CLONE_TABLE,
         text: CLONE_MASK,
         effort: 192,
         wanted: Wanted::NotSame,
@@ -152,7 +138,7 @@ const PAIRS: &[Pair] = &[
     Pair {
         head: "",
         rest: ALLOW_ALL,
-        table: "read 0",
+        table: READ_TABLE,
         text: ONE_CALL,
         effort: 10,
         wanted: Wanted::NotSame,
@@ -160,7 +146,7 @@ const PAIRS: &[Pair] = &[
     Pair {
         head: "",
         rest: ALLOW_ALL,
-        table: "clone 56",
+        table: CLONE_TABLE,
         text: CLONE_MASK,
         effort: 16,
         wanted: Wanted::NotSame,
@@ -168,7 +154,7 @@ const PAIRS: &[Pair] = &[
     Pair {
         head: "",
         rest: ALLOW_ALL,
-        table: "read 0\nwrite 1",
+        table: READ_WRITE_TABLE,
         text: EXTREMES,
         effort: 24,
         wanted: Wanted::NotSame,
@@ -176,7 +162,7 @@ const PAIRS: &[Pair] = &[
     Pair {
         head: "",
         rest: ALLOW_ALL,
-        table: "socket 41",
+        table: SOCKET_TABLE,
         text: TWO_RULES,
         effort: 64,
         wanted: Wanted::NotSame,
@@ -188,17 +174,17 @@ fn pairs() -> &'static [Pair] {
 }
 
 /// The filter and the profile of a pair.
-fn made(alloc: Global, pair: &Pair) -> Option<(Program, Profile)> {
-    Some((
+fn made(alloc: Global, pair: &Pair) -> Result<(Program, Profile), Fail> {
+    Ok((
         assembled(alloc, pair.head, pair.rest)?,
         profile_of(alloc, pair.table, pair.text)?,
     ))
 }
 
 #[test]
-fn efforts(rt: HostRuntime) {
+fn efforts(rt: HostRuntime) -> Result<(), Fail> {
     for pair in pairs() {
-        let (program, profile) = made(rt.alloc(), pair).expect(&rt, "a pair");
+        let (program, profile) = made(rt.alloc(), pair)?;
         assert_eq!(rt;
             effort(&program, &profile),
             pair.effort,
@@ -207,18 +193,18 @@ fn efforts(rt: HostRuntime) {
             pair.text
         );
     }
+    Ok(())
 }
 
 /// A filter of so many jumps with one target each.
-fn jumps(alloc: Global, count: usize) -> Option<Program> {
-    let mut list = vec![in alloc; insn(0x15, 0, 0, 7); count].ok()?;
-    list.push(insn(0x06, 0, 0, ALLOW)).ok()?;
-    checked(alloc, list).ok()
+fn jumps(alloc: Global, count: usize) -> Result<Program, Fail> {
+    let text = "jeq #7, 0, 0;".repeat(alloc, count)?;
+    assembled(alloc, text.as_str(), ALLOW_ALL)
 }
 
 #[test]
-fn largest_efforts(rt: HostRuntime) {
-    let profile = profile_of(rt.alloc(), "", DEFAULT_ALLOW).expect(&rt, "a profile");
+fn largest_efforts(rt: HostRuntime) -> Result<(), Fail> {
+    let profile = profile_of(rt.alloc(), "", DEFAULT_ALLOW)?;
     // 8 times one less than a power of two, while that fits.
     for (count, expected) in [
         (0, 8),
@@ -230,13 +216,29 @@ fn largest_efforts(rt: HostRuntime) {
         (64, u64::MAX),
         (4095, u64::MAX),
     ] {
-        let program = match jumps(rt.alloc(), count) {
-            None => jumps(rt.alloc(), count),
-            first => first,
-        };
-        let program = program.expect(&rt, "a filter");
+        let program = jumps(rt.alloc(), count)?;
         assert_eq!(rt; effort(&program, &profile), expected, "{count}");
     }
+    Ok(())
+}
+
+#[test]
+fn effort_of_the_longest_filter(rt: HostRuntime) -> Result<(), Fail> {
+    let profile = profile_of(rt.alloc(), "", DEFAULT_ALLOW)?;
+    let loads = "ld #0;".repeat(rt.alloc(), 4095)?;
+    let program = assembled(rt.alloc(), loads.as_str(), ALLOW_ALL)?;
+    assert_eq!(rt; effort(&program, &profile), 32768);
+    Ok(())
+}
+
+#[test]
+fn overlapping_masks(rt: HostRuntime) -> Result<(), Fail> {
+    let profile = profile_of(rt.alloc(), "", DEFAULT_ALLOW)?;
+    let program = assembled(rt.alloc(), GATE, OVERLAPPING_MASKS)?;
+    assert_eq!(rt; effort(&program, &profile), 96);
+    let verdict = compare::<WordSets>(rt.alloc(), &program, &profile, 96)?;
+    assert!(rt; matches!(verdict, Verdict::Same { .. }), "{verdict:?}");
+    Ok(())
 }
 
 /// Which of two stores of facts is asked.
@@ -271,10 +273,15 @@ fn is_wanted(
     is_kind && is_true(verdict, program, profile, wanted != Wanted::Same)
 }
 
-fn compare_pair<F: WordFacts>(rt: &impl Abort, alloc: Global, pair: &Pair, store: Store) {
-    let (program, profile) = made(alloc, pair).expect(rt, "a pair");
+fn compare_pair<F: WordFacts>(
+    rt: &impl Abort,
+    alloc: Global,
+    pair: &Pair,
+    store: Store,
+) -> Result<(), Fail> {
+    let (program, profile) = made(alloc, pair)?;
     for limit in [pair.effort, pair.effort.wrapping_add(1), u64::MAX] {
-        let verdict = compared::<F>(alloc, &program, &profile, limit).expect(rt, "a verdict");
+        let verdict = compare::<F>(alloc, &program, &profile, limit)?;
         assert!(rt;
             is_wanted(verdict, &program, &profile, pair.wanted, store),
             "{} {}: {verdict:?}",
@@ -282,14 +289,16 @@ fn compare_pair<F: WordFacts>(rt: &impl Abort, alloc: Global, pair: &Pair, store
             pair.text
         );
     }
+    Ok(())
 }
 
 #[test]
-fn verdicts(rt: HostRuntime) {
+fn verdicts(rt: HostRuntime) -> Result<(), Fail> {
     for pair in pairs() {
-        compare_pair::<AtomList>(&rt, rt.alloc(), pair, Store::Atoms);
-        compare_pair::<WordSets>(&rt, rt.alloc(), pair, Store::Sets);
+        compare_pair::<AtomList>(&rt, rt.alloc(), pair, Store::Atoms)?;
+        compare_pair::<WordSets>(&rt, rt.alloc(), pair, Store::Sets)?;
     }
+    Ok(())
 }
 
 /// Whether a verdict is `Same` within a limit, or the limit is below the effort and was reached.
@@ -301,56 +310,64 @@ fn is_within(verdict: Verdict, limit: u64, effort: u64) -> bool {
     }
 }
 
-fn limit_pair<F: WordFacts>(rt: &impl Abort, alloc: Global, pair: &Pair) {
-    let (program, profile) = made(alloc, pair).expect(rt, "a pair");
-    let none = compared::<F>(alloc, &program, &profile, 0);
-    assert_eq!(rt; none, Some(Verdict::Unfinished));
+fn limit_pair<F: WordFacts>(rt: &impl Abort, alloc: Global, pair: &Pair) -> Result<(), Fail> {
+    let (program, profile) = made(alloc, pair)?;
+    let none = compare::<F>(alloc, &program, &profile, 0)?;
+    assert_eq!(rt; none, Verdict::Unfinished);
     for limit in 1..=pair.effort {
-        let verdict = compared::<F>(alloc, &program, &profile, limit).expect(rt, "a verdict");
+        let verdict = compare::<F>(alloc, &program, &profile, limit)?;
         assert!(rt;
             is_within(verdict, limit, pair.effort),
             "{} {limit}: {verdict:?}",
             pair.rest
         );
     }
+    Ok(())
 }
 
 #[test]
-fn limits(rt: HostRuntime) {
+fn limits(rt: HostRuntime) -> Result<(), Fail> {
     for pair in pairs() {
         if pair.wanted == Wanted::Same {
-            limit_pair::<AtomList>(&rt, rt.alloc(), pair);
-            limit_pair::<WordSets>(&rt, rt.alloc(), pair);
+            limit_pair::<AtomList>(&rt, rt.alloc(), pair)?;
+            limit_pair::<WordSets>(&rt, rt.alloc(), pair)?;
         }
     }
+    Ok(())
 }
 
-/// The call that is shown of a filter behind the gate and a profile, where one is.
-fn shown<F: WordFacts>(alloc: Global, rest: &str, table: &str, text: &str) -> Option<CallRecord> {
+/// The call that is shown of a filter behind the gate and a profile.
+fn shown<F: WordFacts>(
+    alloc: Global,
+    rest: &str,
+    table: &str,
+    text: &str,
+) -> Result<CallRecord, Fail> {
     let program = assembled(alloc, GATE, rest)?;
     let profile = profile_of(alloc, table, text)?;
-    match compared::<F>(alloc, &program, &profile, u64::MAX)? {
-        Verdict::Differs { call, .. } => Some(call),
-        _ => None,
+    match compare::<F>(alloc, &program, &profile, u64::MAX)? {
+        Verdict::Differs { call, .. } => Ok(call),
+        _ => Err(Fail::new("no call is shown")),
     }
 }
 
-fn show_division<F: WordFacts>(rt: &impl Abort, alloc: Global) {
-    let call = shown::<F>(alloc, DIVISION, "", DEFAULT_ALLOW).expect(rt, "a call");
+fn show_division<F: WordFacts>(rt: &impl Abort, alloc: Global) -> Result<(), Fail> {
+    let call = shown::<F>(alloc, DIVISION, "", DEFAULT_ALLOW)?;
     let [argument, ..] = call.args;
     assert!(rt; call.arch == X86_64 && low_half(argument) == 0, "{call:?}");
+    Ok(())
 }
 
 #[test]
-fn shown_calls(rt: HostRuntime) {
-    show_division::<AtomList>(&rt, rt.alloc());
-    show_division::<WordSets>(&rt, rt.alloc());
+fn shown_calls(rt: HostRuntime) -> Result<(), Fail> {
+    show_division::<AtomList>(&rt, rt.alloc())?;
+    show_division::<WordSets>(&rt, rt.alloc())?;
     // The one bit that the filter doesn't test is set, and none that it tests.
-    let call = shown::<WordSets>(rt.alloc(), CLONE_OTHER_JSET, "clone 56", CLONE_MASK);
-    let call = call.expect(&rt, "a call");
+    let call = shown::<WordSets>(rt.alloc(), CLONE_BY_FEWER_BITS, CLONE_TABLE, CLONE_MASK)?;
     let [argument, ..] = call.args;
     assert!(rt; call.nr == 56 && call.arch == X86_64, "{call:?}");
     assert!(rt; low_half(argument) & 0x7e02_0000 == 0x0200_0000, "{call:?}");
+    Ok(())
 }
 
 /// Filters, and whether they are plain.
@@ -373,9 +390,10 @@ const FILTERS: [(&str, bool); 12] = [
 ];
 
 #[test]
-fn plain_filters(rt: HostRuntime) {
+fn plain_filters(rt: HostRuntime) -> Result<(), Fail> {
     for (text, expected) in FILTERS {
-        let program = assembled(rt.alloc(), "", text).expect(&rt, "a filter");
+        let program = assembled(rt.alloc(), "", text)?;
         assert_eq!(rt; is_plain(&program), expected, "{text}");
     }
+    Ok(())
 }

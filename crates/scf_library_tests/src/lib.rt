@@ -9,15 +9,33 @@ mod changed_filters;
 #[cfg(test)]
 mod compare;
 #[cfg(test)]
+mod compare_calls;
+#[cfg(test)]
+mod compare_limits;
+#[cfg(test)]
+mod compare_stacks;
+#[cfg(test)]
 mod compile;
 #[cfg(test)]
+mod conflicts;
+#[cfg(test)]
 mod facts;
+#[cfg(test)]
+mod facts_walk;
 #[cfg(test)]
 mod fixtures;
 #[cfg(test)]
 mod machine;
 #[cfg(test)]
+mod messages;
+#[cfg(test)]
+mod named_calls;
+#[cfg(test)]
 mod profile;
+#[cfg(test)]
+mod searches;
+#[cfg(test)]
+mod streams;
 #[cfg(test)]
 mod text;
 #[cfg(test)]

@@ -1,87 +1,26 @@
 //! The assembler and the disassembler.
 
-use crate::fixtures::{insn, once};
-use scf_insn::{Failed, Insn, Sink, WriteFault};
+use crate::fixtures::insn;
+use scf_insn::faults::{Failing, Writer};
+use scf_insn::{Insn, WriteFault};
+use scf_test_fixtures::filters::LABELLED;
 use scf_text::{TextFault, assemble, disassemble, tokens};
-use std::alloc::Global;
+use std::alloc::{AllocError, Global};
+use std::test::Fail;
 
 /// Whether the text spells these instructions.
-fn spells(alloc: Global, text: &[u8], wanted: &[Insn], refused: &mut bool) -> bool {
+fn spells(alloc: Global, text: &[u8], wanted: &[Insn]) -> bool {
     match assemble(alloc, text) {
         Ok(insns) => insns.as_slice() == wanted,
-        Err(TextFault::Memory) => once(refused),
         Err(_) => false,
     }
 }
 
 /// Whether this is the fault of the text.
-fn fails(alloc: Global, text: &[u8], wanted: TextFault, refused: &mut bool) -> bool {
+fn fails(alloc: Global, text: &[u8], wanted: TextFault) -> bool {
     match assemble(alloc, text) {
         Ok(_) => false,
-        Err(TextFault::Memory) => once(refused),
         Err(fault) => fault == wanted,
-    }
-}
-
-/// A writer that takes one byte a time, and none once its room is full.
-#[derive(Drop)]
-struct Slow {
-    taken: [u8; 128],
-    len: usize,
-    room: usize,
-    failures: u64,
-}
-
-impl Slow {
-    fn new(room: usize) -> Slow {
-        Slow {
-            taken: [0; 128],
-            len: 0,
-            room,
-            failures: 0,
-        }
-    }
-
-    fn has_taken(&self, wanted: Option<&[u8]>) -> bool {
-        self.taken.get(..self.len) == wanted
-    }
-}
-
-impl Sink for Slow {
-    ghost failures = { λ s. s.failures };
-
-    fn write(&mut self, bytes: &[u8]) -> Result<usize, Failed> {
-        let Some(byte) = bytes.first() else {
-            return Ok(0);
-        };
-        if self.len < self.room && self.len < self.taken.len() {
-            self.taken[self.len] = *byte;
-            self.len += 1;
-            Ok(1)
-        } else {
-            self.failures = self.failures.saturating_add(1);
-            Err(Failed)
-        }
-    }
-}
-
-/// A writer that keeps all that it is given.
-#[derive(Drop)]
-struct Kept {
-    text: Vec<u8>,
-    failures: u64,
-}
-
-impl Sink for Kept {
-    ghost failures = { λ s. s.failures };
-
-    fn write(&mut self, bytes: &[u8]) -> Result<usize, Failed> {
-        if self.text.extend_from_slice(bytes).is_ok() {
-            Ok(bytes.len())
-        } else {
-            self.failures = self.failures.saturating_add(1);
-            Err(Failed)
-        }
     }
 }
 
@@ -131,19 +70,18 @@ static CODES: [(u16, u8, u8, u32, &'static str); 41] = [
 ];
 
 /// Whether an instruction is listed as this line, and the line is read as the instruction.
-fn is_line(alloc: Global, insn: Insn, line: &str, refused: &mut bool) -> bool {
-    let mut sink = Slow::new(128);
+fn is_line(alloc: Global, insn: Insn, line: &str) -> bool {
+    let mut sink = Writer::new(alloc, 1, Failing::Never);
     disassemble(&[insn], &mut sink).is_ok()
-        && sink.has_taken(Some(line.as_bytes()))
-        && spells(alloc, line.as_bytes(), &[insn], refused)
+        && sink.taken() == line.as_bytes()
+        && spells(alloc, line.as_bytes(), &[insn])
 }
 
 #[test]
 fn lines_of_instructions(rt: HostRuntime) {
-    let mut refused = false;
     for (code, jt, jf, k, line) in &CODES {
         assert!(rt;
-            is_line(rt.alloc(), insn(*code, *jt, *jf, *k), line, &mut refused),
+            is_line(rt.alloc(), insn(*code, *jt, *jf, *k), line),
             "{line}"
         );
     }
@@ -162,36 +100,24 @@ fn lines_of_instructions(rt: HostRuntime) {
         (0x20, 0, 1, 4, "raw 0x0020, 0, 1, 0x4\n"),
         (0x1d, 1, 1, 1, "raw 0x001d, 1, 1, 0x1\n"),
     ] {
-        assert!(rt;
-            is_line(rt.alloc(), insn(code, jt, jf, k), line, &mut refused),
-            "{line}"
-        );
+        assert!(rt; is_line(rt.alloc(), insn(code, jt, jf, k), line), "{line}");
     }
 }
 
 #[test]
 fn texts_that_spell(rt: HostRuntime) {
-    let mut refused = false;
-    assert!(rt; spells(rt.alloc(), b"", &[], &mut refused));
+    assert!(rt; spells(rt.alloc(), b"", &[]));
+    assert!(rt; spells(rt.alloc(), b"ja end; end:", &[insn(5, 0, 0, 0)]));
     assert!(rt;
         spells(
             rt.alloc(),
-            b"ja end; end:",
-            &[insn(5, 0, 0, 0)],
-            &mut refused
-        )
-    );
-    assert!(rt;
-        spells(
-            rt.alloc(),
-            b"ld [0] // number\njeq #39, yes, no\nno: ret #0x50001\nyes: ret #0x7fff0000\n",
+            LABELLED.as_bytes(),
             &[
                 insn(0x20, 0, 0, 0),
                 insn(0x15, 1, 0, 0x27),
                 insn(6, 0, 0, 0x50001),
                 insn(6, 0, 0, 0x7fff0000),
             ],
-            &mut refused,
         )
     );
     // other spellings of registers, numbers and blanks, a comment with `;`, and a statement without instruction
@@ -204,7 +130,6 @@ fn texts_that_spell(rt: HostRuntime) {
                 insn(0x1d, 1, 0, 0),
                 insn(1, 0, 0, 0xaf)
             ],
-            &mut refused,
         )
     );
     // names of registers and mnemonics as labels, and two labels of one place
@@ -213,7 +138,6 @@ fn texts_that_spell(rt: HostRuntime) {
             rt.alloc(),
             b"jset #1, len, ret; ret: ja a\na:\nlen: add x",
             &[insn(0x45, 1, 0, 1), insn(5, 0, 0, 0), insn(0x0c, 0, 0, 0)],
-            &mut refused,
         )
     );
 }
@@ -269,74 +193,48 @@ fn texts_with_faults() -> &'static [(&'static str, TextFault)] {
 
 #[test]
 fn faults(rt: HostRuntime) {
-    let mut refused = false;
     for (text, wanted) in texts_with_faults() {
-        assert!(rt;
-            fails(rt.alloc(), text.as_bytes(), *wanted, &mut refused),
-            "{text}"
-        );
+        assert!(rt; fails(rt.alloc(), text.as_bytes(), *wanted), "{text}");
     }
 }
 
-/// A line, then another line a number of times, then a last one; `None` where memory was refused.
+/// A line, then another line a number of times, then a last one.
 fn repeated(
     alloc: Global,
     first: &[u8],
     line: &[u8],
     times: usize,
     last: &[u8],
-) -> Option<Vec<u8>> {
+) -> Result<Vec<u8>, AllocError> {
     let mut text = Vec::new(alloc);
-    text.extend_from_slice(first).ok()?;
+    text.extend_from_slice(first)?;
     for _ in 0..times {
-        text.extend_from_slice(line).ok()?;
+        text.extend_from_slice(line)?;
     }
-    text.extend_from_slice(last).ok()?;
-    Some(text)
+    text.extend_from_slice(last)?;
+    Ok(text)
 }
 
 #[test]
-fn limits(rt: HostRuntime) {
-    let mut refused = false;
-    for (times, reached) in [(255, true), (256, false)] {
-        let Some(text) = repeated(
-            rt.alloc(),
-            b"jeq #1, far, 0\n",
-            b"ld #0\n",
-            times,
-            b"far: ret a",
-        ) else {
-            assert!(rt; once(&mut refused));
-            return;
-        };
-        match assemble(rt.alloc(), &text) {
-            Ok(insns) => {
-                assert!(rt; reached);
-                assert!(rt; insns.first() == Some(&insn(0x15, 255, 0, 1)));
-            }
-            Err(TextFault::Memory) => assert!(rt; once(&mut refused)),
-            Err(fault) => {
-                assert!(rt; !reached && fault == TextFault::JumpTooFar { line: 1 });
-            }
-        }
-    }
-    for (times, fits) in [(4096, true), (4097, false)] {
-        let Some(text) = repeated(rt.alloc(), b"", b"ret a\n", times, b"end:") else {
-            assert!(rt; once(&mut refused));
-            return;
-        };
-        match assemble(rt.alloc(), &text) {
-            Ok(insns) => assert!(rt; fits && insns.len() == 4096),
-            Err(TextFault::Memory) => assert!(rt; once(&mut refused)),
-            Err(fault) => assert!(rt; !fits && fault == TextFault::TooLong { line: 4097 }),
-        }
-    }
+fn limits(rt: HostRuntime) -> Result<(), Fail> {
+    let jump = b"jeq #1, far, 0\n";
+    let reached = repeated(rt.alloc(), jump, b"ld #0\n", 255, b"far: ret a")?;
+    let insns = assemble(rt.alloc(), &reached)?;
+    assert!(rt; insns.first() == Some(&insn(0x15, 255, 0, 1)));
+    let far = repeated(rt.alloc(), jump, b"ld #0\n", 256, b"far: ret a")?;
+    assert!(rt; fails(rt.alloc(), &far, TextFault::JumpTooFar { line: 1 }));
+    let most = repeated(rt.alloc(), b"", b"ret a\n", 4096, b"end:")?;
+    let insns = assemble(rt.alloc(), &most)?;
+    assert!(rt; insns.len() == 4096);
+    let more = repeated(rt.alloc(), b"", b"ret a\n", 4097, b"end:")?;
+    assert!(rt; fails(rt.alloc(), &more, TextFault::TooLong { line: 4097 }));
+    Ok(())
 }
 
 /// Whether the tokens of a text are these, with their starts.
-fn are_tokens(alloc: Global, text: &[u8], wanted: &[(usize, &[u8])], refused: &mut bool) -> bool {
+fn are_tokens(alloc: Global, text: &[u8], wanted: &[(usize, &[u8])]) -> bool {
     let Ok(found) = tokens(alloc, text) else {
-        return once(refused);
+        return false;
     };
     for (token, (start, word)) in found.iter().zip(wanted.iter()) {
         if token.start != *start || token.text != *word {
@@ -348,7 +246,6 @@ fn are_tokens(alloc: Global, text: &[u8], wanted: &[(usize, &[u8])], refused: &m
 
 #[test]
 fn pieces_of_a_text(rt: HostRuntime) {
-    let mut refused = false;
     assert!(rt;
         are_tokens(
             rt.alloc(),
@@ -362,7 +259,6 @@ fn pieces_of_a_text(rt: HostRuntime) {
                 (7, b"x"),
                 (8, b":"),
             ],
-            &mut refused,
         )
     );
     assert!(rt;
@@ -376,7 +272,6 @@ fn pieces_of_a_text(rt: HostRuntime) {
                 (7, b"0xZ"),
                 (13, b",")
             ],
-            &mut refused,
         )
     );
 }
@@ -403,89 +298,72 @@ fn any_insn(state: &mut u64) -> Insn {
 }
 
 #[test]
-fn listing_of_4096_is_read_back(rt: HostRuntime) {
-    let mut refused = false;
+fn listing_of_4096_is_read_back(rt: HostRuntime) -> Result<(), Fail> {
     let mut insns = Vec::new(rt.alloc());
     let mut state = 20;
     for _ in 0..4096 {
-        if insns.push(any_insn(&mut state)).is_err() {
-            assert!(rt; once(&mut refused));
-            return;
-        }
+        insns.push(any_insn(&mut state))?;
     }
-    let mut sink = Kept {
-        text: Vec::new(rt.alloc()),
-        failures: 0,
-    };
-    if disassemble(&insns, &mut sink).is_err() {
-        assert!(rt; once(&mut refused));
-        return;
-    }
-    assert!(rt; spells(rt.alloc(), &sink.text, &insns, &mut refused));
+    let mut sink = Writer::new(rt.alloc(), usize::MAX, Failing::Never);
+    disassemble(&insns, &mut sink)?;
+    assert!(rt; spells(rt.alloc(), sink.taken(), &insns));
+    Ok(())
 }
 
-#[test]
-fn writers_that_fail(rt: HostRuntime) {
-    let insns = [
-        insn(0x20, 0, 0, 4),
-        insn(0x15, 1, 0, 0xc000_003e),
-        insn(0x94, 0, 0, 5),
-        insn(0x16, 0, 0, 0),
-    ];
-    let text = b"ld [4]\njeq #0xc000003e, 1, 0\nraw 0x0094, 0, 0, 0x5\nret a\n";
-    for room in 0..=text.len() {
-        let mut sink = Slow::new(room);
-        let answer = disassemble(&insns, &mut sink);
-        let wanted = if room < text.len() {
-            Err(WriteFault::Write)
-        } else {
-            Ok(())
-        };
-        assert!(rt; answer == wanted, "{room}");
-        assert!(rt; sink.has_taken(text.get(..room)), "{room}");
-    }
-}
-
-/// Faults, and what they print.
-const MESSAGES: &[(TextFault, &'static str)] = &[
-    (
-        TextFault::NotAscii { line: 2 },
-        "line 2: a byte that is not ASCII",
-    ),
-    (TextFault::Mnemonic { line: 3 }, "line 3: not a mnemonic"),
-    (
-        TextFault::Operand { line: 4 },
-        "line 4: not the operands of this mnemonic",
-    ),
-    (
-        TextFault::NumberRange { line: 5 },
-        "line 5: a number that does not fit its field",
-    ),
-    (
-        TextFault::Label { line: 6 },
-        "line 6: a label given twice, or not at all",
-    ),
-    (
-        TextFault::JumpTooFar { line: 7 },
-        "line 7: a label that this jump does not reach",
-    ),
-    (
-        TextFault::TooLong { line: 4097 },
-        "line 4097: more than 4096 instructions",
-    ),
-    (TextFault::Memory, "out of memory"),
+/// Four instructions, and their lines.
+const LISTED: [Insn; 4] = [
+    Insn {
+        code: 0x20,
+        jt: 0,
+        jf: 0,
+        k: 4,
+    },
+    Insn {
+        code: 0x15,
+        jt: 1,
+        jf: 0,
+        k: 0xc000_003e,
+    },
+    Insn {
+        code: 0x94,
+        jt: 0,
+        jf: 0,
+        k: 5,
+    },
+    Insn {
+        code: 0x16,
+        jt: 0,
+        jf: 0,
+        k: 0,
+    },
 ];
 
-fn messages_of_faults() -> &'static [(TextFault, &'static str)] {
-    MESSAGES
+const LISTING: &str = "ld [4]\njeq #0xc000003e, 1, 0\nraw 0x0094, 0, 0, 0x5\nret a\n";
+
+/// Whether a listing stops at the first write that fails, here behind so many bytes: what went out is a beginning of
+/// the text, and the writer isn't asked again.
+fn stops_behind(alloc: Global, count: usize, failing: Failing) -> bool {
+    let mut sink = Writer::new(alloc, 1, failing);
+    disassemble(&LISTED, &mut sink) == Err(WriteFault::Write)
+        && LISTING.as_bytes().get(..count) == Some(sink.taken())
+        && sink.failures() == 1
+        && sink.asks() == count as u64 + 1
 }
 
 #[test]
-fn messages(rt: HostRuntime) {
-    for (fault, wanted) in messages_of_faults() {
-        let Ok(shown) = format!(in rt.alloc(); "{fault}") else {
-            return;
-        };
-        assert!(rt; shown.as_str() == *wanted, "{wanted}");
+fn writers_that_fail(rt: HostRuntime) -> Result<(), Fail> {
+    for count in 0..LISTING.len() {
+        assert!(rt;
+            stops_behind(rt.alloc(), count, Failing::After(count)),
+            "{count}"
+        );
+        assert!(rt;
+            stops_behind(rt.alloc(), count, Failing::OnceAfter(count)),
+            "{count}"
+        );
     }
+    let mut sink = Writer::new(rt.alloc(), 1, Failing::After(LISTING.len()));
+    disassemble(&LISTED, &mut sink)?;
+    assert!(rt; sink.taken() == LISTING.as_bytes() && sink.failures() == 0);
+    Ok(())
 }

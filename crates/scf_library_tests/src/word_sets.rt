@@ -1,5 +1,7 @@
 //! What sets of numbers for each word tell, see and pick.
 
+use Asked::{Above, AtLeast, Equal};
+use Tell::{Always, Maybe, Never};
 use scf_facts::{Atom, Tell, WordFacts, WordSets};
 use std::alloc::Global;
 use std::process::Abort;
@@ -27,20 +29,22 @@ fn at_least(value: u32) -> Atom {
 }
 
 /// Learns an answer of an atom on one of the sixteen words.
-fn learn(facts: &mut WordSets, atom: Atom, holds: bool) -> Result<(), Fail> {
-    if atom.word() < 16 {
-        facts.learn(atom, holds)?;
-    }
+fn learn(rt: &impl Abort, facts: &mut WordSets, atom: Atom, holds: bool) -> Result<(), Fail> {
+    assert!(rt; atom.word() < 16);
+    facts.learn(atom, holds)?;
     Ok(())
 }
 
 /// What is told of an atom on one of the sixteen words.
-fn tell(facts: &WordSets, atom: Atom) -> Tell {
-    if atom.word() < 16 {
-        facts.tell(atom)
-    } else {
-        Tell::Maybe
-    }
+fn tell(rt: &impl Abort, facts: &WordSets, atom: Atom) -> Tell {
+    assert!(rt; atom.word() < 16);
+    facts.tell(atom)
+}
+
+/// Goes back to the newest mark.
+fn undo(rt: &impl Abort, facts: &mut WordSets) {
+    assert!(rt; facts.open_marks() > 0);
+    facts.undo();
 }
 
 /// The words that are 0 save word 4.
@@ -50,274 +54,273 @@ fn words_with(value: u32) -> Option<[u32; 16]> {
     Some(words)
 }
 
-/// What is told after two answers, whether that is empty, and which words are picked.
-#[derive(Drop)]
-struct Row {
-    learned: [(Atom, bool); 2],
-    tells: [(Atom, Tell); 4],
-    is_empty: bool,
-    pick: Option<[u32; 16]>,
+/// An atom on word 4.
+#[derive(Clone, Copy, Debug)]
+enum Asked {
+    /// The bits of a mask have these values.
+    Equal(u32, u32),
+    Above(u32),
+    AtLeast(u32),
 }
 
+impl Asked {
+    fn atom(self) -> Atom {
+        match self {
+            Equal(mask, value) => equal(mask, value),
+            Above(value) => above(value),
+            AtLeast(value) => at_least(value),
+        }
+    }
+}
+
+/// What is told after two answers, and what is picked for word 4.
+struct Row {
+    learned: &'static [(Asked, bool)],
+    tells: &'static [(Asked, Tell)],
+    pick: u32,
+}
+
+/// Checks what is told after a row's answers, and that nothing is known of them before a mark.
 fn check_row(rt: &impl Abort, alloc: Global, row: &Row) -> Result<(), Fail> {
     let mut facts = WordSets::all(alloc)?;
-    for (atom, holds) in row.learned {
-        learn(&mut facts, atom, holds)?;
+    facts.mark()?;
+    for (asked, holds) in row.learned {
+        learn(rt, &mut facts, asked.atom(), *holds)?;
     }
-    let copied = facts.copy(alloc)?;
-    for (atom, expected) in row.tells {
+    for (asked, expected) in row.tells {
         assert_eq!(rt;
-            tell(&facts, atom),
-            expected,
-            "{atom:?} after {:?}",
+            tell(rt, &facts, asked.atom()),
+            *expected,
+            "{asked:?} after {:?}",
             row.learned
         );
-        assert_eq!(rt; tell(&copied, atom), expected);
     }
-    assert_eq!(rt; facts.is_empty(), row.is_empty, "after {:?}", row.learned);
-    assert_eq!(rt; facts.pick(), row.pick, "after {:?}", row.learned);
-    assert_eq!(rt; copied.is_empty(), row.is_empty);
-    assert_eq!(rt; copied.pick(), row.pick);
+    assert_eq!(rt; facts.is_empty(), false, "after {:?}", row.learned);
+    assert_eq!(rt;
+        facts.pick(),
+        words_with(row.pick),
+        "after {:?}",
+        row.learned
+    );
+    undo(rt, &mut facts);
+    let nothing_learned = WordSets::all(alloc)?;
+    for (asked, _) in row.tells {
+        let atom = asked.atom();
+        assert_eq!(rt; tell(rt, &facts, atom), tell(rt, &nothing_learned, atom));
+    }
+    assert_eq!(rt; facts.is_empty(), false);
+    assert_eq!(rt; facts.pick(), Some([0; 16]));
     Ok(())
 }
 
-/// What is told after answers that end in intervals.
-fn rows_by_intervals() -> [Row; 6] {
-    [
-        Row {
-            learned: [(at_least(5), true), (at_least(10), false)],
-            tells: [
-                (at_least(5), Tell::Always),
-                (above(9), Tell::Never),
-                (equal(ALL_BITS, 10), Tell::Never),
-                (at_least(7), Tell::Maybe),
-            ],
-            is_empty: false,
-            pick: words_with(5),
-        },
-        Row {
-            learned: [(equal(ALL_BITS, 7), false), (at_least(8), false)],
-            tells: [
-                (equal(ALL_BITS, 7), Tell::Never),
-                (at_least(7), Tell::Never),
-                (above(5), Tell::Maybe),
-                (equal(8, 0), Tell::Always),
-            ],
-            is_empty: false,
-            pick: words_with(0),
-        },
-        Row {
-            learned: [(equal(ALL_BITS, 7), true), (above(3), true)],
-            tells: [
-                (equal(3, 3), Tell::Always),
-                (equal(6, 2), Tell::Never),
-                (above(6), Tell::Always),
-                (equal(ALL_BITS, 6), Tell::Never),
-            ],
-            is_empty: false,
-            pick: words_with(7),
-        },
-        Row {
-            learned: [(above(4), true), (above(5), false)],
-            tells: [
-                (equal(ALL_BITS, 5), Tell::Always),
-                (equal(0xff, 5), Tell::Always),
-                (equal(0xff, 4), Tell::Never),
-                (equal(3, 0), Tell::Never),
-            ],
-            is_empty: false,
-            pick: words_with(5),
-        },
-        Row {
-            learned: [(equal(ALL_BITS, 0), false), (above(1), false)],
-            tells: [
-                (equal(ALL_BITS, 1), Tell::Always),
-                (at_least(1), Tell::Always),
-                (above(0), Tell::Always),
-                (above(1), Tell::Never),
-            ],
-            is_empty: false,
-            pick: words_with(1),
-        },
-        Row {
-            learned: [(equal(ALL_BITS, u32::MAX), false), (at_least(3), true)],
-            tells: [
-                (at_least(u32::MAX), Tell::Never),
-                (at_least(u32::MAX - 1), Tell::Maybe),
-                (above(2), Tell::Always),
-                (above(3), Tell::Maybe),
-            ],
-            is_empty: false,
-            pick: words_with(3),
-        },
-    ]
+/// Answers that end in intervals.
+const BY_INTERVALS: &[Row] = &[
+    Row {
+        learned: &[(AtLeast(5), true), (AtLeast(10), false)],
+        tells: &[
+            (AtLeast(5), Always),
+            (Above(9), Never),
+            (Equal(ALL_BITS, 10), Never),
+            (AtLeast(7), Maybe),
+        ],
+        pick: 5,
+    },
+    Row {
+        learned: &[(Equal(ALL_BITS, 7), false), (AtLeast(8), false)],
+        tells: &[
+            (Equal(ALL_BITS, 7), Never),
+            (AtLeast(7), Never),
+            (Above(5), Maybe),
+            (Equal(8, 0), Always),
+        ],
+        pick: 0,
+    },
+    Row {
+        learned: &[(Equal(ALL_BITS, 7), true), (Above(3), true)],
+        tells: &[
+            (Equal(3, 3), Always),
+            (Equal(6, 2), Never),
+            (Above(6), Always),
+            (Equal(ALL_BITS, 6), Never),
+        ],
+        pick: 7,
+    },
+    Row {
+        learned: &[(Above(4), true), (Above(5), false)],
+        tells: &[
+            (Equal(ALL_BITS, 5), Always),
+            (Equal(0xff, 5), Always),
+            (Equal(0xff, 4), Never),
+            (Equal(3, 0), Never),
+        ],
+        pick: 5,
+    },
+    Row {
+        learned: &[(Equal(ALL_BITS, 0), false), (Above(1), false)],
+        tells: &[
+            (Equal(ALL_BITS, 1), Always),
+            (AtLeast(1), Always),
+            (Above(0), Always),
+            (Above(1), Never),
+        ],
+        pick: 1,
+    },
+    Row {
+        learned: &[(Equal(ALL_BITS, u32::MAX), false), (AtLeast(3), true)],
+        tells: &[
+            (AtLeast(u32::MAX), Never),
+            (AtLeast(u32::MAX - 1), Maybe),
+            (Above(2), Always),
+            (Above(3), Maybe),
+        ],
+        pick: 3,
+    },
+];
+
+/// Answers that end in known bits.
+const BY_BITS: &[Row] = &[
+    Row {
+        learned: &[(Equal(0xff, 0x12), true), (AtLeast(0x100), true)],
+        tells: &[
+            (Equal(0x0f, 2), Always),
+            (Equal(0xf0, 0x20), Never),
+            (Equal(ALL_BITS, 0x113), Never),
+            (AtLeast(0x112), Always),
+        ],
+        pick: 0x112,
+    },
+    Row {
+        learned: &[(Equal(4, 4), false), (Equal(2, 0), false)],
+        tells: &[
+            (Equal(6, 2), Always),
+            (Equal(4, 0), Always),
+            (Equal(2, 0), Never),
+            (Equal(1, 0), Maybe),
+        ],
+        pick: 2,
+    },
+    Row {
+        learned: &[(Equal(1, 2), false), (AtLeast(1), true)],
+        tells: &[
+            (Equal(1, 2), Never),
+            (Equal(1, 1), Maybe),
+            (Equal(0, 0), Always),
+            (Equal(0, 1), Never),
+        ],
+        pick: 1,
+    },
+    Row {
+        learned: &[(Equal(0x8000_0000, 0), true), (Equal(0, 0), true)],
+        tells: &[
+            (AtLeast(0x8000_0000), Never),
+            (Above(0x7fff_ffff), Never),
+            (Above(0x7fff_fffe), Maybe),
+            (Equal(0xc000_0000, 0x8000_0000), Never),
+        ],
+        pick: 0,
+    },
+];
+
+/// Answers that refute bits of several places.
+const BY_REFUTED_BITS: &[Row] = &[
+    Row {
+        learned: &[(Equal(3, 0), false), (Equal(1, 0), true)],
+        tells: &[
+            (Equal(3, 0), Never),
+            (Equal(1, 1), Never),
+            (Equal(7, 4), Never),
+            (Equal(2, 2), Always),
+        ],
+        pick: 2,
+    },
+    Row {
+        learned: &[(Equal(3, 0), true), (Equal(1, 1), false)],
+        tells: &[
+            (Equal(1, 0), Always),
+            (Equal(3, 0), Always),
+            (Equal(3, 1), Never),
+            (Equal(4, 0), Maybe),
+        ],
+        pick: 0,
+    },
+    Row {
+        learned: &[(Equal(0x7c02_0000, 0), false), (AtLeast(1), true)],
+        tells: &[
+            (Equal(0x7e02_0000, 0), Never),
+            (Equal(0x7c02_0000, 0), Never),
+            (Equal(0x7e02_0000, 0x0002_0000), Maybe),
+            (Equal(0x0002_0000, 0), Maybe),
+        ],
+        pick: u32::MAX,
+    },
+    Row {
+        learned: &[
+            (Equal(0x7c02_0000, 0), true),
+            (Equal(0x7e02_0000, 0), false),
+        ],
+        tells: &[
+            (Equal(0x7e02_0000, 0), Never),
+            (Equal(0x0200_0000, 0), Never),
+            (Equal(0x0200_0000, 0x0200_0000), Always),
+            (Equal(1, 0), Maybe),
+        ],
+        pick: 0x0200_0000,
+    },
+    Row {
+        learned: &[
+            (Equal(0x7e02_0000, 0), false),
+            (Equal(0x7c02_0000, 0), true),
+        ],
+        tells: &[
+            (Equal(0x7e02_0000, 0), Never),
+            (Equal(0x0200_0000, 0), Never),
+            (Equal(0x0200_0000, 0x0200_0000), Always),
+            (Equal(1, 0), Maybe),
+        ],
+        pick: 0x0200_0000,
+    },
+];
+
+fn rows() -> [&'static [Row]; 3] {
+    [BY_INTERVALS, BY_BITS, BY_REFUTED_BITS]
 }
 
 #[test]
-fn tells_and_picks_by_intervals(rt: HostRuntime) -> Result<(), Fail> {
-    for row in &rows_by_intervals() {
-        check_row(&rt, rt.alloc(), row)?;
-    }
-    Ok(())
-}
-
-/// What is told after answers that end in known bits.
-fn rows_by_bits() -> [Row; 4] {
-    [
-        Row {
-            learned: [(equal(0xff, 0x12), true), (at_least(0x100), true)],
-            tells: [
-                (equal(0x0f, 2), Tell::Always),
-                (equal(0xf0, 0x20), Tell::Never),
-                (equal(ALL_BITS, 0x113), Tell::Never),
-                (at_least(0x112), Tell::Always),
-            ],
-            is_empty: false,
-            pick: words_with(0x112),
-        },
-        Row {
-            learned: [(equal(4, 4), false), (equal(2, 0), false)],
-            tells: [
-                (equal(6, 2), Tell::Always),
-                (equal(4, 0), Tell::Always),
-                (equal(2, 0), Tell::Never),
-                (equal(1, 0), Tell::Maybe),
-            ],
-            is_empty: false,
-            pick: words_with(2),
-        },
-        Row {
-            learned: [(equal(1, 2), false), (at_least(1), true)],
-            tells: [
-                (equal(1, 2), Tell::Never),
-                (equal(1, 1), Tell::Maybe),
-                (equal(0, 0), Tell::Always),
-                (equal(0, 1), Tell::Never),
-            ],
-            is_empty: false,
-            pick: words_with(1),
-        },
-        Row {
-            learned: [(equal(0x8000_0000, 0), true), (equal(0, 0), true)],
-            tells: [
-                (at_least(0x8000_0000), Tell::Never),
-                (above(0x7fff_ffff), Tell::Never),
-                (above(0x7fff_fffe), Tell::Maybe),
-                (equal(0xc000_0000, 0x8000_0000), Tell::Never),
-            ],
-            is_empty: false,
-            pick: words_with(0),
-        },
-    ]
-}
-
-#[test]
-fn tells_and_picks_by_bits(rt: HostRuntime) -> Result<(), Fail> {
-    for row in &rows_by_bits() {
-        check_row(&rt, rt.alloc(), row)?;
-    }
-    Ok(())
-}
-
-/// What is told after bits of several places were refuted.
-fn rows_by_refuted_bits() -> [Row; 5] {
-    [
-        Row {
-            learned: [(equal(3, 0), false), (equal(1, 0), true)],
-            tells: [
-                (equal(3, 0), Tell::Never),
-                (equal(1, 1), Tell::Never),
-                (equal(7, 4), Tell::Never),
-                (equal(2, 2), Tell::Always),
-            ],
-            is_empty: false,
-            pick: words_with(2),
-        },
-        Row {
-            learned: [(equal(3, 0), true), (equal(1, 1), false)],
-            tells: [
-                (equal(1, 0), Tell::Always),
-                (equal(3, 0), Tell::Always),
-                (equal(3, 1), Tell::Never),
-                (equal(4, 0), Tell::Maybe),
-            ],
-            is_empty: false,
-            pick: words_with(0),
-        },
-        Row {
-            learned: [(equal(0x7c02_0000, 0), false), (at_least(1), true)],
-            tells: [
-                (equal(0x7e02_0000, 0), Tell::Never),
-                (equal(0x7c02_0000, 0), Tell::Never),
-                (equal(0x7e02_0000, 0x0002_0000), Tell::Maybe),
-                (equal(0x0002_0000, 0), Tell::Maybe),
-            ],
-            is_empty: false,
-            pick: words_with(u32::MAX),
-        },
-        Row {
-            learned: [
-                (equal(0x7c02_0000, 0), true),
-                (equal(0x7e02_0000, 0), false),
-            ],
-            tells: [
-                (equal(0x7e02_0000, 0), Tell::Never),
-                (equal(0x0200_0000, 0), Tell::Never),
-                (equal(0x0200_0000, 0x0200_0000), Tell::Always),
-                (equal(1, 0), Tell::Maybe),
-            ],
-            is_empty: false,
-            pick: words_with(0x0200_0000),
-        },
-        Row {
-            learned: [
-                (equal(0x7e02_0000, 0), false),
-                (equal(0x7c02_0000, 0), true),
-            ],
-            tells: [
-                (equal(0x7e02_0000, 0), Tell::Never),
-                (equal(0x0200_0000, 0), Tell::Never),
-                (equal(0x0200_0000, 0x0200_0000), Tell::Always),
-                (equal(1, 0), Tell::Maybe),
-            ],
-            is_empty: false,
-            pick: words_with(0x0200_0000),
-        },
-    ]
-}
-
-#[test]
-fn tells_and_picks_by_refuted_bits(rt: HostRuntime) -> Result<(), Fail> {
-    for row in &rows_by_refuted_bits() {
-        check_row(&rt, rt.alloc(), row)?;
+fn tells_and_picks(rt: HostRuntime) -> Result<(), Fail> {
+    for table in rows() {
+        for row in table {
+            check_row(&rt, rt.alloc(), row)?;
+        }
     }
     Ok(())
 }
 
 /// Answers that no number gives.
-fn contradictions() -> [[(Atom, bool); 2]; 12] {
-    [
-        [(above(u32::MAX), true), (at_least(0), true)],
-        [(at_least(0), false), (equal(1, 0), true)],
-        [(at_least(5), true), (above(3), false)],
-        [(equal(ALL_BITS, 5), true), (equal(ALL_BITS, 5), false)],
-        [(equal(ALL_BITS, 5), true), (equal(1, 0), true)],
-        [(equal(0xf0, 0x10), true), (equal(0x30, 0x20), true)],
-        [(equal(1, 2), true), (at_least(0), true)],
-        [(equal(0, 0), false), (at_least(0), true)],
-        [(equal(8, 8), true), (at_least(8), false)],
-        [(equal(0xff, 0), true), (equal(0x0f, 0), false)],
-        [(equal(3, 0), false), (equal(7, 0), true)],
-        [(equal(3, 0), false), (equal(ALL_BITS, 4), true)],
-    ]
+const CONTRADICTIONS: &[[(Asked, bool); 2]] = &[
+    [(Above(u32::MAX), true), (AtLeast(0), true)],
+    [(AtLeast(0), false), (Equal(1, 0), true)],
+    [(AtLeast(5), true), (Above(3), false)],
+    [(Equal(ALL_BITS, 5), true), (Equal(ALL_BITS, 5), false)],
+    [(Equal(ALL_BITS, 5), true), (Equal(1, 0), true)],
+    [(Equal(0xf0, 0x10), true), (Equal(0x30, 0x20), true)],
+    [(Equal(1, 2), true), (AtLeast(0), true)],
+    [(Equal(0, 0), false), (AtLeast(0), true)],
+    [(Equal(8, 8), true), (AtLeast(8), false)],
+    [(Equal(0xff, 0), true), (Equal(0x0f, 0), false)],
+    [(Equal(3, 0), false), (Equal(7, 0), true)],
+    [(Equal(3, 0), false), (Equal(ALL_BITS, 4), true)],
+];
+
+fn contradictions() -> &'static [[(Asked, bool); 2]] {
+    CONTRADICTIONS
 }
 
 #[test]
 fn sees_where_nothing_is_left(rt: HostRuntime) -> Result<(), Fail> {
     for learned in contradictions() {
         let mut facts = WordSets::all(rt.alloc())?;
-        for (atom, holds) in learned {
-            learn(&mut facts, atom, holds)?;
+        for (asked, holds) in learned {
+            learn(&rt, &mut facts, asked.atom(), *holds)?;
         }
         assert_eq!(rt; facts.is_empty(), true, "after {learned:?}");
         assert_eq!(rt; facts.pick(), None, "after {learned:?}");
@@ -326,28 +329,46 @@ fn sees_where_nothing_is_left(rt: HostRuntime) -> Result<(), Fail> {
 }
 
 #[test]
-fn keeps_words_and_copies_apart(rt: HostRuntime) -> Result<(), Fail> {
+fn finds_the_open_bit_behind_refuted_masks(rt: HostRuntime) -> Result<(), Fail> {
+    let mut facts = WordSets::all(rt.alloc())?;
+    let learned = [
+        (equal(0x10, 0x10), true),
+        (above(0xffff_fffc), false),
+        (equal(3, 0), false),
+        (equal(0x13, 0x12), false),
+    ];
+    for (atom, holds) in learned {
+        learn(&rt, &mut facts, atom, holds)?;
+    }
+    assert_eq!(rt; facts.pick(), words_with(0x11));
+    Ok(())
+}
+
+#[test]
+fn keeps_words_apart(rt: HostRuntime) -> Result<(), Fail> {
     let mut facts = WordSets::all(rt.alloc())?;
     assert_eq!(rt; facts.pick(), Some([0; 16]));
     assert_eq!(rt; facts.is_empty(), false);
     facts.learn(Atom::Ge { word: 0, value: 9 }, true)?;
-    let mut copied = facts.copy(rt.alloc())?;
-    copied.learn(Atom::Gt { word: 15, value: 6 }, true)?;
+    facts.mark()?;
+    facts.learn(Atom::Gt { word: 15, value: 6 }, true)?;
     let mut words = [0; 16];
     words[0] = 9;
-    assert_eq!(rt; facts.pick(), Some(words));
     words[15] = 7;
-    assert_eq!(rt; copied.pick(), Some(words));
+    assert_eq!(rt; facts.pick(), Some(words));
     for word in 1..15u8 {
         let atom = Atom::Ge { word, value: 1 };
-        assert_eq!(rt; copied.tell(atom), Tell::Maybe);
+        assert_eq!(rt; facts.tell(atom), Tell::Maybe);
     }
     let atom = Atom::Gt { word: 15, value: 6 };
-    assert_eq!(rt; facts.tell(atom), Tell::Maybe);
-    assert_eq!(rt; copied.tell(atom), Tell::Always);
-    copied.learn(Atom::Ge { word: 0, value: 9 }, false)?;
-    assert_eq!(rt; copied.is_empty(), true);
+    assert_eq!(rt; facts.tell(atom), Tell::Always);
+    facts.learn(Atom::Ge { word: 0, value: 9 }, false)?;
+    assert_eq!(rt; facts.is_empty(), true);
+    undo(&rt, &mut facts);
+    words[15] = 0;
     assert_eq!(rt; facts.is_empty(), false);
+    assert_eq!(rt; facts.tell(atom), Tell::Maybe);
+    assert_eq!(rt; facts.pick(), Some(words));
     Ok(())
 }
 
@@ -376,8 +397,14 @@ fn keeps_exact(atom: Atom, holds: bool) -> bool {
 }
 
 /// The facts that a number below 16 is left, and the numbers that are, as bits.
-fn learn_both(facts: &mut WordSets, left: &mut u32, atom: Atom, holds: bool) -> Result<(), Fail> {
-    learn(facts, atom, holds)?;
+fn learn_both(
+    rt: &impl Abort,
+    facts: &mut WordSets,
+    left: &mut u32,
+    atom: Atom,
+    holds: bool,
+) -> Result<(), Fail> {
+    learn(rt, facts, atom, holds)?;
     for x in 0..16u32 {
         if atom.answer(x) != holds {
             *left &= u32::MAX ^ (1 << x);
@@ -399,7 +426,7 @@ fn check_tell(rt: &impl Abort, facts: &WordSets, left: u32, exact: bool, atom: A
             }
         }
     }
-    match tell(facts, atom) {
+    match tell(rt, facts, atom) {
         Tell::Always => assert!(rt; always),
         Tell::Never => assert!(rt; never),
         Tell::Maybe => {
@@ -427,14 +454,14 @@ fn check_numbers(rt: &impl Abort, facts: &WordSets, left: u32, exact: bool) {
 
 #[test]
 fn agrees_with_each_small_number(rt: HostRuntime) -> Result<(), Fail> {
-    let mut small = WordSets::all(rt.alloc())?;
-    learn(&mut small, at_least(16), false)?;
+    let mut facts = WordSets::all(rt.alloc())?;
+    learn(&rt, &mut facts, at_least(16), false)?;
     for first in 0..2 * SMALL_ATOMS {
-        let mut facts = small.copy(rt.alloc())?;
+        facts.mark()?;
         let mut left = 0xffff;
         let atom = small_atom(first / 2);
         let holds = first % 2 == 0;
-        learn_both(&mut facts, &mut left, atom, holds)?;
+        learn_both(&rt, &mut facts, &mut left, atom, holds)?;
         let exact = keeps_exact(atom, holds);
         check_numbers(&rt, &facts, left, exact);
         for other in 0..SMALL_ATOMS {
@@ -442,17 +469,19 @@ fn agrees_with_each_small_number(rt: HostRuntime) -> Result<(), Fail> {
         }
         for step in 0..2 * SMALL_ATOMS / 11 {
             let second = first % 11 + 11 * step;
-            let mut both = facts.copy(rt.alloc())?;
+            facts.mark()?;
             let mut left = left;
             let atom = small_atom(second / 2);
             let holds = second % 2 == 0;
-            learn_both(&mut both, &mut left, atom, holds)?;
+            learn_both(&rt, &mut facts, &mut left, atom, holds)?;
             let exact = exact && keeps_exact(atom, holds);
-            check_numbers(&rt, &both, left, exact);
+            check_numbers(&rt, &facts, left, exact);
             for other in [first, second, first + second] {
-                check_tell(&rt, &both, left, exact, small_atom(other % SMALL_ATOMS));
+                check_tell(&rt, &facts, left, exact, small_atom(other % SMALL_ATOMS));
             }
+            undo(&rt, &mut facts);
         }
+        undo(&rt, &mut facts);
     }
     Ok(())
 }

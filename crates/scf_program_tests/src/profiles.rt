@@ -1,8 +1,10 @@
 //! Profiles: compiled to a filter, and compared with one.
 
-use crate::parts::{Part, bundle};
-use crate::streams::{Case, pass, run};
-use scf_insn::parse_number;
+use crate::parts::{
+    ALL, CLONE, CLONE_BY_AND, CLONE_BY_JSET, CLONE_TABLE, NATIVE, NO_TABLE, Part, bundle,
+};
+use crate::runs::{Case, pass, run, shown_call};
+use scf_test_fixtures::filters::{ARCH_GATE, CLONE_BY_FEWER_BITS, DIVISION};
 use std::alloc::{AllocError, Global};
 use std::str;
 use std::test::Fail;
@@ -15,28 +17,6 @@ struct OnBundle {
     status: u8,
 }
 
-/// Takes `clone` where none of the bits 0x7e020000 is set in its flags.
-const CLONE: Part = Part::Profile(
-    r#"{"defaultAction":"SCMP_ACT_ERRNO","syscalls":[{"names":["clone"],"action":"SCMP_ACT_ALLOW",
-    "args":[{"index":0,"value":2114060288,"op":"SCMP_CMP_MASKED_EQ"}]}]}"#,
-);
-
-const CLONE_TABLE: Part = Part::Table("clone 56\n");
-
-/// The same as a filter, which looks for the bits by `and`, and by `jset`.
-const BY_AND: Part = Part::Native(
-    "jeq #56, 0, 3; ld [16]; and #0x7e020000; jeq #0, 1, 0; ret #0x50001; ret #0x7fff0000",
-);
-
-const BY_JSET: Part = Part::Native(
-    "jeq #56, 0, 2; ld [16]; jset #0x7e020000, 0, 1; ret #0x50001; ret #0x7fff0000",
-);
-
-/// Takes every call.
-const ALL: Part = Part::Profile(r#"{"defaultAction":"SCMP_ACT_ALLOW"}"#);
-
-const NO_TABLE: Part = Part::Table("");
-
 const PROFILES: &[OnBundle] = &[
     // A profile without a table.
     OnBundle {
@@ -48,33 +28,33 @@ const PROFILES: &[OnBundle] = &[
     // A wide mask, at its effort and with no step.
     OnBundle {
         words: &["scf", "compare", "--limit", "208"],
-        parts: &[BY_AND, CLONE, CLONE_TABLE],
+        parts: &[CLONE_BY_AND, CLONE, CLONE_TABLE],
         output: "same\n",
         status: 0,
     },
     OnBundle {
         words: &["scf", "compare", "--limit", "0"],
-        parts: &[BY_AND, CLONE, CLONE_TABLE],
+        parts: &[CLONE_BY_AND, CLONE, CLONE_TABLE],
         output: "unfinished\n",
         status: 4,
     },
     OnBundle {
         words: &["scf", "compare"],
-        parts: &[CLONE_TABLE, CLONE, BY_JSET],
+        parts: &[CLONE_TABLE, CLONE, CLONE_BY_JSET],
         output: "same\n",
         status: 0,
     },
     // A default alone, at its effort, and what was left out of the profile behind the verdict.
     OnBundle {
         words: &["scf", "compare", "--limit", "56"],
-        parts: &[Part::Native("ret #0x7fff0000"), ALL, NO_TABLE],
+        parts: &[NATIVE, ALL, NO_TABLE],
         output: "same\n",
         status: 0,
     },
     OnBundle {
         words: &["scf", "compare"],
         parts: &[
-            Part::Native("ret #0x7fff0000"),
+            NATIVE,
             Part::Profile(
                 r#"{"defaultAction":"SCMP_ACT_ALLOW","architectures":["SCMP_ARCH_X86","SCMP_ARCH_X86_64"],
                 "syscalls":[{"names":["absent"],"action":"SCMP_ACT_KILL"}]}"#,
@@ -95,13 +75,7 @@ const PROFILES: &[OnBundle] = &[
         output: "fault filter LastNotReturn\n",
         status: 1,
     },
-    // Two filters, and a limit that is no number.
-    OnBundle {
-        words: &["scf", "compare"],
-        parts: &[BY_AND, BY_AND, CLONE, NO_TABLE],
-        output: "fault bundle Parts\n",
-        status: 3,
-    },
+    // A limit that is no number.
     OnBundle {
         words: &["scf", "compare", "--limit", "-"],
         parts: &[],
@@ -113,7 +87,7 @@ const PROFILES: &[OnBundle] = &[
 #[test]
 fn profiles(rt: HostRuntime) -> Result<(), Fail> {
     for wanted in PROFILES {
-        let input = bundle(&rt, rt.alloc(), wanted.parts)?;
+        let input = bundle(rt.alloc(), wanted.parts)?;
         let case = Case {
             words: wanted.words,
             input: &input,
@@ -195,7 +169,7 @@ const REFUSED: &[(&str, &str, &str)] = &[
 fn refusals(rt: HostRuntime) -> Result<(), Fail> {
     for (profile, table, output) in REFUSED {
         let parts = [Part::Profile(profile), Part::Table(table)];
-        let input = bundle(&rt, rt.alloc(), &parts)?;
+        let input = bundle(rt.alloc(), &parts)?;
         let case = Case {
             words: &["scf", "compile"],
             input: &input,
@@ -221,13 +195,7 @@ struct Difference {
 const DIFFERENCES: &[Difference] = &[
     // The filter looks for one bit less than the profile.
     Difference {
-        parts: &[
-            Part::Native(
-                "jeq #56, 0, 2; ld [16]; jset #0x7c020000, 0, 1; ret #0x50001; ret #0x7fff0000",
-            ),
-            CLONE,
-            CLONE_TABLE,
-        ],
+        parts: &[Part::Native(CLONE_BY_FEWER_BITS), CLONE, CLONE_TABLE],
         numbers: (56, 56),
         mask: 0x7e02_0000,
         bits: 0x0200_0000,
@@ -235,11 +203,7 @@ const DIFFERENCES: &[Difference] = &[
     },
     // A division by argument 0 ends the run where that is 0.
     Difference {
-        parts: &[
-            Part::Native("ld [16]; tax; ld #1; div x; ret #0x7fff0000"),
-            ALL,
-            NO_TABLE,
-        ],
+        parts: &[Part::Native(DIVISION), ALL, NO_TABLE],
         numbers: (0, 0x3fff_ffff),
         mask: 0xffff_ffff,
         bits: 0,
@@ -247,11 +211,7 @@ const DIFFERENCES: &[Difference] = &[
     },
     // The filter forgets the numbers of x32.
     Difference {
-        parts: &[
-            Part::Filter("ld [4]; jeq #0xc000003e, 1, 0; ret #0x80000000; ret #0x7fff0000"),
-            ALL,
-            NO_TABLE,
-        ],
+        parts: &[Part::Filter(ARCH_GATE), ALL, NO_TABLE],
         numbers: (0x4000_0000, 0xffff_ffff),
         mask: 0,
         bits: 0,
@@ -261,34 +221,15 @@ const DIFFERENCES: &[Difference] = &[
 
 /// Whether what was printed shows the difference.
 fn shows(alloc: Global, text: &str, difference: &Difference) -> Result<bool, AllocError> {
-    let words: Vec<&str> = text.split_whitespace().collect(alloc)?;
-    let [
-        "differs",
-        "call",
-        "nr",
-        number,
-        "arch",
-        "0xc000003e",
-        "ip",
-        _,
-        "args",
-        first,
-        ..
-    ] = words.as_slice()
-    else {
-        return Ok(false);
-    };
-    let (Ok(number), Ok(first)) = (
-        parse_number(number.as_bytes()),
-        parse_number(first.as_bytes()),
-    ) else {
+    let Some(call) = shown_call(alloc, text)? else {
         return Ok(false);
     };
     let (least, most) = difference.numbers;
     Ok(
-        least <= number
-            && number <= most
-            && first & difference.mask == difference.bits
+        call.is_x86_64
+            && least <= call.number
+            && call.number <= most
+            && call.first & difference.mask == difference.bits
             && text.ends_with(difference.answers),
     )
 }
@@ -296,9 +237,9 @@ fn shows(alloc: Global, text: &str, difference: &Difference) -> Result<bool, All
 #[test]
 fn differences(rt: HostRuntime) -> Result<(), Fail> {
     for difference in DIFFERENCES {
-        let input = bundle(&rt, rt.alloc(), difference.parts)?;
+        let input = bundle(rt.alloc(), difference.parts)?;
         let ended = run(rt.alloc(), &["scf", "compare"], &input, usize::MAX);
-        let text = str::from_utf8(&ended.text)?;
+        let text = str::from_utf8(ended.text())?;
         let is_shown = shows(rt.alloc(), text, difference)?;
         assert!(rt; is_shown && ended.status == 1, "{text}");
     }

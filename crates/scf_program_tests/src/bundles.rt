@@ -1,18 +1,20 @@
 //! Bundles.
 
-use crate::streams::{Case, pass, run};
+use crate::parts::{add, long_filter};
+use crate::runs::{Case, pass, run};
 use std::test::Fail;
 
+/// Bundles as their bytes. The filters in them are `ret #0` and `ret #0x7fff0000`, of eight bytes each.
 const BUNDLES: &[Case] = &[
     Case {
         words: &["scf", "decide"],
-        input: b"filter 8\x0a\x06\x00\x00\x00\x00\x00\x00\x00filter 8\x0a\x06\x00\x00\x00\x00\x00\xff\x7f",
+        input: TWO_FILTERS,
         output: "KILL_THREAD 0\n",
         status: 0,
     },
     Case {
         words: &["scf", "decide"],
-        input: b"filter 8\x0a\x06\x00\x00\x00\x00\x00\x00\x00filter 8\x0a\x06\x00\x00\x00\x00\x00\xff",
+        input: b"filter 8\n\x06\0\0\0\0\0\0\0filter 8\n\x06\0\0\0\0\0\xff",
         output: "fault bundle Short offset 17\n",
         status: 3,
     },
@@ -24,49 +26,49 @@ const BUNDLES: &[Case] = &[
     },
     Case {
         words: &["scf", "decide"],
-        input: b"table 0\x0a",
+        input: b"table 0\n",
         output: "fault bundle Parts\n",
         status: 3,
     },
     Case {
         words: &["scf", "decide"],
-        input: b"filter 123456789\x0a",
+        input: b"filter 123456789\n",
         output: "fault bundle Header offset 0\n",
         status: 3,
     },
     Case {
         words: &["scf", "decide"],
-        input: b"filter 8\x0a\x06\x00\x00\x00\x00\x00\xff\x7fx",
+        input: b"filter 8\n\x06\0\0\0\0\0\xff\x7fx",
         output: "fault bundle Header offset 17\n",
         status: 3,
     },
     Case {
         words: &["scf", "decide"],
-        input: b"filter 0\x0a",
+        input: b"filter 0\n",
         output: "fault filter Empty\n",
         status: 1,
     },
     Case {
         words: &["scf", "decide"],
-        input: b"filter 7\x0a\x06\x00\x00\x00\x00\x00\xff",
+        input: b"filter 7\n\x06\0\0\0\0\0\xff",
         output: "fault filter Truncated offset 0\n",
         status: 3,
     },
     Case {
         words: &["scf", "decide"],
-        input: b"filter 00000008\x0a\x06\x00\x00\x00\x00\x00\xff\x7f",
+        input: b"filter 00000008\n\x06\0\0\0\0\0\xff\x7f",
         output: "ALLOW 0\n",
         status: 0,
     },
     Case {
         words: &["scf", "decide"],
-        input: b"filter  8\x0a\x06\x00\x00\x00\x00\x00\xff\x7f",
+        input: b"filter  8\n\x06\0\0\0\0\0\xff\x7f",
         output: "fault bundle Header offset 0\n",
         status: 3,
     },
     Case {
         words: &["scf", "decide"],
-        input: b"filter 8 \x06\x00\x00\x00\x00\x00\xff\x7f",
+        input: b"filter 8 \x06\0\0\0\0\0\xff\x7f",
         output: "fault bundle Header offset 0\n",
         status: 3,
     },
@@ -79,8 +81,7 @@ const BUNDLES: &[Case] = &[
 ];
 
 /// Two filters, of which the first answers KILL_THREAD and the second ALLOW.
-const TWO_FILTERS: &[u8] =
-    b"filter 8\x0a\x06\x00\x00\x00\x00\x00\x00\x00filter 8\x0a\x06\x00\x00\x00\x00\x00\xff\x7f";
+const TWO_FILTERS: &[u8] = b"filter 8\n\x06\0\0\0\0\0\0\0filter 8\n\x06\0\0\0\0\0\xff\x7f";
 
 #[test]
 fn bundles(rt: HostRuntime) {
@@ -110,14 +111,10 @@ fn cut_bundles(rt: HostRuntime) {
 /// Seven filters of 4096 instructions fit in a stack, and an eighth doesn't: each counts four more than it has.
 #[test]
 fn full_stack(rt: HostRuntime) -> Result<(), Fail> {
+    let filter = long_filter(rt.alloc(), 4095)?;
     let mut bundle = Vec::new(rt.alloc());
     for count in 1..=8 {
-        bundle.extend_from_slice(b"filter 32768\n")?;
-        // `ld #0`, 4095 times.
-        for _ in 0..4095 {
-            bundle.extend_from_slice(&[0; 8])?;
-        }
-        bundle.extend_from_slice(b"\x06\0\0\0\0\0\xff\x7f")?;
+        add(rt.alloc(), &mut bundle, "filter", &filter)?;
         let ended = run(rt.alloc(), &["scf", "decide"], &bundle, usize::MAX);
         let (text, status) = match count {
             8 => ("fault stack TooMany total 32796\n", 1),

@@ -1,6 +1,6 @@
 //! A bundle of two filters in which one byte is changed.
 
-use crate::streams::run;
+use crate::runs::{answer_line, run};
 use std::alloc::{AllocError, Global};
 use std::test::Fail;
 
@@ -12,22 +12,6 @@ const PART: usize = 17;
 
 /// How many bytes of a part are its header.
 const HEADER: usize = 9;
-
-/// What is printed of an answer: its action and its data (Linux uapi seccomp.h).
-fn answer_text(alloc: Global, answer: u32) -> Result<String, AllocError> {
-    let name = match answer >> 16 {
-        0x8000 => "KILL_PROCESS",
-        0x0000 => "KILL_THREAD",
-        0x0003 => "TRAP",
-        0x0005 => "ERRNO",
-        0x7fc0 => "USER_NOTIF",
-        0x7ff0 => "TRACE",
-        0x7ffc => "LOG",
-        0x7fff => "ALLOW",
-        _ => return format!(in alloc; "UNNAMED {answer:#010x}\n"),
-    };
-    format!(in alloc; "{name} {}\n", answer & 0xffff)
-}
 
 /// The constant that a filter of one instruction answers.
 fn constant(part: &[u8]) -> u32 {
@@ -90,7 +74,7 @@ fn with_count(alloc: Global, start: usize, count: u8) -> Result<(String, u8), Al
 /// What `decide` prints where a filter has another code, and its status. `ret a` answers 0, which goes before ERRNO.
 fn with_code(alloc: Global, code: u8) -> Result<(String, u8), AllocError> {
     if code == 0x16 {
-        return Ok((answer_text(alloc, 0)?, 0));
+        return Ok((answer_line(alloc, 0)?, 0));
     }
     filter_fault(alloc, fault_of_code(code))
 }
@@ -113,7 +97,7 @@ fn wanted(
         (10, _) => filter_fault(alloc, "Code at 0"),
         // Two fields that a return doesn't use, and its constant.
         _ => Ok((
-            answer_text(alloc, decided(constant(oldest), constant(newest)))?,
+            answer_line(alloc, decided(constant(oldest), constant(newest)))?,
             0,
         )),
     }

@@ -4,13 +4,25 @@
 #[cfg(test)]
 mod bundles;
 #[cfg(test)]
+mod call_verification;
+#[cfg(test)]
+mod calls;
+#[cfg(test)]
 mod changed_bytes;
 #[cfg(test)]
 mod command_line;
 #[cfg(test)]
+mod efforts;
+#[cfg(test)]
 mod faults;
 #[cfg(test)]
 mod filters;
+#[cfg(test)]
+mod hostile;
+#[cfg(test)]
+mod messages;
+#[cfg(test)]
+mod options;
 #[cfg(test)]
 mod parts;
 #[cfg(test)]
@@ -18,8 +30,16 @@ mod profiles;
 #[cfg(test)]
 mod reporting;
 #[cfg(test)]
-mod streams;
+mod runs;
+#[cfg(test)]
+mod sizes;
+#[cfg(test)]
+mod stacks;
+#[cfg(test)]
+mod stretches;
 #[cfg(test)]
 mod texts;
 #[cfg(test)]
 mod verification;
+#[cfg(test)]
+mod worked;

@@ -1,7 +1,8 @@
 //! Filters as text.
 
 use crate::filters::GATE;
-use crate::streams::{Case, pass, run};
+use crate::runs::{Case, pass, run};
+use scf_test_fixtures::filters::LABELLED;
 
 const TEXTS: &[Case] = &[
     Case {
@@ -12,7 +13,7 @@ const TEXTS: &[Case] = &[
     },
     Case {
         words: &["scf", "dis"],
-        input: b"\x94\x00\x00\x00\x05\x00\x00\x00",
+        input: b"\x94\0\0\0\x05\0\0\0",
         output: "raw 0x0094, 0, 0, 0x5\n",
         status: 0,
     },
@@ -54,7 +55,7 @@ const TEXTS: &[Case] = &[
     },
     Case {
         words: &["scf", "asm"],
-        input: b"p: ret a\x0ap: ret a",
+        input: b"p: ret a\np: ret a",
         output: "fault text Label line 2\n",
         status: 1,
     },
@@ -66,20 +67,17 @@ const TEXTS: &[Case] = &[
     },
     Case {
         words: &["scf", "asm"],
-        input: b"bad\x0a// \xc3",
+        input: b"bad\n// \xc3",
         output: "fault text NotAscii line 2\n",
         status: 1,
     },
 ];
 
-/// A text with labels, and the filter that it spells.
-const LABELLED: &[u8] =
-    b"ld [0] // number\x0ajeq #39, yes, no\x0ano: ret #0x50001\x0ayes: ret #0x7fff0000\x0a";
-
-const SPELLED: &[u8] = b"\x20\x00\x00\x00\x00\x00\x00\x00\
-    \x15\x00\x01\x00\x27\x00\x00\x00\
-    \x06\x00\x00\x00\x01\x00\x05\x00\
-    \x06\x00\x00\x00\x00\x00\xff\x7f";
+/// The bytes of the filter that `LABELLED` spells.
+const SPELLED: &[u8] = b"\x20\0\0\0\0\0\0\0\
+    \x15\0\x01\0\x27\0\0\0\
+    \x06\0\0\0\x01\0\x05\0\
+    \x06\0\0\0\0\0\xff\x7f";
 
 #[test]
 fn texts(rt: HostRuntime) {
@@ -89,9 +87,9 @@ fn texts(rt: HostRuntime) {
 /// A text gives its filter, and the filter's listing gives the filter back.
 #[test]
 fn back_and_forth(rt: HostRuntime) {
-    let filter = run(rt.alloc(), &["scf", "asm"], LABELLED, 1);
+    let filter = run(rt.alloc(), &["scf", "asm"], LABELLED.as_bytes(), 1);
     assert!(rt; filter.is(SPELLED, 0, 0), "{filter:?}");
-    let listing = run(rt.alloc(), &["scf", "dis"], &filter.text, 1);
-    let again = run(rt.alloc(), &["scf", "asm"], &listing.text, 1);
+    let listing = run(rt.alloc(), &["scf", "dis"], filter.text(), 1);
+    let again = run(rt.alloc(), &["scf", "asm"], listing.text(), 1);
     assert!(rt; again.is(SPELLED, 0, 0), "{again:?}");
 }

@@ -1,0 +1,167 @@
+//! The steps of a comparison: a limit is spent, and no more than what the facts leave is explored.
+
+use crate::fixtures::{allowing, assembled, profile_of};
+use scf_compare::{Verdict, compare, effort, is_plain};
+use scf_compile::compile;
+use scf_facts::{AtomList, WordFacts, WordSets};
+use scf_machine::Program;
+use scf_profile::Profile;
+use scf_test_fixtures::filters::{ALLOW_ALL, CLONE_BY_JSET, GATE};
+use scf_test_fixtures::kernel::X86_64;
+use scf_test_fixtures::profiles::{
+    CLONE_MASK, CLONE_TABLE, DEFAULT_ALLOW, EXTREMES, ONE_CALL, READ_TABLE, READ_WRITE_TABLE,
+    SOCKET_NOT_40, SOCKET_TABLE, TWO_RULES,
+};
+use std::alloc::Global;
+use std::process::Abort;
+use std::test::Fail;
+
+/// What the command takes where it is given no limit.
+const DEFAULT_LIMIT: u64 = 1_000_000;
+
+/// Calls whose order in the text isn't that of their numbers.
+const UNORDERED: &str = r#"{"defaultAction":"SCMP_ACT_ERRNO","syscalls":[
+    {"names":["write","futex","read","close"],"action":"SCMP_ACT_ALLOW"},
+    {"names":["socket"],"action":"SCMP_ACT_TRAP",
+    "args":[{"index":1,"value":4294967296,"op":"SCMP_CMP_GE"}]}]}"#;
+
+/// Tables, and profiles that their own filters are compared with.
+const PROFILES: &[(&'static str, &'static str)] = &[
+    ("", DEFAULT_ALLOW),
+    (READ_TABLE, ONE_CALL),
+    ("read 4095", ONE_CALL),
+    (SOCKET_TABLE, SOCKET_NOT_40),
+    (READ_WRITE_TABLE, EXTREMES),
+    (CLONE_TABLE, CLONE_MASK),
+    (SOCKET_TABLE, TWO_RULES),
+    ("read 0\nwrite 1\nclose 3\nsocket 41\nfutex 202", UNORDERED),
+];
+
+/// Filters behind the gate that answer as a profile does, with its table.
+const FILTERS: &[(&'static str, &'static str, &'static str)] = &[
+    (ALLOW_ALL, "", DEFAULT_ALLOW),
+    (
+        "jeq #0, 0, 1; ret #0x7fff0000; ret #0x50001",
+        READ_TABLE,
+        ONE_CALL,
+    ),
+    (
+        "jeq #0, 1, 0; ret #0x50001; ret #0x7fff0000",
+        READ_TABLE,
+        ONE_CALL,
+    ),
+    (CLONE_BY_JSET, CLONE_TABLE, CLONE_MASK),
+];
+
+fn profiles() -> &'static [(&'static str, &'static str)] {
+    PROFILES
+}
+
+fn filters() -> &'static [(&'static str, &'static str, &'static str)] {
+    FILTERS
+}
+
+/// The steps of a verdict that says `Same`.
+fn steps_of(verdict: Verdict) -> Option<u64> {
+    match verdict {
+        Verdict::Same { steps } => Some(steps),
+        _ => None,
+    }
+}
+
+/// Whether just as many steps are needed as `Same` says.
+fn spends<F: WordFacts>(alloc: Global, program: &Program, profile: &Profile) -> Result<bool, Fail> {
+    let ample = compare::<F>(alloc, program, profile, u64::MAX)?;
+    let steps = steps_of(ample).ok_or(ample)?;
+    let enough = compare::<F>(alloc, program, profile, steps)?;
+    let too_few = compare::<F>(alloc, program, profile, steps.saturating_sub(1))?;
+    Ok(steps > 0 && enough == ample && too_few == Verdict::Unfinished)
+}
+
+#[test]
+fn limits_are_spent_on_own_filters(rt: HostRuntime) -> Result<(), Fail> {
+    for (table, text) in profiles() {
+        let profile = profile_of(rt.alloc(), table, text)?;
+        let program = compile(rt.alloc(), &profile)?;
+        assert!(rt;
+            spends::<WordSets>(rt.alloc(), &program, &profile)?,
+            "{text}"
+        );
+    }
+    Ok(())
+}
+
+#[test]
+fn limits_are_spent_on_other_filters(rt: HostRuntime) -> Result<(), Fail> {
+    for (rest, table, text) in filters() {
+        let profile = profile_of(rt.alloc(), table, text)?;
+        let program = assembled(rt.alloc(), GATE, rest)?;
+        assert!(rt;
+            spends::<AtomList>(rt.alloc(), &program, &profile)?,
+            "{rest}"
+        );
+        assert!(rt;
+            spends::<WordSets>(rt.alloc(), &program, &profile)?,
+            "{rest}"
+        );
+    }
+    Ok(())
+}
+
+/// A filter of so many tests behind the gate, each of which goes both ways to the next one.
+fn tests(alloc: Global, count: usize) -> Result<Program, Fail> {
+    let mut text = String::from_str(alloc, "ld [16];")?;
+    for n in 0..count {
+        let one = format!(in alloc; "jge #{n}, 1, 0; ja 0;")?;
+        text.push_str(one.as_str())?;
+    }
+    text.push_str(ALLOW_ALL)?;
+    assembled(alloc, GATE, text.as_str())
+}
+
+#[test]
+fn many_tests_at_the_default_limit(rt: HostRuntime) -> Result<(), Fail> {
+    let profile = profile_of(rt.alloc(), "", DEFAULT_ALLOW)?;
+    for count in [20, 60, 120] {
+        let program = tests(rt.alloc(), count)?;
+        assert!(rt; effort(&program, &profile) > DEFAULT_LIMIT, "{count}");
+        let verdict = compare::<WordSets>(rt.alloc(), &program, &profile, DEFAULT_LIMIT)?;
+        assert!(rt; steps_of(verdict).is_some(), "{count}: {verdict:?}");
+    }
+    Ok(())
+}
+
+/// A filter that isn't plain: it keeps the number in a scratch word, and then tests it against 0, 1 and so on, each of
+/// which it allows.
+fn scratched(alloc: Global, count: usize) -> Result<Program, Fail> {
+    let mut text = String::from_str(alloc, "st M[1]; ld #7; ld M[1];")?;
+    for n in 0..count {
+        let one = format!(in alloc; "jeq #{n}, 0, 1; ret #0x7fff0000;")?;
+        text.push_str(one.as_str())?;
+    }
+    text.push_str("ret #0x50001")?;
+    assembled(alloc, GATE, text.as_str())
+}
+
+fn decide_long_pair<F: WordFacts>(rt: &impl Abort, alloc: Global) -> Result<(), Fail> {
+    let profile = allowing(alloc, 150)?;
+    let same = scratched(alloc, 150)?;
+    assert!(rt; !is_plain(&same));
+    let verdict = compare::<F>(alloc, &same, &profile, DEFAULT_LIMIT)?;
+    assert!(rt; steps_of(verdict).is_some(), "{verdict:?}");
+    let fewer = scratched(alloc, 149)?;
+    let verdict = compare::<F>(alloc, &fewer, &profile, DEFAULT_LIMIT)?;
+    let shown = match verdict {
+        Verdict::Differs { call, .. } => Some((call.nr, call.arch)),
+        _ => None,
+    };
+    assert_eq!(rt; shown, Some((149, X86_64)), "{verdict:?}");
+    Ok(())
+}
+
+#[test]
+fn long_pairs_that_are_not_plain(rt: HostRuntime) -> Result<(), Fail> {
+    decide_long_pair::<AtomList>(&rt, rt.alloc())?;
+    decide_long_pair::<WordSets>(&rt, rt.alloc())?;
+    Ok(())
+}

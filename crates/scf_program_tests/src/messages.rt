@@ -1,0 +1,83 @@
+//! The message of each error of the program.
+
+use scf_insn::{InputFault, ReadFault};
+use scf_machine::{CheckFault, PushFault};
+use scf_profile::{LoadFault, TableFault};
+use scf_tool::{BundleFault, NumberFault, VerifyFault};
+use std::test::Fail;
+
+/// Faults of bundles, and what they print.
+const BUNDLES: &[(BundleFault, &str)] = &[
+    (
+        BundleFault::Header { offset: 17 },
+        "no header stands at byte 17",
+    ),
+    (
+        BundleFault::Short { offset: 0 },
+        "fewer bytes follow than the header at byte 0 says",
+    ),
+    (BundleFault::Memory, "out of memory"),
+];
+
+#[test]
+fn bundles(rt: HostRuntime) -> Result<(), Fail> {
+    for (fault, wanted) in BUNDLES {
+        let shown = format!(in rt.alloc(); "{fault}")?;
+        assert_eq!(rt; shown.as_str(), *wanted);
+    }
+    Ok(())
+}
+
+#[test]
+fn options(rt: HostRuntime) -> Result<(), Fail> {
+    for (name, wanted) in [
+        ("nr", "the option nr is no number in its range"),
+        ("limit", "the option limit is no number in its range"),
+    ] {
+        let shown = format!(in rt.alloc(); "{}", NumberFault { name })?;
+        assert_eq!(rt; shown.as_str(), wanted);
+    }
+    Ok(())
+}
+
+/// Faults of a comparison from its readers, and what they print: what was read, and that fault's message.
+const COMPARISONS: &[(VerifyFault, &str)] = &[
+    (
+        VerifyFault::FilterRead(ReadFault::Truncated { offset: 8 }),
+        "filter: the instruction at byte 8 is cut",
+    ),
+    (
+        VerifyFault::Check(CheckFault::Unset { at: 3, word: 1 }),
+        "filter: scratch word 1 may be unset at 3",
+    ),
+    (
+        VerifyFault::Stack(PushFault::TooMany { total: 32796 }),
+        "stack: the stack would count 32796 instructions",
+    ),
+    (
+        VerifyFault::TableRead(InputFault::TooLong),
+        "table: the input is too long",
+    ),
+    (
+        VerifyFault::Table(TableFault::Repeated { line: 2 }),
+        "table: line 2: the name stands on an earlier line",
+    ),
+    (
+        VerifyFault::ProfileRead(InputFault::Read),
+        "profile: the input can't be read",
+    ),
+    (
+        VerifyFault::Profile(LoadFault::Json),
+        "profile: no JSON, or nested more than 127 deep",
+    ),
+    (VerifyFault::Memory, "out of memory"),
+];
+
+#[test]
+fn comparisons(rt: HostRuntime) -> Result<(), Fail> {
+    for (fault, wanted) in COMPARISONS {
+        let shown = format!(in rt.alloc(); "{fault}")?;
+        assert_eq!(rt; shown.as_str(), *wanted);
+    }
+    Ok(())
+}

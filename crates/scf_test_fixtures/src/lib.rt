@@ -1,0 +1,9 @@
+//! What the tests of the program and those of the libraries both need: numbers of the kernel's headers, worked filters,
+//! profiles and call tables as texts, and rules with what they answer.
+#![tactic(auto)]
+
+pub mod filters;
+pub mod kernel;
+pub mod profiles;
+pub mod rules;
+pub mod texts;
