@@ -1,0 +1,131 @@
+"""What the tests share: running a tool, made filters, profiles and tables, and which options this scf has."""
+import functools
+import importlib.machinery
+import importlib.util
+import json
+import os
+import shutil
+import struct
+import subprocess
+import tempfile
+import unittest
+
+TOP = os.path.dirname(os.path.dirname(os.path.dirname(os.path.abspath(__file__))))
+SCF = os.path.join(TOP, "scf")
+TABLE = os.path.join(TOP, "tables", "x86_64.table")
+X86_64, I386 = 0xC000003E, 0x40000003
+ALLOW, EPERM, KILL_PROCESS, KILL_THREAD = 0x7FFF0000, 0x00050001, 0x80000000, 0
+
+
+def tool(name):
+    return os.path.join(TOP, "tools", name)
+
+
+def module(name):
+    """A tool, imported."""
+    loader = importlib.machinery.SourceFileLoader(name.replace("-", "_"), tool(name))
+    found = importlib.util.module_from_spec(importlib.util.spec_from_loader(loader.name, loader))
+    loader.exec_module(found)
+    return found
+
+
+def insn(code, k, jt=0, jf=0):
+    return struct.pack("<HBBI", code, jt, jf, k)
+
+
+def load(at):
+    return insn(0x20, at)
+
+
+def jeq(k, jt, jf):
+    return insn(0x15, k, jt, jf)
+
+
+def jge(k, jt, jf):
+    return insn(0x35, k, jt, jf)
+
+
+def ret(k):
+    return insn(0x06, k)
+
+
+def filter_of(allowed, default=EPERM, foreign=KILL_PROCESS):
+    """Allows some numbers, and answers foreign architectures and numbers from 0x40000000 on as it is told."""
+    tests = b"".join(jeq(number, len(allowed) - at, 0) for at, number in enumerate(allowed))
+    return (load(4) + jeq(X86_64, 1, 0) + ret(foreign) + load(0) + jge(0x40000000, 0, 1) + ret(foreign) + tests
+            + ret(default) + ret(ALLOW))
+
+
+def profile_of(*names, default="SCMP_ACT_ERRNO"):
+    entries = [{"names": list(names), "action": "SCMP_ACT_ALLOW"}] if names else []
+    return json.dumps({"defaultAction": default, "syscalls": entries}).encode()
+
+
+def part(kind, data):
+    return b"%s %d\n" % (kind.encode(), len(data)) + data
+
+
+@functools.lru_cache(None)
+def has_option(option, command="compare"):
+    done = subprocess.run([SCF, command, "--help"], stdin=subprocess.DEVNULL, stdout=subprocess.PIPE, check=False)
+    return option.encode() in done.stdout
+
+
+def needs(option):
+    """Skips a test for as long as scf's compare doesn't have an option."""
+    return unittest.skipUnless(has_option(option), f"scf compare has no {option} yet")
+
+
+class Case(unittest.TestCase):
+    """A test in a folder of its own."""
+
+    def setUp(self):
+        self.folder = tempfile.mkdtemp()
+        self.addCleanup(shutil.rmtree, self.folder, ignore_errors=True)
+
+    def file(self, name, data):
+        path = os.path.join(self.folder, name)
+        os.makedirs(os.path.dirname(path), exist_ok=True)
+        with open(path, "wb") as file:
+            file.write(data if isinstance(data, bytes) else data.encode())
+        return path
+
+    def run_words(self, words, given=b"", **settings):
+        """The status, what was printed, and what was said on standard error."""
+        if isinstance(given, bytes):
+            settings["input"] = given
+        else:
+            settings["stdin"] = given
+        done = subprocess.run(words, stdout=settings.pop("stdout", subprocess.PIPE), stderr=subprocess.PIPE,
+                              timeout=300, check=False,
+                              cwd=settings.pop("cwd", self.folder), **settings)
+        return done.returncode, (done.stdout or b"").decode(), done.stderr.decode()
+
+    def run_tool(self, name, *words, given=b"", **settings):
+        return self.run_words([tool(name), *words], given, **settings)
+
+    def closed_output(self, name, *words, given=b""):
+        """A tool whose output is full."""
+        with open("/dev/full", "wb") as full:
+            return self.run_tool(name, *words, given=given, stdout=full)
+
+    def says_usage(self, name, *without):
+        """--help is printed with status 0; too few words, and an unknown option, are status 2 on standard error."""
+        status, out, err = self.run_tool(name, "--help")
+        self.assertEqual((status, err), (0, ""))
+        self.assertIn("usage", out.lower())
+        for words in (without, ("--no-such-option",)):
+            status, out, err = self.run_tool(name, *words)
+            self.assertEqual((status, out), (2, ""), words)
+            self.assertIn(name, err)
+
+    def made_tree(self, scf):
+        """A tree with the tools, the table and the page of faults, and a program that stands in for scf."""
+        tree = tempfile.mkdtemp(dir=self.folder)
+        for name in ("tools", "tables", "docs"):
+            shutil.copytree(os.path.join(TOP, name), os.path.join(tree, name),
+                            ignore=shutil.ignore_patterns("tests", "__pycache__"))
+        with open(os.path.join(tree, "scf"), "w", encoding="utf-8") as file:
+            file.write(scf)
+        os.chmod(file.name, 0o755)
+        return tree

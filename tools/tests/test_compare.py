@@ -1,0 +1,321 @@
+"""tools/compare, tools/decide and tools/explain."""
+import os
+
+from common import (ALLOW, EPERM, I386, KILL_PROCESS, KILL_THREAD, SCF, TABLE, X86_64, Case, filter_of, insn, jeq, jge,
+                    load, needs, part, profile_of, ret)
+
+READ, WRITE, EXIT_GROUP = 0, 1, 231
+
+
+class Compare(Case):
+    def setUp(self):
+        super().setUp()
+        self.profile = self.file("profile.json", profile_of("read", "write"))
+        self.same = self.file("same.bpf", filter_of([READ, WRITE]))
+        self.wrong = self.file("wrong.bpf", filter_of([READ, WRITE, EXIT_GROUP]))
+        self.lax = self.file("lax.bpf", filter_of([READ, WRITE], foreign=KILL_THREAD))
+
+    def scf_says(self, given, *words):
+        return self.run_words([SCF, "compare", *words], given)
+
+    def bundle(self, *filters, profile=None):
+        with open(TABLE, "rb") as file:
+            table = file.read()
+        return b"".join(part("filter", it) for it in filters) + part("profile",
+            profile or profile_of("read", "write")) + part("table", table)
+
+    def test_usage(self):
+        self.says_usage("compare", "one.bpf")
+        self.says_usage("compare")
+
+    def test_same(self):
+        self.assertEqual(self.run_tool("compare", self.same, self.profile), (0, "same\n", ""))
+        self.assertEqual(self.run_tool("compare", "--all", self.same, self.profile), (0, "same\n", ""))
+
+    def test_differs_by_the_name_of_a_call(self):
+        status, out, err = self.run_tool("compare", self.wrong, self.profile)
+        verdict = self.scf_says(self.bundle(filter_of([READ, WRITE, EXIT_GROUP])))[1]
+        self.assertEqual(verdict,
+                         "differs\ncall nr 231 arch 0xc000003e ip 0x0 args 0x0 0x0 0x0 0x0 0x0 0x0\nfilter ALLOW 0\n"
+                         "profile ERRNO 1\n")
+        self.assertEqual((status, out, err), (1, verdict + "# the call is exit_group (231)\n"
+                                              "# the filter answers ALLOW: the call is made\n"
+                                              "# the profile answers ERRNO 1: the call isn't made, and fails with "
+                                              "EPERM\n", ""))
+
+    def test_a_table_of_ones_own(self):
+        table = self.file("own.table", b"# mine\nread 0\nwrite 1\nleave 231\nleave_too 231\n")
+        for name, given in ((table, b""), ("-", b"read 0\nwrite 1\nleave 231\nleave_too 231\n")):
+            status, out, _ = self.run_tool("compare", "--table", name, self.wrong, self.profile, given=given)
+            self.assertEqual(status, 1)
+            self.assertIn("# the call is leave or leave_too (231)\n", out)
+        few = self.file("few.table", b"read 0\nwrite 1\n")
+        self.assertIn("# the call is number 231, which the table doesn't name\n",
+                      self.run_tool("compare", "--table", few, self.wrong, self.profile)[1])
+
+    def test_foreign_calls_are_said_to_be_left_out_by_native(self):
+        status, out, _ = self.run_tool("compare", self.lax, self.profile)
+        self.assertEqual(status, 1)
+        self.assertIn("# --native leaves out ", out)
+        def on_one_call(arch, number):
+            """Allows one number of one architecture, and is the profile's filter elsewhere."""
+            return (load(4) + jeq(arch, 0, 3) + load(0) + jeq(number, 0, 1) + ret(ALLOW)
+                    + filter_of([READ, WRITE]))
+
+        for arch, number, says in (
+                (I386, 5, "number 5 of the architecture i386\n# --native leaves out a foreign architecture\n"),
+                (0xC0FFEE, 5, "number 5 of the architecture 0xc0ffee\n# --native leaves out a foreign architecture\n"),
+                (X86_64, 0x40000005, "number 1073741829, which is 0x40000000 + 5, as x32 calls have\n"
+                                     "# --native leaves out numbers from 0x40000000 on\n"),
+                (X86_64, 0x80000007, "number 2147483655, which is 0x80000007, as no call has\n"
+                                     "# --native leaves out numbers from 0x40000000 on\n")):
+            status, out, _ = self.run_tool("compare", self.file("one.bpf", on_one_call(arch, number)), self.profile)
+            self.assertEqual(status, 1)
+            self.assertIn(f"call nr {number} arch {arch:#x} ", out)
+            self.assertIn(f"# the call is {says}", out)
+
+    def test_pipes_and_standard_input(self):
+        for words, given in ((("-", self.profile), filter_of([READ, WRITE])),
+                             ((self.same, "-"), profile_of("read", "write")),
+                             ((self.same, "/dev/stdin"), profile_of("read", "write"))):
+            self.assertEqual(self.run_tool("compare", *words, given=given), (0, "same\n", ""))
+        status, out, err = self.run_tool("compare", "-", "-")
+        self.assertEqual((status, out), (2, ""))
+        self.assertIn("only one input can be '-'", err)
+
+    def test_a_whole_config(self):
+        config = b'{"ociVersion":"1.0.2","linux":{"seccomp":' + profile_of("read", "write") + b"}}"
+        self.assertEqual(self.run_tool("compare", self.same, self.file("config.json", config)), (0, "same\n", ""))
+
+    def test_wrong_files(self):
+        for words in (("none.bpf", self.profile), (self.same, "none.json"), (self.folder, self.profile),
+                      (self.same, self.folder),
+                      ("--table", "none", self.same, self.profile), ("--table", self.folder, self.same, self.profile)):
+            status, out, err = self.run_tool("compare", *words)
+            self.assertEqual((status, out), (2, ""), words)
+            self.assertNotEqual(err, "")
+            self.assertNotIn("Traceback", err)
+
+    def test_faults_have_their_sentence(self):
+        status, out, _ = self.run_tool("compare", self.file("jump.bpf", jeq(0, 9, 0) + ret(ALLOW)), self.profile)
+        self.assertEqual(status, 1)
+        self.assertTrue(out.startswith("fault filter Jump at 0\n# This jump leaves the filter"), out)
+        status, out, _ = self.run_tool("compare", self.file("cut.bpf", b"\6\0\0"), self.profile)
+        self.assertEqual(status, 3)
+        self.assertTrue(out.startswith("fault filter Truncated offset 0\n# The input ends inside the instruction"),
+                        out)
+        status, out, _ = self.run_tool("compare", self.same, self.file("p",
+            b'{"defaultAction":"SCMP_ACT_ALLOW","syscalls":[{"action":"SCMP_ACT_LOG"}]}'))
+        self.assertEqual(status, 1)
+        self.assertTrue(out.startswith("fault profile Missing entry 0\n# A member is missing"), out)
+        entries = b'{"names":["socket"],"action":"SCMP_ACT_LOG"},{"names":["socket"],"action":"SCMP_ACT_ERRNO"}'
+        conflict = b'{"defaultAction":"SCMP_ACT_ALLOW","syscalls":[%s]}' % entries
+        status, out, _ = self.run_tool("compare", self.same, self.file("c", conflict))
+        self.assertEqual(status, 1)
+        self.assertTrue(out.startswith("fault profile Conflict number 41 first 0 second 1\n# Two entries"), out)
+        self.assertTrue(out.endswith("# the call is socket (41)\n"), out)
+
+    def test_unfinished_and_limit(self):
+        status, out, _ = self.run_tool("compare", "--limit", "0", self.same, self.profile)
+        self.assertEqual(status, 4)
+        self.assertTrue(out.startswith("unfinished\n# The comparison took as many steps"), out)
+        status, out, _ = self.run_tool("compare", "--limit", "x", self.same, self.profile)
+        self.assertEqual(status, 2)
+        self.assertTrue(out.startswith("fault number limit\n# The option's text isn't a number"), out)
+
+    def test_undecided(self):
+        # A is the number times the number, which isn't followed where the number isn't known
+        native = load(4) + jeq(X86_64, 1, 0) + ret(KILL_PROCESS) + load(0) + jge(0x40000000, 0, 1) + ret(KILL_PROCESS)
+        square = native + insn(0x07, 0) + insn(0x2C, 0) + jeq(49, 0, 1) + ret(EPERM) + ret(ALLOW)
+        status, out, _ = self.run_tool("compare", self.file("square.bpf", square),
+                                       self.file("p", b'{"defaultAction":"SCMP_ACT_ALLOW"}'), "--limit=100000")
+        self.assertEqual(status, 4)
+        self.assertRegex(out, r"^undecided at [0-9]+\n# The comparison came to this place of a filter")
+
+    def test_skipped_names_and_other_architectures(self):
+        profile = profile_of("read", "gone", "write").replace(b"{",
+            b'{"architectures":["SCMP_ARCH_X86_64","SCMP_ARCH_X86"],', 1)
+        self.assertEqual(self.run_tool("compare", self.same, self.file("p", profile)),
+                         (0, "same\nskipped gone\nother SCMP_ARCH_X86\n# names of the profile that were skipped, "
+                             "since the table doesn't name such calls: 1\n"
+                             "# the other architectures of the profile aren't looked at\n", ""))
+
+    def test_a_name_that_looks_like_a_verdict(self):
+        profile = profile_of("read", "write", "x\ndiffers")
+        status, out, _ = self.run_tool("compare", self.same, self.file("p", profile))
+        self.assertEqual((status, out.split("\n")[0]), (0, "same"))
+        self.assertNotIn("# the call", out)
+
+    def test_output_that_fails(self):
+        status, _, err = self.closed_output("compare", self.wrong, self.profile)
+        self.assertEqual(status, 3)
+        self.assertIn("the output failed", err)
+
+    @needs("--native")
+    def test_native(self):
+        self.assertEqual(self.run_tool("compare", "--native", self.lax, self.profile), (0, "same\n", ""))
+        status, out, err = self.run_tool("compare", "--native", self.wrong, self.profile)
+        self.assertEqual((status, err), (1, ""))
+        self.assertTrue(out.startswith("differs\n"))
+        self.assertIn("# the call is exit_group (231)\n", out)
+        self.assertNotIn("--native", out)
+
+    @needs("--calls")
+    def test_calls(self):
+        self.assertEqual(self.run_tool("compare", "--calls", self.lax, self.profile), (0, "same\n", ""))
+        answers = "args 0x0 0x0 0x0 0x0 0x0 0x0 filter ALLOW 0 profile ERRNO 1\n"
+        self.assertEqual(self.run_tool("compare", "--calls", self.wrong, self.profile),
+                         (1, f"differs\n231 exit_group differs {answers}", ""))
+        table = self.file("own.table", b"read 0\nleave 231\nleave_too 231\nwrite 1\n")
+        self.assertEqual(self.run_tool("compare", "--calls", "--table", table, self.wrong, self.profile),
+                         (1, f"differs\n231 leave,leave_too differs {answers}", ""))
+        status, out, _ = self.run_tool("compare", "--calls", "--limit", "0", self.same, self.profile)
+        self.assertEqual((status, out.split("\n")[:2]), (4, ["unfinished", "0 read unfinished"]))
+
+    @needs("--calls")
+    def test_native_calls_that_differ_are_told_by_name(self):
+        line = "231 exit_group differs args 0x0 0x0 0x0 0x0 0x0 0x0 filter ALLOW 0 profile ERRNO 1"
+        said = "calls that the table names and that aren't answered as the profile says"
+        self.assertTrue(self.run_tool("compare", "--native", self.wrong, self.profile)[1].endswith(
+            f"# {said}: 1\n# {line}\n"))
+        # as runc puts in front of a filter: numbers that it doesn't know fail with ENOSYS
+        stub = load(0) + jge(500, 0, 1) + ret(0x00050026)
+        status, out, _ = self.run_tool("compare", "--native",
+                                       self.file("stub.bpf", stub + filter_of([READ, WRITE])), self.profile)
+        self.assertEqual(status, 1)
+        self.assertTrue(out.endswith("# each call that the table names is answered as the profile says\n"), out)
+        self.assertNotIn(said, self.run_tool("compare", "--all", self.wrong, self.profile)[1])
+
+    @needs("--native")
+    def test_several_filters(self):
+        stricter = self.file("stricter.bpf", load(0) + jeq(WRITE, 0, 1) + ret(0x00050002) + ret(ALLOW))
+        status, out, _ = self.run_tool("compare", "--native", self.lax, stricter, self.profile)
+        self.assertEqual(status, 1)
+        self.assertIn("# the call is write (1)\n# the filters answer ERRNO 2: the call isn't made, and fails with "
+                      "ENOENT\n", out)
+        allow = self.file("allow.bpf", ret(ALLOW))
+        for stack in ((allow, self.same), (self.same, allow)):
+            self.assertEqual(self.run_tool("compare", *stack, self.profile)[:2], (0, "same\n"))
+
+
+FAKE = """#!/bin/sh
+case "$*" in
+'compare --help') echo ' --native ' ;;
+'compare --calls'*) echo "$@" >"$KEPT.calls"; echo differs; echo 39 getpid unfinished; exit 1 ;;
+compare*) cat >"$KEPT"; echo "$@" >"$KEPT.words"; echo differs
+    echo call nr 39 arch 0xc000003e ip 0x0 args 0x0 0x0 0x0 0x0 0x0 0x0
+    echo filter ALLOW 0; echo profile ERRNO 1; exit 1 ;;
+esac
+"""
+
+
+class WithAnotherScf(Case):
+    """What the tool hands to scf, and what it makes of lines, by a program that stands in for scf."""
+
+    def run_fake(self, *words):
+        tree = self.made_tree(FAKE)
+        kept = os.path.join(self.folder, "kept")
+        for name, data in (("a.bpf", b"AAAA"), ("b.bpf", b"BB"), ("p.json", b"{}"), ("t", b"getpid 39\n")):
+            self.file(name, data)
+        done = self.run_words([os.path.join(tree, "tools", "compare"), *words],
+                              env={**os.environ, "KEPT": kept})
+        with open(kept, "rb") as bundle, open(f"{kept}.words", encoding="ascii") as handed:
+            return done, bundle.read(), handed.read()
+
+    def test_filters_stand_oldest_first(self):
+        done, bundle, words = self.run_fake("--native", "--limit", "7", "--table", "t", "a.bpf", "b.bpf", "p.json")
+        self.assertEqual(bundle, part("filter", b"AAAA") + part("filter", b"BB") + part("profile", b"{}")
+                         + part("table", b"getpid 39\n"))
+        self.assertEqual(words, "compare --native --limit 7\n")
+        self.assertTrue(done[1].endswith("as the profile says: 1\n# 39 getpid unfinished\n"), done)
+        with open(os.path.join(self.folder, "kept.calls"), encoding="ascii") as handed:
+            self.assertEqual(handed.read(), "compare --calls --limit 7\n")
+        self.assertEqual(self.run_fake("--all", "--table", "t", "a.bpf", "p.json")[2], "compare\n")
+
+
+class Decide(Case):
+    def setUp(self):
+        super().setUp()
+        self.filter = self.file("f.bpf", filter_of([READ]))
+
+    def test_usage(self):
+        self.says_usage("decide")
+
+    def test_by_number_and_by_name(self):
+        for number in ("1", "0x1", "write"):
+            self.assertEqual(self.run_tool("decide", "--nr", number, self.filter),
+                             (0, "ERRNO 1\n# the call is write (1)\n# ERRNO 1: the call isn't made, and fails with "
+                                 "EPERM\n", ""))
+        self.assertEqual(self.run_tool("decide", self.filter)[1],
+                         "ALLOW 0\n# the call is read (0)\n# ALLOW: the call is made\n")
+        status, out, err = self.run_tool("decide", "--nr", "no_such_call", self.filter)
+        self.assertEqual((status, out), (2, ""))
+        self.assertIn("the table names no call 'no_such_call'", err)
+
+    def test_each_option_is_handed_on(self):
+        for at in range(6):
+            for half in range(2):
+                asks = load(16 + 8 * at + 4 * half) + jeq(7, 0, 1) + ret(ALLOW) + ret(EPERM)
+                out = self.run_tool("decide", f"--a{at}", str(7 << 32 * half), self.file("a.bpf", asks))[1]
+                self.assertTrue(out.startswith("ALLOW 0\n"), (at, half))
+        ip = load(8) + jeq(9, 0, 1) + ret(ALLOW) + ret(EPERM)
+        self.assertTrue(self.run_tool("decide", "--ip", "9", self.file("ip.bpf", ip))[1].startswith("ALLOW 0\n"))
+        out = self.run_tool("decide", "--arch", "0x40000003", self.filter)[1]
+        self.assertEqual(out,
+                         "KILL_PROCESS 0\n# the call is number 0 of the architecture i386\n"
+                         "# KILL_PROCESS: the process ends\n")
+
+    def test_filters_stand_oldest_first(self):
+        one, two = self.file("one.bpf", ret(0x00050001)), self.file("two.bpf", ret(0x00050002))
+        self.assertTrue(self.run_tool("decide", one, two)[1].startswith("ERRNO 2\n"))
+        self.assertTrue(self.run_tool("decide", two, one)[1].startswith("ERRNO 1\n"))
+        self.assertTrue(self.run_tool("decide", one, "-", given=ret(KILL_PROCESS))[1].startswith("KILL_PROCESS 0\n"))
+
+    def test_faults_and_wrong_words(self):
+        status, out, _ = self.run_tool("decide", self.file("e.bpf", b""))
+        self.assertEqual(status, 1)
+        self.assertTrue(out.startswith("fault filter Empty\n# The filter has no instruction"), out)
+        status, out, _ = self.run_tool("decide", "--nr", "4294967296", self.filter)
+        self.assertEqual(status, 2)
+        self.assertTrue(out.startswith("fault number nr\n# The option's text isn't a number below 2^32"), out)
+        for words in (("none.bpf",), (self.folder,), ("--table", "none", self.filter), ("-", "-")):
+            status, out, err = self.run_tool("decide", *words)
+            self.assertEqual((status, out), (2, ""), words)
+            self.assertNotIn("Traceback", err)
+
+    def test_output_that_fails(self):
+        status, _, err = self.closed_output("decide", self.filter)
+        self.assertEqual(status, 3)
+        self.assertIn("the output failed", err)
+
+
+class Explain(Case):
+    def test_usage(self):
+        self.says_usage("explain")
+
+    def test_what_each_answer_does(self):
+        for answer, line, means in ((0x7FFC0000, "LOG 0", "LOG: the call is made, and logged"),
+                                    (0x00030007, "TRAP 7", "TRAP 7: the call isn't made, and the thread gets SIGSYS"),
+                                    (0x7FC00000, "USER_NOTIF 0", "USER_NOTIF: a supervisor answers the call"),
+                                    (0x7FF00000, "TRACE 0",
+                                     "TRACE 0: a tracer is told of the call; without one it fails with ENOSYS"),
+                                    (0, "KILL_THREAD 0", "KILL_THREAD: the thread ends"),
+                                    (0x00050000, "ERRNO 0", "ERRNO 0: the call isn't made, and seems to end well"),
+                                    (0x00050026, "ERRNO 38", "ERRNO 38: the call isn't made, and fails with ENOSYS"),
+                                    (0x00051000, "ERRNO 4096",
+                                     "ERRNO 4096: the call isn't made, and fails with errno 4096"),
+                                    (0x12340000, "UNNAMED 0x12340000",
+                                     "UNNAMED 0x12340000: seccomp(2) names no such action")):
+            self.assertEqual(self.run_tool("explain", "run", given=ret(answer)),
+                             (0, f"{line} steps 1\n# the call is read (0)\n# {means}\n", ""))
+
+    def test_what_scf_prints_stands_first_as_it_is(self):
+        for words, given in ((("check",), ret(0)), (("asm",), b"ret #1\n"), (("dis",), ret(1) * 3),
+                             (("--help",)[:0] + ("help",), b"")):
+            expected = self.run_words([SCF, *words], given)
+            self.assertEqual(self.run_tool("explain", *words, given=given), expected)
+
+    def test_wrong_words_of_scf(self):
+        status, _, err = self.run_tool("explain", "no-such-command")
+        self.assertEqual(status, 2)
+        self.assertNotIn("Traceback", err)

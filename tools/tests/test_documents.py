@@ -1,0 +1,326 @@
+"""The documents: docs/FAULTS.md against the program's kinds and lines, README's blocks, the manual page, statuses."""
+import glob
+import os
+import re
+import shutil
+import subprocess
+import unittest
+
+from common import ALLOW, SCF, TABLE, TOP, Case, filter_of, has_option, insn, jeq, load, part, profile_of, ret
+
+# Which enum of the program is printed for which sources; for some, only these of its kinds.
+SOURCES = {
+    "InputFault": ["input", "table", "profile"], "BundleFault": ["bundle"], "ReadFault": ["filter"],
+    "CheckFault": ["filter"], "TextFault": ["text"],
+    "TableFault": ["table"], "LoadFault": ["profile"], "CompileFault": ["compile"], "PushFault": ["stack"],
+}
+# These are made of others, or are printed in another way.
+OTHERS = {"VerifyFault", "WriteFault", "NumberFault", "NumeralFault"}
+
+
+def enums():
+    """The enums of faults in the sources: for each its kinds, and for each kind the names of its numbers."""
+    found = {}
+    for path in glob.glob(os.path.join(TOP, "crates", "*", "src", "**", "*.rt"), recursive=True):
+        with open(path, encoding="utf-8") as file:
+            text = re.sub(r"//[^\n]*|#\[[^\n]*\]", "", file.read())
+        for enum in re.finditer(r"^pub enum (\w+Fault) \{\n(.*?)^\}", text, re.M | re.S):
+            kinds = re.findall(r"^    (\w+)(?:\s*\{([^}]*)\}|\(([^)]*)\))?,", enum[2], re.M)
+            found[enum[1]] = {kind: re.findall(r"(\w+)\s*:", fields) for kind, fields, _ in kinds}
+    return found
+
+
+def rows():
+    """The lines of docs/FAULTS.md: for each (source, kind) the names of its numbers, and its status."""
+    found = {}
+    with open(os.path.join(TOP, "docs", "FAULTS.md"), encoding="utf-8") as file:
+        for line in file:
+            if line.startswith("| `fault "):
+                cells = [cell.strip() for cell in line.strip().strip("|").split("|")]
+                for pattern in re.findall(r"`([^`]+)`", cells[0]):
+                    words = re.sub(r"[\[\]]", "", pattern).split()
+                    if (words[1], words[2]) in found:
+                        raise AssertionError(f"two rows for {pattern}")
+                    found[words[1], words[2]] = ([word for word in words[3:] if word != "N"], int(cells[1]), cells[2:])
+    return found
+
+
+def options(command):
+    done = subprocess.run([SCF, command, "--help"], stdin=subprocess.DEVNULL, stdout=subprocess.PIPE, check=False)
+    return re.findall(r"--([a-z0-9]+) <NUMBER>", done.stdout.decode())
+
+
+class Faults(Case):
+    def test_each_kind_has_a_row_and_each_row_a_kind(self):
+        printed = {}
+        for enum, kinds in enums().items():
+            self.assertIn(enum, {*SOURCES, *OTHERS},
+                          "a new enum of faults: say here what its source is, and write its rows")
+            for source in SOURCES.get(enum, []):
+                for kind, fields in kinds.items():
+                    printed.setdefault((source, kind), fields)
+        self.assertEqual(set(enums()) & set(SOURCES), set(SOURCES))
+        printed["bundle", "Parts"] = []
+        printed["command", "Flags"] = []
+        for source in ("compare", "command"):
+            printed[source, "Memory"] = []
+        for name in {*options("run"), *options("decide"), *options("compare")}:
+            printed["number", name] = []
+        self.assertEqual(set(rows()), set(printed))
+        for (source, kind), fields in printed.items():
+            self.assertEqual(rows()[source, kind][0], fields, (source, kind))
+
+    def test_each_row_says_when_and_what_to_do(self):
+        for key, (_, status, cells) in rows().items():
+            self.assertIn(status, (1, 2, 3), key)
+            self.assertEqual(len(cells), 2, key)
+            for cell in cells:
+                self.assertRegex(cell, r"^[A-Z`].*\.$", key)
+
+    def test_printed_lines_and_statuses_are_those_of_the_rows(self):
+        """Made inputs that give each kind but Read, Memory and that of the largest input: line, status, sentence."""
+        with open(TABLE, "rb") as file:
+            table = part("table", file.read())
+
+        def one(member):
+            return part("profile",
+                        b'{"defaultAction":"SCMP_ACT_ALLOW","syscalls":[{"names":["read"],"action":"SCMP_ACT_ERRNO",'
+                        b'%s}]}' % member) + table
+
+        def top(text):
+            return part("profile", text) + table
+
+        def entries(text):
+            return top(b'{"defaultAction":"SCMP_ACT_ALLOW","syscalls":[%s]}' % text)
+
+        argument = b'"args":[{"index":%s,"value":1,"op":"%s"}]'
+        cases = [
+            (["decide"], b"filter x\n", "fault bundle Header offset 0"),
+            (["decide"], b"filter 9\nx", "fault bundle Short offset 0"),
+            (["decide"], part("table", b""), "fault bundle Parts"),
+            (["run"], b"12345678123", "fault filter Truncated offset 8"),
+            (["check"], bytes(32769), "fault filter TooLong"),
+            (["check"], b"", "fault filter Empty"),
+            (["check"], insn(0x94, 1) + ret(0), "fault filter Code at 0"),
+            (["check"], load(0) + load(64) + ret(0), "fault filter Load at 1"),
+            (["check"], insn(0x02, 16) + ret(0), "fault filter Scratch at 0"),
+            (["check"], insn(0x34, 0) + ret(0), "fault filter Divisor at 0"),
+            (["check"], insn(0x64, 32) + ret(0), "fault filter Shift at 0"),
+            (["check"], jeq(0, 1, 0) + ret(0), "fault filter Jump at 0"),
+            (["check"], load(0), "fault filter LastNotReturn"),
+            (["check"], insn(0x60, 15) + ret(0), "fault filter Unset at 0 word 15"),
+            (["asm"], b"\n\xff", "fault text NotAscii line 2"),
+            (["asm"], b"LD [0]", "fault text Mnemonic line 1"),
+            (["asm"], b"ld 4", "fault text Operand line 1"),
+            (["asm"], b"ret #4294967296", "fault text NumberRange line 1"),
+            (["asm"], b"ja away", "fault text Label line 1"),
+            (["asm"], b"back: ret a\nja back", "fault text JumpTooFar line 2"),
+            (["asm"], b"ret a\n" * 4097, "fault text TooLong line 4097"),
+            (["compile"], part("profile", b"{}") + part("table", b"read\n"), "fault table Form line 1"),
+            (["compile"], part("profile", b"{}") + part("table", b"1 read\n"), "fault table Name line 1"),
+            (["compile"], part("profile", b"{}") + part("table", b"read -1\n"), "fault table Number line 1"),
+            (["compile"], part("profile", b"{}") + part("table", b"read 0\n\nread 0\n"),
+             "fault table Repeated line 3"),
+            (["compare"], part("filter", ret(0)) + part("profile", b"{}") + part("table", b" " * 4194305),
+             "fault table TooLong"),
+            (["compare"], part("filter", ret(0)) + part("profile", b" " * 4194305) + table, "fault profile TooLong"),
+            (["compile"], top(b"{"), "fault profile Json"),
+            (["compile"], top(b"{}"), "fault profile Missing"),
+            (["compile"], top(b'{"defaultAction":"SCMP_ACT_ALLOW","syscalls":[{"name":"read",'
+                              b'"action":"SCMP_ACT_LOG"}]}'), "fault profile Missing entry 0"),
+            (["compile"], top(b'{"defaultAction":1}'), "fault profile Kind"),
+            (["compile"], one(b'"args":1'), "fault profile Kind entry 0"),
+            (["compile"], top(b'{"defaultAction":"ALLOW"}'), "fault profile Action"),
+            (["compile"], one(argument % (b"0", b"EQ")), "fault profile Operator entry 0"),
+            (["compile"], entries(b'{"names":[],"action":"SCMP_ACT_LOG"}'), "fault profile EmptyNames entry 0"),
+            (["compile"], one(argument % (b"6", b"SCMP_CMP_EQ")), "fault profile Index entry 0"),
+            (["compile"], one(b'"args":[{"index":1,"value":1,"op":"SCMP_CMP_NE"},{"index":1,"value":2,'
+                              b'"op":"SCMP_CMP_NE"}]'), "fault profile RepeatedIndex entry 0"),
+            (["compile"], top(b'{"defaultAction":"SCMP_ACT_ALLOW","defaultErrnoRet":1}'), "fault profile Errno"),
+            (["compile"], one(b'"errnoRet":65536'), "fault profile ErrnoRange entry 0"),
+            (["compile"], top(b'{"defaultAction":"SCMP_ACT_ALLOW","architectures":["SCMP_ARCH_ARM"]}'),
+             "fault profile NoX8664"),
+            (["compile"], one(b'"includes":{"caps":[]}'), "fault profile EngineForm entry 0"),
+            (["compile"], entries(b'{"names":[%s],"action":"SCMP_ACT_LOG"}' % b",".join([b'"read"'] * 4097)),
+             "fault profile TooMany"),
+            (["compile"], top(b'{"defaultAction":"SCMP_ACT_ALLOW","syscalls":[{"names":["read"],'
+                              b'"action":"SCMP_ACT_LOG"},{"names":["read"],"action":"SCMP_ACT_TRAP"}]}'),
+             "fault profile Conflict number 0 first 0 second 1"),
+            (["compile"], top(b'{"defaultAction":"SCMP_ACT_ALLOW","syscalls":[%s]}' % b",".join(
+                [b'{"names":["read"],"action":"SCMP_ACT_LOG","args":[{"index":0,"value":%d,"op":"SCMP_CMP_GT"},'
+                 b'{"index":1,"value":%d,"op":"SCMP_CMP_GT"}]}' % (it, it)
+                 for it in range(2**40, 2**40 + 4000)])), "fault compile TooLarge"),
+            (["decide"], part("filter", ret(0) * 4096) * 8, "fault stack TooMany total 32796"),
+            (["run", "--nr", "x"], b"", "fault number nr"),
+            (["decide", "--arch", "4294967296"], b"", "fault number arch"),
+            (["run", "--a5", "18446744073709551616"], b"", "fault number a5"),
+            (["compare", "--limit", "0x"], b"", "fault number limit"),
+            (["compare", "--native", "--calls"], b"", "fault command Flags"),
+        ]
+        seen = set()
+        for words, given, line in cases:
+            with self.subTest(line=line):
+                status, out, _ = self.run_tool("explain", *words, given=given)
+                key = tuple(line.split()[1:3])
+                seen.add(key)
+                self.assertEqual(out.split("\n")[0], line)
+                self.assertEqual(status, rows()[key][1])
+                self.assertEqual(out.split("\n")[1:3], [f"# {cell}" for cell in rows()[key][2]])
+        unseen = {key for key in rows() if key not in seen and key[1] not in ("Memory", "Read") and key[0] != "number"}
+        self.assertEqual(unseen, {("input", "TooLong")})
+
+
+class Statuses(Case):
+    """Each status of the built program, by the launcher."""
+
+    def test_each(self):
+        with open(TABLE, "rb") as file:
+            rest = part("profile", profile_of("read")) + part("table", file.read())
+        for words, given, status, out in (
+                (["check"], ret(ALLOW), 0, "accepted 1\n"), (["compare"], part("filter", filter_of([0])) + rest, 0,
+                    "same\n"),
+                (["compare"], part("filter", filter_of([1])) + rest, 1, None),
+                (["check"], b"", 1, "fault filter Empty\n"), (["no-such"], b"", 2, None),
+                (["run", "--nr", "x"], ret(ALLOW), 2, "fault number nr\n"),
+                (["run"], b"x", 3, "fault filter Truncated offset 0\n"),
+                (["compare", "--limit", "0"], part("filter", filter_of([0])) + rest, 4, "unfinished\n")):
+            found, printed, _ = self.run_words([SCF, *words], given)
+            self.assertEqual(found, status, words)
+            if out is not None:
+                self.assertEqual(printed, out)
+        with open("/dev/full", "wb") as full:
+            self.assertEqual(self.run_words([SCF, "check"], ret(ALLOW), stdout=full)[0], 3)
+
+    def test_no_kit_and_no_program(self):
+        os.makedirs(f"{self.folder}/tools")
+        shutil.copy2(SCF, self.folder)
+        shutil.copy2(os.path.join(TOP, "tools", "built"), f"{self.folder}/tools")
+        os.makedirs(f"{self.folder}/crates/scf")
+        self.assertEqual(self.run_words([f"{self.folder}/scf", "check"], ret(ALLOW),
+                                        env={"PATH": "/usr/bin:/bin"})[0], 125)
+
+
+# How a line of scf's output begins that stands as a comment behind a command.
+OUTPUT = (
+    r"(?:ALLOW|LOG|TRACE|USER_NOTIF|ERRNO|TRAP|KILL_THREAD|KILL_PROCESS|UNNAMED|"
+    r"same|differs|undecided|unfinished|accepted|fault)\b[^;,]*$"
+)
+
+
+def blocks_of(text):
+    """The shell blocks of a document, each with the block of output that follows it, if one does."""
+    found = re.findall(r"^```(\w*)\n(.*?)^```$\n?(\n(?=```\n))?", text, re.M | re.S)
+    for at, (language, body, is_followed) in enumerate(found):
+        if language == "sh":
+            follows = found[at + 1] if is_followed and at + 1 < len(found) and not found[at + 1][0] else None
+            yield body, follows[1] if follows else None
+
+
+def commands_of(block):
+    """The commands of a block: a line, with what it continues and the text that it hands over."""
+    lines = iter(block.splitlines(keepends=True))
+    for line in lines:
+        command = line
+        while command.endswith("\\\n"):
+            command += next(lines)
+        for end in re.findall(r"<<-?\s*'?(\w+)'?", command):
+            for held in lines:
+                command += held
+                if held.strip() == end:
+                    break
+        if command.strip():
+            yield command
+
+
+class Readme(Case):
+    """The shell blocks (```sh) of README.md, as they stand, in a folder that has the launcher and the tools.
+
+    Behind a command its first line of output may stand as a comment. What the other commands of a block print is the
+    block without a language that follows at once, if one does.
+    """
+
+    def setUp(self):
+        super().setUp()
+        for name in ("scf", "tools", "tables", "docs", "crates"):
+            os.symlink(os.path.join(TOP, name), os.path.join(self.folder, name))
+        stub = self.file("test", "#!/bin/sh\necho '0 passed, 0 failed'\n")
+        os.chmod(stub, 0o755)
+
+    def run_block(self, block):
+        """What each command of a block prints, all in one shell."""
+        commands = list(commands_of(block))
+        script = "".join(f"{command}printf '\\nstatus %s of command {at}\\n' \"$?\"\n" for at,
+                         command in enumerate(commands))
+        done = subprocess.run(["sh"], input=script.encode(), cwd=self.folder, stdout=subprocess.PIPE,
+                              stderr=subprocess.PIPE, timeout=300, check=False)
+        printed = re.split(r"\nstatus ([0-9]+) of command [0-9]+\n", done.stdout.decode())
+        self.assertEqual(len(printed), 2 * len(commands) + 1, done.stderr.decode())
+        return [(command, printed[2 * at], int(printed[2 * at + 1])) for at,
+                command in enumerate(commands)], done.stderr.decode()
+
+    def test_blocks(self):
+        with open(os.path.join(TOP, "README.md"), encoding="utf-8") as file:
+            blocks = list(blocks_of(file.read()))
+        self.assertGreater(len(blocks), 2)
+        compared = 0
+        for block, output in blocks:
+            ran, said = self.run_block(block)
+            rest = ""
+            for command, printed, status in ran:
+                self.assertIn(status, (0, 1, 4), f"{command}{said}")
+                told = re.search(rf"\s#\s(?:.*: )?({OUTPUT})", command.split("\n")[0])
+                if told:
+                    self.assertEqual(printed.split("\n")[0], told[1].strip(), command)
+                    compared += 1
+                else:
+                    rest += printed
+            if output is not None:
+                self.assertEqual(rest, output)
+                compared += 1
+        self.assertGreater(compared, 5)
+
+    def test_the_reading_of_blocks(self):
+        text = "\n".join(["```sh", "a   # same", "```", "", "```", "out", "```", "", "```console", "$ no", "```", "",
+                          "```sh", "cat >x <<'END'", "b", "END", "c \\", " d", "```", "", "prose", "", "```", "other",
+                          "```", ""])
+        blocks = list(blocks_of(text))
+        self.assertEqual(blocks, [("a   # same\n", "out\n"), ("cat >x <<'END'\nb\nEND\nc \\\n d\n", None)])
+        self.assertEqual(list(commands_of(blocks[1][0])), ["cat >x <<'END'\nb\nEND\n", "c \\\n d\n"])
+        ran, _ = self.run_block("printf 'x'\nfalse\nprintf 'same\\n'  # same\n")
+        self.assertEqual([(printed, status) for _, printed, status in ran], [("x", 0), ("", 1), ("same\n", 0)])
+
+
+class Manual(Case):
+    """docs/scf.1."""
+
+    def text(self):
+        with open(os.path.join(TOP, "docs", "scf.1"), encoding="ascii") as file:
+            return file.read()
+
+    @unittest.skipUnless(shutil.which("groff"), "there is no groff here")
+    def test_it_is_shown_without_a_warning(self):
+        done = subprocess.run(["groff", "-man", "-ww", "-Tascii", os.path.join(TOP, "docs", "scf.1")],
+                              stdout=subprocess.PIPE, stderr=subprocess.PIPE, check=False)
+        self.assertEqual((done.returncode, done.stderr.decode()), (0, ""))
+        shown = re.sub(r"\x1b\[[0-9;]*m|.\x08", "", done.stdout.decode())
+        for heading in ("NAME", "SYNOPSIS", "COMMANDS", "OPTIONS", "EXIT STATUS", "EXAMPLES"):
+            self.assertIn(f"\n{heading}\n", shown)
+
+    def test_every_command_option_and_tool_stands_there(self):
+        text = self.text().replace("\\-", "-").replace("\\", "")
+        done = subprocess.run([SCF, "--help"], stdin=subprocess.DEVNULL, stdout=subprocess.PIPE, check=False)
+        commands = re.findall(r"^  ([a-z]+) ", done.stdout.decode(), re.M)
+        self.assertIn("compare", commands)
+        for command in commands:
+            self.assertRegex(text, rf"(?m)^\.B[R]? {command}\b", command)
+        for option in ("--nr", "--arch", "--ip", "--a0", "--a5", "--limit", "--table", "--caps", "--kernel"):
+            self.assertRegex(text, rf"(?m)^\.BI? ?{option} |\" {option} ", option)
+        for option in ("--native", "--calls"):
+            if has_option(option):
+                self.assertIn(option, text)
+        with open(os.path.join(TOP, "tools", "install"), encoding="utf-8") as file:
+            tools = re.search(r"^tools='([^']*)'", file.read(), re.M)[1].split()
+        for name in tools:
+            self.assertRegex(text, rf"(?m)^\.B scf-{name}$", name)
+        for status in (0, 1, 2, 3, 4, 125):
+            self.assertRegex(text, rf"(?m)^\.B {status}$", status)

@@ -1,0 +1,195 @@
+"""Inputs made to hurt: each ends in its named answer, soon and in little memory.
+
+What is expected comes from the formats: an answer, a fault's line, or one of two verdicts where both are true. The
+bounds on time and memory are some ten times what is measured, so that what grows with the square of an input fails.
+"""
+import os
+import subprocess
+import tempfile
+import threading
+import time
+
+from common import ALLOW, KILL_PROCESS, SCF, X86_64, Case, insn, jeq, jge, load, part, ret
+
+LIMIT_OF_FILTER, LIMIT_OF_TEXT, LIMIT_OF_INPUT = 32768, 4194304, 16777216
+SECONDS, MEGABYTES = 20, 640
+GATE = load(4) + jeq(X86_64, 1, 0) + ret(KILL_PROCESS) + load(0) + jge(0x40000000, 0, 1) + ret(KILL_PROCESS)
+ALLOWS = b'{"defaultAction":"SCMP_ACT_ALLOW"}'
+ALLOWS_COMPILED = GATE + ret(ALLOW)
+
+
+def jset(mask, jt, jf):
+    return insn(0x45, mask, jt, jf)
+
+
+def with_table(profile, table=b"read 0\n"):
+    return part("profile", profile) + part("table", table)
+
+
+def beside(value):
+    """A profile that allows all, with a member that means nothing."""
+    return b'{"defaultAction":"SCMP_ACT_ALLOW","x":%s}' % value
+
+
+def run(words, data):
+    """The status, what was printed, the seconds and the megabytes that it took."""
+    with tempfile.TemporaryFile() as out:
+        began = time.monotonic()
+        child = subprocess.Popen([SCF, *words], stdin=subprocess.PIPE, stdout=out, stderr=subprocess.DEVNULL)
+
+        def feed():
+            try:
+                child.stdin.write(data)
+                child.stdin.close()
+            except BrokenPipeError:
+                pass
+
+        feeder = threading.Thread(target=feed)
+        feeder.start()
+        _, ended, used = os.wait4(child.pid, 0)
+        child.returncode = os.waitstatus_to_exitcode(ended)
+        feeder.join()
+        out.seek(0)
+        return child.returncode, out.read(), time.monotonic() - began, used.ru_maxrss / 1024
+
+
+class Hostile(Case):
+    @classmethod
+    def setUpClass(cls):
+        subprocess.run([SCF, "--help"], stdin=subprocess.DEVNULL, stdout=subprocess.DEVNULL, check=True)
+
+    def ends(self, words, data, *expected):
+        """It ends soon, in little memory, with one of these statuses and outputs; an output of None may be any."""
+        status, out, seconds, megabytes = run(words, data)
+        self.assertIn((status, out), [(want, out if text is None else text) for want, text in expected], out[:200])
+        self.assertLess(seconds, SECONDS)
+        self.assertLess(megabytes, MEGABYTES)
+        return out
+
+    def faults(self, words, data, line, status):
+        self.ends(words, data, (status, line.encode() + b"\n"))
+
+    def test_cut_filters(self):
+        gate = load(4) + jeq(X86_64, 1, 0) + ret(KILL_PROCESS) + ret(ALLOW)
+        for count in range(len(gate)):
+            whole, rest = divmod(count, 8)
+            fault, status = {0: ("Empty", 1), 1: ("LastNotReturn", 1)}.get(whole, ("Jump at 1", 1))
+            if rest:
+                fault, status = f"Truncated offset {count - rest}", 3
+            with self.subTest(count):
+                self.faults(["check"], gate[:count], f"fault filter {fault}", status)
+
+    def test_cut_profiles(self):
+        for count in range(len(ALLOWS)):
+            with self.subTest(count):
+                self.faults(["compile"], with_table(ALLOWS[:count]), "fault profile Json", 1)
+        self.faults(["compile"], with_table(ALLOWS[:-2] + b"\xff" + ALLOWS[-2:]), "fault profile Json", 1)
+
+    def test_nested_json(self):
+        self.ends(["compile"], with_table(beside(b"[" * 100 + b"]" * 100)), (0, ALLOWS_COMPILED))
+        self.faults(["compile"], with_table(beside(b"[" * 1000 + b"]" * 1000)), "fault profile Json", 1)
+        for opening in (b"[", b'{"a":'):
+            text = (opening * (LIMIT_OF_TEXT // len(opening) + 1))[:LIMIT_OF_TEXT]
+            self.faults(["compile"], with_table(text), "fault profile Json", 1)
+
+    def test_long_json(self):
+        for text in (b'"' + b"\\n" * (LIMIT_OF_TEXT // 2 - 1) + b'"',
+                     b'"' + b"\\u0041" * (LIMIT_OF_TEXT // 6 - 1) + b'"'):
+            self.faults(["compile"], with_table(text), "fault profile Kind", 1)
+        members = b'"a":1,' * ((LIMIT_OF_TEXT - 40) // 6)
+        self.ends(["compile"], with_table(b"{" + members + ALLOWS[1:]), (0, ALLOWS_COMPILED))
+        members = b"".join(b'"%x":1,' % number for number in range(380000))
+        self.ends(["compile"], with_table(b"{" + members + ALLOWS[1:]), (0, ALLOWS_COMPILED))
+        for array in (b"[" + b"0," * 2000000 + b"0]", b"[" + b"[]," * 1300000 + b"0]"):
+            self.ends(["compile"], with_table(beside(array)), (0, ALLOWS_COMPILED))
+
+    def test_a_number_of_a_million_digits(self):
+        many = b"1" * 1000000
+        for number in (many, b"1." + many, b"1e" + many, b"-" + many):
+            self.ends(["compile"], with_table(beside(number)), (0, ALLOWS_COMPILED), (1, b"fault profile Json\n"))
+
+    def test_many_rules(self):
+        conditions = b"[%s]" % b",".join(b'{"index":%d,"value":%d,"op":"SCMP_CMP_LE"}' % (at, at) for at in range(6))
+        entry = b'{"names":["read"],"action":"SCMP_ACT_ALLOW","args":%s}' % conditions
+        count = (LIMIT_OF_TEXT - 100) // (len(entry) + 1)
+        text = b'{"defaultAction":"SCMP_ACT_KILL","syscalls":[%s]}'
+        self.faults(["compile"], with_table(text % b",".join([entry] * count)), "fault profile TooMany", 1)
+        full = with_table(text % b",".join([entry] * 4096))
+        self.faults(["compile"], full, "fault compile TooLarge", 1)
+        for program in (ret(ALLOW), GATE + ret(ALLOW)):
+            out = self.ends(["compare"], part("filter", program) + full, (1, None))
+            self.assertTrue(out.startswith(b"differs\n"))
+
+    def test_many_numbers(self):
+        table = b"".join(b"c%d %d\n" % (number, number) for number in range(4096))
+        entries = b",".join(b'{"names":["c%d"],"action":"SCMP_ACT_ALLOW"}' % number for number in range(4096))
+        profile = b'{"defaultAction":"SCMP_ACT_KILL","syscalls":[%s]}' % entries
+        out = self.ends(["compare"], part("filter", GATE + ret(ALLOW)) + with_table(profile, table), (1, None))
+        self.assertTrue(out.startswith(b"differs\n"))
+        self.ends(["compile"], with_table(profile, table), (0, None), (1, b"fault compile TooLarge\n"))
+
+    def test_rules_that_nearly_conflict(self):
+        """Of one number, with two answers by turns, each pair apart on one argument: every pair is looked at."""
+        entries = b",".join(
+            b'{"names":["read"],"action":"SCMP_ACT_%s","args":[{"index":5,"value":%d,"op":"SCMP_CMP_EQ"}]}'
+            % ([b"ALLOW", b"LOG"][at % 2], at) for at in range(4096))
+        profile = b'{"defaultAction":"SCMP_ACT_KILL","syscalls":[%s]}' % entries
+        self.ends(["compile"], with_table(profile), (0, None), (1, b"fault compile TooLarge\n"))
+
+    def test_tables(self):
+        names = [b"a%06d" % number for number in range(LIMIT_OF_TEXT // 15)]
+        for order in (names, names[::-1]):
+            table = b"".join(b"%s %d\n" % (name, at) for at, name in enumerate(order))
+            self.ends(["compile"], with_table(ALLOWS, table), (0, ALLOWS_COMPILED))
+        table = b"".join(b"%s%05d 1\n" % (b"x" * 1000, number) for number in range(LIMIT_OF_TEXT // 1009))
+        self.ends(["compile"], with_table(ALLOWS, table), (0, ALLOWS_COMPILED))
+        for table in (b"\n" * LIMIT_OF_TEXT, b" " * LIMIT_OF_TEXT, b"#" * LIMIT_OF_TEXT):
+            self.ends(["compile"], with_table(ALLOWS, table), (0, ALLOWS_COMPILED))
+
+    def test_bundles_of_many_parts(self):
+        self.faults(["decide"], b"filter 0\n" * 100000, "fault filter Empty", 1)
+        self.faults(["compare"], b"profile 0\n" * 100000, "fault bundle Parts", 3)
+        self.faults(["decide"], part("filter", ret(ALLOW)) * 800000, "fault stack TooMany total 32771", 1)
+
+    def test_texts(self):
+        for text in (b"x" * LIMIT_OF_INPUT, b":" * LIMIT_OF_INPUT, b"1 " * (LIMIT_OF_INPUT // 2)):
+            self.faults(["asm"], text, "fault text Mnemonic line 1", 1)
+        for text in (b";" * LIMIT_OF_INPUT, b"\n" * LIMIT_OF_INPUT, b"//" * (LIMIT_OF_INPUT // 2)):
+            self.ends(["asm"], text, (0, b""))
+        self.faults(["asm"], b"a:\n" * (LIMIT_OF_INPUT // 3), "fault text Label line 2", 1)
+        self.ends(["asm"], b"".join(b"l%06x:\n" % number for number in range(LIMIT_OF_INPUT // 9)), (0, b""))
+
+    def test_one_byte_too_long(self):
+        self.faults(["check"], ret(ALLOW) * (LIMIT_OF_FILTER // 8) + b"\0", "fault filter TooLong", 3)
+        self.faults(["asm"], b"\n" * (LIMIT_OF_INPUT + 1), "fault input TooLong", 3)
+        long_profile = ALLOWS + b" " * (LIMIT_OF_TEXT + 1 - len(ALLOWS))
+        long_table = b"\n" * (LIMIT_OF_TEXT + 1)
+        self.faults(["compile"], with_table(long_profile), "fault profile TooMany", 1)
+        self.faults(["compare"], part("filter", ret(ALLOW)) + with_table(long_profile), "fault profile TooLong", 3)
+        self.faults(["compare"], part("filter", ret(ALLOW)) + with_table(ALLOWS, long_table), "fault table TooLong", 3)
+        self.ends(["compile"], with_table(long_profile[:-1]), (0, ALLOWS_COMPILED))
+
+    def compares(self, code, *verdicts):
+        self.ends(["compare"], part("filter", GATE + code) + with_table(ALLOWS), *verdicts)
+
+    def test_filters_of_many_paths(self):
+        same, unfinished = (0, b"same\n"), (4, b"unfinished\n")
+        self.compares(load(16) + b"".join(jeq(number, 0, 0) for number in range(64)) + ret(ALLOW), same)
+        bits = b"".join(jset(1 << bit, 0, 0) for bit in range(32))
+        self.compares(load(16) + bits + load(20) + bits + ret(ALLOW), same, unfinished)
+        self.compares(load(16) + b"".join(jset(1 << at % 32, 0, 1) for at in range(4080)) + ret(ALLOW) * 2,
+                      same, unfinished)
+        mixed = b"".join(jset(at * 2654435761 % 2**32 | 1, at % 2, 0) for at in range(4080))
+        self.compares(load(16) + mixed + ret(ALLOW) * 2,
+                      same, unfinished, (4, None))
+        words = b"".join(load(16 + 4 * (at % 12)) + jset(1 << at // 12, 0, 1) + load(16) for at in range(384))
+        self.compares(words + ret(ALLOW), same, unfinished)
+        cuts = b"".join(load(16 + 4 * (at % 12)) + jge(at // 12 * 1000 + 500, 0, 1) + load(16) for at in range(1300))
+        self.compares(cuts + ret(ALLOW), same, unfinished)
+
+    def test_a_test_behind_the_other(self):
+        both = jset(1, 0, 2) + jset(1, 1, 0) + ret(0) + ret(ALLOW)
+        wide = jset(3, 2, 0) + jset(1, 0, 1) + ret(0) + ret(ALLOW)
+        for code in (both, wide):
+            bundle = part("filter", GATE + load(16) + code) + with_table(ALLOWS)
+            self.ends(["compare", "--limit", "96"], bundle, (0, b"same\n"))

@@ -1,0 +1,216 @@
+"""./scf and ./test, in made trees with a kit that stands in for rt."""
+import os
+import shutil
+import subprocess
+import threading
+import time
+
+from common import TOP, Case
+
+# Builds a program that prints its source, and notes each time that it was asked. `rt ci` prints what it is told, and
+# builds the programs that the gate tries.
+RT = """#!/bin/sh
+echo "asked: $*" >>"$ASKED"
+case $1 in
+ci) printf '%s\\n' "$CI"
+    for name in scf scf_refusals; do [ -z "${MAKES-}" ] || cp "$MAKES" crates/$name/out/$name; done
+    exit "${CI_STATUS-0}" ;;
+run) [ "${FAILS-}" = "" ] || exit 1
+    text=$(cat src/main.rt)
+    [ -z "${SLOW-}" ] || sleep "$SLOW"
+    mkdir -p out && printf '#!/bin/sh\\necho "%s" "$@"\\n' "$text" >out/scf.new
+    chmod +x out/scf.new && mv out/scf.new out/scf
+    exec out/scf --help ;;
+esac
+"""
+
+
+class Tree(Case):
+    """A made tree with the launcher, the gate and a source."""
+
+    def setUp(self):
+        super().setUp()
+        self.tree = os.path.join(self.folder, "tree")
+        for name in ("scf", "test"):
+            os.makedirs(self.tree, exist_ok=True)
+            shutil.copy2(os.path.join(TOP, name), self.tree)
+        os.makedirs(os.path.join(self.tree, "tools"))
+        shutil.copy2(os.path.join(TOP, "tools", "built"), os.path.join(self.tree, "tools"))
+        self.source = self.file("tree/crates/scf/src/main.rt", b"one")
+        self.file("tree/crates.txt", b"scf:\n")
+        rt = self.file("bin/rt", RT)
+        os.chmod(rt, 0o755)
+        self.asked = os.path.join(self.folder, "asked")
+        self.env = {"PATH": f"{self.folder}/bin:/usr/bin:/bin", "ASKED": self.asked}
+
+    def launch(self, *words, path=None, **more):
+        return self.run_words([path or os.path.join(self.tree, "scf"), *words], env={**self.env, **more})
+
+    def builds(self):
+        if not os.path.exists(self.asked):
+            return 0
+        with open(self.asked, encoding="utf-8") as file:
+            return len(file.read().splitlines())
+
+    def write(self, text, age=0):
+        with open(self.source, "w", encoding="utf-8") as file:
+            file.write(text)
+        os.utime(self.source, (time.time() - age,) * 2)
+
+
+class Launcher(Tree):
+    """./scf."""
+
+    def test_it_builds_once(self):
+        status, out, err = self.launch("a", "b c")
+        self.assertEqual((status, out), (0, "one a b c\n"))
+        self.assertIn("proving and building", err)
+        self.assertEqual(self.launch("x"), (0, "one x\n", ""))
+        self.assertEqual(self.builds(), 1)
+
+    def test_every_change_of_a_source_is_noticed(self):
+        self.launch()
+        for at, change in enumerate((lambda: self.write("two"), lambda: self.write("six", age=10**6),
+                                     lambda: self.file("tree/crates/low/specs/A.antt", b""),
+                                     lambda: self.file("tree/crates/low/proofs/A.antt", b"x"),
+                                     lambda: self.file("tree/crates.txt", b"scf: low\n"),
+                                     lambda: os.rename(os.path.join(self.tree, "crates/low/specs/A.antt"),
+                                                       os.path.join(self.tree, "crates/low/specs/B.antt")),
+                                     lambda: os.remove(os.path.join(self.tree, "crates/low/specs/B.antt")))):
+            change()
+            self.launch()
+            self.assertEqual(self.builds(), at + 2)
+        self.assertEqual(self.launch(), (0, "six\n", ""))
+        self.file("tree/README.md", b"x")
+        self.assertEqual(self.launch("y"), (0, "six y\n", ""))
+
+    def test_another_program_is_noticed(self):
+        self.launch()
+        program = os.path.join(self.tree, "crates/scf/out/scf")
+        with open(program, "w", encoding="utf-8") as file:
+            file.write("#!/bin/sh\necho another\n")
+        self.assertEqual(self.launch()[1], "one\n")
+        os.remove(program)
+        self.assertEqual(self.launch()[1], "one\n")
+
+    def test_a_source_that_changes_while_it_is_built(self):
+        def change():
+            time.sleep(0.5)
+            self.write("two")
+
+        changer = threading.Thread(target=change)
+        changer.start()
+        status, out, err = self.launch(SLOW="1")
+        changer.join()
+        self.assertEqual((status, out), (0, "two\n"))
+        self.assertIn("a source changed meanwhile", err)
+        self.assertEqual(self.builds(), 2)
+
+    def test_a_failed_build_vouches_for_nothing(self):
+        self.launch()
+        self.write("two")
+        status, out, err = self.launch(FAILS="1")
+        self.assertEqual((status, out), (125, ""))
+        self.assertIn("the program was not built", err)
+        self.assertEqual(self.launch()[1], "two\n")
+
+    def test_a_failed_build_beside_a_running_one(self):
+        """The first builds the old source; it changes; the second fails; the next mustn't take what the first built."""
+        first = subprocess.Popen([os.path.join(self.tree, "scf")], env={**self.env, "SLOW": "1"},
+                                 stdout=subprocess.PIPE, stderr=subprocess.PIPE)
+        time.sleep(0.4)
+        self.write("two")
+        self.launch(FAILS="1")
+        first.communicate()
+        self.assertEqual(self.launch()[1], "two\n")
+
+    def test_two_runs_at_once(self):
+        runs = [subprocess.Popen([os.path.join(self.tree, "scf"), str(at)], env={**self.env, "SLOW": "0.5"},
+                                 stdout=subprocess.PIPE, stderr=subprocess.PIPE)
+                for at in range(4)]
+        said = [run.communicate() for run in runs]
+        self.assertEqual([out for out, _ in said], [b"one %d\n" % at for at in range(4)])
+        self.assertEqual(sorted(err.count(b"\n") for _, err in said), [0, 0, 0, 1])
+        self.assertEqual(self.builds(), 1)
+        self.assertEqual(sorted(os.listdir(os.path.join(self.tree, "crates/scf/out"))),
+                         ["scf", "scf.built", "scf.lock"])
+
+    def test_its_folder_through_links_and_cdpath(self):
+        self.launch()
+        links = os.path.join(self.folder, "links")
+        os.makedirs(os.path.join(links, "scf"))
+        os.symlink("../../tree/scf", os.path.join(links, "scf", "far"))
+        os.symlink("scf/far", os.path.join(links, "near"))
+        os.symlink(os.path.join(links, "near"), os.path.join(self.folder, "bin", "whole"))
+        for path in (os.path.join(links, "near"), os.path.join(self.folder, "bin", "whole"),
+                     os.path.join(links, "scf", "far")):
+            self.assertEqual(self.launch("z", path=path), (0, "one z\n", ""))
+        elsewhere = os.path.join(self.folder, "elsewhere", "tree")
+        os.makedirs(elsewhere)
+        done = self.run_words(["sh", "-c", "cd .. && CDPATH=$PWD/elsewhere:/ sh tree/scf z"], env=self.env, cwd=links)
+        self.assertEqual(done, (0, "one z\n", ""))
+        done = self.run_words(["whole", "z"], env=self.env)
+        self.assertEqual(done, (0, "one z\n", ""))
+
+    def test_status_125(self):
+        status, out, err = self.run_words([os.path.join(self.tree, "scf")], env={"PATH": "/usr/bin:/bin"})
+        self.assertEqual((status, out, err), (125, "", "scf: the kit's command rt isn't on the path\n"))
+        shutil.rmtree(os.path.join(self.tree, "crates/scf/out"))
+        self.file("tree/crates/scf/out", b"")
+        status, out, err = self.launch()
+        self.assertEqual((status, out), (125, ""))
+        self.assertIn("can't be written", err)
+
+
+class Gate(Tree):
+    """./test: the counts of `rt ci`, of the tools' tests and of the refusals, in one last line."""
+
+    def gate(self, ci, tests=None, makes="one", refusals=None, **more):
+        for name in ("scf", "scf_refusals"):
+            os.makedirs(os.path.join(self.tree, "crates", name, "out"), exist_ok=True)
+        self.file("tree/tools/tests/__main__.py", tests or "print('3 passed, 0 failed')\n")
+        self.file("tree/tools/refusals", refusals or "print('4 passed, 0 failed')\n")
+        made = self.file("made", f"#!/bin/sh\necho {makes}\n")
+        os.chmod(made, 0o755)
+        status, out, err = self.run_words([os.path.join(self.tree, "test")],
+                                          env={**self.env, "CI": ci, "MAKES": made, **more})
+        return status, out.splitlines(), err
+
+    def test_all_are_counted(self):
+        status, lines, _ = self.gate("proved\n7 passed, 0 failed")
+        self.assertEqual((status, lines), (0, ["proved", "7 passed, 0 failed", "3 passed, 0 failed",
+                                               "4 passed, 0 failed", "14 passed, 0 failed"]))
+
+    def test_the_program_of_the_gate_is_taken(self):
+        self.gate("7 passed, 0 failed", makes="of the gate")
+        self.assertEqual(self.launch(), (0, "of the gate\n", ""))
+
+    def test_failures_are_counted(self):
+        status, lines, _ = self.gate("5 passed, 2 failed", CI_STATUS="1")
+        self.assertEqual((status, lines[-1]), (1, "5 passed, 3 failed"))
+        self.assertIn("test: the tools aren't tested, since the programs weren't built", lines)
+        status, lines, _ = self.gate("7 passed, 0 failed", "import sys\nprint('1 passed, 2 failed')\nsys.exit(1)\n")
+        self.assertEqual((status, lines[-1]), (1, "12 passed, 2 failed"))
+        refusals = "import sys\nprint('1 passed, 2 failed')\nsys.exit(1)\n"
+        status, lines, _ = self.gate("7 passed, 0 failed", refusals=refusals)
+        self.assertEqual((status, lines[-1]), (1, "11 passed, 2 failed"))
+
+    def test_a_status_without_a_count_fails(self):
+        for ci, told, last in (("7 passed, 0 failed", {"CI_STATUS": "3"}, "7 passed, 2 failed"),
+                               ("nothing", {}, "7 passed, 1 failed"), ("", {"CI_STATUS": "2"}, "0 passed, 2 failed")):
+            status, lines, _ = self.gate(ci, **told)
+            self.assertEqual((status, lines[-1]), (1, last))
+        status, lines, _ = self.gate("7 passed, 0 failed", "import sys\nsys.exit(1)\n")
+        self.assertEqual((status, lines[-1]), (1, "11 passed, 1 failed"))
+        self.assertEqual(self.gate("0 passed, 0 failed", "print('1 passed, 0 failed')\n", makes="x")[0], 0)
+
+    def test_output_comes_as_it_is_printed(self):
+        with open(os.path.join(self.folder, "bin", "rt"), "w", encoding="utf-8") as file:
+            file.write("#!/usr/bin/env python3\nimport time\nprint('early')\ntime.sleep(3)\n"
+                       "print('1 passed, 0 failed')\n")
+        begun = time.monotonic()
+        with subprocess.Popen([os.path.join(self.tree, "test")], env=self.env, stdout=subprocess.PIPE,
+                              stderr=subprocess.DEVNULL) as gate:
+            self.assertEqual(gate.stdout.readline(), b"early\n")
+            self.assertLess(time.monotonic() - begun, 2.5)
+            gate.communicate()

@@ -1,0 +1,112 @@
+"""tools/list."""
+import re
+
+from common import ALLOW, EPERM, I386, KILL_PROCESS, SCF, X86_64, Case, filter_of, insn, jeq, jge, load, ret
+
+GATE = load(4) + jeq(X86_64, 1, 0) + ret(KILL_PROCESS) + load(0) + jge(0x40000000, 0, 1) + ret(EPERM) + jeq(231, 0,
+    1) + ret(ALLOW) + ret(0x00050026)
+EVERY_CODE = (0x20, 0x80, 0x81, 0x00, 0x01, 0x60, 0x61, 0x02, 0x03, 0x04, 0x0C, 0x14, 0x1C, 0x24, 0x2C, 0x34, 0x3C,
+              0x44, 0x4C, 0x54, 0x5C,
+              0x64, 0x6C, 0x74, 0x7C, 0xA4, 0xAC, 0x84, 0x05, 0x15, 0x1D, 0x25, 0x2D, 0x35, 0x3D, 0x45, 0x4D, 0x06,
+              0x16, 0x07, 0x87)
+
+
+class List(Case):
+    def listed(self, data):
+        status, out, err = self.run_tool("list", self.file("f.bpf", data))
+        self.assertEqual((status, err), (0, ""))
+        return out.split("\n")[:-1]
+
+    def meanings(self, data):
+        return [line.partition("  // ")[2] for line in self.listed(data)]
+
+    def test_usage(self):
+        self.says_usage("list")
+
+    def test_a_listing(self):
+        self.assertEqual(self.listed(GATE), [
+            "0  ld [4]                 // the architecture",
+            "1  jeq #0xc000003e, 1, 0  // x86-64: to 3, else 2",
+            "2  ret #0x80000000        // KILL_PROCESS",
+            "3  ld [0]                 // the call's number",
+            "4  jge #0x40000000, 0, 1  // x32: to 5, else 6",
+            "5  ret #0x50001           // ERRNO 1",
+            "6  jeq #0xe7, 0, 1        // exit_group: to 7, else 8",
+            "7  ret #0x7fff0000        // ALLOW",
+            "8  ret #0x50026           // ERRNO 38",
+        ])
+
+    def test_it_is_the_listing_of_dis_with_more_around_it(self):
+        odd = b"".join(insn(code, k, jt, jf) for code in (*EVERY_CODE, 0x94, 0xFFFF) for k in (0, 4, 0xFFFFFFFF)
+                       for jt in (0, 3) for jf in (0, 255))
+        for data in (GATE, filter_of(range(200)), odd):
+            plain = self.run_words([SCF, "dis"], data)[1].split("\n")[:-1]
+            listed = self.listed(data)
+            self.assertEqual([re.sub(r" *//.*", "", re.sub(r"^ *[0-9]+  ", "", line)) for line in listed], plain)
+            self.assertEqual([int(line.split()[0]) for line in listed], list(range(len(plain))))
+
+    def test_targets_are_absolute(self):
+        data = insn(0x05, 2) + insn(0x05, 0) + ret(0) + jeq(1, 0, 1) + ret(0) + insn(0x4D, 0, 200, 0) + ret(0)
+        self.assertEqual(self.meanings(data), ["to 3", "to 2", "KILL_THREAD", "to 4, else 5", "KILL_THREAD",
+                                               "to 206, which is outside, else 6", "KILL_THREAD"])
+        self.assertEqual(self.meanings(insn(0x05, 0xFFFFFFFF)), ["to 4294967296, which is outside"])
+
+    def test_calls_are_named_where_the_number_is_tested(self):
+        tests = (jeq(0, 0, 0), insn(0x25, 1, 0, 0), jge(2, 0, 0), insn(0x45, 3, 0, 0), jeq(99999, 0, 0),
+                 jeq(0x40000007, 0, 0), jeq(0xFFFFFFFF, 0, 0),
+                 insn(0x45, 0x40000000, 0, 0), insn(0x1D, 0, 0, 0))
+        names = ["read: ", "above write: ", "from open on: ", "", "number 99999: ", "number 0x40000000 + 7: ",
+                 "number 4294967295: ", "x32: ", ""]
+        for test, name in zip(tests, names):
+            self.assertEqual(self.meanings(load(0) + test + ret(0))[1], f"{name}to 2, else 2")
+
+    def test_only_where_a_holds_the_number_on_every_way(self):
+        """What A holds is lost by a load, a computation or txa, kept by stores and jumps, joined where ways meet."""
+        for between, name in ((load(16), ""), (insn(0x54, 7), ""), (insn(0x87, 0), ""), (insn(0x60, 0), ""),
+                              (insn(0x80, 0), ""), (insn(0x00, 5), ""),
+                              (insn(0x02, 0), "read: "), (insn(0x07, 0), "read: "), (insn(0x01, 5), "read: "),
+                              (insn(0x05, 0), "read: ")):
+            data = load(0) + between + jeq(0, 0, 0) + ret(0)
+            self.assertEqual(self.meanings(data)[2], f"{name}to 3, else 3", between)
+        joined = load(0) + jeq(5, 0, 1) + load(16) + jeq(0, 0, 0) + ret(0)
+        self.assertEqual(self.meanings(joined)[3], "to 4, else 4")
+        both = load(0) + jeq(5, 0, 1) + load(0) + jeq(0, 0, 0) + ret(0)
+        self.assertEqual(self.meanings(both)[3], "read: to 4, else 4")
+
+    def test_calls_of_another_architecture_are_not_named(self):
+        data = load(4) + jeq(I386, 0, 2) + load(0) + jeq(1, 0, 0) + load(0) + jeq(1, 0, 0) + ret(0)
+        self.assertEqual(self.meanings(data), ["the architecture", "i386: to 2, else 4", "the call's number",
+                                               "number 1 of i386: to 4, else 4", "the call's number",
+                                               "write: to 6, else 6", "KILL_THREAD"])
+
+    def test_words_of_a_call(self):
+        names = self.meanings(b"".join(load(4 * at) for at in range(16)) + load(64) + load(2))
+        self.assertEqual(names[:4], ["the call's number", "the architecture", "the instruction pointer, low half",
+                                     "the instruction pointer, high half"])
+        self.assertEqual(names[4:16], [f"argument {at}, {half} half" for at in range(6) for half in ("low", "high")])
+        self.assertEqual(names[16:], ["", ""])
+
+    def test_answers(self):
+        self.assertEqual(self.meanings(ret(0x00050000) + ret(0x7FFF0002) + ret(0x12340000)),
+                         ["ERRNO 0", "ALLOW 2", "no action of seccomp(2)"])
+
+    def test_pipes_and_a_table_of_ones_own(self):
+        table = self.file("t", b"look 231\n")
+        status, out, err = self.run_tool("list", "--table", table, "-", given=GATE)
+        self.assertEqual((status, err), (0, ""))
+        self.assertIn("// look: to 7, else 8\n", out)
+        self.assertEqual(self.run_tool("list", "-"), (0, "", ""))
+
+    def test_wrong_files(self):
+        status, out, _ = self.run_tool("list", "-", given=b"\6\0\0\0")
+        self.assertEqual(status, 3)
+        self.assertTrue(out.startswith("fault filter Truncated offset 0\n# "), out)
+        for words in (("none",), (self.folder,), ("--table", "none", "-")):
+            status, out, err = self.run_tool("list", *words)
+            self.assertEqual((status, out), (2, ""))
+            self.assertNotIn("Traceback", err)
+
+    def test_output_that_fails(self):
+        status, _, err = self.closed_output("list", "-", given=GATE)
+        self.assertEqual(status, 3)
+        self.assertIn("the output failed", err)

@@ -1,0 +1,207 @@
+"""tools/plain-profile: the rules of the engines, on profiles that use each form."""
+import json
+import os
+
+from common import SCF, TABLE, Case, part
+
+ALLOW, ERRNO = "SCMP_ACT_ALLOW", "SCMP_ACT_ERRNO"
+MAP = [{"architecture": "SCMP_ARCH_AARCH64", "subArchitectures": ["SCMP_ARCH_ARM"]},
+       {"architecture": "SCMP_ARCH_X86_64", "subArchitectures": ["SCMP_ARCH_X86", "SCMP_ARCH_X32"]}]
+DOCKER = {"CHOWN", "DAC_OVERRIDE", "FSETID", "FOWNER", "MKNOD", "NET_RAW", "SETGID", "SETUID", "SETFCAP", "SETPCAP",
+          "NET_BIND_SERVICE", "SYS_CHROOT",
+          "KILL", "AUDIT_WRITE"}
+PODMAN = DOCKER - {"MKNOD", "NET_RAW", "AUDIT_WRITE"}
+
+
+def entry(*names, **members):
+    return {"names": list(names), "action": ALLOW, **members}
+
+
+def engine(*entries, **members):
+    return {"defaultAction": ERRNO, **members, "syscalls": list(entries)}
+
+
+class PlainProfile(Case):
+    def plain(self, profile, *words):
+        status, out, err = self.run_tool("plain-profile", *words, "-", given=json.dumps(profile).encode())
+        self.assertEqual(status, 0, err)
+        return json.loads(out), err
+
+    def names(self, profile, *words):
+        return [name for it in self.plain(profile, *words)[0]["syscalls"] for name in it["names"]]
+
+    def refused(self, profile, says, *words):
+        given = profile if isinstance(profile, bytes) else json.dumps(profile).encode()
+        status, out, err = self.run_tool("plain-profile", *words, "-", given=given)
+        self.assertEqual((status, out), (1, ""))
+        self.assertTrue(err.endswith("\n") and err.count("plain-profile: ") >= 1 and says in err, err)
+        self.assertNotIn("Traceback", err)
+
+    def test_usage(self):
+        self.says_usage("plain-profile")
+        for words in (("--caps", "NO_SUCH", "-"), ("--kernel", "six", "-"), ("--arch", "arm", "-")):
+            status, out, err = self.run_tool("plain-profile", *words)
+            self.assertEqual((status, out), (2, ""))
+            self.assertIn("plain-profile: error", err)
+
+    def test_a_plain_profile_stays(self):
+        given = engine(entry("read", args=[{"index": 0, "value": 2**64 - 1, "valueTwo": 0, "op": "SCMP_CMP_EQ"}]),
+                       entry("write", action=ERRNO, errnoRet=0),
+                       defaultErrnoRet=38, architectures=["SCMP_ARCH_X86_64"], flags=["SECCOMP_FILTER_FLAG_LOG"],
+                       listenerPath="/run/x",
+                       listenerMetadata="m")
+        self.assertEqual(self.plain(given), (given, ""))
+
+    def test_what_says_nothing_goes(self):
+        given = engine(entry("read", comment="why", includes={}, excludes={"caps": [], "arches": None}, args=None,
+                             errnoRet=None), archMap=[], architectures=[])
+        self.assertEqual(self.plain(given), (engine(entry("read")), ""))
+
+    def test_includes_of_capabilities_want_all(self):
+        given = engine(entry("a", includes={"caps": ["CAP_SYS_ADMIN"]}),
+                       entry("b", includes={"caps": ["CAP_SYS_ADMIN", "CAP_SYSLOG"]}))
+        for caps, names in (("none", []), ("SYS_ADMIN", ["a"]), ("cap_sys_admin,SYSLOG", ["a", "b"]),
+                            ("docker,CAP_SYSLOG", []), ("CAP_SYSLOG", [])):
+            self.assertEqual(self.names(given, "--caps", caps), names, caps)
+        self.assertIn("entry 1 (b) left out: only with CAP_SYSLOG\n", self.plain(given, "--caps", "SYS_ADMIN")[1])
+
+    def test_excludes_of_capabilities_want_none(self):
+        given = engine(entry("a", excludes={"caps": ["CAP_SYS_ADMIN", "CAP_SYSLOG"]}))
+        for caps, names in (("none", ["a"]), ("SYS_ADMIN", []), ("SYSLOG", []), ("KILL", ["a"])):
+            self.assertEqual(self.names(given, "--caps", caps), names, caps)
+        self.assertIn("entry 0 (a) left out: only without CAP_SYSLOG\n", self.plain(given, "--caps", "SYSLOG")[1])
+
+    def test_the_sets_of_capabilities(self):
+        every = sorted(DOCKER | {"SYS_ADMIN", "SYS_PTRACE", "BPF", "DAC_READ_SEARCH"})
+        given = engine(*(entry(name, includes={"caps": [f"CAP_{name}"]}) for name in every))
+        for words, names in (((), DOCKER), (("--caps", "docker"), DOCKER), (("--caps", "podman"), PODMAN),
+                             (("--caps", "none"), set()), (("--caps", ""), set())):
+            self.assertEqual(set(self.names(given, *words)), names)
+
+    def test_architectures_of_an_entry(self):
+        given = engine(entry("a", includes={"arches": ["amd64", "x32"]}),
+                       entry("b", includes={"arches": ["x32", "x86"]}),
+                       entry("c", excludes={"arches": ["amd64"]}), entry("d", excludes={"arches": ["s390", "x86"]}),
+                       entry("e", includes={"arches": []}))
+        self.assertEqual(self.names(given), ["a", "d", "e"])
+        said = self.plain(given)[1]
+        self.assertIn("entry 1 (b) left out: only on x32, x86\n", said)
+        self.assertIn("entry 2 (c) left out: not on amd64\n", said)
+
+    def test_the_least_kernel(self):
+        given = engine(entry("a", includes={"minKernel": "4.8"}), entry("b", excludes={"minKernel": "4.8"}))
+        for kernel, names in (("4.7", ["b"]), ("4.8", ["a"]), ("4.10", ["a"]), ("5.0", ["a"]), ("3.19.8-x", ["b"]),
+                              ("6.1.0-18-amd64", ["a"])):
+            self.assertEqual(self.names(given, "--kernel", kernel), names, kernel)
+        release = [int(it) for it in os.uname().release.split("-")[0].split(".")[:2]]
+        self.assertEqual(self.names(given), ["a"] if release >= [4, 8] else ["b"])
+        self.assertIn("entry 0 (a) left out: only from kernel 4.8 on\n", self.plain(given, "--kernel", "4.7")[1])
+        self.assertIn("entry 1 (b) left out: only below kernel 4.8\n", self.plain(given, "--kernel", "4.8")[1])
+        for version in ("4", "4.8.1", "x.y", "0.0", 4.8, "4.-1"):
+            self.refused(engine(entry("a", includes={"minKernel": version})),
+                         "whole one" if version == 4.8 else "no version of a kernel")
+
+    def test_all_conditions_of_an_entry_hold_together(self):
+        both = {"includes": {"caps": ["CAP_SYSLOG"], "arches": ["amd64"], "minKernel": "4.8"},
+                "excludes": {"caps": ["CAP_BPF"]}}
+        given = engine(entry("a", **both))
+        self.assertEqual(self.names(given, "--caps", "SYSLOG", "--kernel", "5.0"), ["a"])
+        for words in (("--caps", "none", "--kernel", "5.0"), ("--caps", "SYSLOG,BPF", "--kernel", "5.0"),
+                      ("--caps", "SYSLOG", "--kernel", "4.0")):
+            self.assertEqual(self.names(given, *words), [])
+
+    def test_the_map_of_architectures(self):
+        given = engine(archMap=MAP)
+        self.assertEqual(self.plain(given)[0]["architectures"], ["SCMP_ARCH_X86_64", "SCMP_ARCH_X86", "SCMP_ARCH_X32"])
+        self.assertEqual(self.plain(given, "--arch", "all"), self.plain(given))
+        plain, said = self.plain(given, "--arch", "native")
+        self.assertEqual((plain["architectures"], said), (["SCMP_ARCH_X86_64"],
+            "plain-profile: architectures left out: SCMP_ARCH_X86, SCMP_ARCH_X32\n"))
+        self.assertNotIn("architectures", self.plain(engine(archMap=MAP[:1]))[0])
+        twice = [*MAP, {"architecture": "SCMP_ARCH_X86_64", "subArchitectures": []}]
+        self.assertEqual(self.plain(engine(archMap=twice))[0]["architectures"],
+                         ["SCMP_ARCH_X86_64", "SCMP_ARCH_X86", "SCMP_ARCH_X32"])
+        self.refused(engine(archMap=MAP, architectures=["SCMP_ARCH_X86_64"]), "both architectures and archMap")
+        self.refused(engine(architectures=["SCMP_ARCH_ARM"]), "isn't for SCMP_ARCH_X86_64", "--arch", "native")
+        self.assertEqual(self.plain(engine(architectures=["SCMP_ARCH_ARM"]))[0]["architectures"], ["SCMP_ARCH_ARM"])
+
+    def test_a_single_name(self):
+        self.assertEqual(self.plain(engine({"name": "read", "action": ALLOW}))[0], engine(entry("read")))
+        self.assertEqual(self.plain(engine({"name": "read", "names": [], "action": ALLOW}))[0], engine(entry("read")))
+        self.refused(engine({"name": "read", "names": ["write"], "action": ALLOW}), "both name and names")
+
+    def test_an_entry_that_names_nothing(self):
+        for nothing in ({"action": ALLOW}, {"names": [], "action": ALLOW},
+                        {"names": None, "name": "", "action": ALLOW}):
+            plain, said = self.plain(engine(entry("read"), nothing))
+            self.assertEqual((plain, said), (engine(entry("read")),
+                                             "plain-profile: entry 1 left out: it names no call\n"))
+
+    def test_errnos_by_name(self):
+        given = engine(entry("a", action=ERRNO, errno="ENOSYS"), entry("b", action=ERRNO, errno="EPERM", errnoRet=1),
+                       entry("c", action=ERRNO, errno="", errnoRet=22),
+                       entry("d", action=ERRNO, errno="95"), defaultErrno="ENOSYS", defaultErrnoRet=38)
+        plain, said = self.plain(given)
+        self.assertEqual([it["errnoRet"] for it in plain["syscalls"]], [38, 1, 22, 95])
+        self.assertEqual((plain["defaultErrnoRet"], said), (38, ""))
+        plain, said = self.plain(engine(entry("a", action=ERRNO, errno="EPERM", errnoRet=22)))
+        self.assertEqual((plain["syscalls"][0]["errnoRet"], said),
+                         (1, "plain-profile: entry 0: errno 'EPERM' is taken, and not errnoRet 22\n"))
+        self.refused(engine(entry("a", action=ERRNO, errno="ENOTHING")), "'ENOTHING' is no errno")
+        self.refused(engine(defaultErrno="-1"), "'-1' is no errno")
+
+    def test_a_whole_config(self):
+        self.assertEqual(self.plain({"ociVersion": "1.0.2", "linux": {"seccomp": engine(entry("read"))}})[0],
+                         engine(entry("read")))
+
+    def test_the_first_of_two_answers(self):
+        condition = [{"index": 0, "value": 1, "op": "SCMP_CMP_EQ"}]
+        given = engine(entry("a", "b"), entry("a", "c", action=ERRNO, errnoRet=1), entry("b"),
+                       entry("c", action=ERRNO, errnoRet=2), entry("a", action=ERRNO, args=condition))
+        self.assertEqual(self.plain(given)[0], given)
+        plain, said = self.plain(given, "--keep-first")
+        self.assertEqual(plain, engine(entry("a", "b"), entry("c", action=ERRNO, errnoRet=1), entry("b"),
+                                       entry("a", action=ERRNO, args=condition)))
+        self.assertEqual(said.count("left out of an entry"), 2)
+        self.assertIn("plain-profile: a left out of an entry with SCMP_ACT_ERRNO: an earlier entry has it with "
+                      "SCMP_ACT_ALLOW\n", said)
+
+    def test_what_the_engines_refuse(self):
+        for given, says in ((b"", "isn't JSON"), (b"{", "isn't JSON"), (b"\xff", "isn't UTF-8"),
+                            (b"[" * 100000, "nested too deep"), (b"[]", "the profile isn't an object"),
+                            (b'{"defaultAction":"A","defaultAction":"B"}', "'defaultAction' stands twice"),
+                            (b'{"syscalls":[]}', "no defaultAction"),
+                            (b'{"defaultAction":"A","x":NaN}', "isn't a whole one"),
+                            (engine(None), "entry 0 isn't an object"), (engine("x"), "entry 0 isn't an object"),
+                            ({"defaultAction": "A", "syscalls": {}}, "syscalls isn't a list"),
+                            (engine(entry("a", includes=[1])), "includes isn't an object"),
+                            (engine(entry("a", includes={"caps": "CAP_KILL"})), "caps isn't a list of texts"),
+                            (engine(entry("a", args={})), "args isn't a list"),
+                            (engine(entry("a", args=[1])), "args 0 isn't an object"),
+                            (engine(entry(1)), "names isn't a list of texts"),
+                            (engine(archMap={"a": 1}), "archMap isn't a list"),
+                            ({"linux": {}}, "linux.seccomp isn't an object"),
+                            ({"defaultAction": "A", "Syscalls": []}, "'Syscalls'"),
+                            (engine({"Names": ["a"], "action": ALLOW}), "'Names'"),
+                            (engine(entry("a", includes={"Caps": ["CAP_KILL"]})), "'Caps'"),
+                            (engine(entry("a", args=[{"Index": 0}])), "'Index'")):
+            self.refused(given, says)
+
+    def test_scf_loads_what_it_prints(self):
+        given = engine(entry("read", includes={"caps": ["CAP_KILL"]}), entry("write", excludes={"arches": ["amd64"]}),
+                       {"name": "close", "action": ALLOW}, archMap=MAP)
+        _, out, _ = self.run_tool("plain-profile", "-", given=json.dumps(given).encode())
+        with open(TABLE, "rb") as file:
+            bundle = part("profile", out.encode()) + part("table", file.read())
+        self.assertEqual(self.run_words([SCF, "compile"], bundle, stdout=-3)[0], 0)
+
+    def test_files(self):
+        path = self.file("p.json", json.dumps(engine(entry("read"))).encode())
+        self.assertEqual(self.run_tool("plain-profile", path)[0], 0)
+        for name in ("none", self.folder):
+            status, out, err = self.run_tool("plain-profile", name)
+            self.assertEqual((status, out), (2, ""))
+            self.assertIn("can't be read", err)
+        status, _, err = self.closed_output("plain-profile", path)
+        self.assertEqual(status, 3)
+        self.assertIn("the output failed", err)
