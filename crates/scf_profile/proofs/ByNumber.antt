@@ -1,12 +1,14 @@
--- A stable sort by the numbers of rules keeps the rules of each number.
-use Rattle.std.proofs.Common.{◌≡◌, ℕ, Bool, true, false, not, ◌&&◌, eqb, ltb, ◌<◌, length, List, [], ◌∷◌, refl, sym, ap}
-use Rattle.std.proofs.Common.{◌∙◌, cond, arith}
+-- A stable sort by the numbers of rules keeps the rules of each number, and they stand together.
+use Rattle.std.proofs.Common.{◌≡◌, ℕ, Bool, true, false, not, ◌&&◌, eqb, ltb, leb, ◌+◌, ◌<◌, ◌≤◌, length, List, [], ◌∷◌}
+use Rattle.std.proofs.Common.{◌++◌, All, get_or, take, drop, refl, sym, ap, ◌∙◌, cond, arith, append-nil}
+use Rattle.std.proofs.Math.ListN.{length-take, length-drop}
 use Rattle.std.specs.Borrow.{Bor}
-use Rattle.std.specs.List.{filter}
-use Rattle.std.specs.List.Sorted.{ties, IsStableByKey, IsNonDecreasingBy}
+use Rattle.std.specs.List.{filter, AllByRecursion}
+use Rattle.std.specs.List.Sorted.{ties, IsStableByKey, IsNonDecreasingBy, IsPartitionPoint}
 use Rattle.std.specs.Ordering.{is_lt, nat_cmp}
 use Rattle.std.specs.declared.cmp.Ordering.TheVariants.{Less, Equal, Greater}
-use Rattle.std.proofs.lemmas.List.{get_or-map, length-map}
+use Rattle.std.proofs.lemmas.List.{get_or-drop, get_or-map, get_or-take, length-map, take-append-drop}
+use Rattle.std.proofs.lemmas.List.Elements.{recursion_from_All}
 use Rattle.std.proofs.lemmas.Bool.Decides.{nat_tests}
 use Rattle.scf_profile.specs.declared.rule.Rule.{Rule}
 use Rattle.scf_profile.specs.RulesByNumber.{rules_of}
@@ -60,3 +62,72 @@ pub kept_by_sort : (number : ℕ) (old new : List (Bor Rule))
     → rules_of number (rules_at new) ≡ rules_of number (rules_at old)
 kept_by_sort number old new stable =
     filter_at number new ∙ ap rules_at (stable (some_rule number)) ∙ sym (filter_at number old)
+
+-- ---- the rules of a number stand together
+
+abbrev pub number_at : Bor Rule → ℕ
+number_at r = r.now.number
+
+-- references to rules in the order of their numbers, as the rules are
+pub references_rise : (refs : List (Bor Rule)) → IsNonDecreasingBy (λ (r : Rule). r.number) (rules_at refs)
+    → IsNonDecreasingBy number_at refs
+references_rise refs up i j d le lt =
+    let ends = up i j d.now le (omega (arith, length-map refs (λ (r : Bor Rule). r.now))) in
+    rw (
+      get_or-map (λ (r : Bor Rule). r.now) refs i d d.now (omega arith),
+      get_or-map (λ (r : Bor Rule). r.now) refs j d d.now lt,
+    ) at ends
+
+behind_others : (number : ℕ) (others rest : List (Bor Rule))
+    → AllByRecursion (λ r. eqb (number_at r) number ≡ false) others
+    → rules_of number (rules_at (others ++ rest)) ≡ rules_of number (rules_at rest)
+behind_others number [] rest h = refl
+behind_others number (r ∷ rs) rest h = rw h.0 (behind_others number rs rest h.1)
+
+before_others : (number : ℕ) (own rest : List (Bor Rule)) → AllByRecursion (λ r. eqb (number_at r) number ≡ true) own
+    → rules_of number (rules_at rest) ≡ []
+    → rules_of number (rules_at (own ++ rest)) ≡ rules_at own
+before_others number [] rest h none = none
+before_others number (r ∷ rs) rest h none =
+    rw h.0 (ap (λ (l : List Rule). r.now ∷ l) (before_others number rs rest h.1 none))
+
+-- `rest` are the rules from the first on whose number isn't lower, of which so many have no greater one
+module _ (number : ℕ) (refs rest : List (Bor Rule)) (first count : ℕ) (tail : rest ≡ drop first refs)
+    (lower : IsPartitionPoint (λ (r : Bor Rule). ltb (number_at r) number ≡ true)
+    (λ (r : Bor Rule). ltb (number_at r) number ≡ false) refs first)
+    (upper : IsPartitionPoint (λ (r : Bor Rule). leb (number_at r) number ≡ true)
+    (λ (r : Bor Rule). leb (number_at r) number ≡ false) rest count) (bound : first ≤ length refs) where
+  inside : first + length rest ≡ length refs
+  inside = rw tail (omega (arith, length-drop first refs))
+
+  all_lower : All (λ r. eqb (number_at r) number ≡ false) (take first refs)
+  all_lower k d lt =
+      let within : k < first = omega (arith, length-take first refs) in
+      let low = lower.0 k d (omega arith) within in
+      rw (get_or-take first refs k d within) (grind (arith, nat_tests, low))
+
+  all_own : All (λ r. eqb (number_at r) number ≡ true) (take count rest)
+  all_own k d lt =
+      let len = length-take count rest in
+      let within : k < count = omega (arith, len) in
+      let low = upper.0 k d (omega arith) within in
+      let high = lower.1 (first + k) d (omega arith) (omega (arith, len, inside)) in
+      let same = ap (λ (l : List (Bor Rule)). get_or l k d) tail ∙ get_or-drop first refs k d in
+      rw (get_or-take count rest k d within) (grind (arith, nat_tests, low, high, ap number_at same))
+
+  all_greater : All (λ r. eqb (number_at r) number ≡ false) (drop count rest)
+  all_greater k d lt =
+      let high = upper.1 (count + k) d (omega arith) (omega (arith, length-drop count rest)) in
+      rw (get_or-drop count rest k d) (grind (arith, nat_tests, high))
+
+  pub own_rules : rules_at (take count rest) ≡ rules_of number (rules_at refs)
+  own_rules =
+      let kept : List (Bor Rule) → List Rule = λ l. rules_of number (rules_at l) in
+      let behind = recursion_from_All (λ r. eqb (number_at r) number ≡ false) (drop count rest) all_greater in
+      let none = ap kept (sym (append-nil (drop count rest))) ∙ behind_others number (drop count rest) [] behind in
+      sym (ap kept (sym (take-append-drop first refs))
+      ∙ behind_others number (take first refs) (drop first refs)
+      (recursion_from_All (λ r. eqb (number_at r) number ≡ false) (take first refs) all_lower)
+      ∙ ap kept (sym tail ∙ sym (take-append-drop count rest))
+      ∙ before_others number (take count rest) (drop count rest)
+      (recursion_from_All (λ r. eqb (number_at r) number ≡ true) (take count rest) all_own) none)

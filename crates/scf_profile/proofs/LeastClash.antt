@@ -1,69 +1,133 @@
 -- The least of clashes, rule by rule.
-use Rattle.std.proofs.Common.{◌≡◌, ℕ, ◌+◌, ◌<◌, ◌⊎◌, List, length, get_or, take, Option, Some, None, All, refl, sym}
-use Rattle.std.proofs.Common.{subst, arith, inl, inr}
-use Rattle.std.specs.Prelude.{IfSome, IfNone}
-use Rattle.std.proofs.lemmas.List.Elements.{All-more, All-weaker, All-contains}
+use Rattle.std.proofs.Common.{◌≡◌, ℕ, ◌+◌, ◌<◌, ◌≤◌, ◌⊎◌, List, [], ◌∷◌, length, get_or, take, Option, Some, None, All}
+use Rattle.std.proofs.Common.{refl, sym, ap, ◌∙◌, subst, eqb, arith, inl, inr, Bor}
+use Rattle.std.specs.Prelude.{IfSome, IfNone, Contains}
+use Rattle.std.proofs.lemmas.Bool.{cases_eq, eq-eqb, ne_eqb}
+use Rattle.std.proofs.lemmas.Bool.Decides.{nat_tests}
+use Rattle.std.proofs.lemmas.List.{get_or-map, length-map, take_all}
+use Rattle.std.proofs.lemmas.List.Elements.{All-more, All-weaker, All-contains, All-contains_itself, All-cons}
+use Rattle.std.proofs.lemmas.List.Elements.{All-filter, All-head, All-same, All-tail}
 use Rattle.scf_profile.specs.declared.conflict.Clash.{Clash}
 use Rattle.scf_profile.specs.declared.rule.Rule.{Rule}
 use Rattle.scf_profile.specs.internal.Clashes.{IsAtMost, IsBoundedBy, IsClash, IsClashAmong}
+use Rattle.scf_profile.specs.ByNumber.{rules_at}
 use Rattle.scf_profile.specs.Loading.{EntriesConflict, IsLeastConflict}
+use Rattle.scf_profile.specs.Rule.{Conflicts, IsRule}
+use Rattle.scf_profile.specs.RulesByNumber.{rules_of}
 use Rattle.scf_profile.proofs.Answering.{is_among}
 
-module _ (rules : List Rule) (later : Rule) (known least more : Option Clash) (i : ℕ) (rule : Rule)
-    (lt : i < length rules) (is : rule ≡ get_or rules i rule) where
-  -- one more rule
-  pub one_more : IfSome least (λ c. (known ≡ Some c) ⊎ IsClashAmong rules later c) → (clash : Option Clash)
-      → IfSome clash (λ c. IsClash rule later c) → (more ≡ least) ⊎ (more ≡ clash)
-      → IfSome more (λ c. (known ≡ Some c) ⊎ IsClashAmong rules later c)
-  one_more had clash found (inl e) =
-      subst (λ (o : Option Clash). IfSome o (λ c. (known ≡ Some c) ⊎ IsClashAmong rules later c)) (sym e) had
-  one_more had None found (inr e) =
-      subst (λ (o : Option Clash). IfSome o (λ c. (known ≡ Some c) ⊎ IsClashAmong rules later c)) (sym e) tt
-  one_more had (Some c) found (inr e) =
-      subst (λ (o : Option Clash). IfSome o (λ c. (known ≡ Some c) ⊎ IsClashAmong rules later c)) (sym e)
-      (inr (record { rule = rule; has_rule = is_among rules i rule lt is; clash = found }))
+-- one more rule is tested with a later one
+module _ (refs : List (Bor Rule)) (i : ℕ) (rule : Bor Rule) (lt : i < length refs)
+    (is : rule ≡ get_or refs i rule) where
+  inside : i < length (rules_at refs)
+  inside = omega (arith, length-map refs (λ (r : Bor Rule). r.now))
 
-  pub bounds_more : ((c : Clash) → All (λ r. IsClash r later c → IsBoundedBy least c) (take i rules))
-      → ((c : Clash) → IsBoundedBy least c → IsBoundedBy more c)
-      → ((c : Clash) → IsClash rule later c → IsBoundedBy more c)
-      → (c : Clash) → All (λ r. IsClash r later c → IsBoundedBy more c) (take (i + 1) rules)
-  bounds_more so_far keeps here c =
-      All-more (λ r. IsClash r later c → IsBoundedBy more c) rules i rule lt
-      (All-weaker (λ r. IsClash r later c → IsBoundedBy least c) (λ r. IsClash r later c → IsBoundedBy more c)
-      (λ r h k. keeps c (h k)) (take i rules) (so_far c))
-      (λ k. here c (subst (λ (r : Rule). IsClash r later c) (sym is) k))
+  rule_is : rule.now ≡ get_or (rules_at refs) i rule.now
+  rule_is = ap (λ (r : Bor Rule). r.now) is ∙ sym (get_or-map (λ (r : Bor Rule). r.now) refs i rule rule.now lt)
 
-  -- one more later rule, which is this one
+  pub is_rule : All IsRule (rules_at refs) → IsRule rule.now
+  is_rule all = subst IsRule (sym rule_is) (all i rule.now inside)
+
+  module _ (later : Rule) (known least more : Option Clash) where
+    pub one_more : IfSome least (λ c. (known ≡ Some c) ⊎ IsClashAmong (rules_at refs) later c)
+        → (clash : Option Clash) → IfSome clash (λ c. IsClash rule.now later c) → (more ≡ least) ⊎ (more ≡ clash)
+        → IfSome more (λ c. (known ≡ Some c) ⊎ IsClashAmong (rules_at refs) later c)
+    one_more had clash found (inl e) =
+        subst (λ (o : Option Clash). IfSome o (λ c. (known ≡ Some c) ⊎ IsClashAmong (rules_at refs) later c)) (sym e)
+        had
+    one_more had None found (inr e) =
+        subst (λ (o : Option Clash). IfSome o (λ c. (known ≡ Some c) ⊎ IsClashAmong (rules_at refs) later c)) (sym e)
+        tt
+    one_more had (Some c) found (inr e) =
+        subst (λ (o : Option Clash). IfSome o (λ c. (known ≡ Some c) ⊎ IsClashAmong (rules_at refs) later c)) (sym e)
+        (inr (record {
+          rule = rule.now;
+          has_rule = is_among (rules_at refs) i rule.now inside rule_is;
+          clash = found;
+        }))
+
+    pub bounds_more : ((c : Clash) → All (λ r. IsClash r later c → IsBoundedBy least c) (take i (rules_at refs)))
+        → ((c : Clash) → IsBoundedBy least c → IsBoundedBy more c)
+        → ((c : Clash) → IsClash rule.now later c → IsBoundedBy more c)
+        → (c : Clash) → All (λ r. IsClash r later c → IsBoundedBy more c) (take (i + 1) (rules_at refs))
+    bounds_more so_far keeps here c =
+        All-more (λ r. IsClash r later c → IsBoundedBy more c) (rules_at refs) i rule.now inside
+        (All-weaker (λ r. IsClash r later c → IsBoundedBy least c) (λ r. IsClash r later c → IsBoundedBy more c)
+        (λ r h k. keeps c (h k)) (take i (rules_at refs)) (so_far c))
+        (λ k. here c (subst (λ (r : Rule). IsClash r later c) (sym rule_is) k))
+
+pub bounds_all : (refs : List (Bor Rule)) (later : Rule) (least : Option Clash) (i : ℕ)
+    → ((c : Clash) → All (λ r. IsClash r later c → IsBoundedBy least c) (take i (rules_at refs))) → length refs ≤ i
+    → (c : Clash) → All (λ r. IsClash r later c → IsBoundedBy least c) (rules_at refs)
+bounds_all refs later least i so_far end c =
+    All-same (λ r. IsClash r later c → IsBoundedBy least c) (rules_at refs) (take i (rules_at refs))
+    (sym (take_all i (rules_at refs) (omega (arith, length-map refs (λ (r : Bor Rule). r.now))))) (so_far c)
+
+same_number : (r s : Rule) → Conflicts r s → r.number ≡ s.number
+same_number r s conflict =
+    grind (arith, nat_tests, conflict.meets_first, conflict.meets_second)
+
+-- a rule of another number has no clash with the later one
+all_bounded : (rules : List Rule) (later : Rule) (least : Option Clash) (c : Clash)
+    → All (λ r. IsClash r later c → IsBoundedBy least c) (rules_of later.number rules)
+    → All (λ r. IsClash r later c → IsBoundedBy least c) rules
+all_bounded [] later least c h = h
+all_bounded (r ∷ rs) later least c h =
+    let P : Rule → Type 0 = λ r. IsClash r later c → IsBoundedBy least c in
+    elim (cases_eq r.number later.number) [
+      | inl same ↦
+          let own = rw (eq-eqb r.number later.number same) at h in
+          All-cons P r rs (All-head P r (rules_of later.number rs) own)
+          (all_bounded rs later least c (All-tail P r (rules_of later.number rs) own))
+      | inr apart ↦
+          let others = rw (ne_eqb r.number later.number apart) at h in
+          All-cons P r rs (λ k. absurd (apart (same_number r later k.conflict)))
+          (all_bounded rs later least c others)
+    ]
+
+-- what holds of all rules holds of those of a number
+pub all_own : (P : Rule → Type 0) (rules own : List Rule) (number : ℕ) → own ≡ rules_of number rules → All P rules
+    → All P own
+all_own P rules own number is all =
+    All-same P own (rules_of number rules) is (All-filter (λ r. eqb r.number number) P rules all)
+
+-- one more later rule is tested with those of its number
+module _ (rules own : List Rule) (least more : Option Clash) (i : ℕ) (later : Rule) (lt : i < length rules)
+    (is : later ≡ get_or rules i later) (own_is : own ≡ rules_of later.number rules) where
   pub later_more : ((c : Clash) → All (λ l. All (λ r. IsClash r l c → IsBoundedBy least c) rules) (take i rules))
       → ((c : Clash) → IsBoundedBy least c → IsBoundedBy more c)
-      → ((c : Clash) → All (λ r. IsClash r rule c → IsBoundedBy more c) rules)
+      → ((c : Clash) → All (λ r. IsClash r later c → IsBoundedBy more c) own)
       → (c : Clash) → All (λ l. All (λ r. IsClash r l c → IsBoundedBy more c) rules) (take (i + 1) rules)
   later_more so_far keeps here c =
-      All-more (λ l. All (λ r. IsClash r l c → IsBoundedBy more c) rules) rules i rule lt
+      All-more (λ l. All (λ r. IsClash r l c → IsBoundedBy more c) rules) rules i later lt
       (All-weaker (λ l. All (λ r. IsClash r l c → IsBoundedBy least c) rules)
       (λ l. All (λ r. IsClash r l c → IsBoundedBy more c) rules)
       (λ l h. All-weaker (λ r. IsClash r l c → IsBoundedBy least c) (λ r. IsClash r l c → IsBoundedBy more c)
       (λ r g k. keeps c (g k)) rules h) (take i rules) (so_far c))
-      (subst (λ (l : Rule). All (λ r. IsClash r l c → IsBoundedBy more c) rules) is (here c))
+      (subst (λ (l : Rule). All (λ r. IsClash r l c → IsBoundedBy more c) rules) is
+      (all_bounded rules later more c
+      (All-same (λ r. IsClash r later c → IsBoundedBy more c) (rules_of later.number rules) own (sym own_is) (here c))))
 
   pub conflict_more : IfSome least (λ c. EntriesConflict rules c.first c.second c.number)
-      → IfSome more (λ c. (least ≡ Some c) ⊎ IsClashAmong rules rule c)
+      → IfSome more (λ c. (least ≡ Some c) ⊎ IsClashAmong own later c)
       → IfSome more (λ c. EntriesConflict rules c.first c.second c.number)
   conflict_more had found = conflict_of more had found where
     conflict_of : (o : Option Clash) → IfSome least (λ c. EntriesConflict rules c.first c.second c.number)
-        → IfSome o (λ c. (least ≡ Some c) ⊎ IsClashAmong rules rule c)
+        → IfSome o (λ c. (least ≡ Some c) ⊎ IsClashAmong own later c)
         → IfSome o (λ c. EntriesConflict rules c.first c.second c.number)
     conflict_of None had found = tt
     conflict_of (Some c) had (inl e) = rw e at had
     conflict_of (Some c) had (inr among) = record {
       rule = among.rule;
-      later = rule;
-      has_rule = among.has_rule;
-      has_later = is_among rules i rule lt is;
+      later = later;
+      has_rule =
+          All-contains (Contains rules) own among.rule
+          (all_own (Contains rules) rules own later.number own_is (All-contains_itself rules)) among.has_rule;
+      has_later = is_among rules i later lt is;
       entry = among.clash.first;
       later_entry = among.clash.second;
       order =
-          let lt' : among.rule.entry < rule.entry = among.clash.order in
+          let lt' : among.rule.entry < later.entry = among.clash.order in
           let e = among.clash.first in let f = among.clash.second in omega arith;
       rule_number = among.clash.number;
       conflict = among.clash.conflict;

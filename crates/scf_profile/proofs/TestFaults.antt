@@ -266,7 +266,7 @@ pub refuses_of_conflict : (text : List ℕ) (table : Names) (d : Data) (loaded :
 refuses_of_conflict text table d loaded is_text stated (faults.Conflict number first second) k =
     record { value = d; is_text = is_text; but_for_conflicts = loaded; stated = stated; least = k }
 refuses_of_conflict text table d loaded is_text stated faults.Json k = absurd k
-refuses_of_conflict text table d loaded is_text stated faults.Memory k = absurd k
+refuses_of_conflict text table d loaded is_text stated faults.Memory k = tt
 refuses_of_conflict text table d loaded is_text stated (faults.Missing entry) k = absurd k
 refuses_of_conflict text table d loaded is_text stated (faults.Kind entry) k = absurd k
 refuses_of_conflict text table d loaded is_text stated (faults.Action entry) k = absurd k

@@ -1,13 +1,17 @@
-//! Conflicts among rules: the least one, among all pairs.
+//! Conflicts among rules: the least one, among all pairs of one number.
 
-ghost use Rattle.std.specs.Prelude.{◌≡◌, ◌⊎◌, ℕ, IfSome, IfNone, All, Some};
+ghost use Rattle.std.specs.Prelude.{◌≡◌, ◌⊎◌, ℕ, IfOk, IfSome, IfNone, All, Some};
 ghost use Rattle.std.specs.Bool.{MatchBool};
+ghost use Rattle.scf_profile.specs.ByNumber.{rules_at};
 ghost use Rattle.scf_profile.specs.declared.conflict.Clash.{Clash};
 ghost use Rattle.scf_profile.specs.internal.Clashes.{IsBoundedBy, IsClash, IsClashAmong};
 ghost use Rattle.scf_profile.specs.Loading.{IsLeastConflict, EntriesConflict};
 ghost use Rattle.scf_profile.specs.Rule.{IsRule};
 
+use crate::by_number::{rules_by_number, rules_of_number};
 use crate::rule::Rule;
+use scf_insn::Memory;
+use std::alloc::Global;
 
 /// Two entries that conflict, and the number of the calls on which they do.
 #[derive(Clone, Copy)]
@@ -67,12 +71,12 @@ fn clash_of(rule: &Rule, later: &Rule) -> Option<Clash>
 }
 
 /// The least of a clash and those of the rules with a later one.
-fn least_with(rules: &[Rule], later: &Rule, known: Option<Clash>) -> Option<Clash>
-    requires rules { All IsRule rules.now }
+fn least_with(rules: &[&Rule], later: &Rule, known: Option<Clash>) -> Option<Clash>
+    requires rules { All IsRule (rules_at rules.now) }
     requires later { IsRule later.now }
-    ensures one { IfSome result (λ c. (known ≡ Some c) ⊎ IsClashAmong rules.now later.now c) }
+    ensures one { IfSome result (λ c. (known ≡ Some c) ⊎ IsClashAmong (rules_at rules.now) later.now c) }
     ensures bounds { (c : Clash)
-        → All (λ rule. IsClash rule later.now c → IsBoundedBy result c) rules.now }
+        → All (λ rule. IsClash rule later.now c → IsBoundedBy result c) (rules_at rules.now) }
     ensures keeps { (c : Clash) → IsBoundedBy known c → IsBoundedBy result c }
 {
     let mut least = known;
@@ -82,16 +86,17 @@ fn least_with(rules: &[Rule], later: &Rule, known: Option<Clash>) -> Option<Clas
     least
 }
 
-/// The least conflict among rules.
-pub(crate) fn least_conflict(rules: &[Rule]) -> Option<Clash>
+/// The least conflict among rules, each of which is tested with those of its number. `Err`: a growth was refused.
+pub(crate) fn least_conflict(alloc: Global, rules: &[Rule]) -> Result<Option<Clash>, Memory>
     requires { All IsRule rules.now }
-    ensures least { IfSome result (λ c. IsLeastConflict rules.now c.number c.first c.second) }
-    ensures none { IfNone result
-        ((first second number : ℕ) → EntriesConflict rules.now first second number → ⊥) }
+    ensures least { IfOk result (λ least. IfSome least (λ c. IsLeastConflict rules.now c.number c.first c.second)) }
+    ensures none { IfOk result (λ least. IfNone least
+        ((first second number : ℕ) → EntriesConflict rules.now first second number → ⊥)) }
 {
+    let sorted = rules_by_number(alloc, rules)?;
     let mut least = None;
     for later in rules {
-        least = least_with(rules, later, least);
+        least = least_with(rules_of_number(&sorted, later.number), later, least);
     }
-    least
+    Ok(least)
 }

@@ -78,14 +78,14 @@ fn read_object(alloc: Global, table: &CallTable, object: &Value) -> Result<State
     })
 }
 
-/// The profile, unless two of its rules conflict.
-fn without_conflict(stated: Stated) -> Result<Loaded, LoadFault>
+/// The profile, unless two of its rules conflict or memory is refused.
+fn without_conflict(alloc: Global, stated: Stated) -> Result<Loaded, LoadFault>
     requires rules { AreStatedRules stated.rules.items }
     requires default_answer { stated.default_answer.0 < 2 ^ 32 }
     ensures ok { IfOk result (IsLoaded stated) }
     ensures err { IfErr result (NamesLeastConflict stated.rules.items) }
 {
-    match least_conflict(&stated.rules) {
+    match least_conflict(alloc, &stated.rules)? {
         Some(clash) => Err(LoadFault::Conflict {
             number: clash.number,
             first: clash.first,
@@ -107,5 +107,5 @@ pub fn load(alloc: Global, text: &[u8], table: &CallTable) -> Result<Loaded, Loa
 {
     let value = parse(alloc, text)?;
     let object = find_seccomp(&value)?;
-    without_conflict(read_object(alloc, table, object)?)
+    without_conflict(alloc, read_object(alloc, table, object)?)
 }
