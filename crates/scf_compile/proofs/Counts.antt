@@ -1,15 +1,16 @@
 -- The distinct numbers of a profile's rules: how many there are, and the bounds that their search keeps.
-use Rattle.std.proofs.Common.{◌≡◌, ℕ, zero, suc, ◌+◌, ◌*◌, ◌/◌, ◌^◌, ◌<◌, ◌≤◌, true, false, eqb, Bor, List, [], ◌∷◌}
-use Rattle.std.proofs.Common.{◌++◌, length, get_or, map, All, refl, sym, ap, ◌∙◌, subst, arith, inl, inr, length-append}
+use Rattle.std.proofs.Common.{◌≡◌, ℕ, zero, suc, ◌+◌, ◌*◌, ◌/◌, ◌^◌, ◌<◌, ◌≤◌, Bool, true, false, not, cond, eqb, ltb, Bor, List, [], ◌∷◌}
+use Rattle.std.proofs.Common.{length, get_or, map, All, refl, sym, ap, ◌∙◌, subst, arith, inl, inr, length-append}
 use Rattle.std.proofs.Common.{sum_by}
 use Rattle.std.specs.Prelude.{Contains}
 use Rattle.std.specs.List.{AllByRecursion, IsDistinct, list_any}
 use Rattle.std.specs.List.Sorted.{IsPermutation}
 use Rattle.std.proofs.lemmas.Bool.{cases_eq, eq-eqb, ne_eqb}
+use Rattle.std.proofs.lemmas.Bool.Decides.{nat_tests}
 use Rattle.std.proofs.lemmas.List.{length-map}
 use Rattle.std.proofs.lemmas.List.Elements.{All-contains, Contains-append_left, Contains-append_right}
 use Rattle.std.proofs.lemmas.List.Elements.{All-from_recursion, recursion_from_All}
-use Rattle.std.proofs.lemmas.List.Sorted.{IsPermutation-sym, All-permutation, Contains-permutation}
+use Rattle.std.proofs.lemmas.List.Sorted.{IsPermutation-sym, All-permutation, Contains-permutation, length_permutation}
 use Rattle.std.proofs.lemmas.List.Sorted.{sum_by-IsPermutation}
 use Rattle.std.proofs.lemmas.List.Sums.{sum_by-cons, sum_by-le}
 use Rattle.std.proofs.lemmas.Cmp.{nat_eq_equiv}
@@ -29,11 +30,11 @@ use Rattle.scf_compile.specs.declared.numbers.NumberRules.{NumberRules}
 use Rattle.scf_compile.specs.declared.stretches.Stretch.{Stretch}
 use Rattle.scf_compile.specs.SearchBound.{digits_within, binary_digits, greatest, search_bound_of}
 use Rattle.scf_compile.specs.SizeBound.{rule_bound, size_bound_of}
-use Rattle.scf_compile.specs.internal.Numbers.{rules_in, RiseBetween}
+use Rattle.scf_compile.specs.internal.Numbers.{rules_in, IsCut, RiseBetween}
 use Rattle.scf_compile.specs.internal.Stretches.{AreAlike, StandsFor, AreStretchesOf, first_of, rules_along, rules_on}
 use Rattle.scf_compile.specs.internal.Stretches.{stretch_bound}
-use Rattle.scf_compile.specs.internal.Plans.{Plan, rules_code, IsFilterOf, arch_code, range_code}
-use Rattle.scf_compile.proofs.Plans.{Serves, Applies, rules_for, plan_steps}
+use Rattle.scf_compile.specs.internal.Plans.{Plan, Applies, rules_code, IsFilterOf, in_range}
+use Rattle.scf_compile.proofs.Plans.{Serves, rules_for, plan_steps}
 use Rattle.scf_compile.proofs.Searches.{search_applies, search_serves, search_steps, search_at_most}
 use Rattle.scf_compile.proofs.Sizes.{few_conditions, number_there, rules_at_most}
 
@@ -119,21 +120,27 @@ rule_bound_at_most rs all k d lt = omega (arith, few_conditions (get_or rs k d).
 pub record CanBeSearched (ss : List Stretch) : Type 0 where
   pub some : 0 < length ss
   pub rules : AllByRecursion IsRule (rules_along ss)
-  pub small : sum_by stretch_bound ss < 2 ^ 32
+  pub small : sum_by stretch_bound ss < 2 ^ 31
 
-pub can_be_searched : (default : Answer) (ss : List Stretch) (ns : List NumberRules) → AreStretchesOf default ss ns
-    → RiseBetween 0 x32_syscall_bit ns → All IsRule (rules_in ns) → length (rules_in ns) ≤ 4096 → CanBeSearched ss
-can_be_searched default ss ns laid rising all few = record {
-  some = laid.some;
-  rules = of_contained IsRule (rules_along ss) (rules_in ns) (recursion_from_All IsRule (rules_in ns) all) laid.own;
-  small =
-      let small = laid.small in
-      omega (
-        arith,
-        no_more_numbers ns 0 x32_syscall_bit rising,
-        sum_by-le rule_bound 50 (rules_in ns) (rule_bound_at_most (rules_in ns) all),
-      );
-}
+pub can_be_searched : (default : Answer) (rules sorted : List Rule) (ns : List NumberRules) (ss : List Stretch)
+    → IsPermutation rules sorted → IsCut ns sorted → AreStretchesOf default ss ns → All IsRule rules
+    → length rules ≤ 4096 → CanBeSearched ss
+can_be_searched default rules sorted ns ss same cut laid fine few =
+    let each = subst (λ (rs : List Rule). All IsRule rs) (sym cut.whole) (All-permutation IsRule rules sorted same fine)
+    in
+    record {
+      some = laid.some;
+      rules = of_contained IsRule (rules_along ss) (rules_in ns) (recursion_from_All IsRule (rules_in ns) each) laid.own;
+      small =
+          let small = laid.small in
+          omega (
+            arith,
+            length_permutation rules sorted same,
+            ap (λ (rs : List Rule). length rs) cut.whole,
+            no_more_numbers ns 0 x32_syscall_bit cut.rising,
+            sum_by-le rule_bound 50 (rules_in ns) (rule_bound_at_most (rules_in ns) each),
+          );
+    }
 
 -- ---- the sums of one number's rules
 
@@ -180,7 +187,7 @@ module _ (p : Profile) (code : List Insn) (filter : IsFilterOf p.default_answer 
   numbers = filter.numbers
 
   abbrev plan : Plan
-  plan = filter.search.plan
+  plan = filter.plan
 
   in_order : IsPermutation p.rules (rules_in numbers)
   in_order = subst (λ (rs : List Rule). IsPermutation p.rules rs) (sym filter.are.cut.whole) filter.are.by_number.same
@@ -205,13 +212,13 @@ module _ (p : Profile) (code : List Insn) (filter : IsFilterOf p.default_answer 
   applies P all =
       let sorted = recursion_from_All P (rules_in numbers)
       (All-permutation P p.rules (rules_in numbers) in_order (All-from_recursion P p.rules all)) in
-      search_applies P plan filter.stretches filter.search.finds
+      search_applies P plan filter.stretches filter.finds
       (of_contained P (rules_along filter.stretches) (rules_in numbers) sorted filter.laid.own)
 
   pub serves : Serves p.default_answer plan p.rules
   serves nr lt =
       let first : first_of filter.stretches ≤ nr = (let whole = filter.laid.whole in omega arith) in
-      let on = search_serves plan filter.stretches 0 x32_syscall_bit nr filter.search.finds filter.laid.rising first in
+      let on = search_serves plan filter.stretches 0 x32_syscall_bit nr filter.finds filter.laid.rising first in
       let own = ap (rules_of nr) filter.are.cut.whole ∙ filter.are.by_number.kept nr in
       subst (λ (rs : List Rule). StandsFor p.default_answer rs (rules_of nr p.rules)) (sym on)
       (subst (λ (rs : List Rule). StandsFor p.default_answer (rules_on [] filter.stretches nr) rs) own
@@ -222,9 +229,9 @@ module _ (p : Profile) (code : List Insn) (filter : IsFilterOf p.default_answer 
       filter.laid.few in doubled_more count (binary_digits count) (length filter.stretches) (below_digits count)
       (omega (arith, few_numbers))
 
-  pub quick : (nr : ℕ) → nr < x32_syscall_bit → 5 + plan_steps p.default_answer plan nr ≤ search_bound_of p
-  quick nr lt =
-      let few = filter.search.few_tests (suc (binary_digits count)) few_halves in
+  search_is_quick : (nr : ℕ) → nr < x32_syscall_bit → 5 + plan_steps p.default_answer plan nr ≤ search_bound_of p
+  search_is_quick nr lt =
+      let few = filter.few_tests (suc (binary_digits count)) few_halves in
       omega (
         arith,
         search_steps p.default_answer plan (suc (binary_digits count)) nr few,
@@ -232,17 +239,21 @@ module _ (p : Profile) (code : List Insn) (filter : IsFilterOf p.default_answer 
         sum_at_most p.rules nr,
       )
 
+  pub quick : (nr : ℕ) → 3 + plan_steps p.default_answer (in_range plan) nr ≤ search_bound_of p
+  quick nr = by_range (not (ltb nr x32_syscall_bit)) refl
+    where
+      by_range : (x32 : Bool) → not (ltb nr x32_syscall_bit) ≡ x32
+          → 3 + (2 + cond x32 1 (plan_steps p.default_answer plan nr)) ≤ search_bound_of p
+      by_range true high = omega arith
+      by_range false low = omega (arith, search_is_quick nr (grind (arith, nat_tests, low)))
+
   pub within_size : length code ≤ size_bound_of p
   within_size =
       let small = filter.laid.small in
-      let searched = filter.searched in
+      let few = filter.filter.few in
       omega (
         arith,
-        ap (λ (l : List Insn). length l) filter.is,
-        length-append arch_code (range_code ++ searched),
-        length-append range_code searched,
-        ap (λ (l : List Insn). length l) filter.search.is,
-        search_at_most p.default_answer plan filter.stretches filter.search.finds,
+        search_at_most p.default_answer plan filter.stretches filter.finds,
         few_numbers,
         sum_by-IsPermutation rule_bound p.rules (rules_in numbers) in_order,
       )

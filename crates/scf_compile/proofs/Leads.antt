@@ -1,10 +1,11 @@
 -- What a piece of code does from its head, and what pieces do one after another.
 use Rattle.std.proofs.Common.{◌≡◌, ℕ, zero, suc, ◌≤◌, Option, None, Some, ◌+◌, ◌*◌, ◌/◌, ◌%◌, ◌<◌, Bool, true, false}
-use Rattle.std.proofs.Common.{cond, ltb, List, [], ◌∷◌, ◌++◌, length, map, refl, ap, subst, arith, length-append}
-use Rattle.std.proofs.Common.{append-nil, bit_and}
+use Rattle.std.proofs.Common.{cond, ltb, List, [], ◌∷◌, ◌++◌, length, map, take, drop, refl, ap, ◌∙◌, subst, arith, length-append}
+use Rattle.std.proofs.Common.{append-nil, append_assoc, bit_and}
 use Rattle.std.specs.Prelude.{slice_get, slice_index}
 use Rattle.std.proofs.lemmas.Bool.{lt-ltb}
-use Rattle.std.proofs.lemmas.List.{length-map}
+use Rattle.std.proofs.lemmas.List.{length-map, take-append-drop}
+use Rattle.std.proofs.Math.ListN.{length-take}
 use Rattle.scf_insn.specs.declared.insn.Insn.{Insn}
 use Rattle.scf_insn.specs.declared.operation.Test.{Test}
 use Rattle.scf_insn.specs.declared.operation.Test.TheVariants.{Equal, Greater, GreaterOrEqual, CommonBit}
@@ -181,6 +182,22 @@ module _ (words : List ℕ) where
         run_behind (front ++ back) words (at 0 a) (at (length front) b) first.0 answer e.0 first.1 rest,
         omega arith,
       )
+
+  -- A piece that passes some of what stands behind it, from where on the code ends.
+  pub ends_within_past : (front behind : List Insn) (a count b answer m n : ℕ) → count ≤ length behind
+      → LeadsWithin front words a (length front + count) b m → EndsWithin (drop count behind) words b answer n
+      → EndsWithin (front ++ behind) words a answer (m + n)
+  ends_within_past front behind a count b answer m n le l e =
+      let passed = take count behind in
+      let rest = drop count behind in
+      let whole : (front ++ passed) ++ rest ≡ front ++ behind =
+      append_assoc front passed rest ∙ ap (λ (l : List Insn). front ++ l) (take-append-drop count behind) in
+      let len : length front + count ≡ length (front ++ passed) =
+      omega (arith, length-append front passed, length-take count behind) in
+      subst (λ (code : List Insn). EndsWithin code words a answer (m + n)) whole
+      (ends_within_then (front ++ passed) rest a b answer m n
+      (within_to (front ++ passed) a (length front + count) (length (front ++ passed)) b m len
+      (within_front front passed a (length front + count) b m l)) e)
 
   pub comes_front : (front back : List Insn) (a p : ℕ) → Comes front words a p → Comes (front ++ back) words a p
   comes_front front back a p c = (c.0, leads_front front back a p c.0 c.1)

@@ -9,6 +9,8 @@ pub mod Counts
 pub mod Cutting
 pub mod OwnRules
 pub mod Laying
+pub mod Puts
+pub mod Filters
 pub mod Searches
 pub mod Sizes
 pub mod Plain

@@ -1,7 +1,7 @@
 -- The filter of a plain profile is a plain program.
-use Rattle.std.proofs.Common.{ℕ, ◌+◌, Bool, true, false, cond, leb, List, [], ◌∷◌, ◌++◌, length, refl, bit_and}
+use Rattle.std.proofs.Common.{ℕ, ◌+◌, Bool, true, false, cond, List, [], ◌∷◌, ◌++◌, length, refl, bit_and}
 use Rattle.std.specs.List.{AllByRecursion}
-use Rattle.std.proofs.lemmas.List.Elements.{All-from_recursion, recursion_from_All}
+use Rattle.std.proofs.lemmas.List.Elements.{recursion_from_All}
 use Rattle.scf_insn.specs.declared.insn.Insn.{Insn}
 use Rattle.scf_insn.specs.declared.answer.Answer.{Answer}
 use Rattle.scf_insn.specs.declared.operation.Operand.TheVariants.{Constant}
@@ -10,11 +10,10 @@ use Rattle.scf_insn.specs.declared.operation.Test.TheVariants.{Equal as SameWord
 use Rattle.scf_insn.specs.declared.operation.Test.TheVariants.{GreaterOrEqual as AtLeast, CommonBit}
 use Rattle.scf_insn.specs.declared.operation.Operation.TheVariants.{LoadWord, Jump, JumpIf, ReturnConstant}
 use Rattle.scf_insn.specs.Codes.{operation_of, code_table}
-use Rattle.scf_insn.specs.Kernel.{audit_arch_x86_64, x32_syscall_bit, seccomp_ret_kill_process}
 use Rattle.scf_insn.specs.SimpleMask.{IsSimpleMask}
 use Rattle.scf_insn.specs.Masks.{mask_kind}
 use Rattle.scf_insn.specs.Words.{low, high}
-use Rattle.scf_machine.specs.Plain.{IsPlainInsn, IsPlainProgram}
+use Rattle.scf_machine.specs.Plain.{IsPlainInsn}
 use Rattle.scf_profile.specs.declared.condition.Operator.{Operator}
 use Rattle.scf_profile.specs.declared.condition.Operator.TheVariants.{NotEqual, Less, LessOrEqual, Equal}
 use Rattle.scf_profile.specs.declared.condition.Operator.TheVariants.{GreaterOrEqual, Greater, MaskedEqual}
@@ -26,26 +25,24 @@ use Rattle.scf_insn.specs.declared.mask.MaskKind.TheVariants.{Empty, OneBit, Ful
 use Rattle.scf_compile.specs.internal.Insns.{load_word, jump_if, jump_over, return_with}
 use Rattle.scf_compile.specs.internal.Blocks.{word_code, equal_code, order_code, half_code_of, half_code}
 use Rattle.scf_compile.specs.internal.Blocks.{masked_code, operator_code, condition_code, argument_word}
-use Rattle.scf_compile.specs.internal.Plans.{conditions_code, rule_code, behind_rule, rules_code, Plan, Apply, Branch}
-use Rattle.scf_compile.specs.internal.Plans.{branch_code, plan_code, arch_code, range_code, filter_code}
+use Rattle.scf_compile.specs.internal.Plans.{conditions_code, rule_code, behind_rule, rules_code}
 use Rattle.scf_insn.proofs.Masks.{IsOfKind, is_of_kind}
-use Rattle.scf_compile.proofs.Plans.{Applies}
 
-abbrev ArePlain : List Insn → Type 0
+abbrev pub ArePlain : List Insn → Type 0
 ArePlain insns = AllByRecursion IsPlainInsn insns
 
-plain-append : (xs ys : List Insn) → ArePlain xs → ArePlain ys → ArePlain (xs ++ ys)
+pub plain-append : (xs ys : List Insn) → ArePlain xs → ArePlain ys → ArePlain (xs ++ ys)
 plain-append [] ys h k = k
 plain-append (x ∷ xs) ys h k = (h.0, plain-append xs ys h.1 k)
 
 -- ---- each instruction
 
-load_is_plain : (word : ℕ) → IsPlainInsn (load_word word)
+pub load_is_plain : (word : ℕ) → IsPlainInsn (load_word word)
 unfolding operation_of code_table
 load_is_plain word = record { operation = LoadWord; known = refl; plain = tt }
 
 -- the tests that a plain program makes
-abbrev IsPlainTest : Test → ℕ → Type 0
+abbrev pub IsPlainTest : Test → ℕ → Type 0
 IsPlainTest CommonBit constant = IsSimpleMask constant
 IsPlainTest _ constant = Unit {0}
 
@@ -67,7 +64,7 @@ return_is_plain answer = record { operation = ReturnConstant; known = refl; plai
 
 -- ---- the code of a condition
 
-word_plain : (test : Test) (word constant hit miss : ℕ) → IsPlainTest test constant
+pub word_plain : (test : Test) (word constant hit miss : ℕ) → IsPlainTest test constant
     → ArePlain (word_code test word constant hit miss)
 word_plain test word constant hit miss h = (load_is_plain word, (jump_is_plain test constant hit miss h, tt))
 
@@ -134,7 +131,7 @@ conditions_plain (c ∷ cs) plain =
     plain-append (condition_code c out) (conditions_code cs)
     (condition_plain c.op c.index c.value c.value_two out plain.0) (conditions_plain cs plain.1)
 
-rules_plain : (default : Answer) (rs : List Rule) → AllByRecursion IsPlainRule rs → ArePlain (rules_code default rs)
+pub rules_plain : (default : Answer) (rs : List Rule) → AllByRecursion IsPlainRule rs → ArePlain (rules_code default rs)
 rules_plain default [] plain = (return_is_plain default.0, tt)
 rules_plain default (r ∷ rs) plain =
     plain-append (rule_code r) (behind_rule r.conditions (rules_code default rs))
@@ -147,28 +144,8 @@ rules_plain default (r ∷ rs) plain =
     behind [] others plain_others = tt
     behind (c ∷ cs) others plain_others = plain_others
 
-branch_plain : (near : Bool) (number count : ℕ)
-    → ArePlain (cond near (jump_if AtLeast number 0 count ∷ []) (jump_if AtLeast number 1 0 ∷ jump_over count ∷ []))
-branch_plain true number count = (jump_is_plain AtLeast number 0 count tt, tt)
-branch_plain false number count = (jump_is_plain AtLeast number 1 0 tt, (pass_is_plain count, tt))
-
-plan_plain : (default : Answer) (plan : Plan) → Applies IsPlainRule plan → ArePlain (plan_code default plan)
-plan_plain default (Apply rules) plain = rules_plain default rules plain
-plan_plain default (Branch number hit miss) plain =
-    let h = plan_code default hit in
-    let m = plan_code default miss in
-    plain-append (branch_code number (length h)) (h ++ m) (branch_plain (leb (length h) 255) number (length h))
-    (plain-append h m (plan_plain default hit plain.0) (plan_plain default miss plain.1))
-
-pub filter_is_plain : (default : Answer) (plan : Plan) → Applies IsPlainRule plan
-    → IsPlainProgram (filter_code (plan_code default plan))
-filter_is_plain default plan plain =
-    let code = plan_code default plan in
-    All-from_recursion IsPlainInsn (filter_code code)
-    (plain-append arch_code (range_code ++ code)
-    (plain-append (word_code SameWord 1 audit_arch_x86_64 1 0) (return_with seccomp_ret_kill_process ∷ [])
-    (word_plain SameWord 1 audit_arch_x86_64 1 0 tt) (return_is_plain seccomp_ret_kill_process, tt))
-    (plain-append range_code code
-    (plain-append (word_code AtLeast 0 x32_syscall_bit 0 1) (return_with seccomp_ret_kill_process ∷ [])
-    (word_plain AtLeast 0 x32_syscall_bit 0 1 tt) (return_is_plain seccomp_ret_kill_process, tt))
-    (plan_plain default plan plain)))
+pub branch_plain : (near : Bool) (test : Test) (constant hit miss : ℕ) → IsPlainTest test constant
+    → ArePlain (cond near (jump_if test constant hit miss ∷ [])
+    (jump_if test constant (1 + hit) 0 ∷ jump_over miss ∷ []))
+branch_plain true test constant hit miss h = (jump_is_plain test constant hit miss h, tt)
+branch_plain false test constant hit miss h = (jump_is_plain test constant (1 + hit) 0 h, (pass_is_plain miss, tt))

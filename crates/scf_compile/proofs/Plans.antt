@@ -1,14 +1,16 @@
 -- A plan's code ends in the answer of the first of the rules that it applies whose conditions hold, within a few steps.
 use Rattle.std.proofs.Common.{◌≡◌, ℕ, ◌+◌, ◌<◌, ◌≤◌, ◌∙◌, Bool, true, false, not, cond, ltb, leb, ◌&&◌, List, [], ◌∷◌}
-use Rattle.std.proofs.Common.{◌++◌, length, refl, sym, ap, subst, arith, inl, inr, length-append, append_assoc}
-use Rattle.std.proofs.Common.{append-nil}
+use Rattle.std.proofs.Common.{◌++◌, drop, length, refl, sym, ap, subst, arith, inl, inr, length-append, append-nil}
+use Rattle.std.proofs.Math.ListN.{length-drop}
 use Rattle.std.specs.List.{AllByRecursion}
 use Rattle.scf_insn.specs.declared.insn.Insn.{Insn}
 use Rattle.scf_insn.specs.declared.answer.Answer.{Answer}
 use Rattle.scf_insn.specs.declared.record.CallRecord.{CallRecord}
+use Rattle.scf_insn.specs.declared.operation.Test.{Test}
 use Rattle.scf_insn.specs.declared.operation.Test.TheVariants.{GreaterOrEqual}
 use Rattle.scf_insn.specs.Kernel.{x32_syscall_bit}
 use Rattle.scf_insn.specs.Words.{words_of, argument, IsRecord}
+use Rattle.scf_machine.specs.Machine.{holds as test_holds}
 use Rattle.scf_profile.specs.declared.condition.Condition.{Condition}
 use Rattle.scf_profile.specs.declared.rule.Rule.{Rule}
 use Rattle.scf_profile.specs.Condition.{holds}
@@ -16,13 +18,13 @@ use Rattle.scf_profile.specs.Rule.{all_hold, IsCondition, IsRule}
 use Rattle.scf_profile.specs.RulesByNumber.{rules_of}
 use Rattle.scf_compile.specs.internal.Insns.{jump_if, jump_over, return_with}
 use Rattle.scf_compile.specs.internal.Blocks.{condition_code}
+use Rattle.scf_compile.specs.internal.Placing.{branch_code}
 use Rattle.scf_compile.specs.internal.Plans.{conditions_code, rule_code, behind_rule, rules_code, Plan, Apply, Branch}
-use Rattle.scf_compile.specs.internal.Plans.{branch_code, plan_code}
+use Rattle.scf_compile.specs.internal.Plans.{Applies, Heads}
 use Rattle.scf_compile.specs.internal.Stretches.{AreAlike, StandsFor}
-use Rattle.scf_compile.proofs.Leads.{Leads, Comes, Ends, LeadsWithin, EndsWithin, leads_within, ends_within, within_to}
-use Rattle.scf_compile.proofs.Leads.{within_front, ends_within_front, ends_within_then, leads_to, leads_front}
-use Rattle.scf_compile.proofs.Leads.{leads_then, comes_to, comes_front, ends_front, ends_after, both, jumps, passes}
-use Rattle.scf_compile.proofs.Leads.{answers}
+use Rattle.scf_compile.proofs.Leads.{Leads, Comes, Ends, EndsWithin, leads_within, ends_within, ends_within_front}
+use Rattle.scf_compile.proofs.Leads.{ends_within_past, leads_to, leads_front, leads_then, comes_to, comes_front}
+use Rattle.scf_compile.proofs.Leads.{ends_front, ends_after, both, jumps, passes, answers}
 use Rattle.scf_compile.proofs.Conditions.{condition_comes}
 
 -- the answer of the first of the rules whose conditions hold
@@ -73,11 +75,6 @@ plan_steps default (Apply rules) nr = length (rules_code default rules)
 plan_steps default (Branch number hit miss) nr =
     2 + cond (not (ltb nr number)) (plan_steps default hit nr) (plan_steps default miss nr)
 
--- What holds of each rule that a plan applies to some number or other.
-abbrev pub Applies : (Rule → Type 0) → Plan → Type 0
-Applies P (Apply rules) = AllByRecursion P rules
-Applies P (Branch number hit miss) = Applies P hit × Applies P miss
-
 pub applies_for : (P : Rule → Type 0) (plan : Plan) (nr : ℕ) → Applies P plan → AllByRecursion P (rules_for plan nr)
 applies_for P (Apply rules) nr all = all
 applies_for P (Branch number hit miss) nr all =
@@ -89,44 +86,50 @@ applies_for P (Branch number hit miss) nr all =
     by_side held failed true over under = over
     by_side held failed false over under = under
 
-pub branch_at_most : (near : Bool) (number count : ℕ)
-    → length (cond near (jump_if GreaterOrEqual number 0 count ∷ [])
-    (jump_if GreaterOrEqual number 1 0 ∷ jump_over count ∷ [])) ≤ 2
-branch_at_most true number count = omega arith
-branch_at_most false number count = omega arith
+pub branch_at_most : (near : Bool) (test : Test) (constant hit miss : ℕ)
+    → length (cond near (jump_if test constant hit miss ∷ [])
+    (jump_if test constant (1 + hit) 0 ∷ jump_over miss ∷ [])) ≤ 2
+branch_at_most true test constant hit miss = omega arith
+branch_at_most false test constant hit miss = omega arith
 
--- ---- each plan ends in an answer
+-- ---- each plan has instructions
 
-pub record EndsInAnswer (code : List Insn) : Type 0 where
-  pub front : List Insn
-  pub answer : ℕ
-  pub whole : code ≡ front ++ return_with answer ∷ []
+pub some_rules : (default : Answer) (rs : List Rule) → 0 < length (rules_code default rs)
+some_rules default [] = omega arith
+some_rules default (r ∷ rs) =
+    omega (
+      arith,
+      length-append (rule_code r) (behind_rule r.conditions (rules_code default rs)),
+      length-append (conditions_code r.conditions) (return_with r.answer.0 ∷ []),
+    )
 
-pub ends_behind : (front back : List Insn) → EndsInAnswer back → EndsInAnswer (front ++ back)
-ends_behind front back e = record {
-  front = front ++ e.front;
-  answer = e.answer;
-  whole = ap (λ (l : List Insn). front ++ l) e.whole ∙ sym (append_assoc front e.front (return_with e.answer ∷ []));
-}
+some_branch : (near : Bool) (test : Test) (constant hit miss : ℕ)
+    → 0 < length (cond near (jump_if test constant hit miss ∷ [])
+    (jump_if test constant (1 + hit) 0 ∷ jump_over miss ∷ []))
+some_branch true test constant hit miss = omega arith
+some_branch false test constant hit miss = omega arith
 
-rule_ends_in_answer : (r : Rule) → EndsInAnswer (rule_code r)
-rule_ends_in_answer r = record { front = conditions_code r.conditions; answer = r.answer.0; whole = refl }
+pub some_heads : (default : Answer) (plan : Plan) (code : List Insn) → Heads default plan code → 0 < length code
+some_heads default (Apply rules) code (behind, is) =
+    omega (
+      arith,
+      ap (λ (l : List Insn). length l) is,
+      length-append (rules_code default rules) behind,
+      some_rules default rules,
+    )
+some_heads default (Branch number hit miss) code (behind, to_hit, to_miss, is, on_hit, on_miss) =
+    omega (
+      arith,
+      ap (λ (l : List Insn). length l) is,
+      length-append (branch_code GreaterOrEqual number to_hit to_miss) behind,
+      some_branch (leb to_miss 255) GreaterOrEqual number to_hit to_miss,
+    )
 
-pub rules_end_in_answer : (default : Answer) (rs : List Rule) → EndsInAnswer (rules_code default rs)
-rules_end_in_answer default [] = record { front = []; answer = default.0; whole = refl }
-rules_end_in_answer default (r ∷ rs) = behind r.conditions (rules_code default rs) (rules_end_in_answer default rs)
-  where
-    behind : (cs : List Condition) (others : List Insn) → EndsInAnswer others
-        → EndsInAnswer (rule_code r ++ behind_rule cs others)
-    behind [] others end = subst EndsInAnswer (sym (append-nil (rule_code r))) (rule_ends_in_answer r)
-    behind (c ∷ cs) others end = ends_behind (rule_code r) others end
-
-pub plan_ends_in_answer : (default : Answer) (plan : Plan) → EndsInAnswer (plan_code default plan)
-plan_ends_in_answer default (Apply rules) = rules_end_in_answer default rules
-plan_ends_in_answer default (Branch number hit miss) =
-    let h = plan_code default hit in
-    let m = plan_code default miss in
-    ends_behind (branch_code number (length h)) (h ++ m) (ends_behind h m (plan_ends_in_answer default miss))
+-- what heads the code behind some instructions stands among what is behind
+pub inside : (default : Answer) (plan : Plan) (behind : List Insn) (count : ℕ)
+    → Heads default plan (drop count behind) → count < length behind
+inside default plan behind count heads =
+    omega (arith, some_heads default plan (drop count behind) heads, length-drop count behind)
 
 -- ---- the code of conditions, rules and plans
 
@@ -195,63 +198,67 @@ module _ (call : CallRecord) (fits : IsRecord call) where
       by_conditions (c ∷ cs) some others =
           rule_ends r (rules_code default rs) (first_answer call default rs) a fine.0 others
 
-  -- a branch goes on where the accumulator is at least its number, else passes as many instructions as it says
-  branch_leads : (number count a : ℕ) (met near : Bool) → not (ltb a number) ≡ met
-      → Leads (cond near (jump_if GreaterOrEqual number 0 count ∷ [])
-      (jump_if GreaterOrEqual number 1 0 ∷ jump_over count ∷ [])) (words_of call) a
-      (length (cond near (jump_if GreaterOrEqual number 0 count ∷ [])
-      (jump_if GreaterOrEqual number 1 0 ∷ jump_over count ∷ [])) + cond met 0 count) a
-  branch_leads number count a met true e = jumps (words_of call) GreaterOrEqual number 0 count a met e
-  branch_leads number count a true false e =
-      leads_front (words_of call) (jump_if GreaterOrEqual number 1 0 ∷ []) (jump_over count ∷ []) a 2 a
-      (jumps (words_of call) GreaterOrEqual number 1 0 a true e)
-  branch_leads number count a false false e =
-      leads_to (words_of call) (jump_if GreaterOrEqual number 1 0 ∷ jump_over count ∷ []) a (1 + (1 + count))
-      (2 + count) a (omega arith)
-      (leads_then (words_of call) (jump_if GreaterOrEqual number 1 0 ∷ []) (jump_over count ∷ []) a a (1 + count) a
-      (jumps (words_of call) GreaterOrEqual number 1 0 a false e) (passes (words_of call) count a))
+  -- a branch passes as many instructions as it says
+  branch_leads : (test : Test) (constant hit miss a : ℕ) (met near : Bool) → test_holds test a constant ≡ met
+      → Leads (cond near (jump_if test constant hit miss ∷ [])
+      (jump_if test constant (1 + hit) 0 ∷ jump_over miss ∷ [])) (words_of call) a
+      (length (cond near (jump_if test constant hit miss ∷ [])
+      (jump_if test constant (1 + hit) 0 ∷ jump_over miss ∷ [])) + cond met hit miss) a
+  branch_leads test constant hit miss a met true e = jumps (words_of call) test constant hit miss a met e
+  branch_leads test constant hit miss a true false e =
+      leads_to (words_of call) (jump_if test constant (1 + hit) 0 ∷ jump_over miss ∷ []) a (1 + (1 + hit)) (2 + hit) a
+      (omega arith)
+      (leads_front (words_of call) (jump_if test constant (1 + hit) 0 ∷ []) (jump_over miss ∷ []) a (1 + (1 + hit)) a
+      (jumps (words_of call) test constant (1 + hit) 0 a true e))
+  branch_leads test constant hit miss a false false e =
+      leads_to (words_of call) (jump_if test constant (1 + hit) 0 ∷ jump_over miss ∷ []) a (1 + (1 + miss))
+      (2 + miss) a (omega arith)
+      (leads_then (words_of call) (jump_if test constant (1 + hit) 0 ∷ []) (jump_over miss ∷ []) a a (1 + miss) a
+      (jumps (words_of call) test constant (1 + hit) 0 a false e) (passes (words_of call) miss a))
 
-  -- a branch to a place behind it, in two steps at most
-  branch_within : (number count a : ℕ)
-      → LeadsWithin (branch_code number count) (words_of call) a
-      (length (branch_code number count) + cond (not (ltb a number)) 0 count) a 2
-  branch_within number count a =
-      let code = branch_code number count in
-      let l = leads_within (words_of call) code a (length code + cond (not (ltb a number)) 0 count) a
-      (branch_leads number count a (not (ltb a number)) (leb count 255) refl) in
+  -- a branch and the code that it goes to, in two steps more at most
+  branch_ends : (test : Test) (constant to_hit to_miss a answer steps : ℕ) (behind : List Insn) (met : Bool)
+      → test_holds test a constant ≡ met → cond met to_hit to_miss ≤ length behind
+      → EndsWithin (drop (cond met to_hit to_miss) behind) (words_of call) a answer steps
+      → EndsWithin (branch_code test constant to_hit to_miss ++ behind) (words_of call) a answer (2 + steps)
+  branch_ends test constant to_hit to_miss a answer steps behind met e le rest =
+      let code = branch_code test constant to_hit to_miss in
+      let l = leads_within (words_of call) code a (length code + cond met to_hit to_miss) a
+      (branch_leads test constant to_hit to_miss a met (leb to_miss 255) e) in
       let few : length l.0 ≤ length code = l.2 in
-      (l.0, l.1, omega (arith, branch_at_most (leb count 255) number count))
+      ends_within_past (words_of call) code behind a (cond met to_hit to_miss) a answer 2 steps le
+      (l.0, l.1, omega (arith, branch_at_most (leb to_miss 255) test constant to_hit to_miss)) rest
 
-  -- a branch and its two sides, each of which ends in the answer of the rules that it applies
-  branch_ends : (default : Answer) (branch hit miss : List Insn) (held failed : List Rule) (a m n : ℕ) (met : Bool)
-      → LeadsWithin branch (words_of call) a (length branch + cond met 0 (length hit)) a 2
-      → (AllByRecursion IsRule held → EndsWithin hit (words_of call) a (first_answer call default held) m)
-      → (AllByRecursion IsRule failed → EndsWithin miss (words_of call) a (first_answer call default failed) n)
-      → AllByRecursion IsRule (cond met held failed)
-      → EndsWithin (branch ++ (hit ++ miss)) (words_of call) a (first_answer call default (cond met held failed))
-      (2 + cond met m n)
-  branch_ends default branch hit miss held failed a m n true l on_hit on_miss fine =
-      ends_within_then (words_of call) branch (hit ++ miss) a a (first_answer call default held) 2 m
-      (within_to (words_of call) branch a (length branch + 0) (length branch) a 2 (omega arith) l)
-      (ends_within_front (words_of call) hit miss a (first_answer call default held) m (on_hit fine))
-  branch_ends default branch hit miss held failed a m n false l on_hit on_miss fine =
-      let len : length branch + length hit ≡ length (branch ++ hit) = sym (length-append branch hit) in
-      let there = within_to (words_of call) (branch ++ hit) a (length branch + length hit)
-      (length (branch ++ hit)) a 2 len
-      (within_front (words_of call) branch hit a (length branch + length hit) a 2 l) in
-      subst (λ (code : List Insn). EndsWithin code (words_of call) a (first_answer call default failed) (2 + n))
-      (append_assoc branch hit miss)
-      (ends_within_then (words_of call) (branch ++ hit) miss a a (first_answer call default failed) 2 n there
-      (on_miss fine))
-
-  pub plan_ends : (default : Answer) (plan : Plan) (nr : ℕ) → AllByRecursion IsRule (rules_for plan nr)
-      → EndsWithin (plan_code default plan) (words_of call) nr (first_answer call default (rules_for plan nr))
-      (plan_steps default plan nr)
-  plan_ends default (Apply rules) nr fine =
-      ends_within (words_of call) (rules_code default rules) nr (first_answer call default rules)
-      (rules_end default rules nr fine)
-  plan_ends default (Branch number hit miss) nr fine =
-      let count = length (plan_code default hit) in
-      branch_ends default (branch_code number count) (plan_code default hit) (plan_code default miss) (rules_for hit nr)
-      (rules_for miss nr) nr (plan_steps default hit nr) (plan_steps default miss nr) (not (ltb nr number))
-      (branch_within number count nr) (λ f. plan_ends default hit nr f) (λ f. plan_ends default miss nr f) fine
+  pub plan_ends : (default : Answer) (plan : Plan) (code : List Insn) (nr : ℕ) → Heads default plan code
+      → AllByRecursion IsRule (rules_for plan nr)
+      → EndsWithin code (words_of call) nr (first_answer call default (rules_for plan nr)) (plan_steps default plan nr)
+  plan_ends default (Apply rules) code nr (behind, is) fine =
+      let own = rules_code default rules in
+      let answer = first_answer call default rules in
+      subst (λ (l : List Insn). EndsWithin l (words_of call) nr answer (length own)) (sym is)
+      (ends_within_front (words_of call) own behind nr answer (length own)
+      (ends_within (words_of call) own nr answer (rules_end default rules nr fine)))
+  plan_ends default (Branch number hit miss) code nr (behind, to_hit, to_miss, is, on_hit, on_miss) fine =
+      subst (λ (l : List Insn). EndsWithin l (words_of call) nr
+      (first_answer call default (rules_for (Branch number hit miss) nr))
+      (plan_steps default (Branch number hit miss) nr)) (sym is)
+      (by_side (not (ltb nr number)) refl (λ f. plan_ends default hit (drop to_hit behind) nr on_hit f)
+      (λ f. plan_ends default miss (drop to_miss behind) nr on_miss f) fine)
+    where
+      by_side : (met : Bool) → not (ltb nr number) ≡ met
+          → (AllByRecursion IsRule (rules_for hit nr) → EndsWithin (drop to_hit behind) (words_of call) nr
+          (first_answer call default (rules_for hit nr)) (plan_steps default hit nr))
+          → (AllByRecursion IsRule (rules_for miss nr) → EndsWithin (drop to_miss behind) (words_of call) nr
+          (first_answer call default (rules_for miss nr)) (plan_steps default miss nr))
+          → AllByRecursion IsRule (cond met (rules_for hit nr) (rules_for miss nr))
+          → EndsWithin (branch_code GreaterOrEqual number to_hit to_miss ++ behind) (words_of call) nr
+          (first_answer call default (cond met (rules_for hit nr) (rules_for miss nr)))
+          (2 + cond met (plan_steps default hit nr) (plan_steps default miss nr))
+      by_side true e over under each =
+          branch_ends GreaterOrEqual number to_hit to_miss nr (first_answer call default (rules_for hit nr))
+          (plan_steps default hit nr) behind true e (omega (arith, inside default hit behind to_hit on_hit))
+          (over each)
+      by_side false e over under each =
+          branch_ends GreaterOrEqual number to_hit to_miss nr (first_answer call default (rules_for miss nr))
+          (plan_steps default miss nr) behind false e (omega (arith, inside default miss behind to_miss on_miss))
+          (under each)

@@ -1,13 +1,15 @@
 -- A filter answers each call as its profile does.
-use Rattle.std.proofs.Common.{◌≡◌, ℕ, ◌+◌, ◌<◌, ◌≤◌, ◌⊎◌, Bool, true, false, not, cond, eqb, ltb, List, []}
-use Rattle.std.proofs.Common.{◌∷◌, ◌++◌, refl, sym, subst, arith, inl, inr}
+use Rattle.std.proofs.Common.{◌≡◌, ℕ, ◌+◌, ◌<◌, ◌≤◌, ◌⊎◌, Bool, true, false, not, cond, eqb, ltb, List, [], ◌∷◌, ◌++◌}
+use Rattle.std.proofs.Common.{drop, length, refl, sym, ap, subst, arith, inl, inr}
 use Rattle.std.specs.Prelude.{Contains}
+use Rattle.std.specs.List.{AllByRecursion}
+use Rattle.std.proofs.Math.ListN.{length-drop}
 use Rattle.std.proofs.lemmas.Bool.{and_left, and_right, and_from, eqb-true, eqb-false, eq-eqb, ne_eqb}
 use Rattle.std.proofs.lemmas.Bool.Decides.{nat_tests}
 use Rattle.scf_insn.specs.declared.insn.Insn.{Insn}
 use Rattle.scf_insn.specs.declared.answer.Answer.{Answer}
 use Rattle.scf_insn.specs.declared.record.CallRecord.{CallRecord}
-use Rattle.scf_insn.specs.declared.operation.Test.TheVariants.{Equal, GreaterOrEqual}
+use Rattle.scf_insn.specs.declared.operation.Test.TheVariants.{Equal}
 use Rattle.scf_insn.specs.Kernel.{audit_arch_x86_64, x32_syscall_bit, seccomp_ret_kill_process}
 use Rattle.scf_insn.specs.Words.{words_of, IsRecord}
 use Rattle.scf_machine.specs.Machine.{RunAnswers}
@@ -19,14 +21,13 @@ use Rattle.scf_profile.specs.ProfileAnswers.{ProfileAnswers, foreign, by_rule, b
 use Rattle.scf_profile.specs.RulesByNumber.{rules_of}
 use Rattle.scf_profile.specs.SameAnswers.{SameAnswers}
 use Rattle.scf_compile.specs.SearchBound.{AnswersWithin}
-use Rattle.scf_compile.specs.internal.Insns.{return_with}
+use Rattle.scf_compile.specs.internal.Insns.{load_word}
 use Rattle.scf_compile.specs.internal.Blocks.{word_code}
-use Rattle.scf_compile.specs.internal.Plans.{Plan, plan_code, arch_code, range_code, filter_code}
+use Rattle.scf_compile.specs.internal.Plans.{Plan, Apply, Applies, IsFilterCode, in_range, killing}
 use Rattle.scf_compile.proofs.Lists.{behind, cases_of}
-use Rattle.scf_compile.proofs.Leads.{LeadsWithin, EndsWithin, leads_within, ends_within, within_more, within_front}
-use Rattle.scf_compile.proofs.Leads.{ends_within_front, ends_within_then, answers}
+use Rattle.scf_compile.proofs.Leads.{EndsWithin, leads_within, within_more, ends_within_past, ends_within_then, loads}
 use Rattle.scf_compile.proofs.Conditions.{word_leads}
-use Rattle.scf_compile.proofs.Plans.{rules_for, Applies, applies_for, Serves, first_answer, same_answer, plan_steps}
+use Rattle.scf_compile.proofs.Plans.{rules_for, applies_for, inside, Serves, first_answer, same_answer, plan_steps}
 use Rattle.scf_compile.proofs.Plans.{plan_ends}
 
 -- ---- the rules of the call's number
@@ -87,120 +88,105 @@ record Answered (p : Profile) (code : List Insn) (most : ℕ) (call : CallRecord
   of_words : EndsWithin code (words_of call) 0 answer most
   of_profile : ProfileAnswers p call answer
 
-module _ (p : Profile) (plan : Plan) (most : ℕ) (fine : Applies IsRule plan)
-    (serves : Serves p.default_answer plan p.rules)
-    (quick : (nr : ℕ) → nr < x32_syscall_bit → 5 + plan_steps p.default_answer plan nr ≤ most) where
-  abbrev searched : List Insn
-  searched = plan_code p.default_answer plan
+pub killing_fits : IsRule killing
+killing_fits = record { number = omega arith; answer = omega arith; conditions = record { each = tt; distinct = tt } }
 
-  abbrev whole : List Insn
-  whole = filter_code searched
-
-  abbrev after_arch : List Insn
-  after_arch = range_code ++ searched
-
-  abbrev kill : List Insn
-  kill = return_with seccomp_ret_kill_process ∷ []
-
-  five : 5 ≤ most
-  five = omega (arith, quick 0 (omega arith))
+module _ (p : Profile) (plan : Plan) (code : List Insn) (most : ℕ) (filter : IsFilterCode p.default_answer plan code)
+    (fine : Applies IsRule plan) (serves : Serves p.default_answer plan p.rules)
+    (quick : (nr : ℕ) → 3 + plan_steps p.default_answer (in_range plan) nr ≤ most) where
+  abbrev default : Answer
+  default = p.default_answer
 
   module _ (call : CallRecord) (fits : IsRecord call) where
-    answered : (answer steps : ℕ) → steps ≤ most → EndsWithin whole (words_of call) 0 answer steps
-        → ProfileAnswers p call answer → Answered p whole most call
-    answered answer steps le run given =
+    -- what the test of the architecture goes to
+    abbrev beyond : Bool → List Insn
+    beyond own = drop (cond own filter.to_native filter.to_foreign) filter.behind
+
+    behind_arch : (own : Bool) (answer steps : ℕ) → eqb call.arch audit_arch_x86_64 ≡ own
+        → cond own filter.to_native filter.to_foreign ≤ length filter.behind → 2 + steps ≤ most
+        → EndsWithin (beyond own) (words_of call) call.arch answer steps → EndsWithin code (words_of call) 0 answer most
+    behind_arch own answer steps e le few rest =
+        let test = word_code Equal 1 audit_arch_x86_64 filter.to_native filter.to_foreign in
+        subst (λ (l : List Insn). EndsWithin l (words_of call) 0 answer most) (sym filter.whole)
+        (within_more (words_of call) (test ++ filter.behind) 0 answer (2 + steps) most few
+        (ends_within_past (words_of call) test filter.behind 0 (cond own filter.to_native filter.to_foreign) call.arch
+        answer 2 steps le
+        (leads_within (words_of call) test 0 (2 + cond own filter.to_native filter.to_foreign) call.arch
+        (word_leads (words_of call) Equal 1 audit_arch_x86_64 filter.to_native filter.to_foreign call.arch 0 own
+        (omega arith) refl e)) rest))
+
+    foreign_answered : eqb call.arch audit_arch_x86_64 ≡ false → Answered p code most call
+    foreign_answered other = record {
+      answer = seccomp_ret_kill_process;
+      of_words =
+          behind_arch false seccomp_ret_kill_process 1 other
+          (omega (arith, inside default (Apply (killing ∷ [])) filter.behind filter.to_foreign filter.foreign))
+          (omega (arith, quick 0))
+          (plan_ends call fits default (Apply (killing ∷ [])) (beyond false) call.arch filter.foreign
+          (killing_fits, tt));
+      of_profile = foreign (λ native. eqb-false _ _ other native.arch);
+    }
+
+    -- behind the test of the architecture the number is loaded
+    native_ends : eqb call.arch audit_arch_x86_64 ≡ true → AllByRecursion IsRule (rules_for (in_range plan) call.nr)
+        → EndsWithin code (words_of call) 0 (first_answer call default (rules_for (in_range plan) call.nr)) most
+    native_ends own each =
+        let answer = first_answer call default (rules_for (in_range plan) call.nr) in
+        let steps = plan_steps default (in_range plan) call.nr in
+        behind_arch true answer (1 + steps) own
+        (omega (arith, length-drop filter.to_native filter.behind, ap (λ (l : List Insn). length l) filter.native))
+        (omega (arith, quick call.nr))
+        (subst (λ (l : List Insn). EndsWithin l (words_of call) call.arch answer (1 + steps)) (sym filter.native)
+        (ends_within_then (words_of call) (load_word 0 ∷ []) filter.numbered call.arch call.nr answer 1 steps
+        (leads_within (words_of call) (load_word 0 ∷ []) call.arch 1 call.nr
+        (loads (words_of call) 0 call.arch (omega arith)))
+        (plan_ends call fits default (in_range plan) filter.numbered call.nr filter.searched each)))
+
+    native_answered : (x32 : Bool) → eqb call.arch audit_arch_x86_64 ≡ true → not (ltb call.nr x32_syscall_bit) ≡ x32
+        → AllByRecursion IsRule (cond x32 (killing ∷ []) (rules_for plan call.nr))
+        → EndsWithin code (words_of call) 0
+        (first_answer call default (cond x32 (killing ∷ []) (rules_for plan call.nr))) most
+        → Answered p code most call
+    native_answered true own high each run = record {
+      answer = seccomp_ret_kill_process;
+      of_words = run;
+      of_profile =
+          foreign (λ native. let below : call.nr < x32_syscall_bit = native.nr in grind (arith, nat_tests, high, below));
+    }
+    native_answered false own low each run =
+        let below : call.nr < x32_syscall_bit = grind (arith, nat_tests, low) in
+        let native : IsNative call = record { arch = eqb-true _ _ own; nr = below } in
+        let answer = first_answer call default (rules_for plan call.nr) in
+        let same = same_answer call default (rules_for plan call.nr) (rules_of call.nr p.rules) (serves call.nr below)
+        in
         record {
           answer = answer;
-          of_words = within_more (words_of call) whole 0 answer steps most le run;
-          of_profile = given;
+          of_words = run;
+          of_profile =
+              answer_of_first p call answer native
+              (subst (λ (n : ℕ). FirstMet p.rules call default.0 n) (sym same) (first_met p.rules call default));
         }
 
-    killed : (a : ℕ) → EndsWithin kill (words_of call) a seccomp_ret_kill_process 1
-    killed a = ends_within (words_of call) kill a seccomp_ret_kill_process
-        (answers (words_of call) seccomp_ret_kill_process a)
+    by_arch : (own : Bool) → eqb call.arch audit_arch_x86_64 ≡ own → Answered p code most call
+    by_arch true own =
+        let each = applies_for IsRule (in_range plan) call.nr ((killing_fits, tt), fine) in
+        native_answered (not (ltb call.nr x32_syscall_bit)) own refl each (native_ends own each)
+    by_arch false other = foreign_answered other
 
-    arch_test : (own : Bool) → eqb call.arch audit_arch_x86_64 ≡ own
-        → LeadsWithin (word_code Equal 1 audit_arch_x86_64 1 0) (words_of call) 0 (2 + cond own 1 0) call.arch 2
-    arch_test own e = leads_within (words_of call) (word_code Equal 1 audit_arch_x86_64 1 0) 0
-        (2 + cond own 1 0) call.arch
-        (word_leads (words_of call) Equal 1 audit_arch_x86_64 1 0 call.arch 0 own (omega arith) refl e)
-
-    range_test : (foreign_number : Bool) → not (ltb call.nr x32_syscall_bit) ≡ foreign_number
-        → LeadsWithin (word_code GreaterOrEqual 0 x32_syscall_bit 0 1) (words_of call) call.arch
-        (2 + cond foreign_number 0 1) call.nr 2
-    range_test foreign_number e =
-        leads_within (words_of call) (word_code GreaterOrEqual 0 x32_syscall_bit 0 1) call.arch
-        (2 + cond foreign_number 0 1) call.nr
-        (word_leads (words_of call) GreaterOrEqual 0 x32_syscall_bit 0 1 call.nr call.arch foreign_number
-        (omega arith) refl e)
-
-    -- behind the test of the architecture, of an x86-64 call
-    on_x86_64 : (answer steps : ℕ) → eqb call.arch audit_arch_x86_64 ≡ true
-        → EndsWithin after_arch (words_of call) call.arch answer steps
-        → EndsWithin whole (words_of call) 0 answer (2 + steps)
-    on_x86_64 answer steps own rest =
-        ends_within_then (words_of call) arch_code after_arch 0 call.arch answer 2 steps
-        (within_front (words_of call) (word_code Equal 1 audit_arch_x86_64 1 0) kill 0 3 call.arch 2
-        (arch_test true own))
-        rest
-
-    native_answered : IsNative call → eqb call.arch audit_arch_x86_64 ≡ true → not (ltb call.nr x32_syscall_bit) ≡ false
-        → Answered p whole most call
-    native_answered native own low =
-        let applied = rules_for plan call.nr in
-        let run = plan_ends call fits p.default_answer plan call.nr (applies_for IsRule plan call.nr fine) in
-        let answer = first_answer call p.default_answer applied in
-        let steps = plan_steps p.default_answer plan call.nr in
-        let same = same_answer call p.default_answer applied (rules_of call.nr p.rules) (serves call.nr native.nr) in
-        answered answer (2 + (2 + steps)) (omega (arith, quick call.nr native.nr))
-        (on_x86_64 answer (2 + steps) own
-        (ends_within_then (words_of call) range_code searched call.arch call.nr answer 2 steps
-        (within_front (words_of call) (word_code GreaterOrEqual 0 x32_syscall_bit 0 1) kill call.arch 3 call.nr 2
-        (range_test false low)) run))
-        (answer_of_first p call answer native
-        (subst (λ (n : ℕ). FirstMet p.rules call p.default_answer.0 n) (sym same)
-        (first_met p.rules call p.default_answer)))
-
-    by_number : (foreign_number : Bool) → eqb call.arch audit_arch_x86_64 ≡ true
-        → not (ltb call.nr x32_syscall_bit) ≡ foreign_number → Answered p whole most call
-    by_number true own high =
-        answered seccomp_ret_kill_process (2 + (2 + 1)) five
-        (on_x86_64 seccomp_ret_kill_process (2 + 1) own
-        (ends_within_front (words_of call) range_code searched call.arch seccomp_ret_kill_process (2 + 1)
-        (ends_within_then (words_of call)
-        (word_code GreaterOrEqual 0 x32_syscall_bit 0 1) kill call.arch call.nr seccomp_ret_kill_process 2 1
-        (range_test true high)
-        (killed call.nr))))
-        (foreign (λ native. let below : call.nr < x32_syscall_bit = native.nr in grind (arith, nat_tests, high, below)))
-    by_number false own low = native_answered (record { arch = eqb-true _ _ own; nr = below }) own low
-      where
-        below : call.nr < x32_syscall_bit
-        below = grind (arith, nat_tests, low)
-
-    by_arch : (own : Bool) → eqb call.arch audit_arch_x86_64 ≡ own → Answered p whole most call
-    by_arch true own = by_number (not (ltb call.nr x32_syscall_bit)) own refl
-    by_arch false other =
-        answered seccomp_ret_kill_process (2 + 1) (omega (arith, five))
-        (ends_within_front (words_of call) arch_code after_arch 0 seccomp_ret_kill_process (2 + 1)
-        (ends_within_then (words_of call)
-        (word_code Equal 1 audit_arch_x86_64 1 0) kill 0 call.arch seccomp_ret_kill_process 2 1
-        (arch_test false other) (killed call.arch)))
-        (foreign (λ native. eqb-false _ _ other native.arch))
-
-    every_answered : Answered p whole most call
+    every_answered : Answered p code most call
     every_answered = by_arch (eqb call.arch audit_arch_x86_64) refl
 
   -- The filter of any plan that serves the rules of a profile answers as the profile does.
-  pub filter_is_same : SameAnswers (RunAnswers whole) p
+  pub filter_is_same : SameAnswers (RunAnswers code) p
   filter_is_same call fits =
       let found = every_answered call fits in
       record { answer = found.answer; of_words = (found.of_words.0, found.of_words.1); of_profile = found.of_profile }
 
   -- And it does so within as many steps as the plan takes with the call's number, and five more.
-  pub filter_is_quick : AnswersWithin whole most
+  pub filter_is_quick : AnswersWithin code most
   filter_is_quick call fits answer steps run =
       let found = every_answered call fits in
       let same : found.of_words.0 ≡ steps =
-      (run_once whole (words_of call) found.answer answer found.of_words.0 steps found.of_words.1 run).1 in
+      (run_once code (words_of call) found.answer answer found.of_words.0 steps found.of_words.1 run).1 in
       let within : found.of_words.0 ≤ most = found.of_words.2 in
       omega arith

@@ -1,7 +1,7 @@
 -- The search of stretches finds that of each number, within the bounds on instructions and steps.
-use Rattle.std.proofs.Common.{◌≡◌, ℕ, zero, suc, ◌+◌, ◌*◌, ◌^◌, ◌<◌, ◌≤◌, Bool, true, false, not, cond, ltb, leb}
+use Rattle.std.proofs.Common.{◌≡◌, ℕ, zero, suc, ◌+◌, ◌*◌, ◌^◌, ◌<◌, ◌≤◌, Bool, true, false, not, cond, ltb}
 use Rattle.std.proofs.Common.{List, [], ◌∷◌, ◌++◌, length, get_or, take, drop, refl, sym, ap, ◌∙◌, subst, arith}
-use Rattle.std.proofs.Common.{length-append, append_assoc, sum_by}
+use Rattle.std.proofs.Common.{length-append, sum_by}
 use Rattle.std.specs.List.{AllByRecursion}
 use Rattle.std.proofs.lemmas.Bool.{ltb-true, ltb-false, le-leb, lt-leb}
 use Rattle.std.proofs.lemmas.List.{take-append-drop}
@@ -10,13 +10,14 @@ use Rattle.scf_insn.specs.declared.answer.Answer.{Answer}
 use Rattle.scf_insn.specs.declared.insn.Insn.{Insn}
 use Rattle.scf_profile.specs.declared.rule.Rule.{Rule}
 use Rattle.scf_profile.specs.ByNumber.{rules_at}
+use Rattle.scf_compile.specs.declared.placing.Place.{Place}
 use Rattle.scf_compile.specs.declared.stretches.Stretch.{Stretch}
-use Rattle.scf_compile.specs.internal.Plans.{Plan, Apply, Branch, rules_code, branch_code, plan_code, IsSearch}
-use Rattle.scf_compile.specs.internal.Plans.{HasFewTests, IsSearchCode}
+use Rattle.scf_compile.specs.internal.Plans.{Plan, Apply, Branch, rules_code, IsSearch, HasFewTests, Applies, most_of}
+use Rattle.scf_compile.specs.internal.Plans.{IsSearchPut}
 use Rattle.scf_compile.specs.internal.Stretches.{rules_along, rules_on, first_of, BeginBetween, stretch_bound}
 use Rattle.scf_compile.proofs.Lists.{all_front, all_back}
 use Rattle.scf_compile.proofs.Laying.{along-append, on-append, begin_le}
-use Rattle.scf_compile.proofs.Plans.{rules_for, Applies, plan_steps, branch_at_most}
+use Rattle.scf_compile.proofs.Plans.{rules_for, plan_steps}
 use Rattle.scf_compile.proofs.Sizes.{rules_in_bound}
 
 -- ---- stretches that are cut in two
@@ -66,16 +67,27 @@ some_found (Branch number hit miss) ss (low, high, is, first, over, under) =
 
 -- ---- what holds of the rules of the stretches holds of those of the plan
 
+-- what holds of the rules of some stretches holds of those of both parts
+pub parts_ready : (P : Rule → Type 0) (ss low high : List Stretch) → ss ≡ low ++ high
+    → AllByRecursion P (rules_along ss) → AllByRecursion P (rules_along low) × AllByRecursion P (rules_along high)
+parts_ready P ss low high is all =
+    let parts = subst (λ (l : List Rule). AllByRecursion P l) (ap rules_along is ∙ along-append low high) all in
+    (all_front P (rules_along low) (rules_along high) parts, all_back P (rules_along low) (rules_along high) parts)
+
+-- and of those of the only one
+pub own_rules : (P : Rule → Type 0) (ss : List Stretch) (s : Stretch) → ss ≡ s ∷ [] → AllByRecursion P (rules_along ss)
+    → AllByRecursion P (rules_at s.rules.now)
+own_rules P ss s is all =
+    all_front P (rules_at s.rules.now) []
+    (subst (λ (l : List Stretch). AllByRecursion P (rules_along l)) is all)
+
 pub search_applies : (P : Rule → Type 0) (plan : Plan) (ss : List Stretch) → IsSearch plan ss
     → AllByRecursion P (rules_along ss) → Applies P plan
 search_applies P (Apply rules) ss (s, is, own) all =
-    subst (λ (l : List Rule). AllByRecursion P l) (sym own)
-    (all_front P (rules_at s.rules.now) [] (subst (λ (l : List Stretch). AllByRecursion P (rules_along l)) is all))
+    subst (λ (l : List Rule). AllByRecursion P l) (sym own) (own_rules P ss s is all)
 search_applies P (Branch number hit miss) ss (low, high, is, first, over, under) all =
-    let parts = subst (λ (l : List Rule). AllByRecursion P l) (ap rules_along is ∙ along-append low high) all in (
-      search_applies P hit high over (all_back P (rules_along low) (rules_along high) parts),
-      search_applies P miss low under (all_front P (rules_along low) (rules_along high) parts),
-    )
+    let parts = parts_ready P ss low high is all in
+    (search_applies P hit high over parts.1, search_applies P miss low under parts.0)
 
 -- ---- the rules of one number
 
@@ -127,8 +139,9 @@ search_steps default (Branch number hit miss) (suc most) nr few =
 
 -- ---- its instructions
 
+-- No search takes more instructions than its stretches may.
 pub search_at_most : (default : Answer) (plan : Plan) (ss : List Stretch) → IsSearch plan ss
-    → length (plan_code default plan) + 2 ≤ sum_by stretch_bound ss
+    → most_of default plan + 2 ≤ sum_by stretch_bound ss
 search_at_most default (Apply rules) ss (s, is, own) =
     omega (
       arith,
@@ -138,42 +151,30 @@ search_at_most default (Apply rules) ss (s, is, own) =
       sum_by-cons stretch_bound s [],
     )
 search_at_most default (Branch number hit miss) ss (low, high, is, first, over, under) =
-    let h = plan_code default hit in
-    let m = plan_code default miss in
     omega (
       arith,
-      length-append (branch_code number (length h)) (h ++ m),
-      length-append h m,
-      branch_at_most (leb (length h) 255) number (length h),
       search_at_most default hit high over,
       search_at_most default miss low under,
       ap (sum_by stretch_bound) is,
       sum_by-append stretch_bound low high,
     )
 
--- ---- the code of a search
-
-pub code_at_most : (default : Answer) (ss : List Stretch) (code : List Insn) → IsSearchCode default ss code
-    → length code + 2 ≤ sum_by stretch_bound ss
-code_at_most default ss code search =
-    omega (arith, ap (λ (l : List Insn). length l) search.is, search_at_most default search.plan ss search.finds)
+-- nor is more put before some code
+pub put_len : (default : Answer) (ss : List Stretch) (before after : List Insn) (place : Place)
+    → IsSearchPut default ss before after place → length after + 2 ≤ length before + sum_by stretch_bound ss
+put_len default ss before after place s =
+    let few = s.put.few in
+    omega (
+      arith,
+      ap (λ (l : List Insn). length l) s.put.whole,
+      length-append s.put.front before,
+      search_at_most default s.plan ss s.finds,
+    )
 
 pub cut_in_two : (ss low high : List Stretch) (k : ℕ) → low ≡ take k ss → high ≡ drop k ss → ss ≡ low ++ high
 cut_in_two ss low high k low_is high_is =
     sym (take-append-drop k ss) ∙ ap (λ (l : List Stretch). l ++ drop k ss) (sym low_is)
     ∙ ap (λ (l : List Stretch). low ++ l) (sym high_is)
-
--- what a search requires of some stretches holds of both parts
-pub parts_ready : (P : Rule → Type 0) (ss low high : List Stretch) → ss ≡ low ++ high
-    → AllByRecursion P (rules_along ss) → sum_by stretch_bound ss < 2 ^ 32
-    → (AllByRecursion P (rules_along low) × (sum_by stretch_bound low < 2 ^ 32)) ×
-    (AllByRecursion P (rules_along high) × (sum_by stretch_bound high < 2 ^ 32))
-parts_ready P ss low high is all small =
-    let parts = subst (λ (l : List Rule). AllByRecursion P l) (ap rules_along is ∙ along-append low high) all in
-    let sums = ap (sum_by stretch_bound) is ∙ sum_by-append stretch_bound low high in (
-      (all_front P (rules_along low) (rules_along high) parts, omega arith),
-      (all_back P (rules_along low) (rules_along high) parts, omega arith),
-    )
 
 pub one_is : (ss : List Stretch) (s : Stretch) → 0 < length ss → length ss ≤ 1 → s ≡ get_or ss 0 s → ss ≡ s ∷ []
 one_is [] s some one is = absurd (omega arith)
@@ -184,22 +185,12 @@ pub first_is : (ss : List Stretch) (s : Stretch) → 0 < length ss → s ≡ get
 first_is [] s some is = absurd (omega arith)
 first_is (t ∷ ss) s some is = ap (λ (u : Stretch). u.first) is
 
--- the code of a branch and its sides
-pub branch_is : (default : Answer) (number : ℕ) (high low : List Stretch) (code near far : List Insn)
-    (over : IsSearchCode default high near) (under : IsSearchCode default low far)
-    → code ≡ (branch_code number (length near) ++ near) ++ far
-    → code ≡ plan_code default (Branch number over.plan under.plan)
-branch_is default number high low code near far over under is =
-    is ∙ append_assoc (branch_code number (length near)) near far
-    ∙ ap (λ (l : List Insn). branch_code number (length l) ++ (l ++ far)) over.is
-    ∙ ap (λ (l : List Insn). branch_code number (length (plan_code default over.plan)) ++
-    (plan_code default over.plan ++ l)) under.is
-
 -- two parts that are no more than half of what both may be need one test less
-pub halves_few : (default : Answer) (number : ℕ) (ss low high : List Stretch) (near far : List Insn)
-    (over : IsSearchCode default high near) (under : IsSearchCode default low far) → 1 < length ss
+pub halves_few : (number : ℕ) (ss low high : List Stretch) (hit miss : Plan)
+    → ((most : ℕ) → length high ≤ 2 ^ most → HasFewTests hit most)
+    → ((most : ℕ) → length low ≤ 2 ^ most → HasFewTests miss most) → 1 < length ss
     → ((most : ℕ) → length ss ≤ 2 ^ suc most → (length low ≤ 2 ^ most) × (length high ≤ 2 ^ most)) → (most : ℕ)
-    → length ss ≤ 2 ^ most → HasFewTests (Branch number over.plan under.plan) most
-halves_few default number ss low high near far over under more halved zero few = absurd (omega arith)
-halves_few default number ss low high near far over under more halved (suc most) few =
-    (over.few_tests most (halved most few).1, under.few_tests most (halved most few).0)
+    → length ss ≤ 2 ^ most → HasFewTests (Branch number hit miss) most
+halves_few number ss low high hit miss over under more halved zero few = absurd (omega arith)
+halves_few number ss low high hit miss over under more halved (suc most) few =
+    (over most (halved most few).1, under most (halved most few).0)

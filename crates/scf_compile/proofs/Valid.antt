@@ -1,6 +1,6 @@
 -- The code of a filter keeps the rules of the checker.
-use Rattle.std.proofs.Common.{◌≡◌, ℕ, zero, suc, ◌+◌, ◌-◌, ◌%◌, ◌<◌, ◌≤◌, Bool, true, false, cond, leb, List, [], ◌∷◌}
-use Rattle.std.proofs.Common.{◌++◌, length, Some, refl, sym, ap, ◌∙◌, subst, arith, length-append, append-nil}
+use Rattle.std.proofs.Common.{◌≡◌, ℕ, zero, suc, ◌+◌, ◌-◌, ◌<◌, ◌≤◌, Bool, true, false, cond, List, [], ◌∷◌, ◌++◌}
+use Rattle.std.proofs.Common.{length, Some, refl, sym, ap, ◌∙◌, subst, arith, length-append, append-nil}
 use Rattle.std.specs.Prelude.{slice_get}
 use Rattle.std.specs.List.{AllByRecursion}
 use Rattle.std.proofs.lemmas.Option.{same_Some}
@@ -15,7 +15,7 @@ use Rattle.scf_insn.specs.declared.operation.Operation.{Operation}
 use Rattle.scf_insn.specs.declared.operation.Operation.TheVariants.{LoadWord, LoadScratch, Compute, Jump, JumpIf}
 use Rattle.scf_insn.specs.declared.operation.Operation.TheVariants.{ReturnConstant}
 use Rattle.scf_insn.specs.Codes.{operation_of, code_table}
-use Rattle.scf_insn.specs.Kernel.{bpf_maxinsns, audit_arch_x86_64, x32_syscall_bit, seccomp_ret_kill_process}
+use Rattle.scf_insn.specs.Kernel.{bpf_maxinsns}
 use Rattle.scf_insn.specs.Masks.{mask_kind}
 use Rattle.scf_insn.specs.Words.{low, high}
 use Rattle.scf_machine.specs.Rules.{Stands, IsFine, IsFineAt, IsReturn, IsValidList, KeepsScratchRule}
@@ -30,30 +30,11 @@ use Rattle.scf_insn.specs.declared.mask.MaskKind.TheVariants.{Empty, OneBit, Ful
 use Rattle.scf_compile.specs.internal.Insns.{load_word, and_with, jump_if, jump_over, return_with}
 use Rattle.scf_compile.specs.internal.Blocks.{word_code, equal_code, order_code, half_code_of, half_code}
 use Rattle.scf_compile.specs.internal.Blocks.{masked_code, operator_code, condition_code, argument_word}
-use Rattle.scf_compile.specs.internal.Plans.{conditions_code, rule_code, behind_rule, rules_code, Plan, Apply, Branch}
-use Rattle.scf_compile.specs.internal.Plans.{branch_code, plan_code, arch_code, range_code, filter_code}
-use Rattle.scf_compile.proofs.Plans.{Applies, EndsInAnswer, ends_behind, rules_end_in_answer, plan_ends_in_answer}
+use Rattle.scf_compile.specs.internal.Plans.{conditions_code, rule_code, behind_rule, rules_code}
+use Rattle.scf_compile.specs.internal.Sound.{Keeps, IsSound, AreSound}
+use Rattle.scf_compile.proofs.Plans.{some_rules}
 
--- What an instruction of a filter is, where this many instructions stand behind it: its jumps go to one of them.
-abbrev Keeps : Operation → Insn → ℕ → Type 0
-Keeps LoadWord i behind = (i.k < 64) × (i.k % 4 ≡ 0)
-Keeps (Compute And Constant) i behind = Unit {0}
-Keeps Jump i behind = i.k < behind
-Keeps (JumpIf test Constant) i behind = (i.jt < behind) × (i.jf < behind)
-Keeps ReturnConstant i behind = Unit {0}
-Keeps _ i behind = ⊥
-
-record IsSound (i : Insn) (behind : ℕ) : Type 0 where
-  operation : Operation
-  known : operation_of i.code ≡ Some operation
-  keeps : Keeps operation i behind
-
--- each instruction is sound, with some room behind the last one
-abbrev AreSound : List Insn → ℕ → Type 0
-AreSound [] room = Unit {0}
-AreSound (i ∷ is) room = IsSound i (length is + room) × AreSound is room
-
-sound-append : (xs ys : List Insn) (room : ℕ) → AreSound xs (length ys + room) → AreSound ys room
+pub sound-append : (xs ys : List Insn) (room : ℕ) → AreSound xs (length ys + room) → AreSound ys room
     → AreSound (xs ++ ys) room
 sound-append [] ys room h k = k
 sound-append (x ∷ xs) ys room h k =
@@ -62,13 +43,14 @@ sound-append (x ∷ xs) ys room h k =
 
 -- ---- each instruction
 
-load_is_sound : (word behind : ℕ) → word < 16 → IsSound (load_word word) behind
+pub load_is_sound : (word behind : ℕ) → word < 16 → 0 < behind → IsSound (load_word word) behind
 unfolding operation_of code_table
-load_is_sound word behind lt = record { operation = LoadWord; known = refl; keeps = (omega arith, omega arith) }
+load_is_sound word behind lt some =
+    record { operation = LoadWord; known = refl; keeps = (omega arith, omega arith, some) }
 
-mask_is_sound : (mask behind : ℕ) → IsSound (and_with mask) behind
+mask_is_sound : (mask behind : ℕ) → 0 < behind → IsSound (and_with mask) behind
 unfolding operation_of code_table
-mask_is_sound mask behind = record { operation = Compute And Constant; known = refl; keeps = tt }
+mask_is_sound mask behind some = record { operation = Compute And Constant; known = refl; keeps = some }
 
 jump_is_sound : (test : Test) (constant hit miss behind : ℕ) → hit < behind → miss < behind
     → IsSound (jump_if test constant hit miss) behind
@@ -92,10 +74,10 @@ return_is_sound answer behind = record { operation = ReturnConstant; known = ref
 
 -- ---- the code of a condition
 
-word_sound : (test : Test) (word constant hit miss room : ℕ) → word < 16 → hit < room → miss < room
+pub word_sound : (test : Test) (word constant hit miss room : ℕ) → word < 16 → hit < room → miss < room
     → AreSound (word_code test word constant hit miss) room
 word_sound test word constant hit miss room lt h m = (
-  load_is_sound word (1 + room) lt,
+  load_is_sound word (1 + room) lt (omega arith),
   (jump_is_sound test constant hit miss (0 + room) (omega arith) (omega arith), tt),
 )
 
@@ -130,8 +112,8 @@ half_sound_of Empty word mask wanted out room lt h = tt
 half_sound_of OneBit word mask wanted out room lt h = bit_sound _ word mask out room lt h
 half_sound_of Full word mask wanted out room lt h = word_sound SameWord word wanted 0 out room lt (omega arith) h
 half_sound_of Mixed word mask wanted out room lt h = (
-  load_is_sound word (2 + room) lt,
-  (mask_is_sound mask (1 + room), (jump_is_sound SameWord wanted 0 out (0 + room) (omega arith) (omega arith), tt)),
+  load_is_sound word (2 + room) lt (omega arith),
+  (mask_is_sound mask (1 + room) (omega arith), (jump_is_sound SameWord wanted 0 out (0 + room) (omega arith) (omega arith), tt)),
 )
 
 half_sound : (word mask wanted out room : ℕ) → word < 16 → out < room → AreSound (half_code word mask wanted out) room
@@ -177,11 +159,7 @@ rule_sound r room fine h =
     (conditions_sound r.conditions (1 + room) fine.conditions.each (omega arith))
     (return_is_sound r.answer.0 (0 + room), tt)
 
-some_of_code : (code : List Insn) → EndsInAnswer code → 0 < length code
-some_of_code code e =
-    omega (arith, ap (λ (l : List Insn). length l) e.whole, length-append e.front (return_with e.answer ∷ []))
-
-rules_sound : (default : Answer) (rs : List Rule) (room : ℕ) → AllByRecursion IsRule rs
+pub rules_sound : (default : Answer) (rs : List Rule) (room : ℕ) → AllByRecursion IsRule rs
     → AreSound (rules_code default rs) room
 rules_sound default [] room fine = (return_is_sound default.0 (0 + room), tt)
 rules_sound default (r ∷ rs) room fine = behind r.conditions refl (rules_sound default rs room fine.1)
@@ -199,55 +177,23 @@ rules_sound default (r ∷ rs) room fine = behind r.conditions refl (rules_sound
     behind (c ∷ cs) some sound =
         sound-append (rule_code r) others room
         (rule_sound r (length others + room) fine.0
-        (omega (arith, some_of_code others (rules_end_in_answer default rs)))) sound
+        (omega (arith, some_rules default rs))) sound
 
-branch_sound : (near : Bool) (number count room : ℕ) → count < room
-    → AreSound (cond near (jump_if AtLeast number 0 count ∷ []) (jump_if AtLeast number 1 0 ∷ jump_over count ∷ []))
-    room
-branch_sound true number count room h =
-    (jump_is_sound AtLeast number 0 count (0 + room) (omega arith) (omega arith), tt)
-branch_sound false number count room h = (
-  jump_is_sound AtLeast number 1 0 (1 + room) (omega arith) (omega arith),
-  (pass_is_sound count (0 + room) (omega arith), tt),
+pub branch_sound : (near : Bool) (test : Test) (constant hit miss room : ℕ) → hit < room → miss < room
+    → AreSound (cond near (jump_if test constant hit miss ∷ [])
+    (jump_if test constant (1 + hit) 0 ∷ jump_over miss ∷ [])) room
+branch_sound true test constant hit miss room h m =
+    (jump_is_sound test constant hit miss (0 + room) (omega arith) (omega arith), tt)
+branch_sound false test constant hit miss room h m = (
+  jump_is_sound test constant (1 + hit) 0 (1 + room) (omega arith) (omega arith),
+  (pass_is_sound miss (0 + room) (omega arith), tt),
 )
-
-some_of_plan : (default : Answer) (plan : Plan) → 0 < length (plan_code default plan)
-some_of_plan default plan = some_of_code (plan_code default plan) (plan_ends_in_answer default plan)
-
-plan_sound : (default : Answer) (plan : Plan) (room : ℕ) → Applies IsRule plan → AreSound (plan_code default plan) room
-plan_sound default (Apply rules) room fine = rules_sound default rules room fine
-plan_sound default (Branch number hit miss) room fine =
-    let h = plan_code default hit in
-    let m = plan_code default miss in
-    sound-append (branch_code number (length h)) (h ++ m) room
-    (branch_sound (leb (length h) 255) number (length h) (length (h ++ m) + room)
-    (omega (arith, length-append h m, some_of_plan default miss)))
-    (sound-append h m room (plan_sound default hit (length m + room) fine.0) (plan_sound default miss room fine.1))
-
-filter_sound : (default : Answer) (plan : Plan) → Applies IsRule plan
-    → AreSound (filter_code (plan_code default plan)) 0
-filter_sound default plan fine =
-    let code = plan_code default plan in
-    let rest = range_code ++ code in
-    sound-append arch_code rest 0
-    (sound-append (word_code SameWord 1 audit_arch_x86_64 1 0) (return_with seccomp_ret_kill_process ∷ [])
-    (length rest + 0)
-    (word_sound SameWord 1 audit_arch_x86_64 1 0 (1 + (length rest + 0)) (omega arith)
-    (omega (arith, length-append range_code code)) (omega arith))
-    (return_is_sound seccomp_ret_kill_process (0 + (length rest + 0)), tt))
-    (sound-append range_code code 0
-    (sound-append (word_code AtLeast 0 x32_syscall_bit 0 1) (return_with seccomp_ret_kill_process ∷ [])
-    (length code + 0)
-    (word_sound AtLeast 0 x32_syscall_bit 0 1 (1 + (length code + 0)) (omega arith) (omega arith)
-    (omega (arith, some_of_plan default plan)))
-    (return_is_sound seccomp_ret_kill_process (0 + (length code + 0)), tt))
-    (plan_sound default plan 0 fine))
 
 -- ---- the rules of the checker
 
 fine_of : (operation : Operation) (i : Insn) (len place behind : ℕ) → place + 1 + behind ≡ len
     → Keeps operation i behind → IsFine len place i operation
-fine_of LoadWord i len place behind e h = h
+fine_of LoadWord i len place behind e h = (h.0, h.1)
 fine_of (Compute And Constant) i len place behind e h = tt
 fine_of Jump i len place behind e h = omega arith
 fine_of (JumpIf test Constant) i len place behind e h = let hit = h.0 in let miss = h.1 in (omega arith, omega arith)
@@ -289,49 +235,38 @@ fine_at is place h lt =
     }
 
 -- no instruction loads a scratch word
-keeps_scratch_rule : (is : List Insn) → AreSound is 0 → KeepsScratchRule is
+pub keeps_scratch_rule : (is : List Insn) → AreSound is 0 → KeepsScratchRule is
 keeps_scratch_rule is h place n earlier loads path =
     let f = sound_at is 0 place loads.insn h loads.stands.here in
     let same : f.sound.operation ≡ LoadScratch loads.register =
     same_Some _ _ (sym f.sound.known ∙ loads.stands.known) in
     absurd (subst (λ (o : Operation). Keeps o loads.insn f.behind) same f.sound.keeps)
 
-at_seam : (front : List Insn) (i : Insn) → slice_get (front ++ i ∷ []) (length front) ≡ Some i
-at_seam [] i = refl
-at_seam (x ∷ xs) i = at_seam xs i
+-- nothing stands behind the last instruction, so that it can only answer
+returns_at_end : (operation : Operation) (i : Insn) → Keeps operation i 0 → IsReturn operation
+returns_at_end LoadWord i h = let some : 0 < 0 = h.2 in absurd (omega arith)
+returns_at_end (Compute And Constant) i h = let some : 0 < 0 = h in absurd (omega arith)
+returns_at_end Jump i h = let some : i.k < 0 = h in absurd (omega arith)
+returns_at_end (JumpIf test Constant) i h = let some : i.jt < 0 = h.0 in absurd (omega arith)
+returns_at_end ReturnConstant i h = tt
+returns_at_end _ i h = absurd h
 
-last_returns : (code : List Insn) → EndsInAnswer code → (i : Insn) (operation : Operation)
+last_returns : (code : List Insn) → AreSound code 0 → 0 < length code → (i : Insn) (operation : Operation)
     → Stands code (length code - 1) i operation → IsReturn operation
-unfolding operation_of code_table
-last_returns code e i operation stands =
-    let last = return_with e.answer in
-    let len : length code ≡ length e.front + 1 =
-    ap (λ (l : List Insn). length l) e.whole ∙ length-append e.front (last ∷ []) in
-    let place : length code - 1 ≡ length e.front = omega arith in
-    let there : slice_get code (length code - 1) ≡ Some last =
-    ap (slice_get code) place ∙ ap (λ (l : List Insn). slice_get l (length e.front)) e.whole
-    ∙ at_seam e.front last in
-    let same : i ≡ last = same_Some i last (sym stands.here ∙ there) in
-    let is : operation ≡ ReturnConstant =
-    same_Some operation ReturnConstant (sym stands.known ∙ ap (λ (j : Insn). operation_of j.code) same) in
-    subst IsReturn (sym is) tt
+last_returns code h some i operation stands =
+    let f = sound_at code 0 (length code - 1) i h stands.here in
+    let count = f.count in
+    let last : f.behind ≡ 0 = omega arith in
+    let same : f.sound.operation ≡ operation = same_Some _ _ (sym f.sound.known ∙ stands.known) in
+    subst IsReturn same
+    (returns_at_end f.sound.operation i (subst (λ (n : ℕ). Keeps f.sound.operation i n) last f.sound.keeps))
 
--- A filter that isn't too long keeps the rules on its places, and of any length the rule on scratch words.
-pub filter_is_valid : (default : Answer) (plan : Plan) → Applies IsRule plan
-    → length (filter_code (plan_code default plan)) ≤ bpf_maxinsns
-    → IsValidList (filter_code (plan_code default plan))
-filter_is_valid default plan fine few =
-    let code = plan_code default plan in
-    let end = ends_behind arch_code (range_code ++ code)
-    (ends_behind range_code code (plan_ends_in_answer default plan)) in
-    record {
-      some = some_of_code (filter_code code) end;
-      few = few;
-      each = λ place lt. fine_at (filter_code code) place (filter_sound default plan fine) lt;
-      last = last_returns (filter_code code) end;
-    }
-
-pub filter_keeps_scratch : (default : Answer) (plan : Plan) → Applies IsRule plan
-    → KeepsScratchRule (filter_code (plan_code default plan))
-filter_keeps_scratch default plan fine =
-    keeps_scratch_rule (filter_code (plan_code default plan)) (filter_sound default plan fine)
+-- Sound code that isn't too long keeps the rules on its places, and of any length the rule on scratch words.
+pub sound_is_valid : (code : List Insn) → AreSound code 0 → 0 < length code → length code ≤ bpf_maxinsns
+    → IsValidList code
+sound_is_valid code h some few = record {
+  some = some;
+  few = few;
+  each = λ place lt. fine_at code place h lt;
+  last = last_returns code h some;
+}

@@ -2,4 +2,6 @@ pub mod Insns
 pub mod Blocks
 pub mod Numbers
 pub mod Stretches
+pub mod Placing
+pub mod Sound
 pub mod Plans

@@ -11,9 +11,10 @@ ghost use Rattle.scf_compile.specs.SizeBound.{size_bound_of};
 ghost use Rattle.scf_compile.specs.internal.Plans.{IsFilterOf};
 
 use crate::fault::CompileFault;
-use crate::insns::{jump_if, load_word, return_with};
+use crate::insns::{load_word, return_with};
 use crate::numbers::cut_by_number;
-use crate::search::search;
+use crate::placing::{Place, put_block, put_branch};
+use crate::search::put_search;
 use crate::stretches::stretches_of;
 use scf_insn::kernel::{
     AUDIT_ARCH_X86_64, BPF_MAXINSNS, SECCOMP_RET_KILL_PROCESS, X32_SYSCALL_BIT,
@@ -22,6 +23,7 @@ use scf_insn::{Answer, Insn, Memory, Test};
 use scf_machine::{CheckFault, Program, check};
 use scf_profile::{Profile, Rule, rules_by_number};
 use std::alloc::Global;
+use std::collections::VecDeque;
 
 /// The answer to a call that isn't native.
 const KILL_PROCESS: Answer = Answer(SECCOMP_RET_KILL_PROCESS);
@@ -35,18 +37,16 @@ fn filter_of(alloc: Global, rules: &[Rule], default: Answer) -> Result<Vec<Insn>
     let sorted = rules_by_number(alloc, rules)?;
     let numbers = cut_by_number(alloc, &sorted)?;
     let stretches = stretches_of(alloc, &numbers, default)?;
-    let searched = search(alloc, &stretches, default)?;
-    let mut code = Vec::new(alloc);
-    code.extend_from_slice(&[
-        load_word(1),
-        jump_if(Test::Equal, AUDIT_ARCH_X86_64, 1, 0),
-        return_with(KILL_PROCESS),
-        load_word(0),
-        jump_if(Test::GreaterOrEqual, X32_SYSCALL_BIT, 0, 1),
-        return_with(KILL_PROCESS),
-    ])?;
-    code.extend_from_slice(&searched)?;
-    Ok(code)
+    let mut code = VecDeque::new(alloc);
+    let calls = put_search(alloc, &mut code, &stretches, default)?;
+    let x32 = put_block(&mut code, &[return_with(KILL_PROCESS)])?;
+    put_branch(&mut code, Test::GreaterOrEqual, X32_SYSCALL_BIT, x32, calls)?;
+    code.push_front(load_word(0))?;
+    let native = Place(code.len());
+    let foreign = put_block(&mut code, &[return_with(KILL_PROCESS)])?;
+    put_branch(&mut code, Test::Equal, AUDIT_ARCH_X86_64, native, foreign)?;
+    code.push_front(load_word(1))?;
+    Ok(Vec::from(code))
 }
 
 /// Makes a filter that answers every call record as the profile does, in all 32 bits: those of other architectures and

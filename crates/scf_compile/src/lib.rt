@@ -6,6 +6,7 @@ mod compiler;
 mod fault;
 mod insns;
 mod numbers;
+mod placing;
 mod rules;
 mod search;
 mod size;

@@ -1,17 +1,23 @@
 -- The instructions of a whole filter: the tests of the architecture and the call number, and the rules of each number.
-use Rattle.std.specs.Prelude.{◌≡◌, ℕ, zero, suc, ◌+◌, ◌^◌, ◌≤◌, List, [], ◌∷◌, ◌++◌, length, nat_le, if◌then◌else◌}
+use Rattle.std.specs.Prelude.{◌≡◌, ℕ, zero, suc, ◌+◌, ◌^◌, ◌≤◌, List, [], ◌∷◌, ◌++◌, drop, length}
+use Rattle.std.specs.List.{AllByRecursion}
 use Rattle.scf_insn.specs.declared.insn.Insn.{Insn}
 use Rattle.scf_insn.specs.declared.answer.Answer.{Answer}
 use Rattle.scf_insn.specs.declared.operation.Test.TheVariants.{Equal, GreaterOrEqual}
 use Rattle.scf_insn.specs.Kernel.{audit_arch_x86_64, x32_syscall_bit, seccomp_ret_kill_process}
+use Rattle.scf_machine.specs.Plain.{IsPlainInsn}
 use Rattle.scf_profile.specs.declared.condition.Condition.{Condition}
 use Rattle.scf_profile.specs.declared.rule.Rule.{Rule}
 use Rattle.scf_profile.specs.ByNumber.{rules_at}
+use Rattle.scf_profile.specs.PlainProfile.{IsPlainRule}
 use Rattle.scf_compile.specs.declared.numbers.NumberRules.{NumberRules}
+use Rattle.scf_compile.specs.declared.placing.Place.{Place}
 use Rattle.scf_compile.specs.declared.stretches.Stretch.{Stretch}
-use Rattle.scf_compile.specs.internal.Insns.{jump_if, jump_over, return_with}
+use Rattle.scf_compile.specs.internal.Insns.{load_word, return_with}
 use Rattle.scf_compile.specs.internal.Blocks.{word_code, condition_code}
 use Rattle.scf_compile.specs.internal.Numbers.{AreNumbersOf}
+use Rattle.scf_compile.specs.internal.Placing.{branch_code, code_from, IsNear}
+use Rattle.scf_compile.specs.internal.Sound.{AreSound}
 use Rattle.scf_compile.specs.internal.Stretches.{AreStretchesOf, first_of}
 
 -- the conditions of a rule, each of which passes what is left of them and one instruction more where it fails
@@ -39,18 +45,35 @@ pub data Plan : Type 0 where
   Apply : (rules : List Rule) → Plan
   Branch : (number : ℕ) → (hit miss : Plan) → Plan
 
--- goes on where the accumulator is at least the number, else passes some instructions: more than 255 by a jump of their
--- own
-abbrev pub branch_code : ℕ → ℕ → List Insn
-branch_code number count =
-    (if nat_le count 255
-    then jump_if GreaterOrEqual number 0 count ∷ []
-    else jump_if GreaterOrEqual number 1 0 ∷ jump_over count ∷ [])
+-- A plan stands at the head of some code: the rules that apply do, or a test of the number, and each of both plans stands
+-- where the test goes to.
+abbrev pub Heads : Answer → Plan → List Insn → Type 0
+Heads default (Apply rules) code = (behind : List Insn) × (code ≡ rules_code default rules ++ behind)
+Heads default (Branch number hit miss) code =
+    (behind : List Insn) × (to_hit : ℕ) × (to_miss : ℕ)
+    × (code ≡ branch_code GreaterOrEqual number to_hit to_miss ++ behind)
+    × Heads default hit (drop to_hit behind) × Heads default miss (drop to_miss behind)
 
-abbrev pub plan_code : Answer → Plan → List Insn
-plan_code default (Apply rules) = rules_code default rules
-plan_code default (Branch number hit miss) =
-    branch_code number (length (plan_code default hit)) ++ (plan_code default hit ++ plan_code default miss)
+-- what holds of each rule that a plan applies to some number or other
+abbrev pub Applies : (Rule → Type 0) → Plan → Type 0
+Applies P (Apply rules) = AllByRecursion P rules
+Applies P (Branch number hit miss) = Applies P hit × Applies P miss
+
+-- how many instructions a plan takes at most: those of all its rules, and two for each test
+abbrev pub most_of : Answer → Plan → ℕ
+most_of default (Apply rules) = length (rules_code default rules)
+most_of default (Branch number hit miss) = 2 + most_of default hit + most_of default miss
+
+-- Some instructions are put before others, so that the plan stands at a place. They are sound, and plain where the rules
+-- are.
+pub record IsPlanPut (default : Answer) (plan : Plan) (before after : List Insn) (place : Place) : Type 0 where
+  pub front : List Insn
+  pub whole : after ≡ front ++ before
+  pub heads : Heads default plan (code_from place after)
+  pub near : IsNear place after
+  pub few : length front ≤ most_of default plan
+  pub sound : AreSound front (length before)
+  pub plain : Applies IsPlainRule plan → AllByRecursion IsPlainInsn front
 
 -- The plan finds the stretch of a number: it tests the first numbers of stretches, wherever these are cut in two.
 abbrev pub IsSearch : Plan → List Stretch → Type 0
@@ -65,23 +88,36 @@ HasFewTests (Apply rules) most = Unit {0}
 HasFewTests (Branch number hit miss) zero = ⊥
 HasFewTests (Branch number hit miss) (suc most) = HasFewTests hit most × HasFewTests miss most
 
--- The code is a search of the stretches, with as many tests of a number as halvings leave one stretch.
-pub record IsSearchCode (default : Answer) (stretches : List Stretch) (code : List Insn) : Type 0 where
+-- A search of the stretches is put before some code, with as many tests of a number as halvings leave one stretch.
+pub record IsSearchPut (default : Answer) (stretches : List Stretch) (before after : List Insn) (place : Place)
+    : Type 0 where
   pub plan : Plan
-  pub is : code ≡ plan_code default plan
   pub finds : IsSearch plan stretches
   pub few_tests : (most : ℕ) → length stretches ≤ 2 ^ most → HasFewTests plan most
+  pub put : IsPlanPut default plan before after place
 
--- answers KILL_PROCESS where the architecture isn't x86-64
-abbrev pub arch_code : List Insn
-arch_code = word_code Equal 1 audit_arch_x86_64 1 0 ++ return_with seccomp_ret_kill_process ∷ []
+-- a rule that answers KILL_PROCESS to each call of its number
+abbrev pub killing : Rule
+killing = record { number = 0; conditions = []; answer = record { 0 = seccomp_ret_kill_process }; entry = 0 }
 
--- answers KILL_PROCESS to numbers of x32 calls and above, and leaves the number in the accumulator
-abbrev pub range_code : List Insn
-range_code = word_code GreaterOrEqual 0 x32_syscall_bit 0 1 ++ return_with seccomp_ret_kill_process ∷ []
+-- To numbers of x32 calls and above KILL_PROCESS is answered, and a search is for the others.
+abbrev pub in_range : Plan → Plan
+in_range search = Branch x32_syscall_bit (Apply (killing ∷ [])) search
 
-abbrev pub filter_code : List Insn → List Insn
-filter_code search = arch_code ++ (range_code ++ search)
+-- A filter of a plan: it loads the architecture and goes on where that is x86-64, or answers KILL_PROCESS; and then it
+-- loads the call number.
+pub record IsFilterCode (default : Answer) (search : Plan) (code : List Insn) : Type 0 where
+  pub behind : List Insn
+  pub to_native : ℕ
+  pub to_foreign : ℕ
+  pub whole : code ≡ word_code Equal 1 audit_arch_x86_64 to_native to_foreign ++ behind
+  pub foreign : Heads default (Apply (killing ∷ [])) (drop to_foreign behind)
+  pub numbered : List Insn
+  pub native : drop to_native behind ≡ load_word 0 ∷ numbered
+  pub searched : Heads default (in_range search) numbered
+  pub few : length code ≤ 7 + most_of default search
+  pub sound : AreSound code 0
+  pub plain : Applies IsPlainRule search → AllByRecursion IsPlainInsn code
 
 -- The code is the search of the stretches of the rules' distinct numbers.
 pub record IsFilterOf (default : Answer) (rules : List Rule) (code : List Insn) : Type 0 where
@@ -89,6 +125,7 @@ pub record IsFilterOf (default : Answer) (rules : List Rule) (code : List Insn) 
   pub are : AreNumbersOf numbers rules
   pub stretches : List Stretch
   pub laid : AreStretchesOf default stretches numbers
-  pub searched : List Insn
-  pub search : IsSearchCode default stretches searched
-  pub is : code ≡ filter_code searched
+  pub plan : Plan
+  pub finds : IsSearch plan stretches
+  pub few_tests : (most : ℕ) → length stretches ≤ 2 ^ most → HasFewTests plan most
+  pub filter : IsFilterCode default plan code

@@ -1,11 +1,11 @@
-use Rattle.std.proofs.Common.{◌≡◌, ◌≤◌, List, length, sym, ap, ◌∙◌, subst, arith}
+use Rattle.std.proofs.Common.{◌≡◌, ◌≤◌, List, length, sym, ap, subst, arith}
 use Rattle.std.specs.List.{AllByRecursion}
 use Rattle.std.proofs.lemmas.List.Elements.{All-from_recursion, recursion_from_All}
 use Rattle.scf_insn.specs.declared.answer.Answer.{Answer}
 use Rattle.scf_insn.specs.declared.insn.Insn.{Insn}
 use Rattle.scf_insn.specs.Kernel.{bpf_maxinsns}
 use Rattle.scf_machine.specs.Machine.{RunAnswers}
-use Rattle.scf_machine.specs.Plain.{IsPlainProgram}
+use Rattle.scf_machine.specs.Plain.{IsPlainInsn, IsPlainProgram}
 use Rattle.scf_machine.specs.Rules.{IsValidList, KeepsScratchRule}
 use Rattle.scf_profile.specs.declared.rule.Rule.{Rule}
 use Rattle.scf_profile.specs.PlainProfile.{IsPlainProfile, IsPlainRule}
@@ -14,11 +14,11 @@ use Rattle.scf_profile.specs.Rule.{IsRule}
 use Rattle.scf_profile.specs.SameAnswers.{SameAnswers}
 use Rattle.scf_compile.specs.SearchBound.{AnswersWithin, search_bound_of}
 use Rattle.scf_compile.specs.SizeBound.{size_bound_of}
-use Rattle.scf_compile.specs.internal.Plans.{plan_code, filter_code, IsFilterOf}
+use Rattle.scf_compile.specs.internal.Plans.{IsFilterOf}
 use Rattle.scf_compile.proofs.Counts.{applies, quick, serves, within_size}
-use Rattle.scf_compile.proofs.Plain.{filter_is_plain}
+use Rattle.scf_compile.proofs.Filters.{some_filter}
 use Rattle.scf_compile.proofs.Same.{filter_is_quick, filter_is_same}
-use Rattle.scf_compile.proofs.Valid.{filter_is_valid, filter_keeps_scratch}
+use Rattle.scf_compile.proofs.Valid.{keeps_scratch_rule, sound_is_valid}
 use Rattle.scf_compile.proofs.compiler.compile.Goals as goal
 
 -- what holds of the filter that was made
@@ -32,23 +32,18 @@ record Made (code : List Insn) (p : Profile) : Type 0 where
 
 made : (code : List Insn) (p : Profile) → IsProfile p → IsFilterOf p.default_answer p.rules code → Made code p
 made code p valid filter =
-    let default = p.default_answer in
-    let plan = filter.search.plan in
     let fine = applies p code filter IsRule valid.each in
     let most = search_bound_of p in
-    let small : length (filter_code (plan_code default plan)) ≤ size_bound_of p =
-    subst (λ (c : List Insn). length c ≤ size_bound_of p) (filter.is ∙ ap filter_code filter.search.is)
-    (within_size p code filter) in
-    subst (λ (c : List Insn). Made c p) (sym (filter.is ∙ ap filter_code filter.search.is))
-    (record {
-      same = filter_is_same p plan most fine (serves p code filter) (quick p code filter);
-      quick_enough = filter_is_quick p plan most fine (serves p code filter) (quick p code filter);
-      small = small;
-      is_plain = λ plain. filter_is_plain default plan
-          (applies p code filter IsPlainRule (recursion_from_All IsPlainRule p.rules plain));
-      is_valid = filter_is_valid default plan fine;
-      keeps_scratch = filter_keeps_scratch default plan fine;
-    })
+    record {
+      same = filter_is_same p filter.plan code most filter.filter fine (serves p code filter) (quick p code filter);
+      quick_enough =
+          filter_is_quick p filter.plan code most filter.filter fine (serves p code filter) (quick p code filter);
+      small = within_size p code filter;
+      is_plain = λ plain. All-from_recursion IsPlainInsn code
+          (filter.filter.plain (applies p code filter IsPlainRule (recursion_from_All IsPlainRule p.rules plain)));
+      is_valid = sound_is_valid code filter.filter.sound (some_filter p.default_answer filter.plan code filter.filter);
+      keeps_scratch = keeps_scratch_rule code filter.filter.sound;
+    }
 
 found : (code : List Insn) (p : Profile) (default : Answer) (rules : List Rule) → IsProfile p
     → default ≡ p.default_answer → rules ≡ p.rules → IsFilterOf default rules code → Made code p

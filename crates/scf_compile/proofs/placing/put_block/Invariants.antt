@@ -1,0 +1,6 @@
+use Rattle.std.proofs.Common.{◌≡◌, ◌++◌, drop}
+use Rattle.scf_compile.proofs.placing.put_block.Given as goal
+
+-- the block's instructions from a place on stand before what stood
+abbrev pub invariant-loop-i : goal.invariant-loop-i
+invariant-loop-i l = l.code.items ≡ drop l.i l.block ++ l.fn.code.items

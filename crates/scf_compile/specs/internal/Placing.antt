@@ -1,0 +1,36 @@
+-- Code that is put together from its last instruction to its first.
+use Rattle.std.specs.Prelude.{◌≡◌, ℕ, ◌+◌, ◌-◌, ◌<◌, ◌≤◌, ◌⊎◌, List, [], ◌∷◌, ◌++◌, drop, length, nat_le}
+use Rattle.std.specs.Prelude.{if◌then◌else◌}
+use Rattle.scf_insn.specs.declared.insn.Insn.{Insn}
+use Rattle.scf_insn.specs.declared.operation.Test.{Test}
+use Rattle.scf_compile.specs.declared.placing.Place.{Place}
+use Rattle.scf_compile.specs.internal.Insns.{jump_if, jump_over}
+
+-- the code from a place on
+abbrev pub code_from : Place → List Insn → List Insn
+code_from place code = drop (length code - place.0) code
+
+-- a conditional jump that stands two instructions before the code reaches the place
+pub record IsNear (place : Place) (code : List Insn) : Type 0 where
+  pub stands : place.0 ≤ length code
+  pub near : length code < place.0 + 255
+
+-- The block stands first, before the code that stood.
+pub record IsFirst (block before after : List Insn) (place : Place) : Type 0 where
+  pub whole : after ≡ block ++ before
+  pub first : place.0 ≡ length after
+
+-- The block stands at a place of the code, which is as it was before or has the block more.
+pub record IsPut (block before after : List Insn) (place : Place) : Type 0 where
+  pub put : (after ≡ before) ⊎ (after ≡ block ++ before)
+  pub behind : List Insn
+  pub there : code_from place after ≡ block ++ behind
+  pub near : IsNear place after
+
+-- tests the accumulator, and passes `hit` instructions where the test holds and else `miss`: more than 255 by a jump of
+-- their own
+abbrev pub branch_code : Test → ℕ → ℕ → ℕ → List Insn
+branch_code test constant hit miss =
+    (if nat_le miss 255
+    then jump_if test constant hit miss ∷ []
+    else jump_if test constant (1 + hit) 0 ∷ jump_over miss ∷ [])
