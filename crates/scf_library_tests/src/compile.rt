@@ -193,9 +193,9 @@ fn long_jumps(rt: HostRuntime) -> Result<(), Fail> {
 
 #[test]
 fn largest(rt: HostRuntime) -> Result<(), Fail> {
-    // The tests in front take 6 instructions, those of the two numbers 2 and 1, each test for a value 5 with its
+    // The tests in front take 5 instructions, those of the two numbers 2 and 1, each test for a value 5 with its
     // answer, each for a greater one 6, and the default answers 3.
-    let profile = tested(rt.alloc(), 811, 3)?;
+    let profile = tested(rt.alloc(), 810, 4)?;
     let program = compile(rt.alloc(), &profile)?;
     assert_eq!(rt; program.len(), 4096);
     for (nr, a0, answer) in TESTED {
@@ -204,7 +204,7 @@ fn largest(rt: HostRuntime) -> Result<(), Fail> {
             "{nr} {a0}"
         );
     }
-    let profile = tested(rt.alloc(), 810, 4)?;
+    let profile = tested(rt.alloc(), 809, 5)?;
     assert!(rt; compile(rt.alloc(), &profile).err() == Some(CompileFault::TooLarge));
     // 8, 4 for each of two numbers and 10 for each rule.
     assert_eq!(rt; size_bound(&profile), 8176);

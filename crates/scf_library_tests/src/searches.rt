@@ -4,7 +4,7 @@ use crate::fixtures::{call, stating};
 use scf_compare::{Verdict, compare, effort};
 use scf_compile::compile;
 use scf_facts::WordSets;
-use scf_insn::{Answer, CallRecord};
+use scf_insn::{Answer, CallRecord, Operation};
 use scf_machine::{Program, run};
 use scf_profile::Profile;
 use scf_test_fixtures::kernel::{ERRNO_1, I386, X32, X86_64};
@@ -115,6 +115,34 @@ fn every_second_number(rt: HostRuntime) -> Result<(), Fail> {
             every_second(1, *count, EACH_ALLOWED),
             &[[0; 6]],
         )?;
+    }
+    Ok(())
+}
+
+/// The most instructions that a conditional jump passes.
+const FARTHEST: usize = 255;
+
+#[test]
+fn shared_answers(rt: HostRuntime) -> Result<(), Fail> {
+    for count in counts() {
+        let stretches = stretches_of(rt.alloc(), &[every_second(1, *count, EACH_ALLOWED)])?;
+        let stated = Stated {
+            default: ERRNO_1,
+            stretches: &stretches,
+        };
+        let profile = stating(rt.alloc(), &stated)?;
+        let program = compile(rt.alloc(), &profile)?;
+        let mut rest = program.insns();
+        while let [insn, behind @ ..] = rest {
+            let reached = behind.get(..FARTHEST).unwrap_or(behind);
+            let answers = insn.operation() == Some(Operation::ReturnConstant);
+            assert!(rt;
+                !(answers && reached.contains(insn)),
+                "{count}: an answer stands twice, {} instructions from the end",
+                behind.len()
+            );
+            rest = behind;
+        }
     }
     Ok(())
 }

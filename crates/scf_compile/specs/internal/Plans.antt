@@ -45,7 +45,7 @@ pub data Plan : Type 0 where
   Apply : (rules : List Rule) → Plan
   Branch : (number : ℕ) → (hit miss : Plan) → Plan
 
--- A plan stands at the head of some code: the rules that apply do, or a test of the number, and each of both plans stands
+-- A plan stands at the head of some code: the rules that apply do, or a test of the number, and each of both plans
 -- where the test goes to.
 abbrev pub Heads : Answer → Plan → List Insn → Type 0
 Heads default (Apply rules) code = (behind : List Insn) × (code ≡ rules_code default rules ++ behind)
@@ -64,8 +64,8 @@ abbrev pub most_of : Answer → Plan → ℕ
 most_of default (Apply rules) = length (rules_code default rules)
 most_of default (Branch number hit miss) = 2 + most_of default hit + most_of default miss
 
--- Some instructions are put before others, so that the plan stands at a place. They are sound, and plain where the rules
--- are.
+-- Some instructions are put before others, so that the plan stands at a place. They are sound, and plain where the
+-- rules are.
 pub record IsPlanPut (default : Answer) (plan : Plan) (before after : List Insn) (place : Place) : Type 0 where
   pub front : List Insn
   pub whole : after ≡ front ++ before
