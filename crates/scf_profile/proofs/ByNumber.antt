@@ -78,6 +78,7 @@ references_rise refs up i j d le lt =
       get_or-map (λ (r : Bor Rule). r.now) refs j d d.now lt,
     ) at ends
 
+-- rules of other numbers play no part in front of the rest, and none behind the number's own
 behind_others : (number : ℕ) (others rest : List (Bor Rule))
     → AllByRecursion (λ r. eqb (number_at r) number ≡ false) others
     → rules_of number (rules_at (others ++ rest)) ≡ rules_of number (rules_at rest)
@@ -85,13 +86,12 @@ behind_others number [] rest h = refl
 behind_others number (r ∷ rs) rest h = rw h.0 (behind_others number rs rest h.1)
 
 before_others : (number : ℕ) (own rest : List (Bor Rule)) → AllByRecursion (λ r. eqb (number_at r) number ≡ true) own
-    → rules_of number (rules_at rest) ≡ []
-    → rules_of number (rules_at (own ++ rest)) ≡ rules_at own
+    → rules_of number (rules_at rest) ≡ [] → rules_of number (rules_at (own ++ rest)) ≡ rules_at own
 before_others number [] rest h none = none
 before_others number (r ∷ rs) rest h none =
     rw h.0 (ap (λ (l : List Rule). r.now ∷ l) (before_others number rs rest h.1 none))
 
--- `rest` are the rules from the first on whose number isn't lower, of which so many have no greater one
+-- `rest` are the rules from the first one on whose number isn't lower, and `count` of them have no greater one
 module _ (number : ℕ) (refs rest : List (Bor Rule)) (first count : ℕ) (tail : rest ≡ drop first refs)
     (lower : IsPartitionPoint (λ (r : Bor Rule). ltb (number_at r) number ≡ true)
     (λ (r : Bor Rule). ltb (number_at r) number ≡ false) refs first)
@@ -100,14 +100,14 @@ module _ (number : ℕ) (refs rest : List (Bor Rule)) (first count : ℕ) (tail 
   inside : first + length rest ≡ length refs
   inside = rw tail (omega (arith, length-drop first refs))
 
-  all_lower : All (λ r. eqb (number_at r) number ≡ false) (take first refs)
-  all_lower k d lt =
+  none_before : All (λ r. eqb (number_at r) number ≡ false) (take first refs)
+  none_before k d lt =
       let within : k < first = omega (arith, length-take first refs) in
       let low = lower.0 k d (omega arith) within in
       rw (get_or-take first refs k d within) (grind (arith, nat_tests, low))
 
-  all_own : All (λ r. eqb (number_at r) number ≡ true) (take count rest)
-  all_own k d lt =
+  all_between : All (λ r. eqb (number_at r) number ≡ true) (take count rest)
+  all_between k d lt =
       let len = length-take count rest in
       let within : k < count = omega (arith, len) in
       let low = upper.0 k d (omega arith) within in
@@ -115,19 +115,19 @@ module _ (number : ℕ) (refs rest : List (Bor Rule)) (first count : ℕ) (tail 
       let same = ap (λ (l : List (Bor Rule)). get_or l k d) tail ∙ get_or-drop first refs k d in
       rw (get_or-take count rest k d within) (grind (arith, nat_tests, low, high, ap number_at same))
 
-  all_greater : All (λ r. eqb (number_at r) number ≡ false) (drop count rest)
-  all_greater k d lt =
+  none_behind : All (λ r. eqb (number_at r) number ≡ false) (drop count rest)
+  none_behind k d lt =
       let high = upper.1 (count + k) d (omega arith) (omega (arith, length-drop count rest)) in
       rw (get_or-drop count rest k d) (grind (arith, nat_tests, high))
 
   pub own_rules : rules_at (take count rest) ≡ rules_of number (rules_at refs)
   own_rules =
       let kept : List (Bor Rule) → List Rule = λ l. rules_of number (rules_at l) in
-      let behind = recursion_from_All (λ r. eqb (number_at r) number ≡ false) (drop count rest) all_greater in
+      let behind = recursion_from_All (λ r. eqb (number_at r) number ≡ false) (drop count rest) none_behind in
       let none = ap kept (sym (append-nil (drop count rest))) ∙ behind_others number (drop count rest) [] behind in
       sym (ap kept (sym (take-append-drop first refs))
       ∙ behind_others number (take first refs) (drop first refs)
-      (recursion_from_All (λ r. eqb (number_at r) number ≡ false) (take first refs) all_lower)
+      (recursion_from_All (λ r. eqb (number_at r) number ≡ false) (take first refs) none_before)
       ∙ ap kept (sym tail ∙ sym (take-append-drop count rest))
       ∙ before_others number (take count rest) (drop count rest)
-      (recursion_from_All (λ r. eqb (number_at r) number ≡ true) (take count rest) all_own) none)
+      (recursion_from_All (λ r. eqb (number_at r) number ≡ true) (take count rest) all_between) none)

@@ -64,8 +64,7 @@ bounds_all refs later least i so_far end c =
     (sym (take_all i (rules_at refs) (omega (arith, length-map refs (λ (r : Bor Rule). r.now))))) (so_far c)
 
 same_number : (r s : Rule) → Conflicts r s → r.number ≡ s.number
-same_number r s conflict =
-    grind (arith, nat_tests, conflict.meets_first, conflict.meets_second)
+same_number r s conflict = grind (arith, nat_tests, conflict.meets_first, conflict.meets_second)
 
 -- a rule of another number has no clash with the later one
 all_bounded : (rules : List Rule) (later : Rule) (least : Option Clash) (c : Clash)

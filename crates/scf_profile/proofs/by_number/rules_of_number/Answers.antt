@@ -1,4 +1,4 @@
-use Rattle.std.proofs.Common.{rules, ℕ, ◌≡◌, ◌-◌, ltb, leb, Bor, length, drop, take, arith}
+use Rattle.std.proofs.Common.{rules, ◌≡◌, ◌-◌, ltb, leb, Bor, length, drop, take, arith}
 use Rattle.std.proofs.Math.ListN.{length-drop}
 use Rattle.std.proofs.lemmas.List.{take_all}
 use Rattle.std.proofs.lemmas.List.Sorted.{IsPartitionedBy-leb, IsPartitionedBy-ltb, IsPartitionPoint-from_clause}
