@@ -12,11 +12,9 @@ use Rattle.scf_insn.specs.Kernel.{x32_syscall_bit}
 use Rattle.scf_profile.specs.declared.rule.Rule.{Rule}
 use Rattle.scf_profile.specs.ByNumber.{rules_at}
 use Rattle.scf_profile.specs.Rule.{IsRule}
+use Rattle.scf_profile.proofs.ByNumber.{number_at, references_rise}
 use Rattle.scf_compile.specs.declared.numbers.NumberRules.{NumberRules}
 use Rattle.scf_compile.specs.internal.Numbers.{rules_in, HasOwnRules, RiseBetween, IsCut}
-
-abbrev pub number_at : Bor Rule → ℕ
-number_at r = r.now.number
 
 -- what holds of the rules holds of those that references point to
 references_all : (P : Rule → Type 0) (refs : List (Bor Rule)) → All P (rules_at refs) → All (λ r. P r.now) refs
@@ -27,16 +25,6 @@ references_all P refs all k d lt =
 pub rule_at : (P : Rule → Type 0) (refs : List (Bor Rule)) (k : ℕ) (r : Bor Rule) → All P (rules_at refs)
     → k < length refs → r ≡ get_or refs k r → P r.now
 rule_at P refs k r all lt is = subst (λ (s : Bor Rule). P s.now) (sym is) (references_all P refs all k r lt)
-
-references_rise : (refs : List (Bor Rule)) → IsNonDecreasingBy (λ (r : Rule). r.number) (rules_at refs)
-    → IsNonDecreasingBy number_at refs
-references_rise refs up i j d le lt =
-    let len = length-map refs (λ (r : Bor Rule). r.now) in
-    let ends = up i j d.now le (omega (arith, len)) in
-    rw (
-      get_or-map (λ (r : Bor Rule). r.now) refs i d d.now (omega arith),
-      get_or-map (λ (r : Bor Rule). r.now) refs j d d.now lt,
-    ) at ends
 
 -- The first rules are cut, and the others have greater numbers.
 pub record CutUpTo (numbers : List NumberRules) (refs : List (Bor Rule)) (first : ℕ) : Type 0 where

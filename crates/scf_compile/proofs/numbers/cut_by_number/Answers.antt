@@ -4,7 +4,8 @@ use Rattle.std.proofs.Math.ListN.{length-drop}
 use Rattle.std.specs.List.Sorted.{IsPartitionPoint}
 use Rattle.std.proofs.lemmas.List.Sorted.{IsPartitionedBy-leb, IsPartitionPoint-from_clause}
 use Rattle.scf_profile.specs.declared.rule.Rule.{Rule}
-use Rattle.scf_compile.proofs.Cutting.{number_at, rest_rises, tail_is, cut_some, cut_next, cut_all}
+use Rattle.scf_profile.proofs.ByNumber.{number_at}
+use Rattle.scf_compile.proofs.Cutting.{rest_rises, tail_is, cut_some, cut_next, cut_all}
 use Rattle.scf_compile.proofs.numbers.cut_by_number.Goals as goal
 
 -- the rules from a place on, as the code has them
