@@ -3,29 +3,17 @@ use Rattle.std.proofs.Common.{◌≡◌, ℕ, ◌+◌, ◌*◌, Bool, true, fals
 use Rattle.std.specs.Prelude.{slice_index}
 use Rattle.std.proofs.lemmas.Bool.{eq-eqb, eqb-true}
 use Rattle.scf_insn.specs.Words.{IsWords, low, high, call_of, argument}
-use Rattle.scf_insn.proofs.CallWords.{words_of-call_of, word_below}
+use Rattle.scf_insn.proofs.CallWords.{words_of-call_of}
 use Rattle.scf_insn.proofs.Halves.{masked_split, argument_low, argument_high}
-use Rattle.scf_compare.proofs.Bits.{whole_word}
 
 -- ---- the words of an argument
 
 pub low_of : (words : List ℕ) (i : ℕ) → IsWords words → slice_index words (2 * i + 4) ≡ low (argument (call_of words) i)
-low_of words i w =
-    ap (λ (ws : List ℕ). slice_index ws (2 * i + 4)) (sym (words_of-call_of words w)) ∙ argument_low (call_of words) i
+low_of words i w = rw (words_of-call_of words w) at (argument_low (call_of words) i)
 
 pub high_of : (words : List ℕ) (i : ℕ) → IsWords words
     → slice_index words (2 * i + 4 + 1) ≡ high (argument (call_of words) i)
-high_of words i w =
-    ap (λ (ws : List ℕ). slice_index ws (2 * i + 4 + 1)) (sym (words_of-call_of words w))
-    ∙ argument_high (call_of words) i
-
-pub whole_low_of : (words : List ℕ) (i : ℕ) → IsWords words
-    → bit_and (slice_index words (2 * i + 4)) 4294967295 ≡ low (argument (call_of words) i)
-whole_low_of words i w = sym (whole_word _ (word_below words w (2 * i + 4))) ∙ low_of words i w
-
-pub whole_high_of : (words : List ℕ) (i : ℕ) → IsWords words
-    → bit_and (slice_index words (2 * i + 4 + 1)) 4294967295 ≡ high (argument (call_of words) i)
-whole_high_of words i w = sym (whole_word _ (word_below words w (2 * i + 4 + 1))) ∙ high_of words i w
+high_of words i w = rw (words_of-call_of words w) at (argument_high (call_of words) i)
 
 -- ---- under a mask
 

@@ -1,11 +1,11 @@
 //! Conditions on 64-bit arguments as questions about words.
 
-ghost use Rattle.std.specs.Prelude.{◌≡◌, ◌+◌, ◌*◌, ◌<◌, ◌≤◌, ◌==◌, ℕ, List, bit_and, nat_lt, nat_le};
+ghost use Rattle.std.specs.Prelude.{◌≡◌, ◌+◌, ◌*◌, ◌<◌, ◌≤◌, ◌==◌, ℕ, List, bit_and, nat_lt, nat_le, slice_index};
 ghost use Rattle.scf_insn.specs.SimpleMask.{IsSimpleMask};
-ghost use Rattle.scf_insn.specs.Words.{IsWords, argument, call_of, low, high};
+ghost use Rattle.scf_insn.specs.Words.{IsWords, argument, call_of};
 ghost use Rattle.scf_facts.specs.Atoms.{atom_answer, word_of};
 ghost use Rattle.scf_profile.specs.PlainProfile.{IsPlainCondition};
-ghost use Rattle.scf_compare.specs.internal.Conditions.{IsAtPart, Splits, part_size, way_size};
+ghost use Rattle.scf_compare.specs.internal.Conditions.{IsAtPart, Splits, half_of, part_size, way_size};
 ghost use Rattle.scf_compare.specs.internal.Trees.{KeepsEither};
 
 use scf_facts::Atom;
@@ -42,6 +42,13 @@ pub(crate) struct Question {
     pub(crate) if_false: Way,
 }
 
+/// A half of a 64-bit number.
+#[derive(Clone, Copy)]
+enum Half {
+    High,
+    Low,
+}
+
 /// What a part of a condition asks.
 pub(crate) fn question_of(condition: Condition, part: Part) -> Question
     requires { condition.index < 6 }
@@ -73,23 +80,23 @@ fn at_high(condition: Condition) -> Question
 {
     match condition.op {
         Operator::MaskedEqual => Question {
-            atom: high_is_under_mask(condition),
+            atom: half_is_under_mask(Half::High, condition),
             if_true: Way::Then(Part::Low),
             if_false: Way::Fails,
         },
         Operator::Equal => Question {
-            atom: high_is(condition),
+            atom: half_is(Half::High, condition),
             if_true: Way::Then(Part::Low),
             if_false: Way::Fails,
         },
         Operator::NotEqual => Question {
-            atom: high_is(condition),
+            atom: half_is(Half::High, condition),
             if_true: Way::Then(Part::Low),
             if_false: Way::Holds,
         },
         Operator::Less | Operator::LessOrEqual | Operator::GreaterOrEqual | Operator::Greater =>
             Question {
-                atom: high_is(condition),
+                atom: half_is(Half::High, condition),
                 if_true: Way::Then(Part::Low),
                 if_false: Way::Then(Part::Above),
             },
@@ -109,7 +116,7 @@ fn at_above(condition: Condition) -> Question
 {
     match condition.op {
         Operator::Greater | Operator::GreaterOrEqual => Question {
-            atom: high_is_above(condition),
+            atom: half_is_above(Half::High, condition),
             if_true: Way::Holds,
             if_false: Way::Fails,
         },
@@ -118,7 +125,7 @@ fn at_above(condition: Condition) -> Question
         | Operator::Equal
         | Operator::NotEqual
         | Operator::MaskedEqual => Question {
-            atom: high_is_above(condition),
+            atom: half_is_above(Half::High, condition),
             if_true: Way::Fails,
             if_false: Way::Holds,
         },
@@ -138,155 +145,125 @@ fn at_low(condition: Condition) -> Question
 {
     match condition.op {
         Operator::Equal => Question {
-            atom: low_is(condition),
+            atom: half_is(Half::Low, condition),
             if_true: Way::Holds,
             if_false: Way::Fails,
         },
         Operator::NotEqual => Question {
-            atom: low_is(condition),
+            atom: half_is(Half::Low, condition),
             if_true: Way::Fails,
             if_false: Way::Holds,
         },
         Operator::MaskedEqual => Question {
-            atom: low_is_under_mask(condition),
+            atom: half_is_under_mask(Half::Low, condition),
             if_true: Way::Holds,
             if_false: Way::Fails,
         },
         Operator::Greater => Question {
-            atom: low_is_above(condition),
+            atom: half_is_above(Half::Low, condition),
             if_true: Way::Holds,
             if_false: Way::Fails,
         },
         Operator::LessOrEqual => Question {
-            atom: low_is_above(condition),
+            atom: half_is_above(Half::Low, condition),
             if_true: Way::Fails,
             if_false: Way::Holds,
         },
         Operator::GreaterOrEqual => Question {
-            atom: low_is_at_least(condition),
+            atom: half_is_at_least(Half::Low, condition),
             if_true: Way::Holds,
             if_false: Way::Fails,
         },
         Operator::Less => Question {
-            atom: low_is_at_least(condition),
+            atom: half_is_at_least(Half::Low, condition),
             if_true: Way::Fails,
             if_false: Way::Holds,
         },
     }
 }
 
-/// The word with the low half of an argument.
-fn low_word(index: u8) -> u8
-    requires { index < 6 }
-    ensures { result ≡ 2 * index + 4 }
-{
-    2 * index + 4
+impl Half {
+    /// This half of a number.
+    fn of(self, n: u64) -> u32
+        ensures { result ≡ half_of self n }
+    {
+        match self {
+            Half::High => high_half(n),
+            Half::Low => low_half(n),
+        }
+    }
+
+    /// The word with this half of an argument.
+    #[tactic(auto, using(crate::proofs::Halves::low_of, crate::proofs::Halves::high_of))]
+    fn word(self, index: u8) -> u8
+        requires { index < 6 }
+        ensures word { result < 16 }
+        ensures half { (words : List ℕ) → IsWords words
+            → slice_index words result ≡ half_of self (argument (call_of words) index) }
+    {
+        match self {
+            Half::High => 2 * index + 4 + 1,
+            Half::Low => 2 * index + 4,
+        }
+    }
 }
 
-/// The word with the high half of an argument.
-fn high_word(index: u8) -> u8
-    requires { index < 6 }
-    ensures { result ≡ 2 * index + 4 + 1 }
-{
-    2 * index + 4 + 1
-}
-
-fn high_is(condition: Condition) -> Atom
+#[tactic(auto, using(crate::proofs::Bits::whole_word, scf_insn::proofs::CallWords::word_below))]
+fn half_is(half: Half, condition: Condition) -> Atom
     requires { condition.index < 6 }
     ensures word { word_of result < 16 }
     ensures answers { (words : List ℕ) → IsWords words
-        → atom_answer result words ≡ (high (argument (call_of words) condition.index) == high condition.value) }
+        → atom_answer result words
+        ≡ (half_of half (argument (call_of words) condition.index) == half_of half condition.value) }
     ensures keeps { KeepsEither result }
 {
     Atom::Eq {
-        word: high_word(condition.index),
+        word: half.word(condition.index),
         mask: u32::MAX,
-        value: high_half(condition.value),
+        value: half.of(condition.value),
     }
 }
 
-fn high_is_under_mask(condition: Condition) -> Atom
+fn half_is_under_mask(half: Half, condition: Condition) -> Atom
     requires { condition.index < 6 }
     ensures word { word_of result < 16 }
     ensures answers { (words : List ℕ) → IsWords words
         → atom_answer result words
-        ≡ (bit_and (high (argument (call_of words) condition.index)) (high condition.value)
-        == high (bit_and condition.value_two condition.value)) }
-    ensures keeps { IsSimpleMask (high condition.value) → KeepsEither result }
+        ≡ (bit_and (half_of half (argument (call_of words) condition.index)) (half_of half condition.value)
+        == half_of half (bit_and condition.value_two condition.value)) }
+    ensures keeps { IsSimpleMask (half_of half condition.value) → KeepsEither result }
 {
     Atom::Eq {
-        word: high_word(condition.index),
-        mask: high_half(condition.value),
-        value: high_half(condition.value_two & condition.value),
+        word: half.word(condition.index),
+        mask: half.of(condition.value),
+        value: half.of(condition.value_two & condition.value),
     }
 }
 
-fn high_is_above(condition: Condition) -> Atom
+fn half_is_above(half: Half, condition: Condition) -> Atom
     requires { condition.index < 6 }
     ensures word { word_of result < 16 }
     ensures answers { (words : List ℕ) → IsWords words
         → atom_answer result words
-        ≡ nat_lt (high condition.value) (high (argument (call_of words) condition.index)) }
+        ≡ nat_lt (half_of half condition.value) (half_of half (argument (call_of words) condition.index)) }
     ensures keeps { KeepsEither result }
 {
     Atom::Gt {
-        word: high_word(condition.index),
-        value: high_half(condition.value),
+        word: half.word(condition.index),
+        value: half.of(condition.value),
     }
 }
 
-fn low_is(condition: Condition) -> Atom
-    requires { condition.index < 6 }
-    ensures word { word_of result < 16 }
-    ensures answers { (words : List ℕ) → IsWords words
-        → atom_answer result words ≡ (low (argument (call_of words) condition.index) == low condition.value) }
-    ensures keeps { KeepsEither result }
-{
-    Atom::Eq {
-        word: low_word(condition.index),
-        mask: u32::MAX,
-        value: low_half(condition.value),
-    }
-}
-
-fn low_is_under_mask(condition: Condition) -> Atom
+fn half_is_at_least(half: Half, condition: Condition) -> Atom
     requires { condition.index < 6 }
     ensures word { word_of result < 16 }
     ensures answers { (words : List ℕ) → IsWords words
         → atom_answer result words
-        ≡ (bit_and (low (argument (call_of words) condition.index)) (low condition.value)
-        == low (bit_and condition.value_two condition.value)) }
-    ensures keeps { IsSimpleMask (low condition.value) → KeepsEither result }
-{
-    Atom::Eq {
-        word: low_word(condition.index),
-        mask: low_half(condition.value),
-        value: low_half(condition.value_two & condition.value),
-    }
-}
-
-fn low_is_above(condition: Condition) -> Atom
-    requires { condition.index < 6 }
-    ensures word { word_of result < 16 }
-    ensures answers { (words : List ℕ) → IsWords words
-        → atom_answer result words ≡ nat_lt (low condition.value) (low (argument (call_of words) condition.index)) }
-    ensures keeps { KeepsEither result }
-{
-    Atom::Gt {
-        word: low_word(condition.index),
-        value: low_half(condition.value),
-    }
-}
-
-fn low_is_at_least(condition: Condition) -> Atom
-    requires { condition.index < 6 }
-    ensures word { word_of result < 16 }
-    ensures answers { (words : List ℕ) → IsWords words
-        → atom_answer result words ≡ nat_le (low condition.value) (low (argument (call_of words) condition.index)) }
+        ≡ nat_le (half_of half condition.value) (half_of half (argument (call_of words) condition.index)) }
     ensures keeps { KeepsEither result }
 {
     Atom::Ge {
-        word: low_word(condition.index),
-        value: low_half(condition.value),
+        word: half.word(condition.index),
+        value: half.of(condition.value),
     }
 }

@@ -1,16 +1,23 @@
 -- Conditions on 64-bit arguments as questions about the two words of an argument.
 use Rattle.std.specs.Prelude.{◌≡◌, ◌≢◌, ◌+◌, ◌*◌, ℕ, List, true, false, bit_and}
-use Rattle.scf_insn.specs.Words.{high}
+use Rattle.scf_insn.specs.Words.{low, high}
 use Rattle.scf_facts.specs.Atoms.{atom_answer}
 use Rattle.scf_profile.specs.declared.condition.Operator.{Operator}
 use Rattle.scf_profile.specs.declared.condition.Operator.TheVariants.{NotEqual, Equal, MaskedEqual}
 use Rattle.scf_profile.specs.declared.condition.Condition.{Condition}
 use Rattle.scf_profile.specs.Condition.{holds}
+use Rattle.scf_compare.specs.declared.question.Half.{Half}
+use Rattle.scf_compare.specs.declared.question.Half.TheVariants.{High as HighHalf, Low as LowHalf}
 use Rattle.scf_compare.specs.declared.question.Part.{Part}
 use Rattle.scf_compare.specs.declared.question.Part.TheVariants.{High, Above, Low}
 use Rattle.scf_compare.specs.declared.question.Way.{Way}
 use Rattle.scf_compare.specs.declared.question.Way.TheVariants.{Holds, Fails, Then}
 use Rattle.scf_compare.specs.declared.question.Question.{Question}
+
+-- a half of a 64-bit number
+abbrev pub half_of : Half → ℕ → ℕ
+half_of HighHalf n = high n
+half_of LowHalf n = low n
 
 -- a number and a value have one high half, as far as its bits are compared
 abbrev pub HasSameHigh : Operator → ℕ → ℕ → ℕ → Type 0

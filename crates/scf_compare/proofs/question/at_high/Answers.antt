@@ -8,6 +8,6 @@ returns-in-MaskedEqual-clause-splits c =
     λ words w.
     let n = argument (call_of words) c.args.condition.index in
     let u = bit_and c.args.condition.value_two c.args.condition.value in
-    let e = c.high_is_under_mask.ensures.answers words w in
+    let e = c.half_is_under_mask.ensures.answers words w in
     rw c.in-MaskedEqual.is
     (λ y. masked_same n c.args.condition.value u _ e y, λ f. masked_apart n c.args.condition.value u _ e f)
