@@ -1,7 +1,7 @@
 //! Code that is put together from its last instruction to its first, so that each jump goes to instructions that stand.
 
-ghost use Rattle.std.specs.Prelude.{◌-◌, ◌^◌, ◌<◌, ◌≤◌, [], ◌∷◌, IfOk, IfSome, length};
-ghost use Rattle.scf_compile.specs.internal.Placing.{branch_code, IsFirst, IsNear, IsPut};
+ghost use Rattle.std.specs.Prelude.{◌-◌, ◌^◌, ◌<◌, ◌≤◌, [], ◌∷◌, IfNone, IfOk, IfSome, length};
+ghost use Rattle.scf_compile.specs.internal.Placing.{branch_code, IsFirst, IsNear, IsOutOfReach, IsPut};
 
 use crate::insns::{jump_if, jump_over};
 use scf_insn::{Insn, Test};
@@ -18,7 +18,8 @@ pub(crate) struct Place(pub(crate) usize);
 /// The nearest place of an instruction, where a conditional jump still reaches it once one instruction more stands
 /// before the code.
 fn find(code: &VecDeque<Insn>, wanted: Insn) -> Option<Place>
-    ensures { IfSome result (IsPut (wanted ∷ []) code.now.items code.now.items) }
+    ensures some { IfSome result (IsPut (wanted ∷ []) code.now.items code.now.items) }
+    ensures none { IfNone result (IsOutOfReach wanted code.now.items) }
 {
     for i in 0..code.len().min(FARTHEST) {
         if code[i] == wanted {

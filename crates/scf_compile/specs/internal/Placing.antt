@@ -1,5 +1,5 @@
 -- Code that is put together from its last instruction to its first.
-use Rattle.std.specs.Prelude.{◌≡◌, ℕ, ◌+◌, ◌-◌, ◌<◌, ◌≤◌, ◌⊎◌, List, [], ◌∷◌, ◌++◌, drop, length, nat_le}
+use Rattle.std.specs.Prelude.{◌≡◌, ◌≢◌, ℕ, ◌+◌, ◌-◌, ◌<◌, ◌≤◌, ◌⊎◌, All, List, [], ◌∷◌, ◌++◌, drop, length, nat_le, take}
 use Rattle.std.specs.Prelude.{if◌then◌else◌}
 use Rattle.scf_insn.specs.declared.insn.Insn.{Insn}
 use Rattle.scf_insn.specs.declared.operation.Test.{Test}
@@ -20,12 +20,18 @@ pub record IsFirst (block before after : List Insn) (place : Place) : Type 0 whe
   pub whole : after ≡ block ++ before
   pub first : place.0 ≡ length after
 
--- The block stands at a place of the code, which is as it was before or has the block more.
+-- no jump to the instruction from two instructions before the code is near enough
+abbrev pub IsOutOfReach : Insn → List Insn → Type 0
+IsOutOfReach wanted code = All (λ insn. insn ≢ wanted) (take 255 code)
+
+-- The block stands at a place of the code, which is as it was before or has the block more: if this is one instruction,
+-- only where it was out of reach.
 pub record IsPut (block before after : List Insn) (place : Place) : Type 0 where
   pub put : (after ≡ before) ⊎ (after ≡ block ++ before)
   pub behind : List Insn
   pub there : code_from place after ≡ block ++ behind
   pub near : IsNear place after
+  pub once : (insn : Insn) → block ≡ insn ∷ [] → (after ≡ before) ⊎ IsOutOfReach insn before
 
 -- tests the accumulator, and passes `hit` instructions where the test holds and else `miss`: more than 255 by a jump of
 -- their own

@@ -1,9 +1,10 @@
-use Rattle.std.proofs.Common.{rules, ◌≡◌, ◌+◌, ◌-◌, ◌<◌, drop, length, get_or, refl, ap, ◌∙◌, arith, inl}
+use Rattle.std.proofs.Common.{rules, ◌≡◌, ◌+◌, ◌-◌, ◌<◌, drop, length, get_or, length-take, refl, ap, ◌∙◌, arith, inl}
+use Rattle.std.proofs.lemmas.List.{get_or-take}
 use Rattle.scf_compile.proofs.Lists.{next_at}
 use Rattle.scf_compile.proofs.placing.find.Goals as goal
 
-pub returns-then-eq : goal.returns-then-eq
-returns-then-eq c =
+pub returns-then-eq-clause-some : goal.returns-then-eq-clause-some
+returns-then-eq-clause-some c =
     let code = c.args.code.now.items in
     let i = c.loop-i.i in
     let inside : i < length code = search rules in
@@ -16,4 +17,15 @@ returns-then-eq c =
       behind = drop (i + 1) code;
       there = ap (λ n. drop n code) passed ∙ next_at code i c.args.wanted inside here;
       near = record { stands = omega arith; near = omega arith };
+      once = λ insn is. inl refl;
     }
+
+pub returns-clause-none : goal.returns-clause-none
+returns-clause-none c = λ k d lt.
+    let code = c.args.code.now.items in
+    let i = c.loop-i.i in
+    let front = length-take 255 code in
+    let all : k < i = search (rules, front, lt) in
+    let within = length-take i code in
+    let here = c.loop-i.invariant k d (omega (arith)) in
+    rw (get_or-take 255 code k d (omega arith)) (rw (get_or-take i code k d all) at here)

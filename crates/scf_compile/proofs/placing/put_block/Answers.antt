@@ -1,8 +1,10 @@
-use Rattle.std.proofs.Common.{rules, ◌≡◌, ◌++◌, ◌∷◌, ◌-◌, ◌+◌, ◌<◌, List, drop, get_or, length, sym, ap, ◌∙◌, arith, inr}
+use Rattle.std.proofs.Common.{rules, ◌≡◌, ◌++◌, ◌∷◌, ◌-◌, ◌+◌, ◌<◌, List, drop, get_or, length, sym, ap, ◌∙◌, subst, arith, inr}
 use Rattle.std.proofs.lemmas.List.{drop_all, drop_more}
 use Rattle.scf_insn.specs.declared.insn.Insn.{Insn}
+use Rattle.scf_compile.specs.internal.Placing.{IsOutOfReach}
 use Rattle.scf_compile.proofs.Puts.{first_near, from_first}
 use Rattle.scf_compile.proofs.placing.put_block.Goals as goal
+use Rattle.scf_compile.proofs.placing.put_block.Goals.{then-block-eq1+in_default, else-block-eq1}
 
 pub loop-i-init : goal.loop-i-init
 loop-i-init c =
@@ -34,4 +36,11 @@ returns c =
       behind = c.args.code.now.items;
       there = from_first code (record { 0 = c.len.result }) here ∙ whole;
       near = first_near code (record { 0 = c.len.result }) here;
+      once = λ insn is. inr (elim c.if-block-eq1.branch [
+        | then-block-eq1+in_default w ↦
+            subst (λ (i : Insn). IsOutOfReach i c.args.code.now.items)
+            (ap (λ (l : List Insn). get_or l 0 (record { code = 0; jt = 0; jf = 0; k = 0 })) is)
+            w.in_default.ensures.none
+        | else-block-eq1 w ↦ absurd (omega (arith, w.if-block-eq1.false, ap (λ (l : List Insn). length l) is))
+      ]);
     }
