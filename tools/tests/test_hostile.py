@@ -13,7 +13,7 @@ from common import ALLOW, KILL_PROCESS, SCF, X86_64, Case, insn, jeq, jge, load,
 
 LIMIT_OF_FILTER, LIMIT_OF_TEXT, LIMIT_OF_INPUT = 32768, 4194304, 16777216
 SECONDS, MEGABYTES = 20, 640
-GATE = load(4) + jeq(X86_64, 1, 0) + ret(KILL_PROCESS) + load(0) + jge(0x40000000, 0, 1) + ret(KILL_PROCESS)
+GATE = load(4) + jeq(X86_64, 0, 2) + load(0) + jge(0x40000000, 0, 1) + ret(KILL_PROCESS)
 ALLOWS = b'{"defaultAction":"SCMP_ACT_ALLOW"}'
 ALLOWS_COMPILED = GATE + ret(ALLOW)
 

@@ -132,16 +132,16 @@ fn shared_answers(rt: HostRuntime) -> Result<(), Fail> {
         };
         let profile = stating(rt.alloc(), &stated)?;
         let program = compile(rt.alloc(), &profile)?;
-        let mut rest = program.insns();
-        while let [insn, behind @ ..] = rest {
-            let reached = behind.get(..FARTHEST).unwrap_or(behind);
-            let answers = insn.operation() == Some(Operation::ReturnConstant);
-            assert!(rt;
-                !(answers && reached.contains(insn)),
-                "{count}: an answer stands twice, {} instructions from the end",
-                behind.len()
-            );
-            rest = behind;
+        let insns = program.insns();
+        for place in 0..insns.len() {
+            if let [insn, behind @ ..] = &insns[place..] {
+                let reached = &behind[..behind.len().min(FARTHEST)];
+                let answers = insn.operation() == Some(Operation::ReturnConstant);
+                assert!(rt;
+                    !(answers && reached.contains(insn)),
+                    "{count}: what {place} answers stands again within a jump's reach"
+                );
+            }
         }
     }
     Ok(())
