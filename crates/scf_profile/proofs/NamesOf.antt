@@ -1,12 +1,13 @@
 -- The map behind a tree from texts to numbers, and names as text.
 use Rattle.std.proofs.Common.{◌≡◌, ℕ, zero, suc, ◌<◌, inl, inr, Option, None, true, cond, List, [], ◌∷◌, map, Some}
-use Rattle.std.proofs.Common.{String, string_bytes, Global, BTreeMap, refl, sym, ap, ◌∙◌, arith, string_cmp, nat_cmp}
+use Rattle.std.proofs.Common.{String, string_bytes, Global, BTreeMap, refl, sym, ap, ◌∙◌, subst, arith, string_cmp}
+use Rattle.std.proofs.Common.{nat_cmp}
 use Rattle.std.specs.Prelude.{IsAscii, IfSome}
 use Rattle.std.specs.Str.{IsUtf8}
 use Rattle.std.specs.List.{list_all}
 use Rattle.std.specs.Map.{lookup}
 use Rattle.std.specs.FinMap.{get, insert, find, get-from_entries, get-empty, get-insert, same_map}
-use Rattle.std.specs.BTreeMap.{is_at, UpdatesBy}
+use Rattle.std.specs.BTreeMap.{get as value_of, is_at, Updates, UpdatesBy}
 use Rattle.std.specs.Cmp.Lexicographic.{slice_cmp, nat_list_cmp_total}
 use Rattle.std.specs.Ordering.{eq_by_cmp, is_eq}
 use Rattle.std.specs.Cmp.{eq_by_cmp_equiv}
@@ -27,6 +28,13 @@ find_named (e ∷ es) q = ap (cond (is_eq (slice_cmp nat_cmp q (string_bytes e.0
 pub get_named : (es : List (String Global × ℕ)) (q : List ℕ)
     → get (names_of es) q ≡ lookup (is_at (λ k. slice_cmp nat_cmp q (string_bytes k))) es
 get_named es q = get-from_entries nat_list_cmp_total (map named es) q ∙ find_named es q
+
+-- what the map has for a text is what the names have for it
+pub found_named : (m : BTreeMap (String Global) ℕ) (key : String Global) (names : Names) (name : List ℕ)
+    → names_of m.entries ≡ names → string_bytes key ≡ name → value_of string_cmp m key ≡ get names name
+found_named m key names name view is =
+    sym (get_named m.entries (string_bytes key)) ∙ ap (get (names_of m.entries)) is
+    ∙ ap (λ (n : Names). get n name) view
 
 -- one more name
 pub insert_named : (m n : BTreeMap (String Global) ℕ) (k : List ℕ) (v : ℕ)
@@ -55,7 +63,7 @@ pub call_numbers_empty : AreCallNumbers (names_of [])
 call_numbers_empty name number h = let none = get-empty {X = ℕ} (slice_cmp nat_cmp) name in cc
 
 -- names with one more number
-pub call_numbers_insert : (names : Names) (name : List ℕ) (number : ℕ) → AreCallNumbers names → number < x32_syscall_bit
+call_numbers_insert : (names : Names) (name : List ℕ) (number : ℕ) → AreCallNumbers names → number < x32_syscall_bit
     → AreCallNumbers (insert names name number)
 call_numbers_insert names name number each below other n h =
     let found = sym (get-insert nat_list_cmp_total names name number other) ∙ h in
@@ -63,6 +71,14 @@ call_numbers_insert names name number each below other n h =
       | inl e ↦ let same : Some number ≡ Some n = sym e ∙ found in let is : number ≡ n = cc in omega arith
       | inr e ↦ each other n (sym e ∙ found)
     ]
+
+-- the same of the maps
+pub call_numbers_updated : (m n : BTreeMap (String Global) ℕ) (key : String Global) (number : ℕ)
+    → Updates string_cmp m n key (Some number) → AreCallNumbers (names_of m.entries) → number < x32_syscall_bit
+    → AreCallNumbers (names_of n.entries)
+call_numbers_updated m n key number updates each below =
+    subst AreCallNumbers (sym (insert_named m n (string_bytes key) number updates))
+    (call_numbers_insert (names_of m.entries) (string_bytes key) number each below)
 
 -- what is found among the names is a call number
 pub found_below : (names : Names) (name : List ℕ) (found : Option ℕ) → AreCallNumbers names → found ≡ get names name

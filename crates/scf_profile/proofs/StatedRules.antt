@@ -3,12 +3,13 @@ use Rattle.std.proofs.Common.{◌≡◌, ℕ, true, false, ◌+◌, ◌<◌, ◌
 use Rattle.std.proofs.Common.{get_or, Some, None, Ok, All, refl, sym, ap, ◌∙◌, subst, arith, inl, inr, append_assoc}
 use Rattle.std.proofs.Common.{length-append, Bor}
 use Rattle.std.specs.Prelude.{Contains, nat_lt, option_map}
-use Rattle.std.specs.List.{cons_option}
+use Rattle.std.specs.List.{cons_option, filter}
 use Rattle.std.specs.FinMap.{get}
 use Rattle.std.proofs.lemmas.Bool.{cases_lt, cases_order, lt-ltb, le-ltb}
 use Rattle.std.proofs.lemmas.List.{map_more, take-append-drop, map-append}
 use Rattle.std.proofs.lemmas.List.Elements.{recursion_from_All, All-nil, All-cons, All-append, All-head, All-tail}
-use Rattle.std.proofs.lemmas.List.Elements.{All-contains, Contains-append_cases, filter_map-append}
+use Rattle.std.proofs.lemmas.List.Elements.{All-contains, Contains-append_cases, filter-append}
+use Rattle.std.proofs.lemmas.List.Elements.{filter_map-append}
 use Rattle.scf_profile.specs.declared.entry.Entry.{Entry}
 use Rattle.scf_profile.specs.declared.rule.Rule.{Rule}
 use Rattle.scf_profile.specs.internal.EntryRanges.{IsEntry, AreStatedRules}
@@ -20,7 +21,7 @@ use Rattle.scf_profile.specs.References.{texts_at}
 use Rattle.scf_profile.specs.Rule.{IsRule}
 use Rattle.scf_profile.proofs.Answering.{conflicts_both_ways}
 use Rattle.scf_profile.specs.Table.{Names, AreCallNumbers}
-use Rattle.scf_profile.specs.StatedProfile.{rule_for, rules_named, rules_from, rules_in}
+use Rattle.scf_profile.specs.StatedProfile.{rule_for, rules_named, rules_from, rules_in, is_skipped}
 
 -- what holds of the rule for each number that a name has
 module _ (P : Rule → Type 0) (table : Names) (place : ℕ) (e : Entry)
@@ -103,6 +104,18 @@ pub rules_more : (first old new : List Rule) (table : Names) (place : ℕ) (e : 
 rules_more first old new table place e names i d lt so_far one =
     one ∙ ap (λ (l : List Rule). l ++ rules_named table place e ((get_or names i d).now ∷ [])) so_far
     ∙ append_assoc first _ _ ∙ ap (λ (l : List Rule). first ++ l) (sym (named_more table place e names i d lt))
+
+-- one more name that may be skipped
+pub skipped_more : (first old new : List (List ℕ)) (table : Names) (names : List (Bor (List ℕ))) (i : ℕ)
+    (d : Bor (List ℕ)) → i < length names → old ≡ first ++ filter (is_skipped table) (texts_at (take i names))
+    → new ≡ old ++ filter (is_skipped table) ((get_or names i d).now ∷ [])
+    → new ≡ first ++ filter (is_skipped table) (texts_at (take (i + 1) names))
+skipped_more first old new table names i d lt so_far one =
+    let last = filter (is_skipped table) ((get_or names i d).now ∷ []) in
+    one ∙ ap (λ (l : List (List ℕ)). l ++ last) so_far ∙ append_assoc first _ _
+    ∙ ap (λ (l : List (List ℕ)). first ++ l)
+    (sym (ap (filter (is_skipped table)) (map_more (λ (s : Bor (List ℕ)). s.now) names i d lt)
+    ∙ filter-append (is_skipped table) (texts_at (take i names)) ((get_or names i d).now ∷ [])))
 
 -- a beginning is no longer than the whole
 rest_of_names : (table : Names) (place : ℕ) (e : Entry) (front back : List (List ℕ))

@@ -20,105 +20,93 @@ use crate::table::CallTable;
 use crate::texts::Texts;
 use std::alloc::{AllocError, Global};
 
-/// Adds the rule that an entry at a place states for a name, where the table has the name.
-fn add_rule(
-    rules: &mut Vec<Rule>,
-    alloc: Global,
-    table: &CallTable,
-    place: u32,
-    entry: &Entry,
-    name: &str,
-) -> Result<(), LoadFault>
-    requires { vec_len rules.old ≤ max_rules }
-    ensures ok { OnOk result (rules.new.items
-        ≡ rules.old.items ++ rules_named table.now place entry.now (name.now ∷ [])) }
-    ensures few { OnOk result (vec_len rules.new ≤ max_rules) }
-    ensures err { IfErr result (TellsTooMany
-        (rules.old.items ++ rules_named table.now place entry.now (name.now ∷ []))) }
-{
-    let Some(number) = table.number_of(name) else {
-        return Ok(());
-    };
-    if rules.len() == MAX_RULES {
-        return Err(LoadFault::TooMany);
-    }
-    let conditions = entry.conditions.try_clone(alloc)?;
-    rules.push(Rule {
-        number,
-        conditions,
-        answer: entry.answer,
-        entry: place,
-    })?;
-    Ok(())
+/// What entries and a table state: the rules, and each occurrence of a name that the table lacks.
+#[derive(Drop)]
+pub(crate) struct Expanded {
+    pub(crate) rules: Vec<Rule>,
+    pub(crate) skipped: Texts,
 }
 
-/// Adds one rule for each occurrence of a name that the table has.
-fn add_rules(
-    rules: &mut Vec<Rule>,
-    alloc: Global,
-    table: &CallTable,
-    place: u32,
-    entry: &Entry,
-) -> Result<(), LoadFault>
-    requires { vec_len rules.old ≤ max_rules }
-    ensures ok { OnOk result (rules.new.items
-        ≡ rules.old.items ++ rules_named table.now place entry.now entry.now.names) }
-    ensures few { OnOk result (vec_len rules.new ≤ max_rules) }
-    ensures err { IfErr result (TellsTooMany
-        (rules.old.items ++ rules_named table.now place entry.now entry.now.names)) }
-{
-    for name in entry.names.as_slice() {
-        add_rule(rules, alloc, table, place, entry, name)?;
+impl Expanded {
+    /// Adds the rule that an entry at a place states for a name, or the name where the table lacks it.
+    fn add_name(
+        &mut self,
+        alloc: Global,
+        table: &CallTable,
+        place: u32,
+        entry: &Entry,
+        name: &str,
+    ) -> Result<(), LoadFault>
+        requires { vec_len self.old.rules ≤ max_rules }
+        ensures rules { OnOk result (self.new.rules.items
+            ≡ self.old.rules.items ++ rules_named table.now place entry.now (name.now ∷ [])) }
+        ensures skipped { OnOk result (self.new.skipped
+            ≡ self.old.skipped ++ filter (is_skipped table.now) (name.now ∷ [])) }
+        ensures few { OnOk result (vec_len self.new.rules ≤ max_rules) }
+        ensures err { IfErr result (TellsTooMany
+            (self.old.rules.items ++ rules_named table.now place entry.now (name.now ∷ []))) }
+    {
+        let Some(number) = table.number_of(name) else {
+            self.skipped.push(alloc, name)?;
+            return Ok(());
+        };
+        if self.rules.len() == MAX_RULES {
+            return Err(LoadFault::TooMany);
+        }
+        let conditions = entry.conditions.try_clone(alloc)?;
+        self.rules.push(Rule {
+            number,
+            conditions,
+            answer: entry.answer,
+            entry: place,
+        })?;
+        Ok(())
     }
-    Ok(())
+
+    /// Adds what an entry at a place states for its names.
+    fn add_entry(
+        &mut self,
+        alloc: Global,
+        table: &CallTable,
+        place: u32,
+        entry: &Entry,
+    ) -> Result<(), LoadFault>
+        requires { vec_len self.old.rules ≤ max_rules }
+        ensures rules { OnOk result (self.new.rules.items
+            ≡ self.old.rules.items ++ rules_named table.now place entry.now entry.now.names) }
+        ensures skipped { OnOk result (self.new.skipped
+            ≡ self.old.skipped ++ filter (is_skipped table.now) entry.now.names) }
+        ensures few { OnOk result (vec_len self.new.rules ≤ max_rules) }
+        ensures err { IfErr result (TellsTooMany
+            (self.old.rules.items ++ rules_named table.now place entry.now entry.now.names)) }
+    {
+        for name in entry.names.as_slice() {
+            self.add_name(alloc, table, place, entry, name)?;
+        }
+        Ok(())
+    }
 }
 
-/// The rules that entries state, at most `MAX_RULES`.
+/// What entries and a table state, unless the rules are more than `MAX_RULES`.
 #[tactic(auto, unfolding(crate::specs::StatedProfile::rules_in))]
-pub(crate) fn rules_of(
+pub(crate) fn expand(
     alloc: Global,
     table: &CallTable,
     entries: &[Entry],
-) -> Result<Vec<Rule>, LoadFault>
+) -> Result<Expanded, LoadFault>
     requires { length entries.now < 2 ^ 32 }
-    ensures { Gives Memory (result_map (λ v. v.items) result) (rules_in table.now entries.now) }
+    ensures rules { Gives Memory (result_map (λ e. e.rules.items) result)
+        (rules_in table.now entries.now) }
+    ensures skipped { IfOk result (λ e. e.skipped ≡ skipped_names table.now entries.now) }
 {
-    let mut rules = Vec::new(alloc);
+    let mut expanded = Expanded {
+        rules: Vec::new(alloc),
+        skipped: Texts::new(alloc),
+    };
     for (i, entry) in entries.iter().enumerate() {
-        add_rules(&mut rules, alloc, table, i as u32, entry)?;
+        expanded.add_entry(alloc, table, i as u32, entry)?;
     }
-    Ok(rules)
-}
-
-/// Adds each occurrence of a name that the table lacks.
-fn add_skipped(
-    skipped: &mut Texts,
-    alloc: Global,
-    table: &CallTable,
-    names: &[&str],
-) -> Result<(), AllocError>
-    ensures { OnOk result (skipped.new
-        ≡ skipped.old ++ filter (is_skipped table.now) (texts_at names.now)) }
-{
-    for name in names {
-        skipped.push_if(alloc, table.number_of(name).is_none(), name)?;
-    }
-    Ok(())
-}
-
-/// Each occurrence of a name that the table lacks.
-pub(crate) fn skipped_of(
-    alloc: Global,
-    table: &CallTable,
-    entries: &[Entry],
-) -> Result<Texts, AllocError>
-    ensures { IfOk result (λ texts. texts ≡ skipped_names table.now entries.now) }
-{
-    let mut skipped = Texts::new(alloc);
-    for entry in entries {
-        add_skipped(&mut skipped, alloc, table, entry.names.as_slice())?;
-    }
-    Ok(skipped)
+    Ok(expanded)
 }
 
 /// The architectures beside x86-64.
@@ -131,7 +119,9 @@ pub(crate) fn other_architectures(
 {
     let mut others = Texts::new(alloc);
     for name in architectures {
-        others.push_if(alloc, !is_x86_64(name), name)?;
+        if !is_x86_64(name) {
+            others.push(alloc, name)?;
+        }
     }
     Ok(others)
 }

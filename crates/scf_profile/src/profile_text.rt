@@ -14,7 +14,7 @@ ghost use Rattle.scf_profile.specs.internal.Results.{result_map};
 
 use crate::action::{find_action, find_answer};
 use crate::conflict::least_conflict;
-use crate::expand::{other_architectures, rules_of, skipped_of};
+use crate::expand::{Expanded, expand, other_architectures};
 use crate::forms::check_no_engine_form;
 use crate::limits::MAX_TEXT_LEN;
 use crate::load_fault::LoadFault;
@@ -66,8 +66,7 @@ fn read_object(alloc: Global, table: &CallTable, object: &Value) -> Result<State
     let architectures = find_architectures(alloc, object)?;
     check_no_engine_form(None, "archMap", object)?;
     let entries = find_entries(alloc, object)?;
-    let rules = rules_of(alloc, table, &entries)?;
-    let skipped = skipped_of(alloc, table, &entries)?;
+    let Expanded { rules, skipped } = expand(alloc, table, &entries)?;
     let other_architectures = other_architectures(alloc, architectures.as_slice())?;
     table.within_range();
     Ok(Stated {

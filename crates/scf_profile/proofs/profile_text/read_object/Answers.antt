@@ -57,7 +57,7 @@ returns-in_err-rules-clause-value c =
     let e = c.in_ok-check_no_engine_form.ensures in
     let f = c.in_ok-entries.ensures.value in
     rw (p.1, p.2) (λ not_memory. let g = ap (rules_in c.args.table.now) (sym c.deref.ensures.value)
-    ∙ c.in_err-rules.ensures not_memory in rw (← a, ← b, d, ← e, f, g) refl)
+    ∙ c.in_err-rules.ensures.rules not_memory in rw (← a, ← b, d, ← e, f, g) refl)
 
 pub returns-clause-value : goal.returns-clause-value
 unfolding object_states
@@ -67,9 +67,9 @@ returns-clause-value c =
     let d = c.in_ok-architectures.ensures in
     let e = c.in_ok-check_no_engine_form.ensures in
     let f = c.in_ok-entries.ensures.value in
-    let g = ap (rules_in c.args.table.now) (sym c.deref.ensures.value) ∙ c.in_ok-rules.ensures in
-    let s : skipped_names c.args.table.now c.in_ok-entries.entries.items ≡ c.in_ok-skipped.skipped =
-    ap (skipped_names c.args.table.now) (sym c.deref-2.ensures.value) ∙ sym c.in_ok-skipped.ensures in
+    let g = ap (rules_in c.args.table.now) (sym c.deref.ensures.value) ∙ c.in_ok-rules.ensures.rules in
+    let s : skipped_names c.args.table.now c.in_ok-entries.entries.items ≡ c.in_ok-rules.field-0.skipped =
+    ap (skipped_names c.args.table.now) (sym c.deref.ensures.value) ∙ sym c.in_ok-rules.ensures.skipped in
     let o : filter is_other_architecture c.in_ok-architectures.architectures
     ≡ c.in_ok-other_architectures.other_architectures =
     ap (filter is_other_architecture) (sym c.as_slice.ensures) ∙ sym c.in_ok-other_architectures.ensures in
@@ -77,6 +77,6 @@ returns-clause-value c =
 
 pub returns-clause-range : goal.returns-clause-range
 returns-clause-range c =
-    stated_rules c.args.table.now c.in_ok-entries.entries.items c.in_ok-rules.rules.items c.within_range.ensures
+    stated_rules c.args.table.now c.in_ok-entries.entries.items c.in_ok-rules.field-0.rules.items c.within_range.ensures
     c.in_ok-entries.ensures.range
-    (ap (rules_in c.args.table.now) (sym c.deref.ensures.value) ∙ c.in_ok-rules.ensures)
+    (ap (rules_in c.args.table.now) (sym c.deref.ensures.value) ∙ c.in_ok-rules.ensures.rules)

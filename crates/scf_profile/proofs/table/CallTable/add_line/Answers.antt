@@ -1,42 +1,43 @@
-use Rattle.std.proofs.Common.{◌≡◌, true, false, sym, ◌∙◌, ap, refl, Ok, Some, string_bytes, List, ℕ, subst}
+use Rattle.std.proofs.Common.{◌≡◌, true, false, refl, sym, ◌∙◌, ap, Ok, Some, string_bytes, List, ℕ}
 use Rattle.std.specs.Prelude.{is_some}
 use Rattle.std.specs.FinMap.{get, insert}
 use Rattle.scf_profile.specs.Names.{names_of}
-use Rattle.scf_profile.specs.Table.{Names, AreCallNumbers, fields, entry_in, with_line}
-use Rattle.scf_profile.proofs.NamesOf.{get_named, insert_named, call_numbers_insert}
+use Rattle.scf_profile.specs.Table.{Names, fields, entry_in, with_line}
+use Rattle.scf_profile.proofs.NamesOf.{found_named, insert_named, call_numbers_updated}
 use Rattle.scf_profile.proofs.table.CallTable.add_line.Goals as goal
 
-pub returns-then-contains_key-clause-err : goal.returns-then-contains_key-clause-err
-unfolding with_line
-returns-then-contains_key-clause-err c =
-    let name = c.in-Some.name.now in
-    let there : is_some (get c.args.self.now name) ≡ true =
-    ap (λ (m : Names). is_some (get m name)) (sym c.self.view_is)
-    ∙ ap is_some (get_named c.self.inside.numbers.entries name) ∙ sym c.contains_key.ensures
-    ∙ c.if-contains_key.true in
-    let entry : entry_in c.args.line (fields c.args.text.now) ≡ Ok (Some (name, c.in-Some.number)) =
-    sym (rw c.in-Some.is at c.in_ok-name.ensures.value) in
-    λ _. rw (entry, there) refl
+pub invariant_of-self-then-is_some : goal.invariant_of-self-then-is_some
+invariant_of-self-then-is_some c =
+    call_numbers_updated c.self.inside.numbers c.insert.new.self c.in_ok-key.key c.in-Some.number
+    c.in_ok-insert.ensures.updates c.self.invariant (rw c.in-Some.is at c.in_ok-name.ensures.range)
 
 pub invariant_of-self-2 : goal.invariant_of-self-2
 invariant_of-self-2 c =
-    let below = rw c.in-Some.is at c.in_ok-name.ensures.range in
-    subst AreCallNumbers (sym
-    (insert_named c.self.inside.numbers c.insert.new.self (string_bytes c.in_ok-key.key) c.in-Some.number
-    c.in_ok-insert.ensures.updates))
-    (call_numbers_insert (names_of c.self.inside.numbers.entries) (string_bytes c.in_ok-key.key) c.in-Some.number
-    c.self.invariant below)
+    call_numbers_updated c.self.inside.numbers c.insert.new.self c.in_ok-key.key c.in-Some.number
+    c.in_ok-insert.ensures.updates c.self.invariant (rw c.in-Some.is at c.in_ok-name.ensures.range)
+
+pub returns-then-is_some-clause-err : goal.returns-then-is_some-clause-err
+unfolding with_line
+returns-then-is_some-clause-err c =
+    let name = c.in-Some.name.now in
+    let entry : entry_in c.args.line (fields c.args.text.now) ≡ Ok (Some (name, c.in-Some.number)) =
+    sym (rw c.in-Some.is at c.in_ok-name.ensures.value) in
+    let there : is_some (get c.args.self.now name) ≡ true =
+    ap is_some (sym (c.in_ok-insert.ensures.old
+    ∙ found_named c.self.inside.numbers c.in_ok-key.key c.args.self.now name c.self.view_is c.in_ok-key.ensures.ok))
+    ∙ sym c.is_some.ensures ∙ c.if-is_some.true in
+    λ _. rw (entry, there) refl
 
 pub returns-clause-ok : goal.returns-clause-ok
 unfolding with_line
 returns-clause-ok c =
     let name = c.in-Some.name.now in
-    let absent : is_some (get c.args.self.now name) ≡ false =
-    ap (λ (m : Names). is_some (get m name)) (sym c.self.view_is)
-    ∙ ap is_some (get_named c.self.inside.numbers.entries name) ∙ sym c.contains_key.ensures
-    ∙ c.if-contains_key.false in
     let entry : entry_in c.args.line (fields c.args.text.now) ≡ Ok (Some (name, c.in-Some.number)) =
     sym (rw c.in-Some.is at c.in_ok-name.ensures.value) in
+    let absent : is_some (get c.args.self.now name) ≡ false =
+    ap is_some (sym (c.in_ok-insert.ensures.old
+    ∙ found_named c.self.inside.numbers c.in_ok-key.key c.args.self.now name c.self.view_is c.in_ok-key.ensures.ok))
+    ∙ sym c.is_some.ensures ∙ c.if-is_some.false in
     let added : insert c.args.self.now name c.in-Some.number ≡ names_of c.insert.new.self.entries =
     ap (λ (m : Names). insert m name c.in-Some.number) (sym c.self.view_is)
     ∙ ap (λ (k : List ℕ). insert (names_of c.self.inside.numbers.entries) k c.in-Some.number)
