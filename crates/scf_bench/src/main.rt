@@ -1,11 +1,18 @@
-//! Runs a filter from standard input many times in one process, for bench/run to time. It writes the answer of the last
-//! run and the steps of all of them. The one argument says how often; without it the filter runs once.
+//! Runs a filter or a command of scf many times in one process, for bench/run to time. The first argument says how
+//! often; without it, once. The other arguments are those of a command, which runs on standard input's bytes; what is
+//! written is its last status and how many bytes it answered. Without them a filter from standard input runs on a call
+//! record; what is written is its last answer and the steps of all runs.
 #![tactic(auto)]
 
-use scf_insn::{Answer, CallRecord, Counted, read_program};
+use scf_insn::faults::{Failing, Writer};
+use scf_insn::{Answer, CallRecord, Counted, read_input, read_program};
 use scf_machine::{Program, check, run};
+use scf_tool::run_command;
 use std::process::ExitCode;
 use std::{env, io};
+
+/// The most bytes that a command runs on.
+const MAX_INPUT_LEN: usize = 0x1000_0000;
 
 /// Call 0 of x86-64. The instruction pointer is another in each round, so that no round can stand for the next.
 fn record_of(round: u64) -> CallRecord {
@@ -29,15 +36,7 @@ fn run_often(program: &Program, times: u64) -> (Answer, u64) {
     (answer, steps)
 }
 
-fn times_of(rt: &HostRuntime) -> io::Result<u64> {
-    match env::args(rt)?.nth(1) {
-        Some(word) => Ok(word.parse().unwrap_or(0)),
-        None => Ok(1),
-    }
-}
-
-fn main(rt: HostRuntime) -> io::Result<ExitCode> {
-    let times = times_of(&rt)?;
+fn time_filter(rt: &HostRuntime, times: u64) -> io::Result<ExitCode> {
     let Ok(insns) = read_program(rt.alloc(), &mut Counted::new(rt.reader())) else {
         println!(rt; "unreadable")?;
         return Ok(ExitCode::FAILURE);
@@ -49,4 +48,37 @@ fn main(rt: HostRuntime) -> io::Result<ExitCode> {
     let (answer, steps) = run_often(&program, times);
     println!(rt; "0x{:08x} steps {steps}", answer.0)?;
     Ok(ExitCode::SUCCESS)
+}
+
+/// The first of the words stands for the program's name.
+fn time_command(rt: &HostRuntime, words: &[String], times: u64) -> io::Result<ExitCode> {
+    let mut source = Counted::new(rt.reader());
+    let Ok(input) = read_input(rt.alloc(), &mut source, MAX_INPUT_LEN) else {
+        println!(rt; "unreadable")?;
+        return Ok(ExitCode::FAILURE);
+    };
+    let mut status = 0;
+    let mut len = 0;
+    for _ in 0..times {
+        let mut source = Counted::new(input.as_slice());
+        let mut out = Writer::new(rt.alloc(), usize::MAX, Failing::Never);
+        status = run_command(rt.alloc(), words, &mut source, &mut out);
+        len = out.taken().len();
+    }
+    println!(rt; "status {status} bytes {len}")?;
+    Ok(ExitCode::SUCCESS)
+}
+
+fn main(rt: HostRuntime) -> io::Result<ExitCode> {
+    let words: Vec<String> = env::args(&rt)?.collect(rt.alloc())?;
+    let words = words.as_slice();
+    let times = match words.get(1) {
+        Some(word) => word.parse().unwrap_or(0),
+        None => 1,
+    };
+    if words.len() > 2 {
+        time_command(&rt, &words[1..], times)
+    } else {
+        time_filter(&rt, times)
+    }
 }
