@@ -8,6 +8,7 @@ ghost use Rattle.scf_profile.specs.PlainProfile.{IsPlainCondition};
 ghost use Rattle.scf_compare.specs.internal.Conditions.{IsAtPart, Splits, half_of, part_size, way_size};
 ghost use Rattle.scf_compare.specs.internal.Trees.{KeepsEither};
 
+use Way::{Fails, Holds, Then};
 use scf_facts::Atom;
 use scf_insn::{high_half, low_half};
 use scf_profile::{Condition, Operator};
@@ -49,6 +50,17 @@ enum Half {
     Low,
 }
 
+/// A question, and where its two answers lead.
+fn ask(atom: Atom, if_true: Way, if_false: Way) -> Question
+    ensures { result ≡ record { atom = atom; if_true = if_true; if_false = if_false } }
+{
+    Question {
+        atom,
+        if_true,
+        if_false,
+    }
+}
+
 /// What a part of a condition asks.
 pub(crate) fn question_of(condition: Condition, part: Part) -> Question
     requires { condition.index < 6 }
@@ -79,27 +91,21 @@ fn at_high(condition: Condition) -> Question
     ensures keeps { IsPlainCondition condition → KeepsEither result.atom }
 {
     match condition.op {
-        Operator::MaskedEqual => Question {
-            atom: half_is_under_mask(Half::High, condition),
-            if_true: Way::Then(Part::Low),
-            if_false: Way::Fails,
-        },
-        Operator::Equal => Question {
-            atom: half_is(Half::High, condition),
-            if_true: Way::Then(Part::Low),
-            if_false: Way::Fails,
-        },
-        Operator::NotEqual => Question {
-            atom: half_is(Half::High, condition),
-            if_true: Way::Then(Part::Low),
-            if_false: Way::Holds,
-        },
+        Operator::MaskedEqual => {
+            ask(
+                half_is_under_mask(Half::High, condition),
+                Then(Part::Low),
+                Fails,
+            )
+        }
+        Operator::Equal => ask(half_is(Half::High, condition), Then(Part::Low), Fails),
+        Operator::NotEqual => ask(half_is(Half::High, condition), Then(Part::Low), Holds),
         Operator::Less | Operator::LessOrEqual | Operator::GreaterOrEqual | Operator::Greater =>
-            Question {
-                atom: half_is(Half::High, condition),
-                if_true: Way::Then(Part::Low),
-                if_false: Way::Then(Part::Above),
-            },
+            ask(
+                half_is(Half::High, condition),
+                Then(Part::Low),
+                Then(Part::Above),
+            ),
     }
 }
 
@@ -115,20 +121,16 @@ fn at_above(condition: Condition) -> Question
     ensures keeps { IsPlainCondition condition → KeepsEither result.atom }
 {
     match condition.op {
-        Operator::Greater | Operator::GreaterOrEqual => Question {
-            atom: half_is_above(Half::High, condition),
-            if_true: Way::Holds,
-            if_false: Way::Fails,
-        },
+        Operator::Greater | Operator::GreaterOrEqual => ask(
+            half_is_above(Half::High, condition),
+            Holds,
+            Fails,
+        ),
         Operator::Less
         | Operator::LessOrEqual
         | Operator::Equal
         | Operator::NotEqual
-        | Operator::MaskedEqual => Question {
-            atom: half_is_above(Half::High, condition),
-            if_true: Way::Fails,
-            if_false: Way::Holds,
-        },
+        | Operator::MaskedEqual => ask(half_is_above(Half::High, condition), Fails, Holds),
     }
 }
 
@@ -144,41 +146,13 @@ fn at_low(condition: Condition) -> Question
     ensures keeps { IsPlainCondition condition → KeepsEither result.atom }
 {
     match condition.op {
-        Operator::Equal => Question {
-            atom: half_is(Half::Low, condition),
-            if_true: Way::Holds,
-            if_false: Way::Fails,
-        },
-        Operator::NotEqual => Question {
-            atom: half_is(Half::Low, condition),
-            if_true: Way::Fails,
-            if_false: Way::Holds,
-        },
-        Operator::MaskedEqual => Question {
-            atom: half_is_under_mask(Half::Low, condition),
-            if_true: Way::Holds,
-            if_false: Way::Fails,
-        },
-        Operator::Greater => Question {
-            atom: half_is_above(Half::Low, condition),
-            if_true: Way::Holds,
-            if_false: Way::Fails,
-        },
-        Operator::LessOrEqual => Question {
-            atom: half_is_above(Half::Low, condition),
-            if_true: Way::Fails,
-            if_false: Way::Holds,
-        },
-        Operator::GreaterOrEqual => Question {
-            atom: half_is_at_least(Half::Low, condition),
-            if_true: Way::Holds,
-            if_false: Way::Fails,
-        },
-        Operator::Less => Question {
-            atom: half_is_at_least(Half::Low, condition),
-            if_true: Way::Fails,
-            if_false: Way::Holds,
-        },
+        Operator::Equal => ask(half_is(Half::Low, condition), Holds, Fails),
+        Operator::NotEqual => ask(half_is(Half::Low, condition), Fails, Holds),
+        Operator::MaskedEqual => ask(half_is_under_mask(Half::Low, condition), Holds, Fails),
+        Operator::Greater => ask(half_is_above(Half::Low, condition), Holds, Fails),
+        Operator::LessOrEqual => ask(half_is_above(Half::Low, condition), Fails, Holds),
+        Operator::GreaterOrEqual => ask(half_is_at_least(Half::Low, condition), Holds, Fails),
+        Operator::Less => ask(half_is_at_least(Half::Low, condition), Fails, Holds),
     }
 }
 

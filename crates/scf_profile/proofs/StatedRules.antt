@@ -18,7 +18,7 @@ use Rattle.scf_profile.specs.Loading.{EntriesConflict}
 use Rattle.scf_profile.specs.Limits.{max_rules}
 use Rattle.scf_profile.specs.Profile.{IsProfile, HaveNoConflict}
 use Rattle.scf_profile.specs.References.{texts_at}
-use Rattle.scf_profile.specs.Rule.{IsRule}
+use Rattle.scf_profile.specs.Rule.{Conflicts, IsRule}
 use Rattle.scf_profile.proofs.Answering.{conflicts_both_ways}
 use Rattle.scf_profile.specs.Table.{Names, AreCallNumbers}
 use Rattle.scf_profile.specs.StatedProfile.{rule_for, rules_named, rules_from, rules_in, is_skipped}
@@ -174,36 +174,30 @@ stated_rules table es rules below each is =
 
 -- ---- conflicts
 
+module _ (rules : List Rule) (none : (first second number : ℕ) → EntriesConflict rules first second number → ⊥) where
+  not_before : (r s : Rule) → Contains rules r → Contains rules s → r.entry < s.entry → Conflicts r s → ⊥
+  not_before r s has_r has_s before conflict =
+      none r.entry s.entry r.number
+      (record {
+        rule = r;
+        later = s;
+        has_rule = has_r;
+        has_later = has_s;
+        entry = refl;
+        later_entry = refl;
+        order = before;
+        rule_number = refl;
+        conflict = conflict;
+      })
+
 -- rules of which no two entries conflict
 pub have_no_conflict : (rules : List Rule) → AreStatedRules rules
     → ((first second number : ℕ) → EntriesConflict rules first second number → ⊥) → HaveNoConflict rules
 have_no_conflict rules stated none r s has_r has_s conflict =
     elim (cases_order r.entry s.entry) [
       | inl same ↦ conflict.answer (stated.one_answer r s has_r has_s same)
-      | inr (inl before) ↦ none r.entry s.entry r.number
-          (record {
-            rule = r;
-            later = s;
-            has_rule = has_r;
-            has_later = has_s;
-            entry = refl;
-            later_entry = refl;
-            order = before;
-            rule_number = refl;
-            conflict = conflict;
-          })
-      | inr (inr after) ↦ none s.entry r.entry s.number
-          (record {
-            rule = s;
-            later = r;
-            has_rule = has_s;
-            has_later = has_r;
-            entry = refl;
-            later_entry = refl;
-            order = after;
-            rule_number = refl;
-            conflict = conflicts_both_ways r s conflict;
-          })
+      | inr (inl before) ↦ not_before rules none r s has_r has_s before conflict
+      | inr (inr after) ↦ not_before rules none s r has_s has_r after (conflicts_both_ways r s conflict)
     ]
 
 pub profile_of_rules : (default_answer : Answer) (rules : List Rule) → default_answer.0 < 2 ^ 32 → AreStatedRules rules

@@ -54,7 +54,7 @@ insn_counts (Some ReturnsConstant) i later = omega arith
 insn_counts (Some ReturnsAccumulator) i later = omega arith
 insn_counts operation i later = omega arith
 
-place_counts : (insns : List Insn) (place : ℕ) → 0 < tree_size insns place
+pub place_counts : (insns : List Insn) (place : ℕ) → 0 < tree_size insns place
 unfolding tree_sizes
 place_counts [] place = omega arith
 place_counts (i ∷ insns) zero = insn_counts (operation_of i.code) i (tree_sizes insns)

@@ -21,3 +21,12 @@ loop-steps-preserved g c =
       size = omega (arith, c.loop-steps.invariant.size, over.size);
       exact = λ exact plain. over.exact (c.loop-steps.invariant.exact exact plain);
     }
+
+pub returns-in-AllSeen-clause-holds : goal.returns-in-AllSeen-clause-holds
+returns-in-AllSeen-clause-holds g c =
+    let seen = rw c.in-AllSeen.is at c.in_ok-next.ensures in
+    λ words within.
+    elim (c.loop-steps.invariant.words words within) [ inl alike ↦ alike | inr ahead ↦ seen words ahead ]
+
+pub returns-in-AllSeen-clause-decided : goal.returns-in-AllSeen-clause-decided
+returns-in-AllSeen-clause-decided g c = λ exact plain. returns-in-AllSeen-clause-holds g c

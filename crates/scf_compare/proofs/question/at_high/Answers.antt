@@ -1,4 +1,4 @@
-use Rattle.std.proofs.Common.{bit_and}
+use Rattle.std.proofs.Common.{bit_and, rules}
 use Rattle.scf_insn.specs.Words.{argument, call_of}
 use Rattle.scf_compare.proofs.Halves.{masked_same, masked_apart}
 use Rattle.scf_compare.proofs.question.at_high.Goals as goal
@@ -9,5 +9,8 @@ returns-in-MaskedEqual-clause-splits c =
     let n = argument (call_of words) c.args.condition.index in
     let u = bit_and c.args.condition.value_two c.args.condition.value in
     let e = c.half_is_under_mask.ensures.answers words w in
-    rw c.in-MaskedEqual.is
+    rw (c.in-MaskedEqual.is, c.ask.ensures)
     (λ y. masked_same n c.args.condition.value u _ e y, λ f. masked_apart n c.args.condition.value u _ e f)
+
+pub returns-in-Less : goal.returns-in-Less
+returns-in-Less c = rw c.ask-in-Less.ensures (search rules)

@@ -9,5 +9,5 @@ returns-in-MaskedEqual-clause-splits c =
     let n = argument (call_of words) c.args.condition.index in
     let u = bit_and c.args.condition.value_two c.args.condition.value in
     let e = c.half_is_under_mask.ensures.answers words w in
-    rw c.in-MaskedEqual.is
+    rw (c.in-MaskedEqual.is, c.ask-in-MaskedEqual.ensures)
     (λ same. let h = masked_by_low n c.args.condition.value u same ∙ sym e in (λ y. h ∙ y, λ f. h ∙ f))
