@@ -1,5 +1,5 @@
 -- Where the ways on from a condition lead.
-use Rattle.std.proofs.Common.{◌≡◌, ◌+◌, ◌<◌, ◌≤◌, ℕ, suc, List, get_or, length, take, drop, slice_index_or, true, sym, ap, subst, ◌∙◌, arith}
+use Rattle.std.proofs.Common.{◌≡◌, ◌≢◌, ◌+◌, ◌<◌, ◌≤◌, ℕ, suc, List, get_or, length, take, drop, slice_index_or, true, sym, ap, subst, ◌∙◌, arith}
 use Rattle.std.specs.Prelude.{slice_get, Some}
 use Rattle.std.proofs.lemmas.List.{take_all}
 use Rattle.std.proofs.lemmas.Option.{slice_get-get_or, slice_get_within}
@@ -16,6 +16,9 @@ use Rattle.scf_compare.specs.internal.Profiles.{profile_with, StandsAt, IsAtCond
 use Rattle.scf_compare.proofs.Rules.{read_here, same_here, contains_here, met_by, held_more, fails_by, unmet_failing, unmet_more, knows, size_at_condition, conditions_count}
 use Rattle.scf_compare.proofs.profile.follow.Goals as goal
 
+none : Condition
+none = record { index = 0; op = Equal; value = 0; value_two = 0 }
+
 -- the rule that was read stands at its place, with the condition at its own
 rule_read : (rules : List Rule) (place index : ℕ) (a : Rule)
     → ((rule : Rule) × (condition : Condition) × StandsAt rules place index rule condition) → a ≡ get_or rules place a
@@ -24,6 +27,18 @@ rule_read rules place index a node is =
     let here = read_here rules place a (slice_get_within rules place node.0 node.2.rule_here) is in
     let same : node.0 ≡ a = same_here rules place node.0 a node.2.rule_here here in
     (node.1, subst (λ (r : Rule). StandsAt rules place index r node.1) same node.2)
+
+-- the condition behind the one that was read, where that isn't the last
+next_stands : (rules : List Rule) (place index count : ℕ) (a : Rule)
+    → (condition : Condition) × StandsAt rules place index a condition → count ≡ length a.conditions
+    → index + 1 ≢ count → StandsAt rules place (index + 1) a (slice_index_or a.conditions (index + 1) none)
+next_stands rules place index count a read counts apart =
+    let within : index < length a.conditions = slice_get_within a.conditions index read.0 read.1.condition_here in
+    record {
+      rule_here = read.1.rule_here;
+      condition_here =
+          slice_get-get_or a.conditions (index + 1) none (omega (arith, within, counts, apart));
+    }
 
 pub overflow_add-index : goal.overflow_add-index
 overflow_add-index c =
@@ -91,15 +106,9 @@ returns-else-index-conditions-clause-node c =
     let index = c.args.index in
     let a = c.index-rules-place.result in
     let read = rule_read rules place index a c.requires.node c.index-rules-place.is in
-    let here = read.1.rule_here in
-    let within : index < length a.conditions = slice_get_within a.conditions index read.0 read.1.condition_here in
-    let none : Condition = record { index = 0; op = Equal; value = 0; value_two = 0 } in
-    let more : index + 1 < length a.conditions =
-    omega (arith, within, c.if-index-conditions.false, ap length c.as_slice-conditions.ensures) in
-    let x : Condition = slice_index_or a.conditions (index + 1) none in
-    let next_here : slice_get a.conditions (index + 1) ≡ Some (slice_index_or a.conditions (index + 1) none) =
-    slice_get-get_or a.conditions (index + 1) none more in
-    (a, x, record { rule_here = here; condition_here = next_here })
+    let behind =
+    next_stands rules place index _ a read (ap length c.as_slice-conditions.ensures) c.if-index-conditions.false in
+    (a, slice_index_or a.conditions (index + 1) none, behind)
 
 pub returns-else-index-conditions-clause-reached : goal.returns-else-index-conditions-clause-reached
 returns-else-index-conditions-clause-reached c =
@@ -108,16 +117,10 @@ returns-else-index-conditions-clause-reached c =
     let index = c.args.index in
     let a = c.index-rules-place.result in
     let read = rule_read rules place index a c.requires.node c.index-rules-place.is in
-    let here = read.1.rule_here in
-    let within : index < length a.conditions = slice_get_within a.conditions index read.0 read.1.condition_here in
-    let none : Condition = record { index = 0; op = Equal; value = 0; value_two = 0 } in
-    let more : index + 1 < length a.conditions =
-    omega (arith, within, c.if-index-conditions.false, ap length c.as_slice-conditions.ensures) in
-    let x : Condition = slice_index_or a.conditions (index + 1) none in
-    let next_here : slice_get a.conditions (index + 1) ≡ Some (slice_index_or a.conditions (index + 1) none) =
-    slice_get-get_or a.conditions (index + 1) none more in
+    let behind =
+    next_stands rules place index _ a read (ap length c.as_slice-conditions.ensures) c.if-index-conditions.false in
     λ words rule condition stands at. rw c.in-Holds.is (λ way.
-    let same = same_here rules place rule a stands.rule_here here in
+    let same = same_here rules place rule a stands.rule_here read.1.rule_here in
     let one : suc index ≡ index + 1 = omega arith in
     let held = held_more (call_of words) rule.conditions index condition stands.condition_here at.held way in
     let next : IsAtCondition rules place (index + 1) rule (call_of words) =
@@ -127,11 +130,9 @@ returns-else-index-conditions-clause-reached c =
       unmet = at.unmet;
       held = subst (λ n. all_hold (call_of words) (take n rule.conditions) ≡ true) one held;
     } in
-    knows rules place (index + 1) (call_of words) High rule x
-    (record {
-      rule_here = stands.rule_here;
-      condition_here = subst (λ (r : Rule). slice_get r.conditions (index + 1) ≡ Some x) (sym same) next_here;
-    })
+    knows rules place (index + 1) (call_of words) High rule _
+    (subst (λ (r : Rule). StandsAt rules place (index + 1) r (slice_index_or a.conditions (index + 1) none)) (sym same)
+    behind)
     next tt)
 
 pub returns-else-index-conditions-clause-size : goal.returns-else-index-conditions-clause-size
@@ -141,18 +142,13 @@ returns-else-index-conditions-clause-size c =
     let index = c.args.index in
     let a = c.index-rules-place.result in
     let read = rule_read rules place index a c.requires.node c.index-rules-place.is in
-    let here = read.1.rule_here in
-    let within : index < length a.conditions = slice_get_within a.conditions index read.0 read.1.condition_here in
-    let none : Condition = record { index = 0; op = Equal; value = 0; value_two = 0 } in
-    let more : index + 1 < length a.conditions =
-    omega (arith, within, c.if-index-conditions.false, ap length c.as_slice-conditions.ensures) in
-    let x : Condition = slice_index_or a.conditions (index + 1) none in
-    let next_here : slice_get a.conditions (index + 1) ≡ Some (slice_index_or a.conditions (index + 1) none) =
-    slice_get-get_or a.conditions (index + 1) none more in
+    let behind =
+    next_stands rules place index _ a read (ap length c.as_slice-conditions.ensures) c.if-index-conditions.false in
     λ rule at. rw c.in-Holds.is (
-    let same = same_here rules place rule a at here in
-    size_at_condition rules place (index + 1) rule x
-    at (subst (λ (r : Rule). slice_get r.conditions (index + 1) ≡ Some x) (sym same) next_here))
+    let same = same_here rules place rule a at read.1.rule_here in
+    size_at_condition rules place (index + 1) rule (slice_index_or a.conditions (index + 1) none)
+    at (subst (λ (r : Rule). slice_get r.conditions (index + 1) ≡ Some (slice_index_or a.conditions (index + 1) none))
+    (sym same) behind.condition_here))
 
 pub returns-in-Fails-clause-reached : goal.returns-in-Fails-clause-reached
 returns-in-Fails-clause-reached c =
