@@ -104,7 +104,7 @@ impl Model for Conditions {
 
 impl Conditions {
     /// These conditions, in their order.
-    pub(crate) fn from_vec(list: Vec<Condition>) -> Conditions
+    pub fn from_vec(list: Vec<Condition>) -> Conditions
         ensures { result ≡ list.items }
     {
         Conditions { list }
@@ -131,5 +131,13 @@ impl Conditions {
         ensures { result.now ≡ self.now }
     {
         &self.list
+    }
+
+    /// The list of the conditions. It takes no memory.
+    pub fn into_vec(self) -> Vec<Condition>
+        ensures { result.items ≡ self }
+    {
+        let Conditions { list } = self;
+        list
     }
 }

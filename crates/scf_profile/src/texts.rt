@@ -51,6 +51,14 @@ impl Texts {
     {
         &self.list
     }
+
+    /// The list of the texts. It takes no memory.
+    pub fn into_vec(self) -> Vec<String>
+        ensures { map string_bytes result.items ≡ self }
+    {
+        let Texts { list } = self;
+        list
+    }
 }
 
 /// Texts that lie elsewhere, in an order.
