@@ -96,6 +96,7 @@ class CallTable(Case):
         table = "read 0\nwrite 1\nafter 3\nspaced 4\ntabbed 5\n"
         self.assertEqual(self.run_tool("call-table", self.file("h", HEADER)), (0, table, ""))
         self.assertEqual(self.run_tool("call-table", given=HEADER.encode()), (0, table, ""))
+        self.assertEqual(self.run_tool("call-table", "-", given=HEADER.encode()), (0, table, ""))
         self.assertEqual(self.run_tool("call-table", "--comment", "of 6.1", given=HEADER.encode()),
                          (0, "# of 6.1\n" + table, ""))
 

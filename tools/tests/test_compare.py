@@ -2,7 +2,7 @@
 import os
 
 from common import (ALLOW, EPERM, I386, KILL_PROCESS, KILL_THREAD, SCF, TABLE, X86_64, Case, filter_of, insn, jeq, jge,
-                    load, needs, part, profile_of, ret)
+                    load, needs, part, profile_of, ret, tool)
 
 READ, WRITE, EXIT_GROUP = 0, 1, 231
 
@@ -49,6 +49,12 @@ class Compare(Case):
             status, out, _ = self.run_tool("compare", "--table", name, self.wrong, self.profile, given=given)
             self.assertEqual(status, 1)
             self.assertIn("# the call is leave or leave_too (231)\n", out)
+        with open(table, "rb") as given:
+            out = self.run_tool("compare", "--table", "-", self.wrong, self.profile, given=given)[1]
+        self.assertIn("# the call is leave or leave_too (231)\n", out)
+        self.file("-t", b"read 0\nwrite 1\nleave 231\n")
+        self.assertIn("# the call is leave (231)\n",
+                      self.run_tool("compare", "--native", "--table=-t", self.wrong, self.profile)[1])
         few = self.file("few.table", b"read 0\nwrite 1\n")
         self.assertIn("# the call is number 231, which the table doesn't name\n",
                       self.run_tool("compare", "--table", few, self.wrong, self.profile)[1])
@@ -79,6 +85,8 @@ class Compare(Case):
                              ((self.same, "-"), profile_of("read", "write")),
                              ((self.same, "/dev/stdin"), profile_of("read", "write"))):
             self.assertEqual(self.run_tool("compare", *words, given=given), (0, "same\n", ""))
+        self.assertEqual(self.run_words(["bash", "-c", '"$1" --table <(cat "$2") <(cat "$3") <(cat "$4")', "-",
+                                         tool("compare"), TABLE, self.same, self.profile]), (0, "same\n", ""))
         status, out, err = self.run_tool("compare", "-", "-")
         self.assertEqual((status, out), (2, ""))
         self.assertIn("only one input can be '-'", err)
@@ -248,6 +256,13 @@ class Decide(Case):
                                  "EPERM\n", ""))
         self.assertEqual(self.run_tool("decide", self.filter)[1],
                          "ALLOW 0\n# the call is read (0)\n# ALLOW: the call is made\n")
+        self.file("-t", b"own 1\n")
+        for words, given in (("--table=-t", b""), ("--table=-", b"own 1\n")):
+            out = self.run_tool("decide", words, "--nr", "own", self.filter, given=given)[1]
+            self.assertTrue(out.startswith("ERRNO 1\n# the call is own (1)\n"), out)
+        out = self.run_words(["bash", "-c", '"$1" --table <(echo own 1) --nr own <(cat "$2")', "-", tool("decide"),
+                              self.filter])[1]
+        self.assertTrue(out.startswith("ERRNO 1\n# the call is own (1)\n"), out)
         status, out, err = self.run_tool("decide", "--nr", "no_such_call", self.filter)
         self.assertEqual((status, out), (2, ""))
         self.assertIn("the table names no call 'no_such_call'", err)
@@ -278,7 +293,8 @@ class Decide(Case):
         status, out, _ = self.run_tool("decide", "--nr", "4294967296", self.filter)
         self.assertEqual(status, 2)
         self.assertTrue(out.startswith("fault number nr\n# The option's text isn't a number below 2^32"), out)
-        for words in (("none.bpf",), (self.folder,), ("--table", "none", self.filter), ("-", "-")):
+        for words in (("none.bpf",), (self.folder,), ("--table", "none", self.filter), ("-", "-"),
+                      ("--table", "-", "-")):
             status, out, err = self.run_tool("decide", *words)
             self.assertEqual((status, out), (2, ""), words)
             self.assertNotIn("Traceback", err)
@@ -302,8 +318,16 @@ class Explain(Case):
                                     (0, "KILL_THREAD 0", "KILL_THREAD: the thread ends"),
                                     (0x00050000, "ERRNO 0", "ERRNO 0: the call isn't made, and seems to end well"),
                                     (0x00050026, "ERRNO 38", "ERRNO 38: the call isn't made, and fails with ENOSYS"),
+                                    (0x0005000B, "ERRNO 11", "ERRNO 11: the call isn't made, and fails with EAGAIN"),
+                                    (0x00050023, "ERRNO 35",
+                                     "ERRNO 35: the call isn't made, and fails with EDEADLK"),
+                                    (0x0005005F, "ERRNO 95",
+                                     "ERRNO 95: the call isn't made, and fails with EOPNOTSUPP"),
+                                    (0x00050FFF, "ERRNO 4095",
+                                     "ERRNO 4095: the call isn't made, and fails with errno 4095"),
                                     (0x00051000, "ERRNO 4096",
-                                     "ERRNO 4096: the call isn't made, and fails with errno 4096"),
+                                     "ERRNO 4096: the call isn't made, and fails with errno 4095, the greatest that "
+                                     "the kernel gives"),
                                     (0x12340000, "UNNAMED 0x12340000",
                                      "UNNAMED 0x12340000: seccomp(2) names no such action")):
             self.assertEqual(self.run_tool("explain", "run", given=ret(answer)),

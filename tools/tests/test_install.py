@@ -69,6 +69,26 @@ class Install(Case):
         with open(mine, "rb") as file:
             self.assertEqual(file.read(), b"mine")
 
+        for place in ("lib/scf/tools/list", "share/man/man1/scf.1"):
+            self.file(f"another/{place}", b"mine")
+            status, _, err = self.run_tool("install", os.path.join(self.folder, "another"))
+            self.assertEqual(status, 3)
+            self.assertIn(f"{place} stands there, and isn't ours", err)
+            os.remove(os.path.join(self.folder, "another", place))
+
+    def test_again_beside_other_files(self):
+        self.run_tool("install", self.prefix)
+        whole = self.files()
+        os.remove(os.path.join(self.prefix, "lib/scf/tools/list"))
+        os.remove(os.path.join(self.prefix, "bin/scf-list"))
+        self.file("a prefix/lib/scf/tools/mine", b"")
+        self.assertEqual(self.run_tool("install", self.prefix), (0, "", ""))
+        self.assertEqual(self.files(), sorted([*whole, "lib/scf/tools/mine"]))
+        self.assertEqual(self.run_tool("install", "--uninstall", self.prefix)[0], 3)
+        self.assertEqual(self.files(), ["lib/scf/tools/mine"])
+        self.assertEqual(self.run_tool("install", self.prefix), (0, "", ""))
+        self.assertEqual(self.files(), sorted([*whole, "lib/scf/tools/mine"]))
+
     def test_by_a_link_to_the_tool(self):
         os.symlink(os.path.join(TOP, "tools", "install"), os.path.join(self.folder, "put"))
         done = subprocess.run([os.path.join(self.folder, "put"), self.prefix], stdout=subprocess.PIPE, check=False)

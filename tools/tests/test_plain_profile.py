@@ -147,6 +147,9 @@ class PlainProfile(Case):
         plain, said = self.plain(engine(entry("a", action=ERRNO, errno="EPERM", errnoRet=22)))
         self.assertEqual((plain["syscalls"][0]["errnoRet"], said),
                          (1, "plain-profile: entry 0: errno 'EPERM' is taken, and not errnoRet 22\n"))
+        plain, _ = self.plain(engine(*(entry("a", action=ERRNO, errno=name) for name in
+                                       ("EAGAIN", "EWOULDBLOCK", "EDEADLK", "EDEADLOCK", "EOPNOTSUPP", "ENOTSUP"))))
+        self.assertEqual([it["errnoRet"] for it in plain["syscalls"]], [11, 11, 35, 35, 95, 95])
         self.refused(engine(entry("a", action=ERRNO, errno="ENOTHING")), "'ENOTHING' is no errno")
         self.refused(engine(defaultErrno="-1"), "'-1' is no errno")
 
