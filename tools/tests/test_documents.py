@@ -1,4 +1,5 @@
-"""The documents: docs/FAULTS.md against the program's kinds and lines, README's blocks, the manual page, statuses."""
+"""The documents: docs/FAULTS.md against the program's kinds and lines, README's blocks, the manual page, statuses, and
+that what docs/HEADLINE.md and docs/ARCHITECTURE.md name is there."""
 import glob
 import os
 import re
@@ -288,6 +289,46 @@ class Readme(Case):
         self.assertEqual(list(commands_of(blocks[1][0])), ["cat >x <<'END'\nb\nEND\n", "c \\\n d\n"])
         ran, _ = self.run_block("printf 'x'\nfalse\nprintf 'same\\n'  # same\n")
         self.assertEqual([(printed, status) for _, printed, status in ran], [("x", 0), ("", 1), ("same\n", 0)])
+
+
+def text_of(*path):
+    with open(os.path.join(TOP, *path), encoding="utf-8") as file:
+        return file.read()
+
+
+class Names(unittest.TestCase):
+    """What the documents name."""
+
+    # What the commands beside `compare` reply stands on these, as the page says.
+    OF_OTHER_COMMANDS = {("scf_text", "Faults"), ("scf_text", "Listing"), ("scf_text", "Spelling"),
+                         ("scf_compile", "SizeBound")}
+
+    def test_the_reading_order_lacks_no_definition(self):
+        order = re.search(r"## The order in which to read\n(.*?)\n## ", text_of("docs", "HEADLINE.md"), re.S)[1]
+        listed, crate = set(), None
+        for named, name, kind in re.findall(r"(?:(scf_[a-z]+)/)?(?:specs/|src/)?(\w+)\.(antt|rt)", order):
+            crate = named or crate
+            if kind == "antt":
+                listed.add((crate, name))
+        listed -= self.OF_OTHER_COMMANDS
+        self.assertGreater(len(listed), 40)
+        cited = {found for crate, name in listed for found in
+                 re.findall(r"^use Rattle\.(scf_[a-z]+)\.specs\.([A-Z]\w*)\b",
+                            text_of("crates", crate, "specs", f"{name}.antt"), re.M)}
+        self.assertEqual(cited - listed - self.OF_OTHER_COMMANDS, set())
+
+    def test_each_name_stands_in_the_sources(self):
+        words = set()
+        for top in ("crates", "tools", "bench"):
+            for at, folders, files in os.walk(os.path.join(TOP, top)):
+                folders[:] = [name for name in folders if name not in ("out", "tests")]
+                words.update(re.findall(r"\w+", " ".join([at, *files])))
+                for name in files:
+                    if name.endswith((".rt", ".antt")) or name == "run":
+                        words.update(re.findall(r"\w+", text_of(at, name)))
+        for page in ("HEADLINE.md", "PROVED.md", "ARCHITECTURE.md", "DECISIONS.md"):
+            for name in re.findall(r"`([a-z]+(?:_[a-z0-9]+)+|[A-Z]\w+)`", text_of("docs", page)):
+                self.assertIn(name, words, page)
 
 
 class Manual(Case):

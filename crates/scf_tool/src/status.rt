@@ -8,7 +8,7 @@ ghost use Rattle.scf_tool.specs.Statuses.{status_code};
 pub(crate) enum Status {
     /// All is well.
     Well,
-    /// A filter, text, table, profile or stack is refused, or two answers differ.
+    /// A filter, text, table, profile or stack is refused, a compiled filter would be too large, or two answers differ.
     Refused,
     /// The command line is refused.
     CommandLine,
