@@ -222,6 +222,49 @@ fn largest_efforts(rt: HostRuntime) -> Result<(), Fail> {
     Ok(())
 }
 
+/// A test of the low word of the first argument for each number below 64, whose two ways are one.
+fn tests_of_numbers(alloc: Global) -> Result<Program, Fail> {
+    let mut text = String::from_str(alloc, "ld [16];")?;
+    for number in 0..64 {
+        let one = format!(in alloc; "jeq #{number}, 0, 0;")?;
+        text.push_str(one.as_str())?;
+    }
+    text.push_str(ALLOW_ALL)?;
+    assembled(alloc, GATE, text.as_str())
+}
+
+/// A test of each bit of the first argument, whose two ways are one.
+fn tests_of_bits(alloc: Global) -> Result<Program, Fail> {
+    let mut text = String::new(alloc);
+    for word in [16, 20] {
+        let load = format!(in alloc; "ld [{word}];")?;
+        text.push_str(load.as_str())?;
+        for bit in 0u32..32 {
+            let one = format!(in alloc; "jset #{}, 0, 0;", 1u32 << bit)?;
+            text.push_str(one.as_str())?;
+        }
+    }
+    text.push_str(ALLOW_ALL)?;
+    assembled(alloc, GATE, text.as_str())
+}
+
+#[test]
+fn more_paths_than_can_be_counted(rt: HostRuntime) -> Result<(), Fail> {
+    let profile = profile_of(rt.alloc(), "", DEFAULT_ALLOW)?;
+    let numbers = tests_of_numbers(rt.alloc())?;
+    assert_eq!(rt; effort(&numbers, &profile), u64::MAX);
+    let verdict = compare::<WordSets>(rt.alloc(), &numbers, &profile, 1_000_000)?;
+    assert!(rt; matches!(verdict, Verdict::Same { .. }), "{verdict:?}");
+    let bits = tests_of_bits(rt.alloc())?;
+    assert_eq!(rt; effort(&bits, &profile), u64::MAX);
+    let verdict = compare::<WordSets>(rt.alloc(), &bits, &profile, 1000)?;
+    assert!(rt;
+        matches!(verdict, Verdict::Same { .. } | Verdict::Unfinished),
+        "{verdict:?}"
+    );
+    Ok(())
+}
+
 #[test]
 fn effort_of_the_longest_filter(rt: HostRuntime) -> Result<(), Fail> {
     let profile = profile_of(rt.alloc(), "", DEFAULT_ALLOW)?;

@@ -7,7 +7,7 @@ use scf_facts::WordSets;
 use scf_insn::Answer;
 use scf_machine::FilterStack;
 use scf_profile::Profile;
-use scf_test_fixtures::filters::{ALLOW_ALL, GATE, WITHOUT_READ, WITHOUT_WRITE};
+use scf_test_fixtures::filters::{ALLOW_ALL, CLONE_BY_AND, GATE, WITHOUT_READ, WITHOUT_WRITE};
 use scf_test_fixtures::kernel::{ALLOW, ERRNO_1, KILL_PROCESS, X86_64};
 use scf_test_fixtures::profiles::{
     ALL_BUT_TWO, CLONE_MASK, CLONE_TABLE, DEFAULT_ALLOW, EXTREMES, ONE_CALL, READ_TABLE,
@@ -73,6 +73,15 @@ const ROWS: &[Row] = &[
         table: "",
         text: DEFAULT_ALLOW,
         effort: 392,
+        all: Wanted::Same,
+        native: Wanted::Same,
+        of_1: Wanted::Same,
+    },
+    Row {
+        filters: &[(GATE, CLONE_BY_AND), (GATE, CLONE_BY_AND)],
+        table: CLONE_TABLE,
+        text: CLONE_MASK,
+        effort: 2704,
         all: Wanted::Same,
         native: Wanted::Same,
         of_1: Wanted::Same,

@@ -5,6 +5,7 @@ use scf_compare::{Verdict, compare, effort};
 use scf_compile::{compile, size_bound};
 use scf_facts::WordSets;
 use scf_insn::Answer;
+use scf_machine::run;
 use scf_profile::LoadFault;
 use scf_test_fixtures::filters::ALLOW_ALL;
 use scf_test_fixtures::kernel::{ALLOW, ERRNO_1, X86_64};
@@ -264,6 +265,10 @@ fn overlapping_socket_rules(rt: HostRuntime) -> Result<(), Fail> {
     let allow_all = assembled(rt.alloc(), "", ALLOW_ALL)?;
     assert_eq!(rt; effort(&allow_all, &profile), 64);
     let filter = compile(rt.alloc(), &profile)?;
+    for args in [[16, 0, 9, 0, 0, 0], [16, 0, 1, 0, 0, 0], [2, 0, 9, 0, 0, 0]] {
+        let ran = run(&filter, &call(41, X86_64, args));
+        assert!(rt; ran.steps <= 38, "{} steps", ran.steps);
+    }
     let limit = effort(&filter, &profile);
     let verdict = compare::<WordSets>(rt.alloc(), &filter, &profile, limit)?;
     assert!(rt; matches!(verdict, Verdict::Same { .. }), "{verdict:?}");

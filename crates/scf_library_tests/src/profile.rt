@@ -3,7 +3,7 @@
 use crate::fixtures::{call, loaded, profile_of, table};
 use crate::x86_64_table::x86_64_table;
 use scf_insn::Answer;
-use scf_profile::{LoadFault, Profile, Rule, TableFault};
+use scf_profile::{Condition, Conditions, LoadFault, Loaded, Operator, Profile, Rule, TableFault};
 use scf_test_fixtures::kernel::{ALLOW, X86_64};
 use scf_test_fixtures::profiles::{ONE_CALL, READ_TABLE, READ_WRITE_TABLE, WHOLE_CONFIG};
 use scf_test_fixtures::texts::are;
@@ -137,6 +137,10 @@ const REFUSALS: &[(&'static str, LoadFault)] = &[
     ),
     (
         r#"{"defaultAction":"SCMP_ACT_ERRNO","defaultErrnoRet":65536,"architectures":3}"#,
+        LoadFault::ErrnoRange { entry: None },
+    ),
+    (
+        r#"{"defaultAction":"SCMP_ACT_ERRNO","defaultErrnoRet":-1}"#,
         LoadFault::ErrnoRange { entry: None },
     ),
     (
@@ -406,6 +410,24 @@ fn whole_config(rt: HostRuntime) -> Result<(), Fail> {
     assert_eq!(rt; profile.default_answer(), Answer(0x0005_0026));
     assert!(rt; have_numbers(profile.rules(), &[0]));
     assert!(rt; answer(profile, 0, [0; 3]) == ALLOW && answer(profile, 1, [0; 3]) == 0x0005_0026);
+    let Loaded { skipped, .. } = found;
+    let names = skipped.into_vec();
+    assert!(rt; are(&names, &["arm_sync_file_range"]));
+    Ok(())
+}
+
+#[test]
+fn lists_of_conditions(rt: HostRuntime) -> Result<(), Fail> {
+    let condition = Condition {
+        index: 5,
+        op: Operator::Less,
+        value: 7,
+        value_two: 0,
+    };
+    let conditions = Conditions::from_vec(vec![in rt.alloc(); condition; 1]?);
+    assert!(rt; conditions.as_slice() == [condition].as_slice());
+    let list = conditions.into_vec();
+    assert!(rt; list.as_slice() == [condition].as_slice());
     Ok(())
 }
 

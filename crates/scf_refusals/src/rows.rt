@@ -37,12 +37,12 @@ pub(crate) const MASKED: &[u8] =
     br#"{"defaultAction":"SCMP_ACT_ERRNO","syscalls":[{"names":["clone"],"action":"SCMP_ACT_ALLOW",
     "args":[{"index":0,"value":2114060288,"op":"SCMP_CMP_MASKED_EQ"}]}]}"#;
 
-/// A whole configuration, with a name that the table lacks and another architecture.
+/// A whole configuration, with a name that the table lacks and other architectures.
 pub(crate) const CONFIG: &[u8] =
     br#"{"ociVersion":"1.0.2","linux":{"seccomp":{"defaultAction":"SCMP_ACT_ERRNO","defaultErrnoRet":38,
-    "architectures":["SCMP_ARCH_X86_64","SCMP_ARCH_X86"],"syscalls":[
-    {"names":["read","absent"],"action":"SCMP_ACT_ALLOW"},{"names":["write"],"action":"SCMP_ACT_LOG",
-    "args":[{"index":1,"value":40,"op":"SCMP_CMP_NE"}]}]}}}"#;
+    "architectures":["SCMP_ARCH_X86_64","SCMP_ARCH_X86","SCMP_ARCH_X32"],"syscalls":[
+    {"names":["read","arm_sync_file_range"],"action":"SCMP_ACT_ALLOW","args":null,"comment":"x"},
+    {"names":["write"],"action":"SCMP_ACT_LOG","args":[{"index":1,"value":40,"op":"SCMP_CMP_NE"}]}]}}}"#;
 
 /// Conditions that hold of no argument and of each.
 pub(crate) const EXTREMES: &[u8] = br#"{"defaultAction":"SCMP_ACT_ERRNO","syscalls":[
