@@ -91,13 +91,11 @@ fn at_high(condition: Condition) -> Question
     ensures keeps { IsPlainCondition condition → KeepsEither result.atom }
 {
     match condition.op {
-        Operator::MaskedEqual => {
-            ask(
-                half_is_under_mask(Half::High, condition),
-                Then(Part::Low),
-                Fails,
-            )
-        }
+        Operator::MaskedEqual => ask(
+            half_is_under_mask(Half::High, condition),
+            Then(Part::Low),
+            Fails,
+        ),
         Operator::Equal => ask(half_is(Half::High, condition), Then(Part::Low), Fails),
         Operator::NotEqual => ask(half_is(Half::High, condition), Then(Part::Low), Holds),
         Operator::Less | Operator::LessOrEqual | Operator::GreaterOrEqual | Operator::Greater =>

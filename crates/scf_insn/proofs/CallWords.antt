@@ -1,5 +1,5 @@
 -- A record and its sixteen words.
-use Rattle.std.proofs.Common.{◌≡◌, ℕ, ◌+◌, ◌*◌, ◌<◌, ◌^◌, List, [], ◌∷◌, length, zero, suc, lit<, refl, arith}
+use Rattle.std.proofs.Common.{◌≡◌, ℕ, ◌+◌, ◌*◌, ◌<◌, ◌^◌, List, [], ◌∷◌, ◌++◌, length, zero, suc, lit<, refl, arith}
 use Rattle.std.specs.Prelude.{slice_index}
 use Rattle.std.specs.List.{flat_map, AllByRecursion}
 use Rattle.scf_insn.specs.declared.record.CallRecord.{CallRecord}
@@ -45,6 +45,13 @@ whole_call : (nr arch ip : ℕ) (args : List ℕ) → length args ≡ 6
 whole_call nr arch ip (a0 ∷ a1 ∷ a2 ∷ a3 ∷ a4 ∷ a5 ∷ []) six =
     rw (joined ip, joined a0, joined a1, joined a2, joined a3, joined a4, joined a5) refl
 whole_call nr arch ip args six = absurd (omega arith)
+
+-- the words of six arguments
+pub halves_of_six : (args : List ℕ) → length args ≡ 6 → flat_map halves args
+    ≡ halves (slice_index args 0) ++ halves (slice_index args 1) ++ halves (slice_index args 2)
+    ++ halves (slice_index args 3) ++ halves (slice_index args 4) ++ halves (slice_index args 5)
+halves_of_six (a0 ∷ a1 ∷ a2 ∷ a3 ∷ a4 ∷ a5 ∷ []) six = refl
+halves_of_six args six = absurd (omega arith)
 
 -- the record that has the words of a record is that record
 pub call_of-words_of : (call : CallRecord) → IsRecord call → call_of (words_of call) ≡ call
