@@ -1,5 +1,7 @@
 """tools/compare, tools/decide and tools/explain."""
 import os
+import shutil
+import unittest
 
 from common import (ALLOW, EPERM, I386, KILL_PROCESS, KILL_THREAD, SCF, TABLE, X86_64, Case, filter_of, insn, jeq, jge,
                     load, needs, part, profile_of, ret, tool)
@@ -85,11 +87,14 @@ class Compare(Case):
                              ((self.same, "-"), profile_of("read", "write")),
                              ((self.same, "/dev/stdin"), profile_of("read", "write"))):
             self.assertEqual(self.run_tool("compare", *words, given=given), (0, "same\n", ""))
-        self.assertEqual(self.run_words(["bash", "-c", '"$1" --table <(cat "$2") <(cat "$3") <(cat "$4")', "-",
-                                         tool("compare"), TABLE, self.same, self.profile]), (0, "same\n", ""))
         status, out, err = self.run_tool("compare", "-", "-")
         self.assertEqual((status, out), (2, ""))
         self.assertIn("only one input can be '-'", err)
+
+    @unittest.skipUnless(shutil.which("bash"), "there is no bash here")
+    def test_pipes_of_a_shell(self):
+        self.assertEqual(self.run_words(["bash", "-c", '"$1" --table <(cat "$2") <(cat "$3") <(cat "$4")', "-",
+                                         tool("compare"), TABLE, self.same, self.profile]), (0, "same\n", ""))
 
     def test_a_whole_config(self):
         config = b'{"ociVersion":"1.0.2","linux":{"seccomp":' + profile_of("read", "write") + b"}}"
@@ -260,12 +265,15 @@ class Decide(Case):
         for words, given in (("--table=-t", b""), ("--table=-", b"own 1\n")):
             out = self.run_tool("decide", words, "--nr", "own", self.filter, given=given)[1]
             self.assertTrue(out.startswith("ERRNO 1\n# the call is own (1)\n"), out)
-        out = self.run_words(["bash", "-c", '"$1" --table <(echo own 1) --nr own <(cat "$2")', "-", tool("decide"),
-                              self.filter])[1]
-        self.assertTrue(out.startswith("ERRNO 1\n# the call is own (1)\n"), out)
         status, out, err = self.run_tool("decide", "--nr", "no_such_call", self.filter)
         self.assertEqual((status, out), (2, ""))
         self.assertIn("the table names no call 'no_such_call'", err)
+
+    @unittest.skipUnless(shutil.which("bash"), "there is no bash here")
+    def test_pipes_of_a_shell(self):
+        out = self.run_words(["bash", "-c", '"$1" --table <(echo own 1) --nr own <(cat "$2")', "-", tool("decide"),
+                              self.filter])[1]
+        self.assertTrue(out.startswith("ERRNO 1\n# the call is own (1)\n"), out)
 
     def test_each_option_is_handed_on(self):
         for at in range(6):
