@@ -1,5 +1,7 @@
-use Rattle.std.proofs.Common.{rules, ◌≡◌, ◌+◌, ◌-◌, ◌<◌, drop, length, get_or, length-take, refl, ap, ◌∙◌, arith, inl}
-use Rattle.std.proofs.lemmas.List.{get_or-take}
+use Rattle.std.proofs.Common.{rules, ◌≡◌, ◌≢◌, take, ◌+◌, ◌-◌, ◌<◌, drop, length, get_or, length-take, refl, ap, ◌∙◌, arith, inl}
+use Rattle.std.proofs.lemmas.Grind.{common_steps}
+use Rattle.std.proofs.lemmas.List.{get_or-take, take_more}
+use Rattle.std.proofs.lemmas.List.Elements.{All-push}
 use Rattle.scf_compile.proofs.Lists.{next_at}
 use Rattle.scf_compile.proofs.placing.find.Goals as goal
 
@@ -29,3 +31,12 @@ returns-clause-none c = λ k d lt.
     let within = length-take i code in
     let here = c.loop-i.invariant k d (omega (arith)) in
     rw (get_or-take 255 code k d (omega arith)) (rw (get_or-take i code k d all) at here)
+
+pub loop-i-preserved : goal.loop-i-preserved
+loop-i-preserved c =
+    let code = c.args.code.now.items in
+    let i = c.loop-i.i in
+    let inside : i < length code = search rules in
+    let apart : get_or code i c.args.wanted ≢ c.args.wanted = λ same. grind (arith, common_steps) in
+    rw (take_more code i c.args.wanted inside)
+    (All-push (λ insn. insn ≢ c.args.wanted) (take i code) (get_or code i c.args.wanted) c.loop-i.invariant apart)
