@@ -1,7 +1,8 @@
 //! What a filter answers (Linux uapi seccomp.h, seccomp(2)).
 
-ghost use Rattle.std.specs.Prelude.{◌≡◌};
+ghost use Rattle.std.specs.Prelude.{◌≡◌, ◌↔◌, IsTrue};
 ghost use Rattle.scf_insn.specs.Answers.{action_half, data_half, rank_of, action_of, half_of, answer_of};
+ghost use Rattle.scf_insn.specs.Answers.{fate_of, LetsThroughNoMore};
 
 use crate::kernel;
 
@@ -39,6 +40,17 @@ pub enum Action {
     Allow,
     /// A high half that has no name.
     Other(u16),
+}
+
+/// What becomes of a call, from the least that is let through to the most.
+#[derive(Clone, Copy, Debug, PartialEq, Eq)]
+pub enum Fate {
+    /// It isn't made: the process or the thread is killed, gets a signal, or the call fails.
+    Refused,
+    /// A supervisor or a tracer says what becomes of it.
+    Referred,
+    /// It is made, and may be logged.
+    Made,
 }
 
 impl Action {
@@ -103,5 +115,29 @@ impl Answer {
         ensures { result ≡ rank_of self.now.0 }
     {
         self.high_half().cast_signed()
+    }
+    /// What becomes of a call that is answered so, by the rank of the answer.
+    pub fn fate(&self) -> Fate
+        ensures { result ≡ fate_of self.now.0 }
+    {
+        let rank = self.rank();
+        if rank <= ERRNO.cast_signed() {
+            Fate::Refused
+        } else if rank < LOG.cast_signed() {
+            Fate::Referred
+        } else {
+            Fate::Made
+        }
+    }
+
+    /// Whether no more of a call is let through by this answer than by another: a call that is refused counts least, and
+    /// one that is made most.
+    pub fn lets_through_no_more(&self, other: Answer) -> bool
+        ensures { IsTrue result ↔ LetsThroughNoMore self.now.0 other.0 }
+    {
+        match (self.fate(), other.fate()) {
+            (Fate::Refused, _) | (_, Fate::Made) | (Fate::Referred, Fate::Referred) => true,
+            (Fate::Referred, Fate::Refused) | (Fate::Made, Fate::Refused | Fate::Referred) => false,
+        }
     }
 }
