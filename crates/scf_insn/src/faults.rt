@@ -3,9 +3,11 @@
 //! Each is also a reader or a writer of std, for tests of `Counted`: where it is to fail, the reader then answers an
 //! interruption, and the writer takes no byte.
 
-ghost use Rattle.std.specs.Prelude.{◌≡◌, ◌≤◌, []};
-ghost use Rattle.scf_insn.specs.Faults.{failed_reads, asked_reads, written, failed_writes, asked_writes};
-ghost use Rattle.scf_insn.specs.internal.Faults.{room};
+ghost use Rattle.std.specs.Prelude.{◌≡◌, ◌<◌, ◌≤◌, ◌↔◌, Some, [], length, min, max, IsErr, IfOk, OnOk, OnErr};
+ghost use Rattle.std.specs.Io.KnownBytes.{ReadConsumes, WriteAppends};
+ghost use Rattle.scf_insn.specs.Faults.{room, left_after, after_failure};
+ghost use Rattle.scf_insn.specs.Faults.{unread, failed_reads, asked_reads, written, failed_writes, asked_writes};
+ghost use Rattle.scf_insn.specs.Streams.{count_after};
 
 use crate::stream::{Failed, Sink, Source};
 use std::alloc::Global;
@@ -36,6 +38,7 @@ impl Failing {
     /// What is left of it once so much was read or taken.
     fn less(self, count: usize) -> Failing
         requires { count ≤ room self }
+        ensures { result ≡ left_after self count }
     {
         match self {
             Failing::Never => Failing::Never,
@@ -45,7 +48,9 @@ impl Failing {
     }
 
     /// What is left of it once it has failed.
-    fn failed(self) -> Failing {
+    fn failed(self) -> Failing
+        ensures { result ≡ after_failure self }
+    {
         match self {
             Failing::OnceAfter(_) => Failing::Never,
             other => other,
@@ -100,7 +105,20 @@ impl Source for Reader<'_> {
 
     ghost failures = { λ s. failed_reads s };
 
-    fn read(&mut self, buffer: &mut [u8]) -> Result<usize, Failed> {
+    /// Fails where no byte may be read any more, and gives as many as it may elsewhere.
+    fn read(&mut self, buffer: &mut [u8]) -> Result<usize, Failed>
+        ensures bound { IfOk result (λ n. n ≤ length buffer.new) }
+        ensures bytes { ReadConsumes (Some (unread self.old)) (Some (unread self.new)) result buffer.new }
+        ensures ok { OnOk result (failed_reads self.new ≡ failed_reads self.old) }
+        ensures err { OnErr result (failed_reads self.new ≡ count_after (failed_reads self.old)) }
+        ensures fails { IsErr result ↔ (room self.old.failing ≡ 0) }
+        ensures most { let most = min (max self.old.step 1) (room self.old.failing) in
+            IfOk result (λ n. n ≡ min (length (unread self.old)) (min most (length buffer.old))) }
+        ensures left { IfOk result (λ n. self.new.failing ≡ left_after self.old.failing n) }
+        ensures failed { OnErr result (self.new.failing ≡ after_failure self.old.failing) }
+        ensures asked { asked_reads self.new ≡ count_after (asked_reads self.old) }
+        ensures step { self.new.step ≡ self.old.step }
+    {
         self.asks = self.asks.saturating_add(1);
         let room = self.failing.room();
         if room == 0 {
@@ -190,7 +208,21 @@ impl Sink for Writer {
 
     ghost failures = { λ s. failed_writes s };
 
-    fn write(&mut self, bytes: &[u8]) -> Result<usize, Failed> {
+    /// Fails where no write may be taken any more, and where memory is refused. Elsewhere it takes as much as it may.
+    fn write(&mut self, bytes: &[u8]) -> Result<usize, Failed>
+        ensures bound { IfOk result (λ n. n ≤ length bytes.now) }
+        ensures some { IfOk result (λ n. 0 < length bytes.now → 0 < n) }
+        ensures bytes { WriteAppends (Some (written self.old)) (Some (written self.new)) result bytes.now }
+        ensures ok { OnOk result (failed_writes self.new ≡ failed_writes self.old) }
+        ensures err { OnErr result (failed_writes self.new ≡ count_after (failed_writes self.old)) }
+        ensures fails { room self.old.failing ≡ 0 → IsErr result }
+        ensures most { IfOk result (λ n. n ≡ min (length bytes.now) (max self.old.step 1)) }
+        ensures left { OnOk result (self.new.failing ≡ left_after self.old.failing 1) }
+        ensures failed { room self.old.failing ≡ 0 → self.new.failing ≡ after_failure self.old.failing }
+        ensures refused { OnErr result (0 < room self.old.failing → self.new.failing ≡ self.old.failing) }
+        ensures asked { asked_writes self.new ≡ count_after (asked_writes self.old) }
+        ensures step { self.new.step ≡ self.old.step }
+    {
         self.asks = self.asks.saturating_add(1);
         let room = self.failing.room();
         let count = bytes.len().min(self.step.max(1));
