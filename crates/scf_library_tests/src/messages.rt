@@ -65,17 +65,17 @@ fn of_numbers(rt: HostRuntime) -> Result<(), Fail> {
 }
 
 const CHECKS: &[(CheckFault, &str)] = &[
-    (CheckFault::Empty, "the program is empty"),
+    (CheckFault::Empty, "the filter is empty"),
     (
         CheckFault::TooLong,
-        "the program has more than 4096 instructions",
+        "the filter has more than 4096 instructions",
     ),
     (CheckFault::Code { at: 3 }, "unknown code at 3"),
     (CheckFault::Load { at: 0 }, "a load outside the record at 0"),
     (CheckFault::Scratch { at: 0 }, "no such scratch word at 0"),
     (CheckFault::Divisor { at: 0 }, "a division by zero at 0"),
     (CheckFault::Shift { at: 0 }, "a shift by more than 31 at 0"),
-    (CheckFault::Jump { at: 0 }, "a jump out of the program at 0"),
+    (CheckFault::Jump { at: 0 }, "a jump out of the filter at 0"),
     (
         CheckFault::LastNotReturn,
         "the last instruction isn't a return",

@@ -43,7 +43,7 @@ IsReturn ReturnConstant = Unit {0}
 IsReturn ReturnAccumulator = Unit {0}
 IsReturn _ = ⊥
 
--- The rules on each place: 1 to 4096 instructions, each fine, the last one a return.
+-- The rules on each place: instructions up to the most of a filter, each fine, the last one a return.
 pub record IsValidList (insns : List Insn) : Type 0 where
   pub some : 0 < length insns
   pub few : length insns ≤ bpf_maxinsns

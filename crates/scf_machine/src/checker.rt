@@ -22,9 +22,9 @@ use thiserror::Error;
 /// Why a list of instructions is refused. `at` is the place of an instruction, from 0 on.
 #[derive(Clone, Copy, Debug, PartialEq, Eq, Error)]
 pub enum CheckFault {
-    #[error("the program is empty")]
+    #[error("the filter is empty")]
     Empty,
-    #[error("the program has more than 4096 instructions")]
+    #[error("the filter has more than {most} instructions", most = BPF_MAXINSNS)]
     TooLong,
     #[error("unknown code at {at}")]
     Code { at: usize },
@@ -36,7 +36,7 @@ pub enum CheckFault {
     Divisor { at: usize },
     #[error("a shift by more than 31 at {at}")]
     Shift { at: usize },
-    #[error("a jump out of the program at {at}")]
+    #[error("a jump out of the filter at {at}")]
     Jump { at: usize },
     #[error("the last instruction isn't a return")]
     LastNotReturn,
