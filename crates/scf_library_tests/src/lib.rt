@@ -31,6 +31,8 @@ mod messages;
 #[cfg(test)]
 mod named_calls;
 #[cfg(test)]
+mod paths;
+#[cfg(test)]
 mod profile;
 #[cfg(test)]
 mod searches;

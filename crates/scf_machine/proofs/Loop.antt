@@ -38,36 +38,32 @@ at_inside insns words registers steps valid at =
     let e = at.stand.place in let count = at.count in
     (omega arith, omega arith, valid.few)
 
--- What a step leaves.
-pub record Next (insns : List Insn) (words : List ℕ) (old new : Registers) (steps : ℕ) : Type 0 where
-  pub at : IsAt insns words new (steps + 1)
+-- What a step leaves: a chain with one state more behind it.
+pub record Next (insns : List Insn) (words : List ℕ) (old new : Registers) (steps : ℕ) (at : IsAt insns words old steps)
+    : Type 0 where
+  pub after : IsAt insns words new (steps + 1)
+  pub behind : after.earlier ≡ at.state ∷ at.earlier
   pub forward : old.place < new.place
 
 module _ (insns : List Insn) (words : List ℕ) (old new : Registers)
     (steps : ℕ) (valid : IsValidList insns) (rule : KeepsScratchRule insns) (at : IsAt insns words old steps) where
-  goes : (o : Outcome) → step insns words at.state ≡ o → Agrees o None new → Next insns words old new steps
+  goes : (o : Outcome) → step insns words at.state ≡ o → Agrees o None new → Next insns words old new steps at
   goes (Goes t) e agrees =
       let forward = edge_forward insns at.state.place t.place (step_edge insns words at.state t e) in
       let a = at.stand.place in let b = agrees.place in let count = at.count in
       record {
-        at = record
+        after = record
             { state = t; earlier = at.state ∷ at.earlier; chain = (e, at.chain); stand = agrees; count = omega arith };
+        behind = refl;
         forward = omega arith;
       }
   goes (Ends n) e agrees = absurd agrees
   goes (Faults fault) e agrees = absurd (never_faults insns words valid rule at.state at.earlier fault at.chain e)
 
   ends : (o : Outcome) (answer : Answer)
-      → step insns words at.state ≡ o → Agrees o (Some answer) new → IsRun insns words answer.0 (steps + 1)
+      → step insns words at.state ≡ o → Agrees o (Some answer) new → step insns words at.state ≡ Ends answer.0
   ends (Goes t) answer e agrees = absurd agrees
-  ends (Ends n) answer e agrees = record {
-    last = at.state;
-    earlier = at.earlier;
-    chain = at.chain;
-    answers = e
-        ∙ ap Ends (sym agrees);
-    count = ap (λ (k : ℕ). k + 1) at.count;
-  }
+  ends (Ends n) answer e agrees = e ∙ ap Ends (sym agrees)
   ends (Faults fault) answer e agrees =
       absurd (never_faults insns words valid rule at.state at.earlier fault at.chain e)
 
@@ -77,19 +73,30 @@ module _ (insns : List Insn) (words : List ℕ) (old new : Registers)
 
   -- The words of the record stand in a row that the machine reads.
   pub next_of : (i : Insn) (operation : Operation) (row : List ℕ) → row ≡ words → Stands insns old.place i operation
-      → Agrees (effect operation i row at.state) None new → Next insns words old new steps
+      → Agrees (effect operation i row at.state) None new → Next insns words old new steps at
   next_of i operation row same stands agrees =
       goes (effect operation i words at.state) (step_is insns words at.state i operation (stands_at i operation stands))
       (subst (λ (read : List ℕ). Agrees (effect operation i read at.state) None new) same agrees)
 
-  pub run_of : (i : Insn) (operation : Operation) (row : List ℕ) → row ≡ words → (answer : Answer)
+  pub answers_here : (i : Insn) (operation : Operation) (row : List ℕ) → row ≡ words → (answer : Answer)
       → Stands insns old.place i operation → Agrees (effect operation i row at.state) (Some answer) new
-      → IsRun insns words answer.0 (steps + 1) × (steps + 1 ≤ length insns)
-  run_of i operation row same answer stands agrees =
+      → step insns words at.state ≡ Ends answer.0
+  answers_here i operation row same answer stands agrees =
+      ends (effect operation i words at.state) answer
+      (step_is insns words at.state i operation (stands_at i operation stands))
+      (subst (λ (read : List ℕ). Agrees (effect operation i read at.state) (Some answer) new) same agrees)
+
+  pub run_of : (answer : ℕ) → step insns words at.state ≡ Ends answer
+      → IsRun insns words answer (steps + 1) × (steps + 1 ≤ length insns)
+  run_of answer answers =
       let long = run_length insns words valid at.state at.earlier at.chain in let count = at.count in (
-        ends (effect operation i words at.state) answer
-            (step_is insns words at.state i operation (stands_at i operation stands))
-            (subst (λ (read : List ℕ). Agrees (effect operation i read at.state) (Some answer) new) same agrees),
+        record {
+          last = at.state;
+          earlier = at.earlier;
+          chain = at.chain;
+          answers = answers;
+          count = ap (λ (k : ℕ). k + 1) at.count;
+        },
         omega arith,
       )
 

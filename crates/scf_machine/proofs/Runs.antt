@@ -1,6 +1,6 @@
 -- Chains of steps are paths, and end.
 use Rattle.std.proofs.Common.{◌≡◌, ℕ, zero, suc, ◌+◌, ◌-◌, ◌<◌, ◌≤◌, ◌⊎◌, inl, inr, Bool, true, false, ◌||◌, List, []}
-use Rattle.std.proofs.Common.{◌∷◌, Option, Some, refl, ap, sym, subst, ◌∙◌, arith, length, map}
+use Rattle.std.proofs.Common.{◌∷◌, Option, Some, refl, ap, sym, subst, ◌∙◌, arith, length}
 use Rattle.std.specs.List.{slice_get, list_any}
 use Rattle.scf_insn.specs.Codes.{operation_of}
 use Rattle.scf_insn.specs.declared.insn.Insn.{Insn}
@@ -8,13 +8,10 @@ use Rattle.scf_insn.specs.declared.operation.Operation.{Operation}
 use Rattle.scf_insn.specs.declared.operation.Operation.TheVariants.{LoadScratch, Jump, JumpIf}
 use Rattle.scf_machine.specs.Machine.{State, Outcome, Goes, Ends, Faults, Fault, effect, effect_of_insn, effect_at}
 use Rattle.scf_machine.specs.Machine.{step, IsChain, RunAnswers, RunsSafely, start}
+use Rattle.scf_machine.specs.Path.{places_of}
 use Rattle.scf_machine.specs.Rules.{IsFine, IsFineAt, IsValidList, GoesTo, Edge, Stands, stores_at, IsPath, LoadsAt}
 use Rattle.scf_machine.specs.Rules.{KeepsScratchRule}
 use Rattle.scf_machine.proofs.Moves.{IsStored, StepFacts, step_facts, edge_of, IsNoFault, IsScratchLoad, effect_passes}
-
--- the places of states
-abbrev pub places : List State → List ℕ
-places states = map (λ s. s.place) states
 
 pub step_edge : (insns : List Insn) (words : List ℕ) (s t : State)
     → step insns words s ≡ Goes t → Edge insns s.place t.place
@@ -23,7 +20,7 @@ step_edge insns words s t e =
     edge_of insns s.place t.place facts.insn facts.operation facts.stands facts.goes
 
 pub path_of : (insns : List Insn) (words : List ℕ) (s : State) (earlier : List State)
-    → IsChain insns words start s earlier → IsPath insns s.place (places earlier)
+    → IsChain insns words start s earlier → IsPath insns s.place (places_of earlier)
 path_of insns words s [] chain = ap (λ (u : State). u.place) chain
 path_of insns words s (before ∷ earlier) chain =
     (step_edge insns words before s chain.0, path_of insns words before earlier chain.1)
@@ -34,11 +31,11 @@ or_cases false b e = inr e
 
 pub stored_on : (insns : List Insn) (words : List ℕ) (s : State) (earlier : List State)
     → IsChain insns words start s earlier
-    → (n : ℕ) → list_any (stores_at insns n) (places earlier) ≡ true → IsStored s n
+    → (n : ℕ) → list_any (stores_at insns n) (places_of earlier) ≡ true → IsStored s n
 stored_on insns words s [] chain n e = absurd (cc)
 stored_on insns words s (before ∷ earlier) chain n e =
     let facts = step_facts insns words before s chain.0 in
-    elim (or_cases (stores_at insns n before.place) (list_any (stores_at insns n) (places earlier)) e) [
+    elim (or_cases (stores_at insns n before.place) (list_any (stores_at insns n) (places_of earlier)) e) [
       | inl here ↦ facts.stored n here
       | inr there ↦ facts.keeps n (stored_on insns words before earlier chain.1 n there)
     ]
@@ -128,7 +125,7 @@ pub scratch_is_set : (insns : List Insn) (words : List ℕ) (s : State) (earlier
     → (i : Insn) (operation : Operation) → Stands insns s.place i operation → IsScratchLoad operation → IsStored s i.k
 scratch_is_set insns words s earlier rule chain i operation stands load =
     stored_on insns words s earlier chain i.k (rule s.place i.k
-    (places earlier) (loads_at insns s.place i operation load stands) (path_of insns words s earlier chain))
+    (places_of earlier) (loads_at insns s.place i operation load stands) (path_of insns words s earlier chain))
 
 pub never_faults : (insns : List Insn) (words : List ℕ) → IsValidList insns → KeepsScratchRule insns → (s : State)
     (earlier : List State) (f : Fault) → IsChain insns words start s earlier → step insns words s ≡ Faults f → ⊥

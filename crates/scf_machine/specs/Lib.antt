@@ -1,6 +1,7 @@
 pub mod Checks
 pub mod Machine
 pub mod Parts
+pub mod Path
 pub mod Plain
 pub mod Precedence
 pub mod Rules

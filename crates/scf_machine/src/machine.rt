@@ -1,17 +1,20 @@
 //! The machine that runs a filter.
 
-ghost use Rattle.std.specs.Prelude.{◌≡◌, ◌≢◌, ◌+◌, ◌<◌, ◌≤◌, length, None, if◌then◌else◌};
+ghost use Rattle.std.specs.Prelude.{◌≡◌, ◌≢◌, ◌+◌, ◌<◌, ◌≤◌, length, None, if◌then◌else◌, IfOk};
 ghost use Rattle.scf_insn.specs.declared.insn.Insn.{Insn};
 ghost use Rattle.scf_insn.specs.Kernel.{bpf_maxinsns, bpf_memwords};
 ghost use Rattle.scf_insn.specs.Words.{words_of};
 ghost use Rattle.scf_machine.specs.Machine.{State, sets, stores, jumps_to, start};
 ghost use Rattle.scf_machine.specs.Machine.{value_computed, computation, holds, effect, IsRun, RunsSafely};
+ghost use Rattle.scf_machine.specs.Path.{IsPathOf};
 ghost use Rattle.scf_machine.specs.Rules.{IsFine};
 ghost use Rattle.scf_machine.specs.internal.Registers.{StandFor, Agrees};
 
+use crate::path::Trace;
 use crate::program::Program;
 use scf_insn::kernel::{BPF_MEMWORDS, SECCOMP_DATA_LEN};
-use scf_insn::{Answer, Arithmetic, CallRecord, Insn, Operand, Operation, Register, Test};
+use scf_insn::{Answer, Arithmetic, CallRecord, Insn, Memory, Operand, Operation, Register, Test};
+use std::alloc::Global;
 
 /// The answer of a run, and how many instructions it executed.
 #[derive(Clone, Copy, Debug, PartialEq, Eq)]
@@ -214,6 +217,33 @@ pub fn run(program: &Program, call: &CallRecord) -> Ran
         };
         if let Some(answer) = registers.step(insn, operation, &words) {
             return Ran { answer, steps };
+        }
+    }
+}
+
+/// Runs a filter over the record of a call, and keeps the places of the instructions on the way.
+///
+/// `Err`: a growth was refused.
+pub fn trace(alloc: Global, program: &Program, call: &CallRecord) -> Result<Trace, Memory>
+    ensures path { IfOk result (λ t.
+        IsPathOf program.now (words_of call.now) t.answer.0 t.places.items) }
+    // There are as many places as the run has steps, and the answer is the run's.
+    ensures run { IfOk result (λ t.
+        IsRun program.now (words_of call.now) t.answer.0 (length t.places.items)) }
+    ensures bound { IfOk result (λ t. length t.places.items ≤ length program.now) }
+{
+    let words = call.words();
+    let insns = &program.list;
+    let mut registers = Registers::new();
+    let mut places = Vec::new(alloc);
+    loop {
+        let insn = &insns[registers.place];
+        places.push(registers.place)?;
+        let Some(operation) = insn.operation() else {
+            unreachable!();
+        };
+        if let Some(answer) = registers.step(insn, operation, &words) {
+            return Ok(Trace { answer, places });
         }
     }
 }

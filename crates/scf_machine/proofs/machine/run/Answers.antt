@@ -1,5 +1,5 @@
 use Rattle.std.proofs.Common.{length, sym, arith, rules, ◌∙◌}
-use Rattle.scf_machine.proofs.Loop.{at_inside, next_of, run_of, read_here, always_known, wider}
+use Rattle.scf_machine.proofs.Loop.{at_inside, next_of, answers_here, run_of, read_here, always_known, wider}
 use Rattle.scf_machine.proofs.Runs.{fine_of, runs_safely}
 use Rattle.scf_machine.proofs.machine.run.Goals as goal
 
@@ -34,10 +34,12 @@ step-requires-clause-fine c =
 pub returns-in-Some-step : goal.returns-in-Some-step
 returns-in-Some-step c =
     let inside = at_inside _ _ _ _ c.program.invariant.valid c.loop-operation.invariant in
-    let done = run_of c.program.inside.list.items _ _ c.step.new.self _ c.program.invariant.valid
+    let answers = answers_here c.program.inside.list.items _ _ c.step.new.self _ c.program.invariant.valid
     c.program.invariant.stored c.loop-operation.invariant _ _ _ c.words-words.ensures c.in-Some-step.answer
     (record { here = read_here _ _ _ inside.0 c.index-insn.ensures; known = sym c.operation.ensures ∙ c.in-Some.is })
     (c.in-Some-step.ensures _ c.loop-operation.invariant.stand) in
+    let done = run_of c.program.inside.list.items _ _ c.step.new.self _ c.program.invariant.valid
+    c.program.invariant.stored c.loop-operation.invariant _ answers in
     rw (← c.program.view_is) (record
     { run = done.0; bound = done.1; safe = runs_safely _ _ c.program.invariant.valid c.program.invariant.stored })
 
@@ -57,4 +59,4 @@ loop-operation-preserved c =
     c.program.invariant.valid c.program.invariant.stored c.loop-operation.invariant _ _ _ c.words-words.ensures
     (record { here = read_here _ _ _ inside.0 c.index-insn.ensures; known = sym c.operation.ensures ∙ c.in-Some.is })
     (c.in_default-step.ensures _ c.loop-operation.invariant.stand) in
-    next.at
+    next.after
