@@ -6,10 +6,13 @@ use Rattle.std.specs.List.{slice_get}
 use Rattle.std.specs.Int.{w16, cast_signed}
 use Rattle.std.proofs.lemmas.Bool.{cases_order}
 use Rattle.std.proofs.lemmas.Int.{ints}
-use Rattle.std.proofs.lemmas.List.{take_more, take_all, reverse-append}
+use Rattle.std.proofs.lemmas.List.{take_more, take_all, reverse-append, length-reverse, get_or-reverse}
+use Rattle.std.specs.Prelude.{Contains, ◌-◌}
 use Rattle.scf_insn.specs.declared.insn.Insn.{Insn}
-use Rattle.scf_insn.specs.Answers.{action_half, answer_of, rank_of}
+use Rattle.scf_insn.specs.Answers.{action_half, answer_of, rank_of, degree_of, LetsThroughNoMore}
+use Rattle.scf_insn.specs.Kernel.{seccomp_ret_errno, seccomp_ret_log}
 use Rattle.scf_insn.specs.declared.answer.Action.TheVariants.{Allow}
+use Rattle.scf_insn.specs.declared.answer.Fate.TheVariants.{Refused, Referred, Made}
 use Rattle.scf_machine.specs.Machine.{RunAnswers}
 use Rattle.scf_machine.specs.Rules.{IsFilter}
 use Rattle.scf_machine.proofs.Meets.{run_once}
@@ -48,6 +51,9 @@ le_refl x = omega (arith, ints)
 
 le_from_lt : (x y : ℤ) → x <ℤ y → x ≤ℤ y
 le_from_lt x y h = omega (arith, ints)
+
+lt_le_trans : (x y z : ℤ) → x <ℤ y → y ≤ℤ z → x <ℤ z
+lt_le_trans x y z f g = omega (arith, ints)
 
 le_trans : (x y z : ℤ) → x ≤ℤ y → y ≤ℤ z → x ≤ℤ z
 le_trans x y z f g = omega (arith, ints)
@@ -198,3 +204,57 @@ stack_answer_is filters words each =
       subst (λ (fs : List (List Insn)). StackAnswers fs words all.0)
           (take_all (length filters) filters (omega arith)) all.1,
     )
+
+-- ---- what a stack lets through
+answer_among : (filters : List (List Insn)) (words answers : List ℕ) (filter : List Insn) (answer : ℕ)
+    → AreAnswers filters words answers → Contains filters filter → RunAnswers filter words answer
+    → (q : ℕ) × (slice_get answers q ≡ Some answer)
+answer_among [] words answers filter answer are (i, inside, is) run = absurd (omega (arith, inside))
+answer_among (f ∷ filters) words [] filter answer are has run = absurd are
+answer_among (f ∷ filters) words (x ∷ answers) filter answer are (zero, inside, is) run =
+    let own : RunAnswers filter words x = subst (λ (g : List Insn). RunAnswers g words x) is are.0 in
+    (0, ap Some (run_once filter words x answer own.0 run.0 own.1 run.1).0)
+answer_among (f ∷ filters) words (x ∷ answers) filter answer are (suc i, inside, is) run =
+    let rest = answer_among filters words answers filter answer are.1 (i, omega (arith, inside), is) run in
+    (suc rest.0, rest.1)
+
+has_reverse : (filters : List (List Insn)) (filter : List Insn) → Contains filters filter → Contains (reverse filters) filter
+has_reverse filters filter (i, inside, is) =
+    let k = length filters - 1 - i in
+    let lt : k < length filters = omega (arith, inside) in
+    let back : length filters - 1 - k ≡ i = omega (arith, inside) in (
+      k,
+      omega (arith, length-reverse filters, inside),
+      get_or-reverse filters k filter lt ∙ ap (λ (n : ℕ). get_or filters n filter) back ∙ is,
+    )
+
+least_rank : (answers : List ℕ) (decision answer q : ℕ) → IsDecision answers decision
+    → slice_get answers q ≡ Some answer → rank_of decision ≤ℤ rank_of answer
+least_rank [] decision answer q decides at = absurd (cc)
+least_rank (x ∷ answers) decision answer q decides at = decides.least q answer at
+
+-- the less the rank, the less is let through
+fate_by_tests : (low high a b : ℤ) (x y u v : Bool) → int_lt low a ≡ x → int_lt a high ≡ y → int_lt low b ≡ u
+    → int_lt b high ≡ v → a ≤ℤ b
+    → degree_of (cond x (cond y Referred Made) Refused) ≤ degree_of (cond u (cond v Referred Made) Refused)
+fate_by_tests low high a b false y u v e f g h le = omega arith
+fate_by_tests low high a b true y false v e f g h le =
+    absurd (ranks_apart b low (int_lt_false low b g) (lt_le_trans low a b (int_lt_true low a e) le))
+fate_by_tests low high a b true true true true e f g h le = omega arith
+fate_by_tests low high a b true true true false e f g h le = omega arith
+fate_by_tests low high a b true false true true e f g h le =
+    absurd (ranks_apart high b (le_trans high a b (int_lt_false a high f) le) (int_lt_true b high h))
+fate_by_tests low high a b true false true false e f g h le = omega arith
+
+pub fate_by_rank : (answer other : ℕ) → rank_of answer ≤ℤ rank_of other → LetsThroughNoMore answer other
+fate_by_rank answer other le = fate_by_tests (rank_of seccomp_ret_errno) (rank_of seccomp_ret_log) (rank_of answer)
+    (rank_of other) _ _ _ _ refl refl refl refl le
+
+-- a stack lets through no more than each of its filters
+pub stack_lets_through_no_more : (filters : List (List Insn)) (filter : List Insn) (words : List ℕ) (decision answer : ℕ)
+    → Contains filters filter → StackAnswers filters words decision → RunAnswers filter words answer
+    → LetsThroughNoMore decision answer
+stack_lets_through_no_more filters filter words decision answer has stack run =
+    let at = answer_among (reverse filters) words stack.answers filter answer stack.are
+    (has_reverse filters filter has) run in
+    fate_by_rank decision answer (least_rank stack.answers decision answer at.0 stack.decides at.1)

@@ -1,8 +1,8 @@
 //! Laws of chains of steps and of stacks, which crates that make, follow or stack programs stand on. Each function does
 //! nothing: what it ensures is the law, for all lists of instructions, accepted or not.
 
-ghost use Rattle.std.specs.Prelude.{◌≡◌, ◌↔◌, ◌+◌, ◌++◌, [], ◌∷◌, ℕ, All, List, length, map, reverse};
-ghost use Rattle.scf_insn.specs.Answers.{answer_of};
+ghost use Rattle.std.specs.Prelude.{◌≡◌, ◌↔◌, ◌+◌, ◌++◌, [], ◌∷◌, ℕ, All, Contains, List, length, map, reverse};
+ghost use Rattle.scf_insn.specs.Answers.{LetsThroughNoMore, answer_of};
 ghost use Rattle.scf_insn.specs.declared.answer.Action.TheVariants.{Allow};
 ghost use Rattle.scf_insn.specs.declared.insn.Insn.{Insn};
 ghost use Rattle.scf_machine.specs.Machine.{State, IsChain, IsRun, IsRunFrom, RunAnswers, step, Goes, Ends};
@@ -61,4 +61,11 @@ pub fn stack_answers()
     ensures newest { (filters : List (List Insn)) (filter : List Insn) (words : List ℕ) (older newest : ℕ)
         → StackAnswers filters words older → RunAnswers filter words newest
         → StackAnswers (filters ++ filter ∷ []) words (with_newest older newest) }
+{}
+
+/// Of each call record a stack of filters lets through no more than each of them does.
+pub fn stack_lets_through_no_more()
+    ensures { (filters : List (List Insn)) (filter : List Insn) (words : List ℕ) (decision answer : ℕ)
+        → Contains filters filter → StackAnswers filters words decision → RunAnswers filter words answer
+        → LetsThroughNoMore decision answer }
 {}
