@@ -2,7 +2,8 @@
 use Rattle.std.proofs.Common.{◌≡◌, ℕ, ◌+◌, ◌<◌, arith, Bool, true, false, ◌||◌, eqb, ltb, List, [], ◌∷◌, map, Option}
 use Rattle.std.proofs.Common.{Some, None, refl, sym, ap, subst, ◌∙◌, inl, inr}
 use Rattle.std.specs.Option.{option_map}
-use Rattle.std.specs.List.{AllByRecursion, list_all, list_any}
+use Rattle.std.specs.List.{AllByRecursion, list_all, list_any, find}
+use Rattle.std.specs.Prelude.{◌==◌}
 use Rattle.std.specs.Map.{lookup}
 use Rattle.std.proofs.lemmas.Bool.{cases_Bool, cases_lt, eqb-true, ltb-true, and_parts}
 use Rattle.scf_insn.specs.Codes.{Row, code_of, operations, code_table, operation_of}
@@ -65,6 +66,25 @@ of_their_codes = of_each operations
 codes_small : list_all (λ f. ltb f.code 256) known_forms ≡ true
 unfolding known_forms code_table
 codes_small = refl
+
+-- the form of a code is the first of the known ones with that code
+found_as : (code : ℕ) (row : Row) (table : List Row) (b : Bool) → (row.0 == code) ≡ b
+    → option_map (form_of code) (lookup (λ known. known == code) table)
+    ≡ find (λ (f : Form). f.code == code) (map (λ (known : Row). form_of known.0 known.1) table)
+    → option_map (form_of code) (lookup (λ known. known == code) (row ∷ table))
+    ≡ find (λ (f : Form). f.code == code) (map (λ (known : Row). form_of known.0 known.1) (row ∷ table))
+found_as code row table true here rest =
+    rw here (ap (λ (c : ℕ). Some (form_of c row.1)) (sym (eqb-true row.0 code here)))
+found_as code row table false other rest = rw other rest
+
+found_in : (code : ℕ) (table : List Row) → option_map (form_of code) (lookup (λ known. known == code) table)
+    ≡ find (λ (f : Form). f.code == code) (map (λ (known : Row). form_of known.0 known.1) table)
+found_in code [] = refl
+found_in code (row ∷ table) = found_as code row table (row.0 == code) refl (found_in code table)
+
+pub find_form : (code : ℕ) → form_of_code code ≡ find (λ (f : Form). f.code == code) known_forms
+unfolding known_forms operation_of
+find_form code = found_in code code_table
 
 -- reading by the codes in turn
 

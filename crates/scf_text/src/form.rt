@@ -1,11 +1,11 @@
 //! The forms of an instruction, for the assembler and the disassembler alike.
 ghost use Rattle.std.specs.Prelude.{◌≡◌, ◌==◌, ◌||◌, IsTrue};
-ghost use Rattle.std.specs.List.{list_any};
-ghost use Rattle.scf_text.specs.Forms.{mnemonic_text, mnemonic_of_load, mnemonic_of_store, mnemonic_of_arithmetic};
-ghost use Rattle.scf_text.specs.Forms.{mnemonic_of_test, mnemonic_of, shape_of, pieces_of, form_of_code, raw};
+ghost use Rattle.std.specs.List.{find, list_any};
+ghost use Rattle.scf_text.specs.Forms.{mnemonic_text, pieces_of, forms, known_forms, form_of_code, raw};
 ghost use Rattle.scf_text.specs.Forms.{names, tells_all, form_for};
+ghost use Rattle.scf_text.specs.Drafts.{has_mnemonic};
 
-use scf_insn::{Arithmetic, Insn, Operand, Operation, Register, Test};
+use scf_insn::Insn;
 
 /// The word that stands first.
 #[derive(Clone, Copy)]
@@ -104,71 +104,6 @@ pub(crate) struct Form {
 }
 
 impl Mnemonic {
-    /// The word for an operation.
-    fn of(operation: Operation) -> Mnemonic
-        ensures { result ≡ mnemonic_of operation }
-    {
-        match operation {
-            Operation::LoadWord => Mnemonic::Ld,
-            Operation::LoadLength(register)
-            | Operation::LoadConstant(register)
-            | Operation::LoadScratch(register) => Mnemonic::of_load(register),
-            Operation::StoreScratch(register) => Mnemonic::of_store(register),
-            Operation::Compute(arithmetic, _) => Mnemonic::of_arithmetic(arithmetic),
-            Operation::Negate => Mnemonic::Neg,
-            Operation::Jump => Mnemonic::Ja,
-            Operation::JumpIf(test, _) => Mnemonic::of_test(test),
-            Operation::ReturnConstant | Operation::ReturnAccumulator => Mnemonic::Ret,
-            Operation::CopyToIndex => Mnemonic::Tax,
-            Operation::CopyToAccumulator => Mnemonic::Txa,
-        }
-    }
-
-    fn of_load(register: Register) -> Mnemonic
-        ensures { result ≡ mnemonic_of_load register }
-    {
-        match register {
-            Register::A => Mnemonic::Ld,
-            Register::X => Mnemonic::Ldx,
-        }
-    }
-
-    fn of_store(register: Register) -> Mnemonic
-        ensures { result ≡ mnemonic_of_store register }
-    {
-        match register {
-            Register::A => Mnemonic::St,
-            Register::X => Mnemonic::Stx,
-        }
-    }
-
-    fn of_arithmetic(arithmetic: Arithmetic) -> Mnemonic
-        ensures { result ≡ mnemonic_of_arithmetic arithmetic }
-    {
-        match arithmetic {
-            Arithmetic::Add => Mnemonic::Add,
-            Arithmetic::Sub => Mnemonic::Sub,
-            Arithmetic::Mul => Mnemonic::Mul,
-            Arithmetic::Div => Mnemonic::Div,
-            Arithmetic::Or => Mnemonic::Or,
-            Arithmetic::And => Mnemonic::And,
-            Arithmetic::Lsh => Mnemonic::Lsh,
-            Arithmetic::Rsh => Mnemonic::Rsh,
-            Arithmetic::Xor => Mnemonic::Xor,
-        }
-    }
-
-    fn of_test(test: Test) -> Mnemonic
-        ensures { result ≡ mnemonic_of_test test }
-    {
-        match test {
-            Test::Equal => Mnemonic::Jeq,
-            Test::Greater => Mnemonic::Jgt,
-            Test::GreaterOrEqual => Mnemonic::Jge,
-            Test::CommonBit => Mnemonic::Jset,
-        }
-    }
-
     /// The word as it is written.
     pub(crate) fn text(self) -> &'static str
         ensures { result.now ≡ mnemonic_text self }
@@ -261,27 +196,6 @@ impl Piece {
 }
 
 impl Shape {
-    /// What stands behind the word for an operation.
-    fn of(operation: Operation) -> Shape
-        ensures { result ≡ shape_of operation }
-    {
-        match operation {
-            Operation::LoadWord => Shape::Absolute,
-            Operation::LoadLength(_) => Shape::Length,
-            Operation::LoadConstant(_) => Shape::Constant,
-            Operation::LoadScratch(_) | Operation::StoreScratch(_) => Shape::Scratch,
-            Operation::Compute(_, Operand::Constant) => Shape::Constant,
-            Operation::Compute(_, Operand::Index) => Shape::Index,
-            Operation::Negate => Shape::Nothing,
-            Operation::Jump => Shape::Jump,
-            Operation::JumpIf(_, Operand::Constant) => Shape::TestConstant,
-            Operation::JumpIf(_, Operand::Index) => Shape::TestIndex,
-            Operation::ReturnConstant => Shape::Constant,
-            Operation::ReturnAccumulator => Shape::Accumulator,
-            Operation::CopyToIndex | Operation::CopyToAccumulator => Shape::Nothing,
-        }
-    }
-
     /// Whether some piece names the field.
     fn names(self, field: Field) -> bool
         ensures { result ≡ list_any (names field) (pieces_of self) }
@@ -309,23 +223,52 @@ impl Shape {
     }
 }
 
+/// Forms, each by the code of its instructions, the word that stands first, and which operands follow it.
+macro_rules! forms {
+    ($($code:literal $mnemonic:ident $shape:ident;)*) => {
+        [$(Form { code: $code, mnemonic: Mnemonic::$mnemonic, shape: Shape::$shape }),*]
+    };
+}
+
+/// The form that every instruction has, and then those of the 41 codes. The code of the first stands among its operands,
+/// so the 0 here is always written over.
+static FORMS: [Form; 42] = forms! {
+    0x00 Raw Raw;
+    0x20 Ld Absolute; 0x80 Ld Length; 0x81 Ldx Length; 0x00 Ld Constant; 0x01 Ldx Constant;
+    0x60 Ld Scratch; 0x61 Ldx Scratch; 0x02 St Scratch; 0x03 Stx Scratch;
+    0x04 Add Constant; 0x0c Add Index; 0x14 Sub Constant; 0x1c Sub Index;
+    0x24 Mul Constant; 0x2c Mul Index; 0x34 Div Constant; 0x3c Div Index;
+    0x44 Or Constant; 0x4c Or Index; 0x54 And Constant; 0x5c And Index;
+    0x64 Lsh Constant; 0x6c Lsh Index; 0x74 Rsh Constant; 0x7c Rsh Index;
+    0xa4 Xor Constant; 0xac Xor Index; 0x84 Neg Nothing;
+    0x05 Ja Jump;
+    0x15 Jeq TestConstant; 0x1d Jeq TestIndex; 0x25 Jgt TestConstant; 0x2d Jgt TestIndex;
+    0x35 Jge TestConstant; 0x3d Jge TestIndex; 0x45 Jset TestConstant; 0x4d Jset TestIndex;
+    0x06 Ret Constant; 0x16 Ret Accumulator; 0x07 Tax Nothing; 0x87 Txa Nothing;
+};
+
 impl Form {
+    /// All forms, that of every instruction first.
+    #[tactic(auto, unfolding(crate::specs::Forms::known_forms, scf_insn::specs::Codes::code_table))]
+    pub(crate) fn all() -> &'static [Form]
+        ensures { result.now ≡ forms }
+    {
+        &FORMS
+    }
+
+    /// The forms of the 41 codes.
+    #[tactic(auto, unfolding(crate::specs::Forms::known_forms, scf_insn::specs::Codes::code_table))]
+    fn known() -> &'static [Form]
+        ensures { result.now ≡ known_forms }
+    {
+        &FORMS[1..]
+    }
+
     /// The form of a code, `None` where it isn't one of the 41.
     pub(crate) fn of_code(code: u16) -> Option<Form>
         ensures { result ≡ form_of_code code }
     {
-        let insn = Insn {
-            code,
-            jt: 0,
-            jf: 0,
-            k: 0,
-        };
-        let operation = insn.operation()?;
-        Some(Form {
-            code,
-            mnemonic: Mnemonic::of(operation),
-            shape: Shape::of(operation),
-        })
+        first_of_code(Form::known(), code)
     }
 
     /// The form that every instruction has. Its code stands among its operands, so the 0 here is always written over.
@@ -337,6 +280,13 @@ impl Form {
             mnemonic: Mnemonic::Raw,
             shape: Shape::Raw,
         }
+    }
+
+    /// Whether this is its word.
+    pub(crate) fn has_mnemonic(&self, word: &[u8]) -> bool
+        ensures { result ≡ has_mnemonic word.now self.now }
+    {
+        word == self.mnemonic.text().as_bytes()
     }
 
     /// Whether this form of the instruction's code says all of it: the fields that it doesn't name are 0.
@@ -358,4 +308,16 @@ impl Form {
             _ => Form::raw(),
         }
     }
+}
+
+/// The first of the forms with a code.
+fn first_of_code(forms: &[Form], code: u16) -> Option<Form>
+    ensures { result ≡ find (λ form. form.code == code) forms.now }
+{
+    for form in forms {
+        if form.code == code {
+            return Some(*form);
+        }
+    }
+    None
 }
