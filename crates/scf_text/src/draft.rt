@@ -3,19 +3,16 @@ ghost use Rattle.std.specs.Prelude.{◌≡◌};
 ghost use Rattle.std.specs.Option.{option_map};
 ghost use Rattle.std.specs.List.{list_any};
 ghost use Rattle.std.specs.Str.{bytes_eq};
-ghost use Rattle.scf_text.specs.Forms.{form_of_code, forms};
+ghost use Rattle.scf_text.specs.Forms.{forms};
 ghost use Rattle.scf_text.specs.Drafts.{is_name, with_field, spellings, put_by, fill_by, blank, has_mnemonic};
-ghost use Rattle.scf_text.specs.Drafts.{read_in, read_by, is_below, is_in_range};
-ghost use Rattle.scf_text.specs.internal.Results.{Reads, reading_or};
-ghost use Rattle.scf_text.specs.internal.Views.{read_as, is_mnemonic_of, written_view, draft_view, capped_number};
+ghost use Rattle.scf_text.specs.Drafts.{read_by, is_below, is_in_range};
+ghost use Rattle.scf_text.specs.internal.Results.{Reads};
+ghost use Rattle.scf_text.specs.internal.Views.{written_view, draft_view, capped_number};
 ghost use Rattle.scf_text.specs.internal.Views.{texts};
 
 use crate::form::{Field, Form, Piece};
 use crate::token::Token;
 use scf_insn::{NumeralFault, parse_number};
-
-/// Each of the 41 codes is below this one.
-const KNOWN_CODES_END: u16 = 0x100;
 
 /// What stands for a field: a number, where `u64::MAX` stands for each larger one too, or the name of a place.
 #[derive(Clone, Copy)]
@@ -157,56 +154,25 @@ pub(crate) enum Reading<'a> {
     Said(Draft<'a>),
 }
 
-impl<'a> Reading<'a> {
-    /// This one, unless the other one says more.
-    fn or(self, other: Reading<'a>) -> Reading<'a>
-        ensures { result ≡ reading_or self.entry other.entry }
-    {
-        match self {
-            Reading::Unknown => other,
-            Reading::Unfit => match other {
-                Reading::Said(draft) => Reading::Said(draft),
-                Reading::Unknown | Reading::Unfit => Reading::Unfit,
-            },
-            Reading::Said(draft) => Reading::Said(draft),
-        }
-    }
-}
-
-/// What a mnemonic and the tokens behind it say, by each of the forms in turn.
+/// What a mnemonic and the tokens behind it say, in the first form of the mnemonic that has the tokens.
 pub(crate) fn read<'a>(mnemonic: &[u8], tokens: &[Token<'a>]) -> Reading<'a>
     ensures { Reads (list_any (has_mnemonic mnemonic.now) forms)
         (read_by capped_number forms mnemonic.now (texts tokens.now)) result }
 {
-    let mut found = read_in(Form::raw(), mnemonic, tokens);
-    for code in 0..KNOWN_CODES_END {
-        found = found.or(read_as(code, mnemonic, tokens));
+    let mut is_known = false;
+    for form in Form::all() {
+        if !form.has_mnemonic(mnemonic) {
+            continue;
+        }
+        if let Some(draft) = fill(form.shape.pieces(), tokens, Draft::blank(*form)) {
+            return Reading::Said(draft);
+        }
+        is_known = true;
     }
-    found
-}
-
-/// What they say in the form of a code, if it is one of the 41.
-fn read_as<'a>(code: u16, mnemonic: &[u8], tokens: &[Token<'a>]) -> Reading<'a>
-    ensures { Reads (is_mnemonic_of mnemonic.now (form_of_code code))
-        (read_as capped_number mnemonic.now (texts tokens.now) (form_of_code code)) result }
-{
-    match Form::of_code(code) {
-        Some(form) => read_in(form, mnemonic, tokens),
-        None => Reading::Unknown,
-    }
-}
-
-/// What they say in this form.
-fn read_in<'a>(form: Form, mnemonic: &[u8], tokens: &[Token<'a>]) -> Reading<'a>
-    ensures { Reads (has_mnemonic mnemonic.now form)
-        (read_in capped_number form mnemonic.now (texts tokens.now)) result }
-{
-    if mnemonic != form.mnemonic.text().as_bytes() {
-        return Reading::Unknown;
-    }
-    match fill(form.shape.pieces(), tokens, Draft::blank(form)) {
-        Some(draft) => Reading::Said(draft),
-        None => Reading::Unfit,
+    if is_known {
+        Reading::Unfit
+    } else {
+        Reading::Unknown
     }
 }
 

@@ -68,11 +68,3 @@ abbrev pub Reads : Bool → Option drafts.Draft → Reading → Type 0
 Reads known said Unknown = known ≡ false
 Reads known said Unfit = (known ≡ true) × (said ≡ None)
 Reads known said (Said draft) = (known ≡ true) × (said ≡ Some (draft_view draft))
-
--- the reading in the first form that says something, or else in one that has the mnemonic
-abbrev pub reading_or : Reading → Reading → Reading
-reading_or Unknown other = other
-reading_or Unfit Unknown = Unfit
-reading_or Unfit Unfit = Unfit
-reading_or Unfit (Said draft) = Said draft
-reading_or (Said draft) other = Said draft

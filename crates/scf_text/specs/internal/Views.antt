@@ -1,13 +1,12 @@
 -- What the tokens and drafts of the code stand for. In a draft 2^64-1 stands for every larger number, since none fits
 -- a field.
-use Rattle.std.specs.Prelude.{◌≡◌, ℕ, ◌-◌, ◌^◌, Bool, false, List, [], ◌∷◌, map, min, Option}
-use Rattle.std.specs.Option.{option_map, option_map_or, option_and_then}
+use Rattle.std.specs.Prelude.{◌≡◌, ℕ, ◌-◌, ◌^◌, Bool, List, [], ◌∷◌, map, min, Option}
+use Rattle.std.specs.Option.{option_map}
 use Rattle.scf_insn.specs.Numbers.{number_of}
 use Rattle.scf_text.specs.declared.token.Token.{Token}
 use Rattle.scf_text.specs.declared.draft.Written.{Written}
 use Rattle.scf_text.specs.declared.draft.Written.TheVariants as code
 use Rattle.scf_text.specs.declared.draft.Draft.{Draft}
-use Rattle.scf_text.specs.declared.form.Form.{Form}
 use Rattle.scf_text.specs.Characters.{is_blank}
 use Rattle.scf_text.specs.Drafts as drafts
 
@@ -33,11 +32,3 @@ written_view (code.Label name) = drafts.Label name.now
 
 abbrev pub draft_view : Draft → drafts.Draft
 draft_view d = record { code = d.code; jt = written_view d.jt; jf = written_view d.jf; k = written_view d.k }
-
--- what a mnemonic and the tokens behind it say in a form, if there is one
-abbrev pub read_as : (List ℕ → Option ℕ) → List ℕ → List (List ℕ) → Option Form → Option drafts.Draft
-read_as number t ts form = option_and_then (λ f. drafts.read_in number f t ts) form
-
--- whether a form, if there is one, has the mnemonic
-abbrev pub is_mnemonic_of : List ℕ → Option Form → Bool
-is_mnemonic_of t form = option_map_or (drafts.has_mnemonic t) form false

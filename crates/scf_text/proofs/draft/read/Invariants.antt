@@ -1,6 +1,11 @@
+use Rattle.std.proofs.Common.{◌≡◌, drop}
+use Rattle.scf_text.specs.Forms.{forms}
 use Rattle.scf_text.specs.internal.Views.{capped_number, texts}
-use Rattle.scf_text.proofs.FormLemmas.{ReadsUpTo}
+use Rattle.scf_text.proofs.FormLemmas.{IsUnread}
 use Rattle.scf_text.proofs.draft.read.Given as goal
 
-abbrev pub invariant-loop-code : goal.invariant-loop-code
-invariant-loop-code l = ReadsUpTo capped_number l.mnemonic (texts l.tokens) l.code l.found
+abbrev pub invariant-loop-form : goal.invariant-loop-form
+invariant-loop-form l = record {
+  items : l.form-items ≡ forms;
+  unread : IsUnread capped_number l.mnemonic (texts l.tokens) l.form-items (drop l.form-index l.form-items) l.is_known;
+}
