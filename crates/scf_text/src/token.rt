@@ -140,6 +140,9 @@ pub(crate) fn push_tokens<'a>(
 /// ends and comments. `;` is one of them, and so is a byte that isn't ASCII.
 ///
 /// Each borrows its slice of the text. `Memory` comes where memory was refused, and not where there is no token.
+///
+/// These are the pieces that `assemble` works on. It looks for a byte that isn't ASCII first, and then takes them line by
+/// line: those of one line are kept at a time, where this call gives all of them.
 #[tactic(auto, unfolding(crate::specs::Tokens::tokens_of))]
 pub fn tokens(alloc: Global, text: &[u8]) -> Result<Vec<Token<'_>>, Memory>
     ensures pieces { IfOk result (λ found. lexemes found.items ≡ tokens_of text.now) }
