@@ -13,6 +13,7 @@ ghost use Rattle.scf_profile.specs.internal.Results.{result_map};
 
 use crate::condition::{Condition, Conditions, Operator};
 use crate::json_members::member_of;
+use crate::limits::ARGUMENTS;
 use crate::load_fault::LoadFault;
 use serde_json::Value;
 use std::alloc::Global;
@@ -39,7 +40,7 @@ fn find_index(entry: Option<u32>, object: &Value) -> Result<u8, LoadFault>
 {
     let found = member_of(object, "index").ok_or(LoadFault::Missing { entry })?;
     if let Some(index) = found.as_u64() {
-        return if index < 6 {
+        return if index < u64::from(ARGUMENTS) {
             Ok(index as u8)
         } else {
             Err(LoadFault::Index { entry })

@@ -6,10 +6,8 @@ ghost use Rattle.scf_profile.specs.internal.NumberSets.{IsNumberSet, is_in_some}
 ghost use Rattle.scf_profile.specs.internal.Overlaps.{HoldAt, Overlap, OverlapAt};
 
 use crate::condition::Condition;
+use crate::limits::ARGUMENTS;
 use crate::number_set::NumberSet;
-
-/// How many arguments a call has.
-const ARGUMENTS: u8 = 6;
 
 /// The numbers of which the conditions on an argument hold, where there are any.
 fn numbers_at(conditions: &[Condition], index: u8) -> Option<NumberSet>
