@@ -1,9 +1,10 @@
 //! From a text and a call table to a profile.
 
-ghost use Rattle.std.specs.Prelude.{◌<◌, ◌^◌, IfOk, IfErr};
+ghost use Rattle.std.specs.Prelude.{◌≡◌, ◌<◌, ◌^◌, length, Err, IfOk, IfErr};
 ghost use Rattle.serde_json.specs.View.{view};
-ghost use Rattle.scf_profile.specs.declared.load_fault.LoadFault.TheVariants.{Memory};
+ghost use Rattle.scf_profile.specs.declared.load_fault.LoadFault.TheVariants.{Memory, TooMany};
 ghost use Rattle.scf_profile.specs.internal.EntryRanges.{AreStatedRules};
+ghost use Rattle.scf_profile.specs.Limits.{max_text_len};
 ghost use Rattle.scf_profile.specs.Loading.{IsText, Loads, Refuses};
 ghost use Rattle.scf_profile.specs.internal.Refusals.{NamesLeastConflict, ParseRefuses};
 ghost use Rattle.scf_profile.specs.internal.ShortArrays.{HasShortArrays};
@@ -32,6 +33,7 @@ use std::alloc::Global;
 fn parse(alloc: Global, text: &[u8]) -> Result<Value, LoadFault>
     ensures ok { IfOk result (λ v. IsText text.now (view v)) }
     ensures err { IfErr result (λ e. ParseRefuses text.now e) }
+    ensures long { max_text_len < length text.now → result ≡ Err TooMany }
 {
     if text.len() > MAX_TEXT_LEN {
         return Err(LoadFault::TooMany);
@@ -103,6 +105,8 @@ fn without_conflict(alloc: Global, stated: Stated) -> Result<Loaded, LoadFault>
 pub fn load(alloc: Global, text: &[u8], table: &CallTable) -> Result<Loaded, LoadFault>
     ensures ok { IfOk result (λ loaded. Loads text.now table.now loaded) }
     ensures err { IfErr result (λ fault. Refuses text.now table.now fault) }
+    // A text that is too long is refused for that before any memory is wanted.
+    ensures long { max_text_len < length text.now → result ≡ Err TooMany }
 {
     let value = parse(alloc, text)?;
     let object = find_seccomp(&value)?;
