@@ -1,7 +1,7 @@
 -- What a text states as a call table: a map from names to numbers, or the first fault of the first faulty line.
 use Rattle.std.specs.Prelude.{◌≡◌, ℕ, ◌+◌, ◌<◌, Bool, not, ◌&&◌, ◌||◌, ◌==◌, List, [], ◌∷◌, length, slice_index}
 use Rattle.std.specs.Prelude.{Option, Some, None, Result, Ok, Err, if◌then◌else◌, is_some, nat_lt, nat_le}
-use Rattle.std.specs.Prelude.{option_and_then}
+use Rattle.std.specs.Prelude.{option_and_then, ◌⊎◌}
 use Rattle.std.specs.List.{list_all, filter, slice_split}
 use Rattle.std.specs.Ordering.{nat_cmp}
 use Rattle.std.specs.Cmp.Lexicographic.{slice_cmp}
@@ -89,6 +89,23 @@ with_lines line names [] = Ok names
 with_lines line names (text ∷ texts) = do
   more ← with_line line names text
   with_lines (line + 1) more texts
+
+-- The line has a name and a number.
+pub record HasCall (text : List ℕ) : Type 0 where
+  pub line : ℕ
+  pub name : List ℕ
+  pub number : ℕ
+  pub states : entry_in line (fields text) ≡ Ok (Some (name, number))
+
+-- The line is blank or a comment.
+pub record IsPassedOver (text : List ℕ) : Type 0 where
+  pub line : ℕ
+  pub states : entry_in line (fields text) ≡ Ok None
+
+-- the first line that is neither blank nor a comment has a name and a number
+abbrev pub BeginWithCall : List (List ℕ) → Type 0
+BeginWithCall [] = ⊥
+BeginWithCall (text ∷ texts) = HasCall text ⊎ (IsPassedOver text × BeginWithCall texts)
 
 -- Lines end at LF, which the last may lack; a CR before it is dropped. They count from 1.
 abbrev pub table_of : List ℕ → Result Names TableFault

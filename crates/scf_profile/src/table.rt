@@ -2,11 +2,12 @@
 
 ghost use Rattle.std.specs.Prelude.{◌≡◌, ◌≢◌, ◌<◌, IfSome, IfOk, OnOk, IfErr, Ok, Err};
 ghost use Rattle.std.specs.FinMap.{get};
+ghost use Rattle.std.specs.Str.Lines.{lines};
 ghost use Rattle.scf_insn.specs.Kernel.{x32_syscall_bit};
 ghost use Rattle.scf_profile.specs.declared.table_fault.TableFault.TheVariants as faults;
 ghost use Rattle.scf_profile.specs.NamedCalls.{AreCallsOf};
 ghost use Rattle.scf_profile.specs.Steps.{Gives};
-ghost use Rattle.scf_profile.specs.Table.{AreCallNumbers, table_of, with_line};
+ghost use Rattle.scf_profile.specs.Table.{AreCallNumbers, BeginWithCall, HasCall, table_of, with_line};
 
 use crate::named_call::{NamedCall, named_calls};
 use crate::table_fault::TableFault;
@@ -41,9 +42,10 @@ impl Model for CallTable {
 impl CallTable {
     /// The table that a text states: on each line a name and a decimal number, divided by blanks; blank lines and those
     /// that begin with `#` aside. The first fault of the first faulty line is answered, and `Memory` where a growth was
-    /// refused.
+    /// refused. Memory is wanted from the first name on.
     pub fn read(alloc: Global, text: &[u8]) -> Result<CallTable, TableFault>
-        ensures { Gives faults.Memory result (table_of text.now) }
+        ensures table { Gives faults.Memory result (table_of text.now) }
+        ensures memory { result ≡ Err faults.Memory → BeginWithCall (lines text.now) }
     {
         let mut table = CallTable {
             numbers: BTreeMap::new(alloc),
@@ -86,6 +88,7 @@ impl CallTable {
     fn add_line(&mut self, alloc: Global, line: usize, text: &[u8]) -> Result<(), TableFault>
         ensures ok { OnOk result (with_line line self.old text.now ≡ Ok self.new) }
         ensures err { IfErr result (λ e. e ≢ faults.Memory → with_line line self.old text.now ≡ Err e) }
+        ensures memory { result ≡ Err faults.Memory → HasCall text.now }
     {
         let Some((name, number)) = entry_on(line, text)? else {
             return Ok(());

@@ -4,14 +4,14 @@ use Rattle.scf_tool.proofs.commands.profile.filter_bytes.Goals as goal
 pub returns-in_err-loaded-clause-fault : goal.returns-in_err-loaded-clause-fault
 returns-in_err-loaded-clause-fault c =
     let p = err_from_is_err_and c.from_residual-in_err-loaded.result c.from_residual-in_err-loaded.ensures.1 in
-    rw (p.1, p.2) (c.in_ok-table.table, c.in_ok-table.ensures, c.in_err-loaded.ensures.err)
+    rw (p.1, p.2) (c.in_ok-table.table, c.in_ok-table.ensures.table, c.in_err-loaded.ensures.err)
 
 pub returns-in_err-program-clause-fault : goal.returns-in_err-program-clause-fault
 returns-in_err-program-clause-fault c =
     let p = err_from_is_err_and c.from_residual-in_err-program.result c.from_residual-in_err-program.ensures.1 in
     rw (p.1, p.2) (
       c.in_ok-table.table,
-      c.in_ok-table.ensures,
+      c.in_ok-table.ensures.table,
       c.in_ok-loaded.loaded,
       c.in_ok-loaded.ensures.ok,
       c.in_err-program.ensures.large,
@@ -20,7 +20,7 @@ returns-in_err-program-clause-fault c =
 pub returns-in-Ok-clause-filter : goal.returns-in-Ok-clause-filter
 returns-in-Ok-clause-filter c = record {
   names = c.in_ok-table.table;
-  is_table = c.in_ok-table.ensures;
+  is_table = c.in_ok-table.ensures.table;
   loaded = c.in_ok-loaded.loaded;
   loads = c.in_ok-loaded.ensures.ok;
   insns = c.in_ok-program.program;
@@ -35,7 +35,7 @@ returns-in-Ok-clause-filter c = record {
 pub returns-clause-fault : goal.returns-clause-fault
 returns-clause-fault c = (
   c.in_ok-table.table,
-  c.in_ok-table.ensures,
+  c.in_ok-table.ensures.table,
   c.in_ok-loaded.loaded,
   c.in_ok-loaded.ensures.ok,
   λ e. cc,
