@@ -16,17 +16,12 @@ use crate::numbers::cut_by_number;
 use crate::placing::{Place, put_block, put_branch};
 use crate::search::put_search;
 use crate::stretches::stretches_of;
-use scf_insn::kernel::{
-    AUDIT_ARCH_X86_64, BPF_MAXINSNS, SECCOMP_RET_KILL_PROCESS, X32_SYSCALL_BIT,
-};
+use scf_insn::kernel::{AUDIT_ARCH_X86_64, BPF_MAXINSNS, X32_SYSCALL_BIT};
 use scf_insn::{Answer, Insn, Memory, Test};
 use scf_machine::{CheckFault, Program, check};
-use scf_profile::{Profile, Rule, rules_by_number};
+use scf_profile::{FOREIGN_ANSWER, Profile, Rule, rules_by_number};
 use std::alloc::Global;
 use std::collections::VecDeque;
-
-/// The answer to a call that isn't native.
-const KILL_PROCESS: Answer = Answer(SECCOMP_RET_KILL_PROCESS);
 
 /// The instructions of the filter of rules and a default answer, however many there are.
 fn filter_of(alloc: Global, rules: &[Rule], default: Answer) -> Result<Vec<Insn>, Memory>
@@ -39,11 +34,11 @@ fn filter_of(alloc: Global, rules: &[Rule], default: Answer) -> Result<Vec<Insn>
     let stretches = stretches_of(alloc, &numbers, default)?;
     let mut code = VecDeque::new(alloc);
     let calls = put_search(alloc, &mut code, &stretches, default)?;
-    let x32 = put_block(&mut code, &[return_with(KILL_PROCESS)])?;
+    let x32 = put_block(&mut code, &[return_with(FOREIGN_ANSWER)])?;
     put_branch(&mut code, Test::GreaterOrEqual, X32_SYSCALL_BIT, x32, calls)?;
     code.push_front(load_word(0))?;
     let native = Place(code.len());
-    let foreign = put_block(&mut code, &[return_with(KILL_PROCESS)])?;
+    let foreign = put_block(&mut code, &[return_with(FOREIGN_ANSWER)])?;
     put_branch(&mut code, Test::Equal, AUDIT_ARCH_X86_64, native, foreign)?;
     code.push_front(load_word(1))?;
     Ok(Vec::from(code))

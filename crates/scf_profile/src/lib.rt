@@ -33,7 +33,7 @@ pub use limits::{MAX_RULES, MAX_TEXT_LEN};
 pub use load_fault::LoadFault;
 pub use loaded::Loaded;
 pub use named_call::NamedCall;
-pub use profile::Profile;
+pub use profile::{FOREIGN_ANSWER, Profile};
 pub use profile_text::load;
 pub use rule::Rule;
 pub use table::CallTable;

@@ -10,6 +10,9 @@ use scf_insn::kernel::{AUDIT_ARCH_X86_64, SECCOMP_RET_KILL_PROCESS, X32_SYSCALL_
 use scf_insn::{Answer, CallRecord};
 use std::marker::Model;
 
+/// The answer to each call that isn't native: KILL_PROCESS.
+pub const FOREIGN_ANSWER: Answer = Answer(SECCOMP_RET_KILL_PROCESS);
+
 /// What a profile states: a default answer, and rules in the order of the text. No call meets two rules that answer it
 /// differently; numbers are below `X32_SYSCALL_BIT`, indices below 6 and none twice in a rule; there are at most
 /// `MAX_RULES` rules.
@@ -69,8 +72,8 @@ impl Profile {
     pub fn answer(&self, call: &CallRecord) -> Answer
         ensures { ProfileAnswers self.now call.now result.0 }
     {
-        if call.arch != AUDIT_ARCH_X86_64 || call.nr >= X32_SYSCALL_BIT {
-            return Answer(SECCOMP_RET_KILL_PROCESS);
+        if !is_native(call) {
+            return FOREIGN_ANSWER;
         }
         answer_of(self.default_answer, &self.rules, call)
     }
@@ -86,6 +89,13 @@ fn are_plain(rules: &[Rule]) -> bool
         }
     }
     true
+}
+
+/// Whether a call is one of x86-64, with a number that x32 calls don't have.
+fn is_native(call: &CallRecord) -> bool
+    ensures { IsTrue result ↔ IsNative call.now }
+{
+    call.arch == AUDIT_ARCH_X86_64 && call.nr < X32_SYSCALL_BIT
 }
 
 /// The answer of a rule that a native call meets, and the default answer where it meets none.

@@ -1,13 +1,7 @@
-use Rattle.std.proofs.Common.{arith}
+use Rattle.std.proofs.lemmas.Bool.{both_ways}
 use Rattle.scf_profile.specs.ProfileAnswers.{foreign}
 use Rattle.scf_profile.proofs.profile.Profile.answer.Goals as goal
-use Rattle.scf_profile.proofs.profile.Profile.answer.Goals.{then-call-via-then-call}
-use Rattle.scf_profile.proofs.profile.Profile.answer.Goals.{then-call-via-else-call+then-call-ge-X32_SYSCALL_BIT}
 
-pub returns-then-call : goal.returns-then-call
-returns-then-call c =
-    foreign (λ native. elim c.then-call.branch [
-      | then-call-via-then-call w ↦ absurd
-          (w.if-call.true native.arch)
-      | then-call-via-else-call+then-call-ge-X32_SYSCALL_BIT w ↦ omega arith
-    ])
+pub returns-then-not-is_native : goal.returns-then-not-is_native
+returns-then-not-is_native c =
+    foreign (λ native. both_ways _ c.if-not-is_native.true (c.is_native.ensures.1 native))
