@@ -35,6 +35,8 @@ mod paths;
 #[cfg(test)]
 mod profile;
 #[cfg(test)]
+mod reasons;
+#[cfg(test)]
 mod searches;
 #[cfg(test)]
 mod streams;

@@ -26,7 +26,7 @@ conflicts_both_ways r s h =
     }
 
 -- the answers of rules without conflict that one call meets
-same_answer : (r s : Rule) (call : CallRecord) → (Conflicts r s → ⊥) → IsRecord call → meets r call ≡ true
+pub same_answer : (r s : Rule) (call : CallRecord) → (Conflicts r s → ⊥) → IsRecord call → meets r call ≡ true
     → meets s call ≡ true → r.answer.0 ≡ s.answer.0
 same_answer r s call none fits met met_too =
     elim (cases_eq r.answer.0 s.answer.0) [

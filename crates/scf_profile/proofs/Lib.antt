@@ -10,6 +10,7 @@ pub mod NamedCalls
 pub mod NamesOf
 pub mod Numbers
 pub mod Overlaps
+pub mod Reasons
 pub mod StatedRules
 pub mod TableLines
 pub mod TestFaults

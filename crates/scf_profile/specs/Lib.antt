@@ -8,6 +8,7 @@ pub mod Names
 pub mod PlainProfile
 pub mod Profile
 pub mod ProfileAnswers
+pub mod Reasons
 pub mod References
 pub mod Rule
 pub mod RulesByNumber

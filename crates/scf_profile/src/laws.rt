@@ -3,8 +3,10 @@
 ghost use Rattle.std.specs.Prelude.{◌≡◌, ℕ};
 ghost use Rattle.scf_insn.specs.declared.record.CallRecord.{CallRecord};
 ghost use Rattle.scf_insn.specs.Words.{IsRecord};
+ghost use Rattle.scf_profile.specs.declared.reason.Reason.{Reason};
 ghost use Rattle.scf_profile.specs.Profile.{Profile, HaveNoConflict};
 ghost use Rattle.scf_profile.specs.ProfileAnswers.{ProfileAnswers};
+ghost use Rattle.scf_profile.specs.Reasons.{IsAnswerOf, IsReason};
 
 /// Every call has an answer.
 pub fn some_answer()
@@ -15,4 +17,10 @@ pub fn some_answer()
 pub fn one_answer()
     ensures { (p : Profile) (call : CallRecord) (a b : ℕ) → HaveNoConflict p.rules → IsRecord call
         → ProfileAnswers p call a → ProfileAnswers p call b → a ≡ b }
+{}
+
+/// Where no two rules conflict, the answer to a call record is the answer of its reason.
+pub fn answer_of_reason()
+    ensures { (p : Profile) (call : CallRecord) (reason : Reason) (answer : ℕ) → HaveNoConflict p.rules
+        → IsRecord call → IsReason p call reason → ProfileAnswers p call answer → IsAnswerOf p call reason answer }
 {}

@@ -1,10 +1,13 @@
 //! A profile: a default answer, and rules that never answer one call differently.
 
-ghost use Rattle.std.specs.Prelude.{◌≡◌, ◌↔◌, IsTrue, All};
+ghost use Rattle.std.specs.Prelude.{◌≡◌, ◌<◌, ◌↔◌, IsTrue, All, min};
+ghost use Rattle.std.specs.List.{reduce};
 ghost use Rattle.scf_profile.specs.Profile.{IsProfile, IsNative};
 ghost use Rattle.scf_profile.specs.PlainProfile.{IsPlainProfile, IsPlainRule};
 ghost use Rattle.scf_profile.specs.ProfileAnswers.{ProfileAnswers};
+ghost use Rattle.scf_profile.specs.Reasons.{IsReason, entries_met};
 
+use crate::reason::Reason;
 use crate::rule::Rule;
 use scf_insn::kernel::{AUDIT_ARCH_X86_64, SECCOMP_RET_KILL_PROCESS, X32_SYSCALL_BIT};
 use scf_insn::{Answer, CallRecord};
@@ -77,6 +80,20 @@ impl Profile {
         }
         answer_of(self.default_answer, &self.rules, call)
     }
+
+    /// Why a call is answered as it is: it isn't one of x86-64, or the first entry of which it meets a rule, or that it
+    /// meets none.
+    pub fn reason(&self, call: &CallRecord) -> Reason
+        ensures { IsReason self.now call.now result }
+    {
+        if !is_native(call) {
+            return Reason::Foreign;
+        }
+        match first_entry_met(&self.rules, call) {
+            Some(entry) => Reason::Entry(entry),
+            None => Reason::Default,
+        }
+    }
 }
 
 /// Whether each rule is plain.
@@ -111,4 +128,16 @@ fn answer_of(default_answer: Answer, rules: &[Rule], call: &CallRecord) -> Answe
         }
     }
     default_answer
+}
+
+/// The least place of an entry of which a call meets a rule.
+fn first_entry_met(rules: &[Rule], call: &CallRecord) -> Option<u32>
+    requires { All (λ r. All (λ c. c.index < 6) r.conditions) rules.now }
+    ensures { result ≡ reduce min (entries_met rules.now call.now) }
+{
+    rules
+        .iter()
+        .filter(|rule| rule.is_met(call))
+        .map(|rule| rule.entry)
+        .min()
 }

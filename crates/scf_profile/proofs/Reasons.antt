@@ -1,0 +1,100 @@
+-- The reason of an answer.
+use Rattle.std.proofs.Common.{◌≡◌, ℕ, zero, suc, ◌≤◌, inl, inr, true, false, List, [], ◌∷◌, Some, refl}
+use Rattle.std.proofs.Common.{subst, arith, min, All, map, Bool, cond}
+use Rattle.std.specs.Prelude.{Contains}
+use Rattle.std.specs.List.{filter, fold, reduce}
+use Rattle.std.proofs.lemmas.Bool.{cases_lt, both_ways}
+use Rattle.std.proofs.lemmas.List.Elements.{All-cons, All-nil, All-head, All-tail, All-contains}
+use Rattle.scf_insn.specs.declared.record.CallRecord.{CallRecord}
+use Rattle.scf_insn.specs.Words.{IsRecord}
+use Rattle.scf_profile.specs.declared.reason.Reason.{Reason}
+use Rattle.scf_profile.specs.declared.reason.Reason.TheVariants.{Foreign, Entry, Default}
+use Rattle.scf_profile.specs.declared.rule.Rule.{Rule}
+use Rattle.scf_profile.specs.Rule.{meets}
+use Rattle.scf_insn.specs.Kernel.{seccomp_ret_kill_process}
+use Rattle.scf_profile.specs.Profile.{Profile, HaveNoConflict, IsNative}
+use Rattle.scf_profile.specs.ProfileAnswers.{ProfileAnswers, foreign, by_rule, by_default}
+use Rattle.scf_profile.specs.Reasons.{entries_met, IsReason, IsAnswerOf}
+use Rattle.scf_profile.proofs.Answering.{same_answer}
+
+-- The least of numbers.
+pub record IsLeast (numbers : List ℕ) (least : ℕ) : Type 0 where
+  pub among : Contains numbers least
+  pub bound : All (λ other. least ≤ other) numbers
+
+le_all : (numbers : List ℕ) (m n : ℕ) → m ≤ n → All (λ other. n ≤ other) numbers → All (λ other. m ≤ other) numbers
+le_all numbers m n le all k d inside = let h = all k d inside in omega arith
+
+least_of_fold : (n : ℕ) (numbers : List ℕ) → IsLeast (n ∷ numbers) (fold min n numbers)
+least_of_fold n [] = record {
+  among = (0, omega arith, refl);
+  bound = All-cons (λ other. n ≤ other) n [] (omega arith) (All-nil (λ other. n ≤ other));
+}
+least_of_fold n (m ∷ numbers) =
+    let rest = least_of_fold (min n m) numbers in
+    let l = fold min (min n m) numbers in
+    let IsBound : ℕ → Type 0 = λ other. l ≤ other in
+    let first : l ≤ min n m = All-head IsBound (min n m) numbers rest.bound in
+    let before : l ≤ n = omega arith in
+    let after : l ≤ m = omega arith in
+    record {
+      among = among l rest.among;
+      bound = All-cons IsBound n (m ∷ numbers) before
+          (All-cons IsBound m numbers after (All-tail IsBound (min n m) numbers rest.bound));
+    }
+  where
+    among : (l : ℕ) → Contains (min n m ∷ numbers) l → Contains (n ∷ m ∷ numbers) l
+    among l (zero, inside, is) = elim (cases_lt n m) [
+      | inl lt ↦ let same : n ≡ l = omega (arith, is) in (0, omega arith, same)
+      | inr le ↦ let same : m ≡ l = omega (arith, is) in (1, omega arith, same)
+    ]
+    among l (suc k, inside, is) = (suc (suc k), omega (arith, inside), is)
+
+pub least_of : (numbers : List ℕ) (least : ℕ) → reduce min numbers ≡ Some least → IsLeast numbers least
+least_of [] least e = absurd (cc)
+least_of (n ∷ numbers) least e = let same : fold min n numbers ≡ least = cc in
+    subst (IsLeast (n ∷ numbers)) same (least_of_fold n numbers)
+
+unmet_first : (r : Rule) (rules : List Rule) (call : CallRecord) (b : Bool) → meets r call ≡ b
+    → map (λ s. s.entry) (cond b (r ∷ filter (λ s. meets s call) rules) (filter (λ s. meets s call) rules)) ≡ []
+    → (b ≡ false) × (entries_met rules call ≡ [])
+unmet_first r rules call true met none = absurd (cc)
+unmet_first r rules call false met none = (refl, none)
+
+-- no entry is met where no rule is
+pub unmet : (rules : List Rule) (call : CallRecord)
+    → entries_met rules call ≡ [] → All (λ r. meets r call ≡ false) rules
+unmet [] call none = All-nil (λ r. meets r call ≡ false)
+unmet (r ∷ rules) call none =
+    let first = unmet_first r rules call (meets r call) refl none in
+    All-cons (λ s. meets s call ≡ false) r rules first.0 (unmet rules call first.1)
+
+answer_of_entry : (p : Profile) (call : CallRecord) (answer : ℕ) → HaveNoConflict p.rules → IsRecord call
+    → IsNative call → ProfileAnswers p call answer
+    → (r : Rule) → Contains p.rules r → meets r call ≡ true → answer ≡ r.answer.0
+answer_of_entry p call answer none fits native (foreign h) r has met = absurd (h native)
+answer_of_entry p call answer none fits native (by_rule s also has_too met_too) r has met =
+    same_answer s r call (none s r has_too has) fits met_too met
+answer_of_entry p call answer none fits native (by_default also unmet) r has met = absurd (both_ways _ (unmet r has) met)
+
+answer_by_default : (p : Profile) (call : CallRecord) (answer : ℕ) → IsNative call → entries_met p.rules call ≡ []
+    → ProfileAnswers p call answer → answer ≡ p.default_answer.0
+answer_by_default p call answer native none (foreign h) = absurd (h native)
+answer_by_default p call answer native none (by_rule s also has met) =
+    absurd (both_ways _ (All-contains (λ r. meets r call ≡ false) p.rules s (unmet p.rules call none) has) met)
+answer_by_default p call answer native none (by_default also no_rule) = refl
+
+answer_to_foreign : (p : Profile) (call : CallRecord) (answer : ℕ) → (IsNative call → ⊥)
+    → ProfileAnswers p call answer → answer ≡ seccomp_ret_kill_process
+answer_to_foreign p call answer not_native (foreign h) = refl
+answer_to_foreign p call answer not_native (by_rule s native has met) = absurd (not_native native)
+answer_to_foreign p call answer not_native (by_default native no_rule) = absurd (not_native native)
+
+-- the answer is that of its reason
+pub answer_of_reason : (p : Profile) (call : CallRecord) (reason : Reason) (answer : ℕ) → HaveNoConflict p.rules
+    → IsRecord call → IsReason p call reason → ProfileAnswers p call answer → IsAnswerOf p call reason answer
+answer_of_reason p call Foreign answer none fits reason answers = answer_to_foreign p call answer reason answers
+answer_of_reason p call (Entry place) answer none fits reason answers = λ r has stated met.
+    answer_of_entry p call answer none fits reason.0 answers r has met
+answer_of_reason p call Default answer none fits reason answers =
+    answer_by_default p call answer reason.0 reason.1 answers
