@@ -19,6 +19,7 @@ use Rattle.std.proofs.lemmas.Map.Made.{length-le_from_is_member}
 use Rattle.scf_insn.specs.Kernel.{x32_syscall_bit}
 use Rattle.scf_insn.specs.declared.answer.Answer.{Answer}
 use Rattle.scf_insn.specs.declared.insn.Insn.{Insn}
+use Rattle.scf_profile.specs.Limits.{max_rules}
 use Rattle.scf_profile.specs.declared.condition.Condition.{Condition}
 use Rattle.scf_profile.specs.declared.rule.Rule.{Rule}
 use Rattle.scf_profile.specs.ByNumber.{rules_at}
@@ -124,7 +125,7 @@ pub record CanBeSearched (ss : List Stretch) : Type 0 where
 
 pub can_be_searched : (default : Answer) (rules sorted : List Rule) (ns : List NumberRules) (ss : List Stretch)
     → IsPermutation rules sorted → IsCut ns sorted → AreStretchesOf default ss ns → All IsRule rules
-    → length rules ≤ 4096 → CanBeSearched ss
+    → length rules ≤ max_rules → CanBeSearched ss
 can_be_searched default rules sorted ns ss same cut laid fine few =
     let each = subst (λ (rs : List Rule). All IsRule rs) (sym cut.whole) (All-permutation IsRule rules sorted same fine)
     in

@@ -4,6 +4,8 @@ ghost use Rattle.std.specs.Prelude.{◌≡◌, ◌<◌, ◌≤◌, All, IfOk, If
 ghost use Rattle.scf_machine.specs.Machine.{RunAnswers};
 ghost use Rattle.scf_machine.specs.Plain.{IsPlainProgram};
 ghost use Rattle.scf_profile.specs.PlainProfile.{IsPlainProfile};
+ghost use Rattle.scf_insn.specs.Kernel.{bpf_maxinsns};
+ghost use Rattle.scf_profile.specs.Limits.{max_rules};
 ghost use Rattle.scf_profile.specs.Rule.{IsRule};
 ghost use Rattle.scf_profile.specs.SameAnswers.{SameAnswers};
 ghost use Rattle.scf_compile.specs.SearchBound.{AnswersWithin, search_bound_of};
@@ -26,7 +28,7 @@ use std::collections::VecDeque;
 /// The instructions of the filter of rules and a default answer, however many there are.
 fn filter_of(alloc: Global, rules: &[Rule], default: Answer) -> Result<Vec<Insn>, Memory>
     requires rules { All IsRule rules.now }
-    requires few { length rules.now ≤ 4096 }
+    requires few { length rules.now ≤ max_rules }
     ensures { IfOk result (λ code. IsFilterOf default rules.now code.items) }
 {
     let sorted = rules_by_number(alloc, rules)?;
@@ -47,13 +49,13 @@ fn filter_of(alloc: Global, rules: &[Rule], default: Answer) -> Result<Vec<Insn>
 /// Makes a filter that answers every call record as the profile does, in all 32 bits: those of other architectures and
 /// of numbers from 0x40000000 on too. Each is answered within a few steps: 8, and 2 for each binary digit of the count
 /// of distinct numbers, and for the rules of one number 2 and 8 for each condition. A profile whose masks are simple
-/// gives a plain program. `TooLarge` comes only where `size_bound` exceeds 4096, and `Memory` where a growth was
-/// refused.
+/// gives a plain program. `TooLarge` comes only where `size_bound` exceeds `BPF_MAXINSNS`, and `Memory` where a growth
+/// was refused.
 pub fn compile(alloc: Global, profile: &Profile) -> Result<Program, CompileFault>
     ensures same { IfOk result (λ program. SameAnswers (RunAnswers program) profile.now) }
     ensures searched { IfOk result (λ program. AnswersWithin program (search_bound_of profile.now)) }
     ensures plain { IsPlainProfile profile.now → IfOk result IsPlainProgram }
-    ensures large { IfErr result (λ fault. fault ≡ CompileFault.TooLarge → 4096 < size_bound_of profile.now) }
+    ensures large { IfErr result (λ fault. fault ≡ CompileFault.TooLarge → bpf_maxinsns < size_bound_of profile.now) }
 {
     let code = filter_of(alloc, profile.rules(), profile.default_answer())?;
     if code.as_slice().len() > BPF_MAXINSNS {

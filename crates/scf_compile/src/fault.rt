@@ -1,13 +1,15 @@
 //! Why a profile isn't compiled.
 
 use scf_insn::Memory;
+use scf_insn::kernel::BPF_MAXINSNS;
 use thiserror::Error;
 
 /// Why a profile isn't compiled.
 #[derive(Clone, Copy, Debug, PartialEq, Eq, Error)]
 pub enum CompileFault {
-    /// The filter would have more than 4096 instructions. It has no more where `size_bound` doesn't exceed 4096.
-    #[error("the filter would have more than 4096 instructions")]
+    /// The filter would have more than `BPF_MAXINSNS` instructions. It has no more where `size_bound` doesn't exceed
+    /// that.
+    #[error("the filter would have more than {most} instructions", most = BPF_MAXINSNS)]
     TooLarge,
     #[error("out of memory")]
     Memory,

@@ -19,7 +19,7 @@ fn is_new(number: u32, earlier: &[Rule]) -> bool
 }
 
 /// 8, and 4 for each distinct call number, and for each rule 2 and 8 for each of its conditions. `compile` answers
-/// `TooLarge` only where this exceeds 4096. It takes no memory.
+/// `TooLarge` only where this exceeds `BPF_MAXINSNS`. It takes no memory.
 pub fn size_bound(profile: &Profile) -> u64
     ensures { result ≡ size_bound_of profile.now }
 {

@@ -7,6 +7,7 @@ use Rattle.scf_insn.specs.Kernel.{bpf_maxinsns}
 use Rattle.scf_machine.specs.Machine.{RunAnswers}
 use Rattle.scf_machine.specs.Plain.{IsPlainInsn, IsPlainProgram}
 use Rattle.scf_machine.specs.Rules.{IsValidList, KeepsScratchRule}
+use Rattle.scf_profile.specs.Limits.{max_rules}
 use Rattle.scf_profile.specs.declared.rule.Rule.{Rule}
 use Rattle.scf_profile.specs.PlainProfile.{IsPlainProfile, IsPlainRule}
 use Rattle.scf_profile.specs.Profile.{Profile, IsProfile}
@@ -57,7 +58,7 @@ filter_of-requires c =
     record {
       rules = All-from_recursion IsRule c.rules.result.now
           (subst (λ (rs : List Rule). AllByRecursion IsRule rs) (sym c.rules.ensures.rules) p.each);
-      few = subst (λ (rs : List Rule). length rs ≤ 4096) (sym c.rules.ensures.rules) p.few;
+      few = subst (λ (rs : List Rule). length rs ≤ max_rules) (sym c.rules.ensures.rules) p.few;
     }
 
 pub returns-then-as_slice-gt-BPF_MAXINSNS-clause-large : goal.returns-then-as_slice-gt-BPF_MAXINSNS-clause-large

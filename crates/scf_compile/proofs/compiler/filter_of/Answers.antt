@@ -5,6 +5,7 @@ use Rattle.scf_insn.specs.declared.answer.Answer.{Answer}
 use Rattle.scf_insn.specs.declared.insn.Insn.{Insn}
 use Rattle.scf_insn.specs.declared.operation.Test.TheVariants.{GreaterOrEqual}
 use Rattle.scf_insn.specs.Kernel.{x32_syscall_bit, seccomp_ret_kill_process}
+use Rattle.scf_profile.specs.Limits.{max_rules}
 use Rattle.scf_profile.specs.declared.rule.Rule.{Rule}
 use Rattle.scf_profile.specs.ByNumber.{IsByNumber, rules_at}
 use Rattle.scf_profile.specs.Rule.{IsRule}
@@ -34,7 +35,7 @@ stretches_of-requires c = rw c.deref-2.ensures.value c.in_ok-numbers.ensures.ris
 ready : (default : Answer) (rules : List Rule) (sorted kept : List (Bor Rule)) (numbers cut : List NumberRules)
     (stretches laid : List Stretch) → kept ≡ sorted → cut ≡ numbers → laid ≡ stretches
     → IsByNumber (rules_at sorted) rules → IsCut numbers (rules_at kept) → AreStretchesOf default stretches cut
-    → All IsRule rules → length rules ≤ 4096 → CanBeSearched laid
+    → All IsRule rules → length rules ≤ max_rules → CanBeSearched laid
 ready default rules sorted kept numbers cut stretches laid kept_is cut_is laid_is by_number cuts lays fine few =
     subst CanBeSearched (sym laid_is)
     (can_be_searched default rules (rules_at sorted) numbers stretches by_number.same
