@@ -4,6 +4,7 @@ pub mod CountLaws
 pub mod IntervalLaws
 pub mod LeastNumber
 pub mod MaskLaws
+pub mod OpenBits
 pub mod SetLaws
 pub mod StoreLaws
 pub mod TrailLaws

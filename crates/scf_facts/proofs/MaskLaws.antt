@@ -5,9 +5,10 @@ use Rattle.std.specs.Prelude.{bit_and, bit_or, bit_xor, min, count_ones, Bool, t
 use Rattle.std.specs.Int.{bit_at, IsPowerOfTwo, is_power_of_two}
 use Rattle.std.specs.Int.Bits.{and_self, and_zero_r}
 use Rattle.std.proofs.lemmas.Bool.{cases_eq, eqb-true, eqb-false}
-use Rattle.std.proofs.lemmas.Nat.{and_assoc, and_comm, or_comm, pow_pos}
+use Rattle.std.proofs.lemmas.Nat.{and_assoc, and_comm, or_comm, or_disjoint, pow_pos}
 use Rattle.scf_insn.proofs.Masks.{power_from_one_bit, one_bit_of_power}
-use Rattle.std.proofs.lemmas.Nat.Bits.{bit_at_and, bit_at_or, bit_at_xor, bit_at-lt, and_pow, same_from_bits}
+use Rattle.std.proofs.lemmas.Nat.Bits.{bit_at_and, bit_at_or, bit_at_xor, bit_at-lt, bit_at-zero, and_pow}
+use Rattle.std.proofs.lemmas.Nat.Bits.{same_from_bits}
 
 and-or : (x a b : ℕ) → bit_and x (bit_or a b) ≡ bit_or (bit_and x a) (bit_and x b)
 and-or x a b = same_from_bits _ _ (λ i. omega (
@@ -62,7 +63,7 @@ part_of x k a m v part same e = ap (bit_and x) (sym part) ∙ sym (and_assoc m x
 abbrev pub beyond : ℕ → ℕ → ℕ
 beyond m k = bit_xor m (bit_and m k)
 
-bit_beyond : (m k i : ℕ) → bit_at (beyond m k) i ≡ (bit_at m i + min (bit_at m i) (bit_at k i)) % 2
+pub bit_beyond : (m k i : ℕ) → bit_at (beyond m k) i ≡ (bit_at m i + min (bit_at m i) (bit_at k i)) % 2
 bit_beyond m k i = omega (arith, bit_at_xor m (bit_and m k) i, bit_at_and m k i)
 
 split_mask : (x m k : ℕ) → bit_and x m ≡ bit_or (bit_and (bit_and x k) m) (bit_and x (beyond m k))
@@ -100,6 +101,31 @@ pub has_by_beyond : (some x k a m v : ℕ) → bit_and some k ≡ a
 has_by_beyond some x k a m v shown has known e =
     split_mask x m k ∙ ap (λ y. bit_or (bit_and y m) (bit_and x (beyond m k))) (known ∙ sym shown) ∙ ap
     (bit_or (bit_and (bit_and some k) m)) (e ∙ sym (has_beyond some m v k has)) ∙ sym (split_mask some m k) ∙ has
+
+-- and the bits beyond with those that both masks have are the mask
+pub beyond_rest : (m k : ℕ) → beyond m k + bit_and m k ≡ m
+beyond_rest m k = sym (or_disjoint (beyond m k) (bit_and m k) apart) ∙ whole
+  where
+    apart : bit_and (beyond m k) (bit_and m k) ≡ 0
+    apart = same_from_bits _ _ (λ i. omega (
+      arith,
+      bit_at_and (beyond m k) (bit_and m k) i,
+      bit_at_and m k i,
+      bit_beyond m k i,
+      bit_at-zero i,
+      bit_at-lt m i,
+      bit_at-lt k i,
+    ))
+
+    whole : bit_or (beyond m k) (bit_and m k) ≡ m
+    whole = same_from_bits _ _ (λ i. omega (
+      arith,
+      bit_at_or (beyond m k) (bit_and m k) i,
+      bit_at_and m k i,
+      bit_beyond m k i,
+      bit_at-lt m i,
+      bit_at-lt k i,
+    ))
 
 -- a number under one bit is nothing or the bit
 pub under_power : (x k : ℕ) → (bit_and x (2 ^ k) ≡ 0) ⊎ (bit_and x (2 ^ k) ≡ 2 ^ k)

@@ -1,8 +1,8 @@
 //! Bits of a number under a mask.
 
-ghost use Rattle.std.specs.Prelude.{◌≡◌, ◌↔◌, ◌⊎◌, ℕ, IsTrue, IfSome, IfNone, bit_and};
+ghost use Rattle.std.specs.Prelude.{◌≡◌, ◌+◌, ◌↔◌, ◌⊎◌, ℕ, IsTrue, false, IfSome, IfNone, bit_and};
 ghost use Rattle.std.specs.Int.{IsPowerOfTwo};
-ghost use Rattle.scf_facts.specs.internal.Bits.{HasBits, LacksBits};
+ghost use Rattle.scf_facts.specs.internal.Bits.{HasBits, LacksBits, SomeLack};
 
 /// A mask and a value. A number has these bits where it AND the mask is the value.
 #[derive(Clone, Copy)]
@@ -48,7 +48,8 @@ impl Bits {
 
     /// Whether every number with these has the others.
     pub(crate) fn imply(self, others: Bits) -> bool
-        ensures { IsTrue result → (x : ℕ) → HasBits self x → HasBits others x }
+        ensures each { IsTrue result → (x : ℕ) → HasBits self x → HasBits others x }
+        ensures some { result ≡ false → HasBits self self.value → SomeLack self others }
     {
         self.mask & others.mask == others.mask && others.are_in(self.value)
     }
@@ -60,6 +61,7 @@ impl Bits {
         ensures within { bit_and result.value result.mask ≡ result.value }
         ensures one { IsPowerOfTwo self.mask → (result.mask ≡ 0) ⊎ IsPowerOfTwo result.mask }
         ensures none { self.mask ≡ 0 → result.mask ≡ 0 }
+        ensures rest { result.mask + bit_and self.mask known.mask ≡ self.mask }
     {
         let mask = self.mask ^ (self.mask & known.mask);
         Bits {
@@ -78,6 +80,24 @@ impl Bits {
             mask: self.mask,
             value: self.value ^ self.mask,
         }
+    }
+
+    /// The lowest of these bits.
+    pub(crate) fn lowest(self) -> Option<Bits>
+        ensures none { IfNone result (self.mask ≡ 0) }
+        ensures one { IfSome result (λ bit. IsPowerOfTwo bit.mask) }
+        ensures within { IfSome result (λ bit. bit_and bit.value bit.mask ≡ bit.value) }
+        ensures part { IfSome result (λ bit. (x : ℕ) → HasBits self x → HasBits bit x) }
+        ensures among { IfSome result (λ bit. bit_and self.mask bit.mask ≡ bit.mask) }
+    {
+        if self.mask == 0 {
+            return None;
+        }
+        let mask = 1 << self.mask.trailing_zeros();
+        Some(Bits {
+            mask,
+            value: self.value & mask,
+        })
     }
 
     /// Whether the mask has one bit.

@@ -5,6 +5,7 @@ mod asked;
 mod atom;
 mod atom_list;
 mod bits;
+mod free_number;
 mod interval;
 mod intervals;
 mod laws;

@@ -1,7 +1,7 @@
 //! What is known of one word.
 
-ghost use Rattle.std.specs.Prelude.{◌≡◌, ◌↔◌, ◌⊎◌, ◌<◌, ◌≤◌, ◌^◌, ℕ, All, IsTrue, true, false};
-ghost use Rattle.std.specs.Prelude.{IsSome, IfSome, IfOk, OnOk, OnErr};
+ghost use Rattle.std.specs.Prelude.{◌≡◌, ◌↔◌, ◌⊎◌, ◌<◌, ◌≤◌, ◌^◌, ℕ, All, IsTrue, true, false, bit_and, bit_or};
+ghost use Rattle.std.specs.Prelude.{IsSome, IfSome, IfNone, IfOk, OnOk, OnErr};
 ghost use Rattle.std.specs.Int.{IsPowerOfTwo};
 ghost use Rattle.scf_facts.specs.Atoms.{answer_at};
 ghost use Rattle.scf_facts.specs.internal.Bits.{HasBits, LacksBits};
@@ -13,6 +13,7 @@ ghost use Rattle.scf_facts.specs.internal.WordSets.{AllowsNumber, EachNumber, is
 use crate::asked::Asked;
 use crate::atom::{Atom, Tell};
 use crate::bits::Bits;
+use crate::free_number::{Searched, free_number, refutes};
 use crate::interval::Interval;
 use crate::intervals::{Intervals, lies_in_one};
 use crate::least::first_number;
@@ -21,6 +22,9 @@ use scf_insn::Memory;
 use std::alloc::Global;
 use std::marker::Model;
 use std::mem;
+
+/// How often a search for a number may choose one bit or the other.
+const MOST_TRIES: u32 = 256;
 
 /// The numbers that one word may be: those in the intervals that have the known bits and none of the refuted ones.
 ///
@@ -228,7 +232,7 @@ impl WordSet {
         ensures none { IsTrue result → EachNumber self.now (λ x. LiesIn range x → LacksBits bits x) }
         ensures some { result ≡ false → (x : ℕ) × LiesInOne self.now.intervals x × LiesIn range x × HasBits bits x }
     {
-        if self.refutes(bits) {
+        if refutes(&self.refuted, bits) {
             return true;
         }
         first_number(self.intervals.as_slice(), range, bits).is_none()
@@ -263,18 +267,6 @@ impl WordSet {
         }
     }
 
-    /// Whether a number with these bits has refuted ones.
-    fn refutes(&self, bits: Bits) -> bool
-        ensures { IsTrue result → (x : ℕ) → HasBits bits x → AllowsNumber self.now x → ⊥ }
-    {
-        for refuted in &self.refuted {
-            if bits.imply(*refuted) {
-                return true;
-            }
-        }
-        false
-    }
-
     /// The only number, where there is no more than one beside the refuted bits.
     fn only_number(&self) -> Option<u32>
         ensures { IfSome result (λ only. EachNumber self.now (λ x. x ≡ only)) }
@@ -293,13 +285,7 @@ impl WordSet {
         ensures some { IsTrue (is_exact_set self.now) → result ≡ false
             → (x : ℕ) × (x < 2 ^ 32) × AllowsNumber self.now x }
     {
-        if self.has_none(Interval::ALL, self.known) {
-            return true;
-        }
-        match self.only_number() {
-            Some(only) => !self.allows(only),
-            None => false,
-        }
+        self.has_none(Interval::ALL, self.known) || matches!(self.free_number(), Searched::Nothing)
     }
 
     /// Whether this is one of the numbers.
@@ -321,15 +307,23 @@ impl WordSet {
         if self.allows(first) {
             return Some(first);
         }
-        match self.pick_end() {
-            Some(end) => Some(end),
-            None => self.pick_by_bits(),
+        if let Some(end) = self.pick_end() {
+            return Some(end);
+        }
+        if let Some(number) = self.pick_by_bits() {
+            return Some(number);
+        }
+        match self.free_number() {
+            Searched::Found(number) => Some(number),
+            Searched::Nothing | Searched::GaveUp => None,
         }
     }
 
     /// An end of an interval that is one of the numbers.
     fn pick_end(&self) -> Option<u32>
-        ensures { IfSome result (λ x. AllowsNumber self.now x) }
+        ensures allowed { IfSome result (λ x. AllowsNumber self.now x) }
+        ensures none { IfNone result (All (λ interval. (AllowsNumber self.now interval.low → ⊥)
+            × (AllowsNumber self.now interval.high → ⊥)) self.now.intervals) }
     {
         for interval in self.intervals.as_slice() {
             if self.allows(interval.low) {
@@ -344,7 +338,10 @@ impl WordSet {
 
     /// The known value, or the known value with one bit more, that is one of the numbers.
     fn pick_by_bits(&self) -> Option<u32>
-        ensures { IfSome result (λ x. AllowsNumber self.now x) }
+        ensures allowed { IfSome result (λ x. AllowsNumber self.now x) }
+        ensures none { IfNone result (AllowsNumber self.now self.now.known.value → ⊥) }
+        ensures none_of_bits { IfNone result ((place : ℕ) → place < 32
+            → AllowsNumber self.now (bit_or self.now.known.value (2 ^ place)) → ⊥) }
     {
         if self.allows(self.known.value) {
             return Some(self.known.value);
@@ -356,5 +353,20 @@ impl WordSet {
             }
         }
         None
+    }
+
+    /// Looks for one of the numbers, bit by bit.
+    fn free_number(&self) -> Searched
+        ensures found { (x : ℕ) → result ≡ Searched.Found x → AllowsNumber self.now x }
+        ensures nothing { result ≡ Searched.Nothing → EachNumber self.now (λ _. ⊥) }
+    {
+        let mut tries = MOST_TRIES;
+        free_number(
+            self.intervals.as_slice(),
+            &self.refuted,
+            self.known,
+            Bits::NONE,
+            &mut tries,
+        )
     }
 }

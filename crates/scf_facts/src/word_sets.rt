@@ -17,8 +17,8 @@ use std::alloc::Global;
 ///
 /// What is learned ends in intervals or known bits, save an `Eq` that fails under a mask of several bits. Where there
 /// is none of these, the facts are exact. Beside them it tells of what was learned itself and of an `Eq` under known
-/// bits, sees a word whose known bits or only number were refuted, and picks the ends of intervals, the known value or
-/// one bit more.
+/// bits. It picks the least number, an end of an interval, the known value or that with one bit more; where each of
+/// these is refuted, a number is looked for bit by bit, until one is found, there is none, or no try is left.
 ///
 /// Where a mark is open, a trail has what each `learn` changed, in order, and a mark how long it was then. `learn`
 /// makes room in it first, so that nothing has changed where memory is refused.

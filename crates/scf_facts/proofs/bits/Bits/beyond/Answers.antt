@@ -1,4 +1,4 @@
-use Rattle.scf_facts.proofs.MaskLaws.{has_beyond, has_by_beyond, and_twice, one_beyond, none_beyond, beyond}
+use Rattle.scf_facts.proofs.MaskLaws.{has_beyond, has_by_beyond, and_twice, one_beyond, none_beyond, beyond_rest, beyond}
 use Rattle.scf_facts.proofs.bits.Bits.beyond.Goals as goal
 
 pub returns : goal.returns
@@ -10,4 +10,5 @@ returns c = record {
   within = and_twice c.args.self.value (beyond c.args.self.mask c.args.known.mask);
   one = one_beyond c.args.self.mask c.args.known.mask;
   none = none_beyond c.args.self.mask c.args.known.mask;
+  rest = beyond_rest c.args.self.mask c.args.known.mask;
 }

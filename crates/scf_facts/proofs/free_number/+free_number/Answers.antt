@@ -1,0 +1,29 @@
+use Rattle.std.proofs.Common.{inl, inr, bit_and, refl}
+use Rattle.std.proofs.lemmas.Bool.{cases_eq}
+use Rattle.scf_facts.proofs.free_number.+free_number.Goals as goal
+
+pub returns-in_default-free_number-clause-found : goal.returns-in_default-free_number-clause-found
+returns-in_default-free_number-clause-found t c = λ x e.
+    let found = c.free_number.ensures.found x e in
+    let has = (c.in-Some.ensures.both x).0 found.1 in
+    (found.0, has.0, has.1, found.3)
+
+pub returns-in_default-free_number-clause-nothing : goal.returns-in_default-free_number-clause-nothing
+returns-in_default-free_number-clause-nothing t c = λ e. absurd (c.in_default-free_number.not-Nothing e)
+
+pub returns-in-Nothing-clause-found : goal.returns-in-Nothing-clause-found
+returns-in-Nothing-clause-found t c = λ x e.
+    let found = c.free_number-in-Nothing.ensures.found x e in
+    let has = (c.in-Some.ensures.both x).0 found.1 in
+    (found.0, has.0, has.1, found.3)
+
+-- a number has the bit or lacks it
+pub returns-in-Nothing-clause-nothing : goal.returns-in-Nothing-clause-nothing
+returns-in-Nothing-clause-nothing t c = λ e x fits inside known more free.
+    let bit = c.in-Some-lowest.bit in
+    let has = (c.in-Some.ensures.both x).1 (known, more) in
+    elim (cases_eq (bit_and x bit.mask) bit.value) [
+      | inl with_bit ↦ c.free_number-in-Nothing.ensures.nothing e x fits inside has with_bit free
+      | inr without ↦
+          c.in-Nothing.ensures.nothing refl x fits inside has ((c.flipped.ensures x).1 without) free
+    ]

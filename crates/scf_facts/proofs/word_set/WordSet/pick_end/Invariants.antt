@@ -1,0 +1,13 @@
+use Rattle.std.proofs.Common.{ℕ, ◌≡◌, ◌<◌, get_or}
+use Rattle.scf_facts.specs.declared.interval.Interval.{Interval}
+use Rattle.scf_facts.specs.internal.WordSets.{AllowsNumber}
+use Rattle.scf_facts.proofs.word_set.WordSet.pick_end.Given as goal
+
+-- no end so far is allowed
+abbrev pub invariant-loop-interval : goal.invariant-loop-interval
+invariant-loop-interval l = record {
+  same : l.interval-items ≡ l.self.intervals;
+  none : (place : ℕ) (default : Interval) → place < l.interval-index
+      → (AllowsNumber l.self (get_or l.self.intervals place default).low → ⊥)
+      × (AllowsNumber l.self (get_or l.self.intervals place default).high → ⊥);
+}

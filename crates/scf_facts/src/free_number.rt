@@ -1,0 +1,89 @@
+//! The search for a number that is free of refuted bits.
+
+ghost use Rattle.std.specs.Prelude.{◌≡◌, ◌<◌, ◌≤◌, ◌^◌, ℕ, All, IsTrue, false, IfSome, IfNone};
+ghost use Rattle.scf_facts.specs.internal.Bits.{HasBits, LacksBits, SomeLack};
+ghost use Rattle.scf_facts.specs.internal.Intervals.{LiesInOne, AreApart};
+
+use crate::bits::Bits;
+use crate::interval::Interval;
+use crate::least::first_number;
+
+/// What a search for a number comes to.
+#[derive(Clone, Copy)]
+pub(crate) enum Searched {
+    /// This is one.
+    Found(u32),
+    /// There is none.
+    Nothing,
+    /// Nothing is said: no try was left.
+    GaveUp,
+}
+
+/// Looks among intervals for a number that has the known bits and some more, and none of the refuted ones.
+///
+/// Where the least number with the bits has refuted ones, a free number lacks one of these: it is looked for among
+/// those without the lowest that isn't known yet, and then among those with it. Each such choice takes one of the tries
+/// that are left.
+pub(crate) fn free_number(
+    intervals: &[Interval],
+    refuted: &[Bits],
+    known: Bits,
+    more: Bits,
+    tries: &mut u32,
+) -> Searched
+    requires { AreApart intervals.now }
+    ensures found { (x : ℕ) → result ≡ Searched.Found x
+        → LiesInOne intervals.now x × HasBits known x × HasBits more x × All (λ bits. LacksBits bits x) refuted.now }
+    ensures nothing { result ≡ Searched.Nothing → (x : ℕ) → x < 2 ^ 32
+        → LiesInOne intervals.now x → HasBits known x → HasBits more x → All (λ bits. LacksBits bits x) refuted.now → ⊥ }
+    ensures gave_up { result ≡ Searched.GaveUp → tries.new ≡ 0 }
+    ensures fewer { tries.new ≤ tries.old }
+{
+    let Some(bits) = known.join(more) else {
+        return Searched::Nothing;
+    };
+    let Some(x) = first_number(intervals, Interval::ALL, bits) else {
+        return Searched::Nothing;
+    };
+    let Some(had) = refuted_in(refuted, x) else {
+        return Searched::Found(x);
+    };
+    let Some(bit) = had.beyond(bits).lowest() else {
+        return Searched::Nothing;
+    };
+    if *tries == 0 {
+        return Searched::GaveUp;
+    }
+    *tries -= 1;
+    match free_number(intervals, refuted, bits, bit.flipped(), tries) {
+        Searched::Nothing => free_number(intervals, refuted, bits, bit, tries),
+        answer => answer,
+    }
+}
+
+/// Whether every number with these bits has refuted ones, the same for each.
+pub(crate) fn refutes(refuted: &[Bits], bits: Bits) -> bool
+    ensures each { IsTrue result → (x : ℕ) → HasBits bits x → All (λ other. LacksBits other x) refuted.now → ⊥ }
+    ensures some { result ≡ false → HasBits bits bits.value → All (SomeLack bits) refuted.now }
+{
+    for other in refuted {
+        if bits.imply(*other) {
+            return true;
+        }
+    }
+    false
+}
+
+/// The first of the refuted bits that a number has.
+fn refuted_in(refuted: &[Bits], x: u32) -> Option<Bits>
+    ensures some { IfSome result (λ bits. HasBits bits x) }
+    ensures one { IfSome result (λ bits. (y : ℕ) → All (λ other. LacksBits other y) refuted.now → LacksBits bits y) }
+    ensures none { IfNone result (All (λ bits. LacksBits bits x) refuted.now) }
+{
+    for bits in refuted {
+        if bits.are_in(x) {
+            return Some(*bits);
+        }
+    }
+    None
+}
