@@ -6,10 +6,12 @@ use Rattle.std.specs.Prelude.{Some, None, IsSome}
 use Rattle.std.specs.List.{list_all, AllByRecursion}
 use Rattle.std.specs.Int.Bits.{and_zero_r}
 use Rattle.std.proofs.lemmas.Bool.{cases_eq, cases_lt}
-use Rattle.std.proofs.lemmas.List.{get_or-set_same, get_or-set_other}
+use Rattle.std.proofs.lemmas.List.{get_or-set_same, get_or-set_other, length-set}
 use Rattle.std.proofs.lemmas.Option.{slice_get_read}
 use Rattle.scf_insn.specs.Words.{IsWords}
-use Rattle.scf_facts.specs.internal.WordSets.{NumberFacts, AllowsNumber, AllowsWords, no_facts}
+use Rattle.scf_facts.specs.declared.atom.Tell.{Tell}
+use Rattle.scf_facts.specs.declared.atom.Tell.TheVariants.{Always, Never, Maybe}
+use Rattle.scf_facts.specs.internal.WordSets.{NumberFacts, AllowsNumber, EachNumber, SomeNumber, AllowsWords, no_facts}
 
 -- ---- elements of lists
 
@@ -201,3 +203,68 @@ none_allowed sets i s lt item none words h = none (slice_index words i)
 pub no_some : (o : Option ℕ) → o ≡ None → IsSome o → ⊥
 no_some None e h = cc
 no_some (Some x) e h = cc
+
+-- ---- what all allowed lists agree on
+
+set_fits : (words : List ℕ) (k x : ℕ) → AllByRecursion (λ word. word < 2 ^ 32) words → x < 2 ^ 32
+    → AllByRecursion (λ word. word < 2 ^ 32) (slice_set words k x)
+set_fits [] k x h fits = tt
+set_fits (word ∷ words) zero x h fits = (fits, h.1)
+set_fits (word ∷ words) (suc k) x h fits = (h.0, set_fits words k x h.1 fits)
+
+module _ (sets : List NumberFacts) (place : ℕ) (s : NumberFacts) (at : slice_get sets place ≡ Some s) (lt : place < 16)
+  where
+    room : (words : List ℕ) → IsWords words → place < length words
+    room words h = omega (arith, h.count, lt)
+
+    -- an allowed list with another number of one word
+    allows_other : (words : List ℕ) (x : ℕ)
+        → AllowsWords sets words → x < 2 ^ 32 → AllowsNumber s x → AllowsWords sets (slice_set words place x)
+    allows_other words x h fits allowed = record {
+      sixteen = record {
+        count = length-set words place x ∙ h.sixteen.count;
+        each = set_fits words place x h.sixteen.each fits;
+      };
+      each = λ k facts e. elim (cases_eq k place) [
+        | inl here ↦ subst (λ j. AllowsNumber facts (slice_index (slice_set words place x) j)) (sym here)
+            (subst (AllowsNumber facts) (sym (get_or-set_same words place x 0 (room words h.sixteen)))
+            (subst (λ f. AllowsNumber f x) (this k facts e here) allowed))
+        | inr other ↦ subst (AllowsNumber facts) (sym (get_or-set_other words place k x 0 other)) (h.each k facts e)
+      ];
+    }
+      where
+        this : (k : ℕ) (facts : NumberFacts) → slice_get sets k ≡ Some facts → k ≡ place → s ≡ facts
+        this k facts e here = let that = subst (λ j. slice_get sets j ≡ Some facts) here e in cc
+
+    -- so each number of the word has the answer that all lists give
+    pub each_of_all : (f : ℕ → Bool) (answer : Bool) (some : List ℕ) → AllowsWords sets some
+        → ((words : List ℕ) → AllowsWords sets words → f (slice_index words place) ≡ answer)
+        → (x : ℕ) → x < 2 ^ 32 → AllowsNumber s x → f x ≡ answer
+    each_of_all f answer some h agree x fits allowed =
+        subst (λ y. f y ≡ answer) (get_or-set_same some place x 0 (room some h.sixteen))
+        (agree (slice_set some place x) (allows_other some x h fits allowed))
+
+true_or_false : (b : Bool) → b ≡ true → b ≡ false → ⊥
+true_or_false b p q = cc
+
+-- where nothing is told only of numbers with both answers, an answer that each has is told
+module _ (s : NumberFacts) (f : ℕ → Bool) (x : ℕ) (fits : x < 2 ^ 32) (allowed : AllowsNumber s x) where
+  pub always_told : (told : Tell) → (told ≡ Never → EachNumber s (λ y. f y ≡ false))
+      → (told ≡ Maybe → SomeNumber s (λ y. f y ≡ true) × SomeNumber s (λ y. f y ≡ false))
+      → EachNumber s (λ y. f y ≡ true) → told ≡ Always
+  always_told Always never both each = refl
+  always_told Never never both each =
+      absurd (true_or_false (f x) (each x fits allowed) (never refl x fits allowed))
+  always_told Maybe never both each =
+      let some = (both refl).1 in
+      absurd (true_or_false (f some.0) (each some.0 some.1 some.2) some.3)
+
+  pub never_told : (told : Tell) → (told ≡ Always → EachNumber s (λ y. f y ≡ true))
+      → (told ≡ Maybe → SomeNumber s (λ y. f y ≡ true) × SomeNumber s (λ y. f y ≡ false))
+      → EachNumber s (λ y. f y ≡ false) → told ≡ Never
+  never_told Never always both each = refl
+  never_told Always always both each =
+      absurd (true_or_false (f x) (always refl x fits allowed) (each x fits allowed))
+  never_told Maybe always both each =
+      let some = (both refl).0 in
+      absurd (true_or_false (f some.0) some.3 (each some.0 some.1 some.2))

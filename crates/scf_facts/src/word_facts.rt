@@ -16,7 +16,8 @@ use std::alloc::Global;
 /// A mark is opened before something is tried, and undone to go back to what was known then. A level is the place of
 /// an open mark, 0 being the oldest, or the count of the open marks, which is the level of what is known now.
 ///
-/// Facts may be exact. Then it is always seen where no list is allowed, and a list is found wherever one is.
+/// Facts may be exact. Then it is always seen where no list is allowed, a list is found wherever one is, and what all
+/// allowed lists agree on is told.
 pub trait WordFacts: Sized + Drop {
     /// How many marks are open: the level of what is known now.
     ghost level: { Self → ℕ };
@@ -78,7 +79,15 @@ pub trait WordFacts: Sized + Drop {
             → atom_answer atom words ≡ true }
         ensures law_never { result ≡ Tell.Never
             → (words : List ℕ) → allows self.now (level self.now) words
-            → atom_answer atom words ≡ false };
+            → atom_answer atom words ≡ false }
+        ensures told_always { IsTrue (is_exact self.now (level self.now))
+            → (some : List ℕ) → allows self.now (level self.now) some
+            → ((words : List ℕ) → allows self.now (level self.now) words → atom_answer atom words ≡ true)
+            → result ≡ Tell.Always }
+        ensures told_never { IsTrue (is_exact self.now (level self.now))
+            → (some : List ℕ) → allows self.now (level self.now) some
+            → ((words : List ℕ) → allows self.now (level self.now) words → atom_answer atom words ≡ false)
+            → result ≡ Tell.Never };
 
     /// Whether it is known that no list is allowed.
     fn is_empty(&self) -> bool

@@ -8,7 +8,7 @@ ghost use Rattle.scf_facts.specs.internal.Bits.{HasBits, LacksBits};
 ghost use Rattle.scf_facts.specs.Exactness.{KeepsExact};
 ghost use Rattle.scf_facts.specs.internal.Intervals.{LiesIn, LiesOutside, LiesInOne};
 ghost use Rattle.scf_facts.specs.internal.Trail.{facts_before};
-ghost use Rattle.scf_facts.specs.internal.WordSets.{AllowsNumber, EachNumber, is_exact_set, no_facts};
+ghost use Rattle.scf_facts.specs.internal.WordSets.{AllowsNumber, EachNumber, SomeNumber, is_exact_set, no_facts};
 
 use crate::asked::Asked;
 use crate::atom::{Atom, Tell};
@@ -153,9 +153,9 @@ impl WordSet {
         ensures refused { OnErr result (self.new ≡ self.old) }
         ensures refuted { (bits.mask ≡ 0) ⊎ IsPowerOfTwo bits.mask → self.new.refuted ≡ self.old.refuted }
     {
-        if self.known.join(bits).is_none() {
+        let Some(_) = self.known.join(bits) else {
             return Ok(Former::Same);
-        }
+        };
         let open = bits.beyond(self.known);
         if open.mask == 0 {
             return Ok(self.keep_none(alloc));
@@ -171,6 +171,8 @@ impl WordSet {
     pub(crate) fn tell(&self, atom: Atom) -> Tell
         ensures always { result ≡ Tell.Always → EachNumber self.now (λ x. answer_at atom x ≡ true) }
         ensures never { result ≡ Tell.Never → EachNumber self.now (λ x. answer_at atom x ≡ false) }
+        ensures both { result ≡ Tell.Maybe → IsTrue (is_exact_set self.now)
+            → SomeNumber self.now (λ x. answer_at atom x ≡ true) × SomeNumber self.now (λ x. answer_at atom x ≡ false) }
     {
         let told = match Asked::of(atom) {
             Asked::Within { range, answer } => match self.lies_within(range) {
@@ -190,6 +192,8 @@ impl WordSet {
     fn lies_within(&self, range: Interval) -> Option<bool>
         ensures all { result ≡ Some true → EachNumber self.now (LiesIn range) }
         ensures none { result ≡ Some false → EachNumber self.now (λ x. LiesIn range x → ⊥) }
+        ensures both { IfNone result (IsTrue (is_exact_set self.now)
+            → SomeNumber self.now (LiesIn range) × SomeNumber self.now (LiesOutside range)) }
     {
         if self.has_none(range, self.known) {
             Some(false)
@@ -204,27 +208,35 @@ impl WordSet {
     fn has_bits(&self, bits: Bits) -> Option<bool>
         ensures all { result ≡ Some true → EachNumber self.now (HasBits bits) }
         ensures none { result ≡ Some false → EachNumber self.now (LacksBits bits) }
+        ensures both { IfNone result (IsTrue (is_exact_set self.now)
+            → SomeNumber self.now (HasBits bits) × SomeNumber self.now (LacksBits bits)) }
     {
         let Some(joined) = self.known.join(bits) else {
             return Some(false);
         };
         if self.has_none(Interval::ALL, joined) {
-            return Some(false);
+            Some(false)
+        } else if self.has_none_without(bits.beyond(self.known)) {
+            Some(true)
+        } else {
+            None
         }
-        let unknown = bits.beyond(self.known);
-        if unknown.mask == 0 {
-            return Some(true);
-        }
-        if unknown.is_single() {
-            if self.has_none_with(unknown.flipped()) {
-                return Some(true);
+    }
+
+    /// Whether no number lacks the bits, as far as that is known.
+    fn has_none_without(&self, bits: Bits) -> bool
+        requires within { bit_and bits.value bits.mask ≡ bits.value }
+        ensures all { IsTrue result → EachNumber self.now (HasBits bits) }
+        ensures some { result ≡ false → IsTrue (is_exact_set self.now) → SomeNumber self.now (LacksBits bits) }
+    {
+        let mut left = bits;
+        while let Some(bit) = left.lowest() {
+            if !self.has_none_with(bit.flipped()) {
+                return false;
             }
-            return None;
+            left = left.beyond(bit);
         }
-        match self.only_number() {
-            Some(only) => Some(bits.are_in(only)),
-            None => None,
-        }
+        true
     }
 
     /// Whether no number lies in the range and has the bits, as far as that is known.
@@ -240,7 +252,8 @@ impl WordSet {
 
     /// Whether no number has these bits beside the known ones.
     fn has_none_with(&self, bits: Bits) -> bool
-        ensures { IsTrue result → EachNumber self.now (LacksBits bits) }
+        ensures none { IsTrue result → EachNumber self.now (LacksBits bits) }
+        ensures some { result ≡ false → IsTrue (is_exact_set self.now) → SomeNumber self.now (HasBits bits) }
     {
         match self.known.join(bits) {
             Some(joined) => self.has_none(Interval::ALL, joined),
@@ -250,7 +263,8 @@ impl WordSet {
 
     /// Whether no number lies outside the range.
     fn has_none_outside(&self, range: Interval) -> bool
-        ensures { IsTrue result → EachNumber self.now (LiesIn range) }
+        ensures all { IsTrue result → EachNumber self.now (LiesIn range) }
+        ensures some { result ≡ false → IsTrue (is_exact_set self.now) → SomeNumber self.now (LiesOutside range) }
     {
         let below = Interval::ALL.part_below(range.low);
         let above = Interval::ALL.part_above(range.high);
@@ -259,23 +273,13 @@ impl WordSet {
 
     /// Whether no number lies in the part, if there is one.
     fn has_none_in(&self, part: Option<Interval>) -> bool
-        ensures { IsTrue result → IfSome part (λ range. EachNumber self.now (λ x. LiesIn range x → ⊥)) }
+        ensures none { IsTrue result → IfSome part (λ range. EachNumber self.now (λ x. LiesIn range x → ⊥)) }
+        ensures some { result ≡ false → IsTrue (is_exact_set self.now)
+            → IfSome part (λ range. SomeNumber self.now (LiesIn range)) × IsSome part }
     {
         match part {
             Some(range) => self.has_none(range, self.known),
             None => true,
-        }
-    }
-
-    /// The only number, where there is no more than one beside the refuted bits.
-    fn only_number(&self) -> Option<u32>
-        ensures { IfSome result (λ only. EachNumber self.now (λ x. x ≡ only)) }
-    {
-        let first = first_number(self.intervals.as_slice(), Interval::ALL, self.known)?;
-        if self.has_none_outside(Interval::point(first)) {
-            Some(first)
-        } else {
-            None
         }
     }
 

@@ -21,6 +21,8 @@ mod conflicts;
 #[cfg(test)]
 mod facts;
 #[cfg(test)]
+mod facts_exact;
+#[cfg(test)]
 mod facts_walk;
 #[cfg(test)]
 mod fixtures;

@@ -26,6 +26,10 @@ pub record AllowsNumber (facts : NumberFacts) (x : ℕ) : Type 0 where
 abbrev pub EachNumber : NumberFacts → (ℕ → Type 0) → Type 0
 EachNumber facts P = (x : ℕ) → x < 2 ^ 32 → AllowsNumber facts x → P x
 
+-- some number that the word may be has a property
+abbrev pub SomeNumber : NumberFacts → (ℕ → Type 0) → Type 0
+SomeNumber facts P = (x : ℕ) × (x < 2 ^ 32) × AllowsNumber facts x × P x
+
 -- what is known of the number is in its intervals and known bits
 abbrev pub is_exact_set : NumberFacts → Bool
 is_exact_set facts = length facts.refuted == 0
