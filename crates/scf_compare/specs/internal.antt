@@ -4,6 +4,7 @@ pub mod Ends
 pub mod Filters
 pub mod Flow
 pub mod Frontier
+pub mod Images
 pub mod Laws
 pub mod Numbers
 pub mod Pairs

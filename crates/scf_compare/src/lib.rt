@@ -7,6 +7,7 @@ mod explore;
 mod filter;
 mod flow;
 mod frontier;
+mod image;
 mod pair;
 mod party;
 mod plain;

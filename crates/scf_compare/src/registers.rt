@@ -16,6 +16,7 @@ ghost use Rattle.scf_machine.specs.Machine.{
 ghost use Rattle.scf_machine.specs.Checks.{UsesScratch};
 ghost use Rattle.scf_compare.specs.internal.Values.{IsValue, StandsFor, IsPlainValue, AreValues, Describes};
 
+use crate::image::Image;
 use crate::value::Value;
 use scf_insn::kernel::SECCOMP_DATA_LEN;
 use scf_insn::{Arithmetic, Insn, Operand, Operation, Register};
@@ -127,11 +128,8 @@ impl Registers {
     {
         match operation {
             Operation::LoadWord => {
-                let word = Value::Masked {
-                    word: (insn.k / 4) as u8,
-                    mask: u32::MAX,
-                };
-                self.set(Register::A, word)
+                let word = Image::of_word((insn.k / 4) as u8);
+                self.set(Register::A, Value::OfWord(word))
             }
             Operation::LoadLength(register) => {
                 self.set(register, Value::Known(SECCOMP_DATA_LEN as u32))

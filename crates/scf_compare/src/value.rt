@@ -1,12 +1,14 @@
 //! What is known of a register or a scratch word on a way through a filter.
 
-ghost use Rattle.std.specs.Prelude.{◌≡◌, ℕ, ◌+◌, ◌-◌, ◌%◌, ◌^◌, List, Bool, bit_and, slice_index, not, ◌<◌, IfSome};
+ghost use Rattle.std.specs.Prelude.{◌≡◌, ℕ, ◌-◌, ◌/◌, ◌%◌, ◌^◌, List, Bool, not, IfSome};
 ghost use Rattle.scf_insn.specs.SimpleMask.{IsSimpleMask};
 ghost use Rattle.scf_insn.specs.Words.{IsWords};
 ghost use Rattle.scf_machine.specs.Machine.{holds, value_computed};
+ghost use Rattle.scf_compare.specs.internal.Images.{IsImage, IsWhole, image_number};
 ghost use Rattle.scf_compare.specs.internal.Values.{IsValue, StandsFor, IsPlainValue, IsDecision, Decides};
 ghost use Rattle.scf_compare.specs.internal.Values.{IsPlainDecision};
 
+use crate::image::Image;
 use scf_facts::Atom;
 use scf_insn::{Answer, Arithmetic, Test};
 use scf_machine::{compute, holds_of};
@@ -15,8 +17,8 @@ use scf_machine::{compute, holds_of};
 #[derive(Clone, Copy)]
 pub(crate) enum Value {
     Known(u32),
-    /// A word of the record AND a mask.
-    Masked { word: u8, mask: u32 },
+    /// What is computed from a word of the record bit by bit.
+    OfWord(Image),
     Unknown,
 }
 
@@ -43,35 +45,18 @@ impl Value {
 
     /// What is known of the result of a computation with another value.
     pub(crate) fn computed(self, arithmetic: Arithmetic, other: Value) -> Value
-        requires { IsValue self }
+        requires value { IsValue self }
+        requires other { IsValue other }
         ensures value { IsValue result }
         ensures stands { (words : List ℕ) (a v : ℕ) → StandsFor self words a
             → StandsFor other words v
             → StandsFor result words (value_computed arithmetic a v) }
     {
-        match other {
-            Value::Known(v) => self.computed_with(arithmetic, v),
+        match (self, other) {
+            (Value::Known(a), Value::Known(v)) => known_result(arithmetic, a, v),
+            (Value::OfWord(image), Value::Known(v)) => image_result(arithmetic, image, v),
+            (Value::Known(a), Value::OfWord(image)) => turned_result(arithmetic, a, image),
             _ => Value::Unknown,
-        }
-    }
-
-    /// What is known of the result of a computation with a known number.
-    fn computed_with(self, arithmetic: Arithmetic, v: u32) -> Value
-        requires { IsValue self }
-        ensures value { IsValue result }
-        ensures stands { (words : List ℕ) (a : ℕ) → StandsFor self words a
-            → StandsFor result words (value_computed arithmetic a v) }
-    {
-        match self {
-            Value::Known(a) => known_result(arithmetic, a, v),
-            Value::Masked { word, mask } => match arithmetic {
-                Arithmetic::And => Value::Masked {
-                    word,
-                    mask: mask & v,
-                },
-                _ => Value::Unknown,
-            },
-            Value::Unknown => Value::Unknown,
         }
     }
 
@@ -114,8 +99,8 @@ impl Value {
     {
         match other {
             Value::Known(v) => self.decide_with(test, v),
-            Value::Masked { word, mask } => match self {
-                Value::Known(a) => decide_turned(a, test, word, mask),
+            Value::OfWord(image) => match self {
+                Value::Known(a) => decide_turned(a, test, image),
                 _ => Decision::Open,
             },
             Value::Unknown => Decision::Open,
@@ -133,7 +118,7 @@ impl Value {
     {
         match self {
             Value::Known(a) => Decision::Known(holds_of(test, a, v)),
-            Value::Masked { word, mask } => decide_masked(word, mask, test, v),
+            Value::OfWord(image) => decide_image(image, test, v),
             Value::Unknown => Decision::Open,
         }
     }
@@ -146,6 +131,7 @@ impl Decision {
         ensures asks { IsDecision result }
         ensures decides { (words : List ℕ) (outcome : Bool) → Decides self words outcome
             → Decides result words (not outcome) }
+        ensures plain { IsPlainDecision self → IsPlainDecision result }
     {
         match self {
             Decision::Known(outcome) => Decision::Known(!outcome),
@@ -175,36 +161,66 @@ fn known_result(arithmetic: Arithmetic, a: u32, v: u32) -> Value
     }
 }
 
-/// How a test of a word under a mask against a known number comes out.
-fn decide_masked(word: u8, mask: u32, test: Test, v: u32) -> Decision
-    requires { word < 16 }
-    ensures asks { IsDecision result }
-    ensures decides { (words : List ℕ) → IsWords words
-        → Decides result words (holds test (bit_and (slice_index words word) mask) v) }
-    ensures plain { mask ≡ 2 ^ 32 - 1 → (test ≡ Test.CommonBit → IsSimpleMask v) → IsPlainDecision result }
+/// A computation on an image of a word and a known number.
+fn image_result(arithmetic: Arithmetic, image: Image, v: u32) -> Value
+    requires { IsImage image }
+    ensures value { IsValue result }
+    ensures stands { (words : List ℕ) → StandsFor result words (value_computed arithmetic (image_number image words) v) }
 {
+    match arithmetic {
+        Arithmetic::And => Value::OfWord(image.and(v)),
+        Arithmetic::Or => Value::OfWord(image.or(v)),
+        Arithmetic::Xor => Value::OfWord(image.xor(v)),
+        Arithmetic::Rsh => shifted_result(image, v),
+        _ => Value::Unknown,
+    }
+}
+
+/// An image of a word that is shifted to the right.
+fn shifted_result(image: Image, v: u32) -> Value
+    requires { IsImage image }
+    ensures value { IsValue result }
+    ensures stands { (words : List ℕ) → StandsFor result words (image_number image words / 2 ^ v) }
+{
+    if v >= 32 {
+        return Value::Unknown;
+    }
+    match image.shifted(v) {
+        Some(shifted) => Value::OfWord(shifted),
+        None => Value::Unknown,
+    }
+}
+
+/// A computation on a known number and an image of a word.
+fn turned_result(arithmetic: Arithmetic, a: u32, image: Image) -> Value
+    requires { IsImage image }
+    ensures value { IsValue result }
+    ensures stands { (words : List ℕ) → StandsFor result words (value_computed arithmetic a (image_number image words)) }
+{
+    match arithmetic {
+        Arithmetic::And => Value::OfWord(image.and(a)),
+        Arithmetic::Or => Value::OfWord(image.or(a)),
+        Arithmetic::Xor => Value::OfWord(image.xor(a)),
+        _ => Value::Unknown,
+    }
+}
+
+/// How a test of an image of a word against a known number comes out.
+fn decide_image(image: Image, test: Test, v: u32) -> Decision
+    requires { IsImage image }
+    ensures asks { IsDecision result }
+    ensures decides { (words : List ℕ) → IsWords words → Decides result words (holds test (image_number image words) v) }
+    ensures plain { IsWhole image → (test ≡ Test.CommonBit → IsSimpleMask v) → IsPlainDecision result }
+{
+    let word = image.word;
     match test {
-        Test::Equal => Decision::Asks {
-            atom: Atom::Eq {
-                word,
-                mask,
-                value: v,
-            },
-            holds: true,
-        },
-        Test::CommonBit => Decision::Asks {
-            atom: Atom::Eq {
-                word,
-                mask: mask & v,
-                value: 0,
-            },
-            holds: false,
-        },
-        Test::Greater if mask == u32::MAX => Decision::Asks {
+        Test::Equal => image.is(v),
+        Test::CommonBit => image.and(v).is(0).negated(),
+        Test::Greater if image.is_whole() => Decision::Asks {
             atom: Atom::Gt { word, value: v },
             holds: true,
         },
-        Test::GreaterOrEqual if mask == u32::MAX => Decision::Asks {
+        Test::GreaterOrEqual if image.is_whole() => Decision::Asks {
             atom: Atom::Ge { word, value: v },
             holds: true,
         },
@@ -212,17 +228,16 @@ fn decide_masked(word: u8, mask: u32, test: Test, v: u32) -> Decision
     }
 }
 
-/// How a test of a known number against a word under a mask comes out.
-fn decide_turned(a: u32, test: Test, word: u8, mask: u32) -> Decision
-    requires { word < 16 }
+/// How a test of a known number against an image of a word comes out.
+fn decide_turned(a: u32, test: Test, image: Image) -> Decision
+    requires { IsImage image }
     ensures asks { IsDecision result }
-    ensures decides { (words : List ℕ) → IsWords words
-        → Decides result words (holds test a (bit_and (slice_index words word) mask)) }
+    ensures decides { (words : List ℕ) → IsWords words → Decides result words (holds test a (image_number image words)) }
 {
     match test {
-        Test::Equal => decide_masked(word, mask, Test::Equal, a),
-        Test::CommonBit => decide_masked(word, mask, Test::CommonBit, a),
-        Test::Greater => decide_masked(word, mask, Test::GreaterOrEqual, a).negated(),
-        Test::GreaterOrEqual => decide_masked(word, mask, Test::Greater, a).negated(),
+        Test::Equal => decide_image(image, Test::Equal, a),
+        Test::CommonBit => decide_image(image, Test::CommonBit, a),
+        Test::Greater => decide_image(image, Test::GreaterOrEqual, a).negated(),
+        Test::GreaterOrEqual => decide_image(image, Test::Greater, a).negated(),
     }
 }

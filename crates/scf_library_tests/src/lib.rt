@@ -11,6 +11,8 @@ mod compare;
 #[cfg(test)]
 mod compare_calls;
 #[cfg(test)]
+mod compare_computed;
+#[cfg(test)]
 mod compare_limits;
 #[cfg(test)]
 mod compare_stacks;

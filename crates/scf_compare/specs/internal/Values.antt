@@ -1,24 +1,25 @@
 -- What is known of the numbers that a filter computes from the words of a record.
-use Rattle.std.specs.Prelude.{◌≡◌, ◌<◌, ◌↔◌, ℕ, List, Bool, true, Some, All, slice_index, slice_index_or, bit_and, ◌-◌, ◌^◌}
+use Rattle.std.specs.Prelude.{◌≡◌, ◌<◌, ◌↔◌, ℕ, List, Bool, true, Some, All, slice_index_or}
 use Rattle.scf_facts.specs.Atoms.{atom_answer, word_of}
 use Rattle.scf_machine.specs.Machine.{State, word_at}
 use Rattle.scf_compare.specs.declared.value.Value.{Value}
-use Rattle.scf_compare.specs.declared.value.Value.TheVariants.{Known, Masked, Unknown}
+use Rattle.scf_compare.specs.declared.value.Value.TheVariants.{Known, OfWord, Unknown}
 use Rattle.scf_compare.specs.declared.value.Decision.{Decision}
 use Rattle.scf_compare.specs.declared.value.Decision.TheVariants.{Known as Decided, Asks, Open}
 use Rattle.scf_compare.specs.declared.registers.Registers.{Registers}
+use Rattle.scf_compare.specs.internal.Images.{IsImage, IsWhole, image_number}
 use Rattle.scf_compare.specs.internal.Trees.{KeepsEither}
 
--- a value is of one of the sixteen words
+-- a value is an image of one of the sixteen words
 abbrev pub IsValue : Value → Type 0
 IsValue (Known value) = Unit {0}
-IsValue (Masked word mask) = word < 16
+IsValue (OfWord image) = IsImage image
 IsValue Unknown = Unit {0}
 
 -- over the words a value stands for a number
 abbrev pub StandsFor : Value → List ℕ → ℕ → Type 0
 StandsFor (Known value) words x = x ≡ value
-StandsFor (Masked word mask) words x = x ≡ bit_and (slice_index words word) mask
+StandsFor (OfWord image) words x = x ≡ image_number image words
 StandsFor Unknown words x = Unit {0}
 
 -- a decision asks of one of the sixteen words
@@ -36,7 +37,7 @@ Decides Open words test = Unit {0}
 -- a known number, or a whole word of the record
 abbrev pub IsPlainValue : Value → Type 0
 IsPlainValue (Known value) = Unit {0}
-IsPlainValue (Masked word mask) = mask ≡ 2 ^ 32 - 1
+IsPlainValue (OfWord image) = IsWhole image
 IsPlainValue Unknown = ⊥
 
 -- a decision that isn't left open, and that keeps exact facts exact

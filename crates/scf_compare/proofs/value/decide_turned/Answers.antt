@@ -1,6 +1,6 @@
-use Rattle.std.proofs.Common.{subst, not, eqb, bit_and}
-use Rattle.std.specs.Prelude.{slice_index}
+use Rattle.std.proofs.Common.{subst, not, eqb}
 use Rattle.std.proofs.lemmas.Nat.{and_comm}
+use Rattle.scf_compare.specs.internal.Images.{image_number}
 use Rattle.scf_compare.specs.internal.Values.{Decides}
 use Rattle.scf_compare.proofs.value.decide_turned.Goals as goal
 
@@ -8,6 +8,6 @@ pub returns-in-CommonBit-clause-decides : goal.returns-in-CommonBit-clause-decid
 returns-in-CommonBit-clause-decides c =
     λ words w.
     rw c.in-CommonBit.is
-    (subst (λ n. Decides c.decide_masked-in-CommonBit.result words (not (eqb n 0)))
-    (and_comm (bit_and (slice_index words c.args.word) c.args.mask) c.args.a)
-    (c.decide_masked-in-CommonBit.ensures.decides words w))
+    (subst (λ n. Decides c.decide_image-in-CommonBit.result words (not (eqb n 0)))
+    (and_comm (image_number c.args.image words) c.args.a)
+    (c.decide_image-in-CommonBit.ensures.decides words w))

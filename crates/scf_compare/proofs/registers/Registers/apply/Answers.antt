@@ -2,7 +2,7 @@
 use Rattle.std.proofs.Common.{refl}
 use Rattle.scf_insn.proofs.CallWords.{word_below}
 use Rattle.scf_compare.specs.internal.Values.{Describes}
-use Rattle.scf_compare.proofs.Bits.{whole_word}
+use Rattle.scf_compare.proofs.Images.{of_whole_word}
 use Rattle.scf_compare.proofs.Effects.{next_is, next_unless, next_loaded, next_computed}
 use Rattle.scf_compare.proofs.registers.Registers.apply.Goals as goal
 
@@ -12,7 +12,9 @@ returns-in-LoadWord-clause-describes c =
     rw c.in-LoadWord.is
     (λ e.
     next_unless (Describes c.set.new.self words) _ _ _ t e
-    (c.set.ensures.describes words s _ d (whole_word _ (word_below words w _))))
+    (c.set.ensures.describes words s _ d
+    (of_whole_word c.of_word-word.result words _ c.of_word-word.ensures.whole c.of_word-word.ensures.word
+    (word_below words w _))))
 
 pub returns-in-LoadLength-clause-describes : goal.returns-in-LoadLength-clause-describes
 returns-in-LoadLength-clause-describes c =

@@ -1,0 +1,19 @@
+-- What a filter computes from one word of the record bit by bit.
+use Rattle.std.specs.Prelude.{◌≡◌, ◌*◌, ◌-◌, ◌/◌, ◌<◌, ◌^◌, ℕ, List, slice_index, bit_and, bit_xor}
+use Rattle.scf_compare.specs.declared.image.Image.{Image}
+
+-- a word shifted to the right, AND a mask, XOR a number
+abbrev pub image_number : Image → List ℕ → ℕ
+image_number image words = bit_xor (bit_and (slice_index words image.word / 2 ^ image.shift) image.mask) image.flipped
+
+-- An image of one of the sixteen words. Its mask, shifted back, has no bit past the word's.
+pub record IsImage (image : Image) : Type 0 where
+  pub word : image.word < 16
+  pub shift : image.shift < 32
+  pub mask : image.mask * 2 ^ image.shift < 2 ^ 32
+
+-- An image that is its whole word.
+pub record IsWhole (image : Image) : Type 0 where
+  pub shift : image.shift ≡ 0
+  pub mask : image.mask ≡ 2 ^ 32 - 1
+  pub flipped : image.flipped ≡ 0
