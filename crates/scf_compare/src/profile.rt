@@ -21,6 +21,7 @@ ghost use Rattle.std.specs.Prelude.{
   slice_index,
 };
 ghost use Rattle.scf_insn.specs.Words.{IsWords, argument, call_of};
+ghost use Rattle.scf_profile.specs.Limits.{max_rules};
 ghost use Rattle.scf_profile.specs.declared.condition.Condition.{Condition};
 ghost use Rattle.scf_profile.specs.declared.rule.Rule.{Rule};
 ghost use Rattle.scf_profile.specs.PlainProfile.{IsPlainProfile};
@@ -313,7 +314,7 @@ fn follow(
     index: usize,
     way: Way,
 ) -> ProfileNode
-    requires few { length rules.now ≤ 4096 }
+    requires few { length rules.now ≤ max_rules }
     requires node { profile_is_node (profile_with default_answer rules.now)
         (ProfileNode.Condition place index Part.High) }
     ensures node { profile_is_node (profile_with default_answer rules.now) result }
