@@ -1,14 +1,22 @@
 -- The filters of a stack by their places.
-use Rattle.std.proofs.Common.{◌≡◌, ℕ, suc, ◌+◌, ◌*◌, ◌<◌, List, [], ◌∷◌, length, drop, sym, ap, ◌∙◌, arith}
-use Rattle.std.specs.Prelude.{Some, All, slice_get}
+use Rattle.std.proofs.Common.{◌≡◌, ℕ, suc, ◌+◌, ◌*◌, ◌<◌, List, [], ◌∷◌, length, take, drop, refl, sym, ap, subst, ◌∙◌, arith}
+use Rattle.std.proofs.Common.{ℤ, ◌<ℤ◌, ◌≤ℤ◌, int_lt, Bool, true, false, cond}
+use Rattle.std.specs.Prelude.{Option, Some, None, All, IfSome, slice_get}
+use Rattle.std.proofs.lemmas.Int.{ints}
 use Rattle.std.proofs.lemmas.List.Elements.{All-contains}
 use Rattle.std.proofs.lemmas.Option.{slice_get-get_or, slice_get_within}
+use Rattle.scf_insn.specs.declared.answer.Answer.{Answer}
 use Rattle.scf_insn.specs.declared.insn.Insn.{Insn}
+use Rattle.scf_insn.specs.Answers.{rank_of}
+use Rattle.scf_machine.specs.Machine.{RunAnswers}
 use Rattle.scf_machine.specs.Plain.{IsPlainProgram}
+use Rattle.scf_machine.specs.Precedence.{StackAnswers, with_newest}
+use Rattle.scf_machine.proofs.Stacks.{one_answers}
 use Rattle.scf_compare.specs.Effort.{stack_paths}
 use Rattle.scf_compare.specs.Paths.{tree_size}
-use Rattle.scf_compare.specs.Verdicts.{IsStackPlace}
-use Rattle.scf_compare.specs.internal.Stacks.{filter_at}
+use Rattle.scf_compare.specs.declared.comparison.FilterEnd.{FilterEnd}
+use Rattle.scf_compare.specs.internal.Filters.{IsFilterEnd}
+use Rattle.scf_compare.specs.internal.Stacks.{IsStackEnd, filter_at}
 use Rattle.scf_compare.proofs.Rules.{contains_here, drop_here}
 
 here : (filters : List (List Insn)) (place : ℕ) → place < length filters
@@ -23,15 +31,15 @@ filter_is filters place filter found =
     let both : Some filter ≡ Some (filter_at filters place) = sym found ∙ here filters place inside in
     cc
 
--- a place of one of the filters is a place of the stack
-pub is_stack_place : (filters : List (List Insn)) (place at : ℕ) → place < length filters
-    → at < length (filter_at filters place) → IsStackPlace filters at
-is_stack_place [] place at inside within = absurd (omega arith)
-is_stack_place (filter ∷ filters) place at inside within = (
+-- an end of one of the filters is an end of the stack
+pub is_stack_end : (filters : List (List Insn)) (place : ℕ) (end : FilterEnd) → place < length filters
+    → IsFilterEnd (filter_at filters place) end → IsStackEnd filters end
+is_stack_end [] place end inside of_filter = absurd (omega arith)
+is_stack_end (filter ∷ filters) place end inside of_filter = (
   filter_at (filter ∷ filters) place,
   contains_here (filter ∷ filters) place (filter_at (filter ∷ filters) place)
       (here (filter ∷ filters) place inside),
-  within,
+  of_filter,
 )
 
 -- the trees from a place on begin with that of the filter there
@@ -47,3 +55,31 @@ pub plain_at : (filters : List (List Insn)) (place : ℕ) → All IsPlainProgram
 plain_at filters place plain inside =
     All-contains IsPlainProgram filters (filter_at filters place) plain
     (contains_here filters place (filter_at filters place) (here filters place inside))
+
+-- the first filter decides alone
+pub first_decides : (filters : List (List Insn)) (place : ℕ) (words : List ℕ) (answer : Option Answer)
+    → place < length filters → place ≡ 0 → IfSome answer (λ a. RunAnswers (filter_at filters place) words a.0)
+    → IfSome answer (λ a. StackAnswers (take (place + 1) filters) words a.0)
+first_decides filters place words None inside first run = tt
+first_decides [] place words (Some answer) inside first run = absurd (omega arith)
+first_decides (filter ∷ filters) place words (Some answer) inside first run =
+    let run_first : RunAnswers (filter_at (filter ∷ filters) 0) words answer.0 =
+    subst (λ n. RunAnswers (filter_at (filter ∷ filters) n) words answer.0) first run in
+    let alone : StackAnswers (take (0 + 1) (filter ∷ filters)) words answer.0 =
+    (one_answers filter words answer.0).0 run_first in
+    subst (λ n. StackAnswers (take (n + 1) (filter ∷ filters)) words answer.0) (sym first) alone
+
+chosen : (a b : ℤ) (test : Bool) (x y : ℕ) → int_lt a b ≡ test → a <ℤ b → cond test x y ≡ x
+chosen a b true x y e less = refl
+chosen a b false x y e less = absurd (let most : b ≤ℤ a = grind (arith, ints) in let no : ⊥ = omega (arith, ints) in no)
+
+other : (a b : ℤ) (test : Bool) (x y : ℕ) → int_lt a b ≡ test → b ≤ℤ a → cond test x y ≡ y
+other a b true x y e most = absurd (let less : a <ℤ b = grind (arith, ints) in let no : ⊥ = omega (arith, ints) in no)
+other a b false x y e most = refl
+
+-- the older answer decides where it has the lesser rank, and else the newer one
+pub lesser_wins : (older newest : ℕ) → rank_of older <ℤ rank_of newest → with_newest older newest ≡ older
+lesser_wins older newest less = chosen (rank_of older) (rank_of newest) _ older newest refl less
+
+pub other_wins : (older newest : ℕ) → rank_of newest ≤ℤ rank_of older → with_newest older newest ≡ newest
+other_wins older newest most = other (rank_of older) (rank_of newest) _ older newest refl most

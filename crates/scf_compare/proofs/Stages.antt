@@ -1,6 +1,6 @@
 -- From one stage of an exploration to the next.
 use Rattle.std.proofs.Common.{◌≡◌, ℕ, ◌<◌, ◌≤◌, ◌↔◌, inl, inr, List, true, false, arith}
-use Rattle.std.specs.Prelude.{Some, None, IsTrue}
+use Rattle.std.specs.Prelude.{Option, Some, None, IsTrue}
 use Rattle.std.proofs.lemmas.Bool.{cases_Bool}
 use Rattle.scf_facts.specs.declared.atom.Atom.{Atom}
 use Rattle.scf_facts.specs.declared.word_facts.WordFacts.{Ghosts as Store}
@@ -11,8 +11,8 @@ use Rattle.scf_compare.specs.declared.frontier.Branch.{Branch}
 use Rattle.scf_compare.specs.declared.frontier.Frontier.{Frontier}
 use Rattle.scf_compare.specs.declared.turn.Turn.{Turn}
 use Rattle.scf_compare.specs.declared.turn.Turn.TheVariants.{Ask, Fork}
-use Rattle.scf_compare.specs.internal.Compared.{Compared, AnswerAlike}
-use Rattle.scf_compare.specs.internal.Ends.{Tells, KnowsBoth}
+use Rattle.scf_compare.specs.internal.Compared.{Compared}
+use Rattle.scf_compare.specs.internal.Ends.{Tells, KnowsBoth, WereSeen}
 use Rattle.scf_compare.specs.internal.Frontier.{IsFrontier}
 use Rattle.scf_compare.specs.internal.Stages.{LeadsTo, IsTaken, GoesOver}
 use Rattle.scf_compare.specs.internal.Trees.{Tree, GoesOn, StaysPlain, Costs}
@@ -87,8 +87,8 @@ module _ {F K N : Type 0} (store : Store F) (compared : Compared) (tree : K → 
       → Costs there turn (here.size from)
       → (here.is_plain from → StaysPlain there KnowsBoth turn)
       → LeadsTo store compared tree old new there turn next
-      → GoesOver store compared tree old new here from there next
-  led here from there turn next leads costs plain to = record {
+      → (found : Option ℕ) → GoesOver store compared tree old new here from there found next
+  led here from there turn next leads costs plain to found = record {
     frontier = to.frontier;
     node = to.node;
     words = λ words ahead. elim ahead [
@@ -104,19 +104,19 @@ module _ {F K N : Type 0} (store : Store F) (compared : Compared) (tree : K → 
     });
   }
 
-  -- where all is answered alike at an end, and the newest branch was taken
-  pub ended : (here : Tree N) (from : N) (there : Tree N) (next : N)
+  -- where all was seen at an end, and the newest branch was taken
+  pub ended : (here : Tree N) (from : N) (there : Tree N) (found : Option ℕ) (next : N)
       → ((words : List ℕ) → store.allows old.facts (store.level old.facts) words → here.reaches from words
-      → AnswerAlike compared words)
+      → WereSeen compared found words)
       → 1 ≤ here.size from
       → IsTaken store compared tree old new there next
-      → GoesOver store compared tree old new here from there next
-  ended here from there next alike costs taken = record {
+      → GoesOver store compared tree old new here from there found next
+  ended here from there found next seen costs taken = record {
     frontier = taken.frontier;
     node = taken.node;
     words = λ words ahead. elim ahead [
       | inl inside ↦ inr (taken.words words inside)
-      | inr now ↦ inl (alike words now.0 now.1)
+      | inr now ↦ inl (seen words now.0 now.1)
     ];
     size = omega (arith, taken.size, costs);
     exact = λ all. taken.exact all.branches;

@@ -1,93 +1,145 @@
 -- A verdict on words is one on call records.
-use Rattle.std.proofs.Common.{◌≡◌, ◌<◌, ℕ, List, length, subst}
+use Rattle.std.proofs.Common.{◌≡◌, ℕ, List, [], ◌∷◌, refl, sym, ap, ◌∙◌, subst}
+use Rattle.std.specs.Prelude.{Option}
+use Rattle.scf_insn.specs.declared.answer.Answer.{Answer}
 use Rattle.scf_insn.specs.declared.insn.Insn.{Insn}
+use Rattle.scf_insn.specs.declared.operation.Arithmetic.TheVariants.{Div}
+use Rattle.scf_insn.specs.declared.operation.Operand.TheVariants.{Index}
+use Rattle.scf_insn.specs.declared.operation.Operation.{Operation}
+use Rattle.scf_insn.specs.declared.operation.Operation.TheVariants.{Compute, Jump as Jumps, JumpIf, ReturnConstant, ReturnAccumulator}
 use Rattle.scf_insn.specs.declared.record.CallRecord.{CallRecord}
 use Rattle.scf_insn.specs.Words.{words_of, call_of}
 use Rattle.scf_insn.proofs.CallWords.{call_of-words_of, words_of-call_of, IsWords-words_of, IsRecord-call_of}
-use Rattle.scf_machine.specs.Machine.{RunAnswers}
-use Rattle.scf_machine.specs.Precedence.{StackAnswers}
 use Rattle.scf_profile.specs.Profile.{Profile}
 use Rattle.scf_profile.specs.ProfileAnswers.{ProfileAnswers}
 use Rattle.scf_profile.specs.SameAnswers.{SameAnswers}
+use Rattle.scf_compare.specs.declared.comparison.FilterEnd.{FilterEnd}
+use Rattle.scf_compare.specs.declared.relation.Relation.{Relation}
 use Rattle.scf_compare.specs.declared.scope.Scope.{Scope}
 use Rattle.scf_compare.specs.declared.scope.Scope.TheVariants.{All}
 use Rattle.scf_compare.specs.declared.verdict.Verdict.{Verdict}
 use Rattle.scf_compare.specs.declared.verdict.Verdict.TheVariants.{Same, Differs, Undecided, Unfinished}
-use Rattle.scf_compare.specs.Scope.{IsInScope, SameAnswersIn}
-use Rattle.scf_compare.specs.Verdicts.{IsTrueOf, IsTrueOfStack, IsStackPlace, IsDecided}
-use Rattle.scf_compare.specs.internal.Compared.{AllAlike, IsTrueVerdict}
+use Rattle.scf_compare.specs.Scope.{IsInScope, RelatedAnswersIn, SameAnswersIn}
+use Rattle.scf_compare.specs.Verdicts.{CanEnd, IsEndPlace, IsStackEndPlace, IsTrueBy, IsDecided}
+use Rattle.scf_compare.specs.internal.Compared.{AllRelated, IsTrueVerdict}
+use Rattle.scf_compare.specs.internal.Ends.{IsPlaceOf}
+use Rattle.scf_compare.specs.internal.Filters.{EndsWith, IsFilterEnd}
+use Rattle.scf_compare.specs.internal.Flow.{flow_at}
 use Rattle.scf_compare.specs.internal.Scopes.{compared_in}
+use Rattle.scf_compare.specs.internal.Stacks.{IsStackEnd}
 
-module _ (scope : Scope) (is_place : ℕ → Type 0) (answers : List ℕ → ℕ → Type 0) (p : Profile) where
-  -- where the words of all records of a scope are answered alike, the records are
-  pub alike_of : AllAlike (compared_in scope is_place answers p) → SameAnswersIn scope answers p
-  alike_of h =
+-- a verdict that decides a claim decides another that holds exactly where the first one does
+pub decided_same : (claim other : Type 0) (limit size : ℕ) (verdict : Verdict) → (claim → other) → (other → claim)
+    → IsDecided claim limit size verdict → IsDecided other limit size verdict
+decided_same claim other limit size (Same steps) to from h = to h
+decided_same claim other limit size (Differs call filter profile) to from h = λ holds. h (from holds)
+decided_same claim other limit size (Undecided at) to from h = h
+decided_same claim other limit size Unfinished to from h = h
+
+module _ (relation : Relation) (scope : Scope) (is_place : ℕ → Type 0) (answers : List ℕ → ℕ → Type 0) (p : Profile) where
+  -- where the answers to the words of all records of a scope are related, those to the records are
+  pub related_of : AllRelated (compared_in relation scope is_place answers p) → RelatedAnswersIn relation scope answers p
+  related_of h =
       λ call is_record in_scope.
       let same = call_of-words_of call is_record in
-      let alike =
+      let related =
       h (words_of call) (
         IsWords-words_of call is_record,
         subst (IsInScope scope) (let back : call ≡ call_of (words_of call) = cc in back) in_scope,
       ) in
       record {
-        answer = alike.0;
-        of_words = alike.1;
-        of_profile = subst (λ (record_of : CallRecord). ProfileAnswers p record_of alike.0) same alike.2;
+        filter = related.0;
+        profile = related.1;
+        of_words = related.2;
+        of_profile = subst (λ (record_of : CallRecord). ProfileAnswers p record_of related.1) same related.3;
+        related = related.4;
       }
 
-  -- and where the records are, their words are
-  pub words_alike : SameAnswersIn scope answers p → AllAlike (compared_in scope is_place answers p)
-  words_alike same =
+  -- and where those to the records are, those to their words are
+  pub words_related : RelatedAnswersIn relation scope answers p → AllRelated (compared_in relation scope is_place answers p)
+  words_related related =
       λ words within.
-      let alike = same (call_of words) (IsRecord-call_of words within.0) within.1 in (
-        alike.answer,
-        subst (λ (ws : List ℕ). answers ws alike.answer) (words_of-call_of words within.0) alike.of_words,
-        alike.of_profile,
+      let both = related (call_of words) (IsRecord-call_of words within.0) within.1 in (
+        both.filter,
+        both.profile,
+        subst (λ (ws : List ℕ). answers ws both.filter) (words_of-call_of words within.0) both.of_words,
+        both.of_profile,
+        both.related,
       )
 
   -- a verdict that decides the one decides the other
   pub decided_in : (limit size : ℕ) (verdict : Verdict)
-      → IsDecided (AllAlike (compared_in scope is_place answers p)) limit size verdict
-      → IsDecided (SameAnswersIn scope answers p) limit size verdict
-  decided_in limit size (Same steps) h = alike_of h
-  decided_in limit size (Differs call filter profile) h = λ same. h (words_alike same)
-  decided_in limit size (Undecided at) h = h
-  decided_in limit size Unfinished h = h
+      → IsDecided (AllRelated (compared_in relation scope is_place answers p)) limit size verdict
+      → IsDecided (RelatedAnswersIn relation scope answers p) limit size verdict
+  decided_in limit size verdict = decided_same _ _ limit size verdict related_of words_related
 
-pub true_of : (insns : List Insn) (p : Profile) (verdict : Verdict)
-    → IsTrueVerdict (compared_in All (λ at. at < length insns) (RunAnswers insns) p) verdict → IsTrueOf insns p verdict
-true_of insns p (Same steps) h = λ call is_record.
-    alike_of All (λ at. at < length insns) (RunAnswers insns) p h call is_record tt
-true_of insns p (Differs call filter profile) h = (
-  h.0,
-  h.2,
-  subst (λ (record_of : CallRecord). ProfileAnswers p record_of profile.0) (call_of-words_of call h.0) h.3,
-  h.4,
-)
-true_of insns p (Undecided at) h = h
-true_of insns p Unfinished h = tt
+  -- a verdict that is true of the words is true of the records
+  pub true_by : (verdict : Verdict) → IsTrueVerdict (compared_in relation scope is_place answers p) verdict
+      → IsTrueBy relation scope is_place answers p verdict
+  true_by (Same steps) h = related_of h
+  true_by (Differs call filter profile) h =
+      let same = call_of-words_of call h.0 in (
+        h.0,
+        subst (IsInScope scope) same h.1.1,
+        h.2,
+        subst (λ (record_of : CallRecord). ProfileAnswers p record_of profile.0) same h.3,
+        h.4,
+      )
+  true_by (Undecided at) h = h
+  true_by Unfinished h = tt
 
-pub decided_of : (insns : List Insn) (p : Profile) (limit size : ℕ) (verdict : Verdict)
-    → IsDecided (AllAlike (compared_in All (λ at. at < length insns) (RunAnswers insns) p)) limit size verdict
-    → IsDecided (SameAnswers (RunAnswers insns) p) limit size verdict
-decided_of insns p limit size (Same steps) h = λ call is_record.
-    alike_of All (λ at. at < length insns) (RunAnswers insns) p h call is_record tt
-decided_of insns p limit size (Differs call filter profile) h = λ same.
-    h (words_alike All (λ at. at < length insns) (RunAnswers insns) p (λ call is_record in_scope. same call is_record))
-decided_of insns p limit size (Undecided at) h = h
-decided_of insns p limit size Unfinished h = h
+-- all call records are answered alike where they are in the scope of all
+pub same_of_all : (answers : List ℕ → ℕ → Type 0) (p : Profile) → SameAnswersIn All answers p → SameAnswers answers p
+same_of_all answers p same = λ call is_record.
+    let both = same call is_record tt in
+    record {
+      answer = both.filter;
+      of_words = both.of_words;
+      of_profile = subst (ProfileAnswers p call) (let equal : both.profile ≡ both.filter = cc in equal) both.of_profile;
+    }
 
-pub true_of_stack : (filters : List (List Insn)) (p : Profile) (scope : Scope) (verdict : Verdict)
-    → IsTrueVerdict (compared_in scope (IsStackPlace filters) (StackAnswers filters) p) verdict
-    → IsTrueOfStack filters p scope verdict
-true_of_stack filters p scope (Same steps) h = alike_of scope (IsStackPlace filters) (StackAnswers filters) p h
-true_of_stack filters p scope (Differs call filter profile) h =
-    let same = call_of-words_of call h.0 in (
-      h.0,
-      subst (IsInScope scope) same h.1.1,
-      h.2,
-      subst (λ (record_of : CallRecord). ProfileAnswers p record_of profile.0) same h.3,
-      h.4,
-    )
-true_of_stack filters p scope (Undecided at) h = h
-true_of_stack filters p scope Unfinished h = tt
+pub all_of_same : (answers : List ℕ → ℕ → Type 0) (p : Profile) → SameAnswers answers p → SameAnswersIn All answers p
+all_of_same answers p same = λ call is_record in_scope.
+    let both = same call is_record in
+    record {
+      filter = both.answer;
+      profile = both.answer;
+      of_words = both.of_words;
+      of_profile = both.of_profile;
+      related = refl;
+    }
+
+-- a verdict that is true with some places is true with all among which they are
+pub placed : (relation : Relation) (scope : Scope) (is_place other : ℕ → Type 0) (answers : List ℕ → ℕ → Type 0)
+    (p : Profile) (verdict : Verdict) → ((at : ℕ) → is_place at → other at)
+    → IsTrueBy relation scope is_place answers p verdict → IsTrueBy relation scope other answers p verdict
+placed relation scope is_place other answers p (Same steps) at h = h
+placed relation scope is_place other answers p (Differs call filter profile) at h = h
+placed relation scope is_place other answers p (Undecided place) at h = at place h
+placed relation scope is_place other answers p Unfinished at h = h
+
+ending : (operation : Operation) (i : Insn) (at : ℕ) (answer : Option Answer)
+    → EndsWith (flow_at operation i at) i answer → CanEnd operation
+ending Jumps i at answer ends = ends
+ending (JumpIf test operand) i at answer ends = ends
+ending ReturnConstant i at answer ends = tt
+ending ReturnAccumulator i at answer ends = tt
+ending (Compute Div Index) i at answer ends = tt
+ending operation i at answer ends = ends
+
+-- a place of an end is one where a run can end
+pub end_place : (insns : List Insn) (at : ℕ) → IsPlaceOf (IsFilterEnd insns) at → IsEndPlace insns at
+end_place insns at (end, is_end, same) =
+    let there : IsEndPlace insns end.at = record {
+      insn = is_end.insn;
+      operation = is_end.operation;
+      stands = is_end.stands;
+      ends = ending is_end.operation is_end.insn end.at end.answer is_end.ends;
+    } in
+    subst (IsEndPlace insns) same there
+
+pub stack_end_place : (filters : List (List Insn)) (at : ℕ) → IsPlaceOf (IsStackEnd filters) at
+    → IsStackEndPlace filters at
+stack_end_place [] at (end, is_end, same) = sym same ∙ ap (λ (e : FilterEnd). e.at) is_end
+stack_end_place (filter ∷ filters) at (end, is_end, same) =
+    (is_end.0, is_end.1, end_place is_end.0 at (end, is_end.2, same))

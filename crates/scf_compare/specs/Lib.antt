@@ -1,5 +1,6 @@
 pub mod Effort
 pub mod Paths
+pub mod Relation
 pub mod Scope
 pub mod Verdicts
 pub mod internal

@@ -1,52 +1,79 @@
 -- What verdicts claim.
-use Rattle.std.specs.Prelude.{◌≡◌, ◌≢◌, ◌<◌, ◌≤◌, ℕ, List, [], ◌∷◌, Contains, length}
+use Rattle.std.specs.Prelude.{◌≡◌, ◌<◌, ◌≤◌, ℕ, List, [], ◌∷◌, Contains}
 use Rattle.scf_insn.specs.declared.insn.Insn.{Insn}
+use Rattle.scf_insn.specs.declared.operation.Arithmetic.TheVariants.{Div}
+use Rattle.scf_insn.specs.declared.operation.Operand.TheVariants.{Index}
+use Rattle.scf_insn.specs.declared.operation.Operation.{Operation}
+use Rattle.scf_insn.specs.declared.operation.Operation.TheVariants.{Compute, ReturnConstant, ReturnAccumulator}
 use Rattle.scf_insn.specs.Words.{words_of, IsRecord}
 use Rattle.scf_machine.specs.Machine.{RunAnswers}
 use Rattle.scf_machine.specs.Precedence.{StackAnswers}
+use Rattle.scf_machine.specs.Rules.{Stands}
 use Rattle.scf_profile.specs.Profile.{Profile}
 use Rattle.scf_profile.specs.ProfileAnswers.{ProfileAnswers}
-use Rattle.scf_profile.specs.SameAnswers.{SameAnswers}
+use Rattle.scf_compare.specs.declared.relation.Relation.{Relation}
+use Rattle.scf_compare.specs.declared.relation.Relation.TheVariants as relations
 use Rattle.scf_compare.specs.declared.scope.Scope.{Scope}
+use Rattle.scf_compare.specs.declared.scope.Scope.TheVariants.{All}
 use Rattle.scf_compare.specs.declared.verdict.Verdict.{Verdict}
 use Rattle.scf_compare.specs.declared.verdict.Verdict.TheVariants.{Same, Differs, Undecided, Unfinished}
-use Rattle.scf_compare.specs.Scope.{IsInScope, SameAnswersIn}
+use Rattle.scf_compare.specs.Relation.{IsRelated}
+use Rattle.scf_compare.specs.Scope.{IsInScope, RelatedAnswersIn}
 
--- What a verdict on a program and a profile claims: that both answer every call record alike, that they answer this
--- record so and so and differently, and that the program has this place.
+-- What a verdict on a filter and a profile claims: that the relation holds of the answers to every call record of the
+-- scope; that this record is of the scope, and that they answer it so and so, of which the relation doesn't hold; and
+-- that a run of the filter can end at this place.
+abbrev pub IsTrueBy : Relation → Scope → (ℕ → Type 0) → (List ℕ → ℕ → Type 0) → Profile → Verdict → Type 0
+IsTrueBy relation scope is_place answers p (Same steps) = RelatedAnswersIn relation scope answers p
+IsTrueBy relation scope is_place answers p (Differs call filter profile) =
+    IsRecord call × IsInScope scope call × answers (words_of call) filter.0 × ProfileAnswers p call profile.0
+    × (IsRelated relation filter.0 profile.0 → ⊥)
+IsTrueBy relation scope is_place answers p (Undecided at) = is_place at
+IsTrueBy relation scope is_place answers p Unfinished = Unit {0}
+
+-- what ends a run: a return, or a division by the index register, where that is 0
+abbrev pub CanEnd : Operation → Type 0
+CanEnd ReturnConstant = Unit {0}
+CanEnd ReturnAccumulator = Unit {0}
+CanEnd (Compute Div Index) = Unit {0}
+CanEnd _ = ⊥
+
+-- A run of the program can end at this place.
+pub record IsEndPlace (insns : List Insn) (at : ℕ) : Type 0 where
+  pub insn : Insn
+  pub operation : Operation
+  pub stands : Stands insns at insn operation
+  pub ends : CanEnd operation
+
+-- on a program and a profile, of all call records and the same answers
 abbrev pub IsTrueOf : List Insn → Profile → Verdict → Type 0
-IsTrueOf insns p (Same steps) = SameAnswers (RunAnswers insns) p
-IsTrueOf insns p (Differs call filter profile) =
-    IsRecord call × RunAnswers insns (words_of call) filter.0 × ProfileAnswers p call profile.0 × (filter ≢ profile)
-IsTrueOf insns p (Undecided at) = at < length insns
-IsTrueOf insns p Unfinished = Unit {0}
+IsTrueOf insns p verdict = IsTrueBy relations.Same All (IsEndPlace insns) (RunAnswers insns) p verdict
 
--- a place of one of the filters, or 0 where there is none
-abbrev pub IsStackPlace : List (List Insn) → ℕ → Type 0
-IsStackPlace [] at = at ≡ 0
-IsStackPlace (filter ∷ filters) at = (one : List Insn) × Contains (filter ∷ filters) one × (at < length one)
+-- a run of one of the filters can end at this place, which is 0 where there is no filter
+abbrev pub IsStackEndPlace : List (List Insn) → ℕ → Type 0
+IsStackEndPlace [] at = at ≡ 0
+IsStackEndPlace (filter ∷ filters) at = (one : List Insn) × Contains (filter ∷ filters) one × IsEndPlace one at
 
--- What a verdict on a stack, a profile and a scope claims: that both answer every call record of the scope alike, that
--- this record is of the scope and they answer it so and so and differently, and that the stack has this place.
+-- on a stack and a profile
+abbrev pub IsTrueOfStackBy : Relation → List (List Insn) → Profile → Scope → Verdict → Type 0
+IsTrueOfStackBy relation filters p scope verdict =
+    IsTrueBy relation scope (IsStackEndPlace filters) (StackAnswers filters) p verdict
+
+-- of the same answers
 abbrev pub IsTrueOfStack : List (List Insn) → Profile → Scope → Verdict → Type 0
-IsTrueOfStack filters p scope (Same steps) = SameAnswersIn scope (StackAnswers filters) p
-IsTrueOfStack filters p scope (Differs call filter profile) =
-    IsRecord call × IsInScope scope call × StackAnswers filters (words_of call) filter.0
-    × ProfileAnswers p call profile.0 × (filter ≢ profile)
-IsTrueOfStack filters p scope (Undecided at) = IsStackPlace filters at
-IsTrueOfStack filters p scope Unfinished = Unit {0}
+IsTrueOfStack filters p scope verdict = IsTrueOfStackBy relations.Same filters p scope verdict
 
--- The steps of Same are within the limit and the effort, and a comparison stays unfinished only where the limit is
--- below the effort.
+-- The steps of Same are within the limit and the effort, Undecided comes only after a step, and a comparison stays
+-- unfinished only where the limit is below the effort.
 abbrev pub IsWithin : ℕ → ℕ → Verdict → Type 0
 IsWithin limit effort (Same steps) = (steps ≤ limit) × (steps ≤ effort)
 IsWithin limit effort (Differs call filter profile) = Unit {0}
-IsWithin limit effort (Undecided at) = Unit {0}
+IsWithin limit effort (Undecided at) = 0 < limit
 IsWithin limit effort Unfinished = limit < effort
 
--- A verdict decides whether a claim holds, which is that all is answered alike, unless the limit is below the effort.
+-- A verdict decides whether a claim holds, which is that of Same, unless the limit is below the effort.
 abbrev pub IsDecided : Type 0 → ℕ → ℕ → Verdict → Type 0
-IsDecided same limit effort (Same steps) = same
-IsDecided same limit effort (Differs call filter profile) = same → ⊥
-IsDecided same limit effort (Undecided at) = ⊥
-IsDecided same limit effort Unfinished = limit < effort
+IsDecided claim limit effort (Same steps) = claim
+IsDecided claim limit effort (Differs call filter profile) = claim → ⊥
+IsDecided claim limit effort (Undecided at) = ⊥
+IsDecided claim limit effort Unfinished = limit < effort

@@ -7,15 +7,17 @@ ghost use Rattle.scf_machine.specs.Precedence.{StackAnswers};
 ghost use Rattle.scf_profile.specs.PlainProfile.{IsPlainProfile};
 ghost use Rattle.scf_profile.specs.SameAnswers.{SameAnswers};
 ghost use Rattle.scf_compare.specs.Effort.{spread, effort_of, effort_of_stack};
-ghost use Rattle.scf_compare.specs.Scope.{SameAnswersIn};
-ghost use Rattle.scf_compare.specs.Verdicts.{IsTrueOf, IsTrueOfStack, IsWithin, IsDecided};
-ghost use Rattle.scf_compare.specs.internal.Compared.{AllAlike, IsTrueVerdict};
+ghost use Rattle.scf_compare.specs.Scope.{RelatedAnswersIn, SameAnswersIn};
+ghost use Rattle.scf_compare.specs.Verdicts.{IsTrueOf, IsTrueOfStack, IsTrueOfStackBy, IsWithin, IsDecided};
+ghost use Rattle.scf_compare.specs.internal.Compared.{AllRelated, IsTrueVerdict};
+ghost use Rattle.scf_compare.specs.internal.Ends.{IsPlaceOf};
 ghost use Rattle.scf_compare.specs.internal.Scopes.{compared_in};
 
 use crate::explore::explore;
 use crate::pair::{Pair, PairNode};
 use crate::party::FilterTree;
 use crate::profile_numbers::ProfileNumbers;
+use crate::relation::Relation;
 use crate::scope::{Scope, facts_of};
 use crate::verdict::Verdict;
 use scf_facts::WordFacts;
@@ -27,8 +29,9 @@ use std::alloc::Global;
 /// Compares a program with a profile over every call record, in at most `limit` steps.
 ///
 /// `Same` is true of every call record. `Differs` shows a record that is answered differently, with both answers.
-/// `Undecided` names a place of the program behind which the facts `F` didn't decide. `Unfinished` comes only where the
-/// limit is below the exact effort; the steps of `Same` are within both.
+/// `Undecided` names a place of the program where its runs end, and where the facts `F` don't decide which answer it
+/// gives: a return, or a division by the index register. It comes only once all else was seen. `Unfinished` comes only
+/// where the limit is below the exact effort; the steps of `Same` are within both.
 ///
 /// Facts that start exact decide a plain program and a plain profile: with a limit that isn't below the effort the
 /// verdict is `Same` exactly where both answer every call record alike, and `Differs` elsewhere.
@@ -45,14 +48,15 @@ pub fn compare<F: WordFacts>(
         (SameAnswers (RunAnswers program.now) profile.now)
         limit (effort_of program.now profile.now)) }
 {
-    compare_party::<Program, F>(alloc, program, profile, Scope::All, limit)
+    compare_party::<Program, F>(alloc, program, profile, Scope::All, Relation::Same, limit)
 }
 
 /// Compares what a stack of filters answers with a profile over the calls of a scope, in at most `limit` steps.
 ///
 /// The verdicts are those of `compare`. A record that `Differs` shows is of the scope, and the filter's answer in it is
-/// that of the stack. `Undecided` names a place of one of the filters, and 0 for an empty stack. Facts that start exact
-/// decide a stack of plain programs and a plain profile.
+/// that of the stack. `Undecided` names such a place of the filter whose answer isn't known, and 0 for an empty stack:
+/// the oldest of several; and where each answer is known, and only the way to them isn't, of the filter whose answer
+/// wins. Facts that start exact decide a stack of plain programs and a plain profile.
 pub fn compare_stack<F: WordFacts>(
     alloc: Global,
     stack: &FilterStack,
@@ -67,23 +71,48 @@ pub fn compare_stack<F: WordFacts>(
         (SameAnswersIn scope (StackAnswers stack.now) profile.now)
         limit (effort_of_stack stack.now profile.now)) }
 {
-    compare_party::<FilterStack, F>(alloc, stack, profile, scope, limit)
+    compare_party::<FilterStack, F>(alloc, stack, profile, scope, Relation::Same, limit)
 }
 
-/// Compares a filter, or what answers as one, with a profile over the words of the calls of a scope.
+/// Compares what a stack of filters answers with a profile over the calls of a scope by a relation, in at most `limit`
+/// steps.
+///
+/// `Same` says that the relation holds of the answers to every call record of the scope. `Differs` shows a record of
+/// the scope with both answers, of which it doesn't hold. All else is as `compare_stack` has it, whose relation is that
+/// of the same answers.
+pub fn compare_by<F: WordFacts>(
+    alloc: Global,
+    stack: &FilterStack,
+    profile: &Profile,
+    scope: Scope,
+    relation: Relation,
+    limit: u64,
+) -> Result<Verdict, Memory>
+    ensures holds { IfOk result (IsTrueOfStackBy relation stack.now profile.now scope) }
+    ensures within { IfOk result (IsWithin limit (effort_of_stack stack.now profile.now)) }
+    ensures decided { IsTrue F.starts_exact → All IsPlainProgram stack.now → IsPlainProfile profile.now
+        → IfOk result (IsDecided
+        (RelatedAnswersIn relation scope (StackAnswers stack.now) profile.now)
+        limit (effort_of_stack stack.now profile.now)) }
+{
+    compare_party::<FilterStack, F>(alloc, stack, profile, scope, relation, limit)
+}
+
+/// Compares a filter, or what answers as one, with a profile over the words of the calls of a scope by a relation.
 fn compare_party<A: FilterTree, F: WordFacts>(
     alloc: Global,
     filter: &A,
     profile: &Profile,
     scope: Scope,
+    relation: Relation,
     limit: u64,
 ) -> Result<Verdict, Memory>
     ensures holds { IfOk result (
-        IsTrueVerdict (compared_in scope (A.is_place filter.now) (A.answers filter.now) profile.now)) }
+        IsTrueVerdict (compared_in relation scope (IsPlaceOf (A.is_end filter.now)) (A.answers filter.now) profile.now)) }
     ensures within { IfOk result (IsWithin limit (A.whole_size filter.now * spread profile.now.rules)) }
     ensures decided { IsTrue F.starts_exact → A.is_plain filter.now → IsPlainProfile profile.now
         → IfOk result (IsDecided
-        (AllAlike (compared_in scope (A.is_place filter.now) (A.answers filter.now) profile.now))
+        (AllRelated (compared_in relation scope (IsPlaceOf (A.is_end filter.now)) (A.answers filter.now) profile.now))
         limit (A.whole_size filter.now * spread profile.now.rules)) }
 {
     let numbers = ProfileNumbers::new(alloc, profile)?;
@@ -91,6 +120,7 @@ fn compare_party<A: FilterTree, F: WordFacts>(
         filter,
         profile: &numbers,
         scope,
+        relation,
     };
     let facts: F = facts_of(alloc, scope)?;
     let (known, start) = filter.start();

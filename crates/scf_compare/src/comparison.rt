@@ -1,6 +1,6 @@
 //! What the explorer knows of a filter and a profile.
 
-ghost use Rattle.std.specs.Prelude.{◌<◌, ℕ, List};
+ghost use Rattle.std.specs.Prelude.{◌<◌, ◌↔◌, ℕ, List, IsTrue};
 ghost use Rattle.scf_insn.specs.Words.{words_of, IsWords};
 ghost use Rattle.scf_compare.specs.internal.Compared.{Compared};
 ghost use Rattle.scf_compare.specs.internal.Ends.{IsEnd, Tells, KnowsBoth, IsOnlyAnswer};
@@ -58,6 +58,10 @@ pub(crate) trait Comparison {
         ensures profile { (compared self.now).profile_answers (words_of call.now) result.1.0 }
         ensures one_of_filter { IsOnlyAnswer (compared self.now).filter_answers (words_of call.now) result.0.0 }
         ensures one_of_profile { IsOnlyAnswer (compared self.now).profile_answers (words_of call.now) result.1.0 };
+
+    /// Whether an answer of the filter and one of the profile are related.
+    fn relates(&self, filter: Answer, profile: Answer) -> bool
+        ensures { IsTrue result ↔ (compared self.now).related filter.0 profile.0 };
 
     /// Words of call records are compared.
     ghost of_words: { (comparison : Self) (words : List ℕ) → (compared comparison).in_scope words → IsWords words };

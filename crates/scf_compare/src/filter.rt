@@ -10,7 +10,7 @@ ghost use Rattle.scf_compare.specs.internal.Trees.{IsProper, GoesOn, Costs, Stay
 ghost use Rattle.scf_compare.specs.internal.Ends.{FilterTells, KnowsAnswer};
 ghost use Rattle.scf_compare.specs.Paths.{tree_size};
 ghost use Rattle.scf_compare.specs.internal.Values.{AreValues, IsPlainValue, IsDecision};
-ghost use Rattle.scf_compare.specs.internal.Filters.{ComesTo, IsTurnOf, filter_tree};
+ghost use Rattle.scf_compare.specs.internal.Filters.{ComesTo, IsFilterEnd, IsTurnOf, filter_tree};
 
 use crate::comparison::FilterEnd;
 use crate::flow::Flow;
@@ -35,7 +35,7 @@ impl FilterTree for Program {
 
     ghost answers = { RunAnswers };
 
-    ghost is_place = { λ insns at. at < length insns };
+    ghost is_end = { IsFilterEnd };
 
     ghost tree = { filter_tree };
 
@@ -73,7 +73,7 @@ fn turn_at(insns: &[Insn], place: usize, registers: &mut Registers) -> Turn<Filt
     requires valid { IsValidList insns.now }
     requires safe { (words : List ℕ) → RunsSafely insns.now words }
     requires values { AreValues registers.old }
-    ensures proper { IsProper (filter_tree insns.now registers.new) (λ end. end.at < length insns.now) result }
+    ensures proper { IsProper (filter_tree insns.now registers.new) (IsFilterEnd insns.now) result }
     ensures leads { (words : List ℕ) → IsWords words
         → ComesTo insns.now place registers.old words
         → GoesOn (filter_tree insns.now registers.new) (FilterTells (RunAnswers insns.now)) result words }
@@ -100,7 +100,7 @@ fn turn_of(
     requires valid { IsValidList insns.now }
     requires safe { (words : List ℕ) → RunsSafely insns.now words }
     requires values { AreValues registers.old }
-    ensures proper { IsProper (filter_tree insns.now registers.new) (λ end. end.at < length insns.now) result }
+    ensures proper { IsProper (filter_tree insns.now registers.new) (IsFilterEnd insns.now) result }
     ensures leads { (words : List ℕ) → IsWords words
         → ComesTo insns.now place registers.old words
         → GoesOn (filter_tree insns.now registers.new) (FilterTells (RunAnswers insns.now)) result words }

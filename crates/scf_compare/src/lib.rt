@@ -15,6 +15,7 @@ mod profile;
 mod profile_numbers;
 mod question;
 mod registers;
+mod relation;
 mod scope;
 mod stack;
 mod tree_sizes;
@@ -22,8 +23,9 @@ mod turn;
 mod value;
 mod verdict;
 
-pub use comparer::{compare, compare_stack};
+pub use comparer::{compare, compare_by, compare_stack};
 pub use plain::is_plain;
+pub use relation::Relation;
 pub use scope::Scope;
 pub use tree_sizes::{effort, effort_stack};
 pub use verdict::Verdict;

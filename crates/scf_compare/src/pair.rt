@@ -2,6 +2,7 @@
 
 ghost use Rattle.std.specs.Prelude.{◌≡◌, ◌<◌, ◌≤◌, ◌*◌, ℕ, List, ⊤};
 ghost use Rattle.scf_insn.specs.Words.{IsWords};
+ghost use Rattle.scf_compare.specs.Relation.{IsRelated};
 ghost use Rattle.scf_compare.specs.internal.Ends.{FilterTells, Tells, IsEnd, KnowsAnswer, KnowsBoth};
 ghost use Rattle.scf_compare.specs.internal.Pairs.{pair_tree, pair_compared};
 ghost use Rattle.scf_compare.specs.internal.Scopes.{AreWordsOf};
@@ -9,6 +10,7 @@ ghost use Rattle.scf_compare.specs.internal.Trees.{IsProper, GoesOn, Costs, Stay
 
 use crate::comparison::{BothEnds, Comparison, FilterEnd};
 use crate::party::{FilterTree, ProfileTree};
+use crate::relation::Relation;
 use crate::scope::Scope;
 use crate::turn::Turn;
 use scf_facts::WordFacts;
@@ -21,12 +23,13 @@ pub(crate) enum PairNode<M, N> {
     AtProfile { end: FilterEnd, node: N },
 }
 
-/// A filter, and the profile that it is compared with on the calls of a scope.
+/// A filter, and the profile that it is compared with on the calls of a scope, by a relation.
 #[derive(Drop)]
 pub(crate) struct Pair<'a, A, B> {
     pub(crate) filter: &'a A,
     pub(crate) profile: &'a B,
     pub(crate) scope: Scope,
+    pub(crate) relation: Relation,
 }
 
 impl<A: FilterTree, B: ProfileTree> Comparison for Pair<'_, A, B> {
@@ -35,7 +38,7 @@ impl<A: FilterTree, B: ProfileTree> Comparison for Pair<'_, A, B> {
     type Node = PairNode<A::Node, B::Node>;
 
     ghost compared = { λ pair. pair_compared A.FilterTree B.ProfileTree pair.filter.now pair.profile.now
-        (AreWordsOf pair.scope) };
+        (AreWordsOf pair.scope) (IsRelated pair.relation) };
 
     ghost tree = { λ pair. pair_tree A.FilterTree B.ProfileTree pair.filter.now pair.profile.now };
 
@@ -74,6 +77,10 @@ impl<A: FilterTree, B: ProfileTree> Comparison for Pair<'_, A, B> {
         (self.filter.answer(call), self.profile.answer(call))
     }
 
+    fn relates(&self, filter: Answer, profile: Answer) -> bool {
+        self.relation.holds(filter, profile)
+    }
+
     ghost use Rattle.scf_compare.specs.internal.Laws.{pair_counts};
 
     ghost of_words = { λ _ words within. within.0 };
@@ -92,14 +99,16 @@ impl<A: FilterTree, B: ProfileTree> Pair<'_, A, B> {
         node: &B::Node,
     ) -> Turn<PairNode<A::Node, B::Node>, BothEnds>
         requires node { (B.tree self.now.profile.now).is_node node.now }
-        requires place { A.is_place self.now.filter.now end.at }
+        requires end { A.is_end self.now.filter.now end }
         ensures proper { (known : A.Known)
             → let tree = pair_tree A.FilterTree B.ProfileTree self.now.filter.now self.now.profile.now known in
-            IsProper tree (λ ends. A.is_place self.now.filter.now ends.filter.at) result }
+            let compared = pair_compared A.FilterTree B.ProfileTree self.now.filter.now self.now.profile.now
+            (AreWordsOf self.now.scope) (IsRelated self.now.relation) in
+            IsProper tree (IsEnd compared) result }
         ensures leads { (known : A.Known)
             → let tree = pair_tree A.FilterTree B.ProfileTree self.now.filter.now self.now.profile.now known in
             let compared = pair_compared A.FilterTree B.ProfileTree self.now.filter.now self.now.profile.now
-            (AreWordsOf self.now.scope) in
+            (AreWordsOf self.now.scope) (IsRelated self.now.relation) in
             (words : List ℕ) → IsWords words
             → F.allows facts.now (F.level facts.now) words
             → FilterTells (A.answers self.now.filter.now) end words

@@ -2,6 +2,7 @@
 
 ghost use Rattle.std.specs.Prelude.{◌≡◌, ◌<◌, ◌≤◌, ℕ, List, ⊤};
 ghost use Rattle.scf_insn.specs.Words.{words_of, IsWords};
+ghost use Rattle.scf_compare.specs.declared.comparison.FilterEnd.{FilterEnd};
 ghost use Rattle.scf_compare.specs.internal.Trees.{Tree, IsProper, GoesOn, Costs, StaysPlain};
 ghost use Rattle.scf_compare.specs.internal.Ends.{FilterTells, KnowsAnswer, IsOnlyAnswer};
 
@@ -20,8 +21,8 @@ pub(crate) trait FilterTree {
     /// The filter answers words so.
     ghost answers: { Self → List ℕ → ℕ → Type 0 };
 
-    /// The filter has this place.
-    ghost is_place: { Self → ℕ → Type 0 };
+    /// The filter has this end.
+    ghost is_end: { Self → FilterEnd → Type 0 };
 
     /// The tree, for what is known at the nodes that are spoken of.
     ghost tree: { Self → Self.Known → Tree Self.Node };
@@ -42,7 +43,7 @@ pub(crate) trait FilterTree {
     /// What comes next at a node, and what is known there.
     fn turn(&self, known: &mut Self::Known, node: &Self::Node) -> Turn<Self::Node, FilterEnd>
         requires { (tree self.now known.old).is_node node.now }
-        ensures proper { IsProper (tree self.now known.new) (λ end. is_place self.now end.at) result }
+        ensures proper { IsProper (tree self.now known.new) (is_end self.now) result }
         ensures leads { (words : List ℕ) → IsWords words
             → (tree self.now known.old).reaches node.now words
             → GoesOn (tree self.now known.new) (FilterTells (answers self.now)) result words }

@@ -1,15 +1,15 @@
 //! A stack of filters as a tree of questions: one filter is asked after another, the oldest first.
 
-ghost use Rattle.std.specs.Prelude.{◌≡◌, ◌+◌, ◌<◌, ◌≤◌, ℕ, List, [], All, IfSome, IsSome, length, take, slice_index_or};
+ghost use Rattle.std.specs.Prelude.{◌≡◌, ◌+◌, ◌<◌, ◌≤◌, ℕ, List, [], All, IfSome, length, take, slice_index_or};
 ghost use Rattle.scf_insn.specs.Words.{IsWords};
 ghost use Rattle.scf_insn.specs.declared.insn.Insn.{Insn};
 ghost use Rattle.scf_machine.specs.Machine.{RunAnswers};
 ghost use Rattle.scf_machine.specs.Plain.{IsPlainProgram};
 ghost use Rattle.scf_machine.specs.Precedence.{StackAnswers};
 ghost use Rattle.scf_compare.specs.Effort.{stack_paths};
-ghost use Rattle.scf_compare.specs.Verdicts.{IsStackPlace};
 ghost use Rattle.scf_compare.specs.internal.Ends.{FilterTells, KnowsAnswer};
-ghost use Rattle.scf_compare.specs.internal.Stacks.{filter_at, stack_is_node, stack_reaches, stack_size};
+ghost use Rattle.scf_compare.specs.internal.Stacks.{IsOlder, IsStackEnd, OlderTells, filter_at};
+ghost use Rattle.scf_compare.specs.internal.Stacks.{stack_is_node, stack_reaches, stack_size};
 ghost use Rattle.scf_compare.specs.internal.Stacks.{stack_is_plain, stack_tree};
 ghost use Rattle.scf_compare.specs.internal.Trees.{IsProper, GoesOn, Costs, StaysPlain};
 
@@ -19,16 +19,16 @@ use crate::party::FilterTree;
 use crate::registers::Registers;
 use crate::turn::Turn;
 use scf_insn::{Action, Answer, CallRecord};
-use scf_machine::{FilterStack, Program, with_newest};
+use scf_machine::{FilterStack, Program};
 
-/// A node of a filter of a stack, with what the older filters decide, where that is known.
+/// A node of a filter of a stack, with the end at which the older filters decide, if there are any.
 #[derive(Clone, Copy)]
 pub(crate) enum StackNode {
     /// There is no filter.
     Empty,
     At {
         place: usize,
-        older: Option<Answer>,
+        older: Option<FilterEnd>,
         node: FilterNode,
     },
 }
@@ -40,7 +40,7 @@ impl FilterTree for FilterStack {
 
     ghost answers = { StackAnswers };
 
-    ghost is_place = { IsStackPlace };
+    ghost is_end = { IsStackEnd };
 
     ghost tree = { stack_tree };
 
@@ -54,7 +54,7 @@ impl FilterTree for FilterStack {
                 let (known, node) = program.start();
                 let first = StackNode::At {
                     place: 0,
-                    older: Some(Answer::new(Action::Allow, 0)),
+                    older: None,
                     node,
                 };
                 (known, first)
@@ -93,17 +93,30 @@ pub(crate) fn filter_of(stack: &FilterStack, place: usize) -> &Program
     }
 }
 
-/// What filters decide with one more, the newest, where both are known.
-fn decided_with(older: Option<Answer>, newest: Option<Answer>) -> Option<Answer>
-    ensures known { IsSome older → IsSome newest → IsSome result }
+/// The end at which filters decide with one more, the newest: the one whose answer isn't known, the oldest of several,
+/// or whose answer wins.
+fn decided_at(older: Option<FilterEnd>, newest: FilterEnd) -> FilterEnd
+    ensures end { (filters : List (List Insn)) (place : ℕ) → IsOlder filters place older → IsStackEnd filters newest
+        → IsStackEnd filters result }
+    ensures known { IfSome older KnowsAnswer → KnowsAnswer newest → KnowsAnswer result }
     ensures decides { (filters : List (List Insn)) (place : ℕ) (words : List ℕ) → place < length filters
-        → IfSome older (λ answer. StackAnswers (take place filters) words answer.0)
-        → IfSome newest (λ answer. RunAnswers (filter_at filters place) words answer.0)
-        → IfSome result (λ answer. StackAnswers (take (place + 1) filters) words answer.0) }
+        → IsOlder filters place older → OlderTells filters place older words
+        → FilterTells (RunAnswers (filter_at filters place)) newest words
+        → FilterTells (StackAnswers (take (place + 1) filters)) result words }
 {
-    match (older, newest) {
-        (Some(older), Some(newest)) => Some(with_newest(older, newest)),
-        _ => None,
+    let Some(older) = older else {
+        return newest;
+    };
+    match (older.answer, newest.answer) {
+        (Some(first), Some(last)) => {
+            if first.rank() < last.rank() {
+                older
+            } else {
+                newest
+            }
+        }
+        (Some(_), None) => newest,
+        (None, _) => older,
     }
 }
 
@@ -113,11 +126,11 @@ fn turn_from(
     stack: &FilterStack,
     registers: &mut Registers,
     first: usize,
-    decided: Option<Answer>,
+    decided: Option<FilterEnd>,
     begun: FilterNode,
 ) -> Turn<StackNode, FilterEnd>
     requires { stack_is_node stack.now registers.old (StackNode.At first decided begun) }
-    ensures proper { IsProper (stack_tree stack.now registers.new) (λ end. IsStackPlace stack.now end.at) result }
+    ensures proper { IsProper (stack_tree stack.now registers.new) (IsStackEnd stack.now) result }
     ensures leads { (words : List ℕ) → IsWords words
         → stack_reaches stack.now registers.old (StackNode.At first decided begun) words
         → GoesOn (stack_tree stack.now registers.new) (FilterTells (StackAnswers stack.now)) result words }
@@ -173,14 +186,12 @@ fn turn_from(
                 };
             }
             Turn::End(end) => {
-                older = decided_with(older, end.answer);
+                let decided = decided_at(older, end);
                 place += 1;
                 if place == count {
-                    return Turn::End(FilterEnd {
-                        answer: older,
-                        at: end.at,
-                    });
+                    return Turn::End(decided);
                 }
+                older = Some(decided);
                 let (known, start) = filter_of(stack, place).start();
                 *registers = known;
                 node = start;

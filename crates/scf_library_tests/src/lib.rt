@@ -15,6 +15,8 @@ mod compare_computed;
 #[cfg(test)]
 mod compare_limits;
 #[cfg(test)]
+mod compare_relations;
+#[cfg(test)]
 mod compare_stacks;
 #[cfg(test)]
 mod compile;

@@ -1,17 +1,23 @@
 -- A filter as a tree of questions.
-use Rattle.std.specs.Prelude.{◌≡◌, ◌<◌, ℕ, List, length, if◌then◌else◌}
+use Rattle.std.specs.Prelude.{◌≡◌, ◌<◌, ℕ, List, Option, Some, length, if◌then◌else◌}
+use Rattle.scf_insn.specs.declared.answer.Answer.{Answer}
 use Rattle.scf_insn.specs.declared.insn.Insn.{Insn}
+use Rattle.scf_insn.specs.declared.operation.Operation.{Operation}
 use Rattle.scf_machine.specs.Machine.{State, start, IsChain, RunAnswers}
 use Rattle.scf_machine.specs.Plain.{IsPlainProgram}
+use Rattle.scf_machine.specs.Rules.{Stands}
 use Rattle.scf_compare.specs.declared.comparison.FilterEnd.{FilterEnd}
 use Rattle.scf_compare.specs.declared.filter.FilterNode.{FilterNode}
 use Rattle.scf_compare.specs.declared.filter.FilterNode.TheVariants.{At, Stopped}
+use Rattle.scf_compare.specs.declared.flow.Flow.{Flow}
+use Rattle.scf_compare.specs.declared.flow.Flow.TheVariants.{DivideByIndex, ReturnConstant, ReturnAccumulator}
 use Rattle.scf_compare.specs.declared.registers.Registers.{Registers}
 use Rattle.scf_compare.specs.declared.turn.Turn.{Turn}
 use Rattle.scf_compare.specs.declared.turn.Turn.TheVariants.{Go, Ask, Fork}
 use Rattle.scf_compare.specs.declared.value.Decision.{Decision}
 use Rattle.scf_compare.specs.declared.value.Decision.TheVariants.{Known as Decided, Asks, Open}
 use Rattle.scf_compare.specs.Paths.{tree_size}
+use Rattle.scf_compare.specs.internal.Flow.{flow_at}
 use Rattle.scf_compare.specs.internal.Trees.{Tree}
 use Rattle.scf_compare.specs.internal.Values.{AreValues, IsPlainValue, Describes}
 
@@ -23,9 +29,24 @@ pub record ComesTo (insns : List Insn) (place : ℕ) (registers : Registers) (wo
   pub there : state.place ≡ place
   pub describes : Describes registers words state
 
+-- What is known of the answer where a run ends by how its instruction goes on: the constant of a return; 0 of a division
+-- by 0; and whatever is known of the accumulator.
+abbrev pub EndsWith : Flow → Insn → Option Answer → Type 0
+EndsWith ReturnConstant i answer = answer ≡ Some (record { 0 = i.k })
+EndsWith ReturnAccumulator i answer = Unit {0}
+EndsWith (DivideByIndex next) i answer = answer ≡ Some (record { 0 = 0 })
+EndsWith _ i answer = ⊥
+
+-- An end of a filter, at the place where a run of it ends: only what is in the accumulator isn't known there.
+pub record IsFilterEnd (insns : List Insn) (end : FilterEnd) : Type 0 where
+  pub insn : Insn
+  pub operation : Operation
+  pub stands : Stands insns end.at insn operation
+  pub ends : EndsWith (flow_at operation insn end.at) insn end.answer
+
 abbrev pub filter_is_node : List Insn → Registers → FilterNode → Type 0
 filter_is_node insns registers (At place) = (place < length insns) × AreValues registers
-filter_is_node insns registers (Stopped answer at) = at < length insns
+filter_is_node insns registers (Stopped answer at) = IsFilterEnd insns (record { answer = Some answer; at = at })
 
 abbrev pub filter_reaches : List Insn → Registers → FilterNode → List ℕ → Type 0
 filter_reaches insns registers (At place) words = ComesTo insns place registers words

@@ -6,7 +6,7 @@ use Rattle.scf_compare.specs.declared.pair.PairNode.TheVariants.{AtFilter, AtPro
 use Rattle.scf_compare.specs.declared.party.FilterTree.{Ghosts as Filters}
 use Rattle.scf_compare.specs.declared.party.ProfileTree.{Ghosts as Profiles}
 use Rattle.scf_compare.specs.internal.Compared.{Compared}
-use Rattle.scf_compare.specs.internal.Ends.{FilterTells, KnowsAnswer}
+use Rattle.scf_compare.specs.internal.Ends.{FilterTells, IsPlaceOf, KnowsAnswer}
 use Rattle.scf_compare.specs.internal.Trees.{Tree}
 
 -- The size of a node, where the trees of the parties have sizes and the whole tree of the profile has one: each end of
@@ -18,7 +18,7 @@ size_in_pair filter profile whole (AtProfile end node) = profile node
 module _ {A K M B N : Type 0} (filters : Filters A K M) (profiles : Profiles B N) (filter : A) (profile : B) where
   abbrev pub pair_is_node : K → PairNode M N → Type 0
   pair_is_node known (AtFilter node) = (filters.tree filter known).is_node node
-  pair_is_node known (AtProfile end node) = filters.is_place filter end.at × (profiles.tree profile).is_node node
+  pair_is_node known (AtProfile end node) = filters.is_end filter end × (profiles.tree profile).is_node node
 
   abbrev pub pair_reaches : K → PairNode M N → List ℕ → Type 0
   pair_reaches known (AtFilter node) words = IsWords words × (filters.tree filter known).reaches node words
@@ -39,11 +39,12 @@ module _ {A K M B N : Type 0} (filters : Filters A K M) (profiles : Profiles B N
     is_plain = pair_is_plain known;
   }
 
-  -- what is compared, on the words of a scope
-  abbrev pub pair_compared : (List ℕ → Type 0) → Compared
-  pair_compared in_scope = record {
+  -- what is compared, on the words of a scope and by a relation
+  abbrev pub pair_compared : (List ℕ → Type 0) → (ℕ → ℕ → Type 0) → Compared
+  pair_compared in_scope related = record {
     in_scope = in_scope;
-    is_place = filters.is_place filter;
+    is_place = IsPlaceOf (filters.is_end filter);
     filter_answers = filters.answers filter;
     profile_answers = profiles.answers profile;
+    related = related;
   }

@@ -1,30 +1,47 @@
 -- A stack of filters as a tree of questions: the filters are asked one after another, the oldest first.
-use Rattle.std.specs.Prelude.{◌≡◌, ◌+◌, ◌*◌, ◌<◌, ℕ, List, [], All, IfSome, IsSome, length, take, drop, slice_index_or}
+use Rattle.std.specs.Prelude.{◌≡◌, ◌+◌, ◌*◌, ◌<◌, ℕ, List, [], ◌∷◌, Option, Some, None, All, Contains, IfSome, length, take, drop, slice_index_or}
+use Rattle.scf_insn.specs.declared.answer.Action.TheVariants.{Allow}
 use Rattle.scf_insn.specs.declared.insn.Insn.{Insn}
+use Rattle.scf_insn.specs.Answers.{answer_of}
 use Rattle.scf_machine.specs.Plain.{IsPlainProgram}
 use Rattle.scf_machine.specs.Precedence.{StackAnswers}
+use Rattle.scf_compare.specs.declared.comparison.FilterEnd.{FilterEnd}
 use Rattle.scf_compare.specs.declared.registers.Registers.{Registers}
 use Rattle.scf_compare.specs.declared.stack.StackNode.{StackNode}
 use Rattle.scf_compare.specs.declared.stack.StackNode.TheVariants.{Empty, At}
 use Rattle.scf_compare.specs.Effort.{stack_paths}
-use Rattle.scf_compare.specs.internal.Filters.{filter_is_node, filter_reaches, filter_size, filter_is_plain}
+use Rattle.scf_compare.specs.internal.Ends.{FilterTells, KnowsAnswer}
+use Rattle.scf_compare.specs.internal.Filters.{IsFilterEnd, filter_is_node, filter_reaches, filter_size, filter_is_plain}
 use Rattle.scf_compare.specs.internal.Trees.{Tree}
 
 -- the filter at a place of a stack
 abbrev pub filter_at : List (List Insn) → ℕ → List Insn
 filter_at filters place = slice_index_or filters place []
 
+-- An end of one of the filters, or of none, which allow.
+abbrev pub IsStackEnd : List (List Insn) → FilterEnd → Type 0
+IsStackEnd [] end = end ≡ record { answer = Some (record { 0 = answer_of Allow 0 }); at = 0 }
+IsStackEnd (filter ∷ filters) end = (one : List Insn) × Contains (filter ∷ filters) one × IsFilterEnd one end
+
+-- what the filters before a place decide, from the second one on
+abbrev pub IsOlder : List (List Insn) → ℕ → Option FilterEnd → Type 0
+IsOlder filters place None = place ≡ 0
+IsOlder filters place (Some end) = IsStackEnd filters end
+
+-- what is known of what they decide is so
+abbrev pub OlderTells : List (List Insn) → ℕ → Option FilterEnd → List ℕ → Type 0
+OlderTells filters place older words = IfSome older (λ end. FilterTells (StackAnswers (take place filters)) end words)
+
 abbrev pub stack_is_node : List (List Insn) → Registers → StackNode → Type 0
 stack_is_node filters registers Empty = filters ≡ []
 stack_is_node filters registers (At place older node) =
-    (place < length filters) × filter_is_node (filter_at filters place) registers node
+    (place < length filters) × filter_is_node (filter_at filters place) registers node × IsOlder filters place older
 
 -- the older filters decide so, where that is known, and the words come to the node of the filter
 abbrev pub stack_reaches : List (List Insn) → Registers → StackNode → List ℕ → Type 0
 stack_reaches filters registers Empty words = Unit {0}
 stack_reaches filters registers (At place older node) words =
-    IfSome older (λ answer. StackAnswers (take place filters) words answer.0)
-    × filter_reaches (filter_at filters place) registers node words
+    OlderTells filters place older words × filter_reaches (filter_at filters place) registers node words
 
 -- the newer filters stand whole behind each end of a filter
 abbrev pub stack_size : List (List Insn) → StackNode → ℕ
@@ -35,7 +52,7 @@ stack_size filters (At place older node) =
 abbrev pub stack_is_plain : List (List Insn) → Registers → StackNode → Type 0
 stack_is_plain filters registers Empty = Unit {0}
 stack_is_plain filters registers (At place older node) =
-    All IsPlainProgram filters × IsSome older × filter_is_plain (filter_at filters place) registers node
+    All IsPlainProgram filters × IfSome older KnowsAnswer × filter_is_plain (filter_at filters place) registers node
 
 -- the tree, for what is known of the registers at its nodes
 abbrev pub stack_tree : List (List Insn) → Registers → Tree StackNode

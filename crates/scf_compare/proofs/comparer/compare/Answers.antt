@@ -1,12 +1,30 @@
 use Rattle.std.proofs.lemmas.Result.{IfOk-weaker}
-use Rattle.scf_compare.proofs.Verdicts.{true_of, decided_of}
+use Rattle.scf_machine.specs.Machine.{RunAnswers}
+use Rattle.scf_compare.specs.declared.relation.Relation.TheVariants as relations
+use Rattle.scf_compare.specs.declared.scope.Scope.TheVariants.{All}
+use Rattle.scf_compare.specs.Verdicts.{IsEndPlace}
+use Rattle.scf_compare.specs.internal.Ends.{IsPlaceOf}
+use Rattle.scf_compare.specs.internal.Filters.{IsFilterEnd}
+use Rattle.scf_compare.proofs.Verdicts.{true_by, decided_in, decided_same, same_of_all, all_of_same, placed, end_place}
 use Rattle.scf_compare.proofs.comparer.compare.Goals as goal
 
 pub returns-clause-holds : goal.returns-clause-holds
 returns-clause-holds g c =
-    IfOk-weaker c.compare_party.result _ _ (true_of c.args.program.now c.args.profile.now) c.compare_party.ensures.holds
+    let insns = c.args.program.now in
+    let p = c.args.profile.now in
+    let place = IsPlaceOf (IsFilterEnd insns) in
+    IfOk-weaker c.compare_party.result _ _
+    (λ verdict h.
+    placed relations.Same All place (IsEndPlace insns) (RunAnswers insns) p verdict (end_place insns)
+    (true_by relations.Same All place (RunAnswers insns) p verdict h))
+    c.compare_party.ensures.holds
 
 pub returns-clause-decided : goal.returns-clause-decided
 returns-clause-decided g c = λ exact plain plain_profile.
-    IfOk-weaker c.compare_party.result _ _ (decided_of c.args.program.now c.args.profile.now c.args.limit _)
+    let insns = c.args.program.now in
+    let p = c.args.profile.now in
+    IfOk-weaker c.compare_party.result _ _
+    (λ verdict decided.
+    decided_same _ _ c.args.limit _ verdict (same_of_all (RunAnswers insns) p) (all_of_same (RunAnswers insns) p)
+    (decided_in relations.Same All (IsPlaceOf (IsFilterEnd insns)) (RunAnswers insns) p c.args.limit _ verdict decided))
     (c.compare_party.ensures.decided exact plain plain_profile)

@@ -4,7 +4,8 @@ use Rattle.scf_profile.specs.Profile.{Profile}
 use Rattle.scf_profile.specs.PlainProfile.{IsPlainProfile}
 use Rattle.scf_compare.specs.Effort.{spread}
 use Rattle.scf_compare.specs.Verdicts.{IsWithin, IsDecided}
-use Rattle.scf_compare.specs.internal.Compared.{AllAlike, IsTrueVerdict}
+use Rattle.scf_compare.specs.internal.Compared.{AllRelated, IsTrueVerdict}
+use Rattle.scf_compare.specs.internal.Ends.{IsPlaceOf}
 use Rattle.scf_compare.specs.internal.Scopes.{compared_in}
 use Rattle.scf_compare.proofs.comparer.compare_party.Goals as goal
 
@@ -13,7 +14,7 @@ returns-clause-holds g c =
     let A = g.A.FilterTree in
     let filter = c.args.filter.now in
     subst (λ (p : Profile).
-    IfOk c.explore.result (IsTrueVerdict (compared_in c.args.scope (A.is_place filter) (A.answers filter) p)))
+    IfOk c.explore.result (IsTrueVerdict (compared_in c.args.relation c.args.scope (IsPlaceOf (A.is_end filter)) (A.answers filter) p)))
     c.in_ok-numbers.ensures c.explore.ensures.holds
 
 pub returns-clause-within : goal.returns-clause-within
@@ -37,9 +38,9 @@ returns-clause-decided g c =
     (c.start-known.ensures.plain plain, λ first. plain_tree) in
     subst (λ (profile : Profile).
     IfOk c.explore.result
-    (IsDecided (AllAlike (compared_in c.args.scope (A.is_place filter) (A.answers filter) profile)) c.args.limit
+    (IsDecided (AllRelated (compared_in c.args.relation c.args.scope (IsPlaceOf (A.is_end filter)) (A.answers filter) profile)) c.args.limit
     (A.whole_size filter * spread profile.rules))) c.in_ok-numbers.ensures
     (subst (λ n.
     IfOk c.explore.result
-    (IsDecided (AllAlike (compared_in c.args.scope (A.is_place filter) (A.answers filter) p)) c.args.limit
+    (IsDecided (AllRelated (compared_in c.args.relation c.args.scope (IsPlaceOf (A.is_end filter)) (A.answers filter) p)) c.args.limit
     (n * spread p.rules))) c.start-known.ensures.size decided)

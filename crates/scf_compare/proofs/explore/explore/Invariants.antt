@@ -1,6 +1,6 @@
-use Rattle.std.proofs.Common.{◌+◌, ◌≤◌, ◌⊎◌, ℕ, List}
-use Rattle.std.specs.Prelude.{IsTrue}
-use Rattle.scf_compare.specs.internal.Compared.{AnswerAlike}
+use Rattle.std.proofs.Common.{◌≡◌, ◌+◌, ◌≤◌, ◌⊎◌, ℕ, List}
+use Rattle.std.specs.Prelude.{IsTrue, IfSome, None}
+use Rattle.scf_compare.specs.internal.Ends.{WereSeen}
 use Rattle.scf_compare.specs.internal.Frontier.{IsAhead, IsFrontier, IsExact, open_size}
 use Rattle.scf_compare.proofs.explore.explore.Given as goal
 
@@ -14,9 +14,10 @@ invariant-loop-steps g l =
     record {
       frontier : IsFrontier store tree compared.in_scope l.frontier;
       node : here.is_node l.node;
+      place : IfSome l.left_open compared.is_place;
       words : (words : List ℕ) → compared.in_scope words
-          → AnswerAlike compared words ⊎ IsAhead store tree l.frontier (here.reaches l.node) words;
+          → WereSeen compared l.left_open words ⊎ IsAhead store tree l.frontier (here.reaches l.node) words;
       size : l.steps + (open_size tree l.frontier + here.size l.node) ≤ whole.size l.fn.root;
       exact : IsTrue (store.is_exact l.fn.facts 0) → whole.is_plain l.fn.root
-          → IsExact store tree l.frontier (here.is_plain l.node) (here.reaches l.node);
+          → (l.left_open ≡ None) × IsExact store tree l.frontier (here.is_plain l.node) (here.reaches l.node);
     }

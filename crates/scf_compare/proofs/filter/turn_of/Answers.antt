@@ -1,20 +1,36 @@
 -- The ways on from an instruction follow the runs that come to it, and their sizes are within its size.
-use Rattle.std.proofs.Common.{◌≡◌, ◌+◌, ◌/◌, ◌==◌, ℕ, Bool, true, false, if◌then◌else◌, refl, sym, ap, subst, ◌∙◌, arith}
-use Rattle.std.proofs.lemmas.Option.{slice_get_within, IfSome_then}
+use Rattle.std.proofs.Common.{◌≡◌, ◌+◌, ◌/◌, ◌==◌, ℕ, List, Bool, true, false, if◌then◌else◌, refl, sym, ap, subst, ◌∙◌, arith}
+use Rattle.std.specs.Prelude.{Option, Some}
+use Rattle.std.proofs.lemmas.Option.{IfSome_then}
 use Rattle.scf_insn.specs.declared.answer.Answer.{Answer}
+use Rattle.scf_insn.specs.declared.insn.Insn.{Insn}
+use Rattle.scf_insn.specs.declared.operation.Operation.{Operation}
 use Rattle.scf_insn.specs.declared.operation.Register.TheVariants.{A}
 use Rattle.scf_machine.specs.Machine.{State, Goes, Ends, sets, jumps_to, holds, operand_of, RunAnswers}
+use Rattle.scf_machine.specs.Rules.{Stands}
 use Rattle.scf_compare.specs.declared.filter.FilterNode.{FilterNode}
 use Rattle.scf_compare.specs.declared.filter.FilterNode.TheVariants.{At, Stopped}
+use Rattle.scf_compare.specs.declared.flow.Flow.{Flow}
 use Rattle.scf_compare.specs.declared.flow.Flow.TheVariants.{Next, Jump, Branch, DivideByIndex, ReturnConstant, ReturnAccumulator}
 use Rattle.scf_compare.specs.internal.Ends.{FilterTells, KnowsAnswer}
-use Rattle.scf_compare.specs.internal.Filters.{filter_tree}
+use Rattle.scf_compare.specs.internal.Filters.{EndsWith, IsFilterEnd, filter_tree}
 use Rattle.scf_compare.specs.Paths.{tree_size}
 use Rattle.scf_compare.specs.internal.Flow.{flow_at}
 use Rattle.scf_compare.proofs.Flows.{load_fits, scratch_fits, jumped, branched, divided, returned_constant, returned_accumulator, size_by_flow}
 use Rattle.scf_compare.proofs.PlainFlows.{plain_flow}
 use Rattle.scf_compare.proofs.Ways.{describes_at, comes_on, comes_to_answer, straight, turn_proper, turn_costs, turn_leads, turn_plain}
 use Rattle.scf_compare.proofs.filter.turn_of.Goals as goal
+
+-- an end at the place of an instruction that goes on so
+ends_here : (insns : List Insn) (place : ℕ) (i : Insn) (operation : Operation) (answer : Option Answer) (flow : Flow)
+    → Stands insns place i operation → flow_at operation i place ≡ flow → EndsWith flow i answer
+    → IsFilterEnd insns (record { answer = answer; at = place })
+ends_here insns place i operation answer flow stands e ends = record {
+  insn = i;
+  operation = operation;
+  stands = stands;
+  ends = subst (λ (f : Flow). EndsWith f i answer) (sym e) ends;
+}
 
 pub apply-requires-clause-load : goal.apply-requires-clause-load
 apply-requires-clause-load c =
@@ -199,7 +215,9 @@ returns-in-DivideByIndex-clause-proper c =
     let divided_on : FilterNode = At c.in-DivideByIndex.next in
     turn_proper (filter_tree insns c.apply-in-DivideByIndex.new.self) _ c.decide-decision-in-DivideByIndex.result
     stopped divided_on c.turn_by-in-DivideByIndex.result c.turn_by-in-DivideByIndex.ensures
-    c.decide-decision-in-DivideByIndex.ensures.asks (slice_get_within insns place insn c.requires.stands.here)
+    c.decide-decision-in-DivideByIndex.ensures.asks
+    (ends_here insns place insn c.args.operation (Some (record { 0 = 0 })) (DivideByIndex c.in-DivideByIndex.next)
+    c.requires.stands (sym c.of.ensures.flow ∙ c.in-DivideByIndex.is) refl)
     (inside, c.apply-in-DivideByIndex.ensures.values)
 
 pub returns-in-DivideByIndex-clause-leads : goal.returns-in-DivideByIndex-clause-leads
@@ -246,10 +264,8 @@ returns-in-DivideByIndex-clause-costs c =
 
 pub returns-in-ReturnConstant-clause-proper : goal.returns-in-ReturnConstant-clause-proper
 returns-in-ReturnConstant-clause-proper c =
-    let insns = c.args.insns.now in
-    let place = c.args.place in
-    let insn = c.args.insn in
-    slice_get_within insns place insn c.requires.stands.here
+    ends_here c.args.insns.now c.args.place c.args.insn c.args.operation (Some (record { 0 = c.args.insn.k }))
+    ReturnConstant c.requires.stands (sym c.of.ensures.flow ∙ c.in-ReturnConstant.is) refl
 
 pub returns-in-ReturnConstant-clause-leads : goal.returns-in-ReturnConstant-clause-leads
 returns-in-ReturnConstant-clause-leads c =
@@ -275,10 +291,8 @@ returns-in-ReturnConstant-clause-costs c =
 
 pub returns-in-ReturnAccumulator-clause-proper : goal.returns-in-ReturnAccumulator-clause-proper
 returns-in-ReturnAccumulator-clause-proper c =
-    let insns = c.args.insns.now in
-    let place = c.args.place in
-    let insn = c.args.insn in
-    slice_get_within insns place insn c.requires.stands.here
+    ends_here c.args.insns.now c.args.place c.args.insn c.args.operation c.answer.result
+    ReturnAccumulator c.requires.stands (sym c.of.ensures.flow ∙ c.in-ReturnAccumulator.is) tt
 
 pub returns-in-ReturnAccumulator-clause-leads : goal.returns-in-ReturnAccumulator-clause-leads
 returns-in-ReturnAccumulator-clause-leads c =

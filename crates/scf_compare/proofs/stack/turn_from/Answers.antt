@@ -1,16 +1,16 @@
 -- The turns of the filter that is asked are turns of the stack, and where it ends the next one begins.
 use Rattle.std.proofs.Common.{◌≡◌, ◌+◌, ◌*◌, ◌<◌, ◌≤◌, ℕ, List, length, drop, inl, inr, sym, subst, ap, ◌∙◌, arith}
-use Rattle.std.specs.Prelude.{IfSome}
 use Rattle.std.proofs.lemmas.List.{take_all}
 use Rattle.std.proofs.Math.Nat.{mul-le-mul_left}
 use Rattle.scf_insn.specs.declared.insn.Insn.{Insn}
 use Rattle.scf_machine.specs.Precedence.{StackAnswers}
 use Rattle.scf_compare.specs.Effort.{stack_paths}
 use Rattle.scf_compare.specs.Paths.{tree_size}
+use Rattle.scf_compare.specs.internal.Ends.{FilterTells}
 use Rattle.scf_compare.specs.internal.Filters.{filter_size}
 use Rattle.scf_compare.specs.internal.Laws.{scaled_costs, paths_count}
 use Rattle.scf_compare.specs.internal.Stacks.{filter_at}
-use Rattle.scf_compare.proofs.Stacks.{is_stack_place, paths_from, plain_at}
+use Rattle.scf_compare.proofs.Stacks.{is_stack_end, paths_from, plain_at}
 use Rattle.scf_compare.proofs.stack.turn_from.Goals as goal
 
 pub filter_of-requires : goal.filter_of-requires
@@ -95,10 +95,14 @@ returns-in-Fork-clause-plain c =
     let stays = rw c.filter_of.ensures at c.in-Fork.ensures.plain in
     λ plain. absurd (stays (c.loop-next.invariant.plain plain).2)
 
+-- the end of a filter's tree is one of the stack, and so is the end at which all filters so far decide
 pub returns-then-place-count-clause-proper : goal.returns-then-place-count-clause-proper
 returns-then-place-count-clause-proper c =
-    let proper = rw c.filter_of.ensures at c.in-End.ensures.proper in
-    is_stack_place c.args.stack.now c.loop-next.place c.in-End.end.at c.loop-next.invariant.node.0 proper
+    let filters = c.args.stack.now in
+    let place = c.loop-next.place in
+    let of_filter = rw c.filter_of.ensures at c.in-End.ensures.proper in
+    c.decided_at-decided.ensures.end filters place c.loop-next.invariant.node.2
+    (is_stack_end filters place c.in-End.end c.loop-next.invariant.node.0 of_filter)
 
 pub returns-then-place-count-clause-leads : goal.returns-then-place-count-clause-leads
 returns-then-place-count-clause-leads c =
@@ -109,9 +113,9 @@ returns-then-place-count-clause-leads c =
     λ words w r.
     let before = c.loop-next.invariant.reaches words w r in
     let decided =
-    c.decided_with-older.ensures.decides filters place words c.loop-next.invariant.node.0 before.0
-    (leads words w before.1) in
-    subst (λ (all : List (List Insn)). IfSome c.decided_with-older.result (λ answer. StackAnswers all words answer.0))
+    c.decided_at-decided.ensures.decides filters place words c.loop-next.invariant.node.0 c.loop-next.invariant.node.2
+    before.0 (leads words w before.1) in
+    subst (λ (all : List (List Insn)). FilterTells (StackAnswers all) c.decided_at-decided.result words)
     (take_all (place + 1) filters past) decided
 
 pub loop-next-preserved : goal.loop-next-preserved
@@ -121,6 +125,7 @@ loop-next-preserved c =
     let size = filter_size (filter_at filters place) in
     let inside : place + 1 < length filters =
     omega (arith, c.loop-next.invariant.node.0, c.if-place-count.false, c.len-count.ensures) in
+    let of_filter = rw c.filter_of.ensures at c.in-End.ensures.proper in
     let leads = rw c.filter_of.ensures at c.in-End.ensures.leads in
     let costs : 1 ≤ size c.loop-next.node = rw c.filter_of.ensures at c.in-End.ensures.costs in
     let stays = rw c.filter_of.ensures at c.in-End.ensures.plain in
@@ -135,18 +140,23 @@ loop-next-preserved c =
     ap (λ n. n * behind) start_size ∙ sym (paths_from filters (place + 1) inside) in
     let most : newer * 1 ≤ newer * size c.loop-next.node = mul-le-mul_left newer costs in
     record {
-      node = (inside, is_node);
+      node = (
+        inside,
+        is_node,
+        c.decided_at-decided.ensures.end filters place c.loop-next.invariant.node.2
+            (is_stack_end filters place c.in-End.end c.loop-next.invariant.node.0 of_filter),
+      );
       reaches = λ words w r.
           let before = c.loop-next.invariant.reaches words w r in (
-            c.decided_with-older.ensures.decides filters place words c.loop-next.invariant.node.0 before.0
-                (leads words w before.1),
+            c.decided_at-decided.ensures.decides filters place words c.loop-next.invariant.node.0
+                c.loop-next.invariant.node.2 before.0 (leads words w before.1),
             reached words w,
           );
       size = omega (arith, whole, most, c.loop-next.invariant.size);
       plain = λ plain.
           let before = c.loop-next.invariant.plain plain in (
             before.0,
-            c.decided_with-older.ensures.known before.1 (stays before.2),
+            c.decided_at-decided.ensures.known before.1 (stays before.2),
             start_plain (plain_at filters (place + 1) before.0 inside),
           );
     }

@@ -1,4 +1,4 @@
-use Rattle.std.proofs.Common.{◌≡◌, ◌<◌, List, length, refl, sym, subst}
+use Rattle.std.proofs.Common.{◌≡◌, ◌<◌, List, length, sym, subst}
 use Rattle.std.proofs.lemmas.Option.{slice_get_within}
 use Rattle.scf_insn.specs.declared.insn.Insn.{Insn}
 use Rattle.scf_machine.specs.Plain.{IsPlainProgram}
@@ -18,6 +18,6 @@ returns-in-Some-clause-plain c =
     λ plain.
     let first = subst IsPlainProgram (sym here) (plain_at filters 0 plain inside) in (
       plain,
-      refl,
+      tt,
       subst (λ (insns : List Insn). filter_is_plain insns known node) here (c.start-node.ensures.plain first),
     )

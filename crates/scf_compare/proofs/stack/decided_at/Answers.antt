@@ -1,0 +1,37 @@
+use Rattle.std.proofs.Common.{◌+◌, ◌<ℤ◌, ◌≤ℤ◌, [], subst, take, arith}
+use Rattle.std.proofs.lemmas.Int.{ints}
+use Rattle.scf_insn.specs.Answers.{rank_of}
+use Rattle.scf_machine.specs.Precedence.{StackAnswers}
+use Rattle.scf_machine.proofs.Stacks.{one_more}
+use Rattle.scf_compare.proofs.Stacks.{first_decides, lesser_wins, other_wins}
+use Rattle.scf_compare.proofs.stack.decided_at.Goals as goal
+
+pub returns-in_default-clause-decides : goal.returns-in_default-clause-decides
+returns-in_default-clause-decides c = λ filters place words inside is_older tells run.
+    first_decides filters place words c.args.newest.answer inside (rw c.in_default.is at is_older) run
+
+pub returns-then-rank-clause-decides : goal.returns-then-rank-clause-decides
+returns-then-rank-clause-decides c =
+    let both = c.in-Some-Some in
+    let less : rank_of both.first.0 <ℤ rank_of both.last.0 =
+    omega (arith, ints, c.rank.ensures, c.rank-in-Some-Some.ensures, c.if-rank.true) in
+    λ filters place words inside is_older tells run.
+    let old = rw both.is-0 at (rw c.in-Some.is at tells) in
+    let new = rw both.is-1 at run in
+    rw both.is-0 (
+    subst (StackAnswers (take (place + 1) filters) words) (lesser_wins both.first.0 both.last.0 less)
+    (one_more filters place [] words both.first.0 both.last.0 inside old new)
+    )
+
+pub returns-else-rank-clause-decides : goal.returns-else-rank-clause-decides
+returns-else-rank-clause-decides c =
+    let both = c.in-Some-Some in
+    let most : rank_of both.last.0 ≤ℤ rank_of both.first.0 =
+    omega (arith, ints, c.rank.ensures, c.rank-in-Some-Some.ensures, c.if-rank.false) in
+    λ filters place words inside is_older tells run.
+    let old = rw both.is-0 at (rw c.in-Some.is at tells) in
+    let new = rw both.is-1 at run in
+    rw both.is-1 (
+    subst (StackAnswers (take (place + 1) filters) words) (other_wins both.first.0 both.last.0 most)
+    (one_more filters place [] words both.first.0 both.last.0 inside old new)
+    )
