@@ -6,6 +6,7 @@ pub mod Flows
 pub mod Halves
 pub mod Images
 pub mod PlainFlows
+pub mod Relations
 pub mod Ways
 pub mod Rules
 pub mod Verdicts

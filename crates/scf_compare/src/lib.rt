@@ -8,6 +8,7 @@ mod filter;
 mod flow;
 mod frontier;
 mod image;
+mod laws;
 mod pair;
 mod party;
 mod plain;
@@ -24,6 +25,7 @@ mod value;
 mod verdict;
 
 pub use comparer::{compare, compare_by, compare_stack};
+pub use laws::{no_more_and_no_less_is_one_fate, same_is_no_more_and_no_less};
 pub use plain::is_plain;
 pub use relation::Relation;
 pub use scope::Scope;
