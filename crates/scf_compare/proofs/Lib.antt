@@ -4,6 +4,7 @@ pub mod Effects
 pub mod Firsts
 pub mod Flows
 pub mod Halves
+pub mod Headline
 pub mod Images
 pub mod PlainFlows
 pub mod Relations

@@ -8,6 +8,7 @@ ghost use Rattle.scf_insn.specs.Words.{IsRecord, words_of};
 ghost use Rattle.scf_machine.specs.Precedence.{StackAnswers};
 ghost use Rattle.scf_profile.specs.Profile.{Profile, HaveNoConflict};
 ghost use Rattle.scf_profile.specs.ProfileAnswers.{ProfileAnswers};
+ghost use Rattle.scf_compare.specs.Headline.{Headline};
 ghost use Rattle.scf_compare.specs.Scope.{IsInScope, RelatedAnswersIn, SameAnswersIn};
 
 use crate::relation::Relation;
@@ -33,4 +34,9 @@ pub fn no_more_and_no_less_is_one_fate()
         → IsRecord call → IsInScope scope call
         → StackAnswers filters (words_of call) filter → ProfileAnswers p call profile
         → fate_of filter ≡ fate_of profile }
+{}
+
+/// The headline, which follows from what `check`, `compare_stack` and `compare_by` promise.
+pub fn headline()
+    ensures { Headline }
 {}

@@ -1,0 +1,25 @@
+-- The headline follows from what verdicts claim, since a stack and a profile have one answer each to a call record.
+use Rattle.std.proofs.Common.{ℕ, ◌≤◌, List, length, arith}
+use Rattle.scf_insn.specs.declared.insn.Insn.{Insn}
+use Rattle.scf_insn.specs.Words.{words_of}
+use Rattle.scf_machine.specs.Machine.{IsRun}
+use Rattle.scf_machine.specs.Rules.{IsFilter}
+use Rattle.scf_machine.proofs.Runs.{run_length, runs_safely}
+use Rattle.scf_compare.specs.Headline.{DiffersIsShown, EveryRunEnds, SameIsTrue}
+use Rattle.scf_compare.proofs.Relations.{related_here}
+
+pub every_run_ends : EveryRunEnds
+every_run_ends insns call is_filter is_record = (
+  runs_safely insns (words_of call) is_filter.valid is_filter.stored,
+  λ answer steps run.
+      let bound = run_length insns (words_of call) is_filter.valid run.last run.earlier run.chain in omega arith,
+)
+
+pub same_is_true : SameIsTrue
+same_is_true relation filters p scope steps is_profile all call is_record in_scope filter profile of_words of_profile =
+    related_here relation filters p call filter profile is_profile.no_conflict is_record (all call is_record in_scope)
+    of_words of_profile
+
+pub differs_is_shown : DiffersIsShown
+differs_is_shown relation filters p scope call filter profile shown =
+    (shown.0, shown.1, λ related. shown.4 (related filter.0 profile.0 shown.2 shown.3))
