@@ -79,11 +79,17 @@ Ends words remaining failures old ending new =
     (SpeaksOfWords words ending × (new ≡ old)) ⊎ IsAnswered words remaining failures old ending new
 
 -- The text was written and the status goes with it, or the writer failed after a beginning of the text.
+abbrev pub PrintsText : {W : Type 0} → (W → Option (List ℕ)) → (W → ℕ) → W → List ℕ → Status → ℕ → W → Type 0
+PrintsText contents failures old text with_text status new =
+    (TakesAll (contents old) text (contents new) (failures old) (failures new) × (status ≡ status_code with_text))
+    ⊎ (TakesBeginning (contents old) text (contents new) (failures old) (failures new) × (status ≡ 3))
+
 abbrev pub Prints : {W : Type 0} → (W → Option (List ℕ)) → (W → ℕ) → W → Result Reply Fault → ℕ → W → Type 0
-Prints contents failures old ending status new =
-    (TakesAll (contents old) (ending_text ending) (contents new) (failures old) (failures new)
-    × (status ≡ status_code (ending_status ending)))
-    ⊎ (TakesBeginning (contents old) (ending_text ending) (contents new) (failures old) (failures new) × (status ≡ 3))
+Prints contents failures old ending = PrintsText contents failures old (ending_text ending) (ending_status ending)
+
+-- what is printed where a word of the program's isn't UTF-8
+abbrev pub not_utf8_text : List ℕ
+not_utf8_text = codes "error: invalid UTF-8 was detected in one or more arguments\n"
 
 -- A run of the program: there is something that it ends with, which is true of the words and of standard input, and
 -- this is printed.

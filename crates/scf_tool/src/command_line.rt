@@ -1,13 +1,15 @@
 //! The words that the program takes.
 
-ghost use Rattle.std.specs.Prelude.{◌≡◌, ◌≢◌, ◌⊎◌, [], false, map, IfOk};
+ghost use Rattle.std.specs.Prelude.{◌≡◌, ◌≢◌, [], false, map, IfOk};
+ghost use Rattle.std.specs.IoError.{error_kind};
 ghost use Rattle.clap.specs.Words.{FailsBy, app_of, fault_of, kind_of, rule_of, subcommand_of, subcommand_rows_of};
 ghost use Rattle.scf_tool.specs.Requests.Command.{Compare};
-ghost use Rattle.scf_tool.specs.Runs.{flag_rule, rule_for, scf, shape_for, shape_with};
+ghost use Rattle.scf_tool.specs.Faults.{fault_line};
+ghost use Rattle.scf_tool.specs.declared.fault.Fault.TheVariants as faults;
+ghost use Rattle.scf_tool.specs.Runs.{PrintsText, flag_rule, not_utf8_text, rule_for, scf, shape_for, shape_with};
 ghost use Rattle.scf_tool.specs.internal.Parsing.{Explains, option_of, options_of};
 
 use crate::fault::Fault;
-use crate::fault_line::write_fault;
 use crate::options::{CALLS_FLAG, NATIVE_FLAG, NumberOption, call_options, limit_option};
 use crate::reply::Reply;
 use crate::status::Status;
@@ -17,9 +19,13 @@ use scf_insn::{Sink, write_whole};
 use std::alloc::{AllocError, Global};
 use std::convert::AsStr;
 use std::io;
+use std::io::ErrorKind as IoErrorKind;
 
 /// What is printed where a word isn't UTF-8.
 const NOT_UTF8: &[u8] = b"error: invalid UTF-8 was detected in one or more arguments\n";
+
+/// What is printed where memory is refused before any input is read.
+const NO_MEMORY: &[u8] = b"fault command Memory\n";
 
 /// The version that `--version` prints.
 const VERSION: &str = "0.1.0";
@@ -140,17 +146,27 @@ pub(crate) fn explain(alloc: Global, error: &Error) -> Result<Reply, Fault>
     }
 }
 
-/// Says why the program's words can't be had: one isn't UTF-8, or memory was refused. The answer is the exit status.
-pub fn refuse_words<W: Sink>(error: &io::Error, out: &mut W) -> u8
-    ensures status { (result ≡ 2) ⊎ (result ≡ 3) }
-    ensures output { result ≢ 3 → W.failures out.new ≡ W.failures out.old }
+/// Says that memory is refused before any input is read. The answer is the exit status.
+pub(crate) fn refuse_memory<W: Sink>(out: &mut W) -> u8
+    ensures { PrintsText W.contents W.failures out.old (fault_line faults.CommandLine) Status.Failed result out.new }
 {
-    let (written, status) = match error.kind() {
-        io::ErrorKind::InvalidData => (write_whole(out, NOT_UTF8), Status::CommandLine),
-        _ => (write_fault(out, Fault::CommandLine), Status::Failed),
-    };
-    match written {
-        Ok(()) => status.code(),
-        Err(_) => Status::Failed.code(),
+    let _written = write_whole(out, NO_MEMORY);
+    Status::Failed.code()
+}
+
+/// Says why the program's words can't be had: one isn't UTF-8, or memory was refused. The answer is the exit status: 2
+/// for the first, and 3 for the second and where the output fails.
+pub fn refuse_words<W: Sink>(error: &io::Error, out: &mut W) -> u8
+    ensures not_utf8 { error_kind error.now ≡ IoErrorKind.InvalidData
+        → PrintsText W.contents W.failures out.old not_utf8_text Status.CommandLine result out.new }
+    ensures memory { error_kind error.now ≢ IoErrorKind.InvalidData
+        → PrintsText W.contents W.failures out.old (fault_line faults.CommandLine) Status.Failed result out.new }
+{
+    match error.kind() {
+        IoErrorKind::InvalidData => match write_whole(out, NOT_UTF8) {
+            Ok(()) => Status::CommandLine.code(),
+            Err(_) => Status::Failed.code(),
+        },
+        _ => refuse_memory(out),
     }
 }
