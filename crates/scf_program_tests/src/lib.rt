@@ -43,3 +43,5 @@ mod texts;
 mod verification;
 #[cfg(test)]
 mod worked;
+#[cfg(test)]
+mod writes;

@@ -11,9 +11,10 @@ mod profile;
 mod stack;
 mod text;
 
-use crate::command_line::{explain, parse};
+use crate::command_line::{explain, parse, refuse_memory};
 use crate::fault::Fault;
-use crate::reply::{Reply, status_of, write_ending};
+use crate::gathered::Gathered;
+use crate::reply::{LINE_ROOM, Reply, print_ending, status_of};
 use crate::request::{Request, request_of};
 use crate::status::Status;
 use compare::compare_bundle;
@@ -71,8 +72,11 @@ pub fn run_command<T: AsStr, R: Source, W: Sink>(
         W.contents W.failures out.old out.new
         result }
 {
+    let Ok(room) = Gathered::with_room(alloc, LINE_ROOM) else {
+        return refuse_memory(out);
+    };
     let ending = ending_of(alloc, words, input);
-    match write_ending(out, &ending) {
+    match print_ending(out, &ending, room) {
         Ok(()) => status_of(&ending).code(),
         Err(_) => Status::Failed.code(),
     }

@@ -5,7 +5,7 @@ ghost use Rattle.scf_insn.specs.Insn.{program_bytes};
 ghost use Rattle.scf_tool.specs.internal.Gathering.{gathered};
 
 use scf_insn::{Failed, Insn, Memory, Sink, write_program};
-use std::alloc::Global;
+use std::alloc::{AllocError, Global};
 
 /// A writer that keeps what it takes. A write fails where memory is refused.
 #[derive(Drop)]
@@ -23,6 +23,23 @@ impl Gathered {
             bytes: Vec::new(alloc),
             failures: 0,
         }
+    }
+
+    /// Nothing was taken so far, and so many bytes can be without memory.
+    pub(crate) fn with_room(alloc: Global, room: usize) -> Result<Gathered, AllocError>
+        ensures { IfOk result (λ g. gathered g ≡ []) }
+    {
+        Ok(Gathered {
+            bytes: Vec::with_capacity(alloc, room)?,
+            failures: 0,
+        })
+    }
+
+    /// What was taken.
+    pub(crate) fn as_bytes(&self) -> &[u8]
+        ensures { result.now ≡ gathered self.now }
+    {
+        &self.bytes
     }
 
     /// What was taken.

@@ -1,20 +1,22 @@
 //! What the program prints, and its exit status.
 
-ghost use Rattle.std.specs.Prelude.{◌≡◌, ◌++◌, codes};
+ghost use Rattle.std.specs.Prelude.{◌≡◌, ◌++◌, [], codes};
 ghost use Rattle.std.specs.Fmt.{decimal};
 ghost use Rattle.scf_insn.specs.Streams.{Writes};
 ghost use Rattle.scf_tool.specs.Lines.{answer_text, steps_text};
 ghost use Rattle.scf_tool.specs.Replies.{ending_status, ending_text};
+ghost use Rattle.scf_tool.specs.internal.Gathering.{gathered};
 
 use crate::fault::Fault;
 use crate::fault_line::write_fault;
+use crate::gathered::Gathered;
 use crate::lines::{write_answer, write_steps};
 use crate::pieces::{Piece, write_pieces};
 use crate::status::Status;
 use scf_insn::{Answer, Sink, WriteFault, write_whole};
 use scf_machine::Ran;
 
-/// What a command found, ready to be printed: printing it takes no memory.
+/// What a command found, ready to be printed: printing it takes no memory but a line's room.
 #[derive(Drop)]
 pub(crate) enum Reply {
     /// The text of the command line's reader: help, the version, or what is wrong with the words.
@@ -69,11 +71,8 @@ fn write_decided<S: Sink>(sink: &mut S, answer: Answer) -> Result<(), WriteFault
     write_whole(sink, b"\n")
 }
 
-/// Writes what a command ended with, or fails after a beginning of its text.
-pub(crate) fn write_ending<S: Sink>(
-    sink: &mut S,
-    ending: &Result<Reply, Fault>,
-) -> Result<(), WriteFault>
+/// Writes what a command ended with, piece by piece.
+fn write_ending<S: Sink>(sink: &mut S, ending: &Result<Reply, Fault>) -> Result<(), WriteFault>
     ensures { Writes S.contents S.failures sink.old (ending_text ending.now) result sink.new }
 {
     match ending {
@@ -84,5 +83,33 @@ pub(crate) fn write_ending<S: Sink>(
         Ok(Reply::Bytes(bytes)) => write_whole(sink, bytes),
         Ok(Reply::Compared { text, .. }) => write_whole(sink, text),
         Err(fault) => write_fault(sink, *fault),
+    }
+}
+
+/// The room that is kept for a line before a command reads its input. Each line of a fault, a check and an answer is
+/// shorter.
+pub(crate) const LINE_ROOM: usize = 256;
+
+/// Writes what a command ended with, at once, or fails after a beginning of its text. A line is put together in its
+/// room.
+pub(crate) fn print_ending<S: Sink>(
+    sink: &mut S,
+    ending: &Result<Reply, Fault>,
+    room: Gathered,
+) -> Result<(), WriteFault>
+    requires { gathered room ≡ [] }
+    ensures { Writes S.contents S.failures sink.old (ending_text ending.now) result sink.new }
+{
+    match ending {
+        Ok(Reply::CommandLine { .. } | Reply::Bytes(_) | Reply::Compared { .. }) => write_ending(
+            sink, ending,
+        ),
+        _ => {
+            let mut line = room;
+            match write_ending(&mut line, ending) {
+                Ok(()) => write_whole(sink, line.as_bytes()),
+                Err(_) => write_ending(sink, ending),
+            }
+        }
     }
 }

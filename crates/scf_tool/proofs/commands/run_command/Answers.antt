@@ -1,0 +1,10 @@
+use Rattle.std.proofs.Common.{Err, inl, refl}
+use Rattle.scf_tool.specs.declared.fault.Fault.TheVariants as faults
+use Rattle.scf_tool.proofs.commands.run_command.Goals as goal
+
+pub returns-in_default : goal.returns-in_default
+returns-in_default g c = record {
+  ending = Err faults.CommandLine;
+  ends = inl (tt, refl);
+  prints = c.refuse_memory.ensures;
+}
