@@ -5,6 +5,7 @@ mod JointLemmas
 pub mod HeaderLemmas
 mod OptionLemmas
 mod PartyLemmas
+mod ReadLemmas
 pub mod StackLemmas
 mod CommandLineLemmas
 pub mod Refusals

@@ -3,6 +3,7 @@
 use Rattle.std.specs.Prelude.{◌≡◌, ◌≢◌, ◌<◌, ◌≤◌, ℕ, List, [], ◌∷◌, length, map, Option, Some, Result, Ok, Err, IfSome}
 use Rattle.scf_insn.specs.declared.encoding.ReadFault.TheVariants as reads
 use Rattle.scf_insn.specs.declared.input.InputFault.{InputFault}
+use Rattle.scf_insn.specs.declared.input.InputFault.TheVariants as inputs
 use Rattle.scf_insn.specs.declared.insn.Insn.{Insn}
 use Rattle.scf_insn.specs.declared.record.CallRecord.{CallRecord}
 use Rattle.scf_insn.specs.Insn.{program_bytes}
@@ -36,6 +37,7 @@ use Rattle.scf_tool.specs.declared.request.Scopes.{Scopes}
 use Rattle.scf_tool.specs.declared.request.Scopes.TheVariants.{All, Native, EachCall}
 use Rattle.scf_tool.specs.declared.verification.Outcome.{Outcome}
 use Rattle.scf_tool.specs.declared.verification.VerifyFault.{VerifyFault}
+use Rattle.scf_tool.specs.declared.verification.VerifyFault.TheVariants as verifies
 use Rattle.scf_tool.specs.declared.status.Status.{Status}
 use Rattle.scf_tool.specs.Bundle.{IsBundle, IsBundleFault}
 use Rattle.scf_tool.specs.CallReports.{calls_text, joint_of}
@@ -211,11 +213,17 @@ IsReported All = IsReportedIn scopes.All
 IsReported Native = IsReportedIn scopes.Native
 IsReported EachCall = IsReportedByCall
 
+-- No read of a filter, a table or a profile failed: they are parts of a bundle that was read before.
+pub record NoReadFailed (fault : VerifyFault) : Type 0 where
+  pub of_filter : fault ≢ verifies.FilterRead reads.Read
+  pub of_table : fault ≢ verifies.TableRead inputs.Read
+  pub of_profile : fault ≢ verifies.ProfileRead inputs.Read
+
 -- filters, a profile and a table come to a report, or are refused
 abbrev pub ComesTo : (List ℕ → Status → Type 0) → List (List ℕ) → List ℕ → List ℕ → Result Reply VerifyFault → Type 0
 ComesTo reported filters profile table (Ok (Compared text status)) = reported text.items status
 ComesTo reported filters profile table (Err fault) =
-    IsRefusedStack (map Some filters) (Some table) (Some profile) fault
+    NoReadFailed fault × IsRefusedStack (map Some filters) (Some table) (Some profile) fault
 ComesTo reported filters profile table reply = ⊥
 
 -- what filters, a profile and a table come to
