@@ -24,6 +24,7 @@ use Rattle.scf_compile.specs.SizeBound.{size_bound_of}
 use Rattle.scf_tool.specs.declared.fault.Fault.{Fault}
 use Rattle.scf_tool.specs.declared.fault.Fault.TheVariants as faults
 use Rattle.scf_tool.specs.declared.filter.FilterFault.TheVariants as filters
+use Rattle.scf_compare.specs.declared.relation.Relation.TheVariants as relations
 use Rattle.scf_compare.specs.declared.scope.Scope.{Scope}
 use Rattle.scf_compare.specs.declared.scope.Scope.TheVariants as scopes
 use Rattle.scf_tool.specs.declared.call_verification.CallsOutcome.{CallsOutcome}
@@ -47,7 +48,7 @@ use Rattle.scf_tool.specs.Reports.{report_text}
 use Rattle.scf_tool.specs.Statuses.{joint_status, verdict_status}
 use Rattle.scf_tool.specs.Verifying.{IsFilter}
 use Rattle.scf_tool.specs.VerifyingCalls.{AreVerifiedCalls}
-use Rattle.scf_tool.specs.VerifyingStacks.{IsRefusedStack, IsVerifiedStack}
+use Rattle.scf_tool.specs.VerifyingStacks.{IsRefusedStack, IsVerifiedBy}
 
 -- ---- standard input
 
@@ -195,8 +196,8 @@ AreCompared filters profiles tables = (1 ≤ filters) × (profiles ≡ 1) × (ta
 pub record IsReportedIn (scope : Scope) (filters : List (List ℕ)) (profile table : List ℕ) (limit : ℕ)
     (text : List ℕ) (status : Status) : Type 0 where
   pub outcome : Outcome
-  pub verified : IsVerifiedStack (map Some filters) (Some table) (Some profile) scope limit outcome
-  pub reported : text ≡ report_text outcome
+  pub verified : IsVerifiedBy relations.Same (map Some filters) (Some table) (Some profile) scope limit outcome
+  pub reported : text ≡ report_text relations.Same outcome
   pub with_verdict : status ≡ verdict_status outcome.verdict
 
 -- The text is the report of the outcome of filters, a profile and a table call by call, and the status goes with the
@@ -204,8 +205,8 @@ pub record IsReportedIn (scope : Scope) (filters : List (List ℕ)) (profile tab
 pub record IsReportedByCall (filters : List (List ℕ)) (profile table : List ℕ) (limit : ℕ)
     (text : List ℕ) (status : Status) : Type 0 where
   pub outcome : CallsOutcome
-  pub verified : AreVerifiedCalls (map Some filters) (Some table) (Some profile) limit outcome
-  pub reported : text ≡ calls_text outcome
+  pub verified : AreVerifiedCalls relations.Same (map Some filters) (Some table) (Some profile) limit outcome
+  pub reported : text ≡ calls_text relations.Same outcome
   pub with_verdict : status ≡ joint_status (joint_of outcome.calls.items)
 
 abbrev pub IsReported : Scopes → List (List ℕ) → List ℕ → List ℕ → ℕ → List ℕ → Status → Type 0

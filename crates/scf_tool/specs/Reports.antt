@@ -3,6 +3,8 @@ use Rattle.std.specs.Prelude.{ℕ, List, ◌++◌, codes}
 use Rattle.std.specs.List.{flat_map}
 use Rattle.std.specs.Fmt.{decimal}
 use Rattle.scf_insn.specs.declared.record.CallRecord.{CallRecord}
+use Rattle.scf_compare.specs.declared.relation.Relation.{Relation}
+use Rattle.scf_compare.specs.declared.relation.Relation.TheVariants as relations
 use Rattle.scf_compare.specs.declared.verdict.Verdict.{Verdict}
 use Rattle.scf_compare.specs.declared.verdict.Verdict.TheVariants.{Same, Differs, Undecided, Unfinished}
 use Rattle.scf_tool.specs.declared.verification.Outcome.{Outcome}
@@ -27,14 +29,29 @@ call_line call =
 abbrev pub answer_line : List ℕ → ℕ → List ℕ
 answer_line who answer = (who ++ codes " ") ++ (answer_text answer ++ codes "\n")
 
--- the lines of a verdict
-abbrev pub verdict_text : Verdict → List ℕ
-verdict_text (Same steps) = codes "same\n"
-verdict_text (Differs call filter profile) =
-    codes "differs\n"
+-- what is said where a relation holds of all answers, and where it doesn't hold of two
+abbrev pub holding : Relation → List ℕ
+holding relations.Same = codes "same"
+holding relations.NoMore = codes "no more"
+holding relations.NoLess = codes "no less"
+
+abbrev pub failing : Relation → List ℕ
+failing relations.Same = codes "differs"
+failing relations.NoMore = codes "more"
+failing relations.NoLess = codes "less"
+
+-- a line of one word or two
+abbrev pub word_line : List ℕ → List ℕ
+word_line word = word ++ codes "\n"
+
+-- the lines of a verdict on a relation
+abbrev pub verdict_text : Relation → Verdict → List ℕ
+verdict_text relation (Same steps) = word_line (holding relation)
+verdict_text relation (Differs call filter profile) =
+    word_line (failing relation)
     ++ (call_line call ++ (answer_line (codes "filter") filter.0 ++ answer_line (codes "profile") profile.0))
-verdict_text (Undecided at) = codes "undecided at " ++ decimal at ++ codes "\n"
-verdict_text Unfinished = codes "unfinished\n"
+verdict_text relation (Undecided at) = codes "undecided at " ++ decimal at ++ codes "\n"
+verdict_text relation Unfinished = codes "unfinished\n"
 
 -- a word and a name
 abbrev pub name_line : List ℕ → List ℕ → List ℕ
@@ -45,6 +62,7 @@ abbrev pub left_out_text : List (List ℕ) → List (List ℕ) → List ℕ
 left_out_text skipped others =
     flat_map (name_line (codes "skipped")) skipped ++ flat_map (name_line (codes "other")) others
 
--- The lines of an outcome: those of the verdict, and of what was left out.
-abbrev pub report_text : Outcome → List ℕ
-report_text outcome = verdict_text outcome.verdict ++ left_out_text outcome.skipped outcome.other_architectures
+-- The lines of an outcome: those of the verdict on a relation, and of what was left out.
+abbrev pub report_text : Relation → Outcome → List ℕ
+report_text relation outcome =
+    verdict_text relation outcome.verdict ++ left_out_text outcome.skipped outcome.other_architectures

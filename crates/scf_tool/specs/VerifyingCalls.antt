@@ -7,6 +7,8 @@ use Rattle.scf_profile.specs.References.{texts_at}
 use Rattle.scf_profile.specs.declared.named_call.NamedCall.{NamedCall}
 use Rattle.scf_profile.specs.Profile.{Profile}
 use Rattle.scf_profile.specs.Table.{Names}
+use Rattle.scf_compare.specs.declared.relation.Relation.{Relation}
+use Rattle.scf_compare.specs.declared.relation.Relation.TheVariants.{Same}
 use Rattle.scf_compare.specs.declared.scope.Scope.TheVariants.{Call}
 use Rattle.scf_tool.specs.declared.call_verification.CallVerdict.{CallVerdict}
 use Rattle.scf_tool.specs.declared.call_verification.CallsOutcome.{CallsOutcome}
@@ -22,27 +24,34 @@ abbrev pub told_of : CallVerdict → ℕ × List (List ℕ)
 told_of call = (call.number, call.names)
 
 -- the verdict on a call is one on the stack and the profile over the records of its number, under the whole limit
-abbrev pub IsVerdictOnCall : List (List Insn) → Profile → ℕ → CallVerdict → Type 0
-IsVerdictOnCall stack p limit call = IsComparison stack p (Call call.number) limit call.verdict
+abbrev pub IsVerdictOnCall : Relation → List (List Insn) → Profile → ℕ → CallVerdict → Type 0
+IsVerdictOnCall relation stack p limit call = IsComparison relation stack p (Call call.number) limit call.verdict
 
 -- These are the calls of a table, and each is compared by itself.
-pub record AreComparedCalls (stack : List (List Insn)) (names : Names) (p : Profile) (limit : ℕ)
+pub record AreComparedCalls (relation : Relation) (stack : List (List Insn)) (names : Names) (p : Profile) (limit : ℕ)
     (calls : List CallVerdict) : Type 0 where
   pub of_table : List NamedCall
   pub are_calls : AreCallsOf names of_table
   pub told : map told_of calls ≡ map named of_table
-  pub compared : All (IsVerdictOnCall stack p limit) calls
+  pub compared : All (IsVerdictOnCall relation stack p limit) calls
 
 -- The bytes are a stack of filters, a call table and a profile, and the calls are those of that table, compared with
--- that stack and that profile.
-abbrev pub AreVerifiedCalls : List (Option (List ℕ)) → Option (List ℕ) → Option (List ℕ) → ℕ → CallsOutcome → Type 0
-AreVerifiedCalls filters table profile limit outcome =
+-- that stack and that profile by a relation.
+abbrev pub AreVerifiedCalls : Relation → List (Option (List ℕ)) → Option (List ℕ) → Option (List ℕ) → ℕ → CallsOutcome
+    → Type 0
+AreVerifiedCalls relation filters table profile limit outcome =
     AreComparedParties filters table profile outcome.skipped outcome.other_architectures
-    (λ stack names p. AreComparedCalls stack names p limit outcome.calls.items)
+    (λ stack names p. AreComparedCalls relation stack names p limit outcome.calls.items)
 
--- What the comparison of a stack with a profile call by call, from the bytes of their readers, answers. The faults are
--- those of the comparison of a stack.
+-- What the comparison of a stack with a profile call by call and by a relation, from the bytes of their readers,
+-- answers. The faults are those of the comparison of a stack.
+abbrev pub VerifiesCallsBy : Relation → List (Option (List ℕ)) → Option (List ℕ) → Option (List ℕ) → ℕ
+    → Result CallsOutcome VerifyFault → Type 0
+VerifiesCallsBy relation filters table profile limit (Ok outcome) =
+    AreVerifiedCalls relation filters table profile limit outcome
+VerifiesCallsBy relation filters table profile limit (Err fault) = IsRefusedStack filters table profile fault
+
+-- by the same answers
 abbrev pub VerifiesCalls : List (Option (List ℕ)) → Option (List ℕ) → Option (List ℕ) → ℕ
     → Result CallsOutcome VerifyFault → Type 0
-VerifiesCalls filters table profile limit (Ok outcome) = AreVerifiedCalls filters table profile limit outcome
-VerifiesCalls filters table profile limit (Err fault) = IsRefusedStack filters table profile fault
+VerifiesCalls filters table profile limit result = VerifiesCallsBy Same filters table profile limit result

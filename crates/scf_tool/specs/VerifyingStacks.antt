@@ -8,11 +8,13 @@ use Rattle.scf_profile.specs.declared.loaded.Loaded.{Loaded}
 use Rattle.scf_profile.specs.Profile.{Profile}
 use Rattle.scf_profile.specs.PlainProfile.{IsPlainProfile}
 use Rattle.scf_profile.specs.Table.{Names}
+use Rattle.scf_compare.specs.declared.relation.Relation.{Relation}
+use Rattle.scf_compare.specs.declared.relation.Relation.TheVariants.{Same}
 use Rattle.scf_compare.specs.declared.scope.Scope.{Scope}
 use Rattle.scf_compare.specs.declared.verdict.Verdict.{Verdict}
 use Rattle.scf_compare.specs.Effort.{effort_of_stack}
-use Rattle.scf_compare.specs.Scope.{SameAnswersIn}
-use Rattle.scf_compare.specs.Verdicts.{IsTrueOfStack, IsWithin, IsDecided}
+use Rattle.scf_compare.specs.Scope.{RelatedAnswersIn}
+use Rattle.scf_compare.specs.Verdicts.{IsTrueOfStackBy, IsWithin, IsDecided}
 use Rattle.scf_tool.specs.declared.filter.FilterFault.TheVariants as reads
 use Rattle.scf_tool.specs.declared.filter_stack.StackFault.TheVariants as stacks
 use Rattle.scf_tool.specs.declared.verification.Outcome.{Outcome}
@@ -22,14 +24,14 @@ use Rattle.scf_tool.specs.declared.verification.VerifyFault.TheVariants.{Profile
 use Rattle.scf_tool.specs.FilterStacks.{HasStack, HasNoStack, HaveEnded, HaveStopped}
 use Rattle.scf_tool.specs.Verifying.{IsTable, IsLoaded, HasTable, HasProfile, IsUnread, IsRefusedTable, IsRefusedProfile}
 
--- A verdict is true of a stack and a profile over the calls of a scope, and within the limit and the effort. It decides
--- between plain filters and a plain profile.
-pub record IsComparison (stack : List (List Insn)) (p : Profile) (scope : Scope) (limit : ℕ) (verdict : Verdict)
-    : Type 0 where
-  pub holds : IsTrueOfStack stack p scope verdict
+-- A verdict on a relation is true of a stack and a profile over the calls of a scope, and within the limit and the
+-- effort. It decides between plain filters and a plain profile.
+pub record IsComparison (relation : Relation) (stack : List (List Insn)) (p : Profile) (scope : Scope) (limit : ℕ)
+    (verdict : Verdict) : Type 0 where
+  pub holds : IsTrueOfStackBy relation stack p scope verdict
   pub within : IsWithin limit (effort_of_stack stack p) verdict
   pub decided : All IsPlainProgram stack → IsPlainProfile p
-      → IsDecided (SameAnswersIn scope (StackAnswers stack) p) limit (effort_of_stack stack p) verdict
+      → IsDecided (RelatedAnswersIn relation scope (StackAnswers stack) p) limit (effort_of_stack stack p) verdict
 
 -- The bytes are a stack of filters, a call table and a profile, whose skipped names and other architectures these are,
 -- and this holds of that stack, that table and that profile.
@@ -45,11 +47,12 @@ pub record AreComparedParties (filters : List (Option (List ℕ))) (table profil
   pub other_architectures : others ≡ loaded.other_architectures
   pub compared : holds stack names loaded.profile
 
--- They are compared, and the verdict is one on that stack and that profile.
-abbrev pub IsVerifiedStack : List (Option (List ℕ)) → Option (List ℕ) → Option (List ℕ) → Scope → ℕ → Outcome → Type 0
-IsVerifiedStack filters table profile scope limit outcome =
+-- They are compared by a relation, and the verdict is one on that stack and that profile.
+abbrev pub IsVerifiedBy : Relation → List (Option (List ℕ)) → Option (List ℕ) → Option (List ℕ) → Scope → ℕ → Outcome
+    → Type 0
+IsVerifiedBy relation filters table profile scope limit outcome =
     AreComparedParties filters table profile outcome.skipped outcome.other_architectures
-    (λ stack names p. IsComparison stack p scope limit outcome.verdict)
+    (λ stack names p. IsComparison relation stack p scope limit outcome.verdict)
 
 abbrev pub HasSomeStack : List (Option (List ℕ)) → Type 0
 HasSomeStack filters = (stack : List (List Insn)) × HasStack filters stack
@@ -67,11 +70,17 @@ IsRefusedStack filters table profile (RefusedProfile fault) =
     HasSomeStack filters × IsRefusedProfile table profile fault
 IsRefusedStack filters table profile Memory = HasSomeStack filters × HasProfile table profile
 
--- What the comparison of a stack with a profile, from the bytes of their readers, answers.
+-- What the comparison of a stack with a profile by a relation, from the bytes of their readers, answers.
+abbrev pub VerifiesBy : Relation → List (Option (List ℕ)) → Option (List ℕ) → Option (List ℕ) → Scope → ℕ
+    → Result Outcome VerifyFault → Type 0
+VerifiesBy relation filters table profile scope limit (Ok outcome) =
+    IsVerifiedBy relation filters table profile scope limit outcome
+VerifiesBy relation filters table profile scope limit (Err fault) = IsRefusedStack filters table profile fault
+
+-- by the same answers
 abbrev pub VerifiesStack : List (Option (List ℕ)) → Option (List ℕ) → Option (List ℕ) → Scope → ℕ
     → Result Outcome VerifyFault → Type 0
-VerifiesStack filters table profile scope limit (Ok outcome) = IsVerifiedStack filters table profile scope limit outcome
-VerifiesStack filters table profile scope limit (Err fault) = IsRefusedStack filters table profile fault
+VerifiesStack filters table profile scope limit result = VerifiesBy Same filters table profile scope limit result
 
 -- How the filters' readers are left. They are read first, each after those before it.
 abbrev pub LeavesFilterReaders : {R T : Type 0} → (R → Option (List ℕ)) → (R → ℕ)

@@ -4,6 +4,7 @@ ghost use Rattle.std.specs.Prelude.{◌≡◌, ◌++◌, codes, not, string_byte
 ghost use Rattle.std.specs.Fmt.{decimal};
 ghost use Rattle.std.specs.List.{flat_map, join_by};
 ghost use Rattle.scf_insn.specs.Streams.{Writes};
+ghost use Rattle.scf_tool.specs.Reports as words;
 ghost use Rattle.scf_tool.specs.CallReports.{
   calls_text,
   difference_text,
@@ -22,8 +23,10 @@ use crate::call_verification::{CallVerdict, CallsOutcome};
 use crate::gathered::Gathered;
 use crate::lines::write_answer;
 use crate::pieces::{Piece, write_pieces};
-use crate::reporting::{write_answer_line, write_arguments, write_left_out, write_verdict};
-use scf_compare::Verdict;
+use crate::reporting::{
+    failing, holding, write_answer_line, write_arguments, write_left_out, write_verdict, write_word,
+};
+use scf_compare::{Relation, Verdict};
 use scf_insn::{Answer, Memory, Sink, WriteFault, write_whole};
 use scf_profile::Texts;
 use std::alloc::Global;
@@ -40,7 +43,7 @@ fn agrees(verdict: &Verdict) -> bool
     matches!(verdict, Verdict::Same { .. })
 }
 
-/// The verdict, where it isn't that all answers are the same.
+/// The verdict, where it isn't that the relation holds of all answers.
 fn unless_same(verdict: Verdict) -> Option<Verdict>
     ensures { result ≡ (if not (is_same verdict) then Some verdict else None) }
 {
@@ -51,7 +54,7 @@ fn unless_same(verdict: Verdict) -> Option<Verdict>
     }
 }
 
-/// The verdict that speaks for all calls: the first that differs, else the first that isn't the same. None where all
+/// The verdict that speaks for all calls: the first that differs, else the first that isn't Same. None where all
 /// are.
 pub(crate) fn joint_verdict(calls: &[CallVerdict]) -> Option<Verdict>
     ensures { result ≡ joint_of calls.now }
@@ -66,13 +69,17 @@ pub(crate) fn joint_verdict(calls: &[CallVerdict]) -> Option<Verdict>
     first
 }
 
-fn write_joint<S: Sink>(sink: &mut S, joint: Option<Verdict>) -> Result<(), WriteFault>
-    ensures { Writes S.contents S.failures sink.old (joint_text joint) result sink.new }
+fn write_joint<S: Sink>(
+    sink: &mut S,
+    relation: Relation,
+    joint: Option<Verdict>,
+) -> Result<(), WriteFault>
+    ensures { Writes S.contents S.failures sink.old (joint_text relation joint) result sink.new }
 {
     match joint {
-        None => write_whole(sink, b"same\n"),
-        Some(Verdict::Differs { .. }) => write_whole(sink, b"differs\n"),
-        Some(verdict) => write_verdict(sink, &verdict),
+        None => write_word(sink, holding(relation)),
+        Some(Verdict::Differs { .. }) => write_word(sink, failing(relation)),
+        Some(verdict) => write_verdict(sink, relation, &verdict),
     }
 }
 
@@ -127,66 +134,97 @@ fn write_front<S: Sink>(sink: &mut S, call: &CallVerdict) -> Result<(), WriteFau
     write_whole(sink, b" ")
 }
 
-/// Writes the arguments of a call and its two answers.
+/// Writes that a relation doesn't hold, in front of the arguments.
+fn write_failing<S: Sink>(sink: &mut S, relation: Relation) -> Result<(), WriteFault>
+    ensures { Writes S.contents S.failures sink.old (words.failing relation ++ codes " args") result sink.new }
+{
+    write_pieces(
+        sink,
+        &[Piece::Text(failing(relation)), Piece::Text(" args")],
+    )
+}
+
+/// Writes that a relation doesn't hold, the arguments of a call and its two answers.
 fn write_answered<S: Sink>(
     sink: &mut S,
+    relation: Relation,
     arguments: &[u64],
     filter: Answer,
     profile: Answer,
 ) -> Result<(), WriteFault>
-    ensures { Writes S.contents S.failures sink.old (difference_text arguments.now filter.0 profile.0) result sink.new }
+    ensures { Writes S.contents S.failures sink.old (difference_text relation arguments.now filter.0 profile.0) result sink.new }
 {
-    write_whole(sink, b"differs args")?;
+    write_failing(sink, relation)?;
     write_arguments(sink, arguments)?;
     write_whole(sink, b" filter ")?;
     write_answer(sink, filter)?;
     write_answer_line(sink, " profile", profile)
 }
 
-fn write_found<S: Sink>(sink: &mut S, verdict: &Verdict) -> Result<(), WriteFault>
-    ensures { Writes S.contents S.failures sink.old (found_text verdict.now) result sink.new }
+fn write_found<S: Sink>(
+    sink: &mut S,
+    relation: Relation,
+    verdict: &Verdict,
+) -> Result<(), WriteFault>
+    ensures { Writes S.contents S.failures sink.old (found_text relation verdict.now) result sink.new }
 {
     match verdict {
         Verdict::Differs {
             call,
             filter,
             profile,
-        } => write_answered(sink, &call.args, *filter, *profile),
-        _ => write_verdict(sink, verdict),
+        } => write_answered(sink, relation, &call.args, *filter, *profile),
+        _ => write_verdict(sink, relation, verdict),
     }
 }
 
-/// Writes the line of a call that isn't the same, and nothing of one that is.
-fn write_named<S: Sink>(sink: &mut S, call: &CallVerdict) -> Result<(), WriteFault>
-    ensures { Writes S.contents S.failures sink.old (named_line call.now) result sink.new }
+/// Writes the line of a call of which the relation doesn't hold, and nothing of one of which it does.
+fn write_named<S: Sink>(
+    sink: &mut S,
+    relation: Relation,
+    call: &CallVerdict,
+) -> Result<(), WriteFault>
+    ensures { Writes S.contents S.failures sink.old (named_line relation call.now) result sink.new }
 {
     if agrees(&call.verdict) {
         return Ok(());
     }
     write_front(sink, call)?;
-    write_found(sink, &call.verdict)
+    write_found(sink, relation, &call.verdict)
 }
 
-fn write_calls<S: Sink>(sink: &mut S, calls: &[CallVerdict]) -> Result<(), WriteFault>
-    ensures { Writes S.contents S.failures sink.old (flat_map named_line calls.now) result sink.new }
+fn write_calls<S: Sink>(
+    sink: &mut S,
+    relation: Relation,
+    calls: &[CallVerdict],
+) -> Result<(), WriteFault>
+    ensures { Writes S.contents S.failures sink.old (flat_map (named_line relation) calls.now) result sink.new }
 {
     for call in calls {
-        write_named(sink, call)?;
+        write_named(sink, relation, call)?;
     }
     Ok(())
 }
 
-fn write_verdicts<S: Sink>(sink: &mut S, calls: &[CallVerdict]) -> Result<(), WriteFault>
-    ensures { Writes S.contents S.failures sink.old (verdicts_text calls.now) result sink.new }
+fn write_verdicts<S: Sink>(
+    sink: &mut S,
+    relation: Relation,
+    calls: &[CallVerdict],
+) -> Result<(), WriteFault>
+    ensures { Writes S.contents S.failures sink.old (verdicts_text relation calls.now) result sink.new }
 {
-    write_joint(sink, joint_verdict(calls))?;
-    write_calls(sink, calls)
+    write_joint(sink, relation, joint_verdict(calls))?;
+    write_calls(sink, relation, calls)
 }
 
-fn write_calls_outcome<S: Sink>(sink: &mut S, outcome: &CallsOutcome) -> Result<(), WriteFault>
-    ensures { Writes S.contents S.failures sink.old (calls_text outcome.now) result sink.new }
+fn write_calls_outcome<S: Sink>(
+    sink: &mut S,
+    relation: Relation,
+    outcome: &CallsOutcome,
+) -> Result<(), WriteFault>
+    ensures { Writes S.contents S.failures sink.old (calls_text relation outcome.now) result sink.new }
 {
-    write_verdicts(sink, &outcome.calls)?;
+    write_verdicts(sink, relation, &outcome.calls)?;
     write_left_out(sink, &outcome.skipped, &outcome.other_architectures)
 }
 
@@ -196,10 +234,22 @@ fn write_calls_outcome<S: Sink>(sink: &mut S, outcome: &CallsOutcome) -> Result<
 /// The joint verdict is `same` where every call is the same, and `differs` where one differs; else it is that of the
 /// first call that isn't the same.
 pub fn report_calls(alloc: Global, outcome: &CallsOutcome) -> Result<Vec<u8>, Memory>
-    ensures { IfOk result (λ text. text.items ≡ calls_text outcome.now) }
+    ensures { IfOk result (λ text. text.items ≡ calls_text Relation.Same outcome.now) }
+{
+    report_calls_by(alloc, Relation::Same, outcome)
+}
+
+/// What the program prints of an outcome call by call and by a relation, which `report_calls` does of the same answers.
+/// In place of `same` it says `no more` or `no less`, and in place of `differs` `more` or `less`.
+pub fn report_calls_by(
+    alloc: Global,
+    relation: Relation,
+    outcome: &CallsOutcome,
+) -> Result<Vec<u8>, Memory>
+    ensures { IfOk result (λ text. text.items ≡ calls_text relation outcome.now) }
 {
     let mut text = Gathered::new(alloc);
-    match write_calls_outcome(&mut text, outcome) {
+    match write_calls_outcome(&mut text, relation, outcome) {
         Ok(()) => Ok(text.into_bytes()),
         Err(_) => Err(Memory),
     }

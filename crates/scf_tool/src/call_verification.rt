@@ -3,12 +3,19 @@
 ghost use Rattle.std.specs.Prelude.{◌≡◌, IfOk, map};
 ghost use Rattle.scf_profile.specs.References.{texts_at};
 ghost use Rattle.scf_tool.specs.Verifying.{LeavesProfileReader, LeavesTableReader};
-ghost use Rattle.scf_tool.specs.VerifyingCalls.{AreComparedCalls, IsVerdictOnCall, VerifiesCalls, named, told_of};
+ghost use Rattle.scf_tool.specs.VerifyingCalls.{
+  AreComparedCalls,
+  IsVerdictOnCall,
+  VerifiesCalls,
+  VerifiesCallsBy,
+  named,
+  told_of,
+};
 ghost use Rattle.scf_tool.specs.VerifyingStacks.{LeavesFilterReaders};
 
 use crate::parties::read_parties;
 use crate::verification::VerifyFault;
-use scf_compare::{Scope, Verdict, compare_stack};
+use scf_compare::{Relation, Scope, Verdict, compare_by};
 use scf_facts::WordSets;
 use scf_insn::{Memory, Source};
 use scf_machine::FilterStack;
@@ -47,22 +54,24 @@ fn kept(alloc: Global, words: &[&str]) -> Result<Texts, AllocError>
     Ok(Texts::from_vec(list))
 }
 
-/// Compares a stack of filters with a profile over the records of a call.
+/// Compares a stack of filters with a profile over the records of a call by a relation.
 fn compare_call(
     alloc: Global,
     stack: &FilterStack,
     profile: &Profile,
     call: &NamedCall<'_>,
+    relation: Relation,
     limit: u64,
 ) -> Result<CallVerdict, Memory>
     ensures call { IfOk result (λ own. told_of own ≡ named call.now) }
-    ensures compared { IfOk result (IsVerdictOnCall stack.now profile.now limit) }
+    ensures compared { IfOk result (IsVerdictOnCall relation stack.now profile.now limit) }
 {
-    let verdict = compare_stack::<WordSets>(
+    let verdict = compare_by::<WordSets>(
         alloc,
         stack,
         profile,
         Scope::Call(call.number),
+        relation,
         limit,
     )?;
     Ok(CallVerdict {
@@ -72,20 +81,21 @@ fn compare_call(
     })
 }
 
-/// Compares a stack of filters with a profile over the records of each call of a table.
+/// Compares a stack of filters with a profile over the records of each call of a table by a relation.
 fn compare_calls(
     alloc: Global,
     stack: &FilterStack,
     profile: &Profile,
     table: &CallTable,
+    relation: Relation,
     limit: u64,
 ) -> Result<Vec<CallVerdict>, Memory>
-    ensures { IfOk result (λ calls. AreComparedCalls stack.now table.now profile.now limit calls.items) }
+    ensures { IfOk result (λ calls. AreComparedCalls relation stack.now table.now profile.now limit calls.items) }
 {
     let calls = table.calls(alloc)?;
     let mut verdicts = Vec::new(alloc);
     for call in &calls {
-        let verdict = compare_call(alloc, stack, profile, call, limit)?;
+        let verdict = compare_call(alloc, stack, profile, call, relation, limit)?;
         verdicts.push(verdict)?;
     }
     Ok(verdicts)
@@ -109,6 +119,35 @@ pub fn verify_calls<F: Source, P: Source, T: Source>(
     ensures table_reader { LeavesTableReader T.remaining T.failures table_reader.old result table_reader.new }
     ensures profile_reader { LeavesProfileReader P.remaining P.failures profile_reader.old result profile_reader.new }
 {
+    verify_calls_by(
+        alloc,
+        filter_readers,
+        profile_reader,
+        table_reader,
+        Relation::Same,
+        limit,
+    )
+}
+
+/// Compares the stack of filters with the profile that readers have, call by call and by a relation: each call that the
+/// table names, by itself and in at most `limit` steps.
+///
+/// The verdict on a call is what `verify_by` promises over the records of x86-64 with its number. All else is as
+/// `verify_calls` has it, whose relation is that of the same answers.
+pub fn verify_calls_by<F: Source, P: Source, T: Source>(
+    alloc: Global,
+    filter_readers: &mut [F],
+    profile_reader: &mut P,
+    table_reader: &mut T,
+    relation: Relation,
+    limit: u64,
+) -> Result<CallsOutcome, VerifyFault>
+    ensures answer { VerifiesCallsBy relation (map F.remaining filter_readers.old)
+        (T.remaining table_reader.old) (P.remaining profile_reader.old) limit result }
+    ensures filter_readers { LeavesFilterReaders F.remaining F.failures filter_readers.old result filter_readers.new }
+    ensures table_reader { LeavesTableReader T.remaining T.failures table_reader.old result table_reader.new }
+    ensures profile_reader { LeavesProfileReader P.remaining P.failures profile_reader.old result profile_reader.new }
+{
     let parties = read_parties(alloc, filter_readers, profile_reader, table_reader)?;
     let loaded = parties.loaded;
     let calls = compare_calls(
@@ -116,6 +155,7 @@ pub fn verify_calls<F: Source, P: Source, T: Source>(
         &parties.stack,
         &loaded.profile,
         &parties.names,
+        relation,
         limit,
     )?;
     Ok(CallsOutcome {

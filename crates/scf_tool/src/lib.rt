@@ -24,11 +24,11 @@ mod status;
 mod verification;
 
 pub use bundle::{BundleFault, Part, PartKind, split};
-pub use call_reporting::report_calls;
-pub use call_verification::{CallVerdict, CallsOutcome, verify_calls};
+pub use call_reporting::{report_calls, report_calls_by};
+pub use call_verification::{CallVerdict, CallsOutcome, verify_calls, verify_calls_by};
 pub use command_line::refuse_words;
 pub use commands::run_command;
 pub use options::{NumberFault, record_of};
-pub use reporting::report;
-pub use stack_verification::verify_stack;
+pub use reporting::{report, report_by};
+pub use stack_verification::{verify_by, verify_stack};
 pub use verification::{Outcome, VerifyFault, verify};

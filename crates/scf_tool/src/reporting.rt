@@ -4,6 +4,7 @@ ghost use Rattle.std.specs.Prelude.{◌≡◌, ◌++◌, codes, string_bytes, If
 ghost use Rattle.std.specs.Fmt.{decimal};
 ghost use Rattle.std.specs.List.{flat_map};
 ghost use Rattle.scf_insn.specs.Streams.{Writes};
+ghost use Rattle.scf_tool.specs.Reports as words;
 ghost use Rattle.scf_tool.specs.Reports.{
   answer_line,
   argument_text,
@@ -19,7 +20,7 @@ use crate::gathered::Gathered;
 use crate::lines::write_answer;
 use crate::pieces::{Piece, write_pieces};
 use crate::verification::Outcome;
-use scf_compare::Verdict;
+use scf_compare::{Relation, Verdict};
 use scf_insn::{Answer, CallRecord, Memory, Sink, WriteFault, write_whole};
 use scf_profile::Texts;
 use std::alloc::Global;
@@ -86,6 +87,35 @@ pub(crate) fn write_answer_line<S: Sink>(
     write_whole(sink, b"\n")
 }
 
+/// What is said where a relation holds of all answers.
+pub(crate) fn holding(relation: Relation) -> &'static str
+    ensures { result.now ≡ words.holding relation }
+{
+    match relation {
+        Relation::Same => "same",
+        Relation::NoMore => "no more",
+        Relation::NoLess => "no less",
+    }
+}
+
+/// What is said where a relation doesn't hold of two answers.
+pub(crate) fn failing(relation: Relation) -> &'static str
+    ensures { result.now ≡ words.failing relation }
+{
+    match relation {
+        Relation::Same => "differs",
+        Relation::NoMore => "more",
+        Relation::NoLess => "less",
+    }
+}
+
+/// Writes a line of one word or two.
+pub(crate) fn write_word<S: Sink>(sink: &mut S, word: &str) -> Result<(), WriteFault>
+    ensures { Writes S.contents S.failures sink.old (words.word_line word.now) result sink.new }
+{
+    write_pieces(sink, &[Piece::Text(word), Piece::Text("\n")])
+}
+
 /// Writes a call and its two answers.
 fn write_difference<S: Sink>(
     sink: &mut S,
@@ -94,11 +124,9 @@ fn write_difference<S: Sink>(
     profile: Answer,
 ) -> Result<(), WriteFault>
     ensures { Writes S.contents S.failures sink.old
-        (codes "differs\n" ++ (call_line call.now
-        ++ (answer_line (codes "filter") filter.0 ++ answer_line (codes "profile") profile.0)))
+        (call_line call.now ++ (answer_line (codes "filter") filter.0 ++ answer_line (codes "profile") profile.0))
         result sink.new }
 {
-    write_whole(sink, b"differs\n")?;
     write_call(sink, call)?;
     write_answer_line(sink, "filter", filter)?;
     write_answer_line(sink, "profile", profile)
@@ -118,16 +146,37 @@ fn write_undecided<S: Sink>(sink: &mut S, at: usize) -> Result<(), WriteFault>
     )
 }
 
-pub(crate) fn write_verdict<S: Sink>(sink: &mut S, verdict: &Verdict) -> Result<(), WriteFault>
-    ensures { Writes S.contents S.failures sink.old (verdict_text verdict.now) result sink.new }
+/// Writes that a relation doesn't hold, of a call and its two answers.
+fn write_failing<S: Sink>(
+    sink: &mut S,
+    relation: Relation,
+    call: &CallRecord,
+    filter: Answer,
+    profile: Answer,
+) -> Result<(), WriteFault>
+    ensures { Writes S.contents S.failures sink.old
+        (words.word_line (words.failing relation) ++ (call_line call.now
+        ++ (answer_line (codes "filter") filter.0 ++ answer_line (codes "profile") profile.0)))
+        result sink.new }
+{
+    write_word(sink, failing(relation))?;
+    write_difference(sink, call, filter, profile)
+}
+
+pub(crate) fn write_verdict<S: Sink>(
+    sink: &mut S,
+    relation: Relation,
+    verdict: &Verdict,
+) -> Result<(), WriteFault>
+    ensures { Writes S.contents S.failures sink.old (verdict_text relation verdict.now) result sink.new }
 {
     match verdict {
-        Verdict::Same { .. } => write_whole(sink, b"same\n"),
+        Verdict::Same { .. } => write_word(sink, holding(relation)),
         Verdict::Differs {
             call,
             filter,
             profile,
-        } => write_difference(sink, call, *filter, *profile),
+        } => write_failing(sink, relation, call, *filter, *profile),
         Verdict::Undecided { at } => write_undecided(sink, *at),
         Verdict::Unfinished => write_whole(sink, b"unfinished\n"),
     }
@@ -176,20 +225,32 @@ pub(crate) fn write_left_out<S: Sink>(
     write_texts(sink, "other", others)
 }
 
-fn write_outcome<S: Sink>(sink: &mut S, outcome: &Outcome) -> Result<(), WriteFault>
-    ensures { Writes S.contents S.failures sink.old (report_text outcome.now) result sink.new }
+fn write_outcome<S: Sink>(
+    sink: &mut S,
+    relation: Relation,
+    outcome: &Outcome,
+) -> Result<(), WriteFault>
+    ensures { Writes S.contents S.failures sink.old (report_text relation outcome.now) result sink.new }
 {
-    write_verdict(sink, &outcome.verdict)?;
+    write_verdict(sink, relation, &outcome.verdict)?;
     write_left_out(sink, &outcome.skipped, &outcome.other_architectures)
 }
 
 /// What the program prints of an outcome: the verdict, then a line for each skipped name and one for each other
 /// architecture, in their order.
 pub fn report(alloc: Global, outcome: &Outcome) -> Result<Vec<u8>, Memory>
-    ensures { IfOk result (λ text. text.items ≡ report_text outcome.now) }
+    ensures { IfOk result (λ text. text.items ≡ report_text Relation.Same outcome.now) }
+{
+    report_by(alloc, Relation::Same, outcome)
+}
+
+/// What the program prints of an outcome by a relation, which `report` does of the same answers. In place of `same` it
+/// says `no more` or `no less`, and in place of `differs` `more` or `less`.
+pub fn report_by(alloc: Global, relation: Relation, outcome: &Outcome) -> Result<Vec<u8>, Memory>
+    ensures { IfOk result (λ text. text.items ≡ report_text relation outcome.now) }
 {
     let mut text = Gathered::new(alloc);
-    match write_outcome(&mut text, outcome) {
+    match write_outcome(&mut text, relation, outcome) {
         Ok(()) => Ok(text.into_bytes()),
         Err(_) => Err(Memory),
     }

@@ -2,11 +2,11 @@
 
 ghost use Rattle.std.specs.Prelude.{map};
 ghost use Rattle.scf_tool.specs.Verifying.{LeavesProfileReader, LeavesTableReader};
-ghost use Rattle.scf_tool.specs.VerifyingStacks.{LeavesFilterReaders, VerifiesStack};
+ghost use Rattle.scf_tool.specs.VerifyingStacks.{LeavesFilterReaders, VerifiesBy, VerifiesStack};
 
 use crate::parties::read_parties;
 use crate::verification::{Outcome, VerifyFault};
-use scf_compare::{Scope, compare_stack};
+use scf_compare::{Relation, Scope, compare_by};
 use scf_facts::WordSets;
 use scf_insn::Source;
 use std::alloc::Global;
@@ -34,9 +34,48 @@ pub fn verify_stack<F: Source, P: Source, T: Source>(
     ensures table_reader { LeavesTableReader T.remaining T.failures table_reader.old result table_reader.new }
     ensures profile_reader { LeavesProfileReader P.remaining P.failures profile_reader.old result profile_reader.new }
 {
+    verify_by(
+        alloc,
+        filter_readers,
+        profile_reader,
+        table_reader,
+        scope,
+        Relation::Same,
+        limit,
+    )
+}
+
+/// Compares the stack of filters with the profile that readers have, over the calls of a scope and by a relation, in at
+/// most `limit` steps.
+///
+/// `Same` says that the relation holds of the answers to every call record of the scope, and `Differs` shows one of it
+/// of which it doesn't: see `compare_by`. All else is as `verify_stack` has it, whose relation is that of the same
+/// answers.
+pub fn verify_by<F: Source, P: Source, T: Source>(
+    alloc: Global,
+    filter_readers: &mut [F],
+    profile_reader: &mut P,
+    table_reader: &mut T,
+    scope: Scope,
+    relation: Relation,
+    limit: u64,
+) -> Result<Outcome, VerifyFault>
+    ensures answer { VerifiesBy relation (map F.remaining filter_readers.old)
+        (T.remaining table_reader.old) (P.remaining profile_reader.old) scope limit result }
+    ensures filter_readers { LeavesFilterReaders F.remaining F.failures filter_readers.old result filter_readers.new }
+    ensures table_reader { LeavesTableReader T.remaining T.failures table_reader.old result table_reader.new }
+    ensures profile_reader { LeavesProfileReader P.remaining P.failures profile_reader.old result profile_reader.new }
+{
     let parties = read_parties(alloc, filter_readers, profile_reader, table_reader)?;
     let loaded = parties.loaded;
-    let verdict = compare_stack::<WordSets>(alloc, &parties.stack, &loaded.profile, scope, limit)?;
+    let verdict = compare_by::<WordSets>(
+        alloc,
+        &parties.stack,
+        &loaded.profile,
+        scope,
+        relation,
+        limit,
+    )?;
     Ok(Outcome {
         verdict,
         skipped: loaded.skipped,

@@ -13,5 +13,5 @@ returns-in_err-write_verdicts g c =
 
 pub returns : goal.returns
 returns g c =
-    writes_then g.S.Sink.contents g.S.Sink.failures _ _ (verdicts_text c.args.outcome.now.calls.items) _ _ _
+    writes_then g.S.Sink.contents g.S.Sink.failures _ _ (verdicts_text c.args.relation c.args.outcome.now.calls.items) _ _ _
     (rw c.deref.ensures.value at c.in_ok-write_verdicts.ensures) c.write_left_out.ensures

@@ -8,7 +8,7 @@ pub returns-in_err-write_front : goal.returns-in_err-write_front
 returns-in_err-write_front g c =
     let stopped = err_from_is_err_and c.from_residual.result c.from_residual.ensures.1 in
     let other : is_same c.args.call.now.verdict ≡ false = sym c.agrees.ensures ∙ c.if-agrees.false in
-    rw (stopped.1, other) (fails_first (found_text c.args.call.now.verdict) c.in_err-write_front.ensures)
+    rw (stopped.1, other) (fails_first (found_text c.args.relation c.args.call.now.verdict) c.in_err-write_front.ensures)
 
 pub returns : goal.returns
 returns g c =

@@ -8,9 +8,9 @@ pub returns-in_err-write_joint : goal.returns-in_err-write_joint
 returns-in_err-write_joint g c =
     let stopped = err_from_is_err_and c.from_residual.result c.from_residual.ensures.1 in
     let failed = rw c.joint_verdict.ensures at c.in_err-write_joint.ensures in
-    rw stopped.1 (fails_first (flat_map named_line c.args.calls.now) failed)
+    rw stopped.1 (fails_first (flat_map (named_line c.args.relation) c.args.calls.now) failed)
 
 pub returns : goal.returns
 returns g c =
-    writes_then g.S.Sink.contents g.S.Sink.failures _ _ (joint_text (joint_of c.args.calls.now)) _ _ _
+    writes_then g.S.Sink.contents g.S.Sink.failures _ _ (joint_text c.args.relation (joint_of c.args.calls.now)) _ _ _
     (rw c.joint_verdict.ensures at c.in_ok-write_joint.ensures) c.write_calls.ensures

@@ -28,7 +28,7 @@ loop-call-preserved c =
           );
       compared =
           rw c.in_ok-push.ensures.items (
-          All-push (IsVerdictOnCall c.args.stack.now c.args.profile.now c.args.limit) verdicts verdict
+          All-push (IsVerdictOnCall c.args.relation c.args.stack.now c.args.profile.now c.args.limit) verdicts verdict
           c.loop-call.invariant.compared c.in_ok-verdict.ensures.compared
           );
     }

@@ -6,5 +6,5 @@ use Rattle.scf_tool.proofs.call_verification.compare_calls.Given as goal
 abbrev pub invariant-loop-call : goal.invariant-loop-call
 invariant-loop-call l = record {
   told : map told_of l.verdicts.items ≡ map named (take l.call-index l.call-items);
-  compared : All (IsVerdictOnCall l.stack l.profile l.limit) l.verdicts.items;
+  compared : All (IsVerdictOnCall l.relation l.stack l.profile l.limit) l.verdicts.items;
 }

@@ -13,5 +13,5 @@ returns-in_err-write_verdict g c =
 
 pub returns : goal.returns
 returns g c =
-    writes_then g.S.Sink.contents g.S.Sink.failures _ _ (verdict_text c.args.outcome.now.verdict) _ _ _
+    writes_then g.S.Sink.contents g.S.Sink.failures _ _ (verdict_text c.args.relation c.args.outcome.now.verdict) _ _ _
     c.in_ok-write_verdict.ensures c.write_left_out.ensures

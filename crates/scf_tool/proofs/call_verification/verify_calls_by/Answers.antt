@@ -1,6 +1,6 @@
 use Rattle.std.proofs.lemmas.Result.{err_from_is_err_and}
 use Rattle.scf_tool.proofs.PartyLemmas.{parties_are_compared, parties_are_read}
-use Rattle.scf_tool.proofs.call_verification.verify_calls.Goals as goal
+use Rattle.scf_tool.proofs.call_verification.verify_calls_by.Goals as goal
 
 pub returns-in_err-calls-clause-answer : goal.returns-in_err-calls-clause-answer
 returns-in_err-calls-clause-answer g c =

@@ -1,7 +1,7 @@
 use Rattle.std.proofs.Common.{refl}
 use Rattle.std.proofs.lemmas.Result.{err_from_is_err_and}
 use Rattle.scf_tool.proofs.PartyLemmas.{parties_are_compared, parties_are_read}
-use Rattle.scf_tool.proofs.stack_verification.verify_stack.Goals as goal
+use Rattle.scf_tool.proofs.stack_verification.verify_by.Goals as goal
 
 pub returns-in_err-verdict-clause-answer : goal.returns-in_err-verdict-clause-answer
 returns-in_err-verdict-clause-answer g c =
