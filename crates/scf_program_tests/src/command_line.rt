@@ -62,6 +62,9 @@ const WORDS: &[Case] = &[
             \x20     --native          Only calls of x86-64 with numbers below 0x40000000\n\
             \x20     --calls           Each named call by itself, and a line for each that isn't the same; \
             not with --native\n\
+            \x20     --no-more         Whether no call is let through further than by the profile\n\
+            \x20     --no-less         Whether each call is let through as far as by the profile; \
+            not with --no-more\n\
             \x20 -h, --help            Print help\n",
         status: 0,
     },

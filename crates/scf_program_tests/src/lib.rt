@@ -28,6 +28,8 @@ mod parts;
 #[cfg(test)]
 mod profiles;
 #[cfg(test)]
+mod relations;
+#[cfg(test)]
 mod reporting;
 #[cfg(test)]
 mod runs;

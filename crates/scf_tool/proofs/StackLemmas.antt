@@ -13,6 +13,7 @@ use Rattle.scf_tool.specs.declared.filter_stack.StackFault.{StackFault}
 use Rattle.scf_tool.specs.declared.filter_stack.StackFault.TheVariants.{Filter, Push}
 use Rattle.scf_tool.specs.Verifying.{HasEnded, IsFilter}
 use Rattle.scf_tool.specs.FilterStacks.{AreFilters, HasStack, HasNoStack, IsNotPushed, HaveEnded, HaveStopped, LeavesOwn}
+use Rattle.scf_compare.specs.declared.relation.Relation.{Relation}
 use Rattle.scf_tool.specs.declared.reply.Reply.{Reply}
 use Rattle.scf_tool.specs.declared.request.Scopes.{Scopes}
 use Rattle.scf_tool.specs.declared.verification.VerifyFault.{VerifyFault}
@@ -157,13 +158,14 @@ no_stack_of_parts texts (Filter fault) remaining olds news none stopped =
 no_stack_of_parts texts (Push fault) remaining olds news none stopped = none
 
 -- a bundle of filters, a profile and a table that come to this
-pub bundle_compared : (told : Option (List ℕ)) (bytes : List ℕ) (over : Scopes) (limit : ℕ)
+pub bundle_compared : (told : Option (List ℕ)) (bytes : List ℕ) (over : Scopes) (relation : Relation) (limit : ℕ)
     (ending : Result Reply VerifyFault) (readers : List PartReader) (profiles tables : List (Bor (List ℕ)))
     (profile table : List ℕ) → IsRead told bytes
     → IsBundle bytes (map rest_of readers) (texts_at profiles) (texts_at tables)
     → texts_at profiles ≡ profile ∷ [] → texts_at tables ≡ table ∷ [] → 1 ≤ length readers
-    → ComparesParts (map rest_of readers) profile table over limit ending → IsCompared over limit told ending
-bundle_compared told bytes over limit ending readers profiles tables profile table read bundle one other some h = (
+    → ComparesParts (map rest_of readers) profile table over relation limit ending
+    → IsCompared over relation limit told ending
+bundle_compared told bytes over relation limit ending readers profiles tables profile table read bundle one other some h = (
   map rest_of readers,
   profile,
   table,

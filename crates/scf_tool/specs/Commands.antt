@@ -24,7 +24,7 @@ use Rattle.scf_compile.specs.SizeBound.{size_bound_of}
 use Rattle.scf_tool.specs.declared.fault.Fault.{Fault}
 use Rattle.scf_tool.specs.declared.fault.Fault.TheVariants as faults
 use Rattle.scf_tool.specs.declared.filter.FilterFault.TheVariants as filters
-use Rattle.scf_compare.specs.declared.relation.Relation.TheVariants as relations
+use Rattle.scf_compare.specs.declared.relation.Relation.{Relation}
 use Rattle.scf_compare.specs.declared.scope.Scope.{Scope}
 use Rattle.scf_compare.specs.declared.scope.Scope.TheVariants as scopes
 use Rattle.scf_tool.specs.declared.call_verification.CallsOutcome.{CallsOutcome}
@@ -191,25 +191,25 @@ Compiles told ending = ⊥
 abbrev pub AreCompared : ℕ → ℕ → ℕ → Type 0
 AreCompared filters profiles tables = (1 ≤ filters) × (profiles ≡ 1) × (tables ≡ 1)
 
--- The text is the report of the outcome of filters, a profile and a table over the calls of a scope, and the status
--- goes with its verdict.
-pub record IsReportedIn (scope : Scope) (filters : List (List ℕ)) (profile table : List ℕ) (limit : ℕ)
+-- The text is the report of the outcome of filters, a profile and a table over the calls of a scope and by a relation,
+-- and the status goes with its verdict.
+pub record IsReportedIn (scope : Scope) (relation : Relation) (filters : List (List ℕ)) (profile table : List ℕ) (limit : ℕ)
     (text : List ℕ) (status : Status) : Type 0 where
   pub outcome : Outcome
-  pub verified : IsVerifiedBy relations.Same (map Some filters) (Some table) (Some profile) scope limit outcome
-  pub reported : text ≡ report_text relations.Same outcome
+  pub verified : IsVerifiedBy relation (map Some filters) (Some table) (Some profile) scope limit outcome
+  pub reported : text ≡ report_text relation outcome
   pub with_verdict : status ≡ verdict_status outcome.verdict
 
--- The text is the report of the outcome of filters, a profile and a table call by call, and the status goes with the
--- verdict that speaks for the calls.
-pub record IsReportedByCall (filters : List (List ℕ)) (profile table : List ℕ) (limit : ℕ)
+-- The text is the report of the outcome of filters, a profile and a table call by call and by a relation, and the status
+-- goes with the verdict that speaks for the calls.
+pub record IsReportedByCall (relation : Relation) (filters : List (List ℕ)) (profile table : List ℕ) (limit : ℕ)
     (text : List ℕ) (status : Status) : Type 0 where
   pub outcome : CallsOutcome
-  pub verified : AreVerifiedCalls relations.Same (map Some filters) (Some table) (Some profile) limit outcome
-  pub reported : text ≡ calls_text relations.Same outcome
+  pub verified : AreVerifiedCalls relation (map Some filters) (Some table) (Some profile) limit outcome
+  pub reported : text ≡ calls_text relation outcome
   pub with_verdict : status ≡ joint_status (joint_of outcome.calls.items)
 
-abbrev pub IsReported : Scopes → List (List ℕ) → List ℕ → List ℕ → ℕ → List ℕ → Status → Type 0
+abbrev pub IsReported : Scopes → Relation → List (List ℕ) → List ℕ → List ℕ → ℕ → List ℕ → Status → Type 0
 IsReported All = IsReportedIn scopes.All
 IsReported Native = IsReportedIn scopes.Native
 IsReported EachCall = IsReportedByCall
@@ -228,22 +228,22 @@ ComesTo reported filters profile table (Err fault) =
 ComesTo reported filters profile table reply = ⊥
 
 -- what filters, a profile and a table come to
-abbrev pub ComparesParts : List (List ℕ) → List ℕ → List ℕ → Scopes → ℕ → Result Reply VerifyFault → Type 0
-ComparesParts filters profile table over limit ending =
-    ComesTo (IsReported over filters profile table limit) filters profile table ending
+abbrev pub ComparesParts : List (List ℕ) → List ℕ → List ℕ → Scopes → Relation → ℕ → Result Reply VerifyFault → Type 0
+ComparesParts filters profile table over relation limit ending =
+    ComesTo (IsReported over relation filters profile table limit) filters profile table ending
 
 -- the input is a bundle of one filter or more, a profile and a table, which come to this
-abbrev pub IsCompared : Scopes → ℕ → Option (List ℕ) → Result Reply VerifyFault → Type 0
-IsCompared over limit told ending =
+abbrev pub IsCompared : Scopes → Relation → ℕ → Option (List ℕ) → Result Reply VerifyFault → Type 0
+IsCompared over relation limit told ending =
     (filters : List (List ℕ)) × (profile table : List ℕ) × (1 ≤ length filters)
     × HoldsBundle told filters (profile ∷ []) (table ∷ [])
-    × ComparesParts filters profile table over limit ending
+    × ComparesParts filters profile table over relation limit ending
 
 -- `compare`: the report of the comparison
-abbrev pub Compares : Scopes → ℕ → Option (List ℕ) → Result Reply Fault → Type 0
-Compares over limit told (Ok reply) = IsCompared over limit told (Ok reply)
-Compares over limit told (Err (faults.Compare fault)) = IsCompared over limit told (Err fault)
-Compares over limit told (Err fault) = IsNoBundle told AreCompared fault
+abbrev pub Compares : Scopes → Relation → ℕ → Option (List ℕ) → Result Reply Fault → Type 0
+Compares over relation limit told (Ok reply) = IsCompared over relation limit told (Ok reply)
+Compares over relation limit told (Err (faults.Compare fault)) = IsCompared over relation limit told (Err fault)
+Compares over relation limit told (Err fault) = IsNoBundle told AreCompared fault
 
 -- ---- all commands
 
@@ -251,7 +251,7 @@ Compares over limit told (Err fault) = IsNoBundle told AreCompared fault
 abbrev pub IsTrueOf : Request → Option (List ℕ) → Result Reply Fault → Type 0
 IsTrueOf requests.Assemble told ending = Assembles told ending
 IsTrueOf requests.Check told ending = Checks told ending
-IsTrueOf (requests.Compare limit over) told ending = Compares over limit told ending
+IsTrueOf (requests.Compare limit over relation) told ending = Compares over relation limit told ending
 IsTrueOf requests.Compile told ending = Compiles told ending
 IsTrueOf (requests.Decide call) told ending = Decides call told ending
 IsTrueOf requests.List told ending = Lists told ending

@@ -1,10 +1,15 @@
 -- The options of the program, and the numbers that they spell.
 use Rattle.std.specs.Prelude.{◌≡◌, ℕ, Bool, false, ◌-◌, ◌^◌, List, [], ◌∷◌, codes, bytes_eq, map, find, nat_le, is_none, Option, Some, None, Result, Ok, Err, option_map, if◌then◌else◌}
+use Rattle.std.specs.List.{filter_map}
 use Rattle.clap.specs.Words.{Row, first_of}
 use Rattle.scf_insn.specs.declared.record.CallRecord.{CallRecord}
 use Rattle.scf_insn.specs.Kernel.{audit_arch_x86_64}
 use Rattle.scf_insn.specs.Numbers.{number_of}
+use Rattle.scf_compare.specs.declared.relation.Relation.{Relation}
+use Rattle.scf_compare.specs.declared.relation.Relation.TheVariants.{NoMore, NoLess}
 use Rattle.scf_tool.specs.declared.options.NumberFault.{NumberFault}
+use Rattle.scf_tool.specs.declared.request.Scopes.{Scopes}
+use Rattle.scf_tool.specs.declared.request.Scopes.TheVariants.{Native, EachCall}
 
 -- An option that takes a number: its name, the number that it has without a text, and the greatest that it may have.
 pub record NumberOption : Type 0 where
@@ -72,10 +77,32 @@ is_true_text (Some text) = bytes_eq text (codes "true")
 abbrev pub is_given : List Row → List ℕ → Bool
 is_given rows name = is_true_text (first_of name rows)
 
--- the flag that leaves all but the native calls out of a comparison
-abbrev pub native_flag : List ℕ
-native_flag = codes "native"
+-- ---- flags of which at most one may be given
 
--- the flag by which each named call is compared by itself
-abbrev pub calls_flag : List ℕ
-calls_flag = codes "calls"
+-- what the flags of a group stand for that are given
+abbrev pub if_given : {A : Type 0} → List Row → List ℕ × A → Option A
+if_given rows flag = if is_given rows flag.0 then Some flag.1 else None
+
+abbrev pub given_of : {A : Type 0} → List Row → List (List ℕ × A) → List A
+given_of rows group = filter_map (if_given rows) group
+
+-- the one of them, where none is more than one of them, and what stands without any
+abbrev pub one_of : {A : Type 0} → A → List A → Option A
+one_of without [] = Some without
+one_of without (one ∷ []) = Some one
+one_of without (one ∷ other ∷ more) = None
+
+-- what a group of flags comes to: None where more than one of them is given
+abbrev pub choice_in : {A : Type 0} → List Row → List (List ℕ × A) → A → Option A
+choice_in rows group without = one_of without (given_of rows group)
+
+-- over which calls a comparison goes: all without a flag
+abbrev pub scope_flags : List (List ℕ × Scopes)
+scope_flags = (codes "native", Native) ∷ (codes "calls", EachCall) ∷ []
+
+-- by which relation it goes: by the same answers without a flag
+abbrev pub relation_flags : List (List ℕ × Relation)
+relation_flags = (codes "no-more", NoMore) ∷ (codes "no-less", NoLess) ∷ []
+
+abbrev pub flag_names : {A : Type 0} → List (List ℕ × A) → List (List ℕ)
+flag_names group = map (λ flag. flag.0) group

@@ -1,13 +1,15 @@
 -- What the program is asked for by its words.
-use Rattle.std.specs.Prelude.{◌≡◌, ℕ, Bool, true, false, List, [], ◌∷◌, codes, map, Option, Some, None, Result, Ok, Err}
+use Rattle.std.specs.Prelude.{◌≡◌, ◌⊎◌, ℕ, List, [], ◌∷◌, ◌++◌, codes, Option, Some, None, Result, Ok, Err}
 use Rattle.clap.specs.Words.{Row}
 use Rattle.scf_tool.specs.declared.fault.Fault.{Fault}
 use Rattle.scf_tool.specs.declared.fault.Fault.TheVariants.{Number, NoCommand, Flags}
 use Rattle.scf_tool.specs.declared.request.Request.{Request}
 use Rattle.scf_tool.specs.declared.request.Request.TheVariants as requests
 use Rattle.scf_tool.specs.declared.request.Scopes.{Scopes}
-use Rattle.scf_tool.specs.declared.request.Scopes.TheVariants.{All, Native, EachCall}
-use Rattle.scf_tool.specs.Options.{NumberOption, AreSpelled, call_options, calls_flag, first_wrong, is_given, limit_option, native_flag, numbers_of}
+use Rattle.scf_tool.specs.declared.request.Scopes.TheVariants.{All}
+use Rattle.scf_compare.specs.declared.relation.Relation.{Relation}
+use Rattle.scf_compare.specs.declared.relation.Relation.TheVariants.{Same}
+use Rattle.scf_tool.specs.Options.{NumberOption, AreSpelled, call_options, choice_in, first_wrong, limit_option, flag_names, numbers_of, relation_flags, scope_flags}
 
 pub data Command : Type 0 where
   Asm : Command
@@ -37,42 +39,44 @@ options_of command = []
 
 -- the flags that a command takes
 abbrev pub flags_of : Command → List (List ℕ)
-flags_of Compare = native_flag ∷ calls_flag ∷ []
+flags_of Compare = flag_names scope_flags ++ flag_names relation_flags
 flags_of command = []
 
 -- the command of a request, and the numbers of its options
 abbrev pub command_of : Request → Command
 command_of requests.Assemble = Asm
 command_of requests.Check = Check
-command_of (requests.Compare limit scopes) = Compare
+command_of (requests.Compare limit scopes relation) = Compare
 command_of requests.Compile = Compile
 command_of (requests.Decide call) = Decide
 command_of requests.List = Dis
 command_of (requests.Run call) = Run
 
 abbrev pub numbers_in : Request → List ℕ
-numbers_in (requests.Compare limit scopes) = limit ∷ []
+numbers_in (requests.Compare limit scopes relation) = limit ∷ []
 numbers_in (requests.Decide call) = numbers_of call
 numbers_in (requests.Run call) = numbers_of call
 numbers_in request = []
 
--- which of its flags a comparison over these calls has: not both
-abbrev pub flags_for : Scopes → List Bool
-flags_for All = false ∷ false ∷ []
-flags_for Native = true ∷ false ∷ []
-flags_for EachCall = false ∷ true ∷ []
+-- what the flags of a comparison come to
+abbrev pub scopes_in : List Row → Option Scopes
+scopes_in rows = choice_in rows scope_flags All
 
--- which of its flags a request has
-abbrev pub flags_in : Request → List Bool
-flags_in (requests.Compare limit scopes) = flags_for scopes
-flags_in request = []
+abbrev pub relation_in : List Row → Option Relation
+relation_in rows = choice_in rows relation_flags Same
+
+-- the flags of a request are given, and no other
+abbrev pub HasFlags : List Row → Request → Type 0
+HasFlags rows (requests.Compare limit scopes relation) =
+    (scopes_in rows ≡ Some scopes) × (relation_in rows ≡ Some relation)
+HasFlags rows request = Unit {0}
 
 -- A word and the values of options spell a request: they name its command, spell its numbers and give its flags.
 pub record IsRequest (asked : Option (List ℕ × List Row)) (request : Request) : Type 0 where
   pub rows : List Row
   pub command : asked ≡ Some (word_of (command_of request), rows)
   pub numbers : AreSpelled (options_of (command_of request)) rows (numbers_in request)
-  pub flags : map (is_given rows) (flags_of (command_of request)) ≡ flags_in request
+  pub flags : HasFlags rows request
 
 -- A command is named, and this is the first of its options whose text is no number in its range.
 pub record IsWrongNumber (asked : Option (List ℕ × List Row)) (name : List ℕ) : Type 0 where
@@ -81,12 +85,12 @@ pub record IsWrongNumber (asked : Option (List ℕ × List Row)) (name : List �
   pub named : asked ≡ Some (word_of command, rows)
   pub wrong : first_wrong (options_of command) rows ≡ Some name
 
--- A comparison is named with both of its flags, which exclude each other, and its numbers are in their ranges.
-pub record HasBothFlags (asked : Option (List ℕ × List Row)) : Type 0 where
+-- A comparison is named with two flags that exclude each other, and its numbers are in their ranges.
+pub record HasOtherFlags (asked : Option (List ℕ × List Row)) : Type 0 where
   pub rows : List Row
   pub named : asked ≡ Some (word_of Compare, rows)
   pub numbers : first_wrong (options_of Compare) rows ≡ None
-  pub flags : map (is_given rows) (flags_of Compare) ≡ true ∷ true ∷ []
+  pub flags : (scopes_in rows ≡ None) ⊎ (relation_in rows ≡ None)
 
 -- no command is named
 abbrev pub NamesNoCommand : Option (List ℕ × List Row) → Type 0
@@ -96,6 +100,6 @@ NamesNoCommand asked = (command : Command) (rows : List Row) → asked ≡ Some 
 abbrev pub Asks : Option (List ℕ × List Row) → Result Request Fault → Type 0
 Asks asked (Ok request) = IsRequest asked request
 Asks asked (Err (Number fault)) = IsWrongNumber asked fault.name.now
-Asks asked (Err Flags) = HasBothFlags asked
+Asks asked (Err Flags) = HasOtherFlags asked
 Asks asked (Err NoCommand) = NamesNoCommand asked
 Asks asked (Err fault) = ⊥

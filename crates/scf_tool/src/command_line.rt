@@ -10,7 +10,9 @@ ghost use Rattle.scf_tool.specs.Runs.{PrintsText, flag_rule, not_utf8_text, rule
 ghost use Rattle.scf_tool.specs.internal.Parsing.{Explains, option_of, options_of};
 
 use crate::fault::Fault;
-use crate::options::{CALLS_FLAG, NATIVE_FLAG, NumberOption, call_options, limit_option};
+use crate::options::{
+    CALLS_FLAG, NATIVE_FLAG, NO_LESS_FLAG, NO_MORE_FLAG, NumberOption, call_options, limit_option,
+};
 use crate::reply::Reply;
 use crate::status::Status;
 use clap::error::ErrorKind;
@@ -81,9 +83,13 @@ fn comparison<'a>(alloc: Global) -> Result<Command<'a>, AllocError>
     let native = "Only calls of x86-64 with numbers below 0x40000000";
     let calls =
         "Each named call by itself, and a line for each that isn't the same; not with --native";
+    let no_more = "Whether no call is let through further than by the profile";
+    let no_less = "Whether each call is let through as far as by the profile; not with --no-more";
     command_with(alloc, "compare", about, &[limit_option()])?
         .arg(flag_argument(alloc, NATIVE_FLAG, native))?
-        .arg(flag_argument(alloc, CALLS_FLAG, calls))
+        .arg(flag_argument(alloc, CALLS_FLAG, calls))?
+        .arg(flag_argument(alloc, NO_MORE_FLAG, no_more))?
+        .arg(flag_argument(alloc, NO_LESS_FLAG, no_less))
 }
 
 /// The program's commands and their options.

@@ -37,7 +37,11 @@ fn answer<R: Source>(alloc: Global, request: &Request, input: &mut R) -> Result<
     match request {
         Request::Assemble => assemble_text(alloc, input),
         Request::Check => check_filter(alloc, input),
-        Request::Compare { limit, scopes } => compare_bundle(alloc, *limit, *scopes, input),
+        Request::Compare {
+            limit,
+            scopes,
+            relation,
+        } => compare_bundle(alloc, *limit, *scopes, *relation, input),
         Request::Compile => compile_profile(alloc, input),
         Request::Decide(call) => decide_stack(alloc, call, input),
         Request::List => list_filter(alloc, input),

@@ -3,9 +3,12 @@
 ghost use Rattle.std.specs.Prelude.{◌≡◌, ◌≤◌, Some, None, IfOk, IfErr};
 ghost use Rattle.clap.specs.Words.{found_of, rows_of};
 ghost use Rattle.scf_tool.specs.Options as table;
-ghost use Rattle.scf_tool.specs.internal.Parsing.{option_of, options_of};
+ghost use Rattle.scf_tool.specs.internal.Parsing.{flags_in, option_of, options_of};
 
+use crate::fault::Fault;
+use crate::request::Scopes;
 use clap::ArgMatches;
+use scf_compare::Relation;
 use scf_insn::kernel::AUDIT_ARCH_X86_64;
 use scf_insn::{CallRecord, parse_number};
 use thiserror::Error;
@@ -88,6 +91,24 @@ pub(crate) const NATIVE_FLAG: &str = "native";
 /// The flag by which each named call is compared by itself.
 pub(crate) const CALLS_FLAG: &str = "calls";
 
+/// The flag that asks whether no more is let through.
+pub(crate) const NO_MORE_FLAG: &str = "no-more";
+
+/// The flag that asks whether no less is let through.
+pub(crate) const NO_LESS_FLAG: &str = "no-less";
+
+/// Over which calls a comparison goes, by its flags.
+pub(crate) const SCOPE_FLAGS: [(&str, Scopes); 2] = [
+    (NATIVE_FLAG, Scopes::Native),
+    (CALLS_FLAG, Scopes::EachCall),
+];
+
+/// By which relation a comparison goes, by its flags.
+pub(crate) const RELATION_FLAGS: [(&str, Relation); 2] = [
+    (NO_MORE_FLAG, Relation::NoMore),
+    (NO_LESS_FLAG, Relation::NoLess),
+];
+
 /// Whether a flag is given.
 pub(crate) fn is_given(matches: &ArgMatches<'_>, name: &str) -> bool
     ensures { result ≡ table.is_given (rows_of (found_of matches.now)) name.now }
@@ -95,6 +116,33 @@ pub(crate) fn is_given(matches: &ArgMatches<'_>, name: &str) -> bool
     match matches.get_str(name) {
         Some(text) => text == "true",
         None => false,
+    }
+}
+
+/// What the flag of a group stands for that is given, and `without` where none is. More than one is a fault.
+pub(crate) fn chosen<T: Copy>(
+    matches: &ArgMatches<'_>,
+    group: &[(&'static str, T)],
+    without: T,
+) -> Result<T, Fault>
+    ensures one { IfOk result (λ choice.
+        table.choice_in (rows_of (found_of matches.now)) (flags_in group.now) without ≡ Some choice) }
+    ensures more { IfErr result (λ fault.
+        table.choice_in (rows_of (found_of matches.now)) (flags_in group.now) without ≡ None) }
+    ensures flags { IfErr result (λ fault. fault ≡ Fault.Flags) }
+{
+    let mut found = None;
+    for flag in group {
+        if is_given(matches, flag.0) {
+            if found.is_some() {
+                return Err(Fault::Flags);
+            }
+            found = Some(flag.1);
+        }
+    }
+    match found {
+        Some(choice) => Ok(choice),
+        None => Ok(without),
     }
 }
 

@@ -1,5 +1,6 @@
 -- The program's options, as it keeps them, and the reply to words that are refused.
-use Rattle.std.specs.Prelude.{◌≡◌, ◌≢◌, List, map, Result, Ok, Err}
+use Rattle.std.specs.Prelude.{◌≡◌, ◌≢◌, ℕ, List, map, Result, Ok, Err}
+use Rattle.std.specs.Borrow.{Bor}
 use Rattle.clap.specs.declared.error.kind.ErrorKind.{ErrorKind}
 use Rattle.clap.specs.declared.error.kind.ErrorKind.TheVariants.{OutOfMemory}
 use Rattle.scf_tool.specs.declared.fault.Fault.{Fault}
@@ -12,6 +13,10 @@ use Rattle.scf_tool.specs.Runs.{kind_status}
 
 abbrev pub option_of : Kept → NumberOption
 option_of o = record { name = o.name.now; default = o.default; most = o.most }
+
+-- flags and what they stand for
+abbrev pub flags_in : {A : Type 0} → List (Bor (List ℕ) × A) → List (List ℕ × A)
+flags_in group = map (λ flag. (flag.0.now, flag.1)) group
 
 abbrev pub options_of : List Kept → List NumberOption
 options_of = map option_of

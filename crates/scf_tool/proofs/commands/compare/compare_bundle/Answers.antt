@@ -14,7 +14,7 @@ returns-in_err-compare_parts-clause-answer g c =
     let table = rw c.in-Some-Some-false.is-1 at c.only-table.ensures in
     let some : 1 ≤ length c.deref_mut.result.now =
     let e = c.in-Some-Some-false.ensures in let d = c.deref_mut.ensures in grind (arith, nat_tests) in
-    rw (p.1, p.2) (bundle_compared _ _ c.args.scopes c.args.limit (Err c.in_err-compare_parts.field-0.0)
+    rw (p.1, p.2) (bundle_compared _ _ c.args.scopes c.args.relation c.args.limit (Err c.in_err-compare_parts.field-0.0)
     c.deref_mut.result.now c.deref-2.result.now c.deref-3.result.now _ _ read
     (rw (c.deref_mut.ensures.value, c.deref-2.ensures.value, c.deref-3.ensures.value) c.in_ok-contents.ensures.bundle)
     profile table some c.in_err-compare_parts.ensures)
@@ -26,7 +26,7 @@ returns-clause-answer g c =
     let table = rw c.in-Some-Some-false.is-1 at c.only-table.ensures in
     let some : 1 ≤ length c.deref_mut.result.now =
     let e = c.in-Some-Some-false.ensures in let d = c.deref_mut.ensures in grind (arith, nat_tests) in
-    bundle_compared _ _ c.args.scopes c.args.limit (Ok c.in_ok-compare_parts.field-0) c.deref_mut.result.now
+    bundle_compared _ _ c.args.scopes c.args.relation c.args.limit (Ok c.in_ok-compare_parts.field-0) c.deref_mut.result.now
     c.deref-2.result.now c.deref-3.result.now _ _ read
     (rw (c.deref_mut.ensures.value, c.deref-2.ensures.value, c.deref-3.ensures.value) c.in_ok-contents.ensures.bundle)
     profile table some c.in_ok-compare_parts.ensures
