@@ -47,6 +47,7 @@ const WORDS: &[Case] = &[
             \x20     --a3 <NUMBER>    Argument 3 [default: 0]\n\
             \x20     --a4 <NUMBER>    Argument 4 [default: 0]\n\
             \x20     --a5 <NUMBER>    Argument 5 [default: 0]\n\
+            \x20     --path           Also the places of the instructions on the way\n\
             \x20 -h, --help           Print help\n",
         status: 0,
     },

@@ -26,6 +26,8 @@ mod options;
 #[cfg(test)]
 mod parts;
 #[cfg(test)]
+mod paths;
+#[cfg(test)]
 mod profiles;
 #[cfg(test)]
 mod relations;

@@ -10,6 +10,7 @@ use Rattle.scf_insn.specs.Insn.{program_bytes}
 use Rattle.scf_insn.specs.Readings.{IsInput, IsReading}
 use Rattle.scf_insn.specs.Words.{words_of}
 use Rattle.scf_machine.specs.Machine.{IsRun, RunAnswers}
+use Rattle.scf_machine.specs.Path.{IsPathOf}
 use Rattle.scf_machine.specs.Precedence.{StackAnswers}
 use Rattle.scf_text.specs.Faults.{IsFault, fault_of}
 use Rattle.scf_text.specs.Listing.{text_of}
@@ -43,6 +44,7 @@ use Rattle.scf_tool.specs.declared.status.Status.{Status}
 use Rattle.scf_tool.specs.Bundle.{IsBundle, IsBundleFault}
 use Rattle.scf_tool.specs.CallReports.{calls_text, joint_of}
 use Rattle.scf_tool.specs.Filters.{IsNoFilter}
+use Rattle.scf_tool.specs.Lines.{traced_text}
 use Rattle.scf_tool.specs.FilterStacks.{HasStack, HasNoStack}
 use Rattle.scf_tool.specs.Reports.{report_text}
 use Rattle.scf_tool.specs.Statuses.{joint_status, verdict_status}
@@ -95,6 +97,14 @@ Runs call told (Ok (Ran ran)) =
     (insns : List Insn) × IsFilter told insns × IsRun insns (words_of call) ran.answer.0 ran.steps
 Runs call told (Err (faults.Filter fault)) = IsNoFilter told fault
 Runs call told ending = ⊥
+
+-- `run --path`: the answer and the length of the run, and the places of the instructions on its way
+abbrev pub Traces : CallRecord → Option (List ℕ) → Result Reply Fault → Type 0
+Traces call told (Ok (Bytes bytes)) =
+    (insns : List Insn) × IsFilter told insns × (answer : ℕ) × (places : List ℕ)
+    × IsPathOf insns (words_of call) answer places × (bytes.items ≡ traced_text answer places)
+Traces call told (Err (faults.Filter fault)) = IsNoFilter told fault
+Traces call told ending = ⊥
 
 -- `dis`: the listing of the instructions whose bytes the input is
 abbrev pub Lists : Option (List ℕ) → Result Reply Fault → Type 0
@@ -256,3 +266,4 @@ IsTrueOf requests.Compile told ending = Compiles told ending
 IsTrueOf (requests.Decide call) told ending = Decides call told ending
 IsTrueOf requests.List told ending = Lists told ending
 IsTrueOf (requests.Run call) told ending = Runs call told ending
+IsTrueOf (requests.Trace call) told ending = Traces call told ending

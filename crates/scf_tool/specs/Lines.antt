@@ -1,5 +1,6 @@
 -- The lines that the program prints.
-use Rattle.std.specs.Prelude.{ℕ, List, ◌++◌, codes}
+use Rattle.std.specs.Prelude.{ℕ, List, ◌++◌, codes, length}
+use Rattle.std.specs.List.{flat_map}
 use Rattle.std.specs.Fmt.{decimal}
 use Rattle.scf_insn.specs.declared.answer.Action.{Action}
 use Rattle.scf_insn.specs.declared.answer.Action.TheVariants.{KillProcess, KillThread, Trap, Errno, UserNotif, Trace, Log, Allow, Other}
@@ -30,3 +31,14 @@ answer_text answer = text_by (action_of (action_half answer)) answer
 -- the count of steps behind the answer of a run, and the end of its line
 abbrev pub steps_text : ℕ → List ℕ
 steps_text steps = codes " steps " ++ decimal steps ++ codes "\n"
+
+-- the line of the places on a run's way
+abbrev pub place_text : ℕ → List ℕ
+place_text place = codes " " ++ decimal place
+
+abbrev pub path_text : List ℕ → List ℕ
+path_text places = codes "path" ++ (flat_map place_text places ++ codes "\n")
+
+-- the lines of a run whose way is shown
+abbrev pub traced_text : ℕ → List ℕ → List ℕ
+traced_text answer places = answer_text answer ++ (steps_text (length places) ++ path_text places)

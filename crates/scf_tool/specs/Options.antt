@@ -106,3 +106,7 @@ relation_flags = (codes "no-more", NoMore) ∷ (codes "no-less", NoLess) ∷ []
 
 abbrev pub flag_names : {A : Type 0} → List (List ℕ × A) → List (List ℕ)
 flag_names group = map (λ flag. flag.0) group
+
+-- the flag that has the path of a run shown
+abbrev pub path_flag : List ℕ
+path_flag = codes "path"

@@ -1,5 +1,5 @@
 -- What the program is asked for by its words.
-use Rattle.std.specs.Prelude.{◌≡◌, ◌⊎◌, ℕ, List, [], ◌∷◌, ◌++◌, codes, Option, Some, None, Result, Ok, Err}
+use Rattle.std.specs.Prelude.{◌≡◌, ◌⊎◌, ℕ, true, false, List, [], ◌∷◌, ◌++◌, codes, Option, Some, None, Result, Ok, Err}
 use Rattle.clap.specs.Words.{Row}
 use Rattle.scf_tool.specs.declared.fault.Fault.{Fault}
 use Rattle.scf_tool.specs.declared.fault.Fault.TheVariants.{Number, NoCommand, Flags}
@@ -9,7 +9,7 @@ use Rattle.scf_tool.specs.declared.request.Scopes.{Scopes}
 use Rattle.scf_tool.specs.declared.request.Scopes.TheVariants.{All}
 use Rattle.scf_compare.specs.declared.relation.Relation.{Relation}
 use Rattle.scf_compare.specs.declared.relation.Relation.TheVariants.{Same}
-use Rattle.scf_tool.specs.Options.{NumberOption, AreSpelled, call_options, choice_in, first_wrong, limit_option, flag_names, numbers_of, relation_flags, scope_flags}
+use Rattle.scf_tool.specs.Options.{NumberOption, AreSpelled, call_options, choice_in, first_wrong, is_given, limit_option, flag_names, numbers_of, path_flag, relation_flags, scope_flags}
 
 pub data Command : Type 0 where
   Asm : Command
@@ -40,6 +40,7 @@ options_of command = []
 -- the flags that a command takes
 abbrev pub flags_of : Command → List (List ℕ)
 flags_of Compare = flag_names scope_flags ++ flag_names relation_flags
+flags_of Run = path_flag ∷ []
 flags_of command = []
 
 -- the command of a request, and the numbers of its options
@@ -51,11 +52,13 @@ command_of requests.Compile = Compile
 command_of (requests.Decide call) = Decide
 command_of requests.List = Dis
 command_of (requests.Run call) = Run
+command_of (requests.Trace call) = Run
 
 abbrev pub numbers_in : Request → List ℕ
 numbers_in (requests.Compare limit scopes relation) = limit ∷ []
 numbers_in (requests.Decide call) = numbers_of call
 numbers_in (requests.Run call) = numbers_of call
+numbers_in (requests.Trace call) = numbers_of call
 numbers_in request = []
 
 -- what the flags of a comparison come to
@@ -69,6 +72,8 @@ relation_in rows = choice_in rows relation_flags Same
 abbrev pub HasFlags : List Row → Request → Type 0
 HasFlags rows (requests.Compare limit scopes relation) =
     (scopes_in rows ≡ Some scopes) × (relation_in rows ≡ Some relation)
+HasFlags rows (requests.Run call) = is_given rows path_flag ≡ false
+HasFlags rows (requests.Trace call) = is_given rows path_flag ≡ true
 HasFlags rows request = Unit {0}
 
 -- A word and the values of options spell a request: they name its command, spell its numbers and give its flags.

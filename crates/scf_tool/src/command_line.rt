@@ -3,7 +3,7 @@
 ghost use Rattle.std.specs.Prelude.{◌≡◌, ◌≢◌, [], false, map, IfOk};
 ghost use Rattle.std.specs.IoError.{error_kind};
 ghost use Rattle.clap.specs.Words.{FailsBy, app_of, fault_of, kind_of, rule_of, subcommand_of, subcommand_rows_of};
-ghost use Rattle.scf_tool.specs.Requests.Command.{Compare};
+ghost use Rattle.scf_tool.specs.Requests.Command.{Compare, Run};
 ghost use Rattle.scf_tool.specs.Faults.{fault_line};
 ghost use Rattle.scf_tool.specs.declared.fault.Fault.TheVariants as faults;
 ghost use Rattle.scf_tool.specs.Runs.{PrintsText, flag_rule, not_utf8_text, rule_for, scf, shape_for, shape_with};
@@ -11,7 +11,8 @@ ghost use Rattle.scf_tool.specs.internal.Parsing.{Explains, option_of, options_o
 
 use crate::fault::Fault;
 use crate::options::{
-    CALLS_FLAG, NATIVE_FLAG, NO_LESS_FLAG, NO_MORE_FLAG, NumberOption, call_options, limit_option,
+    CALLS_FLAG, NATIVE_FLAG, NO_LESS_FLAG, NO_MORE_FLAG, NumberOption, PATH_FLAG, call_options,
+    limit_option,
 };
 use crate::reply::Reply;
 use crate::status::Status;
@@ -92,12 +93,22 @@ fn comparison<'a>(alloc: Global) -> Result<Command<'a>, AllocError>
         .arg(flag_argument(alloc, NO_LESS_FLAG, no_less))
 }
 
+/// The command that runs.
+fn running<'a>(alloc: Global) -> Result<Command<'a>, AllocError>
+    ensures { IfOk result (λ command. app_of command ≡ record { top = shape_for Run; subs = [] }) }
+{
+    let path = "Also the places of the instructions on the way";
+    command_with(alloc, "run", "Runs a filter on a call", &call_options())?.arg(flag_argument(
+        alloc, PATH_FLAG, path,
+    ))
+}
+
 /// The program's commands and their options.
 fn program<'a>(alloc: Global) -> Result<Command<'a>, AllocError>
     ensures { IfOk result (λ command. app_of command ≡ scf) }
 {
     let check = command_with(alloc, "check", "Checks a filter", &[])?;
-    let run = command_with(alloc, "run", "Runs a filter on a call", &call_options())?;
+    let run = running(alloc)?;
     let decide = command_with(
         alloc,
         "decide",

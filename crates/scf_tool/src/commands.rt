@@ -18,7 +18,7 @@ use crate::reply::{LINE_ROOM, Reply, print_ending, status_of};
 use crate::request::{Request, request_of};
 use crate::status::Status;
 use compare::compare_bundle;
-use filter::{check_filter, list_filter, run_filter};
+use filter::{check_filter, list_filter, run_filter, trace_filter};
 use profile::compile_profile;
 use scf_insn::{Sink, Source};
 use stack::decide_stack;
@@ -46,6 +46,7 @@ fn answer<R: Source>(alloc: Global, request: &Request, input: &mut R) -> Result<
         Request::Decide(call) => decide_stack(alloc, call, input),
         Request::List => list_filter(alloc, input),
         Request::Run(call) => run_filter(alloc, call, input),
+        Request::Trace(call) => trace_filter(alloc, call, input),
     }
 }
 

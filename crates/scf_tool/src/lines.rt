@@ -1,12 +1,14 @@
 //! Lines that say what a filter does.
 
-ghost use Rattle.std.specs.Prelude.{◌++◌, codes};
+ghost use Rattle.std.specs.Prelude.{◌++◌, codes, length};
 ghost use Rattle.std.specs.Fmt.{decimal};
 ghost use Rattle.scf_insn.specs.Streams.{Writes};
-ghost use Rattle.scf_tool.specs.Lines.{answer_text, steps_text, text_by};
+ghost use Rattle.std.specs.List.{flat_map};
+ghost use Rattle.scf_tool.specs.Lines.{answer_text, path_text, place_text, steps_text, text_by, traced_text};
 
 use crate::pieces::{Piece, write_pieces};
-use scf_insn::{Action, Answer, Sink, WriteFault};
+use scf_insn::{Action, Answer, Sink, WriteFault, write_whole};
+use scf_machine::Trace;
 
 /// Writes a named action and its data.
 fn write_named<S: Sink>(sink: &mut S, name: &str, detail: u16) -> Result<(), WriteFault>
@@ -61,4 +63,59 @@ pub(crate) fn write_steps<S: Sink>(sink: &mut S, steps: u32) -> Result<(), Write
             Piece::Text("\n"),
         ],
     )
+}
+
+fn write_place<S: Sink>(sink: &mut S, place: usize) -> Result<(), WriteFault>
+    ensures { Writes S.contents S.failures sink.old (place_text place) result sink.new }
+{
+    write_pieces(sink, &[Piece::Text(" "), Piece::Decimal(place as u64)])
+}
+
+fn write_places<S: Sink>(sink: &mut S, places: &[usize]) -> Result<(), WriteFault>
+    ensures { Writes S.contents S.failures sink.old (flat_map place_text places.now) result sink.new }
+{
+    for place in places {
+        write_place(sink, *place)?;
+    }
+    Ok(())
+}
+
+/// Writes the line of the places on a run's way.
+fn write_path<S: Sink>(sink: &mut S, places: &[usize]) -> Result<(), WriteFault>
+    ensures { Writes S.contents S.failures sink.old (path_text places.now) result sink.new }
+{
+    write_whole(sink, b"path")?;
+    write_places(sink, places)?;
+    write_whole(sink, b"\n")
+}
+
+/// Writes the count of the places, as steps.
+fn write_count<S: Sink>(sink: &mut S, places: &[usize]) -> Result<(), WriteFault>
+    ensures { Writes S.contents S.failures sink.old (steps_text (length places.now)) result sink.new }
+{
+    write_pieces(
+        sink,
+        &[
+            Piece::Text(" steps "),
+            Piece::Decimal(places.len() as u64),
+            Piece::Text("\n"),
+        ],
+    )
+}
+
+fn write_way<S: Sink>(sink: &mut S, places: &[usize]) -> Result<(), WriteFault>
+    ensures { Writes S.contents S.failures sink.old
+        (steps_text (length places.now) ++ path_text places.now) result sink.new }
+{
+    write_count(sink, places)?;
+    write_path(sink, places)
+}
+
+/// Writes the answer of a run, the count of its steps and their places.
+pub(crate) fn write_trace<S: Sink>(sink: &mut S, trace: &Trace) -> Result<(), WriteFault>
+    ensures { Writes S.contents S.failures sink.old
+        (traced_text trace.now.answer.0 trace.now.places.items) result sink.new }
+{
+    write_answer(sink, trace.answer)?;
+    write_way(sink, &trace.places)
 }

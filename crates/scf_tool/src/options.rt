@@ -97,6 +97,9 @@ pub(crate) const NO_MORE_FLAG: &str = "no-more";
 /// The flag that asks whether no less is let through.
 pub(crate) const NO_LESS_FLAG: &str = "no-less";
 
+/// The flag that has the path of a run shown.
+pub(crate) const PATH_FLAG: &str = "path";
+
 /// Over which calls a comparison goes, by its flags.
 pub(crate) const SCOPE_FLAGS: [(&str, Scopes); 2] = [
     (NATIVE_FLAG, Scopes::Native),

@@ -5,7 +5,9 @@ ghost use Rattle.clap.specs.Words.{found_of, rows_of, subcommand_rows_of};
 ghost use Rattle.scf_tool.specs.Requests.{Asks};
 
 use crate::fault::Fault;
-use crate::options::{RELATION_FLAGS, SCOPE_FLAGS, chosen, limit_option, record_of};
+use crate::options::{
+    PATH_FLAG, RELATION_FLAGS, SCOPE_FLAGS, chosen, is_given, limit_option, record_of,
+};
 use clap::ArgMatches;
 use scf_compare::Relation;
 use scf_insn::CallRecord;
@@ -35,6 +37,8 @@ pub(crate) enum Request {
     Decide(CallRecord),
     List,
     Run(CallRecord),
+    /// To run a filter, and to show the way.
+    Trace(CallRecord),
 }
 
 /// The comparison that these options ask for.
@@ -51,6 +55,18 @@ fn comparison_in(options: &ArgMatches<'_>) -> Result<Request, Fault>
     })
 }
 
+/// The run that these options ask for.
+fn run_in(options: &ArgMatches<'_>) -> Result<Request, Fault>
+    ensures { Asks (Some (codes "run", rows_of (found_of options.now))) result }
+{
+    let call = record_of(options)?;
+    if is_given(options, PATH_FLAG) {
+        Ok(Request::Trace(call))
+    } else {
+        Ok(Request::Run(call))
+    }
+}
+
 /// What the matches of the words ask for.
 pub(crate) fn request_of(matches: &ArgMatches<'_>) -> Result<Request, Fault>
     ensures { Asks (subcommand_rows_of matches.now) result }
@@ -62,7 +78,7 @@ pub(crate) fn request_of(matches: &ArgMatches<'_>) -> Result<Request, Fault>
         Some(("compile", _)) => Ok(Request::Compile),
         Some(("decide", options)) => Ok(Request::Decide(record_of(options)?)),
         Some(("dis", _)) => Ok(Request::List),
-        Some(("run", options)) => Ok(Request::Run(record_of(options)?)),
+        Some(("run", options)) => run_in(options),
         _ => Err(Fault::NoCommand),
     }
 }

@@ -1,16 +1,20 @@
 //! Commands on one filter.
 
-ghost use Rattle.std.specs.Prelude.{◌≡◌, IfOk};
+ghost use Rattle.std.specs.Prelude.{◌≡◌, ℕ, List, IfOk};
+ghost use Rattle.scf_insn.specs.Words.{words_of};
+ghost use Rattle.scf_machine.specs.Path.{IsPathOf};
 ghost use Rattle.scf_text.specs.Listing.{text_of};
-ghost use Rattle.scf_tool.specs.Commands.{Checks, Lists, Runs};
+ghost use Rattle.scf_tool.specs.Commands.{Checks, Lists, Runs, Traces};
+ghost use Rattle.scf_tool.specs.Lines.{traced_text};
 ghost use Rattle.scf_tool.specs.Statuses.{LeavesInput};
 
 use crate::fault::Fault;
 use crate::filter::read_filter;
 use crate::gathered::Gathered;
+use crate::lines::write_trace;
 use crate::reply::Reply;
 use scf_insn::{CallRecord, Insn, Memory, ReadFault, Source, read_program};
-use scf_machine::run;
+use scf_machine::{Program, Trace, run, trace};
 use scf_text::disassemble;
 use std::alloc::Global;
 
@@ -34,6 +38,42 @@ pub(super) fn run_filter<R: Source>(
 {
     let program = read_filter(alloc, input)?;
     Ok(Reply::Ran(run(&program, call)))
+}
+
+/// The lines of a run and its way.
+fn lines_of(alloc: Global, trace: &Trace) -> Result<Vec<u8>, Memory>
+    ensures { IfOk result (λ text. text.items ≡ traced_text trace.now.answer.0 trace.now.places.items) }
+{
+    let mut text = Gathered::new(alloc);
+    match write_trace(&mut text, trace) {
+        Ok(()) => Ok(text.into_bytes()),
+        Err(_) => Err(Memory),
+    }
+}
+
+/// The lines of a filter's run on a call and its way.
+fn traced(alloc: Global, program: &Program, call: &CallRecord) -> Result<Vec<u8>, Memory>
+    ensures { IfOk result (λ text. (answer : ℕ) × (places : List ℕ)
+        × IsPathOf program.now (words_of call.now) answer places × (text.items ≡ traced_text answer places)) }
+{
+    let trace = trace(alloc, program, call)?;
+    lines_of(alloc, &trace)
+}
+
+/// `run --path`: what a filter answers to a call, and the instructions on the way.
+pub(super) fn trace_filter<R: Source>(
+    alloc: Global,
+    call: &CallRecord,
+    input: &mut R,
+) -> Result<Reply, Fault>
+    ensures answer { Traces call.now (R.remaining input.old) result }
+    ensures left { LeavesInput R.remaining R.failures input.old result input.new }
+{
+    let program = read_filter(alloc, input)?;
+    match traced(alloc, &program, call) {
+        Ok(lines) => Ok(Reply::Bytes(lines)),
+        Err(_) => Err(Fault::from(ReadFault::Memory)),
+    }
 }
 
 /// The listing of instructions.

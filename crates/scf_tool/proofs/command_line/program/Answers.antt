@@ -13,13 +13,12 @@ bare = alone (record (new_app (codes "scf")).top { has_version = true; subcomman
 pub returns : goal.returns
 returns c =
     let bare_is : app_of c.subcommand_required.result ≡ bare = search rules in
-    let run_is = c.in_ok-run.ensures ∙ ap (λ (options : List NumberOption). alone (shape_with (codes "run") options))
-    c.call_options.ensures in
     let decide_is = c.in_ok-decide.ensures
-    ∙ ap (λ (options : List NumberOption). alone (shape_with (codes "decide") options)) c.call_options-2.ensures in
+    ∙ ap (λ (options : List NumberOption). alone (shape_with (codes "decide") options)) c.call_options.ensures in
     let first = one_more_command _ _ _ bare (shape_for Check) c.in_ok-subcommand.ensures bare_is c.in_ok-check.ensures
     refl in
-    let second = one_more_command _ _ _ _ (shape_for Run) c.in_ok-subcommand-2.ensures first run_is refl in
+    let second = one_more_command _ _ _ _ (shape_for Run) c.in_ok-subcommand-2.ensures first c.in_ok-run.ensures refl
+    in
     let third = one_more_command _ _ _ _ (shape_for Decide) c.in_ok-subcommand-3.ensures second decide_is refl in
     let fourth = one_more_command _ _ _ _ (shape_for Dis) c.in_ok-subcommand-4.ensures third c.in_ok-list.ensures
     refl in

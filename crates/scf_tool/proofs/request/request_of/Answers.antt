@@ -1,7 +1,7 @@
 use Rattle.std.proofs.Common.{rules}
 use Rattle.std.proofs.lemmas.Result.{err_from_is_err_and}
 use Rattle.clap.specs.Words.{found_of, rows_of}
-use Rattle.scf_tool.specs.Requests.Command.{Decide, Run}
+use Rattle.scf_tool.specs.Requests.Command.{Decide}
 use Rattle.scf_tool.proofs.request.request_of.Goals as goal
 
 pub returns-in_err-record_of-in-Some-decide-default : goal.returns-in_err-record_of-in-Some-decide-default
@@ -12,15 +12,4 @@ returns-in_err-record_of-in-Some-decide-default c =
       rows = rows_of (found_of c.in-Some-decide-default.options.now);
       named = search rules;
       wrong = c.in_err-record_of-in-Some-decide-default.ensures;
-    })
-
-pub returns-in_err-record_of-in-Some-run-default : goal.returns-in_err-record_of-in-Some-run-default
-returns-in_err-record_of-in-Some-run-default c =
-    let p = err_from_is_err_and c.from_residual-in_err-record_of-in-Some-run-default.result
-    c.from_residual-in_err-record_of-in-Some-run-default.ensures.1 in
-    rw (p.1, p.2) (record {
-      command = Run;
-      rows = rows_of (found_of c.in-Some-run-default.options.now);
-      named = search rules;
-      wrong = c.in_err-record_of-in-Some-run-default.ensures;
     })

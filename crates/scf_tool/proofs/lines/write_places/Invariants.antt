@@ -1,0 +1,9 @@
+use Rattle.std.proofs.Common.{take}
+use Rattle.std.specs.List.{flat_map}
+use Rattle.scf_insn.specs.Streams.{TakesAll}
+use Rattle.scf_tool.specs.Lines.{place_text}
+use Rattle.scf_tool.proofs.lines.write_places.Given as goal
+
+abbrev pub invariant-loop-place : goal.invariant-loop-place
+invariant-loop-place g l = TakesAll (g.S.Sink.contents l.fn.sink) (flat_map place_text (take l.place-index l.places))
+    (g.S.Sink.contents l.sink) (g.S.Sink.failures l.fn.sink) (g.S.Sink.failures l.sink)
