@@ -23,6 +23,7 @@ const WORDS: &[Case] = &[
             \x20 asm      Assembles a text, which isn't checked\n\
             \x20 compile  Compiles a bundle of a profile and a table\n\
             \x20 compare  Compares a bundle of filters, a profile and a table\n\
+            \x20 ask      Says what a profile answers to a call, and why, of a bundle with a table\n\
             \x20 help     Print this message or the help of the given subcommand(s)\n\
             \n\
             Options:\n\
@@ -79,7 +80,7 @@ const WORDS: &[Case] = &[
         words: &["scf"],
         input: b"",
         output: "error: 'scf' requires a subcommand but one was not provided\n\
-            \x20 [subcommands: check, run, decide, dis, asm, compile, compare, help]\n\
+            \x20 [subcommands: check, run, decide, dis, asm, compile, compare, ask, help]\n\
             \n\
             Usage: scf <COMMAND>\n\
             \n\

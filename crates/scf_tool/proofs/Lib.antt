@@ -2,6 +2,7 @@ pub mod BundleLemmas
 mod ContentLemmas
 mod FaultLemmas
 mod JointLemmas
+mod LoadLemmas
 pub mod HeaderLemmas
 mod OptionLemmas
 mod PartyLemmas

@@ -18,6 +18,9 @@ use Rattle.scf_text.specs.Spelling as spelling
 use Rattle.scf_profile.specs.declared.loaded.Loaded.{Loaded}
 use Rattle.scf_profile.specs.declared.table_fault.TableFault.TheVariants as tables
 use Rattle.scf_profile.specs.Loading.{Loads, Refuses}
+use Rattle.scf_profile.specs.declared.reason.Reason.{Reason}
+use Rattle.scf_profile.specs.ProfileAnswers.{ProfileAnswers}
+use Rattle.scf_profile.specs.Reasons.{IsReason}
 use Rattle.scf_profile.specs.SameAnswers.{SameAnswers}
 use Rattle.scf_profile.specs.Table.{Names, table_of}
 use Rattle.scf_compile.specs.declared.fault.CompileFault.TheVariants as compiles
@@ -32,7 +35,7 @@ use Rattle.scf_tool.specs.declared.call_verification.CallsOutcome.{CallsOutcome}
 use Rattle.scf_tool.specs.declared.filter_stack.StackFault.{StackFault}
 use Rattle.scf_tool.specs.declared.filter_stack.StackFault.TheVariants as stacks
 use Rattle.scf_tool.specs.declared.reply.Reply.{Reply}
-use Rattle.scf_tool.specs.declared.reply.Reply.TheVariants.{Accepted, Ran, Decided, Bytes, Compared}
+use Rattle.scf_tool.specs.declared.reply.Reply.TheVariants.{Accepted, Ran, Decided, Asked, Bytes, Compared}
 use Rattle.scf_tool.specs.declared.request.Request.{Request}
 use Rattle.scf_tool.specs.declared.request.Request.TheVariants as requests
 use Rattle.scf_tool.specs.declared.request.Scopes.{Scopes}
@@ -156,13 +159,24 @@ Decides call told ending = ⊥
 abbrev pub IsProfileWithTable : ℕ → ℕ → ℕ → Type 0
 IsProfileWithTable filters profiles tables = (filters ≡ 0) × (profiles ≡ 1) × (tables ≡ 1)
 
+-- The table and the profile are read, and state this.
+pub record IsStated (profile table : List ℕ) (loaded : Loaded) : Type 0 where
+  pub names : Names
+  pub is_table : table_of table ≡ Ok names
+  pub loads : Loads profile names loaded
+
+-- why a profile and a table state nothing
+abbrev pub CantLoad : List ℕ → List ℕ → Fault → Type 0
+CantLoad profile table (faults.Table fault) = fault ≢ tables.Memory → table_of table ≡ Err fault
+CantLoad profile table (faults.Profile fault) =
+    (names : Names) × (table_of table ≡ Ok names) × Refuses profile names fault
+CantLoad profile table fault = ⊥
+
 -- The table and the profile are read, and these bytes are an accepted filter that answers every call record as the
 -- profile does.
 pub record IsFilterOf (profile table bytes : List ℕ) : Type 0 where
-  pub names : Names
-  pub is_table : table_of table ≡ Ok names
   pub loaded : Loaded
-  pub loads : Loads profile names loaded
+  pub stated : IsStated profile table loaded
   pub insns : List Insn
   pub is_filter : IsFilter (Some bytes) insns
   pub same : SameAnswers (RunAnswers insns) loaded.profile
@@ -172,13 +186,35 @@ abbrev pub IsCompiled : Option (List ℕ) → List ℕ → Type 0
 IsCompiled told bytes =
     (profile table : List ℕ) × HoldsBundle told [] (profile ∷ []) (table ∷ []) × IsFilterOf profile table bytes
 
+-- The input is a bundle of a profile and a table, and the profile answers the call so, for this reason.
+pub record IsAsked (call : CallRecord) (told : Option (List ℕ)) (answer : ℕ) (reason : Reason) : Type 0 where
+  pub profile : List ℕ
+  pub table : List ℕ
+  pub bundle : HoldsBundle told [] (profile ∷ []) (table ∷ [])
+  pub loaded : Loaded
+  pub stated : IsStated profile table loaded
+  pub answers : ProfileAnswers loaded.profile call answer
+  pub has_reason : IsReason loaded.profile call reason
+
+-- The input is a bundle of a profile and a table that state nothing.
+abbrev pub IsNotLoaded : Option (List ℕ) → Fault → Type 0
+IsNotLoaded told fault =
+    (profile table : List ℕ) × HoldsBundle told [] (profile ∷ []) (table ∷ []) × CantLoad profile table fault
+
+-- `ask`: the answer of the profile to the call, and why
+abbrev pub GivesReason : CallRecord → Option (List ℕ) → Result Reply Fault → Type 0
+GivesReason call told (Ok (Asked answer reason)) = IsAsked call told answer.0 reason
+GivesReason call told (Err (faults.Table fault)) = IsNotLoaded told (faults.Table fault)
+GivesReason call told (Err (faults.Profile fault)) = IsNotLoaded told (faults.Profile fault)
+GivesReason call told (Err fault) = IsNoBundle told IsProfileWithTable fault
+GivesReason call told ending = ⊥
+
 -- why a profile and a table aren't compiled
 abbrev pub CantCompile : List ℕ → List ℕ → Fault → Type 0
-CantCompile profile table (faults.Table fault) = fault ≢ tables.Memory → table_of table ≡ Err fault
-CantCompile profile table (faults.Profile fault) =
-    (names : Names) × (table_of table ≡ Ok names) × Refuses profile names fault
+CantCompile profile table (faults.Table fault) = CantLoad profile table (faults.Table fault)
+CantCompile profile table (faults.Profile fault) = CantLoad profile table (faults.Profile fault)
 CantCompile profile table (faults.Compile fault) =
-    (names : Names) × (table_of table ≡ Ok names) × (loaded : Loaded) × Loads profile names loaded
+    (loaded : Loaded) × IsStated profile table loaded
     × (fault ≡ compiles.TooLarge → 4096 < size_bound_of loaded.profile)
 CantCompile profile table fault = ⊥
 
@@ -259,6 +295,7 @@ Compares over relation limit told (Err fault) = IsNoBundle told AreCompared faul
 
 -- what a request ends with is true of the input
 abbrev pub IsTrueOf : Request → Option (List ℕ) → Result Reply Fault → Type 0
+IsTrueOf (requests.Ask call) told ending = GivesReason call told ending
 IsTrueOf requests.Assemble told ending = Assembles told ending
 IsTrueOf requests.Check told ending = Checks told ending
 IsTrueOf (requests.Compare limit over relation) told ending = Compares over relation limit told ending

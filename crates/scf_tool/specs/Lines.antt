@@ -5,6 +5,8 @@ use Rattle.std.specs.Fmt.{decimal}
 use Rattle.scf_insn.specs.declared.answer.Action.{Action}
 use Rattle.scf_insn.specs.declared.answer.Action.TheVariants.{KillProcess, KillThread, Trap, Errno, UserNotif, Trace, Log, Allow, Other}
 use Rattle.scf_insn.specs.Answers.{action_half, data_half, action_of}
+use Rattle.scf_profile.specs.declared.reason.Reason.{Reason}
+use Rattle.scf_profile.specs.declared.reason.Reason.TheVariants.{Foreign, Entry, Default}
 use Rattle.scf_tool.specs.Numerals.{eight_digits}
 
 -- the name of an action that has one (Linux uapi seccomp.h, without its prefix)
@@ -42,3 +44,9 @@ path_text places = codes "path" ++ (flat_map place_text places ++ codes "\n")
 -- the lines of a run whose way is shown
 abbrev pub traced_text : ℕ → List ℕ → List ℕ
 traced_text answer places = answer_text answer ++ (steps_text (length places) ++ path_text places)
+
+-- why a profile answers so, behind the answer, and the end of its line
+abbrev pub reason_text : Reason → List ℕ
+reason_text Foreign = codes " foreign\n"
+reason_text (Entry place) = codes " entry " ++ decimal place ++ codes "\n"
+reason_text Default = codes " default\n"

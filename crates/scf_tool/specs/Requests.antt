@@ -12,6 +12,7 @@ use Rattle.scf_compare.specs.declared.relation.Relation.TheVariants.{Same}
 use Rattle.scf_tool.specs.Options.{NumberOption, AreSpelled, call_options, choice_in, first_wrong, is_given, limit_option, flag_names, numbers_of, path_flag, relation_flags, scope_flags}
 
 pub data Command : Type 0 where
+  Ask : Command
   Asm : Command
   Check : Command
   Compare : Command
@@ -22,6 +23,7 @@ pub data Command : Type 0 where
 
 -- the word that names a command
 abbrev pub word_of : Command → List ℕ
+word_of Ask = codes "ask"
 word_of Asm = codes "asm"
 word_of Check = codes "check"
 word_of Compare = codes "compare"
@@ -32,6 +34,7 @@ word_of Run = codes "run"
 
 -- the options that a command takes, each with a number
 abbrev pub options_of : Command → List NumberOption
+options_of Ask = call_options
 options_of Compare = limit_option ∷ []
 options_of Decide = call_options
 options_of Run = call_options
@@ -45,6 +48,7 @@ flags_of command = []
 
 -- the command of a request, and the numbers of its options
 abbrev pub command_of : Request → Command
+command_of (requests.Ask call) = Ask
 command_of requests.Assemble = Asm
 command_of requests.Check = Check
 command_of (requests.Compare limit scopes relation) = Compare
@@ -55,6 +59,7 @@ command_of (requests.Run call) = Run
 command_of (requests.Trace call) = Run
 
 abbrev pub numbers_in : Request → List ℕ
+numbers_in (requests.Ask call) = numbers_of call
 numbers_in (requests.Compare limit scopes relation) = limit ∷ []
 numbers_in (requests.Decide call) = numbers_of call
 numbers_in (requests.Run call) = numbers_of call

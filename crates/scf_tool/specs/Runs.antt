@@ -16,7 +16,7 @@ use Rattle.scf_tool.specs.Commands.{IsTrueOf}
 use Rattle.scf_tool.specs.Options.{NumberOption}
 use Rattle.scf_tool.specs.Replies.{ending_status, ending_text}
 use Rattle.scf_tool.specs.Requests.{Asks, Command, IsRequest, flags_of, options_of, word_of}
-use Rattle.scf_tool.specs.Requests.Command.{Asm, Check, Compare, Compile, Decide, Dis, Run}
+use Rattle.scf_tool.specs.Requests.Command.{Ask, Asm, Check, Compare, Compile, Decide, Dis, Run}
 use Rattle.scf_tool.specs.Statuses.{LeavesInput, status_code}
 
 -- ---- the command line, as its reader sees it
@@ -43,7 +43,7 @@ abbrev pub scf_shape : Shape
 scf_shape = record (new_app (codes "scf")).top { is_leaf = false; has_version = true; subcommand_required = true }
 
 abbrev pub scf : App
-scf = record { top = scf_shape; subs = map shape_for (Check ∷ Run ∷ Decide ∷ Dis ∷ Asm ∷ Compile ∷ Compare ∷ []) }
+scf = record { top = scf_shape; subs = map shape_for (Check ∷ Run ∷ Decide ∷ Dis ∷ Asm ∷ Compile ∷ Compare ∷ Ask ∷ []) }
 
 -- ---- how a run ends
 

@@ -1,8 +1,8 @@
 //! The words that the program takes.
 
-ghost use Rattle.std.specs.Prelude.{◌≡◌, ◌≢◌, [], false, map, IfOk};
+ghost use Rattle.std.specs.Prelude.{◌≡◌, ◌≢◌, [], codes, false, true, map, IfOk};
 ghost use Rattle.std.specs.IoError.{error_kind};
-ghost use Rattle.clap.specs.Words.{FailsBy, app_of, fault_of, kind_of, rule_of, subcommand_of, subcommand_rows_of};
+ghost use Rattle.clap.specs.Words.{FailsBy, app_of, fault_of, kind_of, new_app, rule_of, subcommand_of, subcommand_rows_of};
 ghost use Rattle.scf_tool.specs.Requests.Command.{Compare, Run};
 ghost use Rattle.scf_tool.specs.Faults.{fault_line};
 ghost use Rattle.scf_tool.specs.declared.fault.Fault.TheVariants as faults;
@@ -103,6 +103,19 @@ fn running<'a>(alloc: Global) -> Result<Command<'a>, AllocError>
     ))
 }
 
+/// The program, without its commands.
+fn alone<'a>(alloc: Global) -> Command<'a>
+    ensures { app_of result ≡ record {
+      top = record (new_app (codes "scf")).top { has_version = true; subcommand_required = true };
+      subs = [];
+    } }
+{
+    Command::new(alloc, "scf")
+        .version(VERSION)
+        .about(ABOUT)
+        .subcommand_required(true)
+}
+
 /// The program's commands and their options.
 fn program<'a>(alloc: Global) -> Result<Command<'a>, AllocError>
     ensures { IfOk result (λ command. app_of command ≡ scf) }
@@ -124,17 +137,21 @@ fn program<'a>(alloc: Global) -> Result<Command<'a>, AllocError>
         &[],
     )?;
     let compare = comparison(alloc)?;
-    Command::new(alloc, "scf")
-        .version(VERSION)
-        .about(ABOUT)
-        .subcommand_required(true)
+    let ask = command_with(
+        alloc,
+        "ask",
+        "Says what a profile answers to a call, and why, of a bundle with a table",
+        &call_options(),
+    )?;
+    alone(alloc)
         .subcommand(check)?
         .subcommand(run)?
         .subcommand(decide)?
         .subcommand(list)?
         .subcommand(assemble)?
         .subcommand(compile)?
-        .subcommand(compare)
+        .subcommand(compare)?
+        .subcommand(ask)
 }
 
 /// What the words say, the first being the program's name.

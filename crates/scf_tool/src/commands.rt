@@ -19,7 +19,7 @@ use crate::request::{Request, request_of};
 use crate::status::Status;
 use compare::compare_bundle;
 use filter::{check_filter, list_filter, run_filter, trace_filter};
-use profile::compile_profile;
+use profile::{ask_profile, compile_profile};
 use scf_insn::{Sink, Source};
 use stack::decide_stack;
 use std::alloc::Global;
@@ -35,6 +35,7 @@ fn answer<R: Source>(alloc: Global, request: &Request, input: &mut R) -> Result<
     ensures left { LeavesInput R.remaining R.failures input.old result input.new }
 {
     match request {
+        Request::Ask(call) => ask_profile(alloc, call, input),
         Request::Assemble => assemble_text(alloc, input),
         Request::Check => check_filter(alloc, input),
         Request::Compare {

@@ -4,11 +4,12 @@ ghost use Rattle.std.specs.Prelude.{◌++◌, codes, length};
 ghost use Rattle.std.specs.Fmt.{decimal};
 ghost use Rattle.scf_insn.specs.Streams.{Writes};
 ghost use Rattle.std.specs.List.{flat_map};
-ghost use Rattle.scf_tool.specs.Lines.{answer_text, path_text, place_text, steps_text, text_by, traced_text};
+ghost use Rattle.scf_tool.specs.Lines.{answer_text, path_text, place_text, reason_text, steps_text, text_by, traced_text};
 
 use crate::pieces::{Piece, write_pieces};
 use scf_insn::{Action, Answer, Sink, WriteFault, write_whole};
 use scf_machine::Trace;
+use scf_profile::Reason;
 
 /// Writes a named action and its data.
 fn write_named<S: Sink>(sink: &mut S, name: &str, detail: u16) -> Result<(), WriteFault>
@@ -118,4 +119,22 @@ pub(crate) fn write_trace<S: Sink>(sink: &mut S, trace: &Trace) -> Result<(), Wr
 {
     write_answer(sink, trace.answer)?;
     write_way(sink, &trace.places)
+}
+
+/// Writes why a profile answers so, and ends the line.
+pub(crate) fn write_reason<S: Sink>(sink: &mut S, reason: Reason) -> Result<(), WriteFault>
+    ensures { Writes S.contents S.failures sink.old (reason_text reason) result sink.new }
+{
+    match reason {
+        Reason::Foreign => write_whole(sink, b" foreign\n"),
+        Reason::Entry(place) => write_pieces(
+            sink,
+            &[
+                Piece::Text(" entry "),
+                Piece::Decimal(u64::from(place)),
+                Piece::Text("\n"),
+            ],
+        ),
+        Reason::Default => write_whole(sink, b" default\n"),
+    }
 }

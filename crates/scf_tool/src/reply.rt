@@ -3,18 +3,19 @@
 ghost use Rattle.std.specs.Prelude.{◌≡◌, ◌++◌, [], codes};
 ghost use Rattle.std.specs.Fmt.{decimal};
 ghost use Rattle.scf_insn.specs.Streams.{Writes};
-ghost use Rattle.scf_tool.specs.Lines.{answer_text, steps_text};
+ghost use Rattle.scf_tool.specs.Lines.{answer_text, reason_text, steps_text};
 ghost use Rattle.scf_tool.specs.Replies.{ending_status, ending_text};
 ghost use Rattle.scf_tool.specs.internal.Gathering.{gathered};
 
 use crate::fault::Fault;
 use crate::fault_line::write_fault;
 use crate::gathered::Gathered;
-use crate::lines::{write_answer, write_steps};
+use crate::lines::{write_answer, write_reason, write_steps};
 use crate::pieces::{Piece, write_pieces};
 use crate::status::Status;
 use scf_insn::{Answer, Sink, WriteFault, write_whole};
 use scf_machine::Ran;
+use scf_profile::Reason;
 
 /// What a command found, ready to be printed: printing it takes no memory but a line's room.
 #[derive(Drop)]
@@ -27,6 +28,8 @@ pub(crate) enum Reply {
     Ran(Ran),
     /// A stack of filters was asked.
     Decided(Answer),
+    /// A profile was asked.
+    Asked { answer: Answer, reason: Reason },
     /// These bytes.
     Bytes(Vec<u8>),
     /// A comparison came to what this text reports.
@@ -71,6 +74,13 @@ fn write_decided<S: Sink>(sink: &mut S, answer: Answer) -> Result<(), WriteFault
     write_whole(sink, b"\n")
 }
 
+fn write_asked<S: Sink>(sink: &mut S, answer: Answer, reason: Reason) -> Result<(), WriteFault>
+    ensures { Writes S.contents S.failures sink.old (answer_text answer.0 ++ reason_text reason) result sink.new }
+{
+    write_answer(sink, answer)?;
+    write_reason(sink, reason)
+}
+
 /// Writes what a command ended with, piece by piece.
 fn write_ending<S: Sink>(sink: &mut S, ending: &Result<Reply, Fault>) -> Result<(), WriteFault>
     ensures { Writes S.contents S.failures sink.old (ending_text ending.now) result sink.new }
@@ -80,6 +90,7 @@ fn write_ending<S: Sink>(sink: &mut S, ending: &Result<Reply, Fault>) -> Result<
         Ok(Reply::Accepted(count)) => write_accepted(sink, *count),
         Ok(Reply::Ran(ran)) => write_ran(sink, *ran),
         Ok(Reply::Decided(answer)) => write_decided(sink, *answer),
+        Ok(Reply::Asked { answer, reason }) => write_asked(sink, *answer, *reason),
         Ok(Reply::Bytes(bytes)) => write_whole(sink, bytes),
         Ok(Reply::Compared { text, .. }) => write_whole(sink, text),
         Err(fault) => write_fault(sink, *fault),

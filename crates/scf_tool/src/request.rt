@@ -26,6 +26,7 @@ pub(crate) enum Scopes {
 /// What the program is asked for: a command, with the numbers of its options.
 #[derive(Clone, Copy)]
 pub(crate) enum Request {
+    Ask(CallRecord),
     Assemble,
     Check,
     Compare {
@@ -72,6 +73,7 @@ pub(crate) fn request_of(matches: &ArgMatches<'_>) -> Result<Request, Fault>
     ensures { Asks (subcommand_rows_of matches.now) result }
 {
     match matches.subcommand() {
+        Some(("ask", options)) => Ok(Request::Ask(record_of(options)?)),
         Some(("asm", _)) => Ok(Request::Assemble),
         Some(("check", _)) => Ok(Request::Check),
         Some(("compare", options)) => comparison_in(options),

@@ -1,7 +1,7 @@
 //! Commands on a profile and its call table.
 
 ghost use Rattle.std.specs.Prelude.{IfOk, IfErr};
-ghost use Rattle.scf_tool.specs.Commands.{CantCompile, Compiles, IsFilterOf};
+ghost use Rattle.scf_tool.specs.Commands.{CantCompile, CantLoad, Compiles, GivesReason, IsFilterOf, IsStated};
 ghost use Rattle.scf_tool.specs.Statuses.{LeavesInput};
 
 use crate::commands::MAX_INPUT;
@@ -10,17 +10,25 @@ use crate::fault::Fault;
 use crate::gathered::encoding_of;
 use crate::reply::Reply;
 use scf_compile::{CompileFault, compile};
-use scf_insn::{Source, read_input};
-use scf_profile::{CallTable, load};
+use scf_insn::{CallRecord, Source, read_input};
+use scf_profile::{CallTable, Loaded, load};
 use std::alloc::Global;
+
+/// What a profile and a table state.
+fn stated(alloc: Global, profile: &[u8], table: &[u8]) -> Result<Loaded, Fault>
+    ensures stated { IfOk result (IsStated profile.now table.now) }
+    ensures fault { IfErr result (CantLoad profile.now table.now) }
+{
+    let table = CallTable::read(alloc, table)?;
+    Ok(load(alloc, profile, &table)?)
+}
 
 /// The bytes of the filter of a profile and a table.
 fn filter_bytes(alloc: Global, profile: &[u8], table: &[u8]) -> Result<Vec<u8>, Fault>
     ensures filter { IfOk result (λ bytes. IsFilterOf profile.now table.now bytes.items) }
     ensures fault { IfErr result (CantCompile profile.now table.now) }
 {
-    let table = CallTable::read(alloc, table)?;
-    let loaded = load(alloc, profile, &table)?;
+    let loaded = stated(alloc, profile, table)?;
     let program = compile(alloc, &loaded.profile)?;
     match encoding_of(alloc, program.insns()) {
         Ok(bytes) => Ok(bytes),
@@ -41,4 +49,30 @@ pub(super) fn compile_profile<R: Source>(alloc: Global, input: &mut R) -> Result
         return Err(Fault::Parts);
     };
     Ok(Reply::Bytes(filter_bytes(alloc, profile, table)?))
+}
+
+/// `ask`: what a profile answers to a call, and why.
+pub(super) fn ask_profile<R: Source>(
+    alloc: Global,
+    call: &CallRecord,
+    input: &mut R,
+) -> Result<Reply, Fault>
+    ensures answer { GivesReason call.now (R.remaining input.old) result }
+    ensures left { LeavesInput R.remaining R.failures input.old result input.new }
+{
+    let bytes = read_input(alloc, input, MAX_INPUT)?;
+    let contents = Contents::of(alloc, &bytes)?;
+    let alone = contents.filters.is_empty();
+    let (Some(profile), Some(table), true) = (
+        only(&contents.profiles),
+        only(&contents.tables),
+        alone,
+    ) else {
+        return Err(Fault::Parts);
+    };
+    let loaded = stated(alloc, profile, table)?;
+    Ok(Reply::Asked {
+        answer: loaded.profile.answer(call),
+        reason: loaded.profile.reason(call),
+    })
 }

@@ -1,28 +1,21 @@
 use Rattle.std.proofs.lemmas.Result.{err_from_is_err_and}
+use Rattle.scf_tool.proofs.LoadLemmas.{cant_compile}
 use Rattle.scf_tool.proofs.commands.profile.filter_bytes.Goals as goal
 
 pub returns-in_err-loaded-clause-fault : goal.returns-in_err-loaded-clause-fault
 returns-in_err-loaded-clause-fault c =
-    let p = err_from_is_err_and c.from_residual-in_err-loaded.result c.from_residual-in_err-loaded.ensures.1 in
-    rw (p.1, p.2) (c.in_ok-table.table, c.in_ok-table.ensures.table, c.in_err-loaded.ensures.err)
+    let p = err_from_is_err_and c.from_residual.result c.from_residual.ensures.1 in
+    rw (p.1, p.2) (cant_compile c.args.profile.now c.args.table.now _ c.in_err-loaded.ensures.fault)
 
 pub returns-in_err-program-clause-fault : goal.returns-in_err-program-clause-fault
 returns-in_err-program-clause-fault c =
     let p = err_from_is_err_and c.from_residual-in_err-program.result c.from_residual-in_err-program.ensures.1 in
-    rw (p.1, p.2) (
-      c.in_ok-table.table,
-      c.in_ok-table.ensures.table,
-      c.in_ok-loaded.loaded,
-      c.in_ok-loaded.ensures.ok,
-      c.in_err-program.ensures.large,
-    )
+    rw (p.1, p.2) (c.in_ok-loaded.loaded, c.in_ok-loaded.ensures.stated, c.in_err-program.ensures.large)
 
 pub returns-in-Ok-clause-filter : goal.returns-in-Ok-clause-filter
 returns-in-Ok-clause-filter c = record {
-  names = c.in_ok-table.table;
-  is_table = c.in_ok-table.ensures.table;
   loaded = c.in_ok-loaded.loaded;
-  loads = c.in_ok-loaded.ensures.ok;
+  stated = c.in_ok-loaded.ensures.stated;
   insns = c.in_ok-program.program;
   is_filter = record {
     encoded = (rw c.insns.ensures.same at c.in-Ok.ensures, c.insns.ensures.widths);
@@ -33,10 +26,4 @@ returns-in-Ok-clause-filter c = record {
 }
 
 pub returns-clause-fault : goal.returns-clause-fault
-returns-clause-fault c = (
-  c.in_ok-table.table,
-  c.in_ok-table.ensures.table,
-  c.in_ok-loaded.loaded,
-  c.in_ok-loaded.ensures.ok,
-  λ e. cc,
-)
+returns-clause-fault c = (c.in_ok-loaded.loaded, c.in_ok-loaded.ensures.stated, λ e. cc)
