@@ -1,5 +1,11 @@
 """tools/storeys, on this repository and on made ones in which it has to bite."""
-from common import TOP, Case, module, tool
+import sys
+
+from common import TOP, Case, tool
+
+sys.path.append(f"{TOP}/tools")
+
+import sources  # noqa: E402
 
 INTERNAL = "-- What stands for a state.\nabbrev pub StandsFor : Type 0\n"
 SPEC = "-- A list is fine.\nuse Rattle.std.specs.Prelude.{ℕ}\n-- see specs.internal\nabbrev pub IsFine : Type 0\n"
@@ -121,17 +127,16 @@ class Storeys(Case):
         self.assertEqual(self.run_words([tool("storeys"), TOP]), (0, "", ""))
 
     def test_it_looks_at_functions_of_this_repository(self):
-        storeys = module("storeys")
         for crate, path, function in (("scf_machine", "checker.rt", "check"), ("scf_insn", "stream.rt", "read"),
                                       ("scf_machine", "laws.rt", "run_once"),
                                       ("scf_facts", "word_facts.rt", "learn"),
                                       ("scf_tool", "commands.rt", "run_command")):
             folder = f"{TOP}/crates/{crate}/src"
-            exported = dict(storeys.exports_of(folder, f"{folder}/lib.rt"))
-            text = storeys.without_comments(storeys.text_of(f"{folder}/{path}"), "//")
-            found = dict(storeys.functions_of(text, exported[f"{folder}/{path}"]))
+            exported = dict(sources.exports_of(folder, f"{folder}/lib.rt"))
+            text = sources.without_comments(sources.text_of(f"{folder}/{path}"), "//")
+            found = dict(sources.functions_of(text, exported[f"{folder}/{path}"]))
             self.assertIn(function, found)
-            self.assertTrue(list(storeys.clauses_of(text, found[function])), function)
+            self.assertTrue(list(sources.clauses_of(text, found[function])), function)
 
     def test_a_made_tree_that_is_well(self):
         self.check()
