@@ -299,24 +299,6 @@ def text_of(*path):
 class Names(unittest.TestCase):
     """What the documents name."""
 
-    # What the commands beside `compare` reply stands on these, as the page says.
-    OF_OTHER_COMMANDS = {("scf_text", "Faults"), ("scf_text", "Listing"), ("scf_text", "Spelling"),
-                         ("scf_compile", "SizeBound")}
-
-    def test_the_reading_order_lacks_no_definition(self):
-        order = re.search(r"## The order in which to read\n(.*?)\n## ", text_of("docs", "HEADLINE.md"), re.S)[1]
-        listed, crate = set(), None
-        for named, name, kind in re.findall(r"(?:(scf_[a-z]+)/)?(?:specs/|src/)?(\w+)\.(antt|rt)", order):
-            crate = named or crate
-            if kind == "antt":
-                listed.add((crate, name))
-        listed -= self.OF_OTHER_COMMANDS
-        self.assertGreater(len(listed), 40)
-        cited = {found for crate, name in listed for found in
-                 re.findall(r"^use Rattle\.(scf_[a-z]+)\.specs\.([A-Z]\w*)\b",
-                            text_of("crates", crate, "specs", f"{name}.antt"), re.M)}
-        self.assertEqual(cited - listed - self.OF_OTHER_COMMANDS, set())
-
     def test_each_name_stands_in_the_sources(self):
         words = set()
         for top in ("crates", "tools", "bench"):

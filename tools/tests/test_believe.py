@@ -1,0 +1,239 @@
+"""tools/believe, on a made tree of two crates, and the lists of docs/HEADLINE.md against the sources."""
+import os
+import re
+import shutil
+
+from common import TOP, Case, tool
+
+FILES = {
+    "crates.txt": "low: thiserror\ntop: low\n",
+    "crates/low/specs/Lib.antt": "pub mod Words\npub mod Fine\n",
+    "crates/low/specs/Words.antt": """-- Words.
+use Rattle.std.specs.Prelude.{ℕ, List}
+use Rattle.low.specs.declared.kind.Kind.{Kind}
+use Rattle.low.specs.declared.kind.Kind.TheVariants.{Odd, Even}
+use Rattle.low.specs.declared.kind.Kind.TheVariants as kinds
+
+-- the low half
+-- of a word
+abbrev pub low : ℕ → ℕ
+low n = n
+
+-- what nothing cites
+abbrev pub unused : ℕ
+unused = low 1
+
+-- Outcomes.
+pub data Outcome : Type 0 where
+  Goes : ℕ → Outcome
+  Ends : Outcome
+
+abbrev pub of_kind : Kind → ℕ
+of_kind Odd = low 1
+of_kind Even = 2
+
+unfoldable pub by_kinds : ℕ → Kind
+by_kinds n = kinds.Odd
+""",
+    "crates/low/specs/Fine.antt": """-- What is fine.
+use Rattle.std.specs.Prelude.{ℕ}
+use Rattle.low.specs.Words.{low as half, Goes}
+use Rattle.low.specs.Words as words
+
+-- A number is fine. It isn't unused.
+pub record IsFine (n : ℕ) : Type 0 where
+  pub of_kind : half n ≡ n
+  pub outcome : words.by_kinds n ≡ words.by_kinds n
+""",
+    "crates/low/src/lib.rt": "mod kind;\nmod calls;\n\npub use calls::{made, Made};\npub use kind::Kind;\n",
+    "crates/low/src/kind.rt": """use crate::part::Part;
+
+/// A kind.
+#[derive(Clone)]
+pub enum Kind {
+    /// Odd, as no number of `Other` is.
+    Odd(Part),
+    Even,
+}
+
+pub struct Other(u32);
+""",
+    "crates/low/src/part.rt": "/// A part.\npub struct Part {\n    pub size: u32,\n}\n",
+    "crates/low/src/calls.rt": """ghost use Rattle.low.specs.Fine.{IsFine};
+ghost use Rattle.low.specs.Words.{of_kind, Outcome};
+
+use crate::part::Part;
+
+/// Made.
+pub fn made(n: u32) -> u32
+    requires small { n < 7 }
+    ensures fine { IsFine result }
+    ensures kind { of_kind n ≡ 1 }
+{
+    n
+}
+
+pub struct Made;
+
+impl Made {
+    pub fn get(&self) -> u32
+        ensures { Outcome }
+    {
+        0
+    }
+}
+""",
+    "crates/top/specs/Alike.antt": "use Rattle.low.specs.Fine.{IsFine}\n\nabbrev pub Alike : Type 0\n"
+                                   "Alike = IsFine 1\n",
+    "crates/top/src/lib.rt": "mod calls;\n\npub use calls::{made, Store, stored};\n",
+    "crates/top/src/calls.rt": """ghost use Rattle.top.specs.Alike.{Alike};
+
+pub trait Store {
+    ghost size: { ℕ };
+
+    fn put(&self) -> u32
+        ensures { Alike };
+}
+
+pub fn made(n: u32) -> u32
+    ensures alike { Alike }
+{
+    n
+}
+
+pub fn stored<S: Store>(n: &S) -> u32
+    ensures { S.size ≡ 1 }
+{
+    0
+}
+""",
+}
+WORDS, FINE, ALIKE = (f"crates/{it}.antt" for it in ("low/specs/Words", "low/specs/Fine", "top/specs/Alike"))
+LOW, BY_KINDS, IS_FINE = f"{WORDS}:7-10 low", f"{WORDS}:25-26 by_kinds", f"{FINE}:6-9 IsFine"
+KIND, PART = "crates/low/src/kind.rt:3-9 Kind", "crates/low/src/part.rt:1-4 Part"
+
+
+class Believe(Case):
+    def tree(self, **changed):
+        for name, text in {**FILES, **changed}.items():
+            self.file(f"tree/{name}", text)
+        return os.path.join(self.folder, "tree")
+
+    def believe(self, *words, **changed):
+        return self.run_words([tool("believe"), "--repository", self.tree(**changed), *words])
+
+    def prints(self, words, *lines):
+        status, out, err = self.believe(*words)
+        self.assertEqual((status, err), (0, ""))
+        self.assertEqual(out.splitlines(), list(lines))
+
+    def test_what_a_clause_stands_on(self):
+        self.prints(["low::made", "fine"], IS_FINE, LOW, BY_KINDS, KIND, PART,
+                    "low::made, clause fine: 3 definitions, 10 lines; beside them 2 types, 11 lines of the code")
+        self.prints(["low::made", "small"],
+                    "low::made, clause small: 0 definitions, 0 lines; beside them 0 types, 0 lines of the code")
+
+    def test_the_name_of_a_field_is_not_cited(self):
+        """`of_kind` is a definition, which this clause cites, and a field of a record that the other one stands on."""
+        self.prints(["low::made", "kind"], LOW, f"{WORDS}:21-23 of_kind", KIND, PART,
+                    "low::made, clause kind: 2 definitions, 7 lines; beside them 2 types, 11 lines of the code")
+
+    def test_a_method_and_its_data(self):
+        for call in ("get", "Made::get", "low::Made::get"):
+            self.prints([call], f"{WORDS}:16-19 Outcome",
+                        "low::Made::get: 1 definition, 4 lines; beside them 0 types, 0 lines of the code")
+
+    def test_over_crates_and_traits(self):
+        self.prints(["put"], IS_FINE, LOW, BY_KINDS, f"{ALIKE}:3-4 Alike", KIND, PART,
+                    "top::Store::put: 4 definitions, 12 lines; beside them 2 types, 11 lines of the code")
+        status, out, _ = self.believe("stored")
+        self.assertEqual((status, out.splitlines()[0]), (0, "crates/top/src/calls.rt:3-8 Store"))
+
+    def test_wrong_words(self):
+        for words, said in ((["none"], "there is no public call 'none'"),
+                            (["made"], "'made' is one of low::made, top::made"),
+                            (["low::made", "none"], "low::made has no clause 'none'"),
+                            ([], "either a CALL or a --page"), (["a", "b", "c"], "unrecognized"),
+                            (["a", "--page", "b"], "either a CALL"), (["a", "--write"], "either a CALL"),
+                            (["--page", "none"], "No such file"), (["\udcff"], r"no public call '\udcff'")):
+            status, out, err = self.believe(*words)
+            self.assertEqual((status, out), (2, ""), words)
+            self.assertIn(said, err)
+            self.assertNotIn("Traceback", err)
+
+    PAGE = "# A page\n\n<!-- believe low::made fine -->\n{}<!-- end -->\n\nMore.\n"
+    LISTS = ("\n- low/specs/Words.antt: `low`, `by_kinds` (6 lines)\n- low/specs/Fine.antt: `IsFine` (4 lines)\n\n"
+             "Together 3 definitions, 10 lines.\n\n")
+
+    def test_a_page(self):
+        path = self.file("page.md", self.PAGE.format(""))
+        status, out, err = self.believe("--page", path)
+        self.assertEqual((status, err), (1, ""))
+        self.assertIn("+- low/specs/Fine.antt: `IsFine` (4 lines)\n", out)
+        self.assertEqual(self.believe("--page", path, "--write"), (0, "", ""))
+        with open(path, encoding="utf-8") as file:
+            self.assertEqual(file.read(), self.PAGE.format(self.LISTS))
+        self.assertEqual(self.believe("--page", path), (0, "", ""))
+        for name, old, new in ((FINE, "by_kinds", "low"), (WORDS, "-- of a word\n", "")):
+            self.assertEqual(self.believe("--page", path, **{name: FILES[name].replace(old, new)})[0], 1, name)
+
+    def test_lists_beside_others_and_of_files_alone(self):
+        beside = self.PAGE.replace("low::made fine", "put beside low::made fine")
+        path = self.file("page.md", beside.format("\n- top/specs/Alike.antt: `Alike` (2 lines)\n\n"
+                                                  "Together 1 definition, 2 lines.\n\n"))
+        self.assertEqual(self.believe("--page", path), (0, "", ""))
+        brief = self.PAGE.replace("low::made fine", "files of low::made fine")
+        path = self.file("page.md", brief.format(re.sub(r"`low`, `by_kinds`", "2 definitions", self.LISTS).replace(
+            "`IsFine`", "1 definition")))
+        self.assertEqual(self.believe("--page", path), (0, "", ""))
+
+    def test_a_page_without_an_end(self):
+        path = self.file("page.md", "<!-- believe low::made fine -->\n\nMore.\n")
+        status, _, err = self.believe("--page", path, "--write")
+        self.assertEqual(status, 2)
+        self.assertIn("has no line <!-- end --> behind it", err)
+        with open(path, encoding="utf-8") as file:
+            self.assertIn("More.", file.read())
+
+
+class Headline(Case):
+    """docs/HEADLINE.md."""
+
+    def page(self):
+        with open(os.path.join(TOP, "docs", "HEADLINE.md"), encoding="utf-8") as file:
+            return file.read()
+
+    def test_its_lists_are_what_the_sources_have(self):
+        """Where this fails, `tools/believe --page docs/HEADLINE.md --write` writes the lists anew."""
+        status, out, err = self.run_words([tool("believe"), "--page", os.path.join(TOP, "docs", "HEADLINE.md")])
+        self.assertEqual((status, out, err), (0, "", ""))
+
+    def test_it_has_a_list_for_each_part_of_the_headline(self):
+        for call in ("compare_stack holds", "check safe beside compare_stack holds",
+                     "files of run_command beside verify_stack answer"):
+            self.assertEqual(self.page().count(f"<!-- believe {call} -->"), 1, call)
+        listed = re.search(r"<!-- believe compare_stack holds -->(.*?)<!-- end -->", self.page(), re.S)[1]
+        for name in ("IsTrueOfStack", "IsFirstLeast", "rank_of", "AnswersRelated", "IsNative", "IsRecord"):
+            self.assertIn(f"`{name}`", listed)
+        self.assertNotIn("`Conflicts`", listed)
+
+    def test_what_it_says_is_to_be_believed_stands_in_a_list(self):
+        lists = " ".join(re.findall(r"<!-- believe .*?<!-- end -->", self.page(), re.S))
+        for paragraph in re.findall(r"^To believe.*$", self.page(), re.M):
+            paragraph = paragraph.split("That a profile gives one answer")[0]
+            for name in re.findall(r"`(\w+)`", paragraph):
+                self.assertIn(f"`{name}`", lists)
+
+    def test_a_definition_that_changes_is_noticed(self):
+        tree = os.path.join(self.folder, "tree")
+        for name in ("crates", "docs"):
+            shutil.copytree(os.path.join(TOP, name), os.path.join(tree, name), ignore=shutil.ignore_patterns("out"))
+        shutil.copy2(os.path.join(TOP, "crates.txt"), tree)
+        page = os.path.join(tree, "docs", "HEADLINE.md")
+        self.assertEqual(self.run_words([tool("believe"), "--repository", tree, "--page", page]), (0, "", ""))
+        path = os.path.join(tree, "crates", "scf_profile", "specs", "SameAnswers.antt")
+        with open(path, encoding="utf-8") as file:
+            text = file.read()
+        with open(path, "w", encoding="utf-8") as file:
+            file.write(text.replace("  pub answer : ℕ\n", "  pub answer : ℕ\n  pub more : ℕ\n"))
+        self.assertEqual(self.run_words([tool("believe"), "--repository", tree, "--page", page])[0], 1)
