@@ -72,8 +72,14 @@ def has_option(option, command="compare"):
 
 
 def needs(option):
-    """Skips a test for as long as scf's compare doesn't have an option."""
-    return unittest.skipUnless(has_option(option), f"scf compare has no {option} yet")
+    """Fails a test where scf's compare doesn't have an option."""
+    def with_option(test):
+        @functools.wraps(test)
+        def run(self):
+            self.assertTrue(has_option(option), f"scf compare has no {option}")
+            test(self)
+        return run
+    return with_option
 
 
 class Case(unittest.TestCase):
