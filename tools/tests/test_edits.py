@@ -1,6 +1,8 @@
-"""The must-fail edits, both those that the gate tries and those that tools/edits tries: each can be applied."""
+"""The must-fail edits, both those that the gate tries and those that tools/edits tries: each can be applied; and what
+tools/edits makes of what the kit prints of them."""
 import collections
 import os
+import shutil
 
 from common import TOP, Case
 
@@ -61,4 +63,81 @@ class Edits(Case):
         self.assertIn("tools/edits [CRATE ..]", out)
         status, out, err = self.run_tool("edits", "no_such_crate")
         self.assertEqual((status, out), (2, ""))
-        self.assertIn("no_such_crate has no edits", err)
+        self.assertIn("'no_such_crate' has no edits", err)
+        for words in (("--printed",), ("--printed", self.folder), ("--printed", "none"),
+                      ("--printed", "/dev/null", "scf_insn")):
+            status, out, err = self.run_tool("edits", *words)
+            self.assertEqual((status, out), (2, ""), words)
+            self.assertIn("edits: error: ", err)
+
+
+# What the kit prints of an edit: of two that do something wrong, of two for which a proof lost a name (of a loop, of a
+# variable), of one that does nothing, of one that isn't Rust, of one that can't be applied.
+WRONG = ("refused, as it must be: note: src/input.rt:78:13: it is not proved that what the function ensures holds when "
+         "it returns (`returns-then-count-limit-clause-input`)")
+WRONG_TOO = ("refused, as it must be: note: src/number.rt:48:1: it is not proved that what the function ensures holds "
+             "when it returns (`returns-in-48`); `search` gave up at one of its limits")
+LABEL = ("refused, as it must be (only because a proof file names what the edit took away, so this says little of the "
+         "contract: change a value and keep the names): ./proofs/input/read_input/Invariants.antt:5:31: error: "
+         "`invariant-chunks`: `goal.invariant-chunks`: module `Rattle.scf_insn.proofs.input.read_input.Given` has n")
+LOCAL = ("refused, as it must be (only because a proof file names what the edit took away, so this says little of the "
+         "contract: change a value and keep the names): ./proofs/input/read_input/Answers.antt:10:33: error: "
+         "`returns-then-count-limit-clause-past`: record `Rattle.scf_insn.proofs.input.read_input.Lts.After-drop2` ha")
+NOTHING = "NOT REFUSED: the crate is still proved with this edit"
+NO_RUST = ("BAD EDIT: it did not reach the prover; the first lines of what it said:\n"
+           "src/input.rt:46:22: error[unknown-name]")
+NOT_ONCE = "BAD EDIT: an 'old:' text is in src/input.rt 0 times, and not once"
+
+
+class Refusals(Case):
+    """What tools/edits makes of the kit's lines, in a made tree of two crates."""
+
+    def setUp(self):
+        super().setUp()
+        self.tree = os.path.join(self.folder, "tree")
+        os.makedirs(os.path.join(self.tree, "tools"))
+        shutil.copy2(os.path.join(TOP, "tools", "edits"), os.path.join(self.tree, "tools"))
+        for name in ("crates.txt", "HANDLES", "crates/low/must-fail/a.edit", "crates/low/must-fail/b.edit",
+                     "crates/low/edits/c.edit", "crates/low/edits/d.edit", "crates/top/must-fail/a.edit",
+                     "crates/low/must-fail/why.md"):
+            self.file(f"tree/{name}", b"")
+        self.words = [os.path.join(self.tree, "tools", "edits")]
+
+    def of_gate(self, *printed):
+        text = "\n".join(["rt: low: trying its must-fail edits (2)", *(f"rt: must-fail {it}" for it in printed),
+                          "3 passed, 0 failed", ""])
+        status, out, err = self.run_words([*self.words, "--printed", self.file("ci", text)])
+        self.assertEqual(err, "")
+        return status, out.splitlines()
+
+    def test_of_the_gate(self):
+        self.assertEqual(self.of_gate(f"low/a.edit: {WRONG}", f"low/b.edit: {WRONG_TOO}", f"top/a.edit: {WRONG}"),
+                         (0, ["3 passed, 0 failed"]))
+        for_a_name = "refused for a name alone, which a proof lost; plant it anew, with the names kept"
+        for printed, said in ((LABEL, for_a_name), (LOCAL, for_a_name),
+                              (NOTHING, f"not refused for what it does: {NOTHING}"),
+                              ("refused, as it must be", "not refused for what it does: refused, as it must be")):
+            self.assertEqual(self.of_gate(f"low/a.edit: {WRONG}", f"low/b.edit: {printed}", f"top/a.edit: {WRONG}"),
+                             (1, [f"edits: low/b.edit: {said}", "2 passed, 1 failed"]))
+
+    def test_an_edit_of_which_nothing_is_printed(self):
+        self.assertEqual(self.of_gate(f"low/a.edit: {WRONG}", f"top/a.edit: {WRONG}", f"top/z.edit: {WRONG}"),
+                         (1, ["edits: low/b.edit: nothing was printed of it", "2 passed, 1 failed"]))
+        self.assertEqual(self.of_gate()[1][-1], "0 passed, 3 failed")
+
+    def tried(self, *printed):
+        lines = "".join(f"rt: must-fail {it}\n" for it in printed)
+        rt = self.file("bin/rt", f"#!/bin/sh\nls crates/low/must-fail >&2\ncat <<'END'\n{lines}END\n")
+        os.chmod(rt, 0o755)
+        path = f"{self.folder}/bin:{os.environ['PATH']}"
+        status, out, err = self.run_words(self.words, env={**os.environ, "PATH": path})
+        self.assertEqual(err, "c.edit\nd.edit\n")
+        return status, out.splitlines()
+
+    def test_those_that_are_tried(self):
+        self.assertEqual(self.tried(f"low/c.edit: {WRONG}", f"low/d.edit: {WRONG_TOO}")[1][-1], "2 passed, 0 failed")
+        for printed in (LABEL, LOCAL, NOTHING, NO_RUST, NOT_ONCE):
+            status, lines = self.tried(f"low/c.edit: {WRONG}", f"low/d.edit: {printed}")
+            self.assertEqual((status, lines[-1]), (1, "1 passed, 1 failed"))
+            self.assertTrue(lines[-2].startswith("edits: low/d.edit: "), lines)
+        self.assertEqual(self.tried()[1][-1], "0 passed, 2 failed")

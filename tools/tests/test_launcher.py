@@ -12,11 +12,13 @@ from common import TOP, Case
 RT = """#!/bin/sh
 echo "asked: $*" >>"$ASKED"
 case $1 in
+version) echo "a kit ${KIT-1}" ;;
 ci) printf '%s\\n' "$CI"
     for name in scf scf_refusals; do [ -z "${MAKES-}" ] || cp "$MAKES" crates/$name/out/$name; done
     exit "${CI_STATUS-0}" ;;
 run) [ "${FAILS-}" = "" ] || exit 1
     text=$(cat src/main.rt)
+    [ -z "${MEANWHILE-}" ] || sh -c "$MEANWHILE"
     [ -z "${SLOW-}" ] || sleep "$SLOW"
     mkdir -p out && printf '#!/bin/sh\\necho "%s" "$@"\\n' "$text" >out/scf.new
     chmod +x out/scf.new && mv out/scf.new out/scf
@@ -38,19 +40,23 @@ class Tree(Case):
         shutil.copy2(os.path.join(TOP, "tools", "built"), os.path.join(self.tree, "tools"))
         self.source = self.file("tree/crates/scf/src/main.rt", b"one")
         self.file("tree/crates.txt", b"scf:\n")
-        rt = self.file("bin/rt", RT)
+        rt = self.file("kit/bin/rt", RT)
         os.chmod(rt, 0o755)
         self.asked = os.path.join(self.folder, "asked")
-        self.env = {"PATH": f"{self.folder}/bin:/usr/bin:/bin", "ASKED": self.asked}
+        self.env = {"PATH": f"{self.folder}/kit/bin:{self.folder}/bin:/usr/bin:/bin", "ASKED": self.asked}
 
     def launch(self, *words, path=None, **more):
         return self.run_words([path or os.path.join(self.tree, "scf"), *words], env={**self.env, **more})
 
-    def builds(self):
+    def asked_for(self, word):
+        """How often the kit was asked for this."""
         if not os.path.exists(self.asked):
             return 0
         with open(self.asked, encoding="utf-8") as file:
-            return len(file.read().splitlines())
+            return [line.split()[1] for line in file].count(word)
+
+    def builds(self):
+        return self.asked_for("run")
 
     def write(self, text, age=0):
         with open(self.source, "w", encoding="utf-8") as file:
@@ -106,6 +112,84 @@ class Launcher(Tree):
         self.assertIn("a source changed meanwhile", err)
         self.assertEqual(self.builds(), 2)
 
+    def changed_back(self, meanwhile):
+        """What is printed where the first of two builds sees another source, which is changed back before it ends."""
+        once = self.file("once", f"[ ! -e {self.folder}/did ] || exit 0\n: >{self.folder}/did\n{meanwhile}\n")
+        status, out, err = self.launch(MEANWHILE=f"sh {once}")
+        self.assertEqual((status, self.builds()), (0, 2), err)
+        self.assertIn("a source changed meanwhile", err)
+        self.assertEqual(self.launch(), (0, out, ""))
+        self.assertEqual(self.builds(), 2)
+
+    def test_a_source_that_is_changed_and_changed_back_while_it_is_built(self):
+        self.changed_back("printf two >src/main.rt; sleep 0.1; printf one >src/main.rt")
+
+    def test_a_source_that_comes_back_with_its_old_times(self):
+        self.changed_back("cp -p src/main.rt ../kept; printf two >src/main.rt; cp -p ../kept src/main.rt")
+
+    def test_a_source_that_was_moved_away_and_back(self):
+        self.changed_back("mv src/main.rt ../kept; mv ../kept src/main.rt")
+
+    def test_another_folder_of_sources_for_a_while(self):
+        self.changed_back("mv src ../kept; mkdir src; printf two >src/main.rt; rm -r src; mv ../kept src")
+
+    def test_another_kit_builds_anew(self):
+        self.launch()
+        self.launch(KIT="2")
+        self.assertEqual(self.builds(), 1, "the command looks as it did, and isn't asked")
+        os.utime(os.path.join(self.folder, "kit", "bin", "rt"))
+        self.assertEqual(self.launch()[1:], ("one\n", ""))
+        self.assertEqual(self.builds(), 1, "the same kit, whose command was touched")
+        os.utime(os.path.join(self.folder, "kit", "bin", "rt"))
+        status, out, err = self.launch(KIT="2")
+        self.assertEqual((status, out, self.builds()), (0, "one\n", 2))
+        self.assertIn("proving and building", err)
+        self.assertEqual(self.launch(KIT="2"), (0, "one\n", ""))
+
+    def test_another_kit_in_another_place(self):
+        self.launch()
+        other = self.file("other/rt", RT.replace("a kit", "another kit"))
+        os.chmod(other, 0o755)
+        path = f"{self.folder}/other:{self.env['PATH']}"
+        self.assertIn("proving and building", self.launch(PATH=path)[2])
+        self.assertEqual(self.launch(PATH=path), (0, "one\n", ""))
+        self.assertIn("proving and building", self.launch()[2])
+        self.assertEqual(self.builds(), 3)
+
+    def test_the_kit_is_asked_for_its_name_only_where_it_looks_otherwise(self):
+        self.launch()
+        asked = self.asked_for("version")
+        for _ in range(3):
+            self.launch()
+        self.assertEqual(self.asked_for("version"), asked)
+        os.utime(os.path.join(self.folder, "kit", "bin", "rt"))
+        for _ in range(3):
+            self.launch()
+        self.assertEqual((self.asked_for("version"), self.builds()), (asked + 1, 1))
+
+    def test_without_a_kit_the_built_program_runs(self):
+        self.launch()
+        self.assertEqual(self.run_words([os.path.join(self.tree, "scf"), "x"], env={"PATH": "/usr/bin:/bin"}),
+                         (0, "one x\n", ""))
+
+    def test_a_mark_without_a_kit_vouches_for_nothing(self):
+        self.launch()
+        mark = os.path.join(self.tree, "crates/scf/out/scf.built")
+        with open(mark, encoding="utf-8") as file:
+            lines = file.read().splitlines()
+        self.assertEqual((len(lines), lines[2]), (3, "a kit 1"))
+        for text in (f"{lines[0]}\n", f"{lines[0]}\n{lines[1]}\n", f"{lines[0]}\n{lines[1]}", ""):
+            with open(mark, "w", encoding="utf-8") as file:
+                file.write(text)
+            self.assertIn("proving and building", self.launch()[2])
+
+    def test_a_kit_that_does_not_say_its_version(self):
+        with open(os.path.join(self.folder, "kit", "bin", "rt"), "w", encoding="utf-8") as file:
+            file.write(RT.replace('echo "a kit ${KIT-1}"', ":"))
+        status, out, err = self.launch()
+        self.assertEqual((status, out, self.builds()), (125, "", 0))
+        self.assertIn("doesn't say its version", err)
+
     def test_a_failed_build_vouches_for_nothing(self):
         self.launch()
         self.write("two")
@@ -141,6 +225,7 @@ class Launcher(Tree):
         os.makedirs(os.path.join(links, "scf"))
         os.symlink("../../tree/scf", os.path.join(links, "scf", "far"))
         os.symlink("scf/far", os.path.join(links, "near"))
+        os.makedirs(os.path.join(self.folder, "bin"))
         os.symlink(os.path.join(links, "near"), os.path.join(self.folder, "bin", "whole"))
         for path in (os.path.join(links, "near"), os.path.join(self.folder, "bin", "whole"),
                      os.path.join(links, "scf", "far")):
@@ -162,14 +247,33 @@ class Launcher(Tree):
         self.assertIn("can't be written", err)
 
 
+class Bench(Tree):
+    """bench/run: what it times is what the sources are."""
+
+    def test_an_older_program_is_not_timed_where_its_build_fails(self):
+        self.launch()
+        os.makedirs(os.path.join(self.tree, "bench"))
+        shutil.copy2(os.path.join(TOP, "bench", "run"), os.path.join(self.tree, "bench"))
+        self.file("tree/crates/scf_bench/src/main.rt", b"times")
+        os.chmod(self.file("tree/crates/scf_bench/out/scf_bench", "#!/bin/sh\necho 0 steps 1\n"), 0o755)
+        self.launch()
+        bench = os.path.join(self.tree, "bench", "run")
+        status, out, err = self.run_words([bench, "1"], env={**self.env, "FAILS": "1"})
+        self.assertEqual((status, out), (125, ""))
+        self.assertIn("scf_bench: the program was not built", err)
+        with open(self.asked, encoding="utf-8") as file:
+            self.assertEqual(file.read().splitlines()[-1], "asked: run -- 1 check")
+
+
 class Gate(Tree):
     """./test: the counts of `rt ci`, of the tools' tests and of the refusals, in one last line."""
 
-    def gate(self, ci, tests=None, makes="one", refusals=None, **more):
+    def gate(self, ci, tests=None, makes="one", refusals=None, edits=None, **more):
         for name in ("scf", "scf_refusals"):
             os.makedirs(os.path.join(self.tree, "crates", name, "out"), exist_ok=True)
         self.file("tree/tools/tests/__main__.py", tests or "print('3 passed, 0 failed')\n")
         self.file("tree/tools/refusals", refusals or "print('4 passed, 0 failed')\n")
+        self.file("tree/tools/edits", edits or "print('2 passed, 0 failed')\n")
         made = self.file("made", f"#!/bin/sh\necho {makes}\n")
         os.chmod(made, 0o755)
         status, out, err = self.run_words([os.path.join(self.tree, "test")],
@@ -178,8 +282,37 @@ class Gate(Tree):
 
     def test_all_are_counted(self):
         status, lines, _ = self.gate("proved\n7 passed, 0 failed")
-        self.assertEqual((status, lines), (0, ["proved", "7 passed, 0 failed", "3 passed, 0 failed",
-                                               "4 passed, 0 failed", "14 passed, 0 failed"]))
+        self.assertEqual((status, lines), (0, ["proved", "7 passed, 0 failed", "2 passed, 0 failed",
+                                               "3 passed, 0 failed", "4 passed, 0 failed", "16 passed, 0 failed"]))
+
+    def test_what_is_skipped_is_counted(self):
+        self.assertEqual(self.gate("7 passed, 0 failed", "print('3 passed, 0 failed, 5 skipped')\n")[1][-1],
+                         "16 passed, 0 failed, 5 skipped")
+        tests = "import sys\nprint('1 passed, 2 failed, 3 skipped')\nsys.exit(1)\n"
+        status, lines, _ = self.gate("7 passed, 0 failed, 2 skipped", tests)
+        self.assertEqual((status, lines[-1]), (1, "14 passed, 2 failed, 5 skipped"))
+
+    def test_what_the_kit_printed_of_the_edits_is_looked_at(self):
+        edits = "import sys\nprint(open(sys.argv[2]).read(), end='')\nprint('1 passed, 1 failed')\nsys.exit(1)\n"
+        status, lines, _ = self.gate("rt: must-fail low/a.edit: x\n7 passed, 0 failed", edits=edits)
+        self.assertEqual(lines[2:5], ["rt: must-fail low/a.edit: x", "7 passed, 0 failed", "1 passed, 1 failed"])
+        self.assertEqual((status, lines[-1]), (1, "15 passed, 1 failed"))
+
+    def test_a_folder_for_temporary_files_with_another_name(self):
+        for name in (b"a\xff", b"a\nb", b"a b:c", b"a\n"):
+            room = os.path.join(os.fsencode(self.folder), name)
+            os.mkdir(room)
+            status, lines, _ = self.gate("7 passed, 0 failed", TMPDIR=os.fsdecode(room))
+            self.assertEqual((status, lines[-1]), (0, "16 passed, 0 failed"))
+            self.assertEqual(os.listdir(room), [])
+            self.assertEqual(self.launch(TMPDIR=os.fsdecode(room)), (0, "one\n", ""))
+
+    def test_a_source_that_is_changed_and_changed_back_meanwhile(self):
+        text = RT.replace("for name in", "[ -z \"${TOUCHED-}\" ] || touch crates/scf/src/main.rt\n    for name in")
+        self.file("kit/bin/rt", text)
+        status, lines, _ = self.gate("7 passed, 0 failed", TOUCHED="1")
+        self.assertEqual((status, lines[-1]), (1, "7 passed, 1 failed"))
+        self.assertIn("test: the tools aren't tested, since the programs weren't built, or a source was changed", lines)
 
     def test_the_program_of_the_gate_is_taken(self):
         self.gate("7 passed, 0 failed", makes="of the gate")
@@ -188,25 +321,26 @@ class Gate(Tree):
     def test_failures_are_counted(self):
         status, lines, _ = self.gate("5 passed, 2 failed", CI_STATUS="1")
         self.assertEqual((status, lines[-1]), (1, "5 passed, 3 failed"))
-        self.assertIn("test: the tools aren't tested, since the programs weren't built", lines)
-        status, lines, _ = self.gate("7 passed, 0 failed", "import sys\nprint('1 passed, 2 failed')\nsys.exit(1)\n")
-        self.assertEqual((status, lines[-1]), (1, "12 passed, 2 failed"))
-        refusals = "import sys\nprint('1 passed, 2 failed')\nsys.exit(1)\n"
-        status, lines, _ = self.gate("7 passed, 0 failed", refusals=refusals)
-        self.assertEqual((status, lines[-1]), (1, "11 passed, 2 failed"))
+        self.assertIn("test: the tools aren't tested, since the programs weren't built, or a source was changed", lines)
+        wrong = "import sys\nprint('1 passed, 2 failed')\nsys.exit(1)\n"
+        for which, last in (("tests", "14 passed, 2 failed"), ("refusals", "13 passed, 2 failed"),
+                            ("edits", "15 passed, 2 failed")):
+            status, lines, _ = self.gate("7 passed, 0 failed", **{which: wrong})
+            self.assertEqual((status, lines[-1]), (1, last))
 
     def test_a_status_without_a_count_fails(self):
         for ci, told, last in (("7 passed, 0 failed", {"CI_STATUS": "3"}, "7 passed, 2 failed"),
-                               ("nothing", {}, "7 passed, 1 failed"), ("", {"CI_STATUS": "2"}, "0 passed, 2 failed")):
+                               ("nothing", {}, "9 passed, 1 failed"), ("", {"CI_STATUS": "2"}, "0 passed, 2 failed")):
             status, lines, _ = self.gate(ci, **told)
             self.assertEqual((status, lines[-1]), (1, last))
         status, lines, _ = self.gate("7 passed, 0 failed", "import sys\nsys.exit(1)\n")
-        self.assertEqual((status, lines[-1]), (1, "11 passed, 1 failed"))
+        self.assertEqual((status, lines[-1]), (1, "13 passed, 1 failed"))
         self.assertEqual(self.gate("0 passed, 0 failed", "print('1 passed, 0 failed')\n", makes="x")[0], 0)
 
     def test_output_comes_as_it_is_printed(self):
-        with open(os.path.join(self.folder, "bin", "rt"), "w", encoding="utf-8") as file:
-            file.write("#!/usr/bin/env python3\nimport time\nprint('early')\ntime.sleep(3)\n"
+        with open(os.path.join(self.folder, "kit", "bin", "rt"), "w", encoding="utf-8") as file:
+            file.write("#!/usr/bin/env python3\nimport sys, time\nprint('early')\n"
+                       "time.sleep(3 * (sys.argv[1] == 'ci'))\n"
                        "print('1 passed, 0 failed')\n")
         begun = time.monotonic()
         with subprocess.Popen([os.path.join(self.tree, "test")], env=self.env, stdout=subprocess.PIPE,
