@@ -1,0 +1,44 @@
+"""What scf's tools share: a module for each subject, each fact once, and only Python's standard library.
+
+A program tools/NAME reads its words and puts these together; no module is imported before a program needs it. It begins
+with `#!/usr/bin/env -S python3 -IS`, since the tools run as root: nothing of the user's environment, folders or site
+packages is imported. So it adds its own folder to the path of imports, by its real name.
+
+    output      what is printed: safe for a terminal, whole or said to have failed
+    program     how a tool begins and ends; where scf is and how it is run
+    words       the command line of a tool
+    inputs      files, pipes and standard input, each read to its limit and no further
+    bundles     several inputs as one, which is how scf takes them
+    tables      call tables; names of calls, and names that no call has
+    numbering   what numbers calls: headers of the kernel, its source's table, libseccomp
+    answers     actions, errnos, architectures, and what an answer does
+    calls       calls: how one is given, and how one is told
+    filters     instructions of filters, as far as the tools look at them
+    profiles    what the tools look at in a profile beside scf: its default, names and entries, where it ends as JSON
+    faults      the rows of docs/FAULTS.md
+    verdicts    what scf prints of a comparison, a decision or a run, as values
+    explaining  what an answer, a verdict or a fault of scf means
+    comparing   filters beside a profile
+    newer       calls above all that a profile names, where both sides refuse them
+    deciding    what filters answer to calls
+    paths       which instructions of a filter run on a call, and the last tests on the way
+    reasons     why a profile answers a call so: the entry that says it, and its conditions
+    listing     a filter with the targets of its jumps and the names of its calls
+    engines     what a container engine makes of its own profile for one container
+    processes   processes: all of their threads held still, and the filters that the kernel keeps of each
+    foreign     calls that aren't native: whether any is let through
+    verifying   the filters of processes beside a profile, each distinct stack by itself
+
+And those of `tools/kernel`:
+
+    kernel_programs   programs that a kernel is asked about
+    kernel_profiles   profiles that it is asked about, and a small reading of their JSON
+    kernel_child      a child process that asks the running kernel, by machine code alone
+    kernel_asking     what the kernel did, held against what scf says
+    kernel_otherwise  the rows of docs/KERNEL.md: what the kernel does otherwise on purpose
+
+One word for one thing. A *plain* filter or profile is what the theorem calls so (docs/HEADLINE.md). A
+*resolved* profile is what an engine makes of its own profile for one container, without `includes`, `excludes` and the
+like. *Native* calls are those of x86-64 with numbers below 0x40000000, the others are *foreign*. A call *differs* where
+the filters answer it otherwise than the profile. A name of a profile is *skipped* where the table names no call so.
+"""

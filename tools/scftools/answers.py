@@ -1,0 +1,109 @@
+"""Answers: actions, errnos, architectures, and what the kernel does with an answer (seccomp(2), linux/seccomp.h)."""
+from __future__ import annotations
+
+import errno
+import re
+from dataclasses import dataclass
+
+# linux/seccomp.h: the actions by the high half of an answer, the strictest first.
+ACTIONS = {0x8000: "KILL_PROCESS", 0x0000: "KILL_THREAD", 0x0003: "TRAP", 0x0005: "ERRNO", 0x7FC0: "USER_NOTIF",
+           0x7FF0: "TRACE", 0x7FFC: "LOG", 0x7FFF: "ALLOW"}
+# What the kernel does (seccomp(2)).
+DOES = {
+    "ALLOW": "the call is made",
+    "LOG": "the call is made, and logged",
+    "TRAP": "the call isn't made, and the thread gets SIGSYS",
+    "KILL_THREAD": "the thread ends",
+    "KILL_PROCESS": "the process ends",
+    "USER_NOTIF": "a supervisor answers the call",
+    "TRACE": "a tracer is told of the call; without one it fails with ENOSYS",
+    "UNNAMED": "seccomp(2) names no such action",
+}
+# Where the call is made, and where it isn't whoever looks on.
+LETS_THROUGH = ("ALLOW", "LOG")
+REFUSES = ("ERRNO", "TRAP", "KILL_THREAD", "KILL_PROCESS")
+# What becomes of a call, the least first: an answer's rank is its high half, signed (seccomp(2)), and a call is refused
+# up to the rank of ERRNO, and made from the rank of LOG on.
+FATES = REFUSED, REFERRED, MADE = "refused", "referred to a supervisor or tracer", "made"
+# An answer of these without a number still has one.
+HAS_DATA = ("ERRNO", "TRACE", "TRAP", "UNNAMED")
+# The names of errno(3) that Linux has; where a number has two of them, the one that its header gives the number.
+ERRNOS = {**errno.errorcode, errno.EAGAIN: "EAGAIN", errno.EDEADLK: "EDEADLK", errno.EOPNOTSUPP: "EOPNOTSUPP"}
+# The greatest errno that the kernel gives (MAX_ERRNO in linux/err.h).
+MAX_ERRNO = 4095
+
+# linux/audit.h: x86-64, the other architecture of its kernel, and two neighbours.
+X86_64, I386 = 0xC000003E, 0x40000003
+ARCHITECTURES = {X86_64: "x86-64", I386: "i386", 0xC00000B7: "aarch64", 0x40000028: "arm"}
+# Numbers of x32 calls begin here (__X32_SYSCALL_BIT in asm/unistd.h), and native ones end.
+X32 = 0x40000000
+
+PRINTED = re.compile(r"([A-Z_]+) (0x[0-9a-f]{8}|[0-9]+)")
+
+
+@dataclass(frozen=True)
+class Answer:
+    """An answer as scf prints it: an action and its number, of UNNAMED the whole answer."""
+
+    action: str
+    data: int
+
+    @classmethod
+    def read(cls, text: str) -> Answer | None:
+        """The answer that a text spells as scf prints it."""
+        found = PRINTED.fullmatch(text)
+        return cls(found[1], int(found[2], 0)) if found and found[1] in (*DOES, "ERRNO") else None
+
+    def __str__(self) -> str:
+        """As people say it: without a number that says nothing."""
+        if self.action == "UNNAMED":
+            return f"UNNAMED {self.data:#010x}"
+        return f"{self.action} {self.data}" if self.data or self.action in HAS_DATA else self.action
+
+    @property
+    def lets_through(self) -> bool:
+        return self.action in LETS_THROUGH
+
+    @property
+    def refuses(self) -> bool:
+        return self.action in REFUSES
+
+    @property
+    def word(self) -> int:
+        """The 32 bits that a filter returns."""
+        if self.action == "UNNAMED":
+            return self.data
+        return next(high for high, name in ACTIONS.items() if name == self.action) << 16 | self.data
+
+    @property
+    def fate(self) -> str:
+        """What becomes of the call."""
+        rank = (self.word >> 16 ^ 0x8000) - 0x8000
+        return REFUSED if rank <= 0x0005 else REFERRED if rank < 0x7FFC else MADE
+
+    def does(self) -> str:
+        """What the kernel does with it."""
+        if self.action != "ERRNO":
+            return DOES[self.action]
+        if self.data == 0:
+            return "the call isn't made, and seems to end well"
+        if self.data > MAX_ERRNO:
+            return f"the call isn't made, and fails with errno {MAX_ERRNO}, the greatest that the kernel gives"
+        return f"the call isn't made, and fails with {ERRNOS.get(self.data, f'errno {self.data}')}"
+
+    def told(self) -> str:
+        return f"{self}: {self.does()}"
+
+    def named(self) -> str:
+        """With the name of its errno, as ERRNO 38 (ENOSYS)."""
+        return f"{self} ({ERRNOS[self.data]})" if self.action == "ERRNO" and self.data in ERRNOS else str(self)
+
+    def as_profile(self) -> bytes | None:
+        """A profile that gives each native call this answer, or None where none does."""
+        if self.action in ("USER_NOTIF", "UNNAMED") or (self.data and self.action not in ("ERRNO", "TRACE")):
+            return None
+        errno_member = f', "defaultErrnoRet": {self.data}' if self.action in ("ERRNO", "TRACE") else ""
+        return f'{{"defaultAction": "SCMP_ACT_{self.action}"{errno_member}}}'.encode()
+
+    def as_json(self) -> dict[str, object]:
+        return {"action": self.action, "data": self.data}

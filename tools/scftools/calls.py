@@ -1,0 +1,67 @@
+"""Calls: the record that a filter sees, how one is given in words, and how one is told."""
+from __future__ import annotations
+
+import re
+from dataclasses import dataclass
+
+from .answers import ARCHITECTURES, X32, X86_64
+from .tables import Table
+
+# The numbers of a call, by the names of scf's options, in scf's order.
+OPTIONS = ("nr", "arch", "ip", "a0", "a1", "a2", "a3", "a4", "a5")
+PRINTED = re.compile(r"call nr ([0-9]+) arch (0x[0-9a-f]+) ip (0x[0-9a-f]+) args((?: 0x[0-9a-f]+){6})")
+
+
+@dataclass(frozen=True)
+class Call:
+    """A call record (struct seccomp_data in linux/seccomp.h)."""
+
+    number: int
+    architecture: int = X86_64
+    pointer: int = 0
+    arguments: tuple[int, ...] = (0,) * 6
+
+    @classmethod
+    def read(cls, line: str) -> Call | None:
+        """The call of a line of scf, `call nr N arch H ip H args H H H H H H`."""
+        found = PRINTED.fullmatch(line)
+        if not found:
+            return None
+        return cls(int(found[1]), int(found[2], 16), int(found[3], 16), tuple(int(it, 16) for it in found[4].split()))
+
+    @property
+    def is_native(self) -> bool:
+        return self.architecture == X86_64 and self.number < X32
+
+    def words(self) -> list[str]:
+        """The options of scf that give this call."""
+        numbers = (self.number, self.architecture, self.pointer, *self.arguments)
+        return [f"--{name}={number:#x}" for name, number in zip(OPTIONS, numbers)]
+
+    def told(self, table: Table) -> str:
+        """What the call is called."""
+        if self.architecture != X86_64:
+            shown = ARCHITECTURES.get(self.architecture, hex(self.architecture))
+            return f"number {self.number} of the architecture {shown}"
+        if self.number >= 2 * X32:
+            return f"number {self.number}, which is {hex(self.number)}, as no call has"
+        if self.number >= X32:
+            return f"number {self.number}, which is 0x40000000 + {self.number - X32}, as x32 calls have"
+        named = " or ".join(table.names_of(self.number))
+        return f"{named} ({self.number})" if named else f"number {self.number}, which the table doesn't name"
+
+    def left_out_of_native(self) -> str:
+        """What a comparison of native calls leaves out with this call, which is foreign."""
+        return "a foreign architecture" if self.architecture != X86_64 else "numbers from 0x40000000 on"
+
+    def as_json(self, table: Table) -> dict[str, object]:
+        return {"number": self.number, "names": table.names_of(self.number) if self.is_native else [],
+                "architecture": hex(self.architecture), "pointer": hex(self.pointer),
+                "arguments": [hex(it) for it in self.arguments]}
+
+
+def number_in(text: str) -> int | None:
+    """The number that a text spells as scf's options take it: decimal, or hexadecimal behind 0x."""
+    if re.fullmatch("0[xX][0-9a-fA-F]{1,40}", text):
+        return int(text, 16)
+    return int(text) if re.fullmatch("[0-9]{1,40}", text) else None

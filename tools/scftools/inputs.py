@@ -1,0 +1,58 @@
+"""Inputs: files, pipes and standard input. Each is read to its limit and one byte further, whatever stands behind that.
+
+The byte more lets scf say itself that an input is too long, as it says everything of inputs; what scf doesn't see is
+refused here.
+"""
+from __future__ import annotations
+
+import errno
+import os
+
+from . import output, program
+
+# The most bytes of what scf reads: a filter of 4096 instructions, a profile, a table; and of what the tools alone
+# read: an engine's profile, a kernel's header, a list of calls to try.
+LIMITS = {"filter": 1 << 15, "profile": 1 << 22, "table": 1 << 22,
+          "engine's profile": 1 << 24, "header": 1 << 22, "list of calls": 1 << 16}
+
+
+def _why(name: str, kind: str, error: OSError) -> str:
+    shown = "standard input" if name == "-" else f"'{output.escaped(name)}'"
+    if error.errno == errno.EISDIR:
+        return f"the {kind} {shown} is a folder"
+    if error.errno == errno.ENOENT:
+        return f"there is no file {shown}"
+    return f"the {kind} {shown} can't be read: {error.strerror}"
+
+
+def read(name: str, kind: str) -> bytes:
+    """The bytes of an input, `-` being standard input: at most one more than its kind may have."""
+    room = LIMITS[kind] + 1
+    found = []
+    try:
+        file = os.dup(0) if name == "-" else os.open(name, os.O_RDONLY | os.O_CLOEXEC | os.O_NOCTTY)
+        try:
+            while room:
+                piece = os.read(file, min(room, 1 << 16))
+                if not piece:
+                    break
+                found.append(piece)
+                room -= len(piece)
+        finally:
+            os.close(file)
+    except OSError as error:
+        raise program.Refused(_why(name, kind, error)) from error
+    return b"".join(found)
+
+
+def is_too_long(data: bytes, kind: str) -> bool:
+    return len(data) > LIMITS[kind]
+
+
+def read_whole(name: str, kind: str) -> bytes:
+    """The bytes of an input that scf doesn't see; refused where they are too many."""
+    data = read(name, kind)
+    if is_too_long(data, kind):
+        shown = "standard input" if name == "-" else f"'{output.escaped(name)}'"
+        raise program.Refused(f"the {kind} {shown} has more than {LIMITS[kind]} bytes")
+    return data

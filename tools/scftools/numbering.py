@@ -1,0 +1,104 @@
+"""What numbers the calls of x86-64: a header of the kernel, its source's own table, and the installed libseccomp."""
+from __future__ import annotations
+
+import re
+
+from . import program
+
+# The first number of an x32 call (__X32_SYSCALL_BIT); scf takes smaller ones.
+X32 = 0x40000000
+DEFINE = re.compile(r"^[ \t]*#[ \t]*define[ \t]+__NR_([A-Za-z_]\w*)[ \t]+([0-9]+)[ \t\r\f\v]*$", re.M | re.A)
+COMMENT = re.compile(r"/\*.*?(?:\*/|\Z)|//[^\n]*", re.S)
+NAME = re.compile(r"[A-Za-z_]\w*", re.A)
+# A count, and no call.
+COUNT = "syscalls"
+# SCMP_ARCH_X86_64 (seccomp.h of libseccomp); its numbers end far below this.
+ARCHITECTURE, NUMBERS = 0xC000003E, 4096
+
+
+def _add(calls: dict[str, int], name: str, digits: str, line: int | None = None) -> None:
+    at = "" if line is None else f"line {line}: "
+    number = int(digits) if len(digits.lstrip("0")) <= 10 else X32
+    if number >= X32:
+        raise program.Refused(f"{at}the number of {name} isn't below {X32}")
+    if calls.setdefault(name, number) != number:
+        raise program.Refused(f"{at}{name} has the numbers {calls[name]} and {number}")
+
+
+def of_header(text: str) -> dict[str, int]:
+    """The calls of a header such as asm/unistd_64.h: its lines `#define __NR_NAME NUMBER`."""
+    bare = COMMENT.sub(lambda found: "\n" if "\n" in found[0] else " ", text)
+    calls: dict[str, int] = {}
+    for found in DEFINE.finditer(bare):
+        if found[1] != COUNT:
+            _add(calls, found[1], found[2])
+    return calls
+
+
+def of_source_table(text: str) -> dict[str, int]:
+    """The calls of syscall_64.tbl: its rows of a number, `common` or `64`, a name and entries, without those of x32."""
+    calls: dict[str, int] = {}
+    for line, row in enumerate(text.split("\n"), 1):
+        fields = row.split("#", 1)[0].split()
+        if not fields:
+            continue
+        if len(fields) < 3 or not re.fullmatch(r"[0-9]+", fields[0], re.A):
+            raise program.Refused(f"line {line} has no number, ABI and name: '{row[:80]}'")
+        if fields[1] not in ("common", "64", "x32"):
+            raise program.Refused(f"line {line}: the ABI '{fields[1][:80]}' is none of x86-64's: common, 64, x32")
+        if not NAME.fullmatch(fields[2]):
+            raise program.Refused(f"line {line}: '{fields[2][:80]}' is no name")
+        if fields[1] != "x32":
+            _add(calls, fields[2], fields[0], line)
+    return calls
+
+
+def calls_of(data: bytes) -> dict[str, int]:
+    """The calls of a header, or of a table where no line of it defines anything."""
+    text = data.decode("utf-8", "surrogateescape")
+    calls = of_header(text)
+    if not calls and re.match(r"(?:[ \t\r]*(?:#[^\n]*)?\n)*[ \t]*[0-9]+[ \t]+[A-Za-z0-9]+[ \t]", text):
+        calls = of_source_table(text)
+    if not calls:
+        raise program.Refused("the header numbers no call: it has no line `#define __NR_NAME NUMBER`, and no row "
+                              "`NUMBER ABI NAME` as syscall_64.tbl")
+    return calls
+
+
+def _libseccomp():
+    """The library, and what frees the names that it gives."""
+    import ctypes  # pylint: disable=import-outside-toplevel
+
+    try:
+        library, libc = ctypes.CDLL("libseccomp.so.2"), ctypes.CDLL(None)
+    except OSError as error:
+        raise program.Refused("libseccomp can't be asked: there is no library libseccomp.so.2",
+                              program.FAILED) from error
+    resolve = library.seccomp_syscall_resolve_num_arch
+    resolve.restype, resolve.argtypes = ctypes.c_void_p, [ctypes.c_uint32, ctypes.c_int]
+    libc.free.restype, libc.free.argtypes = None, [ctypes.c_void_p]
+
+    def name_of(number: int) -> str | None:
+        found = resolve(ARCHITECTURE, number)
+        if not found:
+            return None
+        name = ctypes.string_at(found).decode("utf-8", "surrogateescape")
+        libc.free(found)
+        return name
+
+    return library, name_of
+
+
+def version_of_libseccomp(library) -> str:
+    import ctypes  # pylint: disable=import-outside-toplevel
+
+    library.seccomp_version.restype = ctypes.POINTER(ctypes.c_uint * 3)
+    found = library.seccomp_version()
+    return ".".join(map(str, found.contents)) if found else "of no known version"
+
+
+def of_libseccomp() -> tuple[str, dict[str, int]]:
+    """The version of the installed libseccomp, and the calls that it knows."""
+    library, name_of = _libseccomp()
+    named = ((name_of(number), number) for number in range(NUMBERS))
+    return version_of_libseccomp(library), {name: number for name, number in named if name}

@@ -1,0 +1,164 @@
+"""How a tool begins and ends, where scf is, and how it is run."""
+from __future__ import annotations
+
+import os
+import sys
+from collections.abc import Callable, Sequence
+from dataclasses import dataclass
+
+from . import output
+
+TYPE_CHECKING = False
+if TYPE_CHECKING:
+    from typing import NoReturn
+
+TOP = os.path.dirname(os.path.dirname(os.path.dirname(os.path.realpath(__file__))))
+# The launcher, in the sources; where scf is installed, the program itself.
+SCF = os.path.join(TOP, "scf")
+BUILT = os.path.join(TOP, "crates", "scf", "out", "scf")
+TABLE = os.path.join(TOP, "tables", "x86_64.table")
+OTHER_NAMES = os.path.join(TOP, "tables", "other_architectures.names")
+FAULTS = os.path.join(TOP, "docs", "FAULTS.md")
+
+# The statuses of scf and of its tools.
+WELL, REFUSED, WRONG_WORDS, FAILED, UNKNOWN, NO_PROGRAM = 0, 1, 2, 3, 4, 125
+
+
+def name() -> str:
+    """The tool as it was called: `compare`, or `scf-compare` where it is installed."""
+    return os.path.basename(sys.argv[0])
+
+
+class Refused(Exception):
+    """Ends a tool with a line on standard error and a status."""
+
+    def __init__(self, text: str, status: int = WRONG_WORDS):
+        super().__init__(text)
+        self.status = status
+
+
+def start(main: Callable[[], int]) -> NoReturn:
+    """Runs a tool to its end, whose status is the process's."""
+    import signal  # pylint: disable=import-outside-toplevel
+
+    # A reader that goes away ends the tool as it ends any other, and so does the user.
+    signal.signal(signal.SIGPIPE, signal.SIG_DFL)
+    signal.signal(signal.SIGINT, signal.SIG_DFL)
+    try:
+        status = main()
+    except SystemExit as ended:
+        # --help
+        status = ended.code if isinstance(ended.code, int) else WELL
+    except Refused as why:
+        output.say(name(), str(why))
+        status = why.status
+    except MemoryError:
+        output.say(name(), "memory was refused")
+        status = FAILED
+    except OSError as error:
+        output.say(name(), f"the output failed: {error.strerror}" if error.filename is None else
+                   f"'{error.filename}': {error.strerror}")
+        status = FAILED
+    finish(status)
+
+
+def finish(status: int) -> NoReturn:
+    """Ends the process once what was printed went out."""
+    try:
+        output.flush()
+    except OSError as error:
+        output.say(name(), f"the output failed: {error.strerror}")
+        status = FAILED
+    # without the interpreter's end, which would try to print the rest again
+    os._exit(status)
+
+
+def lines_of(text: str) -> list[str]:
+    """The lines of a text, of which the last may lack its end."""
+    lines = text.split("\n")
+    return lines if lines[-1] else lines[:-1]
+
+
+@dataclass(frozen=True)
+class Done:
+    """How a run of scf ended, and what it printed."""
+
+    status: int
+    out: bytes
+
+    @property
+    def text(self) -> str:
+        return self.out.decode("utf-8", "surrogateescape")
+
+    @property
+    def lines(self) -> list[str]:
+        """The lines printed; names among them hold what a stranger wrote."""
+        return lines_of(self.text)
+
+
+_is_current = False
+
+
+def _program() -> str:
+    """scf: the first time by its launcher, which makes it current; then the built program itself."""
+    return BUILT if _is_current and os.access(BUILT, os.X_OK) else SCF
+
+
+def _holding(data: bytes) -> int:
+    """A descriptor from which these bytes are read."""
+    try:
+        file = os.memfd_create("scf")
+    except (AttributeError, OSError):
+        import tempfile  # pylint: disable=import-outside-toplevel
+
+        with tempfile.TemporaryFile() as spare:
+            file = os.dup(spare.fileno())
+    rest = memoryview(data)
+    while rest:
+        rest = rest[os.write(file, rest):]
+    os.lseek(file, 0, os.SEEK_SET)
+    return file
+
+
+def _all_of(file: int) -> bytes:
+    found = []
+    while True:
+        piece = os.read(file, 1 << 16)
+        if not piece:
+            return b"".join(found)
+        found.append(piece)
+
+
+def scf(words: Sequence[str], given: bytes | None = b"") -> Done:
+    """Runs scf on these bytes; where they are None, on this process's standard input."""
+    global _is_current  # pylint: disable=global-statement
+    ends = os.pipe()
+    actions: list[tuple] = [(os.POSIX_SPAWN_DUP2, ends[1], 1)]
+    source = None if given is None else _holding(given)
+    if source is not None:
+        actions.append((os.POSIX_SPAWN_DUP2, source, 0))
+    try:
+        child = os.posix_spawn(_program(), ["scf", *words], os.environ, file_actions=actions)
+    except OSError as error:
+        raise Refused(f"scf can't be run: {_program()}: {error.strerror}", NO_PROGRAM) from error
+    os.close(ends[1])
+    if source is not None:
+        os.close(source)
+    out = _all_of(ends[0])
+    os.close(ends[0])
+    state = os.waitpid(child, 0)[1]
+    if os.WIFSIGNALED(state):
+        raise Refused(f"scf was ended by signal {os.WTERMSIG(state)}", 128 + os.WTERMSIG(state))
+    status = os.WEXITSTATUS(state)
+    if status == NO_PROGRAM:
+        # its launcher has said why
+        finish(status)
+    _is_current = True
+    return Done(status, out)
+
+
+def print_version() -> int:
+    """What `--version` of a tool prints: its version is scf's."""
+    done = scf(["--version"])
+    output.put_line(f"{name()} of {done.text.rstrip()}")
+    return done.status

@@ -1,0 +1,188 @@
+"""What scf prints, as values.
+
+Lines are read by their order, since the names in them are a stranger's: the first line is the verdict or a fault, the
+next ones are what the verdict needs, or calls by name; and behind the first `skipped` or `other` line nothing is a call
+or a verdict, whatever it looks like.
+"""
+from __future__ import annotations
+
+import re
+from collections.abc import Sequence
+from dataclasses import dataclass
+
+from . import program
+from .answers import Answer
+from .calls import Call
+from .tables import Table
+
+SAME, DIFFERS, UNDECIDED, UNFINISHED = "same", "differs", "undecided", "unfinished"
+# Of --no-more and --no-less, in place of the first two.
+NO_MORE, MORE, NO_LESS, LESS = "no more", "more", "no less", "less"
+HOLDS, FAILS = (SAME, NO_MORE, NO_LESS), (DIFFERS, MORE, LESS)
+FAULT = re.compile(r"fault ([a-z]+) ([A-Za-z0-9]+)((?: [a-z]+ [0-9]+)*)")
+NAMED = re.compile(r"([0-9]+) ([A-Za-z0-9_,]+) (differs|more|less|undecided|unfinished)\b(.*)")
+ANSWERED = re.compile(r" args((?: 0x[0-9a-f]+){6}) filter (\w+ \w+) profile (\w+ \w+)")
+LEFT_OUT = ("skipped ", "other ")
+
+
+@dataclass(frozen=True)
+class Fault:
+    """A refusal: `fault SOURCE KIND` and the kind's numbers by name."""
+
+    line: str
+    source: str
+    kind: str
+    numbers: dict[str, int]
+
+    @classmethod
+    def read(cls, line: str) -> Fault | None:
+        found = FAULT.fullmatch(line)
+        if not found:
+            return None
+        words = found[3].split()
+        return cls(line, found[1], found[2], {name: int(value) for name, value in zip(words[::2], words[1::2])})
+
+    def as_json(self) -> dict[str, object]:
+        return {"source": self.source, "kind": self.kind, "numbers": self.numbers}
+
+
+@dataclass(frozen=True)
+class Verdict:
+    """A verdict, with what it shows: the call and both answers where it is `differs`, `more` or `less`, a place where
+    `undecided`."""
+
+    word: str
+    call: Call | None = None
+    filters: Answer | None = None
+    profile: Answer | None = None
+    at: int | None = None
+
+    @property
+    def holds(self) -> bool:
+        return self.word in HOLDS
+
+    @property
+    def fails(self) -> bool:
+        return self.word in FAILS
+
+    @property
+    def both_refuse(self) -> bool:
+        return bool(self.filters and self.profile and self.filters.refuses and self.profile.refuses)
+
+
+@dataclass(frozen=True)
+class NamedCall:
+    """A line of `scf compare --calls`: a call that the table names and of which the relation isn't known to hold."""
+
+    line: str
+    number: int
+    names: tuple[str, ...]
+    verdict: Verdict
+
+
+@dataclass(frozen=True)
+class Report:
+    """What `scf compare` printed: a verdict or a fault, and what of the profile was left out.
+
+    `lines` are those of the verdict and the calls. Names and architectures hold what the profile's author wrote.
+    """
+
+    lines: tuple[str, ...]
+    verdict: Verdict | None = None
+    fault: Fault | None = None
+    calls: tuple[NamedCall, ...] = ()
+    skipped: tuple[str, ...] = ()
+    architectures: tuple[str, ...] = ()
+
+    @property
+    def printed(self) -> list[str]:
+        """scf's lines again, a name with line ends in it as the one line that it belongs to."""
+        return [*self.lines, *(f"skipped {name}" for name in self.skipped),
+                *(f"other {name}" for name in self.architectures)]
+
+
+def _shown(lines: Sequence[str]) -> Verdict:
+    call = Call.read(lines[1]) if len(lines) > 3 else None
+    if call is None:
+        return Verdict(lines[0])
+    sides = [Answer.read(line.partition(" ")[2]) for line in lines[2:4]]
+    return Verdict(lines[0], call, *sides)
+
+
+def _verdict(lines: Sequence[str]) -> Verdict | None:
+    word, _, rest = lines[0].partition(" ")
+    if lines[0] in FAILS:
+        return _shown(lines)
+    if lines[0] in (*HOLDS, UNFINISHED):
+        return Verdict(lines[0])
+    place = re.fullmatch("at ([0-9]+)", rest)
+    return Verdict(UNDECIDED, at=int(place[1])) if word == UNDECIDED and place else None
+
+
+def named_call(line: str) -> NamedCall | None:
+    """The call of a line of `--calls`."""
+    found = NAMED.fullmatch(line)
+    if not found:
+        return None
+    number, answered = int(found[1]), ANSWERED.fullmatch(found[4])
+    verdict = Verdict(found[3])
+    if verdict.fails and answered:
+        call = Call(number, arguments=tuple(int(it, 16) for it in answered[1].split()))
+        verdict = Verdict(found[3], call, Answer.read(answered[2]), Answer.read(answered[3]))
+    return NamedCall(line, number, tuple(found[2].split(",")), verdict)
+
+
+def _names(lines: Sequence[str]) -> tuple[list[str], list[str]]:
+    """The skipped names and the architectures of the lines from the first of them on.
+
+    A line that begins as neither belongs to the name before it, which has a line end in it.
+    """
+    found: dict[str, list[str]] = {word: [] for word in LEFT_OUT}
+    last = found[LEFT_OUT[0]]
+    for line in lines:
+        word = next((word for word in LEFT_OUT if line.startswith(word)), None)
+        if word:
+            last = found[word]
+            last.append(line[len(word):])
+        elif last:
+            last[-1] += f"\n{line}"
+    return found[LEFT_OUT[0]], found[LEFT_OUT[1]]
+
+
+def report(text: str, profile_names: Sequence[str] | None = None, table: Table | None = None) -> Report:
+    """What a text says that `scf compare` printed.
+
+    Where the names of the profile are known, a name in which further lines `skipped ..` or `other ..` stand is told
+    from several names.
+    """
+    lines = program.lines_of(text)
+    count = next((at for at, line in enumerate(lines) if line.startswith(LEFT_OUT)), len(lines))
+    own, rest = lines[:count], lines[count:]
+    skipped, architectures = _names(rest)
+    if profile_names is not None and table is not None:
+        exact = [name for name in profile_names if table.number_of(name) is None]
+        head, tail = "".join(f"skipped {name}\n" for name in exact), "".join(f"{line}\n" for line in rest)
+        if tail.startswith(head) and not tail.startswith(LEFT_OUT[0], len(head)):
+            skipped, architectures = exact, _names(tail[len(head):].split("\n")[:-1])[1]
+    calls = tuple(filter(None, map(named_call, own[1:]))) if own else ()
+    return Report(tuple(own), _verdict(own) if own else None, Fault.read(own[0]) if own else None, calls,
+                  tuple(skipped), tuple(architectures))
+
+
+@dataclass(frozen=True)
+class Decision:
+    """What `scf run` or `scf decide` printed of a call: an answer and how many instructions ran, or a fault."""
+
+    line: str
+    answer: Answer | None = None
+    steps: int | None = None
+    fault: Fault | None = None
+
+
+def decision(text: str) -> Decision:
+    line = text.split("\n", 1)[0]
+    found = re.fullmatch(r"(\w+ \w+)(?: steps ([0-9]+))?", line)
+    answer = Answer.read(found[1]) if found else None
+    if answer is None or found is None:
+        return Decision(line, fault=Fault.read(line))
+    return Decision(line, answer, int(found[2]) if found[2] else None)

@@ -1,0 +1,68 @@
+"""The command line of a tool: what is wrong with it is said safely, under the name by which the tool was called."""
+from __future__ import annotations
+
+import argparse
+import sys
+from collections.abc import Iterable
+
+from . import output, program, verdicts
+
+TYPE_CHECKING = False
+if TYPE_CHECKING:
+    from typing import Any, NoReturn
+
+EPILOG = "Status: 0 well, 1 refused or differs, 2 wrong words, 3 a failed input or output, 4 undecided or unfinished."
+
+
+class Version(argparse.Action):
+    """`--version`: the version is scf's."""
+
+    def __init__(self, option_strings: list[str], dest: str, **_: Any):
+        super().__init__(option_strings, dest, nargs=0, default=argparse.SUPPRESS, help="print the version and end")
+
+    def __call__(self, parser: argparse.ArgumentParser, *_: Any) -> None:
+        program.finish(program.print_version())
+
+
+class Formatter(argparse.HelpFormatter):
+    """Lines of one width, which needn't be asked of the terminal at the start of each tool."""
+
+    def __init__(self, prog: str):
+        super().__init__(prog, width=100)
+
+
+class Parser(argparse.ArgumentParser):
+    """The words of a tool, whose docstring's first line says what it does."""
+
+    def __init__(self, doc: str, epilog: str = EPILOG, **settings: Any):
+        super().__init__(prog=output.escaped(program.name()), description=doc.split("\n", 1)[0], epilog=epilog,
+                         allow_abbrev=False, formatter_class=Formatter, **settings)
+        self.add_argument("--version", action=Version)
+
+    def error(self, message: str) -> NoReturn:
+        try:
+            self.print_usage(sys.stderr)
+        except (OSError, AttributeError):
+            pass
+        raise program.Refused(message)
+
+    def table(self, dash: str = "; - is standard input") -> None:
+        """Adds `--table`."""
+        self.add_argument("--table", metavar="FILE", help=f"the call table{dash} [default: tables/x86_64.table]")
+
+    def limit(self) -> None:
+        """Adds `--limit`."""
+        self.add_argument("--limit", metavar="N", help="the most steps [default: scf's, 1000000]")
+
+    def relation(self) -> None:
+        """Adds `--no-more` and `--no-less`, of which one may be given."""
+        group = self.add_mutually_exclusive_group()
+        group.add_argument("--no-more", dest="relation", action="store_const", const=verdicts.NO_MORE,
+                           default=verdicts.SAME, help="whether no call is let through further than by the profile")
+        group.add_argument("--no-less", dest="relation", action="store_const", const=verdicts.NO_LESS,
+                           default=verdicts.SAME, help="whether none is let through less far than by the profile")
+
+    def one_standard_input(self, names: Iterable[str | None]) -> None:
+        """Refuses words that name standard input twice."""
+        if list(names).count("-") > 1:
+            self.error("only one input can be '-', standard input")

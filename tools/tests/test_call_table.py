@@ -1,0 +1,227 @@
+"""tools/call-table, and the tables that come with scf."""
+import ctypes.util
+import os
+import re
+import time
+import unittest
+
+from common import TABLE, TOP, Case, part, tool
+
+HEADER = """#ifndef _ASM_UNISTD_64_H
+/* #define __NR_commented 9 */
+// #define __NR_commented_too 10
+#define __NR_read 0
+#define __NR_write 1 /* and
+#define __NR_inside 2
+*/ #define __NR_after 3
+#  define __NR_spaced 4 // why
+#\tdefine\t__NR_tabbed\t5
+#define __NR_computed (__NR_read + 1)
+#define __NR_hex 0x10
+#define __NR_syscalls 451
+#define __NR_trailing 6 x
+#define NR_other 7
+#endif
+"""
+
+
+# Rows of arch/x86/entry/syscalls/syscall_64.tbl, as the kernel's source has them.
+SOURCE = """#
+# 64-bit system call numbers and entry vectors
+#
+# The format is:
+# <number> <abi> <name> <entry point> [<compat entry point> [noreturn]]
+#
+0\tcommon\tread\t\t\tsys_read
+60\tcommon\texit\t\t\tsys_exit\t\t\t-\t\t\tnoreturn
+134\t64\tuselib
+335\t64\turetprobe\t\tsys_uretprobe
+
+# don't use numbers 387 through 423, add new calls after the last
+# 'common' entry
+469\tcommon\tfile_setattr\t\tsys_file_setattr
+#
+# Due to a historical design error, certain syscalls are numbered differently
+#
+512\tx32\trt_sigaction\t\tcompat_sys_rt_sigaction
+547\tx32\tpwritev2\t\tcompat_sys_pwritev64v2
+# This is the end of the legacy x32 range.
+"""
+LIMIT = 4194304
+
+
+class CallTable(Case):
+    def test_usage(self):
+        status, out, err = self.run_tool("call-table", "--help")
+        self.assertEqual((status, err), (0, ""))
+        for words in (("--no-such-option",), ("a", "b"), ("--comment",), ("--comment", "two\nlines"),
+                      ("--libseccomp", "a")):
+            status, out, err = self.run_tool("call-table", *words)
+            self.assertEqual((status, out), (2, ""), words)
+            self.assertIn("call-table: ", err)
+
+    def test_what_a_header_numbers(self):
+        table = "read 0\nwrite 1\nafter 3\nspaced 4\ntabbed 5\n"
+        self.assertEqual(self.run_tool("call-table", self.file("h", HEADER)), (0, table, ""))
+        self.assertEqual(self.run_tool("call-table", given=HEADER.encode()), (0, table, ""))
+        self.assertEqual(self.run_tool("call-table", "-", given=HEADER.encode()), (0, table, ""))
+        self.assertEqual(self.run_tool("call-table", "--comment", "of 6.1", given=HEADER.encode()),
+                         (0, "# of 6.1\n" + table, ""))
+        self.assertEqual(self.run_tool("call-table", given=HEADER.replace("\n", "\r\n").encode()), (0, table, ""))
+
+    def test_what_the_table_of_the_source_numbers(self):
+        table = "read 0\nexit 60\nuselib 134\nuretprobe 335\nfile_setattr 469\n"
+        self.assertEqual(self.run_tool("call-table", self.file("syscall_64.tbl", SOURCE)), (0, table, ""))
+        self.assertEqual(self.run_tool("call-table", "--comment", "of it", given=SOURCE.encode()),
+                         (0, "# of it\n" + table, ""))
+
+    def refuses(self, given, said):
+        done = self.run_tool("call-table", given=given)
+        self.assertEqual(done[:2], (2, ""))
+        self.assertIn(said, done[2])
+        self.assertNotIn("Traceback", done[2])
+        self.assertRegex(done[2], r"^call-table: [ -~]*\n$")
+
+    def test_a_wrong_table_of_the_source(self):
+        self.refuses(b"0 common read sys_read\n1 i386 exit sys_exit\n", "line 2: the ABI 'i386' is none of x86-64's")
+        self.refuses(b"0 common read sys_read\nx common exit sys_exit\n", "line 2 has no number, ABI and name")
+        self.refuses(b"0 common read sys_read\n1 common\n", "line 2 has no number, ABI and name: '1 common'")
+        self.refuses(b"0 common read sys_read\n1 common a\x1b[2Jb sys\n", r"line 2: 'a\x1b[2Jb' is no name")
+        self.refuses(b"0 common read sys_read\n1 common \xff\xfe sys\n", r"'\xff\xfe' is no name")
+        self.refuses(b"0 common read sys_read\n1 common read sys_read\n", "line 2: read has the numbers 0 and 1")
+        self.refuses(b"1073741824 common read sys_read\n", "line 1: the number of read isn't below 1073741824")
+        self.refuses(b"9" * 5000 + b" common read sys_read\n", "line 1: the number of read isn't below 1073741824")
+
+    def test_a_header_without_calls(self):
+        for given in (b"", b"#define __NR_syscalls 3\n", b"/* #define __NR_a 1 */\n", b"\x7fELF\0\0", b"read 0\n",
+                      b"/* #define __NR_a 1\n", b"\n" * 1000):
+            self.refuses(given, "numbers no call")
+
+    def test_a_wrong_header(self):
+        self.refuses(b"#define __NR_read 0\n#define __NR_read 1\n", "read has the numbers 0 and 1")
+        self.refuses(b"#define __NR_read " + b"1" * 5000, "the number of read isn't below 1073741824")
+        self.assertEqual(self.run_tool("call-table", given=b"#define __NR_a 1\n#define __NR_a 1\n"), (0, "a 1\n", ""))
+
+    def test_inputs_without_an_end(self):
+        for path in ("/dev/zero", "/dev/urandom"):
+            begun = time.monotonic()
+            status, out, err = self.run_tool("call-table", path)
+            self.assertEqual((status, out), (2, ""))
+            self.assertIn(f"more than {LIMIT} bytes", err)
+            self.assertLess(time.monotonic() - begun, 5)
+
+    def test_the_longest_input(self):
+        for given in (b"/" * LIMIT, b" " * LIMIT, b"\n" * LIMIT, b"#" * LIMIT, b"/*" * (LIMIT // 2),
+                      b"1 " * (LIMIT // 2), b"1 common " * (LIMIT // 9), b"#define __NR_" + b"a" * (LIMIT - 13)):
+            begun = time.monotonic()
+            self.assertEqual(self.run_tool("call-table", given=given)[:2], (2, ""))
+            self.assertLess(time.monotonic() - begun, 20)
+        row = b"#define __NR_read 0\n"
+        self.assertEqual(self.run_tool("call-table", given=row + b" " * (LIMIT - len(row))), (0, "read 0\n", ""))
+        self.refuses(row + b" " * (LIMIT + 1 - len(row)), f"more than {LIMIT} bytes")
+
+    def test_no_file(self):
+        for name in ("none", self.folder):
+            status, out, err = self.run_tool("call-table", name)
+            self.assertEqual((status, out), (2, ""))
+            self.assertIn(name, err)
+
+    def test_output_that_fails(self):
+        status, _, err = self.closed_output("call-table", given=HEADER.encode())
+        self.assertEqual(status, 3)
+        self.assertIn("call-table: the output failed", err)
+
+    @unittest.skipUnless(ctypes.util.find_library("seccomp"), "there is no libseccomp here")
+    def test_what_libseccomp_knows(self):
+        status, out, err = self.run_tool("call-table", "--libseccomp")
+        self.assertEqual((status, err), (0, ""))
+        lines = out.splitlines()
+        self.assertRegex(lines[0], r"^# The calls of x86-64 that libseccomp [0-9]+\.[0-9]+\.[0-9]+ knows\.$")
+        with open(TABLE, encoding="ascii") as file:
+            known = {line.split(" ")[0]: line.rstrip("\n") for line in file}
+        rows = lines[1:]
+        self.assertEqual(rows, sorted(rows, key=lambda row: int(row.split(" ")[1])))
+        self.assertGreater(len(rows), 300)
+        # what this library knows and the table doesn't came after the table
+        unlike = [row for row in rows if known.get(row.split(" ")[0]) != row]
+        self.assertEqual([row for row in unlike if int(row.split(" ")[1]) <= 469], [])
+        self.assertIn("read 0", rows)
+        self.assertIn("pidfd_getfd 438", rows)
+        status, out, err = self.run_tool("call-table", "--libseccomp", "--comment", "mine")
+        self.assertEqual(out.splitlines()[0], "# mine")
+
+
+class Table(Case):
+    """tables/x86_64.table."""
+
+    # What Linux 6.18 has and 6.1 hadn't (arch/x86/entry/syscalls/syscall_64.tbl).
+    NEWER = """uretprobe 335, uprobe 336, cachestat 451, fchmodat2 452, map_shadow_stack 453, futex_wake 454,
+        futex_wait 455, futex_requeue 456, statmount 457, listmount 458, lsm_get_self_attr 459, lsm_set_self_attr 460,
+        lsm_list_modules 461, mseal 462, setxattrat 463, getxattrat 464, listxattrat 465, removexattrat 466,
+        open_tree_attr 467, file_getattr 468, file_setattr 469"""
+
+    def lines(self):
+        with open(TABLE, encoding="ascii") as file:
+            return file.read().split("\n")
+
+    def test_it_says_what_it_is_of(self):
+        self.assertRegex(self.lines()[0], r"^# .*syscall_64\.tbl of Linux 6\.18\.$")
+
+    def test_it_is_the_table_of_the_tests_and_what_came_since(self):
+        with open(os.path.join(TOP, "crates", "scf_library_tests", "src", "x86_64_table.rt"),
+                  encoding="utf-8") as file:
+            held = re.search(r'const TABLE: &str = "([^"]*)"', file.read())[1].strip().split("\n")
+        newer = [line.strip() for line in self.NEWER.replace("\n", " ").split(",")]
+        rows = [line for line in self.lines() if line and line[0] != "#"]
+        self.assertEqual(rows, sorted(held + newer, key=lambda row: int(row.split(" ")[1])))
+        self.assertEqual((len(held), len(newer), len(rows)), (362, 21, 383))
+
+    def test_it_is_what_the_tool_makes(self):
+        header = "".join(f"#define __NR_{name} {number}\n" for name,
+                         number in (line.split() for line in self.lines()[1:] if line))
+        status, out, err = self.run_words([tool("call-table"), "--comment", self.lines()[0][2:]], header.encode())
+        self.assertEqual((status, out, err), (0, "\n".join(self.lines()), ""))
+
+    def test_scf_takes_it(self):
+        with open(TABLE, "rb") as file:
+            given = part("profile", b'{"defaultAction":"SCMP_ACT_ALLOW"}') + part("table", file.read())
+        status, _, _ = self.run_words([os.path.join(TOP, "scf"), "compile"], given, stdout=-3)
+        self.assertEqual(status, 0)
+
+
+class OtherArchitectures(Case):
+    """tables/other_architectures.names."""
+
+    # What containers-common 0.50.1 and 0.67.1, moby 20.10.24 and 28.5.2, and systemd's units name, and x86-64 lacks.
+    NAMED = """_llseek _newselect arm_fadvise64_64 arm_sync_file_range bdflush breakpoint cacheflush chown32
+        clock_adjtime64 clock_getres_time64 clock_gettime64 clock_nanosleep_time64 clock_settime64 fadvise64_64 fchown32
+        fcntl64 fstat64 fstatat64 fstatfs64 ftruncate64 futex_time64 getegid32 geteuid32 getgid32 getgroups32
+        getresgid32 getresuid32 getuid32 io_pgetevents_time64 ipc lchown32 lstat64 mmap2 mq_timedreceive_time64
+        mq_timedsend_time64 nice oldfstat oldlstat oldolduname oldstat olduname pciconfig_iobase pciconfig_read
+        pciconfig_write ppoll_time64 pselect6_time64 readdir recv recvmmsg_time64 riscv_flush_icache riscv_hwprobe
+        rt_sigtimedwait_time64 s390_pci_mmio_read s390_pci_mmio_write s390_runtime_instr sched_rr_get_interval_time64
+        semtimedop_time64 send sendfile64 set_tls setfsgid32 setfsuid32 setgid32 setgroups32 setregid32 setresgid32
+        setresuid32 setreuid32 setuid32 sgetmask sigaction signal sigpending sigprocmask sigreturn sigsuspend
+        socketcall ssetmask stat64 statfs64 stime swapcontext sync_file_range2 syscall timer_gettime64
+        timer_settime64 timerfd timerfd_gettime64 timerfd_settime64 truncate64 ugetrlimit umount utimensat_time64 vm86
+        vm86old waitpid"""
+
+    def lines(self):
+        with open(os.path.join(TOP, "tables", "other_architectures.names"), encoding="ascii") as file:
+            return file.read().split("\n")
+
+    def test_comments_and_names(self):
+        lines = self.lines()
+        self.assertEqual(lines.pop(), "")
+        self.assertRegex(" ".join(line for line in lines if line.startswith("#")), r"asm/unistd\S* of Linux [0-9]")
+        names = [line for line in lines if not line.startswith("#")]
+        self.assertEqual(names, sorted(set(names)))
+        for name in names:
+            self.assertRegex(name, r"^[a-z0-9_]+$")
+
+    def test_it_has_none_of_x86_64_and_all_that_engines_name(self):
+        with open(TABLE, encoding="ascii") as file:
+            own = {line.split(" ")[0] for line in file if line[0] != "#"}
+        self.assertEqual(own & set(self.lines()), set())
+        self.assertEqual(set(self.NAMED.split()) - set(self.lines()), set())
+        self.assertEqual({"umont2", "reed", "syscalls", "BASE"} & set(self.lines()), set())
