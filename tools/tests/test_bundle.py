@@ -1,9 +1,8 @@
-"""tools/bundle and tools/call-table."""
+"""tools/bundle."""
 import os
-import re
 import threading
 
-from common import TABLE, TOP, Case, part, tool
+from common import Case
 
 
 class Bundle(Case):
@@ -46,16 +45,23 @@ class Bundle(Case):
             self.assertTrue(err.startswith("bundle: "), err)
 
     def test_too_long(self):
-        path = self.file("long", b"")
-        with open(path, "wb") as file:
-            file.truncate(100000000)
-        status, out, err = self.run_tool("bundle", "filter", path)
+        """Each kind has the limit that scf has for it, and all together the one of scf's input."""
+        for kind, limit in (("filter", 32768), ("profile", 4194304), ("table", 4194304)):
+            path = self.file("long", bytes(limit))
+            self.assertEqual(self.run_tool("bundle", kind, path)[0::2], (0, ""))
+            with open(path, "ab") as file:
+                file.write(b"\0")
+            status, out, err = self.run_tool("bundle", kind, path)
+            self.assertEqual((status, out), (2, ""))
+            self.assertIn(f"the {kind} '{path}' has more than {limit} bytes", err)
+        whole = self.file("whole", bytes(4194304))
+        status, out, err = self.run_tool("bundle", *["profile", whole] * 4, "table", self.file("one", b"x"))
         self.assertEqual((status, out), (2, ""))
-        self.assertIn("more than 99999999 bytes", err)
+        self.assertIn("more than 16777216 bytes together", err)
 
     def test_output_that_fails(self):
         status, _, err = self.closed_output("bundle", "filter", self.file("a", b"x"))
-        self.assertEqual((status, err), (3, "bundle: the output failed\n"))
+        self.assertEqual((status, err), (3, "bundle: the output failed: No space left on device\n"))
 
     def test_nothing_is_left_behind(self):
         room = os.path.join(self.folder, "room")
@@ -63,85 +69,3 @@ class Bundle(Case):
         self.run_tool("bundle", "filter", self.file("a", b"x"), env={**os.environ, "TMPDIR": room})
         self.run_tool("bundle", "filter", "none", env={**os.environ, "TMPDIR": room})
         self.assertEqual(os.listdir(room), [])
-
-
-HEADER = """#ifndef _ASM_UNISTD_64_H
-/* #define __NR_commented 9 */
-// #define __NR_commented_too 10
-#define __NR_read 0
-#define __NR_write 1 /* and
-#define __NR_inside 2
-*/ #define __NR_after 3
-#  define __NR_spaced 4 // why
-#\tdefine\t__NR_tabbed\t5
-#define __NR_computed (__NR_read + 1)
-#define __NR_hex 0x10
-#define __NR_syscalls 451
-#define __NR_trailing 6 x
-#define NR_other 7
-#endif
-"""
-
-
-class CallTable(Case):
-    def test_usage(self):
-        status, out, err = self.run_tool("call-table", "--help")
-        self.assertEqual((status, err), (0, ""))
-        for words in (("--no-such-option",), ("a", "b"), ("--comment",), ("--comment", "two\nlines")):
-            status, out, err = self.run_tool("call-table", *words)
-            self.assertEqual((status, out), (2, ""), words)
-            self.assertTrue(err.startswith("call-table: "), err)
-
-    def test_what_a_header_numbers(self):
-        table = "read 0\nwrite 1\nafter 3\nspaced 4\ntabbed 5\n"
-        self.assertEqual(self.run_tool("call-table", self.file("h", HEADER)), (0, table, ""))
-        self.assertEqual(self.run_tool("call-table", given=HEADER.encode()), (0, table, ""))
-        self.assertEqual(self.run_tool("call-table", "-", given=HEADER.encode()), (0, table, ""))
-        self.assertEqual(self.run_tool("call-table", "--comment", "of 6.1", given=HEADER.encode()),
-                         (0, "# of 6.1\n" + table, ""))
-
-    def test_a_header_without_calls(self):
-        for given in (b"", b"#define __NR_syscalls 3\n", b"/* #define __NR_a 1 */\n", b"\x7fELF\0\0"):
-            status, out, err = self.run_tool("call-table", given=given)
-            self.assertEqual((status, out), (2, ""))
-            self.assertIn("numbers no call", err)
-
-    def test_no_file(self):
-        for name in ("none", self.folder):
-            status, out, err = self.run_tool("call-table", name)
-            self.assertEqual((status, out), (2, ""))
-            self.assertIn(name, err)
-
-    def test_output_that_fails(self):
-        status, _, err = self.closed_output("call-table", given=HEADER.encode())
-        self.assertEqual((status, err), (3, "call-table: the output failed\n"))
-
-
-class Table(Case):
-    """tables/x86_64.table."""
-
-    def lines(self):
-        with open(TABLE, encoding="ascii") as file:
-            return file.read().split("\n")
-
-    def test_it_says_which_header_it_is_of(self):
-        self.assertRegex(self.lines()[0], r"^# .*unistd_64\.h.* [0-9]+\.[0-9]+")
-
-    def test_it_is_the_table_of_the_tests(self):
-        with open(os.path.join(TOP, "crates", "scf_library_tests", "src", "x86_64_table.rt"),
-                  encoding="utf-8") as file:
-            held = re.search(r'const TABLE: &str = "([^"]*)"', file.read())[1]
-        self.assertEqual([line for line in self.lines() if line and line[0] != "#"], held.strip().split("\n"))
-        self.assertEqual(len(held.strip().split("\n")), 362)
-
-    def test_it_is_what_the_tool_makes(self):
-        header = "".join(f"#define __NR_{name} {number}\n" for name,
-                         number in (line.split() for line in self.lines()[1:] if line))
-        status, out, err = self.run_words([tool("call-table"), "--comment", self.lines()[0][2:]], header.encode())
-        self.assertEqual((status, out, err), (0, "\n".join(self.lines()), ""))
-
-    def test_scf_takes_it(self):
-        with open(TABLE, "rb") as file:
-            given = part("profile", b'{"defaultAction":"SCMP_ACT_ALLOW"}') + part("table", file.read())
-        status, _, _ = self.run_words([os.path.join(TOP, "scf"), "compile"], given, stdout=-3)
-        self.assertEqual(status, 0)

@@ -1,0 +1,35 @@
+"""Bundles: several inputs as one, which is what scf reads where it needs several, since it opens none itself."""
+from __future__ import annotations
+
+from collections.abc import Iterable, Sequence
+
+KINDS = ("filter", "profile", "table")
+# The most bytes that scf reads. Of a longer bundle it only says that it is too long.
+LIMIT = 1 << 24
+
+
+def bundle(parts: Iterable[tuple[str, bytes]]) -> bytes:
+    """The parts, each behind a header with its kind and the count of its bytes."""
+    pieces: list[bytes] = []
+    length = 0
+    for kind, data in parts:
+        pieces += b"%s %d\n" % (kind.encode(), len(data)), data
+        length += len(pieces[-2]) + len(data)
+        if length > LIMIT:
+            break
+    return b"".join(pieces)
+
+
+def of_stack(filters: Sequence[bytes]) -> bytes:
+    """What `scf decide` reads: filters, oldest first."""
+    return bundle(("filter", data) for data in filters)
+
+
+def of_comparison(filters: Sequence[bytes], profile: bytes, table: bytes) -> bytes:
+    """What `scf compare` reads: filters, oldest first, a profile and a call table."""
+    return bundle([*(("filter", data) for data in filters), ("profile", profile), ("table", table)])
+
+
+def of_compilation(profile: bytes, table: bytes) -> bytes:
+    """What `scf compile` reads."""
+    return bundle([("profile", profile), ("table", table)])
