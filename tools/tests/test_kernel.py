@@ -1,0 +1,292 @@
+"""tools/kernel: the running kernel does what scf says; a change that is planted in what scf says is seen; what differs
+is kept and can be repeated; where nothing can be asked, that is said."""
+import ctypes
+import json
+import os
+import random
+import re
+import resource
+import struct
+import sys
+import unittest
+
+from common import ALLOW, TOP, Case, insn, jeq, load, ret
+from stand_in import OF_ANSWERS, OF_CHECKER, StandIn
+
+sys.path.append(os.path.join(TOP, "tools"))
+from scftools import kernel_asking, kernel_child, kernel_otherwise, kernel_profiles  # noqa: E402
+from scftools import kernel_programs as programs  # noqa: E402
+from scftools.answers import Answer  # noqa: E402
+from scftools.calls import Call  # noqa: E402
+from scftools.kernel_child import Setting  # noqa: E402
+
+# linux/prctl.h, linux/seccomp.h
+PR_SET_NO_NEW_PRIVS, PR_SET_SECCOMP, SECCOMP_MODE_FILTER = 38, 22, 2
+NR_SECCOMP, NR_PTRACE = 317, 101
+# The most seconds of one processor that the gate's part takes.
+MOST_SECONDS = 60
+
+
+def filtered(data):
+    """What a child does before it runs a tool: it installs this filter."""
+    room = ctypes.create_string_buffer(data, len(data))
+    header = ctypes.create_string_buffer(struct.pack("<HxxxxxxQ", len(data) // 8, ctypes.addressof(room)))
+    library = ctypes.CDLL(None)
+
+    def install(_=room):
+        library.prctl(PR_SET_NO_NEW_PRIVS, 1, 0, 0, 0)
+        if library.prctl(PR_SET_SECCOMP, SECCOMP_MODE_FILTER, ctypes.byref(header), 0, 0):
+            os._exit(99)
+    return install
+
+
+def refusing(number, answer=0x00050001):
+    """A filter that refuses the calls of one number."""
+    return load(0) + jeq(number, 0, 1) + ret(answer) + ret(ALLOW)
+
+
+class Remembering(kernel_child.Kernel):
+    """The kernel, asked once for what is asked for each change that is planted."""
+
+    def __init__(self):
+        super().__init__()
+        self.came = {}
+
+    def ask(self, filters, calls, setting=Setting()):
+        key = (tuple(filters), tuple(calls), setting)
+        if key not in self.came:
+            self.came[key] = super().ask(filters, calls, setting)
+        return self.came[key]
+
+
+class Asked(Case):
+    """Asks the kernel as tools/kernel does."""
+
+    def asked(self, *words, **settings):
+        status, out, err = self.run_tool("kernel", *words, **settings)
+        self.assertEqual(err, "")
+        if status == 4 and "preexec_fn" not in settings:
+            self.skipTest(out.split("\n")[0])
+        return status, out.split("\n")[:-1]
+
+
+class Gate(Asked):
+    def test_the_kernel_does_what_scf_says(self):
+        before = resource.getrusage(resource.RUSAGE_CHILDREN)
+        status, lines = self.asked("--seed=1")
+        after = resource.getrusage(resource.RUSAGE_CHILDREN)
+        self.assertEqual(status, 0, lines)
+        self.assertRegex(lines[-1], r"^[1-9][0-9]* passed, 0 failed(, [0-9]+ skipped)?$")
+        found = (re.match("([a-z ]+): ([0-9]+);", line) for line in lines)
+        counts = {each[1]: int(each[2]) for each in found if each}
+        self.assertGreater(counts["programs"], 2000)
+        for kind in ("accepted", "Empty", "TooLong", "Code", "Load", "Scratch", "Divisor", "Shift", "Jump",
+                     "LastNotReturn", "Unset"):
+            self.assertRegex(lines[1], rf"[ ;,:] [1-9][0-9]* {kind}\b")
+        if not any(line.startswith("skipped: calls:") for line in lines):
+            self.assertGreater(counts["filters and stacks"], 200)
+            self.assertEqual(counts["profiles"], 50)
+        self.assertEqual(sum(line.startswith("otherwise: ") for line in lines), len(kernel_otherwise.ROWS))
+        self.assertLess(after.ru_utime + after.ru_stime - before.ru_utime - before.ru_stime, MOST_SECONDS)
+        self.assertEqual(os.listdir(self.folder), [])
+
+    def test_rows_of_the_document_are_those_that_are_tried(self):
+        with open(os.path.join(TOP, "docs", "KERNEL.md"), encoding="utf-8") as file:
+            text = file.read().split("## Where the kernel does otherwise")[1]
+        rows = re.findall(r"^\| ([^|]+?) \|", text.split("\n## ")[0], re.M)
+        self.assertEqual(rows[1:], list(kernel_otherwise.ROWS))
+
+
+class Planted(unittest.TestCase):
+    """A stand-in for scf, in which a change is planted, is found out."""
+
+    @classmethod
+    def setUpClass(cls):
+        try:
+            cls.kernel = Remembering()
+            cls.abilities = kernel_asking.abilities(cls.kernel)
+        except kernel_child.Unavailable as why:
+            raise unittest.SkipTest(str(why)) from why
+        if cls.abilities.filtered:
+            raise unittest.SkipTest("this process has filters already")
+        calls = programs.Calls(cls.abilities.i386, cls.abilities.x32)
+        packed = programs.packed
+        cls.filters = [kernel_asking.Case("filter", [packed(one)], calls.of_corners(random.Random(f"{place}"), 12))
+                       for place, one in enumerate(programs.chosen_filters())]
+        cls.stacks = [kernel_asking.Case("stack", [*map(packed, one)], calls.many(random.Random(f"{place}"), one, 1))
+                      for place, one in enumerate(programs.chosen_stacks())]
+        cls.programs = [kernel_asking.Case("program", [packed(one)]) for one in programs.chosen_programs()][::-1]
+
+    def programs_differ(self, plant):
+        """Whether any of the chosen programs is seen to differ."""
+        asking = kernel_asking.Asking(self.kernel, StandIn(plant))
+        return any(asking.programs(self.programs[at:at + 100]) for at in range(0, len(self.programs), 100))
+
+    def calls_differ(self, plant):
+        """Whether any call under the chosen filters and stacks is."""
+        asking = kernel_asking.Asking(self.kernel, StandIn(plant))
+        return any(asking.calls(case) for case in (*self.filters, *self.stacks))
+
+    def test_what_is_planted_is_seen(self):
+        for plants, differ in ((OF_ANSWERS, self.calls_differ), (OF_CHECKER, self.programs_differ)):
+            for plant in plants:
+                with self.subTest(plant):
+                    self.assertTrue(differ(plant))
+
+    def test_nothing_is_seen_where_nothing_is_planted(self):
+        self.assertFalse(self.programs_differ(None))
+        self.assertFalse(self.calls_differ(None))
+
+    def test_a_listener_and_a_tracer_are_told(self):
+        notify, trace = ret(0x7FC00000), ret(0x7FF00007)
+        calls = [kernel_child.call_at(site, number, (1 << 63, 2, 3, 4, 5, 6))
+                 for site, number in ((kernel_child.SITE, 39), (kernel_child.SITE, 400000), (kernel_child.SITE, 110))]
+        asking = kernel_asking.Asking(self.kernel, StandIn())
+        for filters, setting in (([notify], Setting(listener=0)), ([trace], Setting(traced=True))):
+            with self.subTest(setting):
+                if not (self.abilities.listener if setting.listener == 0 else self.abilities.tracer):
+                    self.skipTest("it can't be there")
+                texts = self.kernel.ask(filters, calls, setting).texts
+                self.assertEqual(len(texts), 3)
+                for text in texts:
+                    self.assertRegex(text, r"^the (listener is told nr 0x[0-9a-f]+ arch 0xc000003e ip 0x5c0f1e00402 "
+                                           r"args 0x8000000000000000 0x2 0x3 0x4 0x5 0x6|tracer is told 7), returns ")
+                case = kernel_asking.Case("it", filters, calls, setting)
+                self.assertEqual(asking.calls(case), [])
+                # another setting isn't taken for this one
+                case.setting = Setting()
+                self.assertEqual(asking.calls(case), [])
+                self.assertEqual(self.kernel.ask(filters, calls).texts, ["returns -38"] * 3)
+
+    def test_of_equal_ranks_the_newest_has_the_listener(self):
+        if not self.abilities.listener:
+            self.skipTest("there is no listener")
+        older = programs.packed([*programs.LETS_INSTALL, programs.Insn(programs.RET, 0x7FC00001)])
+        call = kernel_child.call_at(kernel_child.SITE, 400000, ())
+        for listener, begins in ((0, "returns -38"), (1, "the listener is told")):
+            came = self.kernel.ask([older, ret(0x7FC00002)], [call], Setting(listener=listener))
+            self.assertTrue(came.texts[0].startswith(begins), came)
+
+    def test_an_end_of_the_thread_is_told_from_one_of_the_process(self):
+        calls = [kernel_child.call_at(kernel_child.SITE, 39, ())] * 2
+        for answer, text in ((0x00000005, "the thread ends"), (0x80000005, "the process ends")):
+            self.assertEqual(self.kernel.ask([ret(answer)], calls).texts, [text])
+
+
+class Reading(unittest.TestCase):
+    """The small reading of profiles, by worked cases."""
+
+    def test_each_operator_at_both_sides_of_its_border(self):
+        big = 1 << 63
+        rows = [("NE", big, 0, {big: False, big + 1: True, 0: True}), ("EQ", big, 0, {big: True, big - 1: False}),
+                ("LT", big, 0, {big - 1: True, big: False, 1: True}), ("LE", big, 0, {big: True, big + 1: False}),
+                ("GT", big, 0, {big + 1: True, big: False, 1: False}), ("GE", big, 0, {big: True, big - 1: False}),
+                ("MASKED_EQ", 0xF0, 0x3F, {0x30: True, 0xFF3A: True, 0x40: False}),
+                ("MASKED_EQ", big, 0, {0: True, big: False, big - 1: True})]
+        for op, value, two, arguments in rows:
+            for argument, wanted in arguments.items():
+                condition = {"index": 2, "op": f"SCMP_CMP_{op}", "value": value, "valueTwo": two}
+                self.assertEqual(kernel_profiles.holds(condition, (0, 0, argument, 0, 0, 0)), wanted, (op, argument))
+
+    def test_an_entry_and_the_default(self):
+        def equal(index, value):
+            return {"index": index, "value": value, "op": "SCMP_CMP_EQ"}
+
+        profile = json.dumps({"defaultAction": "SCMP_ACT_ERRNO", "defaultErrnoRet": 38, "syscalls": [
+            {"names": ["t400000", "no"], "action": "SCMP_ACT_TRACE", "args": [equal(0, 1), equal(1, 1)]},
+            {"names": ["t400000"], "action": "SCMP_ACT_TRACE", "args": [equal(5, 9)]},
+            {"names": ["getpid"], "action": "SCMP_ACT_KILL"}]}).encode()
+        rows = [(400000, (1, 1, 0, 0, 0, 0), "TRACE", 1), (400000, (1, 0, 0, 0, 0, 0), "ERRNO", 38),
+                (400000, (0, 0, 0, 0, 0, 9), "TRACE", 1), (39, (0,) * 6, "KILL_THREAD", 0),
+                (400001, (0,) * 6, "ERRNO", 38), (0x40000000, (0,) * 6, "KILL_PROCESS", 0)]
+        for number, arguments, action, data in rows:
+            answer = kernel_profiles.answer_of(profile, Call(number, arguments=arguments))
+            self.assertEqual(answer, Answer(action, data))
+        self.assertEqual(kernel_profiles.answer_of(profile, Call(39, 0x40000003)), Answer("KILL_PROCESS", 0))
+
+
+class Kept(Asked):
+    def kept(self, name="case", **parts):
+        folder = os.path.join(self.folder, name)
+        case = {"name": "it", "filters": [ret(0x00050007)], "calls": [kernel_child.call_at(kernel_child.SITE, 39, ())]}
+        kernel_asking.Case(**{**case, **parts}).keep(folder, ["a line"])
+        return folder
+
+    def test_a_case_is_repeated(self):
+        profile = b'{"defaultAction": "SCMP_ACT_TRAP", "syscalls": [{"names": ["getpid"], "action": "SCMP_ACT_LOG"}]}'
+        wanted = ["it: the kernel does what scf says", "1 passed, 0 failed"]
+        for place, parts in enumerate(({}, {"calls": []}, {"filters": [insn(0x94, 1)], "calls": []},
+                                       {"setting": Setting(traced=True)}, {"setting": Setting(listener=0)},
+                                       {"filters": [], "profile": profile})):
+            status, lines = self.asked("--repeat", self.kept(f"{place}", **parts))
+            self.assertEqual((status, lines[1:]), (0, wanted), parts)
+
+    def test_a_folder_that_holds_no_case(self):
+        folder = self.kept()
+        os.remove(os.path.join(folder, "0.bpf"))
+        for name in (folder, self.folder, os.path.join(self.folder, "none")):
+            status, out, err = self.run_tool("kernel", "--repeat", name)
+            self.assertEqual(status, 3, out)
+            self.assertIn("holds no case", err)
+
+    def test_what_differs_is_printed_and_kept(self):
+        """A program that says the same of each filter stands in for scf."""
+        tree = self.made_tree('#!/bin/sh\ncase $1 in check) echo "accepted 1" ;; *) echo "ERRNO 8" ;; esac\n')
+        words = [os.path.join(tree, "tools", "kernel"), "--repeat"]
+        status, out, err = self.run_words([*words, self.kept()])
+        self.assertEqual((status, err), (1, ""), out)
+        self.assertEqual(out.split("\n")[1:-1], [
+            "call nr 39 arch 0xc000003e ip 0x5c0f1e00402 args 0x0 0x0 0x0 0x0 0x0 0x0", "scf: ERRNO 8",
+            "so that it comes: returns -8", "the kernel: returns -7", "0 passed, 1 failed"])
+        status, out, err = self.run_words([*words, self.kept("bad", filters=[ret(0) + insn(0x94, 1)], calls=[])])
+        self.assertEqual((status, err), (1, ""), out)
+        self.assertEqual(out.split("\n")[1:-1], [
+            "scf check: accepted 1", "the kernel: refuses the filter with errno 22", "0 passed, 1 failed"])
+        few = ["--programs=0", "--filters=1", "--profiles=0", "--calls=1", "--seed=x"]
+        status, out, err = self.run_words([words[0], *few])
+        self.assertEqual((status, err), (1, ""), out)
+        kept = os.path.join(self.folder, "kernel-failures-x")
+        name = sorted(os.listdir(kept))[0]
+        self.assertEqual(sorted(os.listdir(os.path.join(kept, name))), ["0.bpf", "case.json", "said"])
+        with open(os.path.join(kept, name, "said"), encoding="utf-8") as file:
+            self.assertIn(f"repeat it by: tools/kernel --repeat kernel-failures-x/{name}\n", file.read())
+        self.assertIn(f"    kept in kernel-failures-x/{name}", out.split("\n"))
+        status, lines = self.asked("--repeat", os.path.join(kept, name))
+        self.assertEqual((status, lines[-1]), (0, "1 passed, 0 failed"), lines)
+
+
+class LeftOut(Asked):
+    def test_no_filter_can_be_installed(self):
+        status, lines = self.asked(preexec_fn=filtered(refusing(NR_SECCOMP)))
+        self.assertEqual((status, lines), (4, [
+            "skipped: the kernel doesn't let this process install filters: Operation not permitted",
+            "0 passed, 0 failed, 1 skipped"]))
+
+    def test_other_filters_answer_the_calls_too(self):
+        status, lines = self.asked("--programs=1", "--filters=1", preexec_fn=filtered(ret(ALLOW)))
+        self.assertEqual(status, 0, lines)
+        self.assertIn("skipped: calls: this process has filters already, which answer them, too", lines)
+        self.assertRegex(lines[-1], r"^[1-9][0-9]* passed, 0 failed, 1 skipped$")
+
+    def test_no_tracer_is_allowed(self):
+        status, lines = self.asked("--programs=0", preexec_fn=filtered(refusing(NR_PTRACE)))
+        self.assertEqual((status, lines[1:]), (0, [
+            "skipped: a tracer, which isn't allowed here",
+            "skipped: calls: this process has filters already, which answer them, too", "0 passed, 0 failed, 2 skipped"]))
+
+
+class Words(Case):
+    def test_usage(self):
+        status, out, err = self.run_tool("kernel", "--help")
+        self.assertEqual((status, err), (0, ""))
+        self.assertIn("usage: kernel", out)
+        os.mkdir(os.path.join(self.folder, "full"))
+        self.file("full/x", b"")
+        for words in (["--no-such-option"], ["--programs=x"], ["--programs=-1"], ["--calls=25"], ["--seed=a/b"],
+                      ["--failures=full"], ["word"]):
+            status, out, err = self.run_tool("kernel", *words)
+            self.assertEqual((status, out), (2, ""), words)
+            self.assertIn("kernel", err)
+
+    def test_closed_output(self):
+        self.assertEqual(self.closed_output("kernel", "--programs=0", "--filters=0", "--profiles=0")[0], 3)
