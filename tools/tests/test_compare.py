@@ -40,10 +40,16 @@ class Compare(Case):
         self.assertEqual(verdict,
                          "differs\ncall nr 231 arch 0xc000003e ip 0x0 args 0x0 0x0 0x0 0x0 0x0 0x0\nfilter ALLOW 0\n"
                          "profile ERRNO 1\n")
-        self.assertEqual((status, out, err), (1, verdict + "# the call is exit_group (231)\n"
-                                              "# the filter answers ALLOW: the call is made\n"
-                                              "# the profile answers ERRNO 1: the call isn't made, and fails with "
-                                              "EPERM\n", ""))
+        self.assertEqual((status, out, err), (1, verdict + (
+            "# the call is exit_group (231)\n# the filter answers ALLOW: the call is made\n"
+            "# the profile answers ERRNO 1: the call isn't made, and fails with EPERM\n# by the default\n"
+            "# the last tests on the way in the filter:\n"
+            "#  1  jeq #0xc000003e, 1, 0  // x86-64: to 3, else 2; loaded 0xc000003e, went to 3\n"
+            "#  4  jge #0x40000000, 0, 1  // x32: to 5, else 6; loaded 0xe7, went to 6\n"
+            "#  6  jeq #0x0, 3, 0         // read: to 10, else 7; loaded 0xe7, went to 7\n"
+            "#  7  jeq #0x1, 2, 0         // write: to 10, else 8; loaded 0xe7, went to 8\n"
+            "#  8  jeq #0xe7, 1, 0        // exit_group: to 10, else 9; loaded 0xe7, went to 10\n"
+            "# 10  ret #0x7fff0000        // ALLOW\n"), ""))
 
     def test_a_table_of_ones_own(self):
         table = self.file("own.table", b"# mine\nread 0\nwrite 1\nleave 231\nleave_too 231\n")
@@ -143,7 +149,7 @@ class Compare(Case):
         status, out, _ = self.run_tool("compare", self.file("square.bpf", square),
                                        self.file("p", b'{"defaultAction":"SCMP_ACT_ALLOW"}'), "--limit=100000")
         self.assertEqual(status, 4)
-        self.assertRegex(out, r"^undecided at [0-9]+\n# The comparison came to this place of a filter")
+        self.assertRegex(out, r"^undecided at [0-9]+\n# Runs of a filter end at this place")
 
     def test_skipped_names_and_other_architectures(self):
         profile = profile_of("read", "gone", "write").replace(b"{",
@@ -151,13 +157,28 @@ class Compare(Case):
         self.assertEqual(self.run_tool("compare", self.same, self.file("p", profile)),
                          (0, "same\nskipped gone\nother SCMP_ARCH_X86\n# names of the profile that were skipped, "
                              "since the table doesn't name such calls: 1\n"
+                             "# no call that is known here is called gone; the nearest name of the table is clone\n"
                              "# the other architectures of the profile aren't looked at\n", ""))
 
     def test_a_name_that_looks_like_a_verdict(self):
-        profile = profile_of("read", "write", "x\ndiffers")
-        status, out, _ = self.run_tool("compare", self.same, self.file("p", profile))
-        self.assertEqual((status, out.split("\n")[0]), (0, "same"))
-        self.assertNotIn("# the call", out)
+        """All that is printed of such names, where nothing differs, and of the one call that does."""
+        call = "231 exit_group differs args 0x0 0x0 0x0 0x0 0x0 0x0 filter ALLOW 0 profile ERRNO 1"
+        for name in ("x\ndiffers", "x\nsame\n", "x\nfault filter Empty", f"x\n{call}", "x\n7 poll differs",
+                     "x\n# the call is read (0)", "x\nundecided at 1"):
+            profile, shown = self.file("p", profile_of("read", "write", name)), name.replace("\n", "\\x0a")
+            # a long name is cut where it is told again
+            told = name if len(name) <= 64 else f"{name[:64]}.."
+            added = ("# names of the profile that were skipped, since the table doesn't name such calls: 1\n# no call "
+                     "that is known here is called " + told.replace("\n", "\\x0a") + "\n")
+            for scope in ("--all", "--native", "--calls"):
+                self.assertEqual(self.run_tool("compare", scope, self.same, profile),
+                                 (0, f"same\nskipped {shown}\n{added}", ""))
+            self.assertEqual(self.run_tool("compare", "--calls", self.wrong, profile),
+                             (1, f"differs\n{call}\nskipped {shown}\n{added}", ""))
+            status, out, _ = self.run_tool("compare", "--native", self.wrong, profile)
+            self.assertEqual(status, 1)
+            self.assertTrue(out.endswith(f"{added}# calls that the table names and that aren't answered as the profile "
+                                         f"says: 1\n# {call}\n"), out)
 
     def test_output_that_fails(self):
         status, _, err = self.closed_output("compare", self.wrong, self.profile)
@@ -214,6 +235,7 @@ class Compare(Case):
 FAKE = """#!/bin/sh
 case "$*" in
 'compare --help') echo ' --native ' ;;
+*' --no-'*) echo "$@" >>"$KEPT.relations"; echo unfinished; exit 4 ;;
 'compare --calls'*) echo "$@" >"$KEPT.calls"; echo differs; echo 39 getpid unfinished; exit 1 ;;
 compare*) cat >"$KEPT"; echo "$@" >"$KEPT.words"; echo differs
     echo call nr 39 arch 0xc000003e ip 0x0 args 0x0 0x0 0x0 0x0 0x0 0x0
@@ -240,9 +262,12 @@ class WithAnotherScf(Case):
         self.assertEqual(bundle, part("filter", b"AAAA") + part("filter", b"BB") + part("profile", b"{}")
                          + part("table", b"getpid 39\n"))
         self.assertEqual(words, "compare --native --limit 7\n")
-        self.assertTrue(done[1].endswith("as the profile says: 1\n# 39 getpid unfinished\n"), done)
+        self.assertTrue(done[1].endswith("of which it couldn't be told: 1\n# 39 getpid unfinished\n"), done)
         with open(os.path.join(self.folder, "kept.calls"), encoding="ascii") as handed:
             self.assertEqual(handed.read(), "compare --calls --limit 7\n")
+        with open(os.path.join(self.folder, "kept.relations"), encoding="ascii") as handed:
+            self.assertEqual(handed.read().split("\n"), [f"compare --native --no-{it} --limit 7"
+                                                         for it in ("more", "less")] + [""])
         self.assertEqual(self.run_fake("--all", "--table", "t", "a.bpf", "p.json")[2], "compare\n")
 
 
@@ -258,9 +283,10 @@ class Decide(Case):
         for number in ("1", "0x1", "write"):
             self.assertEqual(self.run_tool("decide", "--nr", number, self.filter),
                              (0, "ERRNO 1\n# the call is write (1)\n# ERRNO 1: the call isn't made, and fails with "
-                                 "EPERM\n", ""))
+                                 "EPERM\n# the path in the filter: 0 1 3 4 6 7\n", ""))
         self.assertEqual(self.run_tool("decide", self.filter)[1],
-                         "ALLOW 0\n# the call is read (0)\n# ALLOW: the call is made\n")
+                         "ALLOW 0\n# the call is read (0)\n# ALLOW: the call is made\n# the path in the filter: 0 1 3 "
+                         "4 6 8\n")
         self.file("-t", b"own 1\n")
         for words, given in (("--table=-t", b""), ("--table=-", b"own 1\n")):
             out = self.run_tool("decide", words, "--nr", "own", self.filter, given=given)[1]
@@ -286,7 +312,7 @@ class Decide(Case):
         out = self.run_tool("decide", "--arch", "0x40000003", self.filter)[1]
         self.assertEqual(out,
                          "KILL_PROCESS 0\n# the call is number 0 of the architecture i386\n"
-                         "# KILL_PROCESS: the process ends\n")
+                         "# KILL_PROCESS: the process ends\n# the path in the filter: 0-2\n")
 
     def test_filters_stand_oldest_first(self):
         one, two = self.file("one.bpf", ret(0x00050001)), self.file("two.bpf", ret(0x00050002))

@@ -73,6 +73,13 @@ class List(Case):
         both = load(0) + jeq(5, 0, 1) + load(0) + jeq(0, 0, 0) + ret(0)
         self.assertEqual(self.meanings(both)[3], "read: to 4, else 4")
 
+    def test_a_test_with_one_target_says_nothing(self):
+        """Behind a test of the architecture whose targets are one, no more is known than before it."""
+        data = load(4) + jeq(I386, 0, 0) + load(0) + jeq(1, 0, 0) + ret(0)
+        self.assertEqual(self.meanings(data)[1::2], ["i386: to 2, else 2", "write: to 4, else 4"])
+        known = load(4) + jeq(I386, 0, 3) + jeq(X86_64, 0, 0) + load(0) + jeq(1, 0, 0) + ret(0)
+        self.assertEqual(self.meanings(known)[4], "number 1 of i386: to 5, else 5")
+
     def test_calls_of_another_architecture_are_not_named(self):
         data = load(4) + jeq(I386, 0, 2) + load(0) + jeq(1, 0, 0) + load(0) + jeq(1, 0, 0) + ret(0)
         self.assertEqual(self.meanings(data), ["the architecture", "i386: to 2, else 4", "the call's number",

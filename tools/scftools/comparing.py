@@ -1,0 +1,292 @@
+"""Filters beside a profile: what scf says of them, and what is added to it."""
+from __future__ import annotations
+
+from collections.abc import Iterator, Sequence
+from dataclasses import dataclass, field
+
+from . import bundles, explaining, program, verdicts
+from .answers import REFUSED
+from .filters import LONGEST_STACK, MORE_OF_OLDER, Filter
+from .tables import Table
+from .verdicts import DIFFERS, LESS, MORE, NO_LESS, NO_MORE, SAME, UNDECIDED, NamedCall, Report, Verdict
+
+TYPE_CHECKING = False
+if TYPE_CHECKING:
+    from .profiles import Profile
+
+ALL, NATIVE, CALLS = "all", "native", "calls"
+SCOPES = {ALL: [], NATIVE: ["--native"], CALLS: ["--calls"]}
+# The relations of two answers that scf looks for, by the verdict where one holds; and what isn't as it should be of the
+# named calls that fail it.
+RELATIONS = {SAME: [], NO_MORE: ["--no-more"], NO_LESS: ["--no-less"]}
+FAILED = {DIFFERS: "that aren't answered as the profile says", MORE: "that are let through further than by the profile",
+          LESS: "that are let through less far than by the profile"}
+
+
+@dataclass
+class Comparison:
+    """Filters, oldest first, a profile and a table; the most steps, as a text, where they aren't scf's; a relation."""
+
+    filters: Sequence[Filter]
+    profile: bytes
+    table: Table
+    limit: str | None = None
+    relation: str = SAME
+    _facts: list[Profile | None] = field(default_factory=list)
+
+    @property
+    def facts(self) -> Profile | None:
+        """What is known of the profile beside what scf says."""
+        if not self._facts:
+            from . import profiles  # pylint: disable=import-outside-toplevel
+
+            self._facts.append(profiles.read(self.profile))
+        return self._facts[0]
+
+    def _run(self, scope: str, filters: Sequence[bytes], profile: bytes | None = None,
+             relation: str = SAME) -> tuple[int, Report]:
+        words = ["compare", *SCOPES[scope], *RELATIONS[relation],
+                 *(["--limit", self.limit] if self.limit is not None else [])]
+        given = bundles.of_comparison(filters, self.profile if profile is None else profile, self.table.data)
+        done = program.scf(words, given)
+        known = self.facts if b"\nskipped " in done.out else None
+        return done.status, verdicts.report(done.text, known.names if known else None, self.table)
+
+    def run(self, scope: str = ALL, relation: str | None = None) -> tuple[int, Report]:
+        """The status of scf, and what it printed, by the relation that was asked for or by this one."""
+        return self._run(scope, [one.data for one in self.filters], None, relation or self.relation)
+
+    def native(self, filters: Sequence[bytes], profile: bytes | None = None) -> Report:
+        """What scf says of other filters, beside the profile or another one, over native calls."""
+        return self._run(NATIVE, filters, profile)[1]
+
+    def is_same(self, filters: Sequence[bytes], profile: bytes | None = None) -> bool:
+        """Whether other filters answer all native calls as the profile, or as another one."""
+        verdict = self.native(filters, profile).verdict
+        return verdict is not None and verdict.word == SAME
+
+    def alone(self, one: Filter, scope: str) -> Report:
+        return self._run(scope, [one.data], None, self.relation)[1]
+
+
+def named(what: Sequence[str]) -> str:
+    return what[0] if len(what) == 1 else ", ".join(what[:-1]) + f" and {what[-1]}"
+
+
+def fault_of_one(filters: Sequence[Filter], fault: verdicts.Fault) -> list[str]:
+    """The files of the filters that a fault of a stack is of."""
+    if fault.source == "filter":
+        for one in filters:
+            if program.scf(["check"], one.data).text.split("\n", 1)[0] == fault.line:
+                return [one.name]
+    if (fault.source, fault.kind) == ("stack", "TooMany"):
+        total = 0
+        for one in filters:
+            if total + one.count > LONGEST_STACK:
+                return [one.name]
+            total += one.count + MORE_OF_OLDER
+    return []
+
+
+def undecided_alone(comparison: Comparison, scope: str) -> Iterator[tuple[Filter, int | None]]:
+    """The filters of several that are undecided by themselves, and where.
+
+    The place that scf names for all of them may be one of another filter, which only the undecided calls come to.
+    """
+    for one in comparison.filters:
+        verdict = comparison.alone(one, scope).verdict
+        if verdict and verdict.word == UNDECIDED:
+            yield one, verdict.at
+
+
+def whose_files(comparison: Comparison, report: Report, scope: str) -> list[str]:
+    """The files of the filters, of several, that a fault is of or that are undecided."""
+    if len(comparison.filters) < 2:
+        return []
+    if report.fault:
+        return fault_of_one(comparison.filters, report.fault)
+    if report.verdict is None or report.verdict.word != UNDECIDED:
+        return []
+    return [one.name for one, _ in undecided_alone(comparison, scope)]
+
+
+def whose(comparison: Comparison, report: Report, scope: str) -> Iterator[str]:
+    """Which filter of several a fault is of, or which of them are undecided."""
+    if len(comparison.filters) > 1 and report.fault:
+        for name in fault_of_one(comparison.filters, report.fault):
+            yield f"the filter is {name}"
+    elif len(comparison.filters) > 1 and report.verdict and report.verdict.word == UNDECIDED:
+        for one, place in undecided_alone(comparison, scope):
+            yield f"alone, {one.name} is undecided at {place}"
+
+
+def _counted(calls: Sequence[NamedCall]) -> Iterator[str]:
+    """How many calls by name differ, and their lines; and the same of those that couldn't be told."""
+    differing = [call for call in calls if call.verdict.fails]
+    if differing:
+        yield f"calls that the table names and {FAILED[differing[0].verdict.word]}: {len(differing)}"
+        yield from (call.line for call in differing)
+    if len(differing) < len(calls):
+        yield f"calls that the table names and of which it couldn't be told: {len(calls) - len(differing)}"
+        yield from (call.line for call in calls if not call.verdict.fails)
+
+
+def of_native_calls(comparison: Comparison, report: Report) -> tuple[list[str], list[str]]:
+    """Where native calls differ, what is added before scf's call is told, and what behind it.
+
+    Calls that are only newer than the profile stand apart: where there are no others, that comes first; where there
+    are, these come first.
+    """
+    from . import newer  # pylint: disable=import-outside-toplevel
+
+    by_name = comparison.run(CALLS)[1]
+    if by_name.verdict is None or report.verdict is None or report.verdict.call is None:
+        return [], []
+    all_named = [f"no calls that the table names are among those {FAILED[report.verdict.word]}"]
+    if comparison.relation == SAME:
+        all_named = ["each call that the table names is answered as the profile says"]
+    found = newer.calls_of(comparison) if comparison.relation == SAME else None
+    if found is None:
+        return [], all_named if by_name.verdict.holds else list(_counted(by_name.calls))
+    others = [call for call in by_name.calls if not found.has(call)]
+    count, others_differ = len(by_name.calls) - len(others), newer.another_call(comparison, found)
+    told = [found.told(others_differ is None, comparison.table)]
+    if count:
+        told.append(f"calls among these that the table names: {count}")
+    if others_differ is None:
+        return told, [] if count else all_named
+    lines = list(_counted(others)) or list(
+        explaining.of_differing(others_differ, comparison.table, True, len(comparison.filters)))
+    return (lines + told, []) if report.verdict.call.number >= found.first else ([], lines + told)
+
+
+def of_fates(comparison: Comparison, scope: str) -> tuple[Report, Report]:
+    """Of filters that don't answer as the profile: whether they let through no more, and whether no less."""
+    return comparison.run(scope, NO_MORE)[1], comparison.run(scope, NO_LESS)[1]
+
+
+def of_refusing_more(comparison: Comparison, scope: str) -> Iterator[str]:
+    """Where filters that don't answer as the profile let nothing through that it refuses, that they don't."""
+    no_more, no_less = (report.verdict for report in of_fates(comparison, scope))
+    if no_more is None or not no_more.holds:
+        return
+    they, s = ("they", "") if len(comparison.filters) > 1 else ("it", "s")
+    they = f"of the calls that the table names: {they}" if scope == CALLS else they
+    if no_less is not None and no_less.holds:
+        yield f"{they} let{s} through no more and no less than the profile, only by other answers"
+    elif no_less is not None and no_less.fails:
+        shown = no_less.call is None or no_less.filters is None or no_less.filters.fate == REFUSED
+        less = f"refuse{s} more" if shown else f"refer{s} more to a supervisor or tracer"
+        yield f"{they} {less}, and let{s} nothing through that the profile refuses"
+    else:
+        yield f"{they} let{s} nothing through that the profile refuses"
+
+
+def of_fault(fault: verdicts.Fault, profile: bytes, table: Table) -> Iterator[str]:
+    """What a fault is and what to do; where the profile isn't JSON, the place where it stops being it."""
+    yield from explaining.of_fault(fault, table)
+    if (fault.source, fault.kind) == ("profile", "Json"):
+        from . import profiles  # pylint: disable=import-outside-toplevel
+
+        yield profiles.where_json_ends(profile)
+
+
+def of_left_out(comparison: Comparison, report: Report) -> Iterator[str]:
+    """What of the profile was left out: skipped names, and other architectures."""
+    if report.skipped:
+        facts = comparison.facts
+        yield from explaining.of_skipped(report, comparison.table, bool(facts and facts.lets_through_by_default))
+    yield from explaining.of_architectures(report)
+
+
+def added(comparison: Comparison, report: Report, scope: str) -> Iterator[str]:
+    """What is said behind scf's lines."""
+    table, count = comparison.table, len(comparison.filters)
+    if report.fault:
+        yield from of_fault(report.fault, comparison.profile, table)
+    before: list[str] = []
+    behind: list[str] = []
+    if report.verdict and report.verdict.word == DIFFERS:
+        yield from of_refusing_more(comparison, scope)
+    if report.verdict and report.verdict.fails:
+        if scope == NATIVE:
+            before, behind = of_native_calls(comparison, report)
+        elif scope == CALLS and comparison.relation == SAME:
+            from . import newer  # pylint: disable=import-outside-toplevel
+
+            before = list(newer.of_named_calls(comparison, report.calls))
+    yield from before
+    if report.verdict:
+        yield from explaining.of_verdict(report, table, scope == NATIVE, count)
+        if report.verdict.call:
+            from . import reasons  # pylint: disable=import-outside-toplevel
+
+            yield from reasons.of_difference(comparison, report.verdict)
+        yield from of_left_out(comparison, report)
+    yield from behind
+    yield from whose(comparison, report, scope)
+
+
+def compiled(profile: bytes, table: Table) -> tuple[int, bytes, list[str]]:
+    """The status of scf, the filter of a profile, and what is said of it: of a refusal, or of what was left out."""
+    done = program.scf(["compile"], bundles.of_compilation(profile, table.data))
+    fault = None if done.status == program.WELL else verdicts.Fault.read(done.text.split("\n", 1)[0])
+    if fault:
+        return done.status, b"", [fault.line, *of_fault(fault, profile, table)]
+    # without a step the comparison says what was left out, and no more
+    comparison = Comparison([Filter("the compiled one", done.out)], profile, table, "0")
+    return done.status, done.out, list(of_left_out(comparison, comparison.run(NATIVE)[1]))
+
+
+def _side_json(verdict: Verdict, table: Table) -> dict[str, object]:
+    """What a verdict shows, as members of an object."""
+    found: dict[str, object] = {}
+    if verdict.call:
+        found["call"] = verdict.call.as_json(table)
+    if verdict.filters and verdict.profile:
+        found["filter"], found["profile"] = verdict.filters.as_json(), verdict.profile.as_json()
+    if verdict.at is not None:
+        found["at"] = verdict.at
+    return found
+
+
+def as_json(comparison: Comparison, report: Report, scope: str, status: int) -> dict[str, object]:
+    """All that `added` says, as one object without scf's lines."""
+    table = comparison.table
+    found: dict[str, object] = {"status": status, "scope": scope,
+                                "verdict": report.verdict.word if report.verdict else None}
+    if comparison.relation != SAME:
+        found["relation"] = comparison.relation
+    if report.fault:
+        sentences = list(of_fault(report.fault, comparison.profile, table))
+        found["fault"] = {**report.fault.as_json(), "sentences": sentences}
+    if report.verdict:
+        found.update(_side_json(report.verdict, table))
+        if report.verdict.call:
+            from . import reasons  # pylint: disable=import-outside-toplevel
+
+            found.update(reasons.difference_as_json(comparison, report.verdict))
+    calls = report.calls
+    if report.verdict and report.verdict.word == DIFFERS:
+        for member, one in zip(("no_more", "no_less"), of_fates(comparison, scope)):
+            found[member] = one.verdict.word if one.verdict else None
+    if scope == NATIVE and report.verdict and report.verdict.fails:
+        from . import newer  # pylint: disable=import-outside-toplevel
+
+        calls = comparison.run(CALLS)[1].calls
+        apart = newer.calls_of(comparison) if comparison.relation == SAME else None
+        if apart:
+            found["newer"] = {"first": apart.first, "are_all": newer.another_call(comparison, apart) is None,
+                              "filter": apart.filters.as_json(), "profile": apart.profile.as_json()}
+    found["calls"] = [{"number": one.number, "names": list(one.names), "verdict": one.verdict.word,
+                       **_side_json(one.verdict, table)} for one in calls]
+    found["skipped"], found["other"] = list(report.skipped), list(report.architectures)
+    if report.skipped:
+        from . import tables  # pylint: disable=import-outside-toplevel
+
+        found["unknown"] = [{"name": name, "nearest": near}
+                            for name, near in tables.told_apart(report.skipped, table).unknown]
+    whose_it_is = list(whose_files(comparison, report, scope))
+    if whose_it_is:
+        found["files"] = whose_it_is
+    return found

@@ -1,0 +1,89 @@
+"""What scf's answers, verdicts and faults mean, in sentences: what the tools add behind scf's lines."""
+from __future__ import annotations
+
+from collections.abc import Iterator
+
+from . import faults, verdicts
+from .answers import Answer
+from .calls import Call
+from .tables import Table
+from .verdicts import Decision, Fault, Report
+
+
+def of_fault(fault: Fault, table: Table | None) -> Iterator[str]:
+    yield from faults.what_a_row_says(fault.line)
+    if (fault.source, fault.kind) == ("profile", "Conflict") and table is not None:
+        yield f"the call is {Call(fault.numbers['number']).told(table)}"
+
+
+def of_call(call: Call, table: Table, is_native: bool | None = None) -> Iterator[str]:
+    """A call's name, and whether a comparison of native calls leaves it out, where one could be asked for."""
+    yield f"the call is {call.told(table)}"
+    if is_native is False and not call.is_native:
+        yield f"--native leaves out {call.left_out_of_native()}"
+
+
+def of_answer(answer: Answer) -> str:
+    return answer.told()
+
+
+def of_differing(verdict: verdicts.Verdict, table: Table, is_native: bool, count: int) -> Iterator[str]:
+    """The call that is answered otherwise, and what both answers do; of more and less what becomes of it, too."""
+    if verdict.call is None:
+        return
+    yield from of_call(verdict.call, table, is_native)
+    if verdict.filters:
+        yield f"{'the filters answer' if count > 1 else 'the filter answers'} {verdict.filters.told()}"
+    if verdict.profile:
+        yield f"the profile answers {verdict.profile.told()}"
+    if verdict.word != verdicts.DIFFERS and verdict.filters and verdict.profile:
+        yield (f"by the filter{'s' * (count > 1)} the call is {verdict.filters.fate}, by the profile it is "
+               f"{verdict.profile.fate}")
+
+
+def of_verdict(report: Report, table: Table, is_native: bool, count: int) -> Iterator[str]:
+    """What a verdict of so many filters means, but for what was left out of the profile."""
+    verdict = report.verdict
+    if verdict is None:
+        return
+    if verdict.fails:
+        yield from of_differing(verdict, table, is_native, count)
+    elif not verdict.holds:
+        yield from faults.what_a_row_says(report.lines[0])
+
+
+def of_skipped(report: Report, table: Table, default_lets_through: bool) -> Iterator[str]:
+    """What the skipped names are, and what is lost by them."""
+    if not report.skipped:
+        return
+    from . import tables  # pylint: disable=import-outside-toplevel
+
+    found = tables.told_apart(report.skipped, table)
+    yield (f"names of the profile that were skipped, since the table doesn't name such calls: {len(report.skipped)}"
+           + (", all of them calls of other architectures" if not found.left_out and not found.unknown else ""))
+    for name in found.left_out[:tables.TOLD]:
+        yield f"{name} is a call of x86-64, which this table leaves out"
+    for name, near in found.unknown[:tables.TOLD]:
+        shown = name if len(name) <= tables.LONGEST else f"{name[:tables.LONGEST]}.."
+        nearest = f"; the nearest name of the table is {near}" if near else ""
+        yield f"no call that is known here is called {shown}{nearest}"
+    more = max(len(found.left_out) - tables.TOLD, 0) + max(len(found.unknown) - tables.TOLD, 0)
+    if more:
+        yield f"more such names: {more}"
+    if default_lets_through and (found.left_out or found.unknown):
+        yield "the profile lets through what it doesn't name: the rules of these names are lost"
+
+
+def of_architectures(report: Report) -> Iterator[str]:
+    if report.architectures:
+        yield "the other architectures of the profile aren't looked at"
+
+
+def of_decision(call: Call | None, decision: Decision, table: Table) -> Iterator[str]:
+    """What a run or a decision says of a call."""
+    if decision.fault:
+        yield from of_fault(decision.fault, table)
+    elif decision.answer:
+        if call is not None:
+            yield from of_call(call, table)
+        yield of_answer(decision.answer)

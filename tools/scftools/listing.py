@@ -1,0 +1,142 @@
+"""A filter with the places of its instructions, where its jumps go, and the names of calls and answers."""
+from __future__ import annotations
+
+from collections.abc import Iterable, Iterator, Sequence
+from typing import NamedTuple
+
+from .answers import ACTIONS, ARCHITECTURES, X32, X86_64
+from .filters import BY_X, INSTRUCTION, JEQ, JGE, JGT, JSET, JUMP, LOAD_WORD, RETURN_CONSTANT
+from .tables import Table
+
+# The words of a call, by their place in it (struct seccomp_data in linux/seccomp.h).
+NUMBER, ARCHITECTURE, ARGUMENTS, END = 0, 1, 4, 16
+WORDS = {NUMBER: "the call's number", ARCHITECTURE: "the architecture", 2: "the instruction pointer, low half",
+         3: "the instruction pointer, high half"}
+# linux/bpf_common.h: classes of codes, and the one miscellaneous code that changes the accumulator.
+LOADS, ALU, JUMPS, RETURNS, TXA = 0, 4, 5, 6, 0x87
+
+
+class Instruction(NamedTuple):
+    """An instruction of a filter (struct sock_filter in linux/filter.h)."""
+
+    code: int
+    if_true: int
+    if_false: int
+    k: int
+
+    @property
+    def kind(self) -> int:
+        return self.code & 7
+
+    @property
+    def word(self) -> int | None:
+        """The word of a call that it loads, or None."""
+        return self.k // 4 if self.code == LOAD_WORD and self.k < 4 * END and self.k % 4 == 0 else None
+
+    @property
+    def is_test(self) -> bool:
+        return self.kind == JUMPS and self.code != JUMP
+
+    @property
+    def changes_a(self) -> bool:
+        return self.kind in (LOADS, ALU) or self.code == TXA
+
+    def targets(self, place: int) -> list[int]:
+        """The places that it goes on to from its own."""
+        if self.kind == RETURNS:
+            return []
+        if self.code == JUMP:
+            return [place + 1 + self.k]
+        if self.kind == JUMPS:
+            return [place + 1 + self.if_true, place + 1 + self.if_false]
+        return [place + 1]
+
+
+def instructions(data: bytes) -> list[Instruction]:
+    return [Instruction(*fields) for fields in INSTRUCTION.iter_unpack(data)]
+
+
+class Known(NamedTuple):
+    """What holds at a place on every way to it: the word of the call that A holds, and the call's architecture."""
+
+    word: int | None = None
+    architecture: int | None = None
+
+    def beside(self, other: Known) -> Known:
+        """What holds where two ways meet."""
+        return Known(self.word if self.word == other.word else None,
+                     self.architecture if self.architecture == other.architecture else None)
+
+
+def _after(insn: Instruction, known: Known) -> Iterator[Known]:
+    """What holds behind an instruction, for each of its targets."""
+    if insn.changes_a:
+        yield known._replace(word=insn.word)
+        return
+    # of a test whose targets are one, neither side knows more
+    is_test = insn.code == JUMP | JEQ and known.word == ARCHITECTURE and insn.if_true != insn.if_false
+    yield known._replace(architecture=insn.k) if is_test else known
+    yield known
+
+
+def _held(insns: Sequence[Instruction]) -> list[Known]:
+    """What holds at each place; all jumps go forwards."""
+    found: dict[int, Known] = {0: Known()}
+    for place, insn in enumerate(insns):
+        if place in found:
+            for target, after in zip(insn.targets(place), _after(insn, found[place])):
+                found[target] = found[target].beside(after) if target in found else after
+    return [found.get(place, Known()) for place in range(len(insns))]
+
+
+def _name_of(k: int, architecture: int | None, table: Table) -> str:
+    """How a call's number is called where a filter tests it."""
+    if architecture not in (None, X86_64):
+        return f"number {k} of {ARCHITECTURES.get(architecture, hex(architecture))}"
+    if X32 <= k < 2 * X32:
+        return f"number 0x40000000 + {k - X32}"
+    return " or ".join(table.names_of(k)) or f"number {k}"
+
+
+def _tested(insn: Instruction, known: Known, table: Table) -> str | None:
+    """What a test of the call's number, or of its architecture, is about."""
+    test = insn.code & 0xF0
+    if insn.code & BY_X or known.word not in (NUMBER, ARCHITECTURE):
+        return None
+    if known.word == ARCHITECTURE:
+        return ARCHITECTURES.get(insn.k) if test == JEQ else None
+    if insn.k == X32 and test in (JGE, JSET):
+        return "x32"
+    name = _name_of(insn.k, known.architecture, table)
+    return {JEQ: name, JGT: f"above {name}", JGE: f"from {name} on"}.get(test)
+
+
+def _meaning(place: int, insn: Instruction, known: Known, table: Table, count: int) -> str | None:
+    """What stands behind an instruction, or None."""
+    if insn.word is not None:
+        at = insn.word - ARGUMENTS
+        return WORDS.get(insn.word) or f"argument {at // 2}, {'high' if at % 2 else 'low'} half"
+    if insn.code == RETURN_CONSTANT:
+        action, data = ACTIONS.get(insn.k >> 16, "no action of seccomp(2)"), insn.k & 0xFFFF
+        return f"{action} {data}" if data or action == "ERRNO" else action
+    if insn.kind != JUMPS or (insn.code != JUMP and insn.code & 0xF0 not in (JEQ, JGT, JGE, JSET)):
+        return None
+    shown = [f"{it}" if it < count else f"{it}, which is outside" for it in insn.targets(place)]
+    what = _tested(insn, known, table) if insn.code != JUMP else None
+    return (f"{what}: " if what else "") + f"to {shown[0]}" + (f", else {shown[1]}" if len(shown) > 1 else "")
+
+
+def marked(lines: Iterable[str], places: Iterable[int]) -> Iterator[str]:
+    """The lines of a listing, those of some places marked by `>`."""
+    on_path = frozenset(places)
+    for place, line in enumerate(lines):
+        yield f"{'>' if place in on_path else ' '} {line}"
+
+
+def listed(data: bytes, lines: Sequence[str], table: Table) -> Iterator[str]:
+    """The lines of `scf dis`, each with its place before it and its meaning behind it."""
+    insns = instructions(data)
+    place_width, line_width = len(str(len(lines) - 1)), max(map(len, lines), default=0)
+    for place, (line, insn, known) in enumerate(zip(lines, insns, _held(insns))):
+        means = _meaning(place, insn, known, table, len(insns))
+        yield f"{place:{place_width}}  " + (f"{line:{line_width}}  // {means}" if means else line)

@@ -1,0 +1,103 @@
+"""Calls with greater numbers than all that a profile names, where the filters refuse them otherwise than the profile.
+
+runc gives filters such answers, by ENOSYS, so that programs fall back on older calls (libcontainer/seccomp/patchbpf of
+runc). What is said of them is said of every native call, since it stands on comparisons of scf: of the same filters
+with a few instructions before each that answer the calls on one side of a number.
+"""
+from __future__ import annotations
+
+from collections.abc import Iterator, Sequence
+from dataclasses import dataclass
+
+from . import bundles, program, verdicts
+from .answers import Answer
+from .calls import Call
+from .filters import answering_below, answering_from
+from .tables import Table
+from .verdicts import DIFFERS, SAME, NamedCall, Verdict
+
+TYPE_CHECKING = False
+if TYPE_CHECKING:
+    from .comparing import Comparison
+
+
+def _told(calls: str, are_all: bool, first: int, table: Table) -> str:
+    return (f"{'only ' if are_all else ''}{calls} with greater numbers than all that the profile names are answered "
+            f"otherwise, the first is {Call(first).told(table)}; both sides refuse them")
+
+
+def greatest_named(comparison: Comparison) -> int | None:
+    """The greatest number that the profile names, as the table has it."""
+    names = comparison.facts.names if comparison.facts else []
+    numbers = [comparison.table.number_of(name) for name in names]
+    return max((number for number in numbers if number is not None), default=None)
+
+
+@dataclass(frozen=True)
+class Newer:
+    """Every native call from a number on, all of them greater than those that a profile names, and both answers."""
+
+    first: int
+    filters: Answer
+    profile: Answer
+
+    def has(self, call: NamedCall) -> bool:
+        return call.number >= self.first
+
+    def told(self, are_all: bool, table: Table) -> str:
+        return (f"{_told('calls', are_all, self.first, table)}, the filter by {self.filters.named()} and the profile "
+                f"by {self.profile.named()}")
+
+
+def _default_of(comparison: Comparison) -> tuple[bytes, Answer] | None:
+    """The profile without its entries, and the answer that it gives to each native call."""
+    if comparison.facts is None:
+        return None
+    alone = comparison.facts.default_alone()
+    compiled = program.scf(["compile"], bundles.of_compilation(alone, comparison.table.data))
+    answer = verdicts.decision(program.scf(["run"], compiled.out).text).answer if compiled.status == 0 else None
+    return None if answer is None else (alone, answer)
+
+
+def calls_of(comparison: Comparison) -> Newer | None:
+    """The calls above all that the profile names, from the first on that differs, where both sides refuse them all."""
+    greatest, default = greatest_named(comparison), _default_of(comparison)
+    if greatest is None or default is None or not default[1].refuses:
+        return None
+    alone, refused = default
+    above = [answering_below(one.data, greatest + 1, refused.word) for one in comparison.filters]
+    verdict = comparison.native(above, alone).verdict
+    if verdict is None or verdict.call is None or verdict.filters is None or not verdict.filters.refuses:
+        return None
+    least, most = greatest + 1, verdict.call.number
+    while least < most:
+        middle = (least + most + 1) // 2
+        if comparison.is_same([answering_from(data, middle, refused.word) for data in above], alone):
+            least = middle
+        else:
+            most = middle - 1
+    # whatever the search found: from there on each call has this one answer, which isn't the profile's
+    answer = verdict.filters.as_profile()
+    others = [answering_below(one.data, least, verdict.filters.word) for one in comparison.filters]
+    return Newer(least, verdict.filters, refused) if answer and comparison.is_same(others, answer) else None
+
+
+def another_call(comparison: Comparison, found: Newer) -> Verdict | None:
+    """What is said of the native calls that aren't among these, or None where they are all answered alike."""
+    filters = [answering_from(one.data, found.first, found.profile.word) for one in comparison.filters]
+    verdict = comparison.native(filters).verdict or Verdict(DIFFERS)
+    return None if verdict.word == SAME else verdict
+
+
+def of_named_calls(comparison: Comparison, calls: Sequence[NamedCall]) -> Iterator[str]:
+    """What is added to calls by name that aren't alike: those above all that the profile names apart, if refused."""
+    greatest = greatest_named(comparison)
+    if greatest is None:
+        return
+    above = [call for call in calls if call.number > greatest and call.verdict.both_refuse]
+    if not above:
+        return
+    others = [call.verdict.word for call in calls if call.number <= greatest or not call.verdict.both_refuse]
+    for word in dict.fromkeys(others):
+        yield f"other calls that {'differ' if word == DIFFERS else f'are {word}'}: {others.count(word)}"
+    yield f"{_told('named calls', not others, above[0].number, comparison.table)}: {len(above)}"

@@ -1,0 +1,108 @@
+"""Paths: which instructions of a filter run on a call, by `scf run --path`, and the last tests among them."""
+from __future__ import annotations
+
+import re
+from collections.abc import Iterator, Sequence
+from dataclasses import dataclass
+
+from . import listing, program, verdicts
+from .answers import Answer
+from .calls import Call
+from .filters import Filter
+from .listing import Instruction
+from .tables import Table
+from .verdicts import Decision
+
+PRINTED = re.compile(r"path((?: [0-9]+)+)")
+# So many lines of the last tests are shown.
+MOST = 12
+
+
+@dataclass(frozen=True)
+class Path:
+    """What a filter answers to a call, and the places of the instructions that run, in their order; none at a fault."""
+
+    status: int
+    lines: tuple[str, ...]
+    decision: Decision
+    places: tuple[int, ...] = ()
+
+    def told(self) -> str:
+        """The places; three and more that follow one another as the first and the last of them."""
+        return " ".join(f"{first}-{last}" if last - first > 1 else " ".join(map(str, range(first, last + 1)))
+                        for first, last in _stretches(self.places))
+
+
+def _stretches(places: Sequence[int]) -> list[tuple[int, int]]:
+    found: list[tuple[int, int]] = []
+    for place in places:
+        if found and place == found[-1][1] + 1:
+            found[-1] = found[-1][0], place
+        else:
+            found.append((place, place))
+    return found
+
+
+def of(data: bytes, words: Sequence[str], with_path: bool = True) -> Path:
+    """The answer of a filter to the call that scf's options give, and the path to it, where it is asked for."""
+    done = program.scf(["run", *["--path"] * with_path, *words], data)
+    found = PRINTED.fullmatch("".join(done.lines[1:2]))
+    return Path(done.status, tuple(done.lines), verdicts.decision(done.text),
+                tuple(map(int, found[1].split())) if found else ())
+
+
+@dataclass(frozen=True)
+class Giver:
+    """A filter that gives the answer of its stack, the place where it stands there, and its path."""
+
+    filter: Filter
+    at: int
+    count: int
+    path: Path
+
+    def told(self) -> str:
+        """Which filter of how many, the oldest first."""
+        return "the filter" if self.count == 1 else f"{self.filter.name}, filter {self.at + 1} of {self.count}"
+
+    def as_json(self) -> dict[str, object]:
+        return {"filter": self.filter.name, "places": list(self.path.places)}
+
+
+def givers(filters: Sequence[Filter], words: Sequence[str], answer: Answer) -> list[Giver]:
+    """The filters of a stack, oldest first, that give its answer; the kernel takes it from the last of them.
+
+    It runs the newest first, and of equal actions keeps the one that it has (seccomp_run_filters in kernel/seccomp.c).
+    """
+    runs = (Giver(one, at, len(filters), of(one.data, words)) for at, one in enumerate(filters))
+    return [it for it in runs if it.path.decision.answer == answer and it.path.places]
+
+
+def _words_of(call: Call) -> list[int]:
+    """The words of a call record, in their order (struct seccomp_data in linux/seccomp.h)."""
+    halves = (half for it in (call.pointer, *call.arguments) for half in (it & 0xFFFFFFFF, it >> 32))
+    return [call.number, call.architecture, *halves]
+
+
+def _tests(insns: Sequence[Instruction], places: Sequence[int], call: Call) -> Iterator[tuple[int, str]]:
+    """The places of the tests on a path and of its end, each with what was loaded and which way it went."""
+    words, loaded = _words_of(call), ""
+    for at, place in enumerate(places):
+        insn = insns[place]
+        if insn.is_test:
+            yield place, f"; {loaded}went to {places[at + 1]}"
+        elif insn.kind == listing.RETURNS:
+            yield place, ""
+        elif insn.word is not None:
+            loaded = f"loaded {words[insn.word]:#x}, "
+        elif insn.kind == listing.ALU and loaded:
+            loaded = loaded.partition(",")[0] + ", computed with it, "
+        elif insn.changes_a:
+            loaded = ""
+
+
+def last_tests(data: bytes, path: Path, call: Call, table: Table) -> tuple[int, list[str]]:
+    """The last tests on a path and its end, as lines of the listing; and how many tests stand before them."""
+    insns = listing.instructions(data)
+    lines = list(listing.listed(data, program.scf(["dis"], data).lines, table))
+    found = [f"{lines[place]}{way}" for place, way in _tests(insns, path.places, call)]
+    return max(len(found) - MOST, 0), found[-MOST:]

@@ -1,0 +1,173 @@
+"""Reasons: why a profile answers a call as it does, by `scf ask`, with the entry that says so and its conditions; and
+why filters and a profile differ on a call."""
+from __future__ import annotations
+
+import json
+import re
+from collections.abc import Iterator, Sequence
+from dataclasses import dataclass
+
+from . import bundles, comparing, explaining, paths, profiles, program
+from .answers import Answer
+from .calls import Call
+from .comparing import Comparison
+from .deciding import Asked, Told
+from .tables import Table
+from .verdicts import Fault, Verdict
+
+PRINTED = re.compile(r"(\w+ \w+) (?:entry ([0-9]+)|(default)|(foreign))")
+# So many characters of an entry are shown.
+LONGEST = 400
+# What a condition says of an argument and its value; of masks, the value is the mask.
+HOLDS = {
+    "SCMP_CMP_NE": lambda it, value, two: it != value, "SCMP_CMP_LT": lambda it, value, two: it < value,
+    "SCMP_CMP_LE": lambda it, value, two: it <= value, "SCMP_CMP_EQ": lambda it, value, two: it == value,
+    "SCMP_CMP_GE": lambda it, value, two: it >= value, "SCMP_CMP_GT": lambda it, value, two: it > value,
+    "SCMP_CMP_MASKED_EQ": lambda it, value, two: it & value == two & value,
+}
+
+
+@dataclass(frozen=True)
+class Reason:
+    """What a profile answers to a call, and the place of the entry that says so; or a fault.
+
+    Without a place it is the default's, or that of a foreign call, for which no entry is.
+    """
+
+    status: int
+    line: str
+    answer: Answer | None = None
+    entry: int | None = None
+    is_foreign: bool = False
+    fault: Fault | None = None
+
+
+def of(profile: bytes, table: Table, words: Sequence[str]) -> Reason:
+    """The reason of a profile for the call that scf's options give."""
+    done = program.scf(["ask", *words], bundles.of_compilation(profile, table.data))
+    return _read(done.status, done.text)
+
+
+def _read(status: int, text: str) -> Reason:
+    line = text.split("\n", 1)[0]
+    found = PRINTED.fullmatch(line)
+    if not found:
+        return Reason(status, line, fault=Fault.read(line))
+    return Reason(status, line, Answer.read(found[1]), int(found[2]) if found[2] else None, bool(found[4]))
+
+
+def meaning(text: str, call: Call | None, table: Table) -> Iterator[str]:
+    """What a text of `scf ask` means where the profile isn't at hand."""
+    reason = _read(program.WELL, text)
+    if reason.answer:
+        if call is not None:
+            yield from explaining.of_call(call, table)
+        yield explaining.of_answer(reason.answer)
+
+
+def _shown(entry: object) -> str:
+    """An entry as JSON on one line, which is cut where it is long."""
+    text = json.dumps(entry)
+    more = len(text) - LONGEST
+    return text if more <= 0 else f"{text[:LONGEST]}.. ({more} more characters)"
+
+
+def _conditions(entry: object) -> list[dict[str, object]]:
+    given = entry.get("args") if isinstance(entry, dict) else None
+    return [it for it in given if isinstance(it, dict)] if isinstance(given, list) else []
+
+
+def _held(condition: dict[str, object], call: Call) -> str | None:
+    """A condition that the call meets, with the argument's value; None where it doesn't or that can't be told."""
+    index, value, two = condition.get("index"), condition.get("value"), condition.get("valueTwo") or 0
+    op = condition.get("op")
+    if not (isinstance(index, int) and isinstance(value, int) and isinstance(two, int) and 0 <= index < 6):
+        return None
+    argument = call.arguments[index]
+    if not isinstance(op, str) or op not in HOLDS or not HOLDS[op](argument, value, two):
+        return None
+    second = f" of {two} ({two:#x})" if op == "SCMP_CMP_MASKED_EQ" else ""
+    return f"argument {index} is {argument} ({argument:#x}): {op} {value} ({value:#x}){second} holds"
+
+
+def told(reason: Reason, profile: bytes, call: Call | None) -> Iterator[str]:
+    """What gives the answer; of an entry also which conditions hold."""
+    if reason.answer is None:
+        return
+    if reason.is_foreign:
+        yield "by no entry: the call is foreign"
+    elif reason.entry is None:
+        yield "by the default"
+    else:
+        entry = profiles.entry_at(profile, reason.entry)
+        yield f"by entry {reason.entry} of syscalls" + (f": {_shown(entry)}" if entry is not None else "")
+        for condition in _conditions(entry) if call else ():
+            held = _held(condition, call)
+            if held:
+                yield held
+
+
+def _added(reason: Reason, profile: bytes, call: Call | None, table: Table) -> Iterator[str]:
+    """What is said behind scf's line."""
+    if reason.fault:
+        yield from comparing.of_fault(reason.fault, profile, table)
+    elif reason.answer:
+        if call is not None:
+            yield from explaining.of_call(call, table)
+        yield explaining.of_answer(reason.answer)
+        yield from told(reason, profile, call)
+
+
+def as_json(reason: Reason, profile: bytes, call: Call | None) -> dict[str, object]:
+    """What gives the answer, as members of an object."""
+    if reason.answer is None:
+        return {}
+    word = "foreign" if reason.is_foreign else "default" if reason.entry is None else "entry"
+    found: dict[str, object] = {"reason": word}
+    if reason.entry is not None:
+        entry = profiles.entry_at(profile, reason.entry)
+        held = [_held(it, call) for it in _conditions(entry)] if call else []
+        found.update(place=reason.entry, entry=entry, held=[it for it in held if it])
+    return found
+
+
+def _json_of(reason: Reason, profile: bytes, call: Call | None, table: Table) -> dict[str, object]:
+    found: dict[str, object] = {}
+    if call:
+        found["call"] = call.as_json(table)
+    if reason.answer:
+        found["answer"] = {**reason.answer.as_json(), "does": reason.answer.does()}
+    if reason.fault:
+        found["fault"] = {**reason.fault.as_json(),
+                          "sentences": list(comparing.of_fault(reason.fault, profile, table))}
+    return {**found, **as_json(reason, profile, call)}
+
+
+def ask(profile: bytes, one: Asked, table: Table) -> Told:
+    """What a profile answers to a call, and why."""
+    reason = of(profile, table, one.words())
+    return Told(reason.status, [reason.line] if reason.line else [], lambda: _added(reason, profile, one.call, table),
+                lambda: _json_of(reason, profile, one.call, table))
+
+
+def of_difference(comparison: Comparison, verdict: Verdict) -> Iterator[str]:
+    """Behind a call that is answered otherwise: by what of the profile, and the last tests on the way in the filter."""
+    if verdict.call is None or verdict.filters is None:
+        return
+    words = verdict.call.words()
+    yield from told(of(comparison.profile, comparison.table, words), comparison.profile, verdict.call)
+    for giver in paths.givers(comparison.filters, words, verdict.filters)[-1:]:
+        before, lines = paths.last_tests(giver.filter.data, giver.path, verdict.call, comparison.table)
+        yield f"the last tests on the way in {giver.told()}" + (f", behind {before} others:" if before else ":")
+        yield from lines
+
+
+def difference_as_json(comparison: Comparison, verdict: Verdict) -> dict[str, object]:
+    """What gives the answers to a call that is answered otherwise, as members of an object."""
+    if verdict.call is None or verdict.filters is None:
+        return {}
+    words = verdict.call.words()
+    found = as_json(of(comparison.profile, comparison.table, words), comparison.profile, verdict.call)
+    for giver in paths.givers(comparison.filters, words, verdict.filters)[-1:]:
+        found["path"] = giver.as_json()
+    return found

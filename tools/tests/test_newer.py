@@ -1,0 +1,154 @@
+"""Calls with greater numbers than all that a profile names, which a filter refuses otherwise than its profile, as runc
+makes them; and filters that differ elsewhere, too."""
+import json
+import os
+import sys
+
+from common import ALLOW, EPERM, KILL_PROCESS, TOP, X86_64, Case, filter_of, insn, jeq, jge, load, profile_of, ret
+
+sys.path.append(os.path.join(TOP, "tools"))
+
+from scftools import filters  # noqa: E402
+
+ENOSYS = 0x00050026
+SAID = "calls with greater numbers than all that the profile names are answered otherwise, the first is"
+FATES = "it lets through no more and no less than the profile, only by other answers"
+BOTH = "; both sides refuse them, the filter by ERRNO 38 (ENOSYS) and the profile by ERRNO 1 (EPERM)"
+# The numbers of the table's last calls, and the count of its calls from 450 on.
+CACHESTAT, LAST, COUNT_FROM_450 = 451, 469, 20
+
+
+def stub(number, answer=ENOSYS):
+    """What runc puts before a filter: numbers from this one on are answered so."""
+    return load(0) + jge(number, 0, 1) + ret(answer)
+
+
+class Newer(Case):
+    def setUp(self):
+        super().setUp()
+        # 449 is the greatest number that it names
+        self.profile = self.file("p.json", profile_of("read", "write", "futex_waitv"))
+        self.rules = [0, 1, 449]
+
+    def added(self, *codes, scope="--native", profile=None):
+        """The verdict's call, and what is added behind scf's lines."""
+        names = [self.file(f"{at}.bpf", code) for at, code in enumerate(codes)]
+        status, out, err = self.run_tool("compare", scope, *names, profile or self.profile)
+        self.assertEqual((status, err, out.split("\n")[0]), (1, "", "differs"))
+        return out.split("\n")[1], [line[2:] for line in out.split("\n") if line.startswith("# ")]
+
+    def test_only_newer_calls(self):
+        call, added = self.added(stub(450) + filter_of(self.rules))
+        self.assertTrue(call.startswith("call nr 450 "))
+        self.assertEqual(added[:8], [
+            FATES,
+            f"only {SAID} set_mempolicy_home_node (450){BOTH}",
+            f"calls among these that the table names: {COUNT_FROM_450}",
+            "the call is set_mempolicy_home_node (450)",
+            "the filter answers ERRNO 38: the call isn't made, and fails with ENOSYS",
+            "the profile answers ERRNO 1: the call isn't made, and fails with EPERM",
+            "by the default", "the last tests on the way in the filter:"])
+        self.assertRegex(added[-1], r"^ *[0-9]+  ret #0x50026 +// ERRNO 38$")
+
+    def test_the_first_of_them_is_told(self):
+        """Whatever call scf shows: the filter answers as the profile between the greatest number and the first."""
+        for first in (450, 451, 460, 469, 1000, 2**30 - 1):
+            _, added = self.added(stub(first) + filter_of(self.rules))
+            name = {450: "set_mempolicy_home_node (450)", 451: "cachestat (451)", 460: "lsm_set_self_attr (460)",
+                    469: "file_setattr (469)"}.get(first, f"number {first}, which the table doesn't name")
+            self.assertEqual(added[:2], [FATES, f"only {SAID} {name}{BOTH}"])
+
+    def test_of_several_filters(self):
+        allow = load(0) + ret(ALLOW)
+        _, added = self.added(allow, stub(450) + filter_of(self.rules), allow)
+        self.assertEqual(added[0], FATES.replace("it lets", "they let"))
+        self.assertTrue(added[1].startswith(f"only {SAID} set_mempolicy_home_node (450)"), added)
+
+    def test_others_come_first_and_are_counted_apart(self):
+        lax = stub(450) + filter_of([*self.rules, 41])
+        _, added = self.added(lax)
+        self.assertFalse(any(line.startswith("only ") for line in added), added)
+        told = added.index(f"{SAID} set_mempolicy_home_node (450){BOTH}")
+        other = added.index("calls that the table names and that aren't answered as the profile says: 1")
+        self.assertLess(other, told)
+        self.assertTrue(added[other + 1].startswith("41 socket differs "))
+        self.assertEqual(added[told + 1], f"calls among these that the table names: {COUNT_FROM_450}")
+
+    def test_another_call_without_a_name(self):
+        """400 has no name: it is told by the call and both answers."""
+        _, added = self.added(stub(450) + filter_of([*self.rules, 400]))
+        self.assertFalse(any(line.startswith("only ") for line in added), added)
+        told = added.index(f"{SAID} set_mempolicy_home_node (450){BOTH}")
+        self.assertLess(added.index("the call is number 400, which the table doesn't name"), told)
+
+    def test_newer_calls_that_are_let_through(self):
+        """A filter that lets newer calls through isn't said to refuse them, nor one that lets one of them through."""
+        for code in (stub(450, ALLOW) + filter_of(self.rules),
+                     load(0) + jeq(500, 0, 1) + ret(ALLOW) + stub(450) + filter_of(self.rules),
+                     load(0) + jeq(LAST, 0, 1) + ret(ALLOW) + stub(450) + filter_of(self.rules)):
+            _, added = self.added(code)
+            self.assertFalse(any(SAID in line for line in added), added)
+            _, added = self.added(code, scope="--calls")
+            self.assertFalse(any(line.startswith("only calls") for line in added), added)
+
+    def test_newer_calls_of_several_answers(self):
+        """Whichever of them scf shows: one is let through for some arguments, or is refused in a third way."""
+        for answer in (ALLOW, 0x00050016, 0x7FC00000):
+            for number in (450, CACHESTAT, LAST, 500, 2**30 - 1):
+                some = load(0) + jeq(number, 0, 3) + load(16) + jeq(7, 0, 1) + ret(answer)
+                _, added = self.added(some + stub(450) + filter_of(self.rules))
+                self.assertFalse(any(SAID in line for line in added), (hex(answer), number, added))
+
+    def test_a_profile_that_lets_newer_calls_through(self):
+        profile = self.file("lax.json", b'{"defaultAction":"SCMP_ACT_ALLOW","syscalls":[{"names":["read"],'
+                                        b'"action":"SCMP_ACT_ERRNO"}]}')
+        gate = load(4) + jeq(X86_64, 1, 0) + ret(KILL_PROCESS)
+        _, added = self.added(gate + stub(450) + jeq(0, 0, 1) + ret(EPERM) + ret(ALLOW), profile=profile)
+        self.assertFalse(any(SAID in line for line in added), added)
+
+    def test_calls_by_name(self):
+        _, added = self.added(stub(450) + filter_of(self.rules), scope="--calls")
+        said = SAID.replace("calls", "named calls", 1)
+        self.assertEqual(added, [
+            f"of the calls that the table names: {FATES}",
+            f"only {said} set_mempolicy_home_node (450); both sides refuse them: {COUNT_FROM_450}"])
+        _, added = self.added(stub(450) + filter_of([*self.rules, 41, 42]), scope="--calls")
+        self.assertEqual(added, ["other calls that differ: 2",
+                                 f"{said} set_mempolicy_home_node (450); both sides refuse them: {COUNT_FROM_450}"])
+
+    def test_a_long_filter_is_left_as_it_is(self):
+        """Where no instructions can be put before it, nothing is said of newer calls."""
+        code = stub(450) + filter_of(self.rules)
+        long = load(0) * (4096 - len(code) // 8) + code
+        _, added = self.added(long)
+        self.assertFalse(any(SAID in line for line in added), added)
+        self.assertIn(f"calls that the table names and that aren't answered as the profile says: {COUNT_FROM_450}",
+                      added)
+
+    def test_json(self):
+        name = self.file("f.bpf", stub(CACHESTAT) + filter_of(self.rules))
+        found = json.loads(self.run_tool("compare", "--native", "--json", name, self.profile)[1])
+        self.assertEqual(found["newer"], {"first": CACHESTAT, "are_all": True,
+                                          "filter": {"action": "ERRNO", "data": 38},
+                                          "profile": {"action": "ERRNO", "data": 1}})
+        name = self.file("g.bpf", stub(CACHESTAT) + filter_of([*self.rules, 41]))
+        found = json.loads(self.run_tool("compare", "--native", "--json", name, self.profile)[1])
+        self.assertFalse(found["newer"]["are_all"])
+
+
+class Before(Case):
+    """The filters that answer so on one side of a number, and as another one elsewhere."""
+
+    def answer(self, code, number):
+        return self.run_tool("run", "--nr", str(number), self.file("f.bpf", code))[1].split(" steps")[0]
+
+    def test_each_side(self):
+        # answers by A as it is at the start, which is 0, and by the number
+        code = jeq(0, 1, 0) + ret(KILL_PROCESS) + load(0) + insn(0x07, 0) + jeq(7, 0, 1) + ret(ENOSYS) + ret(ALLOW)
+        for number in (6, 7, 8):
+            for least in (6, 7, 8, 9):
+                whole = self.answer(code, number)
+                self.assertEqual(self.answer(filters.answering_from(code, least, EPERM), number),
+                                 "ERRNO 1" if number >= least else whole)
+                self.assertEqual(self.answer(filters.answering_below(code, least, EPERM), number),
+                                 "ERRNO 1" if number < least else whole)
