@@ -1,0 +1,405 @@
+"""tools/check, tools/compile and tools/run; and what the tools have in common: several calls at once, JSON, the files
+of a stack that are told, names that no call has, versions, and the name by which a tool was called."""
+import json
+import os
+import re
+import subprocess
+import sys
+
+from common import (ALLOW, EPERM, I386, KILL_PROCESS, SCF, TABLE, TOP, X86_64, Case, filter_of, insn, jeq, jge, load,
+                    part, profile_of, ret, tool)
+
+sys.path.append(os.path.join(TOP, "tools"))
+
+from scftools import tables  # noqa: E402
+
+TOOLS = ("ask", "bundle", "check", "compare", "compile", "decide", "explain", "list", "run")
+NATIVE = load(4) + jeq(X86_64, 1, 0) + ret(KILL_PROCESS) + load(0) + jge(0x40000000, 0, 1) + ret(KILL_PROCESS)
+# A is the number times the number, which isn't followed where the number isn't known.
+SQUARE = NATIVE + insn(0x07, 0) + insn(0x2C, 0) + jeq(49, 0, 1) + ret(EPERM) + ret(ALLOW)
+LOST = "# the profile lets through what it doesn't name: the rules of these names are lost\n"
+
+
+class Check(Case):
+    def test_usage(self):
+        self.says_usage("check")
+
+    def test_one_and_several(self):
+        good, bad, cut = (self.file(name, data) for name, data in (
+            ("good.bpf", ret(ALLOW)), ("bad.bpf", jeq(0, 9, 0) + ret(ALLOW)), ("cut.bpf", b"\6\0")))
+        self.assertEqual(self.run_tool("check", good), (0, "accepted 1\n", ""))
+        status, out, err = self.run_tool("check", bad)
+        self.assertEqual((status, err), (1, ""))
+        self.assertTrue(out.startswith("fault filter Jump at 0\n# This jump leaves the filter"), out)
+        self.assertNotIn("bad.bpf", out)
+        status, out, err = self.run_tool("check", good, bad)
+        self.assertEqual((status, err), (1, ""))
+        self.assertTrue(out.startswith(f"accepted 1\n# {good}\nfault filter Jump at 0\n# {bad}\n# This jump"), out)
+        self.assertEqual(self.run_tool("check", bad, cut)[0], 3)
+
+
+class Compile(Case):
+    def compiled(self, *words, given=b""):
+        done = subprocess.run([tool("compile"), *words], input=given, stdout=subprocess.PIPE, stderr=subprocess.PIPE,
+                              cwd=self.folder, check=False)
+        return done.returncode, done.stdout, done.stderr.decode()
+
+    def test_usage(self):
+        self.says_usage("compile")
+
+    def test_it_is_the_filter_of_scf(self):
+        with open(TABLE, "rb") as file:
+            given = part("profile", profile_of("read", "openat")) + part("table", file.read())
+        expected = subprocess.run([SCF, "compile"], input=given, stdout=subprocess.PIPE, check=True).stdout
+        profile = self.file("p.json", profile_of("read", "openat"))
+        self.assertEqual(self.compiled(profile), (0, expected, ""))
+        self.assertEqual(self.compiled("-", given=profile_of("read", "openat")), (0, expected, ""))
+        own = self.file("own.table", b"look 0\n")
+        status, out, err = self.compiled("--table", own, self.file("q.json", profile_of("look")))
+        self.assertEqual((status, err), (0, ""))
+        self.assertEqual(self.run_tool("run", "--nr", "0", self.file("look.bpf", out))[1].split("\n")[0][:5], "ALLOW")
+
+    def test_what_was_left_out_is_said(self):
+        denies = b'{"defaultAction":"SCMP_ACT_ALLOW","architectures":["SCMP_ARCH_X86_64","SCMP_ARCH_X86"],' \
+                 b'"syscalls":[{"names":["umont2","waitpid"],"action":"SCMP_ACT_ERRNO"}]}'
+        status, out, err = self.compiled(self.file("p.json", denies))
+        self.assertEqual((status, len(out) % 8), (0, 0))
+        self.assertEqual(err, "compile: names of the profile that were skipped, since the table doesn't name such "
+                              "calls: 2\ncompile: no call that is known here is called umont2; the nearest name of "
+                              f"the table is umount2\n{LOST.replace('# ', 'compile: ')}"
+                              "compile: the other architectures of the profile aren't looked at\n")
+
+    def test_refusals_go_to_standard_error(self):
+        for profile, status, says in ((b"{", 1, "fault profile Json\ncompile: The text isn't JSON"),
+                                      (b'{"defaultAction":"ALLOW"}', 1, "fault profile Action\ncompile: An action")):
+            found, out, err = self.compiled(self.file("p.json", profile))
+            self.assertEqual((found, out), (status, b""))
+            self.assertTrue(err.startswith(f"compile: {says}"), err)
+        found, out, err = self.compiled("--table", self.file("t", b"read\n"), self.file("q.json", profile_of("read")))
+        self.assertEqual((found, out), (1, b""))
+        self.assertTrue(err.startswith("compile: fault table Form line 1\n"), err)
+
+    def test_a_terminal_is_no_place_for_a_filter(self):
+        ours, theirs = os.openpty()
+        try:
+            done = subprocess.run([tool("compile"), self.file("p.json", profile_of("read"))], stdout=theirs,
+                                  stderr=subprocess.PIPE, check=False)
+        finally:
+            os.close(ours)
+            os.close(theirs)
+        self.assertEqual(done.returncode, 2)
+        self.assertIn(b"redirect the output into a file", done.stderr)
+
+
+class Run(Case):
+    def setUp(self):
+        super().setUp()
+        self.filter = self.file("f.bpf", filter_of([0]))
+
+    def test_usage(self):
+        self.says_usage("run")
+
+    def test_one_call(self):
+        self.assertEqual(self.run_tool("run", "--nr", "write", self.filter),
+                         (0, "ERRNO 1 steps 6\n# the call is write (1)\n# ERRNO 1: the call isn't made, and fails with "
+                             "EPERM\n", ""))
+        status, out, _ = self.run_tool("run", "--arch", hex(I386), self.filter)
+        self.assertEqual((status, out), (0, "KILL_PROCESS 0 steps 3\n# the call is number 0 of the architecture i386\n"
+                                            "# KILL_PROCESS: the process ends\n"))
+        status, out, err = self.run_tool("run", "--nr", "raed", self.filter)
+        self.assertEqual((status, out), (2, ""))
+        self.assertIn("the table names no call 'raed'; the nearest name is 'read'", err)
+
+
+class Several(Case):
+    """Several calls in one run of a tool."""
+
+    def setUp(self):
+        super().setUp()
+        self.filter = self.file("f.bpf", filter_of([0]))
+        asks = load(16) + jeq(7, 0, 1) + ret(ALLOW) + ret(EPERM)
+        self.asks = self.file("asks.bpf", asks)
+
+    def test_by_options(self):
+        path = "# the path in the filter: 0 1 3 4 6 "
+        for name, steps, paths in (("decide", "", [f"{path}8\n", f"{path}7\n"]), ("run", " steps 6", ["", ""])):
+            status, out, err = self.run_tool(name, "--nr", "read", "--nr=1", self.filter)
+            self.assertEqual((status, err), (0, ""))
+            self.assertEqual(out, f"ALLOW 0{steps}\n# the call is read (0)\n# ALLOW: the call is made\n{paths[0]}"
+                                  f"ERRNO 1{steps}\n# the call is write (1)\n# ERRNO 1: the call isn't made, and fails "
+                                  f"with EPERM\n{paths[1]}")
+
+    def test_by_a_file(self):
+        calls = self.file("calls", "# arguments\nread 7\n\n 1   0x7\nwrite\nclose 8 7\n")
+        status, out, err = self.run_tool("decide", "--calls-from", calls, "--a0=9", "--nr", "mmap", self.asks)
+        self.assertEqual((status, err), (0, ""))
+        self.assertEqual([line for line in out.split("\n") if line and line[0] != "#"],
+                         ["ERRNO 1", "ALLOW 0", "ALLOW 0", "ERRNO 1", "ERRNO 1"])
+        self.assertEqual(re.findall(r"# the call is (\w+)", out), ["mmap", "read", "write", "write", "close"])
+        self.assertEqual(self.run_tool("decide", "--calls-from", self.file("none", ""), self.asks), (0, "", ""))
+
+    def test_wrong_lines(self):
+        for text, status, says in (("no_such_call\n", 2, "the table names no call 'no_such_call'"),
+                                   ("read 1 2 3 4 5 6 7\n", 2, "isn't a call and up to six numbers"),
+                                   ("read\0\n", 2, "isn't a call and up to six numbers"),
+                                   ("9" * 300, 2, "isn't a call and up to six numbers"),
+                                   ("read x\n", 2, "fault number a0"), ("99999999999\nread\n", 2, "fault number nr")):
+            found, out, err = self.run_tool("decide", "--calls-from", self.file("calls", text), self.filter)
+            self.assertEqual(found, status, text)
+            self.assertIn(says, out + err)
+
+    def test_the_worst_status(self):
+        """A wrong number is said in its place, and the other calls are answered."""
+        status, out, _ = self.run_tool("decide", "--nr", "99999999999", "--nr", "read", self.filter)
+        self.assertEqual(status, 2)
+        self.assertTrue(out.startswith("fault number nr\n# The option's text"), out)
+        self.assertIn("\nALLOW 0\n# the call is read (0)\n", out)
+
+    def test_many_calls_take_one_tool(self):
+        """scf is started for each call, and for the path of its answer, and nothing else."""
+        tree = self.made_tree("#!/bin/sh\necho \"$@\" >>\"$KEPT\"\necho ALLOW 0\n")
+        kept = os.path.join(self.folder, "kept")
+        words = [word for number in range(29) for word in ("--nr", str(number))]
+        done = self.run_words([os.path.join(tree, "tools", "decide"), *words, self.filter],
+                              env={**os.environ, "KEPT": kept})
+        self.assertEqual(done[0], 0)
+        with open(kept, encoding="ascii") as file:
+            self.assertEqual(file.read(), "".join(f"decide --nr={number}\nrun --path --nr={number}\n"
+                                                  for number in range(29)))
+
+
+class WhichFilter(Case):
+    """Which of several filters a fault, an undecided place or an answer is of."""
+
+    def setUp(self):
+        super().setUp()
+        self.allow, self.one, self.two = (self.file(name, data) for name, data in (
+            ("allow.bpf", ret(ALLOW)), ("one.bpf", ret(0x00050001)), ("two.bpf", ret(0x00050002))))
+        self.profile = self.file("p.json", b'{"defaultAction":"SCMP_ACT_ALLOW"}')
+
+    def test_the_answer(self):
+        status, out, _ = self.run_tool("decide", self.allow, self.one, self.two)
+        self.assertEqual((status, out.split("\n")[0]), (0, "ERRNO 2"))
+        self.assertTrue(out.endswith(f"# the filter that answers so is {self.two}\n"
+                                     f"# the path in {self.two}, filter 3 of 3: 0\n"), out)
+        out = self.run_tool("decide", self.one, self.allow, self.one)[1]
+        self.assertTrue(out.endswith(f"# the filters that answer so are {self.one} and {self.one}\n"
+                                     f"# the path in {self.one}, filter 3 of 3: 0\n"), out)
+        self.assertIn("\n# both filters answer so\n", self.run_tool("decide", self.one, self.one)[1])
+        self.assertIn("\n# all 3 filters answer so\n", self.run_tool("decide", *[self.allow] * 3)[1])
+        self.assertTrue(self.run_tool("decide", self.one)[1].endswith("\n# the path in the filter: 0\n"))
+
+    def test_a_fault(self):
+        bad = self.file("bad.bpf", jeq(0, 9, 0) + ret(ALLOW))
+        for words in (("compare", self.allow, bad, self.one, self.profile), ("decide", self.allow, bad, self.one)):
+            status, out, _ = self.run_tool(*words)
+            self.assertEqual(status, 1)
+            self.assertTrue(out.startswith("fault filter Jump at 0\n# This jump"), out)
+            self.assertTrue(out.endswith(f"# the filter is {bad}\n"), out)
+        self.assertNotIn("bad.bpf", self.run_tool("compare", bad, self.profile)[1])
+
+    def test_a_stack_that_is_too_long(self):
+        long = [self.file(f"{at}.bpf", ret(ALLOW) * 4096) for at in range(8)]
+        for words in (("decide", *long), ("compare", *long, self.profile)):
+            status, out, _ = self.run_tool(*words)
+            self.assertEqual((status, out.split("\n")[0]), (1, "fault stack TooMany total 32796"))
+            self.assertTrue(out.endswith(f"# the filter is {long[7]}\n"), out)
+
+    def test_an_undecided_place(self):
+        square = self.file("square.bpf", SQUARE)
+        place = self.run_tool("compare", "--limit=100000", square, self.profile)[1].split("\n")[0].split(" ")[-1]
+        status, out, _ = self.run_tool("compare", "--limit=100000", self.allow, square, self.allow, self.profile)
+        self.assertEqual((status, out.split(" ")[0]), (4, "undecided"))
+        self.assertTrue(out.endswith(f"# alone, {square} is undecided at {place}\n"), out)
+        twice = self.file("twice.bpf", SQUARE)
+        out = self.run_tool("compare", "--limit=100000", square, twice, self.profile)[1]
+        self.assertTrue(out.endswith(f"# alone, {square} is undecided at {place}\n"
+                                     f"# alone, {twice} is undecided at {place}\n"), out)
+        found = json.loads(self.run_tool("compare", "--json", "--limit=100000", self.allow, square, self.profile)[1])
+        self.assertEqual(found["files"], [square])
+
+
+class Names(Case):
+    """Names of a profile that the table doesn't have."""
+
+    def setUp(self):
+        super().setUp()
+        self.same = self.file("same.bpf", filter_of([0]))
+
+    def added(self, names, *words, default="SCMP_ACT_ERRNO"):
+        out = self.run_tool("compare", *words, self.same, self.file("p.json", profile_of(*names, default=default)))[1]
+        return [line for line in out.split("\n") if line.startswith("# ")]
+
+    def test_names_of_other_architectures(self):
+        self.assertEqual(self.added(["read", "waitpid", "_llseek"]),
+                         ["# names of the profile that were skipped, since the table doesn't name such calls: 2, all "
+                          "of them calls of other architectures"])
+
+    def test_names_that_no_call_has(self):
+        self.assertEqual(self.added(["read", "umont2", "waitpid", "zzqqzz"]),
+                         ["# names of the profile that were skipped, since the table doesn't name such calls: 3",
+                          "# no call that is known here is called umont2; the nearest name of the table is umount2",
+                          "# no call that is known here is called zzqqzz"])
+
+    def test_many_of_them(self):
+        added = self.added(["read", *(f"x{at}_y" for at in range(30))])
+        self.assertEqual(len(added), 22)
+        self.assertEqual(added[-1], "# more such names: 10")
+
+    def test_rules_that_are_lost(self):
+        """Where the default lets calls through, a name that is skipped is a rule that isn't there."""
+        for default, is_lost in (("SCMP_ACT_ALLOW", True), ("SCMP_ACT_LOG", True), ("SCMP_ACT_ERRNO", False),
+                                 ("SCMP_ACT_KILL", False), ("SCMP_ACT_TRACE", False)):
+            added = self.added(["read", "umont2"], default=default)
+            self.assertEqual(LOST.rstrip() in added, is_lost, default)
+            self.assertNotIn(LOST.rstrip(), self.added(["read", "waitpid"], default=default))
+
+    def test_names_that_a_table_of_ones_own_leaves_out(self):
+        own = self.file("own.table", b"read 0\n")
+        self.assertIn("# write is a call of x86-64, which this table leaves out",
+                      self.added(["read", "write"], "--table", own))
+        self.assertIn(LOST.rstrip(), self.added(["read", "write"], "--table", own, default="SCMP_ACT_ALLOW"))
+
+    def test_hostile_names_take_no_time(self):
+        names = [f"{at:0900}" for at in range(4000)]
+        self.assertEqual(len(self.added(["read", *names])), 22)
+        self.assertIsNone(tables.nearest("read" * 1000, tables.read(TABLE)))
+
+
+class Json(Case):
+    """Where a profile stops being JSON."""
+
+    def test_line_and_column(self):
+        same = self.file("same.bpf", filter_of([0]))
+        for text, says in ((b'{\n  "defaultAction": "SCMP_ACT_ALLOW",\n  "syscalls": [}\n}\n', "line 3, column 16: "),
+                           (b"", "line 1, column 1: "), (b'{"a": "\x01"}', "line 1, column 8: "),
+                           (b'{"a"\n: tru}', "line 2, column 3: "), (b'{"a": 1,}', "line 1, column "),
+                           (b'{}\n {', "line 2, column 2: "),
+                           (b'{\n"a": "\xff"}', "the profile isn't UTF-8 from line 2, column 7 on"),
+                           ("{\n\"é\": \"é".encode() + b"\xff\"}",
+                            "the profile isn't UTF-8 from line 2, column 8 on"),
+                           (b'{"a":\n' + b"[" * 127 + b"]" * 127 + b"}",
+                            "at line 2, column 127 the profile is nested more than 127 deep"),
+                           (b'{"a": "[[\\"[[' + b"[" * 200 + b'", "b"}', "a JSON reader stops at line 1, column "),
+                           (b'{"a": NaN}', "the number NaN, which JSON doesn't have"),
+                           (b'{"a": "\\ud800"}', "halves of surrogate pairs")):
+            profile = self.file("p.json", text)
+            status, out, _ = self.run_tool("compare", same, profile)
+            self.assertEqual((status, out.split("\n")[0]), (1, "fault profile Json"), text)
+            self.assertIn(says, out)
+            done = subprocess.run([tool("compile"), profile], stdout=subprocess.PIPE, stderr=subprocess.PIPE,
+                                  check=False)
+            self.assertEqual((done.returncode, done.stdout), (1, b""))
+            self.assertIn(says, done.stderr.decode())
+
+
+class Objects(Case):
+    """--json: one object that says what the lines say."""
+
+    def test_compare(self):
+        same, wrong = self.file("same.bpf", filter_of([0])), self.file("wrong.bpf", filter_of([0, 231]))
+        profile = self.file("p.json", profile_of("read", "waitpid", "umont2").replace(
+            b"{", b'{"architectures":["SCMP_ARCH_X86_64","SCMP_ARCH_X86"],', 1))
+
+        def found(*words):
+            status, out, err = self.run_tool("compare", "--json", *words)
+            self.assertEqual(err, "")
+            self.assertEqual((out.count("\n"), out[-1]), (1, "\n"))
+            self.assertEqual(json.loads(out)["status"], status)
+            return json.loads(out)
+
+        left_out = {"skipped": ["waitpid", "umont2"], "other": ["SCMP_ARCH_X86"],
+                    "unknown": [{"name": "umont2", "nearest": "umount2"}]}
+        self.assertEqual(found(same, profile),
+                         {"status": 0, "scope": "all", "verdict": "same", "calls": [], **left_out})
+        call = {"number": 231, "names": ["exit_group"], "architecture": "0xc000003e", "pointer": "0x0",
+                "arguments": ["0x0"] * 6}
+        sides = {"call": call, "filter": {"action": "ALLOW", "data": 0}, "profile": {"action": "ERRNO", "data": 1}}
+        why = {"reason": "default", "path": {"filter": wrong, "places": [0, 1, 3, 4, 6, 7, 9]}}
+        line = {"number": 231, "names": ["exit_group"], "verdict": "differs", **sides}
+        fates = {"no_more": "more", "no_less": "no less"}
+        self.assertEqual(found(wrong, profile),
+                         {"status": 1, "scope": "all", "verdict": "differs", **sides, **why, **fates, "calls": [],
+                          **left_out})
+        self.assertEqual(found("--native", wrong, profile),
+                         {"status": 1, "scope": "native", "verdict": "differs", **sides, **why, **fates, "calls": [line],
+                          **left_out})
+        self.assertEqual(found("--calls", wrong, profile),
+                         {"status": 1, "scope": "calls", "verdict": "differs", **fates, "calls": [line], **left_out})
+        jump = found(same, self.file("bad.bpf", jeq(0, 9, 0) + ret(ALLOW)), profile)
+        self.assertEqual((jump["verdict"], jump["files"]), (None, [os.path.join(self.folder, "bad.bpf")]))
+        self.assertEqual({key: jump["fault"][key] for key in ("source", "kind", "numbers")},
+                         {"source": "filter", "kind": "Jump", "numbers": {"at": 0}})
+        self.assertTrue(jump["fault"]["sentences"][0].startswith("This jump leaves the filter"))
+        undecided = found("--limit=100000", self.file("square.bpf", SQUARE),
+                          self.file("q.json", b'{"defaultAction":"SCMP_ACT_ALLOW"}'))
+        self.assertEqual((undecided["verdict"], undecided["status"]), ("undecided", 4))
+        self.assertIsInstance(undecided["at"], int)
+
+    def test_decide_and_run(self):
+        one, two = self.file("one.bpf", ret(0x00050001)), self.file("two.bpf", ret(0x00050002))
+        call = {"number": 0, "names": ["read"], "architecture": "0xc000003e", "pointer": "0x0",
+                "arguments": ["0x7", *["0x0"] * 5]}
+        answer = {"action": "ERRNO", "data": 2, "does": "the call isn't made, and fails with ENOENT"}
+        status, out, _ = self.run_tool("decide", "--json", "--a0=7", one, two)
+        self.assertEqual((status, json.loads(out)), (0, {"status": 0, "calls": [
+            {"status": 0, "call": call, "answer": answer, "filters": [two],
+             "path": {"filter": two, "places": [0]}}]}))
+        status, out, _ = self.run_tool("run", "--json", "--a0=7", "--nr", "read", "--nr", "x", two)
+        self.assertEqual(status, 2)
+        status, out, _ = self.run_tool("run", "--json", "--a0=7", "--nr=read", "--nr=99999999999", two)
+        self.assertEqual(status, 2)
+        first, second = json.loads(out)["calls"]
+        self.assertEqual(first, {"status": 0, "call": call, "answer": answer, "steps": 1})
+        self.assertEqual((second["status"], second["fault"]["source"], second["fault"]["kind"]), (2, "number", "nr"))
+
+    def test_names_are_safe(self):
+        profile = self.file("p.json", profile_of("read", "\x1b[2J\x9b\x7f\n"))
+        out = self.run_tool("compare", "--json", self.file("f.bpf", filter_of([0])), profile)[1]
+        self.assertTrue(out[:-1].isprintable() and out.isascii(), out)
+        self.assertEqual(json.loads(out)["skipped"], ["\x1b[2J\x9b\x7f\n"])
+
+
+class Programs(Case):
+    def test_versions(self):
+        version = self.run_words([SCF, "--version"])[1]
+        for name in TOOLS:
+            self.assertEqual(self.run_tool(name, "--version"), (0, f"{name} of {version}", ""))
+
+    def test_each_is_named_as_it_was_called(self):
+        for name in TOOLS:
+            link = os.path.join(self.folder, f"scf-{name}")
+            os.symlink(tool(name), link)
+            self.assertIn(f"usage: scf-{name} ", self.run_words([link, "--help"])[1])
+            words = ("filter", "none") if name == "bundle" else \
+                ("none", "none") if name == "compare" else ("--table", "none", "check") if name == "explain" else \
+                ("none",)
+            status, out, err = self.run_words([link, *words])
+            self.assertEqual((status, out), (2, ""))
+            self.assertEqual(err, f"scf-{name}: there is no file 'none'\n")
+
+    def test_nothing_of_the_user_is_imported(self):
+        """A module of the same name beside the tool's user, or in PYTHONPATH, isn't read: the tools run as root."""
+        for name in ("argparse", "os", "re", "scftools", "sitecustomize", "usercustomize"):
+            self.file(f"{name}.py", "import sys\nsys.exit(77)\n")
+        given = self.file("f.bpf", filter_of([0]))
+        for name in ("check", "run", "list"):
+            done = self.run_tool(name, given, env={**os.environ, "PYTHONPATH": self.folder, "PYTHONSTARTUP":
+                                                   f"{self.folder}/os.py", "PYTHONHOME": self.folder})
+            self.assertEqual((done[0], done[2]), (0, ""), name)
+
+    def test_what_is_imported_at_start(self):
+        """No module that only some runs need."""
+        script = ("import sys\nsys.path.append(sys.argv[1])\nimport scftools.comparing, scftools.words\n"
+                  "late = {'difflib', 'json', 'subprocess', 'tempfile', 'ctypes', 'typing'}\n"
+                  "print(*sorted(late & set(sys.modules)))")
+        done = self.run_words([sys.executable, "-IS", "-c", script, os.path.join(TOP, "tools")])
+        self.assertEqual(done, (0, "\n", ""))
+
+    def test_each_module_has_a_line_in_the_package(self):
+        folder = os.path.join(TOP, "tools", "scftools")
+        with open(os.path.join(folder, "__init__.py"), encoding="utf-8") as file:
+            text = file.read()
+        for name in os.listdir(folder):
+            if name.endswith(".py") and name != "__init__.py":
+                self.assertRegex(text, rf"(?m)^    {name[:-3]} +\w", name)
