@@ -42,7 +42,7 @@ class PlainProfile(Case):
         for words in (("--caps", "NO_SUCH", "-"), ("--kernel", "six", "-"), ("--arch", "arm", "-")):
             status, out, err = self.run_tool("plain-profile", *words)
             self.assertEqual((status, out), (2, ""))
-            self.assertIn("plain-profile: error", err)
+            self.assertIn("plain-profile: ", err)
 
     def test_a_plain_profile_stays(self):
         given = engine(entry("read", args=[{"index": 0, "value": 2**64 - 1, "valueTwo": 0, "op": "SCMP_CMP_EQ"}]),
@@ -201,10 +201,10 @@ class PlainProfile(Case):
     def test_files(self):
         path = self.file("p.json", json.dumps(engine(entry("read"))).encode())
         self.assertEqual(self.run_tool("plain-profile", path)[0], 0)
-        for name in ("none", self.folder):
+        for name, says in (("none", "there is no file 'none'"), (self.folder, "is a folder")):
             status, out, err = self.run_tool("plain-profile", name)
             self.assertEqual((status, out), (2, ""))
-            self.assertIn("can't be read", err)
+            self.assertIn(says, err)
         status, _, err = self.closed_output("plain-profile", path)
         self.assertEqual(status, 3)
         self.assertIn("the output failed", err)

@@ -1,0 +1,127 @@
+"""tools/plain-profile on inputs made to hurt: bytes of a stranger, endless ones, profiles that take long to read."""
+import json
+import os
+import resource
+import subprocess
+import time
+import unittest
+
+from common import Case, tool
+
+ALLOW, ERRNO = "SCMP_ACT_ALLOW", "SCMP_ACT_ERRNO"
+# The most address space that any of these runs may take.
+MEMORY = 3 << 30
+MANY = 10**7
+
+
+def engine(*entries, **members):
+    return json.dumps({"defaultAction": ERRNO, **members, "syscalls": list(entries)}).encode()
+
+
+class Hostile(Case):
+    def pieces(self, *pieces):
+        """A file of pieces, each some bytes and how often they stand: so this process itself stays small."""
+        path = self.file("given", b"")
+        with open(path, "wb") as file:
+            for data, count in pieces:
+                some = data * min(count, 10000)
+                for _ in range(count // 10000):
+                    file.write(some)
+                file.write(data * (count if count < 10000 else count % 10000))
+        return path
+
+    def ends(self, path, status, says, seconds=20):
+        """Ends so within the time, in bounded memory, without a traceback, and says no control character.
+
+        What is said last is looked at; what is printed stands in the file that is answered.
+        """
+        out = os.path.join(self.folder, "out")
+        began = time.monotonic()
+        with open(path, "rb") as given, open(out, "wb") as printed, open(f"{out}.said", "w+b") as said:
+            done = subprocess.run([tool("plain-profile"), "--keep-first", "-"], stdin=given, stdout=printed, stderr=said,
+                                  timeout=120, check=False,
+                                  preexec_fn=lambda: resource.setrlimit(resource.RLIMIT_AS, (MEMORY, MEMORY)))
+            said.seek(max(said.seek(0, os.SEEK_END) - 20000, 0))
+            text = said.read().decode()
+        self.assertIn(done.returncode, status if isinstance(status, tuple) else (status,), text[-300:])
+        self.assertTrue(says in text, text[-300:])
+        self.assertNotIn("Traceback", text)
+        self.assertFalse([it for it in text if it != "\n" and not it.isprintable()])
+        self.assertLess(time.monotonic() - began, seconds)
+        return out
+
+    def test_endless_ones(self):
+        self.ends("/dev/zero", 2, "has more than 16777216 bytes", 5)
+        sparse = self.file("sparse", b"")
+        os.truncate(sparse, 10**10)
+        self.ends(sparse, 2, "has more than 16777216 bytes", 5)
+
+    def test_long_numbers(self):
+        for beginning in (b"", b"-", b"1.", b"1e"):
+            given = self.pieces((b'{"defaultAction":"A","x":' + beginning, 1), (b"1", MANY), (b"}", 1))
+            self.ends(given, 1, "the number ")
+
+    def test_deep_ones(self):
+        self.ends(self.pieces((b"[", MANY)), 1, "nested too deep")
+        for depth in (100, 900, 3000, 100000):
+            for given in (b'{"defaultAction":"A","flags":%s}', b'{"defaultAction":"A","listenerMetadata":%s}',
+                          b'{"defaultAction":"A","syscalls":[{"names":["a"],"action":%s},'
+                          b'{"names":["a"],"action":"A"}]}',
+                          b'{"defaultAction":"A","defaultErrno":"1","defaultErrnoRet":%s}'):
+                path = self.file("given", given % (b"[" * depth + b"]" * depth))
+                # how deep the reader goes is the interpreter's
+                if depth == 100:
+                    self.ends(path, 0, "")
+                elif depth == 100000:
+                    self.ends(path, 1, "nested too deep")
+                else:
+                    self.ends(path, (0, 1), "")
+
+    def test_many_members(self):
+        path = self.file("given", b"")
+        with open(path, "wb") as file:
+            file.write(b"{")
+            for at in range(600000):
+                file.write(b'"%d":0,' % at)
+            file.write(b'"599999":0}')
+        self.ends(path, 1, "the member '599999' stands twice in one object")
+
+    def test_many_names(self):
+        """Those that are left out are told up to a limit, and counted behind it."""
+        count = 500000
+        between = b'"b"],"action":"SCMP_ACT_ALLOW"},{"names":['
+        given = self.pieces((b'{"defaultAction":"SCMP_ACT_ERRNO","syscalls":[{"names":[', 1), (b'"a",', count),
+                            (between, 1), (b'"a",', count), (b'"b"],"action":"SCMP_ACT_LOG"}]}', 1))
+        out = self.ends(given, 0, f"plain-profile: {count + 1 - 1000} more such lines\n")
+        with open(f"{out}.said", "rb") as file:
+            self.assertEqual(sum(1 for _ in file), 1001)
+        with open(out, "rb") as file:
+            self.assertEqual(sum(line.strip() == b'"a",' for line in file), count)
+
+    def test_names_of_a_stranger(self):
+        bad = "\x1b[2J\r\nplain-profile: all is well\n\x9b\u202e" + "x" * 10000
+        given = engine({"names": [bad], "action": ALLOW, "includes": {"caps": [bad]}},
+                       {"names": ["b"], "action": ALLOW, "includes": {"arches": [bad] * 1000}},
+                       {"names": [bad, "\ud800"], "action": ALLOW}, {"names": [bad], "action": bad})
+        out = self.ends(self.file("given", given), 0,
+                        "left out: only with \\x1b[2J\\x0d\\x0aplain-profile: all is well\\x0a")
+        with open(out, "rb") as file:
+            data = file.read()
+        self.assertEqual(json.loads(data)["syscalls"], [{"names": [bad, "\ud800"], "action": ALLOW}])
+        self.assertNotIn(b"\x1b", data)
+        for given, says in ((engine(**{bad: 0, "Syscalls": 0}), "the engines read in spite of its case"),
+                            (engine({"names": ["a"], "action": ALLOW, "errno": bad}), "is no errno"),
+                            (b'{"\\u001b":1,"\\u001b":2}', "the member '\\x1b' stands twice"),
+                            (b'{"\x1b', "isn't JSON"), (b'{"a":"\xff"}', "isn't UTF-8")):
+            self.ends(self.file("given", given), 1, says)
+
+    def test_a_closed_output(self):
+        read, write = os.pipe()
+        os.close(read)
+        path = self.file("p", engine({"names": ["read"], "action": ALLOW}))
+        self.assertEqual(self.run_tool("plain-profile", path, stdout=write)[::2], (-13, ""))
+        os.close(write)
+
+
+if __name__ == "__main__":
+    unittest.main()
