@@ -1,0 +1,206 @@
+"""Processes for tests: their threads are put under raw filters by ctypes, and then wait."""
+import ctypes
+import errno
+import json
+import os
+import signal
+import subprocess
+import sys
+import time
+import unittest
+
+from common import ALLOW, EPERM, TOP, Case, jeq, load, ret
+
+sys.path.insert(0, os.path.join(TOP, "tools"))
+from scftools import processes  # noqa: E402 pylint: disable=wrong-import-position
+
+# Its words: a JSON list, for each thread the names of its filters' files, oldest first; the main thread's is the first.
+# Each thread is put under its own filters, the main one last, since threads that are begun later inherit them. It
+# prints the numbers of its threads, and then does what it reads, a line of Python at a time, in the main thread.
+CHILD = """
+import ctypes, json, os, sys, threading, time
+class Program(ctypes.Structure):
+    _fields_ = [("len", ctypes.c_ushort), ("filter", ctypes.c_char_p)]
+library = ctypes.CDLL(None, use_errno=True)
+library.prctl(38, 1, 0, 0, 0)
+def confine(names):
+    for name in names:
+        data = open(name, "rb").read()
+        if library.prctl(22, 2, ctypes.byref(Program(len(data) // 8, data)), 0, 0):
+            print("errno", ctypes.get_errno(), flush=True)
+            os._exit(1)
+numbers = [os.getpid()]
+def thread(names, done):
+    confine(names)
+    numbers.append(threading.get_native_id())
+    done.set()
+    time.sleep(1000)
+main, *others = json.loads(sys.argv[1])
+for names in others:
+    done = threading.Event()
+    threading.Thread(target=thread, args=(names, done), daemon=True).start()
+    done.wait()
+confine(main)
+print(*numbers, flush=True)
+for line in sys.stdin:
+    exec(line)
+"""
+OLDEST = ret(ALLOW)
+NEWEST = load(0) + jeq(0x0FFFFFFF, 0, 1) + ret(EPERM) + ret(ALLOW)
+# As long as NEWEST, and another one.
+OTHER = load(0) + jeq(0x0FFFFFFE, 0, 1) + ret(EPERM) + ret(ALLOW)
+
+
+def started(names, **settings):
+    """A child under the filters of these files, and the numbers of its threads."""
+    child = subprocess.Popen([sys.executable, "-c", CHILD, json.dumps(names)], stdin=subprocess.PIPE,
+                             stdout=subprocess.PIPE, text=True, **settings)
+    said = child.stdout.readline().split()
+    return child, [int(it) for it in said] if said and said[0].isdigit() else said
+
+
+def ended(child):
+    """Ends a child, also where threads of it are still traced by this process, which must wait for each then."""
+    child.kill()
+    while child.poll() is None:
+        for thread in processes.numbers_in(f"/proc/{child.pid}/task"):
+            try:
+                if thread != child.pid:
+                    os.waitpid(thread, processes.WALL | os.WNOHANG)
+            except OSError:
+                pass
+        time.sleep(0.001)
+    child.stdin.close()
+    child.stdout.close()
+
+
+def why_not_here():
+    """Why this machine doesn't show the filters of a process, or None where it does."""
+    read, write = os.pipe()
+    os.write(write, OLDEST)
+    os.close(write)
+    child, said = started([[f"/dev/fd/{read}"]], pass_fds=[read])
+    os.close(read)
+    try:
+        if said != [child.pid]:
+            return f"this machine takes no filter: {' '.join(map(str, said))}"
+        processes.look_at_process(processes.Kernel(), child.pid)
+        return None
+    except processes.Unreadable as error:
+        return f"this machine doesn't show filters: {error}"
+    finally:
+        ended(child)
+
+
+WHY_NOT = why_not_here()
+here = unittest.skipIf(WHY_NOT, WHY_NOT or "")
+
+
+def status_of(thread):
+    with open(f"/proc/{thread}/status", encoding="utf-8") as file:
+        return dict(line.rstrip("\n").split(":\t", 1) for line in file if ":\t" in line)
+
+
+class Confined(Case):
+    """A test with children, which end with it."""
+
+    def child(self, *threads):
+        """A process whose threads have these filters, the main one's first; its `threads` are their numbers."""
+        names = [[self.file(f"given{thread}.{at}", data) for at, data in enumerate(filters)]
+                 for thread, filters in enumerate(threads)]
+        child, numbers = started(names)
+        self.addCleanup(ended, child)
+        self.assertEqual(len(numbers), len(threads), numbers)
+        child.threads = numbers
+        return child
+
+    def do(self, child, line):
+        """Lets the main thread of a child do something."""
+        child.stdin.write(f"{line}\n")
+        child.stdin.flush()
+
+    def wait_for(self, thread, states):
+        """Waits until a thread is in one of these states."""
+        until = time.monotonic() + 10
+        while time.monotonic() < until:
+            if status_of(thread)["State"][0] in states:
+                return
+            time.sleep(0.005)
+        self.fail(f"{thread} is in state {status_of(thread)['State']}, and not in {states}")
+
+    def runs_on(self, child):
+        """Nothing traces any thread of the child, and all of them run on."""
+        self.assertIsNone(child.poll())
+        for name in os.listdir(f"/proc/{child.pid}/task"):
+            status = status_of(name)
+            self.assertEqual(status["TracerPid"], "0")
+            self.assertIn(status["State"][0], "SR")
+        self.do(child, "print('here', flush=True)")
+        self.assertEqual(child.stdout.readline(), "here\n")
+
+
+class FakeKernel:
+    """A kernel with one process, whose threads keep these filters, oldest first, and that fails where it is told.
+
+    Threads are listed one list after another, the last one again and again; their states are told so, too.
+    """
+
+    def __init__(self, filters=(), fails=None, states=(0x80057F,), status=None, listings=((7,),)):
+        self.filters = filters
+        self.fails = fails or {}
+        self.states = list(states)
+        self.listings = list(listings)
+        self.status = {"Seccomp": "2", "State": "S (sleeping)", "Tgid": "7", **(status or {})}
+        self.own = {"Seccomp": "0", "CapEff": "000001ffffffffff"}
+        self.flags = 0
+        self.asked = []
+        self.held = set()
+
+    def ptrace(self, request, thread, place, data):
+        self.asked.append((request, thread, data if request == processes.PTRACE_DETACH else place))
+        if request in self.fails:
+            raise OSError(self.fails[request], os.strerror(self.fails[request]))
+        if request == processes.PTRACE_SEIZE:
+            self.held.add(thread)
+        elif request == processes.PTRACE_DETACH:
+            self.held.discard(thread)
+        if request != processes.PTRACE_SECCOMP_GET_FILTER:
+            return 0
+        return self.filter(thread, place, data)
+
+    def filter(self, _, place, data):
+        if place >= len(self.filters):
+            raise OSError(errno.ENOENT, "none")
+        if data is not None:
+            ctypes.memmove(data, self.filters[place], len(self.filters[place]))
+        return len(self.filters[place]) // 8
+
+    def wait(self, _):
+        state = self.states.pop(0) if len(self.states) > 1 else self.states[0]
+        if isinstance(state, Exception):
+            raise state
+        return state
+
+    def is_proc_ours(self):
+        return True
+
+    def processes(self):
+        return [7]
+
+    def threads_of(self, _):
+        return list(self.listings.pop(0) if len(self.listings) > 1 else self.listings[0])
+
+    def status_of(self, thread):
+        return self.own if thread == os.getpid() else self.status
+
+    def flags_of(self, _):
+        return self.flags
+
+    def name_of(self, _):
+        return b"fake"
+
+    def let_go(self):
+        """The signals that threads were let go with."""
+        return [data for request, _, data in self.asked if request == processes.PTRACE_DETACH]
+
+

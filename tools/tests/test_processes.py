@@ -1,0 +1,454 @@
+"""scftools.processes: what is asked of a kernel that is made here, and of this one, on processes of the test's own."""
+import ctypes
+import errno
+import itertools
+import os
+import signal
+import subprocess
+import sys
+import threading
+import time
+import unittest
+from unittest import mock
+
+from common import ALLOW, Case, ret
+from confined import NEWEST, OLDEST, OTHER, Confined, FakeKernel, here, processes, status_of
+
+SEIZE, INTERRUPT, DETACH, GET = (processes.PTRACE_SEIZE, processes.PTRACE_INTERRUPT, processes.PTRACE_DETACH,
+                                 processes.PTRACE_SECCOMP_GET_FILTER)
+STOPPED = 0x80057F
+
+
+class Asked(Case):
+    """What is asked of a kernel, and what is said where it refuses."""
+
+    def look(self, kernel, **settings):
+        return processes.look_at_process(kernel, 7, **settings)
+
+    def refused(self, kernel, says, **settings):
+        with self.assertRaises(processes.Unreadable) as caught:
+            self.look(kernel, **settings)
+        self.assertIn(says, str(caught.exception))
+        self.assertEqual(kernel.held, set())
+
+    def test_filters_oldest_first(self):
+        kernel = FakeKernel([OLDEST, NEWEST, b""], states=[None, None, STOPPED])
+        found = self.look(kernel)
+        self.assertEqual([(stack.filters, stack.is_strict, stack.threads) for stack in found.stacks],
+                         [((OLDEST, NEWEST, b""), False, {7: [7]})])
+        self.assertEqual((found.names, found.passed_over), ({7: b"fake"}, {}))
+        self.assertEqual([request for request, _, _ in kernel.asked[:2]], [SEIZE, INTERRUPT])
+        self.assertEqual(kernel.let_go(), [0])
+
+    def test_threads_that_come_while_others_are_stopped(self):
+        kernel = FakeKernel([OLDEST], listings=[(7,), (7, 8), (7, 8, 9), (7, 8, 9)])
+        self.assertEqual(self.look(kernel).stacks[0].threads, {7: [7, 8, 9]})
+        self.assertEqual(kernel.held, set())
+
+    def test_threads_that_go_meanwhile(self):
+        kernel = FakeKernel([OLDEST], listings=[(7, 8), (7,)])
+        self.assertEqual(self.look(kernel).stacks[0].threads, {7: [7]})
+        self.assertEqual(kernel.held, set())
+
+    def test_a_thread_that_ends_before_it_is_read(self):
+        """The others are read, and one that is begun meanwhile, too."""
+        kernel = FakeKernel([OLDEST], listings=[(7, 8), (7, 8), (7, 9)])
+        get = kernel.filter
+
+        def ending(thread, place, data):
+            if thread == 8:
+                raise OSError(errno.ESRCH, "none")
+            return get(thread, place, data)
+
+        kernel.filter = ending
+        self.assertEqual(self.look(kernel).stacks[0].threads, {7: [7, 9]})
+        self.assertEqual(kernel.held, set())
+
+    def test_threads_that_never_stop_coming(self):
+        kernel, count = FakeKernel([OLDEST]), itertools.count(8)
+        kernel.threads_of = lambda _: range(7, next(count))
+        self.refused(kernel, "threads came and went for 0.05 seconds", patience=0.05)
+
+    def test_equal_filters_are_one_stack_and_others_are_not(self):
+        kernel = FakeKernel(listings=[(7, 8, 9, 10)])
+        by_thread = {7: [NEWEST], 8: [OTHER], 9: [NEWEST], 10: []}
+        get = FakeKernel.filter
+
+        def of_thread(thread, place, data):
+            kernel.filters = by_thread[thread]
+            return get(kernel, thread, place, data)
+
+        kernel.filter = of_thread
+        self.assertEqual([(stack.filters, stack.threads) for stack in self.look(kernel).stacks],
+                         [((NEWEST,), {7: [7, 9]}), ((OTHER,), {7: [8]}), ((), {7: [10]})])
+
+    def test_a_signal_that_came_meanwhile_is_handed_on(self):
+        kernel = FakeKernel([OLDEST], states=[signal.SIGUSR1 << 8 | 0x7F])
+        self.look(kernel)
+        self.assertEqual(kernel.let_go(), [signal.SIGUSR1])
+
+    def test_a_filter_that_changes_its_length(self):
+        for first, second in ((NEWEST, OLDEST), (OLDEST, NEWEST)):
+            kernel = FakeKernel()
+
+            def changing(_thread, place, data, first=first, second=second):
+                if place:
+                    raise OSError(errno.ENOENT, "none")
+                held = first if data is None else second
+                if data is not None:
+                    ctypes.memmove(data, held, len(held))
+                return len(held) // 8
+
+            kernel.filter = changing
+            self.refused(kernel, f"changed its length from {len(first) // 8} to {len(second) // 8} while it was read")
+
+    def test_a_filter_that_is_too_long(self):
+        kernel = FakeKernel([ret(ALLOW) * 4097])
+        self.refused(kernel, "filter 0 of process 7 has 4097 instructions")
+
+    def test_the_longest_filter(self):
+        longest = ret(ALLOW) * 4096
+        self.assertEqual(self.look(FakeKernel([longest])).stacks[0].filters, (longest,))
+
+    def test_another_count_than_the_kernel_tells(self):
+        self.refused(FakeKernel([OLDEST], status={"Seccomp_filters": "2"}),
+                     "the kernel counts 2 filters of process 7 and shows 1")
+        self.assertEqual(len(self.look(FakeKernel([OLDEST], status={"Seccomp_filters": "1"})).stacks), 1)
+
+    def test_the_process_can_not_be_stopped(self):
+        for fails, status, says in (
+                (errno.EPERM, {"TracerPid": "12"}, "process 7 is traced by process 12 already"),
+                (errno.EPERM, {"TracerPid": "0"}, "process 7 can't be stopped (Operation not permitted): run this as"),
+                (errno.EACCES, {}, "run this as root"),
+                (errno.EPERM, {"State": "Z (zombie)"}, "process 7 has ended, and only waits for its parent"),
+                (errno.EIO, {}, "can't be stopped: ")):
+            kernel = FakeKernel([OLDEST], {SEIZE: fails}, status=status)
+            self.refused(kernel, says)
+            self.assertEqual(kernel.let_go(), [])
+        kernel = FakeKernel([OLDEST], {SEIZE: errno.EPERM})
+        kernel.flags = processes.PF_KTHREAD
+        self.refused(kernel, "process 7 is a thread of the kernel")
+        kernel = FakeKernel([OLDEST], {SEIZE: errno.EPERM})
+        kernel.own["CapEff"] = f"{1 << processes.CAP_SYS_ADMIN:x}"
+        self.refused(kernel, "without CAP_SYS_PTRACE: run this as root")
+        self.refused(FakeKernel([OLDEST], {SEIZE: errno.ESRCH}, listings=[(7,), ()]), "process 7 ended meanwhile")
+
+    def test_a_main_thread_that_has_ended(self):
+        """Its process's other threads are looked at."""
+        kernel = FakeKernel([OLDEST], listings=[(7, 8)])
+        ptrace, status_of_thread = kernel.ptrace, kernel.status_of
+
+        def refusing(request, thread, place, data):
+            if (request, thread) == (SEIZE, 7):
+                raise OSError(errno.EPERM, "no")
+            return ptrace(request, thread, place, data)
+
+        kernel.ptrace = refusing
+        kernel.status_of = lambda it: {**status_of_thread(it), **({"State": "Z (zombie)"} if it == 7 else {})}
+        found = self.look(kernel)
+        self.assertEqual(([stack.threads for stack in found.stacks], found.passed_over), ([{7: [8]}], {}))
+
+    def test_this_tool_itself_is_not_stopped(self):
+        kernel = FakeKernel([OLDEST], listings=[(os.getpid(),)])
+        with self.assertRaises(processes.Unreadable) as caught:
+            processes.look_at_process(kernel, os.getpid())
+        self.assertIn("is this tool itself", str(caught.exception))
+        self.assertEqual(kernel.asked, [])
+
+    def test_the_tool_has_no_right_to_see_filters(self):
+        """It is said before any process is stopped."""
+        for own, says in (({"CapEff": "0"}, "CAP_SYS_ADMIN: run this as root"),
+                          ({"Seccomp": "2"}, "this tool runs under a filter itself")):
+            kernel = FakeKernel([OLDEST])
+            kernel.own.update(own)
+            self.refused(kernel, says)
+            self.assertEqual(kernel.asked, [])
+        kernel = FakeKernel([OLDEST])
+        kernel.is_proc_ours = lambda: False
+        self.refused(kernel, "/proc isn't mounted")
+
+    def test_the_kernel_does_not_show_the_filters(self):
+        for fails, status, says in ((errno.EACCES, {}, "CAP_SYS_ADMIN"),
+                                    (errno.EINVAL, {"Seccomp": "2"}, "CONFIG_CHECKPOINT_RESTORE"),
+                                    (errno.EMEDIUMTYPE, {}, "filter 0 of process 7 isn't kept as classic BPF"),
+                                    (errno.EIO, {}, "doesn't show filters"),
+                                    (errno.EFAULT, {}, "filter 0 of process 7 can't be read")):
+            kernel = FakeKernel([OLDEST], {GET: fails}, status=status)
+            self.refused(kernel, says)
+            self.assertEqual(kernel.let_go(), [0], says)
+        kernel = FakeKernel([OLDEST], {GET: errno.ESRCH}, listings=[(7,), ()])
+        self.refused(kernel, "process 7 ended meanwhile")
+
+    def test_no_filter_at_all(self):
+        for fails, status, is_strict in (({}, {}, False), ({GET: errno.EINVAL}, {"Seccomp": "0"}, False),
+                                         ({GET: errno.EINVAL}, {"Seccomp": "1"}, True)):
+            found = self.look(FakeKernel([], fails, status=status))
+            self.assertEqual([(stack.filters, stack.is_strict) for stack in found.stacks], [((), is_strict)])
+
+    def test_the_process_ends_or_never_stops(self):
+        for fails, states in (({}, [0]), ({}, [signal.SIGKILL]), ({}, [ChildProcessError(errno.ECHILD, "none")]),
+                              ({INTERRUPT: errno.ESRCH}, [ChildProcessError(errno.ECHILD, "none")])):
+            with self.assertRaises(processes.Unreadable) as caught:
+                self.look(FakeKernel([OLDEST], fails, states=states, listings=[(7,), ()]))
+            self.assertEqual(str(caught.exception), "process 7 ended meanwhile")
+        kernel = FakeKernel([OLDEST], states=[None], status={"State": "D (disk sleep)"})
+        with self.assertRaises(processes.Unreadable) as caught:
+            self.look(kernel, patience=0.01)
+        self.assertEqual(str(caught.exception),
+                         "process 7 didn't stop within 0.01 seconds: its state is D (disk sleep)")
+
+    def test_one_that_does_not_stop_does_not_hold_the_others(self):
+        """The others are let go while it is waited for, and stopped again."""
+        kernel = FakeKernel([OLDEST], listings=[(7, 8)])
+        states = {7: iter([STOPPED] * 9), 8: iter([None] * 2 + [STOPPED] * 9)}
+        kernel.wait = lambda thread: next(states[thread])
+        with mock.patch.object(processes, "HELD_FOR_ONE", 0):
+            found = self.look(kernel)
+        self.assertEqual(found.stacks[0].threads, {7: [7, 8]})
+        asked = [(request, thread) for request, thread, _ in kernel.asked if request in (SEIZE, DETACH)]
+        self.assertEqual(asked[:4], [(SEIZE, 7), (SEIZE, 8), (DETACH, 7), (SEIZE, 7)])
+        self.assertEqual(kernel.held, set())
+
+    def test_an_exception_lets_all_go(self):
+        for error in (KeyboardInterrupt(), MemoryError(), ValueError()):
+            kernel = FakeKernel([OLDEST], listings=[(7, 8, 9)])
+            kernel.name_of = mock.Mock(side_effect=error)
+            with self.assertRaises(type(error)):
+                self.look(kernel)
+            self.assertEqual((kernel.held, kernel.let_go()), (set(), [0, 0, 0]))
+            self.assertEqual(signal.pthread_sigmask(signal.SIG_BLOCK, ()), set())
+
+    def test_signals_wait_until_all_are_let_go(self):
+        for number in (signal.SIGTERM, signal.SIGINT, signal.SIGHUP):
+            came = []
+            old = signal.signal(number, lambda it, _: came.append(it))
+            self.addCleanup(signal.signal, number, old)
+            kernel = FakeKernel([OLDEST])
+
+            def signalled(_, number=number):
+                os.kill(os.getpid(), number)
+                return b"fake"
+
+            kernel.name_of = signalled
+            with self.assertRaises(processes.Interrupted) as caught:
+                self.look(kernel)
+            self.assertEqual((caught.exception.args, kernel.held, came), ((number,), set(), []))
+
+    def test_other_signals_come_once_all_are_let_go(self):
+        kernel = FakeKernel([OLDEST])
+        held = []
+        old = signal.signal(signal.SIGUSR1, lambda *_: held.append(set(kernel.held)))
+        self.addCleanup(signal.signal, signal.SIGUSR1, old)
+        kernel.name_of = lambda _: os.kill(os.getpid(), signal.SIGUSR1) or b"fake"
+        self.look(kernel)
+        self.assertEqual(held, [set()])
+
+    def test_threads_are_waited_for_whatever_they_are(self):
+        with mock.patch("os.waitpid", return_value=(0, 0)) as wait:
+            self.assertIsNone(processes.Kernel().wait(7))
+        wait.assert_called_once_with(7, 0x40000000 | os.WNOHANG)
+
+    def test_containers(self):
+        groups = {7: {"": b"/", "name=systemd": b"/box", "pids": b"/other"}, 8: {"name=systemd": b"/box/inner"},
+                  9: {"name=systemd": b"/boxes"}, 10: {"pids": b"/box"}, 11: {}}
+        kernel = FakeKernel([OLDEST])
+        kernel.processes, kernel.groups_of = lambda: list(groups), groups.get
+        container = processes.container_of(kernel, 7)
+        self.assertEqual((container.group, container.processes()), (b"/box", [7, 8]))
+        kernel.groups_of = lambda _: {"": b"/", "memory": b"/box"}
+        spaces = {7: [(1, 7), (1, 1)], 8: [(1, 8), (1, 7), (1, 1)], os.getpid(): [(1, 1)]}
+        kernel.processes, kernel.namespaces_of = lambda: list(spaces), spaces.get
+        container = processes.container_of(kernel, 7)
+        self.assertEqual((container.group, container.processes()), (None, [7, 8]))
+        spaces[7] = [(1, 1)]
+        with self.assertRaises(processes.Unreadable) as caught:
+            processes.container_of(kernel, 7)
+        self.assertIn("process 7 is in no container", str(caught.exception))
+
+    def test_the_name_of_a_group_is_a_stranger_s(self):
+        group = b"/\x1b[2J\xff/box"
+        self.assertEqual(processes.Container(group, list).told, "the control group /\\x1b[2J\\xff/box")
+        with mock.patch.object(processes, "contents", return_value=b"0::/a:b\n3:cpu,cpuacct:" + group + b"\nx\n"):
+            self.assertEqual(processes.Kernel().groups_of(7), {"": b"/a:b", "cpu": group, "cpuacct": group})
+
+    def test_numbers_told(self):
+        for threads, told in (([7], "thread 7"), ([7, 8], "threads 7, 8"), ([7, 8, 9, 11], "threads 7 to 9, 11"),
+                              ([1, 3, 4, 5, 6], "threads 1, 3 to 6")):
+            self.assertEqual(processes.threads_told(threads), told)
+
+
+@here
+class Real(Confined):
+    """On this machine's kernel."""
+
+    def look(self, child, **settings):
+        kernel = processes.Kernel()
+        return processes.look_at_process(kernel, processes.process_of(kernel, child.pid), **settings)
+
+    def test_threads_with_filters_of_their_own(self):
+        """Filters of one length, in threads of one count of filters, are told apart; a thread has none."""
+        child = self.child([OLDEST, NEWEST], [OLDEST, OTHER], [], [OLDEST, NEWEST])
+        found = {stack.filters: stack.threads for stack in self.look(child).stacks}
+        main, other, free, alike = child.threads
+        self.assertEqual(found, {(OLDEST, NEWEST): {child.pid: sorted([main, alike])},
+                                 (OLDEST, OTHER): {child.pid: [other]}, (): {child.pid: [free]}})
+        self.runs_on(child)
+
+    def test_one_thread(self):
+        child = self.child([OLDEST], [NEWEST])
+        found = self.look(child, thread=child.threads[1])
+        self.assertEqual([(stack.filters, stack.threads) for stack in found.stacks],
+                         [((NEWEST,), {child.pid: [child.threads[1]]})])
+        with self.assertRaises(processes.Unreadable) as caught:
+            self.look(child, thread=os.getpid())
+        self.assertEqual(str(caught.exception), f"process {child.pid} has no thread {os.getpid()}")
+        self.assertEqual(processes.process_of(processes.Kernel(), child.threads[1]), child.pid)
+        self.runs_on(child)
+
+    def test_threads_that_come_while_others_are_stopped(self):
+        """While all are held the process has just the threads that are found, though it begins one after another."""
+        child = self.child([OLDEST])
+        self.do(child, "exec('def more():\\n    for _ in range(400):\\n        "
+                       "threading.Thread(target=time.sleep, args=(1000,), daemon=True).start()\\n"
+                       "threading.Thread(target=more, daemon=True).start()')")
+        kernel, held = processes.Kernel(), []
+        name_of = kernel.name_of
+        kernel.name_of = lambda it: held.append(kernel.threads_of(it)) or name_of(it)
+        for _ in range(5):
+            time.sleep(0.005)
+            found = processes.look_at_process(kernel, child.pid)
+            self.assertEqual([stack.threads for stack in found.stacks], [{child.pid: held[-1]}])
+        self.assertGreater(len(held[-1]), 1)
+
+    def test_a_zombie(self):
+        child = self.child([OLDEST])
+        child.kill()
+        self.wait_for(child.pid, "Z")
+        with self.assertRaises(processes.Unreadable) as caught:
+            self.look(child)
+        self.assertEqual(str(caught.exception), f"process {child.pid} has ended, and only waits for its parent to ask "
+                                                f"how (it is a zombie)")
+
+    def test_a_main_thread_that_has_ended(self):
+        child = self.child([OLDEST], [NEWEST])
+        self.do(child, "library.syscall(60, 0)")
+        self.wait_for(child.pid, "Z")
+        self.assertEqual([(stack.filters, stack.threads) for stack in self.look(child).stacks],
+                         [((NEWEST,), {child.pid: [child.threads[1]]})])
+
+    def test_a_thread_of_the_kernel(self):
+        kernel = processes.Kernel()
+        number = next((it for it in kernel.processes() if kernel.flags_of(it) & processes.PF_KTHREAD), None)
+        if number is None:
+            self.skipTest("no thread of the kernel is seen here")
+        with self.assertRaises(processes.Unreadable) as caught:
+            processes.look_at_process(kernel, number)
+        self.assertEqual(str(caught.exception),
+                         f"process {number} is a thread of the kernel, which makes no system calls")
+
+    def test_a_process_that_is_traced_already(self):
+        child = self.child([OLDEST])
+        kernel = processes.Kernel()
+        kernel.ptrace(SEIZE, child.pid, None, None)
+        said = subprocess.run([sys.executable, "-c", TRY, os.path.dirname(os.path.dirname(processes.__file__)),
+                               str(child.pid)], stdout=subprocess.PIPE, text=True, check=True).stdout
+        self.assertIn(f"process {child.pid} is traced by process {os.getpid()} already", said)
+        kernel.ptrace(INTERRUPT, child.pid, None, None)
+        os.waitpid(child.pid, processes.WALL)
+        kernel.ptrace(DETACH, child.pid, None, None)
+        self.runs_on(child)
+
+    def test_no_process_and_this_one(self):
+        with self.assertRaises(processes.Unreadable) as caught:
+            processes.process_of(processes.Kernel(), 2**22 + 1)
+        self.assertEqual(str(caught.exception), f"there is no process {2**22 + 1}")
+        with self.assertRaises(processes.Unreadable) as caught:
+            processes.look_at_process(processes.Kernel(), os.getpid())
+        self.assertIn("is this tool itself", str(caught.exception))
+
+    def test_strict_mode(self):
+        child = self.child([])
+        self.do(child, "library.prctl(22, 1, 0, 0, 0) or os.read(0, 1)")
+        until = time.monotonic() + 10
+        while status_of(child.pid)["Seccomp"] != "1" and time.monotonic() < until:
+            time.sleep(0.005)
+        self.assertEqual([(stack.filters, stack.is_strict) for stack in self.look(child).stacks], [((), True)])
+
+    def test_a_stopped_process_stays_stopped(self):
+        child = self.child([OLDEST], [OLDEST])
+        child.send_signal(signal.SIGSTOP)
+        self.wait_for(child.pid, "T")
+        self.assertEqual(len(self.look(child).stacks), 1)
+        self.wait_for(child.pid, "T")
+        self.wait_for(child.threads[1], "T")
+        child.send_signal(signal.SIGCONT)
+        self.wait_for(child.pid, "S")
+        self.runs_on(child)
+
+    def test_signals_of_the_process_come(self):
+        """One after another, while it is stopped again and again: none is lost, and none comes twice."""
+        child = self.child([OLDEST])
+        # the handler of the interpreter writes the signal's number, 10, which is a line end
+        self.do(child, "import signal; os.set_blocking(1, False); signal.signal(signal.SIGUSR1, lambda *_: None); "
+                       "signal.set_wakeup_fd(1)")
+        self.runs_on(child)
+        came = []
+
+        def send():
+            # Popen.send_signal waits for the child, and so would take its stops away from the tool
+            for _ in range(300):
+                os.kill(child.pid, signal.SIGUSR1)
+                came.append(child.stdout.readline())
+
+        sender = threading.Thread(target=send, daemon=True)
+        sender.start()
+        until = time.monotonic() + 60
+        while sender.is_alive() and time.monotonic() < until:
+            self.look(child)
+        self.assertEqual(came, ["\n"] * 300)
+        self.runs_on(child)
+
+    def test_one_that_waits_for_its_child_in_vfork(self):
+        """It stops no sooner than the child runs on: that is said, and both run on."""
+        child = self.child([OLDEST])
+        fifo = os.path.join(self.folder, "fifo")
+        os.mkfifo(fifo)
+        self.do(child, f"os.posix_spawn('/bin/true', ['true'], {{}}, file_actions=[(os.POSIX_SPAWN_OPEN, 0, {fifo!r}, "
+                       f"os.O_RDONLY, 0)])")
+        self.wait_for(child.pid, "D")
+        said = subprocess.run([sys.executable, "-c", TRY, os.path.dirname(os.path.dirname(processes.__file__)),
+                               str(child.pid), "0.5"], stdout=subprocess.PIPE, text=True, check=True).stdout
+        self.assertEqual(said, f"process {child.pid} didn't stop within 0.5 seconds: its state is D (disk sleep)\n")
+        with open(fifo, "wb"):
+            self.wait_for(child.pid, "S")
+            self.runs_on(child)
+
+    def test_what_calls_end_early(self):
+        """What is said of calls that a stop ends with EINTR, and of one that goes on."""
+        for call, end in (("library.epoll_wait(library.epoll_create(1), ctypes.create_string_buffer(12), 1, -1)", "4"),
+                          ("pair = socket.socketpair(); pair[0].setsockopt(socket.SOL_SOCKET, socket.SO_RCVTIMEO, "
+                           "struct.pack('qq', 1000, 0)); "
+                           "library.recv(pair[0].fileno(), ctypes.create_string_buffer(1), 1, 0)", "4"),
+                          ("library.usleep(300000)", "0")):
+            child = self.child([OLDEST])
+            self.do(child, f"import socket, struct; ctypes.set_errno(0); {call}; print(ctypes.get_errno(), flush=True)")
+            self.wait_for(child.pid, "S")
+            time.sleep(0.05)
+            self.look(child)
+            self.assertEqual(child.stdout.readline(), f"{end}\n", call)
+
+
+# Tries to look at a process, and prints what is said.
+TRY = """
+import sys
+sys.path.insert(0, sys.argv[1])
+from scftools import processes
+try:
+    processes.look_at_process(processes.Kernel(), int(sys.argv[2]), patience=float((sys.argv[3:] or ["10"])[0]))
+except processes.Unreadable as why:
+    print(why)
+"""
+
+
+if __name__ == "__main__":
+    unittest.main()
