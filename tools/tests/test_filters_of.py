@@ -1,275 +1,589 @@
-"""tools/filters-of and tools/verify-process, on processes of the test's own and on a kernel that is made here."""
-import ctypes
-import errno
+"""tools/filters-of and tools/verify-process, on processes of the test's own; what they ask of a kernel is tried in
+test_processes."""
+import glob
+import json
 import os
+import shutil
 import signal
 import subprocess
 import sys
 import time
 import unittest
 
-from common import ALLOW, EPERM, Case, load, jeq, module, needs, profile_of, ret
+from common import ALLOW, EPERM, I386, KILL_PROCESS, SCF, TOP, X86_64, jeq, jge, load, module, profile_of, ret, tool
+from confined import CHILD, NEWEST, OLDEST, OTHER, Confined, ended, here, processes, status_of
 
 filters_of = module("filters-of")
-
-# Puts itself under the filters of the named files, oldest first, says so, and waits.
-CHILD = """
-import ctypes, sys, time
-class Program(ctypes.Structure):
-    _fields_ = [("len", ctypes.c_ushort), ("filter", ctypes.c_char_p)]
-library = ctypes.CDLL(None, use_errno=True)
-library.prctl(38, 1, 0, 0, 0)
-for name in sys.argv[1:]:
-    data = open(name, "rb").read()
-    if library.prctl(22, 2, ctypes.byref(Program(len(data) // 8, data)), 0, 0):
-        print("errno", ctypes.get_errno(), flush=True)
-        sys.exit(1)
-print("ready", flush=True)
-while True:
-    time.sleep(1000)
-"""
-OLDEST = ret(ALLOW)
-NEWEST = load(0) + jeq(0x0FFFFFFF, 0, 1) + ret(EPERM) + ret(ALLOW)
+ALLOWS_ALL = b'{"defaultAction":"SCMP_ACT_ALLOW"}'
+MOUNT, UMOUNT2, CHROOT = 165, 166, 161
+ROOT = unittest.skipIf(os.geteuid(), "only root may do this")
 
 
-def why_not_here():
-    """Why this machine doesn't show the filters of a process, or None where it does."""
-    child = subprocess.Popen([sys.executable, "-c", CHILD, "/dev/fd/0"], stdin=subprocess.PIPE, stdout=subprocess.PIPE)
-    try:
-        child.stdin.write(OLDEST)
-        child.stdin.close()
-        said = child.stdout.readline().decode().strip()
-        if said != "ready":
-            return f"this machine takes no filter: {said}"
-        try:
-            filters_of.filters_of(filters_of.Kernel(), child.pid)
-        except filters_of.Unreadable as error:
-            cause = error.__cause__
-            return f"this machine doesn't show filters: errno {getattr(cause, 'errno', None)}, {error}"
-        return None
-    finally:
-        child.kill()
-        child.wait()
-        child.stdout.close()
+def refusing(*numbers):
+    """A filter that refuses these native calls and all foreign ones, and lets a test's process do the rest."""
+    return (load(4) + jeq(X86_64, 1, 0) + ret(KILL_PROCESS) + load(0) + jge(0x40000000, 0, 1) + ret(KILL_PROCESS)
+            + b"".join(jeq(number, len(numbers) - at, 0) for at, number in enumerate(numbers))
+            + ret(ALLOW) + ret(EPERM))
 
 
-WHY_NOT = why_not_here()
-here = unittest.skipIf(WHY_NOT, WHY_NOT or "")
+def refuses(*names, **members):
+    """A profile that refuses these calls."""
+    return json.dumps({"defaultAction": "SCMP_ACT_ALLOW", **members,
+                       "syscalls": [{"names": list(names), "action": "SCMP_ACT_ERRNO"}]})
 
 
-class Running(Case):
-    def child(self, *filters):
-        names = [self.file(f"given{at}", data) for at, data in enumerate(filters)]
-        child = subprocess.Popen([sys.executable, "-c", CHILD, *names], stdout=subprocess.PIPE)
-        self.addCleanup(child.stdout.close)
-        self.addCleanup(child.wait)
-        self.addCleanup(child.kill)
-        self.assertEqual(child.stdout.readline(), b"ready\n")
-        return child
+def comments(out):
+    return [line[2:] for line in out.split("\n") if line.startswith("# ")]
 
-    def is_let_go(self, child):
-        """Nothing traces the child, and it runs on."""
-        with open(f"/proc/{child.pid}/status", encoding="utf-8") as file:
-            lines = dict(line.rstrip("\n").split(":\t", 1) for line in file if ":\t" in line)
-        self.assertEqual(lines["TracerPid"], "0")
-        self.assertIn(lines["State"][0], "SR")
-        self.assertIsNone(child.poll())
+
+class Programs(Confined):
+    """Both tools, as far as they are alike."""
 
     def test_usage(self):
         for name in ("filters-of", "verify-process"):
             self.says_usage(name, "1")
-        for pid in ("0", "-1", "x", "1.5", "4294967296", "²"):
-            status, out, err = self.run_tool("filters-of", "--", pid, "out")
-            self.assertEqual((status, out), (2, ""))
-            self.assertIn("no number of a process", err)
-
-    @here
-    def test_two_filters_oldest_first(self):
-        child = self.child(OLDEST, NEWEST)
-        self.assertEqual(self.run_tool("filters-of", str(child.pid), "a/b"), (0, "a/b/0.bpf\na/b/1.bpf\n", ""))
-        self.is_let_go(child)
-        for name, data in (("0.bpf", OLDEST), ("1.bpf", NEWEST)):
-            with open(os.path.join(self.folder, "a/b", name), "rb") as file:
-                self.assertEqual(file.read(), data)
-
-    @here
-    def test_eleven_filters_are_named_in_order(self):
-        given = [ret(0x7FFF0000) * at + ret(ALLOW) for at in range(11)]
-        child = self.child(*given)
-        names = self.run_tool("filters-of", str(child.pid), "out")[1].split()
-        self.assertEqual(names, sorted(names))
-        self.assertEqual([os.path.getsize(os.path.join(self.folder, name)) for name in names],
-                         [len(data) for data in given])
-
-    @here
-    def test_a_process_without_filters(self):
-        child = self.child()
-        self.assertEqual(self.run_tool("filters-of", str(child.pid), "out"),
-                         (3, "", f"filters-of: process {child.pid} has no filter\n"))
-        self.assertFalse(os.path.exists(os.path.join(self.folder, "out")))
-        self.is_let_go(child)
-        status, out, err = self.run_tool("verify-process", str(child.pid), self.file("p", profile_of()))
-        self.assertEqual((status, out), (3, ""))
-        self.assertIn("has no filter", err)
+            out = self.run_tool(name, "--help")[1]
+            for word in ("EINTR", "epoll_wait", "CAP_SYS_ADMIN"):
+                self.assertIn(word, out)
+        for name in ("filters-of", "verify-process"):
+            for pid in ("0", "-1", "x", "1.5", "4294967296", "²", "9" * 5000, "\x1b[2J\n"):
+                status, out, err = self.run_tool(name, "--", pid, "out")
+                self.assertEqual((status, out), (2, ""))
+                self.assertIn("is no number of a process", err)
+                self.assertNotIn("\x1b", err)
+        self.assertEqual(self.run_tool("filters-of", "--thread", "0", "--", "1", "out")[0], 2)
+        self.assertEqual(self.run_tool("verify-process", "--native", "--calls", "1", "p")[0], 2)
 
     def test_a_process_that_is_not_there(self):
         child = subprocess.Popen(["true"])
         child.wait()
+        profile = self.file("p", ALLOWS_ALL)
         self.assertEqual(self.run_tool("filters-of", str(child.pid), "out"),
                          (3, "", f"filters-of: there is no process {child.pid}\n"))
-        self.assertEqual(self.run_tool("verify-process", str(child.pid), "p")[0], 3)
+        for words in ((), ("--all",)):
+            self.assertEqual(self.run_tool("verify-process", *words, str(child.pid), profile),
+                             (3, "", f"verify-process: there is no process {child.pid}\n"))
 
     @here
-    def test_a_stopped_process_stays_stopped(self):
-        child = self.child(OLDEST)
-        child.send_signal(signal.SIGSTOP)
-        self.wait_for(child, "T")
-        self.assertEqual(self.run_tool("filters-of", str(child.pid), "out")[0], 0)
-        self.wait_for(child, "T")
-        child.send_signal(signal.SIGCONT)
-        self.wait_for(child, "S")
+    def test_a_zombie(self):
+        child = self.child([OLDEST])
+        child.kill()
+        self.wait_for(child.pid, "Z")
+        for name, last in (("filters-of", "out"), ("verify-process", self.file("p", ALLOWS_ALL))):
+            self.assertEqual(self.run_tool(name, str(child.pid), last),
+                             (3, "", f"{name}: process {child.pid} has ended, and only waits for its parent to ask how "
+                                     f"(it is a zombie)\n"))
 
-    def wait_for(self, child, state):
-        for _ in range(500):
-            with open(f"/proc/{child.pid}/stat", encoding="utf-8") as file:
-                if file.read().rpartition(") ")[2][0] == state:
-                    return
-            time.sleep(0.01)
-        self.fail(f"the process isn't in state {state}")
+    @here
+    def test_the_first_process_of_a_namespace(self):
+        """It is looked at as any other; a process without a filter isn't confined."""
+        if not shutil.which("unshare"):
+            self.skipTest("there is no unshare here")
+        script = f"{tool('verify-process')} 1 {self.file('p', ALLOWS_ALL)}; echo status $?; {tool('filters-of')} 1 out"
+        words = ["unshare", "--pid", "--fork", "--mount-proc", "sh", "-c", script]
+        status, out, err = self.run_words(words)
+        if err.startswith("unshare:"):
+            self.skipTest(err)
+        self.assertEqual(out, "# process 1 (sh) has no filter: it isn't confined, and all calls are made\nstatus 1\n")
+        self.assertEqual((status, err), (3, "filters-of: process 1 has no filter\n"))
+
+    def beside(self):
+        """The tools where every user may read them."""
+        tree = self.made_tree("#!/bin/sh\nexit 125\n")
+        os.chmod(self.folder, 0o755)
+        os.chmod(tree, 0o755)
+        return tree
+
+    @here
+    def test_without_rights(self):
+        if not os.access("/usr/bin/python3", os.X_OK):
+            self.skipTest("there is no Python that every user may run")
+        child = self.child([OLDEST])
+        done = subprocess.run([f"{self.beside()}/tools/filters-of", str(child.pid), "out"], user=65534, group=65534,
+                              extra_groups=[], env={"PATH": "/usr/bin:/bin"}, stdout=subprocess.PIPE,
+                              stderr=subprocess.PIPE, text=True, check=False, cwd=self.folder)
+        self.assertEqual((done.returncode, done.stdout, done.stderr),
+                         (3, "", "filters-of: the kernel shows filters only to a process with CAP_SYS_ADMIN: run this "
+                                 "as root, outside of containers\n"))
+
+    @here
+    def test_under_a_filter_itself(self):
+        child = self.child([OLDEST])
+        script = CHILD.partition("numbers =")[0] + "confine(sys.argv[1:2]); os.execv(sys.argv[2], sys.argv[2:])"
+        done = subprocess.run([sys.executable, "-c", script, self.file("own", OLDEST), tool("filters-of"),
+                               str(child.pid), "out"], stdout=subprocess.PIPE, stderr=subprocess.PIPE, text=True,
+                              check=False, cwd=self.folder)
+        self.assertEqual((done.returncode, done.stdout), (3, ""))
+        self.assertIn("this tool runs under a filter itself", done.stderr)
+
+    def stuck(self):
+        """A child that doesn't stop before something is written to the file that is answered, too."""
+        child = self.child([OLDEST], [OLDEST])
+        fifo = os.path.join(self.folder, "fifo")
+        os.mkfifo(fifo)
+        self.do(child, f"os.posix_spawn('/bin/true', ['true'], {{}}, file_actions=[(os.POSIX_SPAWN_OPEN, 0, {fifo!r}, "
+                       f"os.O_RDONLY, 0)])")
+        self.wait_for(child.pid, "D")
+        return child, fifo
+
+    def traced(self, child):
+        """Waits until a child is traced."""
+        until = time.monotonic() + 10
+        while status_of(child.pid)["TracerPid"] == "0" and time.monotonic() < until:
+            time.sleep(0.005)
+
+    @here
+    def test_a_signal_while_threads_are_held(self):
+        """The tool ends by it, says so, and the process runs on; a signal that is ignored ends nothing."""
+        child, fifo = self.stuck()
+        for number in (signal.SIGTERM, signal.SIGINT, signal.SIGHUP):
+            # whoever runs the tests may ignore it, as nohup does
+            held = subprocess.Popen([tool("filters-of"), str(child.pid), "out"], stdout=subprocess.PIPE,
+                                    stderr=subprocess.PIPE, text=True, cwd=self.folder,
+                                    preexec_fn=lambda heeded=number: signal.signal(heeded, signal.SIG_DFL))
+            self.traced(child)
+            began = time.monotonic()
+            held.send_signal(number)
+            out, err = held.communicate(timeout=20)
+            self.assertEqual((held.returncode, out, err),
+                             (-number, "", f"filters-of: ended by {number.name}; what was held runs on\n"))
+            self.assertLess(time.monotonic() - began, 5)
+            self.assertEqual(status_of(child.pid)["TracerPid"], "0")
+        ignoring = ("import os, signal, sys; signal.signal(signal.SIGHUP, signal.SIG_IGN); "
+                    "os.execv(sys.argv[1], sys.argv[1:])")
+        held = subprocess.Popen([sys.executable, "-c", ignoring, tool("filters-of"), str(child.pid), "out"],
+                                stdout=subprocess.PIPE, stderr=subprocess.PIPE, text=True, cwd=self.folder)
+        self.traced(child)
+        held.send_signal(signal.SIGHUP)
+        time.sleep(0.1)
+        with open(fifo, "wb"):
+            self.assertEqual(held.communicate(timeout=20), ("out/0.bpf\n", ""))
+        self.wait_for(child.pid, "S")
+        self.runs_on(child)
+
+    @here
+    def test_a_closed_and_a_full_output(self):
+        child = self.child([OLDEST])
+        profile = self.file("p", ALLOWS_ALL)
+        for name, last in (("filters-of", "full"), ("verify-process", profile)):
+            status, _, err = self.closed_output(name, str(child.pid), last)
+            self.assertEqual((status, err), (3, f"{name}: the output failed: No space left on device\n"))
+        read, write = os.pipe()
+        os.close(read)
+        for name, last in (("filters-of", "closed"), ("verify-process", profile)):
+            self.assertEqual(self.run_tool(name, str(child.pid), last, stdout=write)[::2], (-signal.SIGPIPE, ""))
+        os.close(write)
+        self.runs_on(child)
+
+
+class FiltersOf(Confined):
+    def filters_of(self, child, *words):
+        return self.run_tool("filters-of", *words, str(child.pid), "out")
+
+    def read(self, name):
+        with open(os.path.join(self.folder, name), "rb") as file:
+            return file.read()
+
+    @here
+    def test_two_filters_oldest_first(self):
+        child = self.child([OLDEST, NEWEST], [OLDEST, NEWEST])
+        self.assertEqual(self.run_tool("filters-of", str(child.pid), "a/b"), (0, "a/b/0.bpf\na/b/1.bpf\n", ""))
+        self.assertEqual([self.read("a/b/0.bpf"), self.read("a/b/1.bpf")], [OLDEST, NEWEST])
+        self.runs_on(child)
+
+    @here
+    def test_eleven_filters_are_named_in_order(self):
+        given = [ret(ALLOW) * (at + 1) for at in range(11)]
+        names = self.filters_of(self.child(given))[1].split()
+        self.assertEqual(names, sorted(names))
+        self.assertEqual([self.read(name) for name in names], given)
+
+    @here
+    def test_threads_that_differ(self):
+        """They have as many filters of as many instructions, and others: that is said, and one can be taken."""
+        child = self.child([OLDEST, NEWEST], [OLDEST, OTHER], [])
+        main, other, free = child.threads
+        self.assertEqual(self.filters_of(child), (
+            3, "", f"filters-of: the threads of process {main} don't have the same filters; thread {main}: 2 filters, "
+                   f"of 1, 4 instructions; thread {other}: 2 filters, of 1, 4 instructions; thread {free}: no filter; "
+                   f"--thread takes those of one\n"))
+        self.assertFalse(os.path.exists(os.path.join(self.folder, "out")))
+        self.assertEqual(self.filters_of(child, "--thread", str(other)), (0, "out/0.bpf\nout/1.bpf\n", ""))
+        self.assertEqual(self.read("out/1.bpf"), OTHER)
+        self.assertEqual(self.run_tool("filters-of", f"--thread={free}", str(main), "none"),
+                         (3, "", f"filters-of: thread {free} of process {main} has no filter\n"))
+        self.assertEqual(self.run_tool("filters-of", f"--thread={os.getpid()}", str(main), "none"),
+                         (3, "", f"filters-of: process {main} has no thread {os.getpid()}\n"))
+        self.runs_on(child)
+
+    @here
+    def test_a_thread_stands_for_its_process(self):
+        child = self.child([OLDEST], [NEWEST])
+        self.assertEqual(self.run_tool("filters-of", str(child.threads[1]), "out")[0], 3)
+
+    @here
+    def test_a_process_without_filters(self):
+        child = self.child([], [])
+        self.assertEqual(self.filters_of(child), (3, "", f"filters-of: process {child.pid} has no filter\n"))
+        self.assertFalse(os.path.exists(os.path.join(self.folder, "out")))
+        self.runs_on(child)
 
     @here
     def test_folders(self):
-        child = self.child(OLDEST)
+        child = self.child([OLDEST])
         pid = str(child.pid)
         self.file("held/7.bpf", b"old")
+        os.symlink("nothing", os.path.join(self.folder, "held/link"))
         for folder in ("held", self.file("file", b"")):
             status, out, err = self.run_tool("filters-of", pid, folder)
             self.assertEqual((status, out), (2, ""))
             self.assertIn(folder, err)
         status, _, err = self.run_tool("filters-of", pid, "/proc/nothing/is/made/here")
         self.assertEqual(status, 3)
-        self.assertNotIn("Traceback", err)
-        status, _, err = self.closed_output("filters-of", pid, "full")
-        self.assertEqual(status, 3)
-        self.assertIn("filters-of: the output: No space left", err)
-        self.is_let_go(child)
+        self.assertTrue(err.startswith("filters-of: '/proc/nothing"), err)
+        self.runs_on(child)
+
+    def test_no_file_is_written_over(self):
+        """Also where one comes behind the look at the folder; then none of the filters is left there."""
+        self.file("out/1.bpf", b"old")
+        with self.assertRaises(FileExistsError):
+            filters_of.write([OLDEST, NEWEST], os.path.join(self.folder, "out"))
+        self.assertEqual(glob.glob(os.path.join(self.folder, "out/*")), [os.path.join(self.folder, "out/1.bpf")])
+        self.assertEqual(self.read("out/1.bpf"), b"old")
+
+
+class VerifyProcess(Confined):
+    def verify(self, child, profile, *words):
+        status, out, err = self.run_tool("verify-process", *words, str(child.pid), self.file("p", profile))
+        self.assertEqual(err, "")
+        return status, out
+
+    def called(self, child):
+        with open(f"/proc/{child.pid}/comm", encoding="utf-8") as file:
+            return f"process {child.pid} ({file.read().strip()})"
 
     @here
-    @needs("--native")
-    def test_verify_process(self):
-        child = self.child(OLDEST, load(0) + jeq(1, 0, 1) + ret(ALLOW) + ret(ALLOW))
-        status, out, err = self.run_tool("verify-process", str(child.pid),
-                                         self.file("p", b'{"defaultAction":"SCMP_ACT_ALLOW"}'))
-        self.assertEqual((status, err), (0, ""))
-        with open(f"/proc/{child.pid}/comm", encoding="utf-8") as file:
-            name = file.read().strip()
-        self.assertEqual(out, f"same\n# process {child.pid} ({name}) has 2 filters, of 1, 4 instructions\n")
-        status, out, _ = self.run_tool("verify-process", str(child.pid), self.file("p", profile_of("read")))
+    def test_one_stack(self):
+        child = self.child([OLDEST, load(0) + jeq(1, 0, 1) + ret(ALLOW) + ret(ALLOW)])
+        status, out = self.verify(child, ALLOWS_ALL)
+        self.assertEqual((status, out.split("\n")[0]), (0, "same"))
+        self.assertEqual(comments(out)[-1], f"{self.called(child)} has 2 filters, of 1, 4 instructions")
+        status, out = self.verify(child, profile_of("read"))
         self.assertEqual(status, 1)
         self.assertTrue(out.startswith("differs\ncall nr "), out)
-        self.assertIn("# the filters answer ALLOW: the call is made\n", out)
+        self.assertIn("the filters answer ALLOW: the call is made", comments(out))
+        self.runs_on(child)
+
+    @here
+    def test_threads_that_differ(self):
+        """A thread of as many filters of as many instructions, which lets more through, is told, and first."""
+        kept, lax = refusing(MOUNT), refusing(UMOUNT2)
+        child = self.child([kept], [lax], [kept])
+        main, other, alike = child.threads
+        status, out = self.verify(child, refuses("mount"))
+        first, second = out.split("\n\n")
+        self.assertEqual((status, first.split("\n")[0], second.split("\n")[0]), (1, "differs", "same"))
+        self.assertEqual(comments(first)[-1],
+                         f"thread {other} of {self.called(child)} has 1 filter, of {len(lax) // 8} instructions")
+        self.assertEqual(comments(second)[-1], f"threads {main}, {alike} of {self.called(child)} have 1 filter, of "
+                                               f"{len(kept) // 8} instructions")
+        self.runs_on(child)
+
+    @here
+    def test_a_thread_without_a_filter(self):
+        child = self.child([refusing(MOUNT)], [])
+        status, out = self.verify(child, refuses("mount"))
+        first, second = out.split("\n\n")
+        self.assertEqual(status, 1)
+        self.assertEqual(first, f"# thread {child.threads[1]} of {self.called(child)} has no filter: it isn't "
+                                f"confined, and all calls are made")
+        self.assertTrue(second.startswith("same\n"), out)
+        self.runs_on(child)
+
+    @here
+    def test_all_threads_alike(self):
+        child = self.child([refusing(MOUNT)], [refusing(MOUNT)])
+        status, out = self.verify(child, refuses("mount"))
+        self.assertEqual((status, out.count("same\n"), comments(out)[-1]),
+                         (0, 1, f"{self.called(child)} has 1 filter, of 9 instructions, in each of its 2 threads"))
+
+    @here
+    def test_the_worst_status(self):
+        """Differs before unfinished before same; the blocks in that order, and what was skipped once."""
+        many = load(16) + b"".join(jeq(number, 59 - number, 0) for number in range(60)) + ret(ALLOW)
+        profile = refuses("riscv_flush_icache")
+        child = self.child([OLDEST], [many], [load(0) + jeq(MOUNT, 0, 1) + ret(EPERM) + ret(ALLOW)])
+        status, out = self.verify(child, profile, "--limit", "30")
+        self.assertEqual((status, [block.split("\n")[0] for block in out.split("\n\n")]),
+                         (1, ["differs", "unfinished", "same"]))
+        self.assertEqual(out.count("skipped riscv_flush_icache\n"), 1)
+        child = self.child([OLDEST], [many])
+        status, out = self.verify(child, profile, "--limit", "30")
+        self.assertEqual((status, [block.split("\n")[0] for block in out.split("\n\n")]), (4, ["unfinished", "same"]))
+
+    @here
+    def test_a_refused_profile_is_told_once(self):
+        child = self.child([refusing(MOUNT)], [refusing(UMOUNT2)], [])
+        status, out = self.verify(child, "{")
+        self.assertEqual((status, out.count("fault profile Json\n")), (1, 1))
+        self.assertIn("isn't confined", out)
+
+    @here
+    def test_strict_mode(self):
+        child = self.child([])
+        self.do(child, "library.prctl(22, 1, 0, 0, 0) or os.read(0, 1)")
+        until = time.monotonic() + 10
+        while status_of(child.pid)["Seccomp"] != "1" and time.monotonic() < until:
+            time.sleep(0.005)
+        self.assertEqual(self.verify(child, ALLOWS_ALL),
+                         (4, f"# {self.called(child)} has no filter, but the strict mode of seccomp(2)\n"))
+        self.assertEqual(self.run_tool("filters-of", str(child.pid), "out")[0], 3)
+
+    @here
+    def test_the_scope_and_foreign_calls(self):
+        """What isn't looked at is said, and whether some of it is let through."""
+        status, out = self.verify(self.child([refusing(MOUNT)]), refuses("mount"))
+        self.assertEqual(status, 0)
+        said = comments(out)
+        self.assertIn("looked at: native calls, those of x86-64 with numbers below 0x40000000; of the others, whether "
+                      "any is let through:", said)
+        self.assertIn("no call of another architecture and no x32 call is let through", said)
+        untested = load(0) + jeq(MOUNT, 0, 1) + ret(EPERM) + ret(ALLOW)
+        status, out = self.verify(self.child([untested]), refuses("mount", architectures=["SCMP_ARCH_X86_64",
+                                                                                         "SCMP_ARCH_X86"]))
+        said = comments(out)
+        self.assertEqual((status, out.split("\n")[0]), (0, "same"))
+        self.assertIn("i386 calls: some are let through, as number 0: ALLOW; the profile names SCMP_ARCH_X86, too",
+                      said)
+        self.assertIn("x32 calls: some are let through, as read (0x40000000 + 0): ALLOW", said)
+        logs_one = (load(4) + jeq(I386, 1, 0) + ret(ALLOW) + load(0) + jeq(3, 0, 1) + ret(0x7FFC0000)
+                    + ret(EPERM))
+        said = comments(self.verify(self.child([logs_one]), ALLOWS_ALL)[1])
+        self.assertIn("i386 calls: some are let through, as read (3): LOG", said)
+        self.assertIn("other architectures' calls: some are let through, as number 0 of 0x0: ALLOW", said)
+
+    @here
+    def test_named_calls_alone(self):
+        """A call that no name has makes no difference."""
+        child = self.child([refusing(MOUNT, 0x3FFFFFFF)])
+        self.assertEqual(self.verify(child, refuses("mount"))[0], 1)
+        status, out = self.verify(child, refuses("mount"), "--calls")
+        self.assertEqual((status, out.split("\n")[0]), (0, "same"))
+        self.assertIn("looked at: the native calls that the table names, each by itself; of foreign ones, whether any "
+                      "is let through:", comments(out))
+
+    @here
+    def test_json(self):
+        child = self.child([refusing(MOUNT)], [refusing(UMOUNT2)], [])
+        status, out = self.verify(child, refuses("mount", "umont2"), "--json")
+        found = json.loads(out)
+        self.assertEqual((status, found["status"], found["scope"], found["container"]), (1, 1, "native", None))
+        self.assertIn(found["verdict"], ("differs", "unconfined"))
+        by_thread = {stack["processes"][0]["threads"][0]: stack for stack in found["stacks"]}
+        main, other, free = child.threads
+        self.assertEqual({thread: stack["verdict"] for thread, stack in by_thread.items()},
+                         {main: "same", other: "differs", free: "unconfined"})
+        self.assertEqual(by_thread[other]["call"]["names"], ["umount2"])
+        self.assertEqual(by_thread[other]["filter"], {"action": "ERRNO", "data": 1})
+        self.assertEqual(by_thread[other]["profile"], {"action": "ALLOW", "data": 0})
+        self.assertEqual((by_thread[main]["skipped"], by_thread[main]["filters"]), (["umont2"], [9]))
+        self.assertEqual([kind["let_through"] for kind in by_thread[main]["foreign"]], [[], [], []])
+        self.assertEqual(by_thread[main]["processes"][0]["process"], child.pid)
+
+    @here
+    def test_a_name_of_a_stranger(self):
+        child = self.child([OLDEST])
+        self.do(child, r"library.prctl(15, b'\x1b[2J\nsame\r\xff'); print(1, flush=True)")
+        self.assertEqual(child.stdout.readline(), "1\n")
+        status, out = self.verify(child, ALLOWS_ALL)
+        self.assertEqual((status, comments(out)[-1]),
+                         (0, f"process {child.pid} (\\x1b[2J\\x0asame\\x0d\\xff) has 1 filter, of 1 instructions"))
+        self.assertNotIn("\x1b", out)
+
+    @here
+    def test_the_name_is_read_while_the_process_is_held(self):
+        child = self.child([OLDEST])
+        self.do(child, "import signal; library.prctl(15, b'before'); "
+                       "signal.signal(signal.SIGUSR1, lambda *_: library.prctl(15, b'behind')); print(1, flush=True)")
+        self.assertEqual(child.stdout.readline(), "1\n")
+        tree = self.made_tree(f"#!/bin/sh\ncat >/dev/null\nkill -USR1 {child.pid}\nsleep 0.2\necho same\n")
+        status, out, _ = self.run_words([f"{tree}/tools/verify-process", str(child.pid), self.file("p", ALLOWS_ALL)])
+        self.assertEqual((status, comments(out)[-1]),
+                         (0, f"process {child.pid} (before) has 1 filter, of 1 instructions"))
+        self.assertEqual(self.called(child), f"process {child.pid} (behind)")
 
 
-class FakeKernel:
-    """A kernel that keeps these filters, oldest first, and fails where it is told."""
+class Containers(Confined):
+    """--all, on a PID namespace, on a control group, and on a container of a runtime."""
 
-    def __init__(self, filters=(), fails=None, states=(0x80057F,), status=None):
-        self.filters = filters
-        self.fails = fails or {}
-        self.states = list(states)
-        self.status = status or {}
-        self.asked = []
+    def verify(self, pid, profile, *words):
+        return self.run_tool("verify-process", *words, str(pid), self.file("p", profile))
 
-    def ptrace(self, request, pid, place, data):
-        self.asked.append((request, pid, data if request == filters_of.PTRACE_DETACH else place))
-        if request in self.fails:
-            raise OSError(self.fails[request], os.strerror(self.fails[request]))
-        if request != filters_of.PTRACE_SECCOMP_GET_FILTER:
-            return 0
-        if place >= len(self.filters):
-            raise OSError(errno.ENOENT, "none")
-        if data is not None:
-            ctypes.memmove(data, self.filters[place], len(self.filters[place]))
-        return len(self.filters[place]) // 8
+    @here
+    def test_no_container(self):
+        child = self.child([OLDEST])
+        groups = processes.Kernel().groups_of(child.pid)
+        if any(groups.get(name, b"/") != b"/" for name in processes.HIERARCHIES):
+            self.skipTest("the tests run in a control group of their own")
+        status, out, err = self.verify(child.pid, ALLOWS_ALL, "--all")
+        self.assertEqual((status, out), (3, ""))
+        self.assertIn(f"process {child.pid} is in no container", err)
 
-    def wait(self, _):
-        if isinstance(self.states[0], int) or self.states[0] is None:
-            return self.states.pop(0) if len(self.states) > 1 else self.states[0]
-        raise self.states[0]
+    @here
+    @ROOT
+    def test_a_namespace(self):
+        if not shutil.which("unshare"):
+            self.skipTest("there is no unshare here")
+        kept, lax = (self.file(name, refusing(number)) for name, number in (("kept", MOUNT), ("lax", UMOUNT2)))
+        child = subprocess.Popen(["unshare", "--pid", "--fork", "--kill-child", sys.executable, "-c", CHILD, "[[]]"],
+                                 stdin=subprocess.PIPE, stdout=subprocess.PIPE, text=True)
+        self.addCleanup(ended, child)
+        if child.stdout.readline() != "1\n":
+            self.skipTest("no PID namespace can be made here")
+        first = processes.numbers_in(f"/proc/{child.pid}/task") and self.children(child.pid)[0]
+        if any(processes.Kernel().groups_of(first).get(name, b"/") != b"/" for name in processes.HIERARCHIES):
+            self.skipTest("the tests run in a control group of their own")
+        self.do(child, f"(os.fork() or (confine([{lax!r}]), time.sleep(1000))); confine([{kept!r}]); "
+                       f"print(2, flush=True)")
+        self.assertEqual(child.stdout.readline(), "2\n")
+        second = self.children(first)[0]
+        self.wait_for(second, "S")
+        status, out, err = self.verify(first, refuses("mount"), "--all")
+        self.assertEqual((status, err), (1, ""))
+        blocks = out.split("\n\n")
+        self.assertEqual([block.split("\n")[0] for block in blocks], ["differs", "same"])
+        self.assertIn(f"# process {second} (", blocks[0])
+        self.assertIn(f"# process {first} (", blocks[1])
+        self.assertEqual(comments(out)[-1], "the container is a PID namespace; processes of it that were looked at: 2")
+        found = json.loads(self.verify(first, refuses("mount"), "--all", "--json")[1])
+        self.assertEqual((found["status"], found["verdict"], found["container"]), (1, "differs", "a PID namespace"))
+        self.assertEqual([stack["processes"][0]["process"] for stack in found["stacks"]], [second, first])
+        self.assertEqual(self.verify(first, refuses("mount"))[0], 0)
 
-    def status_of(self, _):
-        return self.status
+    def children(self, pid):
+        with open(f"/proc/{pid}/task/{pid}/children", encoding="ascii") as file:
+            return [int(it) for it in file.read().split()]
+
+    @here
+    @ROOT
+    def test_a_control_group(self):
+        tops = ("/sys/fs/cgroup", "/sys/fs/cgroup/unified")
+        top = next((it for it in tops if os.path.exists(f"{it}/cgroup.procs")), None)
+        group = f"{top}/scf-test-{os.getpid()}"
+        children = [self.child([refusing(MOUNT)]), self.child([refusing(UMOUNT2)])]
+        try:
+            os.makedirs(f"{group}/inner")
+            for child, name in zip(children, (group, f"{group}/inner")):
+                with open(f"{name}/cgroup.procs", "w", encoding="ascii") as file:
+                    file.write(str(child.pid))
+        except (OSError, TypeError) as error:
+            self.skipTest(f"no control group can be made here: {error}")
+        finally:
+            self.addCleanup(self.without, children, group)
+        status, out, err = self.verify(children[0].pid, refuses("mount"), "--all")
+        self.assertEqual((status, err, [block.split("\n")[0] for block in out.split("\n\n")]),
+                         (1, "", ["differs", "same"]))
+        self.assertIn(f"/scf-test-{os.getpid()}; processes of it that were looked at: 2", comments(out)[-1])
+        status, out, err = self.verify(children[1].pid, refuses("umount2"), "--all")
+        self.assertEqual((status, out.split("\n")[0]), (0, "same"))
+        for child in children:
+            self.runs_on(child)
+
+    def without(self, children, group):
+        for child in children:
+            child.kill()
+            child.wait()
+        for name in (f"{group}/inner", group):
+            for _ in range(100):
+                try:
+                    os.rmdir(name)
+                    break
+                except FileNotFoundError:
+                    break
+                except OSError:
+                    time.sleep(0.02)
+
+    def started(self, runtime, profile):
+        """Why a runtime starts no container with this profile, or None where it runs."""
+        shutil.rmtree(os.path.join(self.folder, "box"), ignore_errors=True)
+        os.makedirs(os.path.join(self.folder, "box/rootfs/bin"))
+        os.makedirs(os.path.join(self.folder, "box/rootfs/proc"))
+        shutil.copy2(shutil.which("busybox"), os.path.join(self.folder, "box/rootfs/bin/busybox"))
+        where, name = os.path.join(self.folder, "box"), f"scf-test-{os.getpid()}"
+        subprocess.run([runtime, "spec"], cwd=where, check=True)
+        with open(os.path.join(where, "config.json"), encoding="utf-8") as file:
+            config = json.load(file)
+        config["process"].update(terminal=False, args=["busybox", "sleep", "1000"])
+        config["linux"]["seccomp"] = profile
+        self.file("box/config.json", json.dumps(config))
+        self.addCleanup(subprocess.run, [runtime, "delete", "--force", name], stderr=subprocess.DEVNULL, check=False)
+        with open(os.path.join(self.folder, "said"), "w+b") as said:
+            done = subprocess.run([runtime, "run", "--detach", "--pid-file", "pid", name], cwd=where, check=False,
+                                  stdin=subprocess.DEVNULL, stdout=said, stderr=said, timeout=60)
+            said.seek(0)
+            return f"{runtime}: {said.read().decode(errors='replace').strip()}" if done.returncode else None
+
+    def container(self, profile, *runtimes):
+        """The number of the process of a container that one of these runtimes starts with this profile."""
+        found = [it for it in runtimes if shutil.which(it)]
+        busybox = shutil.which("busybox")
+        if not found or not busybox:
+            self.skipTest(f"there is no {' and no '.join(runtimes)}, or no busybox, here")
+        said = []
+        for runtime in found:
+            why = self.started(runtime, profile)
+            if why is None:
+                with open(os.path.join(self.folder, "box/pid"), encoding="ascii") as file:
+                    return int(file.read())
+            said.append(why)
+        return self.skipTest(f"no container can be started here: {'; '.join(said)}")
+
+    @here
+    @ROOT
+    def test_a_container(self):
+        """A list of what is allowed: runc refuses newer calls by ENOSYS, and that comes first; more that differs is
+        told before it."""
+        with open(os.path.join(TOP, "tables", "x86_64.table"), encoding="ascii") as file:
+            names = [line.split() for line in file if line.strip() and not line.startswith("#")]
+        # the names that runc's library has known for long
+        allowed = [name for name, number in names if int(number) <= 334 or 424 <= int(number) <= 439]
+        allowed = [name for name in allowed if name not in ("mount", "ptrace")]
+        profile = {"defaultAction": "SCMP_ACT_ERRNO", "defaultErrnoRet": 1, "architectures": ["SCMP_ARCH_X86_64"],
+                   "syscalls": [{"names": allowed, "action": "SCMP_ACT_ALLOW"}]}
+        pid = self.container(profile, "runc")
+        status, out, err = self.verify(pid, json.dumps(profile))
+        self.assertEqual((status, err), (1, ""))
+        self.assertEqual(out.split("\n")[:4],
+                         ["differs", "call nr 440 arch 0xc000003e ip 0x0 args 0x0 0x0 0x0 0x0 0x0 0x0",
+                          "filter ERRNO 38", "profile ERRNO 1"])
+        fates, first = comments(out)[:2]
+        self.assertEqual(fates, "it lets through no more and no less than the profile, only by other answers")
+        self.assertTrue(first.startswith("only calls with greater numbers than all that the profile names are answered "
+                                         "otherwise, the first is process_madvise (440)"), first)
+        self.assertIn("# no call of another architecture and no x32 call is let through\n", out)
+        self.assertIn(f"# process {pid} (busybox) has 1 filter, of ", out)
+        profile["syscalls"][0]["names"] = [name for name in allowed if name != "chroot"] + ["mount"]
+        status, out, _ = self.verify(pid, json.dumps(profile))
+        self.assertEqual(status, 1)
+        said = comments(out)
+        self.assertEqual(said[0], "calls that the table names and that aren't answered as the profile says: 2")
+        self.assertEqual([line.split()[:2] for line in said[1:3]], [["161", "chroot"], ["165", "mount"]])
+        self.assertTrue(said[3].startswith("calls with greater numbers than all that the profile names"), said)
+        status, out, err = self.verify(pid, json.dumps(profile), "--all")
+        self.assertEqual((status, err), (1, ""))
+        self.assertIn("processes of it that were looked at: 1", out)
+
+    @here
+    @ROOT
+    def test_a_container_of_a_list_of_what_is_refused(self):
+        """Its own config.json is a profile, too."""
+        pid = self.container({"defaultAction": "SCMP_ACT_ALLOW", "architectures": ["SCMP_ARCH_X86_64"],
+                              "syscalls": [{"names": ["mount", "ptrace"], "action": "SCMP_ACT_ERRNO", "errnoRet": 1}]},
+                             "crun", "runc")
+        status, out, err = self.run_tool("verify-process", str(pid), os.path.join(self.folder, "box/config.json"))
+        self.assertEqual((status, err, out.split("\n")[0]), (0, "", "same"))
 
 
-class Kernel(Case):
-    """What the tool asks of a kernel, and what it says where the kernel refuses."""
-
-    def detached(self, kernel):
-        return [data for request, _, data in kernel.asked if request == filters_of.PTRACE_DETACH]
-
-    def refused(self, kernel, says):
-        with self.assertRaises(filters_of.Unreadable) as caught:
-            filters_of.filters_of(kernel, 7)
-        self.assertIn(says, str(caught.exception))
-
-    def test_filters_oldest_first(self):
-        kernel = FakeKernel([OLDEST, NEWEST, b""], states=[None, None, 0x80057F])
-        self.assertEqual(filters_of.filters_of(kernel, 7), [OLDEST, NEWEST, b""])
-        self.assertEqual([request for request, _, _ in kernel.asked[:2]],
-                         [filters_of.PTRACE_SEIZE, filters_of.PTRACE_INTERRUPT])
-        self.assertEqual(self.detached(kernel), [0])
-        self.assertEqual({pid for _, pid, _ in kernel.asked}, {7})
-
-    def test_a_signal_that_came_meanwhile_is_handed_on(self):
-        kernel = FakeKernel([OLDEST], states=[signal.SIGUSR1 << 8 | 0x7F])
-        filters_of.filters_of(kernel, 7)
-        self.assertEqual(self.detached(kernel), [signal.SIGUSR1])
-
-    def test_the_process_can_not_be_traced(self):
-        seize = filters_of.PTRACE_SEIZE
-        for fails, status, says in ((errno.ESRCH, {}, "there is no process 7"),
-                                    (errno.EPERM, {"TracerPid": "0"},
-                                     "can't be traced (Operation not permitted): run this as root"),
-                                    (errno.EPERM, {"TracerPid": "12"}, "is traced by process 12 already"),
-                                    (errno.EACCES, {}, "run this as root"),
-                                    (errno.EIO, {}, "can't be traced: ")):
-            kernel = FakeKernel([OLDEST], {seize: fails}, status=status)
-            self.refused(kernel, says)
-            self.assertEqual(self.detached(kernel), [])
-        kernel = FakeKernel([OLDEST], {filters_of.PTRACE_INTERRUPT: errno.ESRCH})
-        self.refused(kernel, "there is no process 7")
-        self.assertEqual(self.detached(kernel), [0])
-
-    def test_the_kernel_does_not_show_the_filters(self):
-        get = filters_of.PTRACE_SECCOMP_GET_FILTER
-        for fails, status, says in ((errno.EACCES, {}, "CAP_SYS_ADMIN"),
-                                    (errno.EINVAL, {"Seccomp": "0"}, "process 7 has no filter"),
-                                    (errno.EINVAL, {"Seccomp": "1"}, "strict mode"),
-                                    (errno.EINVAL, {"Seccomp": "2"}, "CONFIG_CHECKPOINT_RESTORE"),
-                                    (errno.EMEDIUMTYPE, {}, "filter 0 of process 7 isn't kept as classic BPF"),
-                                    (errno.EIO, {}, "doesn't show filters"),
-                                    (errno.ESRCH, {}, "ended meanwhile"),
-                                    (errno.EFAULT, {}, "filter 0 of process 7 can't be read")):
-            kernel = FakeKernel([OLDEST], {get: fails}, status=status)
-            self.refused(kernel, says)
-            self.assertEqual(self.detached(kernel), [0], says)
-
-    def test_no_filter_at_all(self):
-        self.assertEqual(filters_of.filters_of(FakeKernel([]), 7), [])
-
-    def test_the_process_ends_or_never_stops(self):
-        for states, says in (([0], "ended meanwhile"), ([9], "ended meanwhile"),
-                             ([ChildProcessError(errno.ECHILD, "none")], "ended meanwhile")):
-            kernel = FakeKernel([OLDEST], states=states)
-            self.refused(kernel, says)
-            self.assertEqual(self.detached(kernel), [0])
-        patience, filters_of.PATIENCE = filters_of.PATIENCE, 0
-        self.addCleanup(setattr, filters_of, "PATIENCE", patience)
-        self.refused(FakeKernel([OLDEST], {filters_of.PTRACE_DETACH: errno.ESRCH}, states=[None]),
-                     "didn't stop within")
-
-    def test_an_interruption_lets_the_process_go(self):
-        kernel = FakeKernel([OLDEST], states=[KeyboardInterrupt()])
-        with self.assertRaises(KeyboardInterrupt):
-            filters_of.filters_of(kernel, 7)
-        self.assertEqual(self.detached(kernel), [0])
+if __name__ == "__main__":
+    assert SCF
+    unittest.main()

@@ -1,0 +1,146 @@
+"""Foreign calls beside a comparison of native ones, which says nothing of them: whether filters let any through.
+
+A filter without a test of the architecture reads the number of an i386 call as if it were a native one; and x32 calls
+are of the native architecture, with numbers from 0x40000000 on. By each profile a foreign call is refused. So scf is
+asked whether the filters let through no more than a profile that allows every native call, behind an older filter that
+refuses all calls but those of one kind: what is said of a kind is said of all its calls. Where scf can't tell, some
+calls are tried by `scf decide`, and `none` is said of those alone.
+"""
+from __future__ import annotations
+
+from collections.abc import Iterator, Sequence
+from dataclasses import dataclass
+
+from . import bundles, program, verdicts
+from .answers import I386, MADE, X32, X86_64, Answer
+from .calls import Call
+from .filters import JEQ, JGE, JUMP, LOAD_WORD, RETURN_CONSTANT, instruction
+from .verdicts import MORE, NO_MORE
+
+AARCH64 = 0xC00000B7
+ALLOWS_NATIVE = b'{"defaultAction": "SCMP_ACT_ALLOW"}'
+ALLOWED, REFUSED = (instruction(RETURN_CONSTANT, Answer(action, 0).word) for action in ("ALLOW", "KILL_PROCESS"))
+# struct seccomp_data in linux/seccomp.h
+NUMBER, ARCHITECTURE = instruction(LOAD_WORD, 0), instruction(LOAD_WORD, 4)
+NONE = "no call of another architecture and no x32 call is let through"
+
+
+def jump(test: int, k: int, if_true: int, if_false: int) -> bytes:
+    return instruction(JUMP | test, k, if_true, if_false)
+
+
+@dataclass(frozen=True)
+class Kind:
+    """Foreign calls of one kind: what they are, an architecture of theirs, its OCI name, some of them by name, and the
+    filter that allows them alone."""
+
+    name: str
+    architecture: int
+    profile_name: str | None
+    calls: tuple[tuple[str, int], ...]
+    alone: bytes
+
+    def told(self, number: int) -> str:
+        """What a call is called."""
+        name = next((name for name, one in self.calls if one == number), None)
+        shown = f"0x40000000 + {number - X32}" if self.architecture == X86_64 else str(number)
+        return f"{name} ({shown})" if name else f"number {shown}"
+
+
+# arch/x86/entry/syscalls/syscall_32.tbl, the x32 rows of syscall_64.tbl, and include/uapi/asm-generic/unistd.h.
+KINDS = (
+    Kind("i386", I386, "SCMP_ARCH_X86",
+         (("read", 3), ("write", 4), ("open", 5), ("execve", 11), ("ptrace", 26), ("mount", 21), ("socketcall", 102),
+          ("clone", 120), ("mmap2", 192), ("openat", 295), ("socket", 359), ("clone3", 435)),
+         ARCHITECTURE + jump(JEQ, I386, 0, 1) + ALLOWED + REFUSED),
+    Kind("x32", X86_64, "SCMP_ARCH_X32",
+         tuple((name, X32 + number) for name, number in (
+             ("read", 0), ("write", 1), ("open", 2), ("mmap", 9), ("socket", 41), ("clone", 56), ("mount", 165),
+             ("openat", 257), ("clone3", 435), ("execve", 520), ("ptrace", 521))),
+         ARCHITECTURE + jump(JEQ, X86_64, 0, 2) + NUMBER + jump(JGE, X32, 1, 0) + REFUSED + ALLOWED),
+    Kind("other architectures'", AARCH64, None,
+         (("mount", 40), ("openat", 56), ("read", 63), ("write", 64), ("ptrace", 117), ("socket", 198), ("clone", 220),
+          ("execve", 221), ("clone3", 435)),
+         ARCHITECTURE + jump(JEQ, X86_64, 1, 0) + jump(JEQ, I386, 0, 1) + REFUSED + ALLOWED),
+)
+
+
+@dataclass(frozen=True)
+class Proved:
+    """What scf says of all calls of a kind: that none is let through, or one that is, with its answer."""
+
+    kind: Kind
+    call: Call | None = None
+    answer: Answer | None = None
+
+    @property
+    def lets_none_through(self) -> bool:
+        return self.call is None
+
+    def told(self) -> str:
+        if self.call is None or self.answer is None:
+            return f"{self.kind.name} calls: none is let through"
+        which = "some are let through" if self.answer.fate == MADE else "not all are refused"
+        called = self.kind.told(self.call.number)
+        if self.kind.architecture == AARCH64 != self.call.architecture:
+            called = f"number {self.call.number} of {self.call.architecture:#x}"
+        return f"{self.kind.name} calls: {which}, as {called}: {self.answer}"
+
+    def as_json(self) -> dict[str, object]:
+        shown = [] if self.call is None or self.answer is None else [
+            {"number": self.call.number, "architecture": hex(self.call.architecture), "answer": self.answer.as_json()}]
+        return {"kind": self.kind.name, "is_decided": True, "let_through": shown}
+
+
+@dataclass(frozen=True)
+class Tried:
+    """The calls of a kind that filters let through, of those that were tried, with their answers."""
+
+    kind: Kind
+    let_through: tuple[tuple[str, int, Answer], ...]
+
+    def told(self) -> str:
+        count, calls = len(self.kind.calls), f"{self.kind.name} calls: it wasn't decided whether any is let through;"
+        if not self.let_through:
+            return f"{calls} none of {count} that were tried is"
+        which = f"{len(self.let_through)} of {count}" if len(self.let_through) < count else f"all {count}"
+        _, number, answer = self.let_through[0]
+        verb = "is" if len(self.let_through) == 1 else "are"
+        return f"{calls} {which} that were tried {verb}, as {self.kind.told(number)}: {answer}"
+
+    def as_json(self) -> dict[str, object]:
+        return {"kind": self.kind.name, "is_decided": False, "tried": len(self.kind.calls),
+                "let_through": [{"name": name, "number": number, "answer": answer.as_json()}
+                                for name, number, answer in self.let_through]}
+
+
+def _proved(filters: Sequence[bytes], kind: Kind, limit: str | None) -> Proved | None:
+    """What scf says of all calls of a kind, or None where it can't tell."""
+    words = ["compare", "--no-more", *(["--limit", limit] if limit is not None else [])]
+    done = program.scf(words, bundles.of_comparison([kind.alone, *filters], ALLOWS_NATIVE, b""))
+    verdict = verdicts.report(done.text).verdict
+    if verdict is None:
+        return None
+    if verdict.word == NO_MORE:
+        return Proved(kind)
+    return Proved(kind, verdict.call, verdict.filters) if verdict.word == MORE and verdict.call else None
+
+
+def _tried(filters: Sequence[bytes], kind: Kind) -> Tried | None:
+    """What filters answer to some calls of a kind, or None where scf refuses the filters."""
+    given = bundles.of_stack(filters)
+    found = []
+    for name, number in kind.calls:
+        done = program.scf(["decide", *Call(number, kind.architecture).words()], given)
+        answer = verdicts.decision(done.text).answer
+        if answer is None:
+            return None
+        if answer.lets_through:
+            found.append((name, number, answer))
+    return Tried(kind, tuple(found))
+
+
+def let_through(filters: Sequence[bytes], limit: str | None = None) -> list[Proved | Tried]:
+    """Whether filters, oldest first, let foreign calls through: of each kind; nothing where scf refuses them."""
+    found = (_proved(filters, kind, limit) or _tried(filters, kind) for kind in KINDS)
+    return [one for one in found if one is not None]

@@ -1,0 +1,149 @@
+"""The filters of processes beside a profile: a verdict for each distinct stack, and the threads that have it."""
+from __future__ import annotations
+
+from collections.abc import Iterator, Sequence
+from dataclasses import dataclass, replace
+
+from . import comparing, foreign, output, program, verdicts
+from .comparing import Comparison
+from .filters import Filter
+from .processes import Found, Stack, threads_told
+from .tables import Table
+from .verdicts import Report
+
+# The statuses of the blocks, the worst first: a call that differs or a thread without a filter before what failed,
+# before what couldn't be told.
+WORST_FIRST = (program.REFUSED, program.WRONG_WORDS, program.FAILED, program.UNKNOWN, program.WELL)
+# What faults are of that no stack is the cause of.
+OF_ALL = ("profile", "table", "number", "command", "input")
+SCOPES = {comparing.NATIVE: "looked at: native calls, those of x86-64 with numbers below 0x40000000; of the others, "
+                            "whether any is let through:",
+          comparing.CALLS: "looked at: the native calls that the table names, each by itself; of foreign ones, "
+                           "whether any is let through:"}
+
+
+@dataclass
+class Block:
+    """A distinct stack, and what is said of it. Without filters there is nothing to compare."""
+
+    stack: Stack
+    status: int
+    comparison: Comparison | None = None
+    report: Report | None = None
+
+    @property
+    def is_of_all(self) -> bool:
+        """Whether it is a fault that each stack would have."""
+        return bool(self.report and self.report.fault and self.report.fault.source in OF_ALL)
+
+
+@dataclass(frozen=True)
+class Asked:
+    """What is asked of each stack."""
+
+    profile: bytes
+    table: Table
+    limit: str | None
+    scope: str
+    relation: str = verdicts.SAME
+
+
+def judged(stack: Stack, asked: Asked) -> Block:
+    if not stack.filters:
+        # the strict mode allows four calls, which no profile says
+        return Block(stack, program.UNKNOWN if stack.is_strict else program.REFUSED)
+    filters = [Filter(f"filter {at}", data) for at, data in enumerate(stack.filters)]
+    comparison = Comparison(filters, asked.profile, asked.table, asked.limit, asked.relation)
+    status, report = comparison.run(asked.scope)
+    return Block(stack, status, comparison, report)
+
+
+def blocks(found: Found, asked: Asked) -> list[Block]:
+    """A block for each distinct stack, the worst first; a fault that each would have is said once."""
+    made: list[Block] = []
+    for stack in found.stacks:
+        if stack.filters and any(block.is_of_all for block in made):
+            continue
+        made.append(judged(stack, asked))
+    return sorted(made, key=lambda it: WORST_FIRST.index(it.status) if it.status in WORST_FIRST else -1)
+
+
+def worst(made: Sequence[Block]) -> int:
+    return made[0].status
+
+
+def _called(process: int, found: Found) -> str:
+    return f"process {process} ({output.escaped(found.names[process])})"
+
+
+def of_threads(stack: Stack, found: Found) -> Iterator[str]:
+    """Which threads have a stack: a line for each process."""
+    for process, threads in stack.threads.items():
+        who, count = _called(process, found), sum(len(it.threads.get(process, ())) for it in found.stacks)
+        if len(threads) < count:
+            line = f"{threads_told(threads)} of {who} {'have' if len(threads) > 1 else 'has'} {stack.told}"
+        else:
+            line = f"{who} has {stack.told}" + (f", in each of its {count} threads" if count > 1 else "")
+        if not stack.filters and not stack.is_strict:
+            line += ": they aren't confined" if len(threads) > 1 else ": it isn't confined"
+            line += ", and all calls are made"
+        yield line
+
+
+def of_foreign(block: Block, scope: str) -> Iterator[str]:
+    """What the scope doesn't cover, and whether calls outside of it are let through."""
+    if block.comparison is None or block.report is None or block.report.verdict is None:
+        return
+    others, found = block.report.architectures, foreign.let_through(block.stack.filters, block.comparison.limit)
+    if found:
+        yield SCOPES[scope]
+    if found and all(isinstance(one, foreign.Proved) and one.lets_none_through for one in found):
+        yield foreign.NONE
+        return
+    for one in found:
+        yield one.told() + f"; the profile names {one.kind.profile_name}, too" * (one.kind.profile_name in others)
+
+
+def lines(made: Sequence[Block], found: Found, scope: str) -> Iterator[str]:
+    """What is printed: scf's lines of each block, and behind them what is added, marked by `# `."""
+    is_told = False
+    for at, block in enumerate(made):
+        if at:
+            yield ""
+        comparison, report = block.comparison, block.report
+        if comparison is not None and report is not None:
+            if is_told:
+                report = replace(report, skipped=(), architectures=())
+            is_told = is_told or report.verdict is not None
+            yield from report.printed
+            yield from (f"# {line}" for line in comparing.added(comparison, report, scope))
+            yield from (f"# {line}" for line in of_foreign(block, scope))
+        yield from (f"# {line}" for line in of_threads(block.stack, found))
+    for process, why in found.passed_over.items():
+        yield f"# process {process} isn't looked at: it {why}"
+
+
+def _threads_json(stack: Stack, found: Found) -> list[dict[str, object]]:
+    return [{"process": process, "name": output.escaped(found.names[process]), "threads": threads}
+            for process, threads in stack.threads.items()]
+
+
+def _block_json(block: Block, found: Found, scope: str) -> dict[str, object]:
+    own: dict[str, object] = {"status": block.status}
+    if block.comparison is not None and block.report is not None:
+        own = comparing.as_json(block.comparison, block.report, scope, block.status)
+        if block.report.verdict is not None:
+            own["foreign"] = [one.as_json()
+                              for one in foreign.let_through(block.stack.filters, block.comparison.limit)]
+    else:
+        own["verdict"] = "strict" if block.stack.is_strict else "unconfined"
+    return {**own, "filters": [len(data) // 8 for data in block.stack.filters],
+            "processes": _threads_json(block.stack, found)}
+
+
+def as_json(made: Sequence[Block], found: Found, scope: str, container: str | None) -> dict[str, object]:
+    """All that `lines` says, as one object, and the container: the verdict is that of the worst stack."""
+    stacks = [_block_json(block, found, scope) for block in made]
+    return {"status": worst(made), "scope": scope, "verdict": stacks[0].get("verdict"), "container": container,
+            "stacks": stacks,
+            "passed_over": [{"process": process, "why": why} for process, why in found.passed_over.items()]}
