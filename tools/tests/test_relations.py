@@ -1,0 +1,383 @@
+"""--no-more and --no-less, by scf and by its tools: verdicts over small filters and profiles, held against another
+machine's answers to each call at which something can change; and foreign calls."""
+import itertools
+import json
+import os
+import re
+import sys
+
+from common import (ALLOW, EPERM, I386, KILL_PROCESS, KILL_THREAD, SCF, TABLE, TOP, X86_64, Case, filter_of, insn, jeq,
+                    jge, load, needs, part, ret)
+from confined import Confined, here
+from stand_in import StandIn
+
+sys.path.append(os.path.join(TOP, "tools"))
+
+from scftools import answers, calls, foreign, kernel_profiles, tables  # noqa: E402
+
+READ, WRITE, SOCKET, GETPID, EXIT_GROUP = 0, 1, 41, 39, 231
+ENOSYS, TRAP, USER_NOTIF, TRACE, LOG = 0x00050026, 0x00030000, 0x7FC00000, 0x7FF00000, 0x7FFC0000
+X32 = 0x40000000
+# Numbers on both sides of all that the filters and profiles here test, of x86-64 and of other architectures.
+NUMBERS = (0, 1, 2, 39, 40, 41, 42, 43, 231, 449, 450, X32 - 1, X32, X32 + 1, 0xFFFFFFFF)
+ARCHITECTURES = (X86_64, I386, 0xC00000B7, 0)
+ARGUMENTS = (0, 1, 39, 40, 41, (1 << 32) + 40, (1 << 64) - 1)
+RELATIONS = {"same": [], "no more": ["--no-more"], "no less": ["--no-less"]}
+FAILS = {"same": "differs", "no more": "more", "no less": "less"}
+SCOPES = {"all": [], "native": ["--native"], "calls": ["--calls"]}
+# The names that the profiles have, which kernel_profiles reads by a table of its own.
+NAMES = {"read": READ, "write": WRITE, "socket": SOCKET, "getpid": GETPID, "exit_group": EXIT_GROUP}
+
+
+def degree(answer):
+    """How far an answer lets a call through: 0 refused, 1 referred, 2 made; by its high half, which has a sign."""
+    high = answer >> 16
+    if high >= 0x8000 or high <= 0x0005:
+        return 0
+    return 1 if high < 0x7FFC else 2
+
+
+def related(relation, one, other):
+    return {"same": one == other, "no more": degree(one) <= degree(other),
+            "no less": degree(one) >= degree(other)}[relation]
+
+
+# Calls on both sides of each test of a filter or a profile here.
+CORNERS = [calls.Call(number, architecture, 0, (argument, 0, 0, 0, 0, 0))
+           for architecture, number, argument in itertools.product(ARCHITECTURES, NUMBERS, ARGUMENTS)]
+
+
+def is_in(scope, call):
+    return scope == "all" or call.is_native and (scope == "native" or call.number in NAMES.values())
+
+
+def word(printed):
+    return answers.Answer.read(printed).word
+
+
+def gate(native, foreign_answer=KILL_PROCESS):
+    """The filter that answers foreign calls so, and native ones as another one."""
+    return (load(4) + jeq(X86_64, 1, 0) + ret(foreign_answer) + load(0) + jge(X32, 0, 1) + ret(foreign_answer)
+            + native)
+
+
+def one_number(number, answer, other):
+    return gate(jeq(number, 0, 1) + ret(answer) + ret(other))
+
+
+def profile(*entries, default="SCMP_ACT_ERRNO"):
+    return json.dumps({"defaultAction": default, "syscalls": [
+        {"names": [name], "action": f"SCMP_ACT_{action}", **more} for name, action, more in entries]}).encode()
+
+
+NOT_40 = {"args": [{"index": 0, "value": 40, "op": "SCMP_CMP_NE"}]}
+ALLOWS_READ = profile(("read", "ALLOW", {}))
+ALLOWS = profile(default="SCMP_ACT_ALLOW")
+RULES = profile(("read", "ALLOW", {}), ("socket", "ALLOW", NOT_40))
+# socket with another first argument than 40, of all 64 bits
+SOCKETS = (load(16) + jeq(40, 0, 2) + load(20) + jeq(0, 1, 0) + ret(ALLOW) + ret(EPERM))
+RULED = gate(jeq(READ, 8, 0) + jeq(SOCKET, 0, 6) + SOCKETS + ret(EPERM) + ret(ALLOW))
+# Filters and profiles: for each a name, the filters from the oldest on, the profile, and the verdict of each relation
+# over all calls, as people expect it; the rest is worked out.
+PAIRS = {
+    "what the profile says": ([filter_of([READ])], ALLOWS_READ, ("same", "no more", "no less")),
+    "a thread is ended for foreign calls": ([filter_of([READ], foreign=KILL_THREAD)], ALLOWS_READ,
+                                            ("differs", "no more", "no less")),
+    "an ENOSYS stub": ([load(0) + jge(450, 0, 1) + ret(ENOSYS) + filter_of([READ])], ALLOWS_READ,
+                       ("differs", "no more", "no less")),
+    "a rule is dropped": ([gate(jeq(READ, 0, 1) + ret(ALLOW) + ret(EPERM))], RULES, ("differs", "no more", "less")),
+    "a condition is kept": ([RULED], RULES, ("same", "no more", "no less")),
+    "a condition is dropped": ([filter_of([READ, SOCKET])], RULES, ("differs", "more", "no less")),
+    "a condition of 32 bits": ([gate(jeq(READ, 5, 0) + jeq(SOCKET, 0, 3) + load(16) + jeq(40, 1, 0) + ret(ALLOW)
+                                     + ret(EPERM) + ret(ALLOW))], RULES, ("differs", "no more", "less")),
+    "one more and one less": ([filter_of([WRITE])], ALLOWS_READ, ("differs", "more", "less")),
+    "one lets more through": ([filter_of([READ, WRITE])], ALLOWS_READ, ("differs", "more", "no less")),
+    "only both together": ([filter_of([READ, WRITE]), filter_of([READ, SOCKET])], ALLOWS_READ,
+                           ("same", "no more", "no less")),
+    "both together too little": ([filter_of([READ]), filter_of([WRITE])], ALLOWS_READ, ("differs", "no more", "less")),
+    "foreign calls are made": ([filter_of([READ], foreign=ALLOW)], ALLOWS_READ, ("differs", "more", "no less")),
+    "foreign calls are referred": ([filter_of([READ], foreign=TRACE)], ALLOWS_READ, ("differs", "more", "no less")),
+    "all is refused": ([ret(KILL_PROCESS)], ALLOWS, ("differs", "no more", "less")),
+    "no native call is refused": ([gate(ret(ALLOW))], profile(("read", "LOG", {}), default="SCMP_ACT_ALLOW"),
+                                  ("differs", "no more", "no less")),
+}
+# Answers on both sides of each border, and what the profile's answers are: ERRNO, USER_NOTIF, TRACE, LOG and ALLOW.
+EACH = (KILL_PROCESS, 0x80000001, 0xFFFF0000, KILL_THREAD, 0x00020000, TRAP, 0x00040007, EPERM, ENOSYS, 0x00060000,
+        0x7FBF0000, USER_NOTIF, TRACE, 0x7FFB0000, LOG, 0x7FFD0000, ALLOW)
+PROFILES = {"ERRNO": EPERM, "KILL_PROCESS": KILL_PROCESS, "TRAP": TRAP, "NOTIFY": USER_NOTIF, "TRACE": TRACE | 1,
+            "LOG": LOG, "ALLOW": ALLOW}
+
+
+class Relations(Case):
+    """scf's verdicts beside those of a second machine and a second reading of profiles."""
+
+    def setUp(self):
+        super().setUp()
+        self.table = b"".join(f"{name} {number}\n".encode() for name, number in NAMES.items())
+        self.known = {}
+        held, kernel_profiles.TABLE = kernel_profiles.TABLE, NAMES
+        self.addCleanup(setattr, kernel_profiles, "TABLE", held)
+
+    def says(self, filters, given, *options):
+        """The status and the lines of scf."""
+        bundle = b"".join(part("filter", it) for it in filters) + part("profile", given) + part("table", self.table)
+        status, out, err = self.run_words([SCF, "compare", *options], bundle)
+        self.assertEqual(err, "")
+        return status, out.split("\n")[:-1]
+
+    def both(self, filters, given, call):
+        """The answers to a call, of filters and of a profile, as numbers."""
+        return word(StandIn().decide(filters, call)), kernel_profiles.answer_of(given, call).word
+
+    def at_corners(self, filters, given):
+        """Each corner with both answers, which are worked out once."""
+        key = (tuple(filters), given)
+        if key not in self.known:
+            self.known[key] = [(call, self.both(filters, given, call)) for call in CORNERS]
+        return self.known[key]
+
+    def expected(self, filters, given, relation, scope):
+        """The verdict, by the answers at the corners."""
+        holds = all(related(relation, *both) for call, both in self.at_corners(filters, given) if is_in(scope, call))
+        return relation if holds else FAILS[relation]
+
+    def judged(self, filters, given, relation, scope):
+        """Holds scf's verdict against the one that is worked out, and the call that it shows against both answers."""
+        expected = self.expected(filters, given, relation, scope)
+        status, lines = self.says(filters, given, *SCOPES[scope], *RELATIONS[relation])
+        self.assertEqual((status, lines[0]), (int(expected != relation), expected))
+        if expected == relation:
+            self.assertEqual(len(lines), 1)
+        elif scope != "calls":
+            call = calls.Call.read(lines[1])
+            self.assertTrue(scope == "all" or call.is_native)
+            shown = [word(line.partition(" ")[2]) for line in lines[2:4]]
+            self.assertEqual(shown, list(self.both(filters, given, call)))
+            self.assertFalse(related(relation, *shown))
+        else:
+            failing = {call.number for call, both in self.at_corners(filters, given)
+                       if is_in(scope, call) and not related(relation, *both)}
+            self.assertEqual([line.split()[0] for line in lines[1:]], [str(number) for number in sorted(failing)])
+            self.assertEqual({line.split()[2] for line in lines[1:]}, {expected})
+        return expected
+
+    @needs("--no-more")
+    def test_pairs(self):
+        """Each pair over each scope, and as its row says over all calls."""
+        for name, (filters, given, row) in PAIRS.items():
+            for scope in SCOPES:
+                with self.subTest(name=name, scope=scope):
+                    found = tuple(self.judged(filters, given, relation, scope) for relation in RELATIONS)
+                    if scope == "all":
+                        self.assertEqual(found, row)
+
+    def test_each_answer(self):
+        """Every kind of answer, unnamed ones at both borders, beside each action of a profile."""
+        for (action, default), answer in itertools.product(PROFILES.items(), EACH):
+            given = profile(default=f"SCMP_ACT_{action}")
+            self.assertEqual(kernel_profiles.answer_of(given, calls.Call(0)).word, default)
+            for relation in ("no more", "no less"):
+                with self.subTest(action=action, answer=hex(answer), relation=relation):
+                    self.judged([gate(ret(answer))], given, relation, "all")
+
+    def test_one_alone_lets_more_through(self):
+        """Of the stack that holds only together, neither filter does by itself."""
+        for one in PAIRS["only both together"][0]:
+            self.assertEqual(self.judged([one], ALLOWS_READ, "no more", "all"), "more")
+
+    def test_both_flags(self):
+        for options in (["--no-more", "--no-less"], ["--no-less", "--no-more", "--native"]):
+            self.assertEqual(self.says([ret(ALLOW)], ALLOWS, *options), (2, ["fault command Flags"]))
+
+    def test_a_limit(self):
+        for relation in RELATIONS.values():
+            self.assertEqual(self.says([filter_of([READ])], ALLOWS_READ, *relation, "--limit", "0"),
+                             (4, ["unfinished"]))
+
+
+class Fates(Case):
+    def test_each_answer(self):
+        """What becomes of a call, as the tools say it."""
+        for answer in EACH:
+            printed = answers.Answer.read(StandIn().printed(answer))
+            self.assertEqual(printed.fate, ("refused", "referred to a supervisor or tracer", "made")[degree(answer)],
+                             hex(answer))
+        self.assertEqual([answers.Answer.read(it).fate for it in ("ERRNO 65535", "USER_NOTIF 0", "TRACE 9", "LOG 0")],
+                         ["refused", *["referred to a supervisor or tracer"] * 2, "made"])
+
+
+class Compare(Case):
+    """tools/compare with both flags."""
+
+    def compare(self, filters, given, *options):
+        names = [self.file(f"{at}.bpf", data) for at, data in enumerate(filters)]
+        status, out, err = self.run_tool("compare", *options, *names, self.file("p.json", given))
+        self.assertEqual(err, "")
+        return status, out.split("\n")[:-1]
+
+    def test_no_more_and_no_less(self):
+        for words in (["--no-more"], ["--no-more", "--native"], ["--no-more", "--calls"]):
+            self.assertEqual(self.compare([filter_of([READ])], ALLOWS_READ, *words), (0, ["no more"]))
+        self.assertEqual(self.compare([filter_of([READ, WRITE])], ALLOWS_READ, "--no-less"), (0, ["no less"]))
+
+    def test_what_becomes_of_the_call(self):
+        status, lines = self.compare([filter_of([READ, WRITE])], ALLOWS_READ, "--no-more")
+        self.assertEqual((status, lines[:9]), (1, [
+            "more", "call nr 1 arch 0xc000003e ip 0x0 args 0x0 0x0 0x0 0x0 0x0 0x0", "filter ALLOW 0",
+            "profile ERRNO 1", "# the call is write (1)", "# the filter answers ALLOW: the call is made",
+            "# the profile answers ERRNO 1: the call isn't made, and fails with EPERM",
+            "# by the filter the call is made, by the profile it is refused", "# by the default"]))
+        status, lines = self.compare([one_number(WRITE, TRACE, ALLOW), ret(ALLOW)], ALLOWS, "--no-less", "--native")
+        self.assertEqual((status, lines[0]), (1, "less"))
+        self.assertIn("# by the filters the call is referred to a supervisor or tracer, by the profile it is made",
+                      lines)
+        self.assertEqual(lines[-2:], [
+            "# calls that the table names and that are let through less far than by the profile: 1",
+            "# 1 write less args 0x0 0x0 0x0 0x0 0x0 0x0 filter TRACE 0 profile ALLOW 0"])
+
+    def test_native_calls_without_a_name(self):
+        """400 has none."""
+        _, lines = self.compare([filter_of([READ, 400])], ALLOWS_READ, "--no-more", "--native")
+        self.assertEqual(lines[-1], "# no calls that the table names are among those that are let through further "
+                                    "than by the profile")
+
+    def test_calls_by_name(self):
+        status, lines = self.compare([filter_of([READ, WRITE])], ALLOWS_READ, "--no-more", "--calls")
+        self.assertEqual((status, lines), (1, [
+            "more", "1 write more args 0x0 0x0 0x0 0x0 0x0 0x0 filter ALLOW 0 profile ERRNO 1"]))
+
+    def test_the_first_line_behind_a_difference(self):
+        """Over each scope; not where more is let through, and not where it isn't told."""
+        refuses = "refuses more, and lets nothing through that the profile refuses"
+        lets = "lets through no more and no less than the profile, only by other answers"
+        for name, said in (("a rule is dropped", f"it {refuses}"),
+                           ("both together too little", "they refuse more, and let nothing through that the profile "
+                                                        "refuses"),
+                           ("a thread is ended for foreign calls", f"it {lets}"), ("an ENOSYS stub", f"it {lets}"),
+                           ("all is refused", f"it {refuses}"), ("no native call is refused", f"it {lets}")):
+            filters, given, _ = PAIRS[name]
+            for scope in ([], ["--native"], ["--calls"]):
+                status, lines = self.compare(filters, given, *scope)
+                if status == 0:
+                    continue
+                first = next(line for line in lines if line.startswith("# "))
+                prefix = "of the calls that the table names: " if scope == ["--calls"] else ""
+                self.assertEqual(first, f"# {prefix}{said}", (name, scope))
+        for name in ("one more and one less", "one lets more through", "foreign calls are made"):
+            filters, given, _ = PAIRS[name]
+            lines = self.compare(filters, given)[1]
+            self.assertFalse([line for line in lines if re.search("no more|refuses? more|nothing through", line)],
+                             name)
+        self.assertIn("# it refers more to a supervisor or tracer, and lets nothing through that the profile refuses",
+                      self.compare([one_number(WRITE, USER_NOTIF, ALLOW)], ALLOWS)[1])
+
+    def test_json(self):
+        filters, given, _ = PAIRS["a rule is dropped"]
+        names = [self.file(f"{at}.bpf", data) for at, data in enumerate(filters)]
+
+        def found(*words):
+            return json.loads(self.run_tool("compare", "--json", *words, *names, self.file("p.json", given))[1])
+
+        plain = found()
+        self.assertEqual([plain[it] for it in ("status", "verdict", "no_more", "no_less")],
+                         [1, "differs", "no more", "less"])
+        self.assertNotIn("relation", plain)
+        for words, status, relation, verdict in ((["--no-more"], 0, "no more", "no more"),
+                                                 (["--no-less", "--native"], 1, "no less", "less")):
+            told = found(*words)
+            self.assertEqual((told["status"], told["relation"], told["verdict"]), (status, relation, verdict))
+            self.assertNotIn("no_more", told)
+        self.assertEqual([(one["number"], one["verdict"]) for one in told["calls"]], [(SOCKET, "less")])
+
+    def test_both_flags(self):
+        for name, words in (("compare", ["f", "p"]), ("verify-process", ["1", "p"])):
+            status, out, err = self.run_tool(name, "--no-more", "--no-less", *words)
+            self.assertEqual((status, out), (2, ""))
+            self.assertIn("not allowed with argument", err)
+
+    def test_explain(self):
+        with open(TABLE, "rb") as file:
+            given = part("filter", filter_of([WRITE])) + part("profile", ALLOWS) + part("table", file.read())
+        status, out, _ = self.run_tool("explain", "compare", "--no-less", "--native", given=given)
+        self.assertEqual((status, out.split("\n")[0]), (1, "less"))
+        self.assertTrue(out.endswith("# by the filter the call is refused, by the profile it is made\n"), out)
+
+
+class Foreign(Case):
+    """Foreign calls of each kind, beside the answers of a second machine."""
+
+    def test_each_kind(self):
+        """The filters of the pairs and some more: a call of the kind is shown exactly where one isn't refused."""
+        given = [filters for filters, _, _ in PAIRS.values()]
+        for kind in foreign.KINDS:
+            given.append([kind.alone])
+            given.append([load(0) + jeq(43, 0, 1) + ret(LOG) + ret(EPERM), kind.alone])
+        given += [[filter_of([READ], foreign=answer)] for answer in EACH]
+        for filters in given:
+            for kind, found in zip(foreign.KINDS, foreign.let_through(filters)):
+                self.assertIsInstance(found, foreign.Proved)
+                through = [call for call in CORNERS if self.is_of(kind, call)
+                           and degree(word(StandIn().decide(filters, call)))]
+                self.assertEqual(found.lets_none_through, not through, (kind.name, filters))
+                if through:
+                    self.assertTrue(self.is_of(kind, found.call), found)
+                    answered = StandIn().decide(filters, found.call)
+                    self.assertEqual(found.answer, answers.Answer.read(answered))
+
+    def is_of(self, kind, call):
+        if call.architecture == X86_64:
+            return kind.name == "x32" and call.number >= X32
+        return kind.name == ("i386" if call.architecture == I386 else "other architectures'")
+
+    def test_told(self):
+        told = [one.told() for one in foreign.let_through([ret(TRACE)])]
+        self.assertEqual(told, ["i386 calls: not all are refused, as number 0: TRACE 0",
+                                "x32 calls: not all are refused, as read (0x40000000 + 0): TRACE 0",
+                                "other architectures' calls: not all are refused, as number 0 of 0x0: TRACE 0"])
+
+    def test_undecided_and_unfinished(self):
+        """Some calls are tried, and it is said that it wasn't decided."""
+        squares = load(4) + jeq(X86_64, 1, 0) + load(0) + insn(0x07, 0) + insn(0x2C, 0) + jeq(9, 0, 1) + ret(LOG) + \
+            ret(EPERM)
+        found = foreign.let_through([squares])
+        self.assertEqual(found[0].told(), "i386 calls: it wasn't decided whether any is let through; 1 of 12 that were "
+                                          "tried is, as read (3): LOG")
+        self.assertEqual(found[0].as_json(), {
+            "kind": "i386", "is_decided": False, "tried": 12,
+            "let_through": [{"name": "read", "number": 3, "answer": {"action": "LOG", "data": 0}}]})
+        self.assertEqual([one.told() for one in foreign.let_through([filter_of([READ])], "0")], [
+            f"{kind} calls: it wasn't decided whether any is let through; none of {count} that were tried is"
+            for kind, count in (("i386", 12), ("x32", 11), ("other architectures'", 9))])
+
+    def test_refused_filters(self):
+        self.assertEqual(foreign.let_through([b""]), [])
+
+
+class VerifyProcess(Confined):
+    @here
+    def test_no_more_and_foreign_calls(self):
+        refuses_more = gate(jeq(165, 2, 0) + jeq(166, 1, 0) + ret(ALLOW) + ret(EPERM))
+        given = self.file("p.json", profile(("mount", "ERRNO", {}), default="SCMP_ACT_ALLOW"))
+        child = self.child([refuses_more])
+        status, out, _ = self.run_tool("verify-process", str(child.pid), given)
+        self.assertEqual((status, out.split("\n")[0], out.split("\n")[4]),
+                         (1, "differs", "# it refuses more, and lets nothing through that the profile refuses"))
+        status, out, _ = self.run_tool("verify-process", "--no-more", str(child.pid), given)
+        self.assertEqual((status, out.split("\n")[:3]), (0, [
+            "no more", "# looked at: native calls, those of x86-64 with numbers below 0x40000000; of the others, "
+            "whether any is let through:", "# no call of another architecture and no x32 call is let through"]))
+        status, out, _ = self.run_tool("verify-process", "--no-less", str(child.pid), given)
+        self.assertEqual((status, out.split("\n")[0]), (1, "less"))
+        self.assertIn("\n# by the filter the call is refused, by the profile it is made\n", out)
+        found = json.loads(self.run_tool("verify-process", "--no-more", "--json", str(child.pid), given)[1])
+        stack = found["stacks"][0]
+        self.assertEqual((found["verdict"], stack["relation"]), ("no more", "no more"))
+        self.assertEqual(stack["foreign"], [{"kind": kind.name, "is_decided": True, "let_through": []}
+                                            for kind in foreign.KINDS])
+
+
+class TheTable(Case):
+    def test_the_names_of_these_tests(self):
+        table = tables.read(None)
+        for name, number in NAMES.items():
+            self.assertEqual(table.number_of(name), number, name)
