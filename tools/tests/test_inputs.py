@@ -1,0 +1,199 @@
+"""Inputs of the tools: each is read to its limit and no further, and whatever it holds, no tool shows a traceback."""
+import os
+import random
+import shutil
+import subprocess
+import sys
+import tempfile
+import time
+import unittest
+
+from common import ALLOW, EPERM, TABLE, Case, filter_of, jeq, profile_of, ret, tool
+
+# Of a tool that reads an endless input: some ten times what is measured on a machine that does nothing else.
+SECONDS, MEGABYTES = 10, 128
+FILTER, TEXT = 32768, 4194304
+
+
+# Runs a tool and tells the most memory that it took. A process begins with the memory of the one that starts it, which
+# here would be that of all tests so far; so a small one stands between.
+SMALL = """import resource, subprocess, sys
+status = subprocess.run(sys.argv[2:], check=False).returncode
+with open(sys.argv[1], "w") as file:
+    file.write(f"{status} {resource.getrusage(resource.RUSAGE_CHILDREN).ru_maxrss}")
+"""
+
+
+def run(words, **settings):
+    """The status, what was printed, what was said, the seconds and the megabytes that a tool took."""
+    with tempfile.TemporaryFile() as out, tempfile.TemporaryFile() as err, tempfile.NamedTemporaryFile() as told:
+        begun = time.monotonic()
+        subprocess.run([sys.executable, "-ISc", SMALL, told.name, tool(words[0]), *words[1:]], stdout=out, stderr=err,
+                       check=True, **settings)
+        spent = time.monotonic() - begun
+        status, kilobytes = map(int, told.read().split())
+        out.seek(0)
+        err.seek(0)
+        return status, out.read(), err.read().decode(), spent, kilobytes / 1024
+
+
+class Limits(Case):
+    def setUp(self):
+        super().setUp()
+        self.filter, self.profile = self.file("f.bpf", filter_of([0])), self.file("p.json", profile_of("read"))
+        self.huge = self.file("huge", b"")
+        os.truncate(self.huge, 10 * 10**9)
+
+    def ends(self, words, status, says):
+        """It ends soon and in little memory, with this status and a text that holds this."""
+        found, out, err, seconds, megabytes = run(words)
+        self.assertEqual(found, status, (words, out[:200], err))
+        self.assertIn(says, out.decode() + err)
+        self.assertNotIn("Traceback", err)
+        self.assertLess(seconds, SECONDS, words)
+        self.assertLess(megabytes, MEGABYTES, words)
+
+    def test_endless_inputs_of_each_tool(self):
+        too_long, table = "fault filter TooLong\n", f"has more than {TEXT} bytes"
+        for endless in ("/dev/zero", self.huge):
+            for words, status, says in (
+                    (("compare", endless, self.profile), 3, too_long),
+                    (("compare", self.filter, endless, self.profile), 3, too_long),
+                    (("compare", self.filter, endless), 3, "fault profile TooLong\n"),
+                    (("compare", "--table", endless, self.filter, self.profile), 2, table),
+                    (("decide", self.filter, endless), 3, too_long), (("decide", "--table", endless, self.filter), 2,
+                        table),
+                    (("decide", "--calls-from", endless, self.filter), 2, "has more than 65536 bytes"),
+                    (("run", endless), 3, too_long), (("run", "--table", endless, self.filter), 2, table),
+                    (("run", "--calls-from", endless, self.filter), 2, "has more than 65536 bytes"),
+                    (("check", self.filter, endless), 3, too_long), (("list", endless), 3, too_long),
+                    (("list", "--table", endless, self.filter), 2, table),
+                    (("compile", endless), 1, "fault profile TooMany\n"),
+                    (("compile", "--table", endless, self.profile), 2, table),
+                    (("explain", "--table", endless, "check"), 2, table),
+                    (("bundle", "filter", endless), 2, f"has more than {FILTER} bytes"),
+                    (("bundle", "profile", endless), 2, table), (("bundle", "table", endless), 2, table)):
+                with self.subTest(words=words):
+                    self.ends(words, status, says)
+
+    def test_endless_standard_input(self):
+        for words, status in ((("compare", "-", self.profile), 3), (("list", "-"), 3), (("check", "-"), 3),
+                              (("compile", "-"), 1), (("explain", "check"), 3), (("explain", "decide"), 3)):
+            with open("/dev/zero", "rb") as zero:
+                found, _, err, seconds, megabytes = run(words, stdin=zero)
+            self.assertEqual((found, "Traceback" in err), (status, False), words)
+            self.assertLess(seconds, SECONDS, words)
+            self.assertLess(megabytes, MEGABYTES, words)
+
+    def test_many_long_filters(self):
+        """Of more filters than scf reads no more are kept than show it."""
+        long = self.file("long.bpf", bytes(FILTER + 1))
+        self.ends(("decide", *[long] * 1500), 3, "fault input TooLong\n")
+
+    def test_names_as_long_as_a_profile(self):
+        long = self.file("long.json", profile_of("read", "r" * (TEXT - 500), *map(str, range(20))))
+        self.ends(("compare", self.filter, long), 0, "same\nskipped rrr")
+
+    def test_the_last_byte_within_the_limits(self):
+        whole = ret(ALLOW) * (FILTER // 8)
+        self.assertEqual(self.run_tool("check", self.file("whole.bpf", whole)), (0, "accepted 4096\n", ""))
+        self.assertTrue(self.run_tool("check", self.file("more.bpf", whole + b"\0"))[1].startswith(
+            "fault filter TooLong\n"))
+        profile = profile_of("read")
+        self.assertEqual(self.run_tool("compare", self.filter, self.file("whole.json",
+            profile + b" " * (TEXT - len(profile))))[:2], (0, "same\n"))
+        with open(TABLE, "rb") as file:
+            table = file.read()
+        longer = self.file("whole.table", table + b"\n" * (TEXT - len(table)))
+        self.assertEqual(self.run_tool("compare", "--table", longer, self.filter, self.profile)[:2], (0, "same\n"))
+
+
+class Words(Case):
+    """Names of files, and which of them may be `-`."""
+
+    def setUp(self):
+        super().setUp()
+        self.filter, self.profile = self.file("f.bpf", filter_of([0])), self.file("p.json", profile_of("read"))
+
+    def test_one_input_may_be_standard_input(self):
+        with open(TABLE, "rb") as file:
+            table = file.read()
+        for words, given in ((("compare", "-", self.profile), filter_of([0])),
+                             (("compare", self.filter, "-"), profile_of("read")),
+                             (("compare", "--table=-", self.filter, self.profile), table),
+                             (("decide", "--table=-", self.filter), table),
+                             (("decide", "--calls-from=-", self.filter), b"read\n"), (("run", "-"), filter_of([0])),
+                             (("check", "-"), filter_of([0])), (("list", "-"), filter_of([0])),
+                             (("compile", "-"), profile_of("read"))):
+            settings = {"stdout": subprocess.DEVNULL} if words[0] == "compile" else {}
+            self.assertEqual(self.run_tool(*words, given=given, **settings)[0::2], (0, ""), words)
+        for words in (("compare", "-", "-"), ("compare", "--table=-", "-", self.profile), ("decide", "-", "-"),
+                      ("decide", "--calls-from=-", "-"), ("run", "--table=-", "-"), ("check", "-", "-"),
+                      ("list", "--table=-", "-"), ("compile", "--table=-", "-")):
+            status, out, err = self.run_tool(*words)
+            self.assertEqual((status, out), (2, ""), words)
+            self.assertIn("only one input can be '-'", err)
+
+    @unittest.skipUnless(shutil.which("bash"), "there is no bash here")
+    def test_pipes_of_a_shell(self):
+        for words in ('compare <(cat "$1") <(cat "$2")', 'decide --calls-from <(echo read) <(cat "$1")',
+                      'run <(cat "$1")', 'check <(cat "$1") <(cat "$1")', 'list <(cat "$1")',
+                      'compile --table <(echo read 0) <(cat "$2") >/dev/null'):
+            done = self.run_words(["bash", "-c", f'"$0"/{words}', os.path.dirname(tool("")), self.filter,
+                                   self.profile])
+            self.assertEqual(done[0::2], (0, ""), words)
+
+    def test_files_that_are_not_there(self):
+        for words in (("compare", "none", self.profile), ("decide", "none"), ("run", "none"), ("check", "none"),
+                      ("list", "none"), ("compile", "none"), ("decide", "--calls-from=none", self.filter),
+                      ("explain", "--table=none", "check"), ("bundle", "filter", "none")):
+            status, out, err = self.run_tool(*words)
+            self.assertEqual((status, out), (2, ""), words)
+            self.assertIn("there is no file 'none'", err)
+        for words in (("run", self.folder), ("check", self.folder), ("compile", self.folder), ("run", "")):
+            status, out, err = self.run_tool(*words)
+            self.assertEqual((status, out), (2, ""), words)
+            self.assertNotIn("Traceback", err)
+
+    def test_names_that_are_not_utf_8(self):
+        name = os.path.join(os.fsencode(self.folder), b"odd\xff\x1b[2J.bpf")
+        with open(name, "wb") as file:
+            file.write(filter_of([0]))
+        broken = os.path.join(os.fsencode(self.folder), b"\xfe\n.bpf")
+        with open(broken, "wb") as file:
+            file.write(jeq(0, 9, 0) + ret(ALLOW))
+        self.assertEqual(self.run_words([tool("compare"), name, self.profile]), (0, "same\n", ""))
+        status, out, err = self.run_words([tool("check"), name, broken])
+        self.assertEqual((status, err), (1, ""))
+        self.assertIn("/odd\\xff\\x1b[2J.bpf\n", out)
+        self.assertIn("/\\xfe\\x0a.bpf\n# This jump", out)
+        status, out, err = self.run_words([tool("decide"), name, broken])
+        self.assertEqual((status, err), (1, ""))
+        self.assertTrue(out.endswith("/\\xfe\\x0a.bpf\n"), out)
+        status, out, err = self.run_words([tool("check"), name + b"\n"])
+        self.assertEqual((status, out), (2, ""))
+        self.assertTrue(err.endswith("/odd\\xff\\x1b[2J.bpf\\x0a'\n"), err)
+
+
+class Garbage(Case):
+    """Made bytes as each input: an answer or a fault, and never a traceback."""
+
+    def test_bytes(self):
+        made = random.Random(27)
+        texts = [b"", b"\0", b"\xff\xfe", b"\n", b"{", b"[[", b'{"defaultAction":1}', b"null", b"{}", b'"\\ud800"',
+                 b'{"defaultAction":"SCMP_ACT_ALLOW","syscalls":[{"names":["\\u0000"],"action":"SCMP_ACT_LOG"}]}',
+                 b'{"defaultAction":"SCMP_ACT_ALLOW","syscalls":null}',
+                 b'{"linux":{"seccomp":{"defaultAction":"SCMP_ACT_LOG","syscalls":[{"names":["x"],"action":'
+                 b'"SCMP_ACT_ALLOW"}]}}}', b"[" * 5000, b'{"a":NaN}', b"1" * 5000, b"read 0\nread 0\n", b"read\xff 1\n",
+                 *(bytes(made.randrange(256) for _ in range(made.choice((1, 8, 64, 4000)))) for _ in range(3))]
+        good, profile = self.file("f.bpf", ret(EPERM)), self.file("p.json", profile_of("read", "gone"))
+        for at, text in enumerate(texts):
+            name = self.file(f"{at}", text)
+            for words in (("compare", "--native", good, name), ("compare", name, profile),
+                          ("compare", "--json", good, name), ("compare", "--table", name, good, profile),
+                          ("compile", name), ("decide", "--calls-from", name, good), ("list", name),
+                          ("run", "--json", name), ("check", name, good), ("run", "--table", name, "--nr=read", good)):
+                with self.subTest(text=text[:40], words=words):
+                    status, _, err, *_ = run(words)
+                    self.assertIn(status, (0, 1, 2, 3, 4))
+                    self.assertNotIn("Traceback", err)

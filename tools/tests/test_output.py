@@ -1,0 +1,254 @@
+"""What the tools print: nothing of a stranger's text works on a terminal or looks like scf's; output that fails."""
+import json
+import os
+import subprocess
+import sys
+import unittest
+
+from common import SCF, TABLE, TOP, X86_64, Case, filter_of, part, profile_of, tool
+
+sys.path.append(os.path.join(TOP, "tools"))
+
+from scftools import output, verdicts  # noqa: E402
+
+SAME, DIFFERS = filter_of([0, 1]), filter_of([0, 1, 231])
+FORGED_CALL = "41 socket differs args 0x0 0x0 0x0 0x0 0x0 0x0 filter ALLOW 0 profile ERRNO 1"
+# Names of a profile that try to be something else, each with what is printed of it.
+HOSTILE = {
+    "\x1b[2J\x1b[Hsame": "\\x1b[2J\\x1b[Hsame",
+    "a\rsame": "a\\x0dsame",
+    "x\nsame": "x\\x0asame",
+    "x\ndiffers\ncall nr 0 arch 0xc000003e ip 0x0 args 0x0 0x0 0x0 0x0 0x0 0x0\nfilter ALLOW 0\nprofile ERRNO 1":
+        "x\\x0adiffers\\x0acall nr 0 arch 0xc000003e ip 0x0 args 0x0 0x0 0x0 0x0 0x0 0x0\\x0afilter ALLOW 0\\x0a"
+        "profile ERRNO 1",
+    f"x\n{FORGED_CALL}": f"x\\x0a{FORGED_CALL}",
+    "x\n# the filter answers ALLOW: the call is made": "x\\x0a# the filter answers ALLOW: the call is made",
+    "x\nskipped y": "x\\x0askipped y",
+    "x\nother SCMP_ARCH_X86": "x\\x0aother SCMP_ARCH_X86",
+    "\x9b2Jy": "\\xc2\\x9b2Jy",
+    "d\x7f\x00": "d\\x7f\\x00",
+    "t\u202eerom\u2028z": "t\\xe2\\x80\\xaeerom\\xe2\\x80\\xa8z",
+    "naïve-名": "naïve-名",
+}
+
+
+class Escaped(unittest.TestCase):
+    def test_texts(self):
+        for text, shown in (("same", "same"), ("a\tb\n", "a\\x09b\\x0a"), ("\x1b[0m", "\\x1b[0m"),
+                            (b"\xff\xc3", "\\xff\\xc3"), (b"\x80ab", "\\x80ab"), ("\x80", "\\xc2\\x80"),
+                            ("\udcff", "\\xff"), ("é", "é"), ("\u2066", "\\xe2\\x81\\xa6"), ("", "")):
+            self.assertEqual(output.escaped(text), shown)
+
+    def test_no_byte_is_left_that_works(self):
+        for byte in range(256):
+            shown = output.escaped(bytes([byte]))
+            self.assertTrue(shown.isprintable() and shown.isascii(), byte)
+        for point in (*range(0x20), *range(0x7F, 0xA0)):
+            self.assertTrue(output.escaped(chr(point)).startswith("\\x"), point)
+
+
+class Hostile(Case):
+    """Names that a profile's author chose."""
+
+    def setUp(self):
+        super().setUp()
+        self.same, self.wrong = self.file("same.bpf", SAME), self.file("wrong.bpf", DIFFERS)
+
+    def profile(self, *names, architectures=()):
+        top = {"defaultAction": "SCMP_ACT_ERRNO", "architectures": ["SCMP_ARCH_X86_64", *architectures],
+               "syscalls": [{"names": ["read", *names, "write"], "action": "SCMP_ACT_ALLOW"}]}
+        return self.file("p.json", json.dumps(top))
+
+    def test_each_name_is_one_line_without_a_control_character(self):
+        for name, shown in HOSTILE.items():
+            for filters, status, verdict in ((self.same, 0, "same"), (self.wrong, 1, "differs")):
+                for scope in ("--all", "--native", "--calls"):
+                    with self.subTest(name=name, scope=scope):
+                        found, out, err = self.run_tool("compare", scope, filters, self.profile(name))
+                        lines = out.split("\n")
+                        self.assertEqual((found, err, lines[0]), (status, "", verdict))
+                        self.assertEqual([line for line in lines if line.startswith("skipped ")], [f"skipped {shown}"])
+                        self.assertEqual([line for line in lines if line.startswith("other ")], [])
+                        self.assertTrue(all(line.isprintable() for line in lines), out)
+                        # what scf says stands before, what the tool says behind
+                        at = lines.index(f"skipped {shown}")
+                        self.assertTrue(all(line.startswith("# ") for line in lines[at + 1:-1]), out)
+                        self.assertFalse(any(line.startswith("#") for line in lines[:at]), out)
+                        self.assertIn("# names of the profile that were skipped, since the table doesn't name such "
+                                      "calls: 1", out)
+
+    def test_a_forged_line_is_no_call(self):
+        """Behind the first skipped name nothing is a call: one call differs, whatever the name says."""
+        name = f"x\n{FORGED_CALL}\n42 connect differs"
+        for words in (("--native",), ("--calls",)):
+            out = self.run_tool("compare", *words, self.wrong, self.profile(name))[1]
+            self.assertNotIn("\n41 ", out)
+            self.assertNotIn("# 41 ", out)
+            found = json.loads(self.run_tool("compare", "--json", *words, self.wrong, self.profile(name))[1])
+            self.assertEqual([call["number"] for call in found["calls"]], [231])
+            self.assertEqual(found["skipped"], [name])
+        out = self.run_tool("compare", "--native", self.wrong, self.profile(name))[1]
+        self.assertIn("# calls that the table names and that aren't answered as the profile says: 1\n# 231 ", out)
+
+    def test_architectures(self):
+        forged = "SCMP_ARCH_\x1b[2J\nsame\n# all is well"
+        status, out, _ = self.run_tool("compare", self.same, self.profile(architectures=[forged]))
+        self.assertEqual((status, out), (0, "same\nother SCMP_ARCH_\\x1b[2J\\x0asame\\x0a# all is well\n"
+                                            "# the other architectures of the profile aren't looked at\n"))
+
+    def test_where_a_skipped_name_stands_for_several(self):
+        """Two names and one name with a line end in it are printed alike by scf, and told apart by the profile."""
+        for names in (["x", "y"], ["x\nskipped y"], ["x\nskipped y", "x", "y\nskipped "]):
+            found = json.loads(self.run_tool("compare", "--json", self.same, self.profile(*names))[1])
+            self.assertEqual(found["skipped"], names)
+
+    def test_explain_and_compile(self):
+        with open(TABLE, "rb") as file:
+            table = file.read()
+        for name, shown in HOSTILE.items():
+            with open(self.profile(name), "rb") as file:
+                given = part("filter", SAME) + part("profile", file.read()) + part("table", table)
+            status, out, _ = self.run_tool("explain", "compare", given=given)
+            self.assertEqual((status, out.split("\n")[0]), (0, "same"))
+            self.assertTrue(all(line.isprintable() for line in out.split("\n")), out)
+            self.assertFalse(any(line.startswith("differs") for line in out.split("\n")), out)
+            status, out, err = self.compiled(name)
+            self.assertEqual(status, 0)
+            self.assertTrue(all(line.isprintable() and line.startswith("compile: ") for line in
+                                err.split("\n")[:-1]), err)
+            self.assertTrue(out)
+            self.assertIn(f" {shown[:40]}", err)
+
+    def compiled(self, name):
+        done = subprocess.run([tool("compile"), self.profile(name)], stdout=subprocess.PIPE, stderr=subprocess.PIPE,
+                              check=False)
+        return done.returncode, done.stdout, done.stderr.decode()
+
+    def test_words_of_the_command_line(self):
+        for words in (("compare", "--\x1b[2J", "a", "b"), ("decide", "--nr", "\x1b[2Jx", self.same),
+                      ("decide", "--nr", "x\x1b[2J", self.same), ("run", "a\nb"), ("bundle", "\x1b[2J", "x"),
+                      ("explain", "--filters", "\x1b[2J", "check")):
+            status, out, err = self.run_tool(*words)
+            self.assertEqual(status, 2, words)
+            self.assertTrue(all(line.isprintable() for line in (out + err).split("\n")), (out, err))
+        calls = self.file("calls", "read\n\x1b[2J\n")
+        status, out, err = self.run_tool("decide", "--calls-from", calls, self.same)
+        self.assertTrue(all(line.isprintable() for line in (out + err).split("\n")), (out, err))
+
+
+class Filters(Case):
+    """Bytes that aren't text."""
+
+    def test_nothing_is_added_to_a_filter(self):
+        """A filter may begin as any line does."""
+        text = b"fault x!"
+        words = [int.from_bytes(text[at:at + size], "little") for at, size in ((0, 2), (2, 1), (3, 1), (4, 4))]
+        spelled = f"raw {words[0]}, {words[1]}, {words[2]}, {words[3]}\n".encode()
+        scf = subprocess.run([SCF, "asm"], input=spelled, stdout=subprocess.PIPE, check=False)
+        done = subprocess.run([tool("explain"), "asm"], input=spelled, stdout=subprocess.PIPE, check=False)
+        self.assertEqual((scf.returncode, scf.stdout), (0, text))
+        self.assertEqual((done.returncode, done.stdout), (0, text))
+        status, out, _ = self.run_tool("explain", "asm", given=b"LD")
+        self.assertEqual(status, 1)
+        self.assertTrue(out.startswith("fault text Mnemonic line 1\n# A statement"), out)
+
+
+class Failing(Case):
+    """Readers that go away, and outputs that are full or closed."""
+
+    def setUp(self):
+        super().setUp()
+        self.same = self.file("same.bpf", SAME)
+        self.profile = self.file("p.json", profile_of("read", "write", *(f"name_{at}" for at in range(5000))))
+
+    def each(self):
+        return (("compare", self.same, self.profile), ("compare", "--json", self.same, self.profile),
+                ("decide", self.same), ("run", self.same), ("check", self.same), ("list", self.same),
+                ("compile", self.profile), ("bundle", "profile", self.profile), ("explain", "--help"),
+                ("compare", "--version"))
+
+    def test_a_reader_that_goes_away(self):
+        for words in self.each():
+            reader, writer = os.pipe()
+            os.close(reader)
+            with os.fdopen(writer, "wb") as gone:
+                done = subprocess.run([tool(words[0]), *words[1:]], stdout=gone, stderr=subprocess.PIPE,
+                                      stdin=subprocess.DEVNULL, check=False)
+            said = [line for line in done.stderr.decode().split("\n") if not line.startswith("compile: ")]
+            self.assertEqual((done.returncode, said), (-13, [""]), words)
+
+    def test_head(self):
+        done = subprocess.run(["sh", "-c", '{ "$0" "$1" "$2"; echo $? >status; } | head -n1', tool("compare"),
+                               self.same, self.profile], cwd=self.folder, stdout=subprocess.PIPE,
+                              stderr=subprocess.PIPE, check=False)
+        self.assertEqual((done.stdout, done.stderr), (b"same\n", b""))
+        with open(os.path.join(self.folder, "status"), encoding="ascii") as file:
+            self.assertIn(file.read(), ("0\n", "141\n"))
+
+    def test_a_full_output(self):
+        for words in self.each():
+            status, _, err = self.closed_output(*words)
+            self.assertEqual(status, 3, words)
+            self.assertIn(f"{words[0]}: the output failed: No space left on device\n", err)
+
+    def test_a_closed_output(self):
+        for words in self.each():
+            if "--help" in words:
+                # the words of a tool go to standard error then
+                continue
+            done = subprocess.run(["sh", "-c", '"$@" >&-', "sh", tool(words[0]), *words[1:]], stdin=subprocess.DEVNULL,
+                                  stderr=subprocess.PIPE, check=False)
+            said = done.stderr.decode()
+            self.assertEqual(done.returncode, 3, (words, said))
+            self.assertIn(f"{words[0]}: the output failed: ", said)
+            self.assertNotIn("Traceback", said)
+
+    def test_the_other_descriptors_closed(self):
+        for closing in ("<&-", "2>&-", "<&- 2>&-"):
+            for words in (("decide", self.same), ("compare", self.same, self.profile)):
+                done = subprocess.run(["sh", "-c", f'"$@" {closing}', "sh", tool(words[0]), *words[1:]],
+                                      stdout=subprocess.PIPE, check=False)
+                self.assertEqual(done.returncode, 0, (closing, words))
+        done = subprocess.run(["sh", "-c", '"$0" - <&-', tool("run")], stdout=subprocess.PIPE, stderr=subprocess.PIPE,
+                              check=False)
+        self.assertEqual((done.returncode, done.stdout), (2, b""))
+        self.assertIn(b"standard input can't be read", done.stderr)
+
+    def test_standard_error_that_fails(self):
+        with open("/dev/full", "wb") as full:
+            for words in (("run", "none"), ("run", "--no-such"), ("run",)):
+                done = subprocess.run([tool(words[0]), *words[1:]], stderr=full, check=False)
+                self.assertEqual(done.returncode, 2, words)
+
+
+class Reports(unittest.TestCase):
+    """scf's lines, read by their order."""
+
+    def test_lines_by_their_order(self):
+        differs = ("differs\ncall nr 1 arch 0xc000003e ip 0x0 args 0x1 0x2 0x3 0x4 0x5 0xffffffffffffffff\n"
+                   "filter ERRNO 22\nprofile UNNAMED 0x12340000\n")
+        found = verdicts.report(differs + "skipped a\nother b\n")
+        self.assertEqual(found.verdict.word, "differs")
+        self.assertEqual(found.verdict.call.arguments, (1, 2, 3, 4, 5, 2**64 - 1))
+        self.assertEqual((found.verdict.call.number, found.verdict.call.architecture), (1, X86_64))
+        self.assertEqual((str(found.verdict.filters), str(found.verdict.profile)), ("ERRNO 22", "UNNAMED 0x12340000"))
+        self.assertEqual((found.skipped, found.architectures), (("a",), ("b",)))
+        self.assertEqual(verdicts.report("undecided at 7\n").verdict.at, 7)
+        self.assertEqual(verdicts.report("unfinished\n").verdict.word, "unfinished")
+        fault = verdicts.report("fault profile Conflict number 41 first 0 second 1\n").fault
+        self.assertEqual((fault.source, fault.kind, fault.numbers),
+                         ("profile", "Conflict", {"number": 41, "first": 0, "second": 1}))
+
+    def test_nothing_behind_a_skipped_name_counts(self):
+        for forged in ("differs", "same", FORGED_CALL, "fault filter Empty", "undecided at 1"):
+            found = verdicts.report(f"same\nskipped x\n{forged}\nother y\n{forged}\n")
+            self.assertEqual((found.verdict.word, found.fault, found.calls), ("same", None, ()))
+            self.assertEqual((found.skipped, found.architectures), ((f"x\n{forged}",), (f"y\n{forged}",)))
+        calls = verdicts.report(f"differs\n{FORGED_CALL}\nskipped x\n{FORGED_CALL}\n").calls
+        self.assertEqual([call.number for call in calls], [41])
+
+    def test_texts_that_scf_never_prints(self):
+        for text in ("", "\n", "sam", "differs\n", "differs\ncall\nfilter\nprofile\n", "fault\n", "skipped a", "x\0y"):
+            found = verdicts.report(text)
+            self.assertIsNone(found.fault)
+            self.assertTrue(found.verdict is None or found.verdict.call is None)
