@@ -1,0 +1,181 @@
+"""Each command once at its largest, with ample memory: the exact answer, worked out here and not by scf.
+
+So a body that gives up where it is large fails: a listing past 64 KiB, a call of more than a few names, a stack of
+thousands of filters, a text of a million tokens.
+"""
+import re
+import struct
+import subprocess
+
+from common import ALLOW, EPERM, KILL_PROCESS, SCF, X86_64, Case, insn, jeq, jge, load, part, ret
+
+MOST = 4096
+# MAX_INSNS_PER_PATH (kernel/seccomp.c), and what each older filter of a stack costs more.
+MOST_OF_STACK, MORE_OF_OLDER = 32768, 4
+GATE = load(4) + jeq(X86_64, 0, 2) + load(0) + jge(0x40000000, 0, 1) + ret(KILL_PROCESS)
+ALLOWS = b'{"defaultAction": "SCMP_ACT_ALLOW"}'
+TRAP, ERRNO = 0x00030000, 0x00050000
+
+# The listing of each code, with its fields K (as a constant), N (as a place or an offset), T and F.
+LISTED = {
+    0x20: "ld [N]", 0x80: "ld len", 0x81: "ldx len", 0x00: "ld #K", 0x01: "ldx #K", 0x60: "ld M[N]", 0x61: "ldx M[N]",
+    0x02: "st M[N]", 0x03: "stx M[N]", 0x04: "add #K", 0x0C: "add x", 0x14: "sub #K", 0x1C: "sub x", 0x24: "mul #K",
+    0x2C: "mul x", 0x34: "div #K", 0x3C: "div x", 0x44: "or #K", 0x4C: "or x", 0x54: "and #K", 0x5C: "and x",
+    0x64: "lsh #K", 0x6C: "lsh x", 0x74: "rsh #K", 0x7C: "rsh x", 0xA4: "xor #K", 0xAC: "xor x", 0x84: "neg",
+    0x05: "ja N", 0x15: "jeq #K, T, F", 0x1D: "jeq x, T, F", 0x25: "jgt #K, T, F", 0x2D: "jgt x, T, F",
+    0x35: "jge #K, T, F", 0x3D: "jge x, T, F", 0x45: "jset #K, T, F", 0x4D: "jset x, T, F", 0x06: "ret #K",
+    0x16: "ret a", 0x07: "tax", 0x87: "txa",
+}
+
+
+def listed(code, k, jt, jf):
+    """The line of an instruction: by its code, where it has one of the 41 and no unused field is set; else raw."""
+    fields = {"K": k, "N": k, "T": jt, "F": jf}
+    text = LISTED.get(code)
+    used = set() if text is None else {name for name in fields if re.search(rf"\b{name}\b", text)}
+    unused = {"k": k if not used & {"K", "N"} else 0, "jt": 0 if "T" in used else jt, "jf": 0 if "F" in used else jf}
+    if text is None or any(unused.values()):
+        return f"raw {code:#06x}, {jt}, {jf}, {k:#x}\n"
+    shown = {"K": f"{k:#x}", "N": str(k), "T": str(jt), "F": str(jf)}
+    return re.sub(r"\b[KNTF]\b", lambda found: shown[found[0]], text) + "\n"
+
+
+def differs(number, filter_answer, profile_answer):
+    """What is printed where a call of this number shows it, all else of which may be 0."""
+    return (f"differs\ncall nr {number} arch 0xc000003e ip 0x0 args 0x0 0x0 0x0 0x0 0x0 0x0\nfilter {filter_answer}\n"
+            f"profile {profile_answer}\n").encode()
+
+
+class Largest(Case):
+    @classmethod
+    def setUpClass(cls):
+        subprocess.run([SCF, "--help"], stdin=subprocess.DEVNULL, stdout=subprocess.DEVNULL, check=True)
+
+    def ends(self, words, data, status, out):
+        """It prints this and nothing else; where it doesn't, the first line that is another one is shown."""
+        done = subprocess.run([SCF, *words], input=data, stdout=subprocess.PIPE, check=False)
+        if done.stdout != out:
+            pairs = zip(done.stdout.split(b"\n"), out.split(b"\n"))
+            self.fail(next((f"line {at}: {found!r}, not {wanted!r}" for at, (found, wanted) in enumerate(pairs)
+                            if found != wanted), f"{len(done.stdout)} bytes, not {len(out)}"))
+        self.assertEqual(done.returncode, status)
+
+    def test_a_listing_of_4096_instructions(self):
+        codes = [*LISTED, 0x94, 0x28, 0xFFFF]
+        mixed, raw = [], []
+        for at in range(MOST):
+            code = codes[at % len(codes)]
+            text = LISTED.get(code, "")
+            k = at * 2654435761 % 2**32 if re.search(r"\b[KN]\b", text) else 0
+            mixed.append((code, k, *((at % 256, 255 - at % 256) if " T," in text else (0, 0))))
+            raw.append((0xFFFF - at % 7, 0xFFFFFFFF - at, 255 - at % 9, 200 + at % 56))
+        for rows, least in ((mixed, 4 * MOST), (raw, 1 << 16)):
+            data = b"".join(insn(*row) for row in rows)
+            text = "".join(listed(*row) for row in rows).encode()
+            self.assertGreater(len(text), least)
+            self.ends(["dis"], data, 0, text)
+            self.ends(["asm"], text, 0, data)
+
+    def test_a_run_of_4096_steps(self):
+        data = load(0) * (MOST - 1) + ret(ALLOW)
+        self.ends(["check"], data, 0, b"accepted 4096\n")
+        self.ends(["run"], data, 0, b"ALLOW 0 steps 4096\n")
+        sums = insn(0x01, 3) + insn(0x0C, 0) * (MOST - 2) + insn(0x16, 0)
+        self.ends(["run"], sums, 0, b"KILL_THREAD %d steps 4096\n" % (3 * (MOST - 2)))
+
+    def test_a_text_of_4096_lines_of_200_tokens(self):
+        """Each line has an instruction with a label, empty statements, and a comment."""
+        lines, data = [], b""
+        for at in range(MOST - 1):
+            far = min(at + 200, MOST - 1)
+            lines.append(f"L{at}: jgt #{at:#x}, L{at + 1}, L{far} " + "; " * 191 + f"// {'; ret a ' * 10}{at}\n")
+            data += insn(0x25, at, 0, far - at - 1)
+        lines.append(f"L{MOST - 1}: ret # 0x7fff0000" + " ;" * 195 + "// the last")
+        for line in lines:
+            self.assertEqual(len(re.findall(r"\w+|[^\s\w]", line.split("//")[0])), 200, line)
+        self.ends(["asm"], "".join(lines).encode(), 0, data + ret(ALLOW))
+
+    def test_as_many_filters_as_a_stack_takes(self):
+        count = 1 + (MOST_OF_STACK - 1) // (1 + MORE_OF_OLDER)
+        self.assertEqual(count, 6554)
+        filters = [ret((TRAP if at % 3 == 0 else ERRNO) | at) for at in range(count)]
+        self.assertEqual((count - 2) % 3, 0)
+        stack = b"".join(part("filter", data) for data in filters)
+        self.ends(["decide"], stack, 0, b"TRAP %d\n" % (count - 2))
+        self.ends(["decide"], stack + part("filter", ret(ALLOW)), 1, b"fault stack TooMany total 32771\n")
+        # of equal ranks the newest, which stands at the other end
+        four, allow = part("filter", ret(ERRNO | 4)), part("filter", ret(ALLOW))
+        self.ends(["decide"], four + allow * (count - 1), 0, b"ERRNO 4\n")
+        self.ends(["decide"], four * (count - 1) + part("filter", ret(ERRNO | 5)), 0, b"ERRNO 5\n")
+
+    def test_a_stack_of_32768_instructions(self):
+        long = part("filter", load(0) * (MOST - 1) + ret(ALLOW)) * 7
+        left = MOST_OF_STACK - 7 * (MOST + MORE_OF_OLDER)
+        last = load(0) * (left - 1)
+        both = part("profile", ALLOWS) + part("table", b"read 0\n")
+        self.ends(["decide"], long + part("filter", last + ret(ERRNO | 7)), 0, b"ERRNO 7\n")
+        self.ends(["decide"], long + part("filter", last + load(0) + ret(ALLOW)), 1,
+                  b"fault stack TooMany total 32769\n")
+        self.ends(["compare", "--native"], long + part("filter", last + ret(ALLOW)) + both, 0, b"same\n")
+        self.ends(["compare", "--native"], long + part("filter", last + ret(ERRNO | 7)) + both, 1,
+                  differs(0, "ERRNO 7", "ALLOW 0"))
+
+    def test_as_many_filters_beside_a_profile(self):
+        both = part("profile", ALLOWS) + part("table", b"read 0\n")
+        rest = part("filter", ret(ALLOW)) * 6553
+        self.ends(["compare", "--native"], part("filter", ret(ALLOW)) + rest + both, 0, b"same\n")
+        self.ends(["compare", "--native"], part("filter", ret(ERRNO | 9)) + rest + both, 1,
+                  differs(0, "ERRNO 9", "ALLOW 0"))
+        self.ends(["compare"], part("filter", ret(ALLOW)) * 2 + rest + both, 1, b"fault stack TooMany total 32771\n")
+
+    def test_a_bundle_of_64_parts(self):
+        filters = [part("filter", ret(ERRNO | at) if at % 5 else ret(ALLOW)) for at in range(64)]
+        self.ends(["decide"], b"".join(filters), 0, b"ERRNO 63\n")
+        self.ends(["decide"], b"".join(reversed(filters)), 0, b"ERRNO 1\n")
+        profile = part("profile", b'{"defaultAction": "SCMP_ACT_ERRNO", "defaultErrnoRet": 61}')
+        for filters[40], status, out in (
+                (part("filter", ret(ERRNO | 40)), 0, b"same\n"),
+                (part("filter", ret(TRAP | 40)), 1, differs(0, "TRAP 40", "ERRNO 61"))):
+            pieces = [part("table", b"read 0\n"), *filters[:30], profile, *filters[30:62]]
+            self.assertEqual(len(pieces), 64)
+            self.ends(["compare", "--native"], b"".join(pieces), status, out)
+
+    def test_5000_calls_of_8_names(self):
+        numbers = [at * 7919 % 5003 * 3 for at in range(5000)]
+        self.assertEqual(len(set(numbers)), 5000)
+        begins = ("zz", "a", "_", "Z", "a_", "A", "a0", "b")
+        table = "".join(f"{begin}{number} {number}\n" for begin in begins for number in numbers)
+        both = part("profile", ALLOWS) + part("table", table.encode())
+
+        def lines(of, answer):
+            rows = []
+            for number in sorted(of):
+                names = sorted((f"{begin}{number}" for begin in begins), key=str.encode)
+                rows.append(f"{number} {','.join(names)} differs args 0x0 0x0 0x0 0x0 0x0 0x0 filter {answer} "
+                            "profile ALLOW 0\n")
+            return "".join(rows).encode()
+
+        self.ends(["compare", "--calls"], part("filter", GATE + ret(ALLOW)) + both, 0, b"same\n")
+        self.ends(["compare", "--calls"], part("filter", GATE + ret(EPERM)) + both, 1,
+                  b"differs\n" + lines(numbers, "ERRNO 1"))
+        border = sorted(numbers)[2500]
+        some = GATE + jge(border, 0, 1) + ret(EPERM) + ret(ALLOW)
+        self.ends(["compare", "--calls"], part("filter", some) + both, 1,
+                  b"differs\n" + lines([number for number in numbers if number >= border], "ERRNO 1"))
+
+    def test_a_profile_of_4096_rules(self):
+        """Of one entry, whose numbers follow one another."""
+        table = part("table", "".join(f"c{number} {number}\n" for number in range(MOST)).encode())
+        names = ", ".join(f'"c{number}"' for number in range(MOST))
+        profile = part("profile", b'{"defaultAction": "SCMP_ACT_ERRNO", "syscalls": [{"names": [%s], '
+                                  b'"action": "SCMP_ACT_ALLOW"}]}' % names.encode())
+        wanted = GATE + jge(MOST, 1, 0) + ret(ALLOW) + ret(EPERM)
+        self.ends(["compare"], part("filter", wanted) + profile + table, 0, b"same\n")
+        wrong = GATE + jge(MOST - 1, 1, 0) + ret(ALLOW) + ret(EPERM)
+        self.ends(["compare"], part("filter", wrong) + profile + table, 1, differs(MOST - 1, "ERRNO 1", "ALLOW 0"))
+        done = subprocess.run([SCF, "compile"], input=profile + table, stdout=subprocess.PIPE, check=True)
+        for number, answer in ((0, b"ALLOW 0"), (MOST - 1, b"ALLOW 0"), (MOST, b"ERRNO 1"), (0x3FFFFFFF, b"ERRNO 1"),
+                               (0x40000000, b"KILL_PROCESS 0")):
+            ran = subprocess.run([SCF, "run", f"--nr={number}"], input=done.stdout, stdout=subprocess.PIPE, check=True)
+            self.assertEqual(ran.stdout.split(b" steps ")[0], answer, number)
+        self.assertLessEqual(len(list(struct.iter_unpack("<HBBI", done.stdout))), MOST)
