@@ -7,7 +7,7 @@ import shutil
 import subprocess
 import unittest
 
-from common import ALLOW, SCF, TABLE, TOP, Case, filter_of, has_option, insn, jeq, load, part, profile_of, ret
+from common import ALLOW, SCF, TABLE, TOP, Case, filter_of, insn, jeq, load, part, profile_of, ret, tool
 
 # Which enum of the program is printed for which sources; for some, only these of its kinds.
 SOURCES = {
@@ -336,14 +336,50 @@ class Manual(Case):
         self.assertIn("compare", commands)
         for command in commands:
             self.assertRegex(text, rf"(?m)^\.B[R]? {command}\b", command)
-        for option in ("--nr", "--arch", "--ip", "--a0", "--a5", "--limit", "--table", "--caps", "--kernel"):
+        for option in ("--nr", "--arch", "--ip", "--a0", "--a5", "--limit", "--table", "--caps", "--kernel",
+                       "--calls-from", "--thread"):
             self.assertRegex(text, rf"(?m)^\.BI? ?{option} |\" {option} ", option)
+        for option in ("--json", "--all", "--native", "--calls", "--keep-first"):
+            self.assertRegex(text, rf"(?m)^\.B {option}$", option)
         for option in ("--native", "--calls"):
-            if has_option(option):
-                self.assertIn(option, text)
+            self.assertIn(option, text)
         with open(os.path.join(TOP, "tools", "install"), encoding="utf-8") as file:
             tools = re.search(r'^TOOLS = "([^"]*)"', file.read(), re.M)[1].split()
         for name in tools:
             self.assertRegex(text, rf"(?m)^\.B scf-{name}$", name)
         for status in (0, 1, 2, 3, 4, 125):
             self.assertRegex(text, rf"(?m)^\.B {status}$", status)
+
+    def examples(self):
+        """The commands of the page's examples, a block each."""
+        shown = self.text().replace("\\-", "-").partition(".SH EXAMPLES\n")[2]
+        return [block.strip("\n").split("\n") for block in re.findall(r"(?ms)^\.nf\n(.*?)^\.fi$", shown)]
+
+    def test_the_examples(self):
+        """Each is run, but for those of a container's process."""
+        for name in os.listdir(os.path.join(TOP, "tools")):
+            os.symlink(os.path.join(TOP, "tools", name), os.path.join(self.folder, f"scf-{name}"))
+        self.file("profile.json", profile_of("read", "openat"))
+        env = {**os.environ, "PATH": f"{self.folder}:{os.environ['PATH']}"}
+        ran = 0
+        for block in self.examples():
+            if any("podman" in line or "$pid" in line for line in block):
+                continue
+            for line in block:
+                status, _, err = self.run_words(["sh", "-c", line], env=env)
+                self.assertEqual((status, err), (0, ""), line)
+                ran += 1
+        self.assertGreaterEqual(ran, 5)
+
+    def test_the_examples_of_a_container(self):
+        """Their words are those that the tools take: an engine's profile, and a process."""
+        blocks = [block for block in self.examples() if any("podman" in line or "$pid" in line for line in block)]
+        self.assertEqual(len(blocks), 2)
+        profile = self.file("engine.json", b'{"defaultAction":"SCMP_ACT_ERRNO","syscalls":[{"names":["read"],"action":'
+                                           b'"SCMP_ACT_ALLOW"},{"names":["read"],"action":"SCMP_ACT_LOG"}]}')
+        for line in (line for block in blocks for line in block if line.startswith("scf-plain-profile")):
+            words = re.sub(r'"\$\(.*\)"|/usr/share/\S+', profile, line).partition(" ")[2]
+            status, _, err = self.run_words(["sh", "-c", f"{tool('plain-profile')} {words}"])
+            self.assertEqual(status, 0, err)
+            with open(os.path.join(self.folder, "resolved.json"), encoding="utf-8") as file:
+                self.assertIn("SCMP_ACT_ALLOW", file.read())
