@@ -5,7 +5,7 @@ import unittest
 
 from common import TOP
 
-PAGES = ("HEADLINE.md",)
+PAGES = ("README.md", "docs/HEADLINE.md", "docs/PROVED.md")
 MEAN, MOST = 25, 50
 
 
@@ -26,7 +26,7 @@ class Sentences(unittest.TestCase):
     def test_how_long_they_are(self):
         for page in PAGES:
             with self.subTest(page):
-                with open(os.path.join(TOP, "docs", page), encoding="utf-8") as file:
+                with open(os.path.join(TOP, page), encoding="utf-8") as file:
                     found = list(sentences_of(file.read()))
                 self.assertGreater(len(found), 30)
                 self.assertLessEqual(sum(map(len, found)) / len(found), MEAN)
