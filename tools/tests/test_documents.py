@@ -312,6 +312,26 @@ class Names(unittest.TestCase):
             for name in re.findall(r"`([a-z]+(?:_[a-z0-9]+)+|[A-Z]\w+)`", text_of("docs", page)):
                 self.assertIn(name, words, page)
 
+    def files_of_definitions(self):
+        """The files that the table of docs/ARCHITECTURE.md names: a file without a folder stands where the one before
+        it does, and a folder without a crate in the crate before it."""
+        table = text_of("docs", "ARCHITECTURE.md").partition("\n## Where each definition lives\n")[2]
+        for line in re.findall(r"(?m)^\| .*\.antt \|$", table.partition("\n## ")[0]):
+            crate = folder = None
+            for name in line.strip("| ").rpartition("|")[2].strip().split(", "):
+                at, _, file = name.rpartition("/")
+                if at:
+                    crate, folder = (at.split("/", 1) if at.startswith("scf_") else (crate, at))
+                yield os.path.join("crates", crate, folder, file)
+
+    def test_each_definition_has_its_row(self):
+        named = list(self.files_of_definitions())
+        for name in named:
+            self.assertTrue(os.path.isfile(os.path.join(TOP, name)), name)
+        for path in glob.glob(os.path.join(TOP, "crates", "*", "specs", "*.antt")):
+            if os.path.basename(path) not in ("Lib.antt", "internal.antt"):
+                self.assertEqual(named.count(os.path.relpath(path, TOP)), 1, path)
+
 
 class Manual(Case):
     """docs/scf.1."""
