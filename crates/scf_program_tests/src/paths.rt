@@ -73,7 +73,7 @@ fn refused_paths(rt: HostRuntime) -> Result<(), Fail> {
     let filter = filter_of(rt.alloc(), "ld [0]")?;
     let ended = run_with(rt.alloc(), "run", "--path", &filter)?;
     is_printed(&rt, &ended, "fault filter LastNotReturn\n", 1, "no return");
-    let ended = run_with(rt.alloc(), "run", "--path", &filter[..3])?;
+    let ended = run_with(rt.alloc(), "run", "--path", b"cut")?;
     is_printed(&rt, &ended, "fault filter Truncated offset 0\n", 3, "cut");
     let ended = run(rt.alloc(), &["scf", "run", "--path", "--ip", "-"], b"", 1);
     is_printed(&rt, &ended, "fault number ip\n", 2, "a wrong number");
