@@ -364,7 +364,7 @@ class Manual(Case):
         for option in ("--native", "--calls"):
             self.assertIn(option, text)
         with open(os.path.join(TOP, "tools", "install"), encoding="utf-8") as file:
-            tools = re.search(r'^TOOLS = "([^"]*)"', file.read(), re.M)[1].split()
+            tools = re.search(r'^TOOLS = "+([^"]*)"', file.read(), re.M)[1].split()
         for name in tools:
             self.assertRegex(text, rf"(?m)^\.B scf-{name}$", name)
         for status in (0, 1, 2, 3, 4, 125):

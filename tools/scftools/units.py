@@ -1,0 +1,242 @@
+"""Units of systemd: the profile that their settings of system calls state.
+
+The rules are those of systemd.exec(5). SystemCallFilter= is a list of what is allowed, or behind `~` of what is denied,
+by SystemCallErrorNumber= or by an errno of its own. SystemCallLog= is a list of what is logged, or behind `~` of what
+isn't. SystemCallArchitectures= are the architectures of which calls are permitted, beside the native one; where it is
+empty, all of them are.
+"""
+from __future__ import annotations
+
+import errno
+import json
+import os
+import re
+from collections.abc import Callable, Iterator, Sequence
+from dataclasses import dataclass, field
+
+from . import program
+from .engines import OCI_ARCH
+
+PROPERTIES = ("LoadState", "SystemCallFilter", "SystemCallErrorNumber", "SystemCallArchitectures", "SystemCallLog")
+# How `systemctl show` prints the error number of what is killed: SECCOMP_ERROR_NUMBER_KILL, which is INT_MAX - 1; older
+# systemds print 0.
+KILLED = ("2147483646", "0", "kill", "")
+MOST_ERRNO = 4095
+# What each list of allowed calls has beside those that it names.
+IMPLIED = "@default"
+# The names of ConditionArchitecture= and SystemCallArchitectures=, and those of the OCI specification.
+ARCHITECTURES = {name: f"SCMP_ARCH_{oci}" for name, oci in (
+    ("native", "X86_64"), ("x86-64", "X86_64"), ("x86", "X86"), ("x32", "X32"), ("arm", "ARM"), ("arm64", "AARCH64"),
+    ("loongarch64", "LOONGARCH64"), ("mips", "MIPS"), ("mips64", "MIPS64"), ("mips64-n32", "MIPS64N32"),
+    ("mips-le", "MIPSEL"), ("mips64-le", "MIPSEL64"), ("mips64-le-n32", "MIPSEL64N32"), ("parisc", "PARISC"),
+    ("parisc64", "PARISC64"), ("ppc", "PPC"), ("ppc64", "PPC64"), ("ppc64-le", "PPC64LE"), ("riscv64", "RISCV64"),
+    ("s390", "S390"), ("s390x", "S390X"))}
+# What an x86-64 kernel runs, of which systemd filters each.
+LOCAL = (OCI_ARCH, "SCMP_ARCH_X86", "SCMP_ARCH_X32")
+# The most bytes of what a command of systemd prints, and the deepest nesting of groups.
+MOST_PRINTED, DEEPEST = 1 << 20, 16
+
+
+class Refused(Exception):
+    """What systemd prints, or what is given in its place, isn't as systemd.exec(5) says."""
+
+
+@dataclass(frozen=True)
+class Answer:
+    """What a call is answered: an action of the OCI specification, and its errno where it has one."""
+
+    action: str
+    errno: int | None = None
+
+
+ALLOW, LOG, KILL = (Answer(f"SCMP_ACT_{name}") for name in ("ALLOW", "LOG", "KILL_PROCESS"))
+
+
+@dataclass
+class CallList:
+    """The calls of SystemCallFilter= or SystemCallLog=, each with an answer of its own or None.
+
+    A list that is inverted names what is denied, or isn't logged. In one that isn't, a call with an answer is denied.
+    """
+
+    is_inverted: bool
+    calls: dict[str, Answer | None] = field(default_factory=dict)
+
+
+@dataclass
+class Settings:
+    """What a unit states; lists that aren't set are None."""
+
+    filter: CallList | None
+    refusal: Answer = KILL
+    architectures: Sequence[str] = ()
+    log: CallList | None = None
+
+    def answer_of(self, name: str | None) -> Answer:
+        """What a call is answered by this name; by None, what one is that no list names."""
+        answer = ALLOW
+        if self.filter is not None:
+            is_named = name in self.filter.calls
+            own = self.filter.calls.get(name) if name is not None else None
+            is_denied = own is not None or is_named == self.filter.is_inverted
+            answer = (own or self.refusal) if is_denied else ALLOW
+        is_logged = self.log is not None and (name in self.log.calls) != self.log.is_inverted
+        return LOG if answer == ALLOW and is_logged else answer
+
+    def names(self) -> Iterator[str]:
+        """The names of all lists, each once."""
+        lists = [one.calls for one in (self.filter, self.log) if one is not None]
+        yield from dict.fromkeys(name for calls in lists for name in calls)
+
+
+def answer_of_errno(text: str) -> Answer:
+    """What an errno by its name or its number stands for, or the word `kill`."""
+    if text in KILLED[:1] or text == "kill":
+        return KILL
+    number = getattr(errno, text, None) if re.fullmatch("E[A-Z0-9]+", text) else None
+    if number is None and re.fullmatch("[0-9]{1,4}", text):
+        number = int(text)
+    if number is None or number > MOST_ERRNO:
+        raise Refused(f"'{text[:64]}' is no errno")
+    return Answer("SCMP_ACT_ERRNO", number)
+
+
+def refusal_of(text: str) -> Answer:
+    """What SystemCallErrorNumber= stands for."""
+    return KILL if text in KILLED else answer_of_errno(text)
+
+
+def architectures_of(text: str) -> list[str]:
+    """The architectures of a profile by SystemCallArchitectures=: the native one, and those that it names."""
+    words = text.split()
+    for word in words:
+        if word not in ARCHITECTURES:
+            raise Refused(f"'{word[:64]}' is no architecture")
+    return list(dict.fromkeys([OCI_ARCH, *(ARCHITECTURES[word] for word in words)])) if words else list(LOCAL)
+
+
+def groups_of(text: str) -> dict[str, list[str]]:
+    """The groups of calls that `systemd-analyze syscall-filter` prints; a group may name others."""
+    found: dict[str, list[str]] = {}
+    members: list[str] = []
+    for line in text.split("\n"):
+        word = line.strip()
+        if not word or word.startswith("#"):
+            continue
+        if line.startswith("@"):
+            members = found.setdefault(word, [])
+        else:
+            members.append(word)
+    return found
+
+
+class Reader:
+    """Reads lists of calls; groups are asked for where a list names one, and what is left out is told."""
+
+    def __init__(self, groups: Callable[[], dict[str, list[str]]], tell: Callable[[str], None]) -> None:
+        self.ask = groups
+        self.tell = tell
+        self.known: dict[str, list[str]] | None = None
+
+    def calls_of(self, name: str, depth: int = 0) -> Iterator[str]:
+        """The calls of a name, which may be a group's."""
+        if not name.startswith("@"):
+            yield name
+            return
+        if self.known is None:
+            self.known = self.ask()
+        if name not in self.known:
+            self.tell(f"{name} left out: systemd knows no such group")
+        elif depth > DEEPEST:
+            raise Refused(f"the group {name} is nested too deep")
+        else:
+            for member in self.known[name]:
+                yield from self.calls_of(member, depth + 1)
+
+    def add(self, found: CallList, word: str, is_inverted: bool) -> None:
+        """Adds a word of a list to what was listed before, or takes it away, as systemd merges assignments."""
+        name, colon, text = word.partition(":")
+        if colon and not is_inverted:
+            self.tell(f"{word} left out: a call that is allowed takes no errno")
+            return
+        own = answer_of_errno(text) if colon else None
+        for call in self.calls_of(name):
+            if is_inverted == found.is_inverted or own is not None:
+                found.calls[call] = own
+            else:
+                found.calls.pop(call, None)
+
+    def assigned(self, values: Sequence[str], implied: str | None = IMPLIED) -> CallList | None:
+        """The list of several assignments in their order: the first one says of which kind it is."""
+        found = None
+        for value in values:
+            if not value.strip():
+                found = None
+                continue
+            is_inverted = value.startswith("~")
+            words = value[is_inverted:].split()
+            if found is None:
+                found = CallList(is_inverted)
+                if implied is not None and not is_inverted:
+                    self.add(found, implied, False)
+            for word in words:
+                self.add(found, word, is_inverted)
+        return found if found is None or found.calls or not found.is_inverted else None
+
+    def shown(self, text: str) -> CallList | None:
+        """The list that `systemctl show` prints, in which groups are resolved; `~` alone is one that isn't set."""
+        return self.assigned([text], None) if text != "" else CallList(False)
+
+
+def printed_by(words: Sequence[str]) -> str:
+    """What a command of systemd prints."""
+    import subprocess  # pylint: disable=import-outside-toplevel
+
+    try:
+        done = subprocess.run(words, stdin=subprocess.DEVNULL, stdout=subprocess.PIPE, stderr=subprocess.PIPE,
+                              check=False, env={**os.environ, "LC_ALL": "C", "SYSTEMD_COLORS": "0"})
+    except OSError as error:
+        raise program.Refused(f"{words[0]} can't be run: {error.strerror}", program.FAILED) from error
+    if done.returncode:
+        said = done.stderr.decode("utf-8", "backslashreplace").strip().split("\n")[0]
+        raise program.Refused(f"{words[0]} ended with status {done.returncode}" + (f": {said}" if said else ""),
+                              program.FAILED)
+    if len(done.stdout) > MOST_PRINTED:
+        raise program.Refused(f"{words[0]} printed more than {MOST_PRINTED} bytes", program.FAILED)
+    return done.stdout.decode("utf-8", "surrogateescape")
+
+
+def all_groups() -> dict[str, list[str]]:
+    return groups_of(printed_by(["systemd-analyze", "--no-pager", "syscall-filter"]))
+
+
+def of_unit(unit: str, reader: Reader) -> Settings:
+    """What a unit states, as its manager shows it."""
+    text = printed_by(["systemctl", "--no-pager", "show", *(f"--property={name}" for name in PROPERTIES), "--", unit])
+    shown = {name: value for name, equals, value in (line.partition("=") for line in text.split("\n")) if equals}
+    if shown.get("LoadState", "loaded") != "loaded":
+        raise program.Refused(f"the unit {unit} isn't loaded: {shown['LoadState']}", program.FAILED)
+    if "SystemCallFilter" not in shown:
+        raise program.Refused(f"the unit {unit} runs no processes of its own: it has no SystemCallFilter",
+                              program.FAILED)
+    return Settings(reader.shown(shown["SystemCallFilter"]), refusal_of(shown.get("SystemCallErrorNumber", "")),
+                    architectures_of(shown.get("SystemCallArchitectures", "")),
+                    reader.shown(shown.get("SystemCallLog", "~")))
+
+
+def profile_of(settings: Settings) -> str:
+    """The text of the profile that the settings state."""
+    default = settings.answer_of(None)
+    named: dict[Answer, list[str]] = {}
+    for name in settings.names():
+        answer = settings.answer_of(name)
+        if answer != default:
+            named.setdefault(answer, []).append(name)
+    top: dict[str, object] = {"defaultAction": default.action}
+    if default.errno is not None:
+        top["defaultErrnoRet"] = default.errno
+    top["architectures"] = list(settings.architectures)
+    top["syscalls"] = [{"names": names, "action": answer.action,
+                        **({} if answer.errno is None else {"errnoRet": answer.errno})}
+                       for answer, names in named.items()]
+    return json.dumps(top, indent=4) + "\n"

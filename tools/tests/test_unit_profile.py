@@ -1,0 +1,196 @@
+"""tools/unit-profile: the settings of systemd.exec(5), by stand-ins that print what systemd 252 prints."""
+import json
+import os
+
+from common import SCF, TABLE, Case, part
+
+ALLOW, ERRNO, KILL, LOG = (f"SCMP_ACT_{name}" for name in ("ALLOW", "ERRNO", "KILL_PROCESS", "LOG"))
+NATIVE, ALL = ["SCMP_ARCH_X86_64"], ["SCMP_ARCH_X86_64", "SCMP_ARCH_X86", "SCMP_ARCH_X32"]
+# What `systemctl show` prints of an error number that isn't set: INT_MAX - 1.
+KILLED = "2147483646"
+# As `systemd-analyze syscall-filter` prints sets; behind them it tells of calls of the kernel that no set has.
+GROUPS = """@default
+    # System calls that are always permitted
+    brk
+    exit_group
+
+@outer
+    # A set with another one
+    @inner
+    openat
+
+@inner
+    # A set
+    read
+    write
+
+@round
+    @round
+
+# Ungrouped System Calls (known but not included in any of the groups except @known):
+#   mount
+"""
+
+
+class UnitProfile(Case):
+    def setUp(self):
+        super().setUp()
+        self.stand_in("systemd-analyze", f"cat <<'END'\n{GROUPS}END")
+        self.env = {**os.environ, "PATH": f"{self.folder}/bin:{os.environ['PATH']}"}
+
+    def stand_in(self, name, script):
+        path = self.file(f"bin/{name}", f"#!/bin/sh\nprintf '%s\\n' \"$@\" >>'{self.folder}/{name}.words'\n{script}\n")
+        os.chmod(path, 0o755)
+
+    def shows(self, *lines, **members):
+        """Has systemctl show these settings of a unit."""
+        found = {"LoadState": "loaded", "SystemCallFilter": "~", "SystemCallArchitectures": "",
+                 "SystemCallErrorNumber": KILLED, "SystemCallLog": "~", **members}
+        text = "".join(f"{name}={value}\n" for name, value in found.items() if value is not None)
+        self.stand_in("systemctl", f"cat <<'END'\n{text}END")
+
+    def printed(self, *words):
+        """The profile by these words, with its calls by their answers, and what is said."""
+        status, out, err = self.run_tool("unit-profile", *words, env=self.env)
+        self.assertEqual(status, 0, err)
+        found = json.loads(out)
+        calls = {(one["action"], one.get("errnoRet")): set(one["names"]) for one in found["syscalls"]}
+        self.assertEqual(len(calls), len(found["syscalls"]))
+        return (found["defaultAction"], found.get("defaultErrnoRet")), calls, found["architectures"], err
+
+    def of_unit(self, **members):
+        self.shows(**members)
+        return self.printed("box.service")
+
+    def refused(self, status, says, *words):
+        found, out, err = self.run_tool("unit-profile", *words, env=self.env)
+        self.assertEqual((found, out), (status, ""), err)
+        self.assertRegex(err, r"unit-profile: [^\n\x1b]*\n\Z")
+        self.assertIn(says, err)
+
+    def test_usage(self):
+        self.says_usage("unit-profile")
+        for words in (("a.service", "--errno", "1"), ("a.service", "--architectures", "x86"), ("a*",), ("",),
+                      ("a.service", "--log", "read"), ("a.service", "b.service"), ("--errno", "EPERM")):
+            self.refused(2, "unit-profile: ", *words)
+
+    def test_what_systemd_is_asked(self):
+        self.of_unit(SystemCallFilter="read")
+        with open(os.path.join(self.folder, "systemctl.words"), encoding="ascii") as file:
+            asked = file.read().split("\n")[:-1]
+        self.assertEqual((asked[:2], asked[-2:]), (["--no-pager", "show"], ["--", "box.service"]))
+        self.assertEqual(sorted(asked[2:-2]), [f"--property={name}" for name in (
+            "LoadState", "SystemCallArchitectures", "SystemCallErrorNumber", "SystemCallFilter", "SystemCallLog")])
+        self.assertFalse(os.path.exists(os.path.join(self.folder, "systemd-analyze.words")))
+
+    def test_a_unit_that_lists_what_is_allowed(self):
+        for number, default in ((KILLED, (KILL, None)), ("0", (KILL, None)), ("1", (ERRNO, 1)),
+                                ("4095", (ERRNO, 4095))):
+            self.assertEqual(self.of_unit(SystemCallFilter="_llseek read write", SystemCallErrorNumber=number),
+                             (default, {(ALLOW, None): {"_llseek", "read", "write"}}, ALL, ""))
+
+    def test_a_unit_that_lists_what_is_denied(self):
+        shown = "~add_key:4094 keyctl:0 mount ptrace:E2BIG reboot:EACCES swapon:kill"
+        self.assertEqual(self.of_unit(SystemCallFilter=shown, SystemCallErrorNumber="7"),
+                         ((ALLOW, None), {(ERRNO, 4094): {"add_key"}, (ERRNO, 0): {"keyctl"},
+                                          (ERRNO, 7): {"mount", "ptrace"}, (ERRNO, 13): {"reboot"},
+                                          (KILL, None): {"swapon"}}, ALL, ""))
+        calls = self.of_unit(SystemCallFilter="~mount swapon:EPERM")[1]
+        self.assertEqual(calls, {(KILL, None): {"mount"}, (ERRNO, 1): {"swapon"}})
+
+    def test_a_unit_without_a_filter(self):
+        says = "unit-profile: there is no SystemCallFilter: all calls are made\n"
+        for number in (KILLED, "1"):
+            self.assertEqual(self.of_unit(SystemCallErrorNumber=number), ((ALLOW, None), {}, ALL, says))
+        self.assertEqual(self.of_unit(SystemCallFilter=""), ((KILL, None), {}, ALL, ""))
+
+    def test_architectures(self):
+        for shown, expected in (("", ALL), ("native", NATIVE), ("x86-64", NATIVE), ("x32 x86", [*NATIVE, ALL[2],
+                                ALL[1]]), ("arm64", [*NATIVE, "SCMP_ARCH_AARCH64"]),
+                                ("native mips64-le-n32", [*NATIVE, "SCMP_ARCH_MIPSEL64N32"])):
+            self.assertEqual(self.of_unit(SystemCallArchitectures=shown)[2], expected)
+
+    def test_what_is_logged(self):
+        """A call that is made is logged where the list says so; one that is denied stays denied."""
+        for calls, log, expected in (
+                ("read openat", "openat mount", ((KILL, None), {(ALLOW, None): {"read"}, (LOG, None): {"openat"}})),
+                ("read openat", "~read mount", ((KILL, None), {(ALLOW, None): {"read"}, (LOG, None): {"openat"}})),
+                ("~mount:EPERM", "openat mount", ((ALLOW, None), {(LOG, None): {"openat"}, (ERRNO, 1): {"mount"}})),
+                ("~mount", "~read mount", ((LOG, None), {(ALLOW, None): {"read"}, (KILL, None): {"mount"}})),
+                ("~", "read", ((ALLOW, None), {(LOG, None): {"read"}}))):
+            self.assertEqual(self.of_unit(SystemCallFilter=calls, SystemCallLog=log)[:2], expected, (calls, log))
+
+    def test_assignments(self):
+        """The first says of which kind the list is, and later ones add to it or take away."""
+        implied = {"brk", "exit_group"}
+        for lists, default, calls in (
+                (["mount read"], KILL, {(ALLOW, None): implied | {"mount", "read"}}),
+                (["@outer", "~write brk"], KILL, {(ALLOW, None): {"exit_group", "read", "openat"}}),
+                (["~@outer"], ALLOW, {(KILL, None): {"read", "write", "openat"}}),
+                (["~@outer", "write mount"], ALLOW, {(KILL, None): {"read", "openat"}}),
+                (["~mount @inner:EACCES", "~mount:1"], ALLOW, {(ERRNO, 13): {"read", "write"}, (ERRNO, 1): {"mount"}}),
+                (["read", "~@inner:EACCES mount:ENOENT"], KILL, {
+                    (ALLOW, None): implied, (ERRNO, 13): {"read", "write"}, (ERRNO, 2): {"mount"}}),
+                (["read", "", "~mount"], ALLOW, {(KILL, None): {"mount"}}),
+                (["~read:kill", "~"], ALLOW, {(KILL, None): {"read"}})):
+            self.assertEqual(self.printed("--set", *lists), ((default, None), calls, ALL, ""), lists)
+        for lists in ([""], ["read", ""], ["~"]):
+            self.assertEqual(self.printed("--set", *lists)[:2], ((ALLOW, None), {}))
+        self.assertEqual(self.printed("--set", "read", "--errno", "EPERM", "--architectures", "native x86", "--log",
+                                      "brk", "~mount"),
+                         ((ERRNO, 1), {(ALLOW, None): {"exit_group", "read"}, (LOG, None): {"brk"}}, ALL[:2], ""))
+
+    def test_what_systemd_ignores(self):
+        for lists, says in (("read @none", "@none left out: systemd knows no such group"),
+                            ("read mount:EPERM", "mount:EPERM left out: a call that is allowed takes no errno")):
+            default, calls, _, err = self.printed("--set", lists)
+            self.assertEqual((default, calls), ((KILL, None), {(ALLOW, None): {"brk", "exit_group", "read"}}))
+            self.assertEqual(err, f"unit-profile: {says}\n")
+
+    def test_what_is_refused(self):
+        for words, says in ((("--set", "~read:ENOTHING"), "'ENOTHING' is no errno"),
+                            (("--set", "~read:4096"), "'4096' is no errno"), (("--set", "~read:"), "'' is no errno"),
+                            (("--set", "~read:strerror"), "'strerror' is no errno"),
+                            (("--set", "read", "--errno=-1"), "'-1' is no errno"),
+                            (("--set", "read", "--architectures", "x86 \x1b[2J"), "'\\x1b[2J' is no architecture"),
+                            (("--set", "@round"), "the group @round is nested too deep")):
+            self.refused(1, says, *words)
+
+    def test_units_that_are_not_there(self):
+        self.shows(LoadState="not-found")
+        self.refused(3, "the unit box isn't loaded: not-found", "box")
+        self.shows(SystemCallFilter=None)
+        self.refused(3, "the unit box.target runs no processes of its own", "box.target")
+        self.stand_in("systemctl", "echo 'Failed to \033[2Jconnect to bus' >&2; exit 1")
+        self.refused(3, "systemctl ended with status 1: Failed to \\x1b[2Jconnect to bus", "box")
+        self.stand_in("systemctl", "yes LoadState=loaded | head -c 2000000")
+        self.refused(3, "printed more than", "box")
+        self.env["PATH"] = f"{self.folder}/none"
+        path = self.run_words(["/usr/bin/python3", "-IS", "-c", "1"])[0]
+        if path == 0:
+            done = self.run_words(["/usr/bin/python3", "-IS", os.path.join(os.path.dirname(SCF), "tools",
+                                                                        "unit-profile"), "box"], env=self.env)
+            self.assertEqual(done, (3, "", "unit-profile: systemctl can't be run: No such file or directory\n"))
+
+    def test_hostile_names(self):
+        """They stay what they are in JSON, and forge nothing."""
+        self.shows(SystemCallFilter='read"],"action" \x1b[2J')
+        _, out, _ = self.run_tool("unit-profile", "box", env=self.env)
+        self.assertNotIn("\x1b", out)
+        self.assertEqual(json.loads(out)["syscalls"], [{"names": ['read"],"action"', "\x1b[2J"], "action": ALLOW}])
+
+    def test_scf_loads_what_it_prints(self):
+        self.shows(SystemCallFilter="~mount swapon:EPERM nosuchcall", SystemCallLog="read",
+                   SystemCallArchitectures="native")
+        out = self.run_tool("unit-profile", "box", env=self.env)[1]
+        with open(TABLE, "rb") as file:
+            bundle = part("profile", out.encode()) + part("table", file.read())
+        for name, number, line in (("mount", 165, "KILL_PROCESS 0 entry 0"), ("swapon", 167, "ERRNO 1 entry 1"),
+                                   ("read", 0, "LOG 0 entry 2"), ("write", 1, "ALLOW 0 default")):
+            self.assertEqual(self.run_words([SCF, "ask", "--nr", str(number)], bundle)[1].split("\n")[0], line, name)
+
+    def test_a_closed_and_a_full_output(self):
+        self.shows(SystemCallFilter="read")
+        with open("/dev/full", "wb") as full:
+            status, _, err = self.run_tool("unit-profile", "box", env=self.env, stdout=full)
+        self.assertEqual((status, err), (3, "unit-profile: the output failed: No space left on device\n"))
