@@ -28,6 +28,7 @@ packages is imported. So it adds its own folder to the path of imports, by its r
     processes   processes: all of their threads held still, and the filters that the kernel keeps of each
     foreign     calls that aren't native: whether any is let through
     verifying   the filters of processes beside a profile, each distinct stack by itself
+    hooks       hooks of container runtimes: whether a container's process is confined as configured
     units       the profile that a unit of systemd states by its settings of system calls
 
 And those of `tools/kernel`:

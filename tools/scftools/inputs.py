@@ -13,7 +13,9 @@ from . import output, program
 # The most bytes of what scf reads: a filter of 4096 instructions, a profile, a table; and of what the tools alone
 # read: an engine's profile, a kernel's header, a list of calls to try.
 LIMITS = {"filter": 1 << 15, "profile": 1 << 22, "table": 1 << 22,
-          "engine's profile": 1 << 24, "header": 1 << 22, "list of calls": 1 << 16}
+          "engine's profile": 1 << 24, "header": 1 << 22, "list of calls": 1 << 16,
+          # of oci-hook alone: what a runtime says of a container
+          "state": 1 << 20}
 
 
 def _why(name: str, kind: str, error: OSError) -> str:
