@@ -213,12 +213,12 @@ def own_path() -> str:
 
 
 def guarded(look: Callable[[], Result]) -> Result:
-    """What is found; where that fails, why."""
+    """What is found; where that fails, whatever fails, why."""
     try:
         return look()
-    except Failed as why:
+    except (Failed, program.Refused) as why:
         return failed(str(why))
-    except program.Refused as why:
-        if why.status == program.NO_PROGRAM:
-            raise
-        return failed(str(why))
+    except MemoryError:
+        return failed("memory was refused")
+    except OSError as error:
+        return failed(f"it can't be looked at: {error.strerror}")

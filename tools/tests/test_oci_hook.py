@@ -16,7 +16,7 @@ from confined import Confined, FakeKernel, here
 from test_filters_of import MOUNT, ROOT, UMOUNT2, refuses, refusing
 
 sys.path.insert(0, os.path.join(TOP, "tools"))
-from scftools import hooks, processes  # noqa: E402 pylint: disable=wrong-import-position
+from scftools import hooks, processes, program  # noqa: E402 pylint: disable=wrong-import-position
 
 NO_MEMBER = object()
 
@@ -260,6 +260,14 @@ class Inside(Hook):
         with mock.patch("os.kill") as kill:
             self.assertEqual(process.kill(), f"process {child.pid} has ended already")
         kill.assert_not_called()
+
+    def test_whatever_fails(self):
+        """It is said, and isn't taken for a process that is confined."""
+        for error, says in ((MemoryError(), "memory was refused"),
+                            (OSError(5, "failed"), "it can't be looked at: failed"),
+                            (program.Refused("no scf", program.NO_PROGRAM), "no scf"), (hooks.Failed("no"), "no")):
+            result = hooks.guarded(mock.Mock(side_effect=error))
+            self.assertEqual((result.status, result.lines, result.value["verdict"]), (3, [says], None))
 
     def test_the_log(self):
         """A line each, escaped, without the names that were left out; as an error where it isn't so."""
