@@ -333,6 +333,30 @@ class Names(unittest.TestCase):
                 self.assertEqual(named.count(os.path.relpath(path, TOP)), 1, path)
 
 
+class Recipes(Case):
+    """docs/RECIPES.md: each tool that it names is there, and takes the options that stand behind it."""
+
+    def commands(self):
+        """The tools of the page's commands, each with the options of its own."""
+        text = text_of("docs", "RECIPES.md")
+        for body in re.findall(r"^```\w+\n(.*?)^```$", text, re.M | re.S) + re.findall(r"`([^`\n]+)`", text):
+            count = 1
+            while count:
+                body, count = re.subn(r"\$\([^()]*\)", "", body)
+            for name, rest in re.findall(r"\b(?:tools/|scf-)([a-z-]+)([^\n|;&]*)", body):
+                yield name, re.findall(r"(?<= )--[a-z-]+", rest)
+
+    def test_each_is_there(self):
+        found = list(self.commands())
+        self.assertGreater(len(found), 15)
+        for name, options in found:
+            with self.subTest(name):
+                status, out, _ = self.run_tool(name, "--help")
+                self.assertEqual(status, 0)
+                for option in options:
+                    self.assertRegex(out, rf"{option}\b(?!-)")
+
+
 class Manual(Case):
     """docs/scf.1."""
 
