@@ -11,10 +11,10 @@ import os
 import signal
 import sys
 import time
-from collections.abc import Callable, Iterator, Sequence
+from collections.abc import Callable, Sequence
 from dataclasses import dataclass
 
-from . import comparing, engines, inputs, output, processes, program, verifying
+from . import comparing, engines, inputs, output, processes, program, verdicts, verifying
 from .processes import Found, Kernel
 
 TYPE_CHECKING = False
@@ -156,9 +156,11 @@ class Result:
 
 
 def judged(found: Found, asked: verifying.Asked) -> Result:
+    """What is said of each distinct stack, but for the names that were left out, which are counted."""
     blocks = verifying.blocks(found, asked)
-    return Result(verifying.worst(blocks), list(verifying.lines(blocks, found, asked.scope)),
-                  verifying.as_json(blocks, found, asked.scope, None))
+    lines = [line for line in verifying.lines(blocks, found, asked.scope)
+             if line and not line.startswith(verdicts.LEFT_OUT)]
+    return Result(verifying.worst(blocks), lines, verifying.as_json(blocks, found, asked.scope, None))
 
 
 def unstated(is_allowed: bool) -> Result:
@@ -173,18 +175,13 @@ def failed(why: str) -> Result:
                                           "why": why})
 
 
-def of_log(lines: Sequence[str]) -> Iterator[str]:
-    """The lines for the system log: without the names that were left out, which may be many."""
-    yield from (line for line in lines if not line.startswith(("skipped ", "other ")))
-
-
 def write_log(name: str, result: Result, lines: Sequence[str]) -> None:
     """Writes lines to the system log; where there is none, they are lost."""
     import syslog  # pylint: disable=import-outside-toplevel
 
     syslog.openlog(output.escaped(name), syslog.LOG_PID, syslog.LOG_DAEMON)
     level = syslog.LOG_INFO if result.status == program.WELL else syslog.LOG_ERR
-    for line in of_log(lines):
+    for line in lines:
         syslog.syslog(level, output.escaped(line))
     syslog.closelog()
 

@@ -91,7 +91,7 @@ class Settings:
 
 def answer_of_errno(text: str) -> Answer:
     """What an errno by its name or its number stands for, or the word `kill`."""
-    if text in KILLED[:1] or text == "kill":
+    if text in (KILLED[0], "kill"):
         return KILL
     number = getattr(errno, text, None) if re.fullmatch("E[A-Z0-9]+", text) else None
     if number is None and re.fullmatch("[0-9]{1,4}", text):

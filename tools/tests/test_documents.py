@@ -381,14 +381,16 @@ class Manual(Case):
         for command in commands:
             self.assertRegex(text, rf"(?m)^\.B[R]? {command}\b", command)
         for option in ("--nr", "--arch", "--ip", "--a0", "--a5", "--limit", "--table", "--caps", "--kernel",
-                       "--calls-from", "--thread"):
+                       "--calls-from", "--thread", "--wait", "--set"):
             self.assertRegex(text, rf"(?m)^\.BI? ?{option} |\" {option} ", option)
-        for option in ("--json", "--all", "--native", "--calls", "--keep-first"):
+        for option in ("--json", "--all", "--native", "--calls", "--keep-first", "--kill", "--allow-unconfined",
+                       "--print-hook"):
             self.assertRegex(text, rf"(?m)^\.B {option}$", option)
         for option in ("--native", "--calls"):
             self.assertIn(option, text)
         with open(os.path.join(TOP, "tools", "install"), encoding="utf-8") as file:
-            tools = re.search(r'^TOOLS = "+([^"]*)"', file.read(), re.M)[1].split()
+            tools = re.findall(r"[a-z-]+", re.search(r"^TOOLS = \(([^)]*)\)", file.read(), re.M)[1])
+        self.assertIn("verify-process", tools)
         for name in tools:
             self.assertRegex(text, rf"(?m)^\.B scf-{name}$", name)
         for status in (0, 1, 2, 3, 4, 125):

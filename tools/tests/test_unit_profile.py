@@ -1,6 +1,8 @@
 """tools/unit-profile: the settings of systemd.exec(5), by stand-ins that print what systemd 252 prints."""
 import json
 import os
+import shutil
+import unittest
 
 from common import SCF, TABLE, Case, part
 
@@ -171,6 +173,21 @@ class UnitProfile(Case):
             done = self.run_words(["/usr/bin/python3", "-IS", os.path.join(os.path.dirname(SCF), "tools",
                                                                         "unit-profile"), "box"], env=self.env)
             self.assertEqual(done, (3, "", "unit-profile: systemctl can't be run: No such file or directory\n"))
+
+    @unittest.skipUnless(shutil.which("systemd-analyze"), "there is no systemd-analyze here")
+    def test_the_groups_of_a_real_systemd(self):
+        """What systemd.exec(5) says of some groups; @known has all of the others."""
+        self.env = dict(os.environ)
+        default, calls, _, err = self.printed("--set", "~@mount @reboot:EPERM @no-such-group")
+        self.assertEqual((default, err), ((ALLOW, None),
+                                          "unit-profile: @no-such-group left out: systemd knows no such group\n"))
+        self.assertLessEqual({"mount", "umount2", "chroot", "pivot_root"}, calls[KILL, None])
+        self.assertLessEqual({"reboot", "kexec_load"}, calls[ERRNO, 1])
+        known = self.printed("--set", "@known")[1][ALLOW, None]
+        service = self.printed("--set", "@system-service")[1][ALLOW, None]
+        self.assertLess(service, known)
+        self.assertLessEqual({"read", "openat", "execve", "exit_group", "nanosleep"}, service)
+        self.assertFalse({"mount", "reboot", "swapon", "ptrace", "settimeofday"} & service)
 
     def test_hostile_names(self):
         """They stay what they are in JSON, and forge nothing."""
