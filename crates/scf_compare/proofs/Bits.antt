@@ -1,9 +1,9 @@
 -- Words under masks.
-use Rattle.std.proofs.Common.{◌≡◌, ◌≢◌, ℕ, ◌<◌, ◌≤◌, ◌^◌, ◌↔◌, Bool, true, false, not, eqb, leb, List, refl, sym, ap, subst, ◌∙◌, arith, bit_and}
+use Rattle.std.proofs.Common.{◌≡◌, ◌≢◌, ℕ, ◌<◌, ◌≤◌, ◌^◌, true, false, eqb, leb, List, sym, ◌∙◌, arith, bit_and}
 use Rattle.std.specs.Prelude.{slice_index}
 use Rattle.std.proofs.lemmas.Bool.{eq-eqb, eqb-true}
 use Rattle.std.proofs.lemmas.Bool.Decides.{nat_tests}
-use Rattle.std.proofs.lemmas.Nat.{and_mask, and_assoc}
+use Rattle.std.proofs.lemmas.Nat.{and_mask}
 use Rattle.std.proofs.Math.Nat.{mod-eq_of_lt}
 use Rattle.scf_insn.specs.Words.{IsWords}
 use Rattle.scf_insn.proofs.CallWords.{word_below}
@@ -11,20 +11,6 @@ use Rattle.scf_insn.proofs.CallWords.{word_below}
 -- a word under all of its bits is the word
 pub whole_word : (x : ℕ) → x < 2 ^ 32 → x ≡ bit_and x 4294967295
 whole_word x h = sym (and_mask x 32 ∙ mod-eq_of_lt h)
-
-pub under_both : (w m v x : ℕ) → x ≡ bit_and w m → bit_and x v ≡ bit_and w (bit_and m v)
-under_both w m v x h = ap (λ n. bit_and n v) h ∙ and_assoc v w m
-
-opposite : (b : Bool) → (not b ≡ true) ↔ (b ≡ false)
-opposite true = (λ h. cc, λ h. cc)
-opposite false = (λ h. refl, λ h. refl)
-
--- a bit is common with a word under a mask where the word under both masks isn't 0
-pub common_bit : (w m v : ℕ)
-    → (not (eqb (bit_and (bit_and w m) v) 0) ≡ true) ↔ (eqb (bit_and w (bit_and m v)) 0 ≡ false)
-common_bit w m v =
-    subst (λ n. (not (eqb (bit_and (bit_and w m) v) 0) ≡ true) ↔ (eqb n 0 ≡ false)) (and_assoc v w m)
-    (opposite (eqb (bit_and (bit_and w m) v) 0))
 
 -- ---- what an atom's answer about a whole word means
 

@@ -1,9 +1,6 @@
 -- The headline follows from what verdicts claim, since a stack and a profile have one answer each to a call record.
-use Rattle.std.proofs.Common.{ℕ, ◌≤◌, List, length, arith}
-use Rattle.scf_insn.specs.declared.insn.Insn.{Insn}
+use Rattle.std.proofs.Common.{arith}
 use Rattle.scf_insn.specs.Words.{words_of}
-use Rattle.scf_machine.specs.Machine.{IsRun}
-use Rattle.scf_machine.specs.Rules.{IsFilter}
 use Rattle.scf_machine.proofs.Runs.{run_length, runs_safely}
 use Rattle.scf_compare.specs.Headline.{DiffersIsShown, EveryRunEnds, SameIsTrue}
 use Rattle.scf_compare.proofs.Relations.{related_here}

@@ -4,7 +4,7 @@ use Rattle.std.proofs.Common.{bit_and, bit_or, bit_xor, min, max}
 use Rattle.std.specs.Prelude.{List, slice_index}
 use Rattle.std.specs.Int.{bit_at}
 use Rattle.std.proofs.lemmas.Bool.{eq-eqb, eqb-true}
-use Rattle.std.proofs.lemmas.Nat.{and_shr, xor_shr, and_block, and_comm, and_le_l, and_le_r, and_assoc, pow-add, pow_pos, div-add-mod', div-mul-add}
+use Rattle.std.proofs.lemmas.Nat.{and_shr, xor_shr, and_block, and_le_l, and_le_r, and_assoc, pow-add, pow_pos, div-add-mod', div-mul-add}
 use Rattle.std.proofs.lemmas.Nat.Bits.{bit_at_and, bit_at_or, bit_at_xor, bit_at-lt, bit_at-zero, same_from_bits}
 use Rattle.std.proofs.Math.Nat.{div-add-mod, div-div-eq-div-mul, div-one, mod-eq_of_lt, mod-lt, mul-le-mul_left, mul_comm, mul_left_comm}
 use Rattle.scf_compare.specs.declared.image.Image.{Image}
@@ -187,11 +187,3 @@ of_whole_word image words word whole same below =
     ∙ ap (λ n. bit_xor (bit_and (slice_index words image.word / 2 ^ n) 4294967295) 0) (sym whole.shift)
     ∙ ap (λ n. bit_xor (bit_and (slice_index words image.word / 2 ^ image.shift) n) 0) (sym whole.mask)
     ∙ ap (λ n. bit_xor (bit_and (slice_index words image.word / 2 ^ image.shift) image.mask) n) (sym whole.flipped)
-
--- a word under a mask, where the whole word is under it
-pub whole_mask : (image : Image) (v : ℕ) → IsWhole image → v < 2 ^ 32 → bit_and image.mask v * 2 ^ image.shift ≡ v
-whole_mask image v whole below =
-    ap (λ n. bit_and n v * 2 ^ image.shift) whole.mask
-    ∙ ap (λ n. bit_and 4294967295 v * 2 ^ n) whole.shift
-    ∙ (let one : bit_and 4294967295 v * 2 ^ 0 ≡ bit_and 4294967295 v = omega arith in one)
-    ∙ and_comm 4294967295 v ∙ sym (whole_word v below)
