@@ -1,14 +1,17 @@
 -- Images of a word, bit by bit.
-use Rattle.std.proofs.Common.{◌≡◌, ℕ, ◌+◌, ◌*◌, ◌/◌, ◌%◌, ◌<◌, ◌≤◌, ◌^◌, ◌↔◌, Bool, true, false, eqb, refl, sym, ap, subst, ◌∙◌, arith}
+use Rattle.std.proofs.Common.{◌≡◌, ◌≢◌, ℕ, ◌+◌, ◌-◌, ◌*◌, ◌/◌, ◌%◌, ◌<◌, ◌≤◌, ◌^◌, ◌↔◌, Bool, true, false, eqb, refl, sym, ap, subst, ◌∙◌, arith}
 use Rattle.std.proofs.Common.{bit_and, bit_or, bit_xor, min, max}
 use Rattle.std.specs.Prelude.{List, slice_index}
 use Rattle.std.specs.Int.{bit_at}
 use Rattle.std.proofs.lemmas.Bool.{eq-eqb, eqb-true}
-use Rattle.std.proofs.lemmas.Nat.{and_shr, xor_shr, and_block, and_le_l, and_le_r, and_assoc, pow-add, pow_pos, div-add-mod', div-mul-add}
-use Rattle.std.proofs.lemmas.Nat.Bits.{bit_at_and, bit_at_or, bit_at_xor, bit_at-lt, bit_at-zero, same_from_bits}
-use Rattle.std.proofs.Math.Nat.{div-add-mod, div-div-eq-div-mul, div-one, mod-eq_of_lt, mod-lt, mul-le-mul_left, mul_comm, mul_left_comm}
+use Rattle.std.specs.Int.Bits.{and_zero_r, xor_zero_l, xor_zero_r}
+use Rattle.std.proofs.lemmas.Nat.{and_shr, xor_shr, xor_lt, xor_mod, and_block, xor_block, and_comm, and_le_l, and_le_r, and_assoc, and_mask}
+use Rattle.std.proofs.lemmas.Nat.{shl-shr, pow-add, pow_pos, div-add-mod'}
+use Rattle.std.proofs.lemmas.Nat.Bits.{bit_at_and, bit_at_or, bit_at_xor, bit_at-lt, same_from_bits}
+use Rattle.std.proofs.Math.Nat.{div-add-mod, div-div-eq-div-mul, div-eq_of_lt, div-mul-le_self, div-one, mod-eq_of_lt, mod-le, mod-lt, mul-le-mul_left, mul_assoc, mul_comm, mul_left_comm}
+use Rattle.std.proofs.Math.Pow.{pow_mono, shr_mono}
 use Rattle.scf_compare.specs.declared.image.Image.{Image}
-use Rattle.scf_compare.specs.internal.Images.{IsWhole, image_number}
+use Rattle.scf_compare.specs.internal.Images.{IsWhole, shifted_word, image_number}
 use Rattle.scf_compare.proofs.Bits.{whole_word}
 
 flipped_bit : (a c : ℕ) → a < 2 → c < 2 → ((a + c) % 2 + c) % 2 ≡ a
@@ -68,15 +71,6 @@ image_or w m c v =
     (bit_at_xor m (bit_and m v) i ∙ ap (λ n. (bit_at m i + n) % 2) (bit_at_and m v i)))
     ∙ ap (λ n. (min (bit_at w i) ((bit_at m i + min (bit_at m i) (bit_at v i)) % 2) + n) % 2) (bit_at_or c v i)))
 
--- an image shifted to the right
-pub image_shifted : (w s m c k : ℕ)
-    → bit_xor (bit_and (w / 2 ^ s) m) c / 2 ^ k ≡ bit_xor (bit_and (w / 2 ^ (s + k)) (m / 2 ^ k)) (c / 2 ^ k)
-image_shifted w s m c k =
-    xor_shr (bit_and (w / 2 ^ s) m) c k
-    ∙ ap (λ n. bit_xor n (c / 2 ^ k))
-    (and_shr (w / 2 ^ s) m k
-    ∙ ap (λ n. bit_and n (m / 2 ^ k)) (div-div-eq-div-mul w (2 ^ s) (2 ^ k) ∙ ap (λ n. w / n) (sym (pow-add 2 s k))))
-
 -- a word under a mask that is shifted back
 shifted_back : (w m s : ℕ) → bit_and w (m * 2 ^ s) ≡ bit_and (w / 2 ^ s) m * 2 ^ s
 shifted_back w m s =
@@ -88,13 +82,13 @@ shifted_back w m s =
     subst (λ n. bit_and n (m * 2 ^ s) ≡ bit_and (w / 2 ^ s) m * 2 ^ s) whole
     (subst (λ n. bit_and (w / 2 ^ s * 2 ^ s + w % 2 ^ s) n ≡ bit_and (w / 2 ^ s) m * 2 ^ s) mask (blocks ∙ sum))
 
-scaled_back : (a s : ℕ) → a * 2 ^ s / 2 ^ s ≡ a
-scaled_back a s =
-    let plus : a * 2 ^ s + 0 ≡ a * 2 ^ s = omega arith in
-    subst (λ n. n / 2 ^ s ≡ a) plus (div-mul-add a (2 ^ s) 0 (pow_pos s))
+-- a word shifted to the left, under a mask
+under_mask : (y t m : ℕ) → bit_and (y * 2 ^ t) m ≡ bit_and y (m / 2 ^ t) * 2 ^ t
+under_mask y t m =
+    and_comm (y * 2 ^ t) m ∙ shifted_back m y t ∙ ap (λ n. n * 2 ^ t) (and_comm (m / 2 ^ t) y)
 
 scaled_once : (a b s : ℕ) → a * 2 ^ s ≡ b * 2 ^ s → a ≡ b
-scaled_once a b s e = sym (scaled_back a s) ∙ ap (λ n. n / 2 ^ s) e ∙ scaled_back b s
+scaled_once a b s e = sym (shl-shr a s) ∙ ap (λ n. n / 2 ^ s) e ∙ shl-shr b s
 
 -- the bits under a mask are flipped to a number where they are the number flipped
 unflipped : (y c v : ℕ) → bit_xor y c ≡ v → y ≡ bit_xor v c
@@ -105,54 +99,77 @@ in_range m u s fits least =
     let scaled : 2 ^ s * u ≤ 2 ^ s * m = mul-le-mul_left (2 ^ s) least in
     omega arith
 
+-- a number shifted to the right and back, that stays, was a multiple
+same_shifted_back : (u t : ℕ) → u / 2 ^ t * 2 ^ t % 2 ^ 32 ≡ u → u / 2 ^ t * 2 ^ t ≡ u
+same_shifted_back u t e = omega (arith, e, div-mul-le_self u (2 ^ t), mod-le (u / 2 ^ t * 2 ^ t) (2 ^ 32))
+
 -- an image is a number where its word is another under the mask that is shifted back
-pub image_is : (w s m c v : ℕ) → m * 2 ^ s < 2 ^ 32 → bit_xor v c ≤ m
-    → (eqb (bit_xor (bit_and (w / 2 ^ s) m) c) v ≡ true)
-    ↔ (eqb (bit_and w (m * 2 ^ s % 2 ^ 32)) (bit_xor v c * 2 ^ s % 2 ^ 32) ≡ true)
-image_is w s m c v fits least =
+pub image_is : (w s t m c v : ℕ) → m / 2 ^ t * 2 ^ s < 2 ^ 32 → bit_xor v c / 2 ^ t ≤ m / 2 ^ t
+    → bit_xor v c / 2 ^ t * 2 ^ t % 2 ^ 32 ≡ bit_xor v c
+    → (eqb (bit_xor (bit_and (w / 2 ^ s * 2 ^ t) m) c) v ≡ true)
+    ↔ (eqb (bit_and w (m / 2 ^ t * 2 ^ s % 2 ^ 32)) (bit_xor v c / 2 ^ t * 2 ^ s % 2 ^ 32) ≡ true)
+image_is w s t m c v fits least stays =
     let u = bit_xor v c in
-    let y = bit_and (w / 2 ^ s) m in
-    let mask : m * 2 ^ s % 2 ^ 32 ≡ m * 2 ^ s = mod-eq_of_lt fits in
-    let value : u * 2 ^ s % 2 ^ 32 ≡ u * 2 ^ s = mod-eq_of_lt (in_range m u s fits least) in
-    let word : bit_and w (m * 2 ^ s % 2 ^ 32) ≡ y * 2 ^ s = ap (bit_and w) mask ∙ shifted_back w m s in (
+    let n = m / 2 ^ t in
+    let y = bit_and (w / 2 ^ s) n in
+    let mask : n * 2 ^ s % 2 ^ 32 ≡ n * 2 ^ s = mod-eq_of_lt fits in
+    let value : u / 2 ^ t * 2 ^ s % 2 ^ 32 ≡ u / 2 ^ t * 2 ^ s = mod-eq_of_lt (in_range n (u / 2 ^ t) s fits least) in
+    let word : bit_and w (n * 2 ^ s % 2 ^ 32) ≡ y * 2 ^ s = ap (bit_and w) mask ∙ shifted_back w n s in
+    let image : bit_and (w / 2 ^ s * 2 ^ t) m ≡ y * 2 ^ t = under_mask (w / 2 ^ s) t m in
+    let back : u / 2 ^ t * 2 ^ t ≡ u = same_shifted_back u t stays in (
       λ is.
+          let same : y ≡ u / 2 ^ t =
+          scaled_once y (u / 2 ^ t) t (sym image ∙ unflipped _ c v (eqb-true _ _ is) ∙ sym back) in
+          eq-eqb _ _ (word ∙ ap (λ n. n * 2 ^ s) same ∙ sym value),
+      λ is.
+          let same : y ≡ u / 2 ^ t = scaled_once y (u / 2 ^ t) s (sym word ∙ eqb-true _ _ is ∙ value) in
           eq-eqb _ _
-          (word ∙ ap (λ n. n * 2 ^ s) (unflipped y c v (eqb-true _ _ is)) ∙ sym value),
-      λ is.
-          let back : y ≡ u = scaled_once y u s (sym word ∙ eqb-true _ _ is ∙ value) in
-          eq-eqb _ _ (ap (λ n. bit_xor n c) back ∙ flipped_twice v c),
+          (ap (λ n. bit_xor n c) (image ∙ ap (λ n. n * 2 ^ t) same ∙ back) ∙ flipped_twice v c),
     )
 
 not_equal : (a b : ℕ) (test : Bool) → eqb a b ≡ test → (a ≡ b → ⊥) → eqb a b ≡ false
 not_equal a b true e apart = absurd (apart (eqb-true a b e))
 not_equal a b false e apart = e
 
+-- an image that is a number is so in the bits of its mask, shifted back
+same_bits : (w s t m c v : ℕ) → bit_xor (bit_and (w / 2 ^ s * 2 ^ t) m) c ≡ v
+    → bit_and (w / 2 ^ s) (m / 2 ^ t) * 2 ^ t ≡ bit_xor v c
+same_bits w s t m c v same = sym (under_mask (w / 2 ^ s) t m) ∙ unflipped _ c v same
+
 -- and never a number that has a bit past the mask
-pub image_isnt : (w s m c v : ℕ) → m < bit_xor v c → eqb (bit_xor (bit_and (w / 2 ^ s) m) c) v ≡ false
-image_isnt w s m c v past =
-    not_equal (bit_xor (bit_and (w / 2 ^ s) m) c) v _ refl
+pub image_isnt : (w s t m c v : ℕ) → m / 2 ^ t < bit_xor v c / 2 ^ t
+    → eqb (bit_xor (bit_and (w / 2 ^ s * 2 ^ t) m) c) v ≡ false
+image_isnt w s t m c v past =
+    not_equal (bit_xor (bit_and (w / 2 ^ s * 2 ^ t) m) c) v _ refl
     (λ same.
-    let back = unflipped (bit_and (w / 2 ^ s) m) c v same in
-    let contrary : ⊥ = omega (arith, back, and_le_r (w / 2 ^ s) m) in contrary)
+    let back = same_bits w s t m c v same in
+    let bits : bit_and (w / 2 ^ s) (m / 2 ^ t) ≡ bit_xor v c / 2 ^ t = sym (shl-shr _ t) ∙ ap (λ n. n / 2 ^ t) back in
+    let contrary : ⊥ = omega (arith, bits, and_le_r (w / 2 ^ s) (m / 2 ^ t)) in contrary)
 
-unflipped_bit : (a : ℕ) → a < 2 → (a + 0) % 2 ≡ a
-unflipped_bit a h = omega arith
+-- or one that has a bit below those of the word
+pub image_below : (w s t m c v : ℕ) → bit_xor v c < 2 ^ 32 → bit_xor v c / 2 ^ t * 2 ^ t % 2 ^ 32 ≢ bit_xor v c
+    → eqb (bit_xor (bit_and (w / 2 ^ s * 2 ^ t) m) c) v ≡ false
+image_below w s t m c v fits past =
+    not_equal (bit_xor (bit_and (w / 2 ^ s * 2 ^ t) m) c) v _ refl
+    (λ same.
+    let back = same_bits w s t m c v same in
+    let bits : bit_and (w / 2 ^ s) (m / 2 ^ t) ≡ bit_xor v c / 2 ^ t = sym (shl-shr _ t) ∙ ap (λ n. n / 2 ^ t) back in
+    past (ap (λ n. n * 2 ^ t % 2 ^ 32) (sym bits) ∙ ap (λ n. n % 2 ^ 32) back ∙ mod-eq_of_lt fits))
 
-xor_zero : (a : ℕ) → bit_xor a 0 ≡ a
-xor_zero a = same_from_bits (bit_xor a 0) a
-    (λ i.
-    bit_at_xor a 0 i ∙ ap (λ n. (bit_at a i + n) % 2) (bit_at-zero i) ∙ unflipped_bit (bit_at a i) (bit_at-lt a i))
+-- a word that isn't shifted
+unshifted : (w : ℕ) → w / 2 ^ 0 * 2 ^ 0 ≡ w
+unshifted w = let once : w / 2 ^ 0 * 2 ^ 0 ≡ w / 2 ^ 0 = omega arith in once ∙ div-one w
 
 -- a whole word is an image of itself
-pub whole_image : (w : ℕ) → w < 2 ^ 32 → w ≡ bit_xor (bit_and (w / 2 ^ 0) 4294967295) 0
-whole_image w h = whole_word w h ∙ ap (λ n. bit_and n 4294967295) (sym (div-one w)) ∙ sym (xor_zero _)
+whole_image : (w : ℕ) → w < 2 ^ 32 → w ≡ bit_xor (bit_and (w / 2 ^ 0 * 2 ^ 0) 4294967295) 0
+whole_image w h = whole_word w h ∙ ap (λ n. bit_and n 4294967295) (sym (unshifted w)) ∙ sym (xor_zero_r _)
 
 regrouped : (a b c : ℕ) → a * (b * c) ≡ b * (c * a)
 regrouped a b c = mul_left_comm a b c ∙ ap (λ n. b * n) (mul_comm a c)
 
 -- a mask shifted to the right lets no bit more through
-pub mask_shifted : (m s k : ℕ) → m * 2 ^ s < 2 ^ 32 → m / 2 ^ k * 2 ^ (s + k) < 2 ^ 32
-mask_shifted m s k fits =
+fits_shifted : (m s k : ℕ) → m * 2 ^ s < 2 ^ 32 → m / 2 ^ k * 2 ^ (s + k) < 2 ^ 32
+fits_shifted m s k fits =
     let part : 2 ^ k * (m / 2 ^ k) + m % 2 ^ k ≡ m = div-add-mod m (2 ^ k) in
     let least : 2 ^ k * (m / 2 ^ k) ≤ m = omega arith in
     let scaled : 2 ^ s * (2 ^ k * (m / 2 ^ k)) ≤ 2 ^ s * m = mul-le-mul_left (2 ^ s) least in
@@ -160,8 +177,9 @@ mask_shifted m s k fits =
     (let same : m / 2 ^ k * (2 ^ s * 2 ^ k) ≡ 2 ^ s * (2 ^ k * (m / 2 ^ k)) = regrouped (m / 2 ^ k) (2 ^ s) (2 ^ k) in
     omega (arith, same, scaled))
 
-pub mask_within : (m n s : ℕ) → m * 2 ^ s < 2 ^ 32 → n ≤ m → n * 2 ^ s < 2 ^ 32
-mask_within m n s fits least = in_range m n s fits least
+-- nor does one with fewer bits
+pub mask_within : (m n t s : ℕ) → m / 2 ^ t * 2 ^ s < 2 ^ 32 → n ≤ m → n / 2 ^ t * 2 ^ s < 2 ^ 32
+mask_within m n t s fits least = in_range (m / 2 ^ t) (n / 2 ^ t) s fits (shr_mono t least)
 
 left_bit : (m v : ℕ) → m < 2 → v < 2 → (m + min m v) % 2 ≡ min m ((m + min m v) % 2)
 left_bit m v h k = omega arith
@@ -183,7 +201,105 @@ pub of_whole_word : (image : Image) (words : List ℕ) (word : ℕ) → IsWhole 
     → slice_index words word < 2 ^ 32 → slice_index words word ≡ image_number image words
 of_whole_word image words word whole same below =
     whole_image (slice_index words word) below
-    ∙ ap (λ n. bit_xor (bit_and (slice_index words n / 2 ^ 0) 4294967295) 0) (sym same)
-    ∙ ap (λ n. bit_xor (bit_and (slice_index words image.word / 2 ^ n) 4294967295) 0) (sym whole.shift)
-    ∙ ap (λ n. bit_xor (bit_and (slice_index words image.word / 2 ^ image.shift) n) 0) (sym whole.mask)
-    ∙ ap (λ n. bit_xor (bit_and (slice_index words image.word / 2 ^ image.shift) image.mask) n) (sym whole.flipped)
+    ∙ ap (λ n. bit_xor (bit_and (slice_index words n / 2 ^ 0 * 2 ^ 0) 4294967295) 0) (sym same)
+    ∙ ap (λ n. bit_xor (bit_and (slice_index words image.word / 2 ^ n * 2 ^ 0) 4294967295) 0) (sym whole.right)
+    ∙ ap (λ n. bit_xor (bit_and (slice_index words image.word / 2 ^ image.right * 2 ^ n) 4294967295) 0)
+    (sym whole.left)
+    ∙ ap (λ n. bit_xor (bit_and (shifted_word image words) n) 0) (sym whole.mask)
+    ∙ ap (λ n. bit_xor (bit_and (shifted_word image words) image.mask) n) (sym whole.flipped)
+
+-- ---- shifts
+
+divided : (m j k t : ℕ) → j + k ≡ t → m / 2 ^ j / 2 ^ k ≡ m / 2 ^ t
+divided m j k t e =
+    div-div-eq-div-mul m (2 ^ j) (2 ^ k) ∙ ap (λ n. m / n) (sym (pow-add 2 j k) ∙ ap (λ n. 2 ^ n) e)
+
+scaled : (y j k t : ℕ) → j + k ≡ t → y * 2 ^ j * 2 ^ k ≡ y * 2 ^ t
+scaled y j k t e = mul_assoc y (2 ^ j) (2 ^ k) ∙ ap (λ n. y * n) (sym (pow-add 2 j k) ∙ ap (λ n. 2 ^ n) e)
+
+-- an image shifted to the right
+pub image_right : (x m c k : ℕ) → bit_xor (bit_and x m) c / 2 ^ k ≡ bit_xor (bit_and (x / 2 ^ k) (m / 2 ^ k)) (c / 2 ^ k)
+image_right x m c k = xor_shr (bit_and x m) c k ∙ ap (λ n. bit_xor n (c / 2 ^ k)) (and_shr x m k)
+
+-- by less than it was shifted to the left
+pub right_within : (y t k : ℕ) → k ≤ t → y * 2 ^ t / 2 ^ k ≡ y * 2 ^ (t - k)
+right_within y t k least =
+    ap (λ n. n / 2 ^ k) (sym (scaled y (t - k) k t (omega arith))) ∙ shl-shr (y * 2 ^ (t - k)) k
+
+pub mask_right_within : (m s t k : ℕ) → k ≤ t → m / 2 ^ t * 2 ^ s < 2 ^ 32 → m / 2 ^ k / 2 ^ (t - k) * 2 ^ s < 2 ^ 32
+mask_right_within m s t k least fits =
+    subst (λ n. n * 2 ^ s < 2 ^ 32) (sym (divided m k (t - k) t (omega arith))) fits
+
+-- and by more
+pub right_past : (w s t k : ℕ) → t ≤ k → w / 2 ^ s * 2 ^ t / 2 ^ k ≡ w / 2 ^ (s + (k - t)) * 2 ^ 0
+right_past w s t k past =
+    sym (divided (w / 2 ^ s * 2 ^ t) t (k - t) k (omega arith))
+    ∙ ap (λ n. n / 2 ^ (k - t)) (shl-shr (w / 2 ^ s) t)
+    ∙ divided w s (k - t) (s + (k - t)) refl
+    ∙ (let once : w / 2 ^ (s + (k - t)) ≡ w / 2 ^ (s + (k - t)) * 2 ^ 0 = omega arith in once)
+
+fits_past : (m s t k : ℕ) → t ≤ k → m / 2 ^ t * 2 ^ s < 2 ^ 32 → m / 2 ^ k * 2 ^ (s + (k - t)) < 2 ^ 32
+fits_past m s t k past fits =
+    subst (λ n. n * 2 ^ (s + (k - t)) < 2 ^ 32) (divided m t (k - t) k (omega arith))
+    (fits_shifted (m / 2 ^ t) s (k - t) fits)
+
+pub mask_right_past : (m s t k : ℕ) → t ≤ k → m / 2 ^ t * 2 ^ s < 2 ^ 32
+    → m / 2 ^ k / 2 ^ 0 * 2 ^ (s + (k - t)) < 2 ^ 32
+mask_right_past m s t k past fits =
+    subst (λ n. n * 2 ^ (s + (k - t)) < 2 ^ 32) (sym (div-one (m / 2 ^ k))) (fits_past m s t k past fits)
+
+-- no bit is left of a mask that is shifted past the word
+pub none_past : (m s t k : ℕ) → t ≤ k → 32 ≤ s + (k - t) → m / 2 ^ t * 2 ^ s < 2 ^ 32 → m / 2 ^ k ≡ 0
+none_past m s t k past far fits =
+    sym (shl-shr (m / 2 ^ k) (s + (k - t)))
+    ∙ div-eq_of_lt (omega (arith, fits_past m s t k past fits, pow_mono far))
+
+pub no_bit : (x m c : ℕ) → m ≡ 0 → bit_xor (bit_and x m) c ≡ c
+no_bit x m c none =
+    ap (λ n. bit_xor (bit_and x n) c) none ∙ ap (λ n. bit_xor n c) (and_zero_r x) ∙ xor_zero_l c
+
+-- an image shifted to the left
+xor_scaled : (a b k : ℕ) → bit_xor a b * 2 ^ k ≡ bit_xor (a * 2 ^ k) (b * 2 ^ k)
+xor_scaled a b k =
+    let plus : (n : ℕ) → n + 0 ≡ n = λ n. omega arith in
+    sym (plus _) ∙ sym (xor_block k a b 0 0 (pow_pos k) (pow_pos k))
+    ∙ ap (λ n. bit_xor n (b * 2 ^ k + 0)) (plus (a * 2 ^ k)) ∙ ap (bit_xor (a * 2 ^ k)) (plus (b * 2 ^ k))
+
+and_scaled : (x m k : ℕ) → bit_and x m * 2 ^ k ≡ bit_and (x * 2 ^ k) (m * 2 ^ k)
+and_scaled x m k = sym (under_mask x k (m * 2 ^ k) ∙ ap (λ n. bit_and x n * 2 ^ k) (shl-shr m k))
+
+-- the low 32 bits of a number under a mask
+and_low : (x m : ℕ) → bit_and x m % 2 ^ 32 ≡ bit_and x (m % 2 ^ 32)
+and_low x m =
+    sym (and_mask (bit_and x m) 32) ∙ and_assoc (2 ^ 32 - 1) x m ∙ ap (bit_and x) (and_mask m 32)
+
+pub image_left : (y t m c k : ℕ) → bit_xor (bit_and (y * 2 ^ t) m) c * 2 ^ k % 2 ^ 32
+    ≡ bit_xor (bit_and (y * 2 ^ (t + k)) (m * 2 ^ k % 2 ^ 32)) (c * 2 ^ k % 2 ^ 32)
+image_left y t m c k =
+    ap (λ n. n % 2 ^ 32)
+    (xor_scaled (bit_and (y * 2 ^ t) m) c k
+    ∙ ap (λ n. bit_xor n (c * 2 ^ k))
+    (and_scaled (y * 2 ^ t) m k ∙ ap (λ n. bit_and n (m * 2 ^ k)) (scaled y t k (t + k) refl)))
+    ∙ xor_mod (bit_and (y * 2 ^ (t + k)) (m * 2 ^ k)) (c * 2 ^ k) 32
+    ∙ ap (λ n. bit_xor n (c * 2 ^ k % 2 ^ 32)) (and_low (y * 2 ^ (t + k)) (m * 2 ^ k))
+
+pub mask_left_shifted : (m s t k : ℕ) → m / 2 ^ t * 2 ^ s < 2 ^ 32 → m * 2 ^ k % 2 ^ 32 / 2 ^ (t + k) * 2 ^ s < 2 ^ 32
+mask_left_shifted m s t k fits =
+    let back : m * 2 ^ k / 2 ^ (t + k) ≡ m / 2 ^ t =
+    sym (divided (m * 2 ^ k) k t (t + k) (omega arith)) ∙ ap (λ n. n / 2 ^ t) (shl-shr m k) in
+    in_range (m / 2 ^ t) (m * 2 ^ k % 2 ^ 32 / 2 ^ (t + k)) s fits
+    (omega (arith, back, shr_mono (t + k) (mod-le (m * 2 ^ k) (2 ^ 32))))
+
+-- no bit is left of a word that is shifted past 31 bits
+pub left_past : (y t m c : ℕ) → 32 ≤ t → m < 2 ^ 32 → bit_xor (bit_and (y * 2 ^ t) m) c ≡ c
+left_past y t m c far fits =
+    let none : m / 2 ^ t ≡ 0 = div-eq_of_lt (omega (arith, pow_mono far)) in
+    ap (λ n. bit_xor n c) (under_mask y t m) ∙ (let nothing : bit_and y (m / 2 ^ t) * 2 ^ t ≡ 0 = omega (
+      arith,
+      ap (λ n. n * 2 ^ t) (ap (bit_and y) none ∙ and_zero_r y),
+    ) in ap (λ n. bit_xor n c) nothing)
+    ∙ xor_zero_l c
+
+-- an image is a number of 32 bits
+pub image_fits : (x m c : ℕ) → m < 2 ^ 32 → c < 2 ^ 32 → bit_xor (bit_and x m) c < 2 ^ 32
+image_fits x m c h k = xor_lt 32 (bit_and x m) c (omega (arith, h, and_le_r x m)) k

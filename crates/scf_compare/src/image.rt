@@ -1,19 +1,20 @@
 //! What a filter computes from one word of the record bit by bit.
 
-ghost use Rattle.std.specs.Prelude.{◌≡◌, ◌==◌, ◌↔◌, ◌*◌, ◌/◌, ◌<◌, ◌^◌, ℕ, List, IsTrue, IfSome};
+ghost use Rattle.std.specs.Prelude.{◌≡◌, ◌==◌, ◌↔◌, ◌*◌, ◌/◌, ◌%◌, ◌<◌, ◌^◌, ℕ, List, IsTrue};
 ghost use Rattle.std.specs.Prelude.{bit_and, bit_or, bit_xor};
 ghost use Rattle.scf_insn.specs.SimpleMask.{IsSimpleMask};
 ghost use Rattle.scf_compare.specs.internal.Images.{IsImage, IsWhole, image_number};
-ghost use Rattle.scf_compare.specs.internal.Values.{IsDecision, Decides, IsPlainDecision};
+ghost use Rattle.scf_compare.specs.internal.Values.{IsValue, StandsFor, IsDecision, Decides, IsPlainDecision};
 
-use crate::value::Decision;
+use crate::value::{Decision, Value};
 use scf_facts::Atom;
 
-/// A word of the record, shifted to the right, AND a mask, XOR a number.
+/// A word of the record, shifted to the right and then to the left, AND a mask, XOR a number.
 #[derive(Clone, Copy)]
 pub(crate) struct Image {
     pub(crate) word: u8,
-    pub(crate) shift: u32,
+    pub(crate) right: u32,
+    pub(crate) left: u32,
     pub(crate) mask: u32,
     pub(crate) flipped: u32,
 }
@@ -28,7 +29,8 @@ impl Image {
     {
         Image {
             word,
-            shift: 0,
+            right: 0,
+            left: 0,
             mask: u32::MAX,
             flipped: 0,
         }
@@ -38,7 +40,7 @@ impl Image {
     pub(crate) fn is_whole(self) -> bool
         ensures { IsTrue result ↔ IsWhole self }
     {
-        self.shift == 0 && self.mask == u32::MAX && self.flipped == 0
+        self.right == 0 && self.left == 0 && self.mask == u32::MAX && self.flipped == 0
     }
 
     /// It AND a number.
@@ -47,7 +49,8 @@ impl Image {
         ensures image { IsImage result }
         ensures number { (words : List ℕ) → bit_and (image_number self words) v ≡ image_number result words }
         ensures mask { result.mask ≡ bit_and self.mask v }
-        ensures shift { result.shift ≡ self.shift }
+        ensures right { result.right ≡ self.right }
+        ensures left { result.left ≡ self.left }
     {
         Image {
             mask: self.mask & v,
@@ -81,22 +84,52 @@ impl Image {
         }
     }
 
-    /// It shifted to the right, where its word isn't shifted past 31 bits.
-    pub(crate) fn shifted(self, count: u32) -> Option<Image>
+    /// It shifted to the right. It is a known number where no bit of its word is left.
+    pub(crate) fn shifted_right(self, count: u32) -> Value
         requires image { IsImage self }
         requires count { count < 32 }
-        ensures image { IfSome result IsImage }
-        ensures number { IfSome result (λ image. (words : List ℕ)
-            → image_number self words / 2 ^ count ≡ image_number image words) }
+        ensures value { IsValue result }
+        ensures stands { (words : List ℕ) → StandsFor result words (image_number self words / 2 ^ count) }
     {
-        let shift = self.shift + count;
-        if shift >= 32 {
-            return None;
+        let mask = self.mask >> count;
+        let flipped = self.flipped >> count;
+        if count <= self.left {
+            return Value::OfWord(Image {
+                left: self.left - count,
+                mask,
+                flipped,
+                ..self
+            });
         }
-        Some(Image {
-            shift,
-            mask: self.mask >> count,
-            flipped: self.flipped >> count,
+        let right = self.right + (count - self.left);
+        if right >= 32 {
+            return Value::Known(flipped);
+        }
+        Value::OfWord(Image {
+            right,
+            left: 0,
+            mask,
+            flipped,
+            ..self
+        })
+    }
+
+    /// It shifted to the left. It is a known number where no bit of its word is left.
+    pub(crate) fn shifted_left(self, count: u32) -> Value
+        requires image { IsImage self }
+        requires count { count < 32 }
+        ensures value { IsValue result }
+        ensures stands { (words : List ℕ) → StandsFor result words (image_number self words * 2 ^ count % 2 ^ 32) }
+    {
+        let left = self.left + count;
+        let flipped = self.flipped << count;
+        if left >= 32 {
+            return Value::Known(flipped);
+        }
+        Value::OfWord(Image {
+            left,
+            mask: self.mask << count,
+            flipped,
             ..self
         })
     }
@@ -106,17 +139,19 @@ impl Image {
         requires { IsImage self }
         ensures asks { IsDecision result }
         ensures decides { (words : List ℕ) → Decides result words (image_number self words == v) }
-        ensures plain { IsSimpleMask (self.mask * 2 ^ self.shift) → IsPlainDecision result }
+        ensures plain { self.right ≡ 0 → self.left ≡ 0 → IsSimpleMask self.mask → IsPlainDecision result }
     {
-        let value = v ^ self.flipped;
-        if value > self.mask {
+        let mask = self.mask >> self.left;
+        let shifted = v ^ self.flipped;
+        let value = shifted >> self.left;
+        if value > mask || value << self.left != shifted {
             return Decision::Known(false);
         }
         Decision::Asks {
             atom: Atom::Eq {
                 word: self.word,
-                mask: self.mask << self.shift,
-                value: value << self.shift,
+                mask: mask << self.right,
+                value: value << self.right,
             },
             holds: true,
         }

@@ -1,6 +1,6 @@
 //! What is known of a register or a scratch word on a way through a filter.
 
-ghost use Rattle.std.specs.Prelude.{◌≡◌, ℕ, ◌-◌, ◌/◌, ◌%◌, ◌^◌, List, Bool, not, IfSome};
+ghost use Rattle.std.specs.Prelude.{◌≡◌, ℕ, ◌-◌, ◌%◌, ◌^◌, ◌<◌, List, Bool, not, IfSome, IsTrue};
 ghost use Rattle.scf_insn.specs.SimpleMask.{IsSimpleMask};
 ghost use Rattle.scf_insn.specs.Words.{IsWords};
 ghost use Rattle.scf_machine.specs.Machine.{holds, value_computed};
@@ -55,7 +55,9 @@ impl Value {
         match (self, other) {
             (Value::Known(a), Value::Known(v)) => known_result(arithmetic, a, v),
             (Value::OfWord(image), Value::Known(v)) => image_result(arithmetic, image, v),
-            (Value::Known(a), Value::OfWord(image)) => turned_result(arithmetic, a, image),
+            (Value::Known(a), Value::OfWord(image)) if is_commutative(arithmetic) => {
+                image_result(arithmetic, image, a)
+            }
             _ => Value::Unknown,
         }
     }
@@ -161,6 +163,17 @@ fn known_result(arithmetic: Arithmetic, a: u32, v: u32) -> Value
     }
 }
 
+/// Whether the order of its operands makes no difference to a computation.
+fn is_commutative(arithmetic: Arithmetic) -> bool
+    ensures { IsTrue result → (a v : ℕ) → value_computed arithmetic a v ≡ value_computed arithmetic v a }
+{
+    match arithmetic {
+        Arithmetic::Add | Arithmetic::Mul | Arithmetic::And | Arithmetic::Or | Arithmetic::Xor =>
+            true,
+        Arithmetic::Sub | Arithmetic::Div | Arithmetic::Lsh | Arithmetic::Rsh => false,
+    }
+}
+
 /// A computation on an image of a word and a known number.
 fn image_result(arithmetic: Arithmetic, image: Image, v: u32) -> Value
     requires { IsImage image }
@@ -168,41 +181,33 @@ fn image_result(arithmetic: Arithmetic, image: Image, v: u32) -> Value
     ensures stands { (words : List ℕ) → StandsFor result words (value_computed arithmetic (image_number image words) v) }
 {
     match arithmetic {
+        Arithmetic::Add | Arithmetic::Sub if v == 0 => Value::OfWord(image),
         Arithmetic::And => Value::OfWord(image.and(v)),
         Arithmetic::Or => Value::OfWord(image.or(v)),
         Arithmetic::Xor => Value::OfWord(image.xor(v)),
-        Arithmetic::Rsh => shifted_result(image, v),
+        Arithmetic::Lsh if v < 32 => image.shifted_left(v),
+        Arithmetic::Rsh if v < 32 => image.shifted_right(v),
+        Arithmetic::Mul => match exponent_of(v) {
+            Some(count) => image.shifted_left(count),
+            None => Value::Unknown,
+        },
+        Arithmetic::Div => match exponent_of(v) {
+            Some(count) => image.shifted_right(count),
+            None => Value::Unknown,
+        },
         _ => Value::Unknown,
     }
 }
 
-/// An image of a word that is shifted to the right.
-fn shifted_result(image: Image, v: u32) -> Value
-    requires { IsImage image }
-    ensures value { IsValue result }
-    ensures stands { (words : List ℕ) → StandsFor result words (image_number image words / 2 ^ v) }
+/// The exponent of a power of two.
+fn exponent_of(v: u32) -> Option<u32>
+    ensures { IfSome result (λ count. (count < 32) × (v ≡ 2 ^ count)) }
 {
-    if v >= 32 {
-        return Value::Unknown;
+    if v == 0 {
+        return None;
     }
-    match image.shifted(v) {
-        Some(shifted) => Value::OfWord(shifted),
-        None => Value::Unknown,
-    }
-}
-
-/// A computation on a known number and an image of a word.
-fn turned_result(arithmetic: Arithmetic, a: u32, image: Image) -> Value
-    requires { IsImage image }
-    ensures value { IsValue result }
-    ensures stands { (words : List ℕ) → StandsFor result words (value_computed arithmetic a (image_number image words)) }
-{
-    match arithmetic {
-        Arithmetic::And => Value::OfWord(image.and(a)),
-        Arithmetic::Or => Value::OfWord(image.or(a)),
-        Arithmetic::Xor => Value::OfWord(image.xor(a)),
-        _ => Value::Unknown,
-    }
+    let count = v.trailing_zeros();
+    if v == 1 << count { Some(count) } else { None }
 }
 
 /// How a test of an image of a word against a known number comes out.

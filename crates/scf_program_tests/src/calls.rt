@@ -51,7 +51,7 @@ const ONE_RECORD: Part = Part::Filter(
 /// by an errno; the others are allowed. Their numbers are 1, 2 and 3, and 7, 6 and 5.
 pub(crate) const MIXED_TEXT: &str = "ld [0]; jeq #1, slow, 0; jeq #2, even, 0; jeq #3, other, 0
     jeq #5, other, 0; jeq #6, even, 0; jeq #7, slow, allow
-    even: ld [16]; mul #2; jset #1, 0, allow; ret #0; other: ret #0x50001
+    even: ld [16]; mul #6; jset #1, 0, allow; ret #0; other: ret #0x50001
     slow: tax; tax; tax; tax; tax; tax; tax; tax; tax; tax; tax; tax; tax; tax; tax; tax
     tax; tax; tax; tax; tax; tax; tax; tax; tax; tax; tax; tax; tax; tax; tax; tax
     tax; tax; tax; tax; tax; tax; tax; tax; tax; tax; tax; tax; tax; tax; tax; tax

@@ -1,16 +1,16 @@
-use Rattle.std.proofs.Common.{◌/◌, ◌^◌}
-use Rattle.std.specs.Prelude.{slice_index}
 use Rattle.std.proofs.lemmas.Nat.{and_le_l}
+use Rattle.scf_compare.specs.internal.Images.{shifted_word}
 use Rattle.scf_compare.proofs.Images.{image_and, mask_within}
 use Rattle.scf_compare.proofs.image.Image.and.Goals as goal
 
 pub returns-clause-image : goal.returns-clause-image
-returns-clause-image c = record {
+returns-clause-image c = let image = c.args.self in record {
   word = c.requires.word;
-  shift = c.requires.shift;
-  mask = mask_within c.args.self.mask _ c.args.self.shift c.requires.mask (and_le_l c.args.self.mask c.args.v);
+  right = c.requires.right;
+  left = c.requires.left;
+  mask = mask_within image.mask _ image.left image.right c.requires.mask (and_le_l image.mask c.args.v);
 }
 
 pub returns-clause-number : goal.returns-clause-number
 returns-clause-number c = λ words.
-    image_and (slice_index words c.args.self.word / 2 ^ c.args.self.shift) c.args.self.mask c.args.self.flipped c.args.v
+    image_and (shifted_word c.args.self words) c.args.self.mask c.args.self.flipped c.args.v

@@ -1,13 +1,22 @@
+use Rattle.std.proofs.Common.{arith}
 use Rattle.std.specs.Prelude.{slice_index}
-use Rattle.scf_compare.proofs.Images.{image_is, image_isnt}
+use Rattle.std.proofs.lemmas.Nat.{xor_lt}
+use Rattle.scf_compare.proofs.Images.{image_is, image_isnt, image_below}
+use Rattle.scf_compare.proofs.image.Image.is.Goals.{then-value-mask-via-then-value-mask, then-value-mask-via-else-value-mask+then-value-self}
 use Rattle.scf_compare.proofs.image.Image.is.Goals as goal
 
-pub returns-then-value-self-clause-decides : goal.returns-then-value-self-clause-decides
-returns-then-value-self-clause-decides c = λ words.
-    image_isnt (slice_index words c.args.self.word) c.args.self.shift c.args.self.mask c.args.self.flipped c.args.v
-    c.if-value-self.true
+pub returns-then-value-mask-clause-decides : goal.returns-then-value-mask-clause-decides
+returns-then-value-mask-clause-decides c = let image = c.args.self in
+    elim c.then-value-mask.branch [
+      | then-value-mask-via-then-value-mask w ↦ λ words.
+          image_isnt (slice_index words image.word) image.right image.left image.mask image.flipped c.args.v
+          w.if-value-mask.true
+      | then-value-mask-via-else-value-mask+then-value-self w ↦ λ words.
+          image_below (slice_index words image.word) image.right image.left image.mask image.flipped c.args.v
+          (xor_lt 32 c.args.v image.flipped (omega arith) (omega arith)) w.if-value-self.true
+    ]
 
 pub returns-clause-decides : goal.returns-clause-decides
-returns-clause-decides c = λ words.
-    image_is (slice_index words c.args.self.word) c.args.self.shift c.args.self.mask c.args.self.flipped c.args.v
-    c.requires.mask c.if-value-self.false
+returns-clause-decides c = let image = c.args.self in λ words.
+    image_is (slice_index words image.word) image.right image.left image.mask image.flipped c.args.v c.requires.mask
+    c.if-value-mask.false c.if-value-self.false
