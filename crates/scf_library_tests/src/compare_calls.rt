@@ -127,7 +127,7 @@ const ROWS: &[Row] = &[
     Row {
         filters: &[(
             "ld [0]; jeq #1, 0, 4;",
-            "ld [16]; mul #2; jset #1, 0, 1; ret #0; ret #0x7fff0000",
+            "ld [16]; mul #6; jset #1, 0, 1; ret #0; ret #0x7fff0000",
         )],
         table: "",
         text: DEFAULT_ALLOW,

@@ -65,6 +65,32 @@ const CLONES: &[(&str, Wanted)] = &[
         "jeq #56, 0, 3; ld [16]; rsh #17; jset #0x3f01, 0, 1; ret #0x50001; ret #0x7fff0000",
         Same,
     ),
+    // shifted to the left, and its mask with it
+    (
+        "jeq #56, 0, 4; ld [16]; lsh #1; and #0xfc040000; jeq #0, 1, 0; ret #0x50001; ret #0x7fff0000",
+        Same,
+    ),
+    (
+        "jeq #56, 0, 4; ld [16]; lsh #1; and #0xfc020000; jeq #0, 1, 0; ret #0x50001; ret #0x7fff0000",
+        Differs,
+    ),
+    // multiplied and divided by powers of two
+    (
+        "jeq #56, 0, 3; ld [16]; mul #2; jset #0xfc040000, 0, 1; ret #0x50001; ret #0x7fff0000",
+        Same,
+    ),
+    (
+        "jeq #56, 0, 3; ld [16]; mul #4; jset #0xfc040000, 0, 1; ret #0x50001; ret #0x7fff0000",
+        Differs,
+    ),
+    (
+        "jeq #56, 0, 4; ld [16]; div #0x20000; and #0x3f01; jeq #0, 1, 0; ret #0x50001; ret #0x7fff0000",
+        Same,
+    ),
+    (
+        "jeq #56, 0, 4; ld [16]; div #0x10000; and #0x3f01; jeq #0, 1, 0; ret #0x50001; ret #0x7fff0000",
+        Differs,
+    ),
     // masked before it is shifted, with the count in X
     (
         "jeq #56, 0, 6; ld #17; tax; ld [16]; and #0x7e020000; rsh x; jeq #0, 1, 0; ret #0x50001; ret #0x7fff0000",
@@ -95,6 +121,75 @@ const READS: &[(&str, Wanted)] = &[
     ),
     (
         "st M[0]; rsh #16; jeq #0, 0, 3; ld M[0]; and #0xfffe; jeq #0, 0, 1; ret #0x7fff0000; ret #0x50001",
+        Differs,
+    ),
+    // The numbers are below 2^30: two bits may be shifted out.
+    ("lsh #2; jeq #0, 0, 1; ret #0x7fff0000; ret #0x50001", Same),
+    (
+        "lsh #4; jeq #0, 0, 1; ret #0x7fff0000; ret #0x50001",
+        Differs,
+    ),
+    (
+        "lsh #2; jeq #2, 0, 1; ret #0x7fff0000; ret #0x50001",
+        Differs,
+    ),
+    (
+        "tax; ld #2; st M[0]; txa; ldx M[0]; lsh x; rsh x; jeq #0, 0, 1; ret #0x7fff0000; ret #0x50001",
+        Same,
+    ),
+    (
+        "lsh #31; lsh #1; jeq #0, 0, 1; ret #0x7fff0000; ret #0x50001",
+        Differs,
+    ),
+    (
+        "rsh #31; rsh #1; jeq #0, 0, 1; ret #0x7fff0000; ret #0x50001",
+        Differs,
+    ),
+    ("mul #4; jeq #0, 0, 1; ret #0x7fff0000; ret #0x50001", Same),
+    (
+        "mul #4; jeq #4, 0, 1; ret #0x7fff0000; ret #0x50001",
+        Differs,
+    ),
+    (
+        "tax; ld #4; mul x; jeq #0, 0, 1; ret #0x7fff0000; ret #0x50001",
+        Same,
+    ),
+    (
+        "div #2; jeq #0, 0, 1; ret #0x7fff0000; ret #0x50001",
+        Differs,
+    ),
+    // what changes nothing
+    ("add #0; jeq #0, 0, 1; ret #0x7fff0000; ret #0x50001", Same),
+    (
+        "add #0; jeq #1, 0, 1; ret #0x7fff0000; ret #0x50001",
+        Differs,
+    ),
+    ("sub #0; jeq #0, 0, 1; ret #0x7fff0000; ret #0x50001", Same),
+    (
+        "sub #0; jeq #1, 0, 1; ret #0x7fff0000; ret #0x50001",
+        Differs,
+    ),
+    ("lsh #0; jeq #0, 0, 1; ret #0x7fff0000; ret #0x50001", Same),
+    ("mul #1; jeq #0, 0, 1; ret #0x7fff0000; ret #0x50001", Same),
+    (
+        "mul #1; jeq #1, 0, 1; ret #0x7fff0000; ret #0x50001",
+        Differs,
+    ),
+    ("div #1; jeq #0, 0, 1; ret #0x7fff0000; ret #0x50001", Same),
+    (
+        "div #1; jeq #1, 0, 1; ret #0x7fff0000; ret #0x50001",
+        Differs,
+    ),
+    (
+        "st M[0]; ld #1; tax; ld M[0]; div x; jeq #0, 0, 1; ret #0x7fff0000; ret #0x50001",
+        Same,
+    ),
+    (
+        "st M[0]; ldx #0; ld M[0]; add x; or x; lsh x; jge #1, 1, 0; ret #0x7fff0000; ret #0x50001",
+        Same,
+    ),
+    (
+        "st M[0]; ldx #0; ld M[0]; sub x; xor x; rsh x; jgt #1, 1, 0; ret #0x7fff0000; ret #0x50001",
         Differs,
     ),
     // of known numbers
