@@ -1,13 +1,13 @@
 //! The words that the program takes.
 
-ghost use Rattle.std.specs.Prelude.{◌≡◌, ◌≢◌, [], codes, false, true, map, IfOk};
+ghost use Rattle.std.specs.Prelude.{◌≡◌, ◌≢◌, [], codes, false, true, map, IfOk, IfSome};
 ghost use Rattle.std.specs.IoError.{error_kind};
 ghost use Rattle.clap.specs.Words.{FailsBy, app_of, fault_of, kind_of, new_app, rule_of, subcommand_of, subcommand_rows_of};
-ghost use Rattle.scf_tool.specs.Requests.Command.{Compare, Run};
+ghost use Rattle.scf_tool.specs.Requests.Command.{Ask, Asm, Check, Compare, Compile, Decide, Dis, Run};
 ghost use Rattle.scf_tool.specs.Faults.{fault_line};
 ghost use Rattle.scf_tool.specs.declared.fault.Fault.TheVariants as faults;
-ghost use Rattle.scf_tool.specs.Runs.{PrintsText, flag_rule, not_utf8_text, rule_for, scf, shape_for, shape_with};
-ghost use Rattle.scf_tool.specs.internal.Parsing.{Explains, option_of, options_of};
+ghost use Rattle.scf_tool.specs.Runs.{PrintsText, flag_rule, not_utf8_text, rule_for, scf, shape_with};
+ghost use Rattle.scf_tool.specs.internal.Parsing.{Explains, IsNamed, ReadsAsProgram, definition_of, option_of, options_of};
 
 use crate::fault::Fault;
 use crate::options::{
@@ -76,9 +76,56 @@ fn flag_argument<'a>(alloc: Global, name: &'a str, help: &'a str) -> Arg<'a>
         .help(help)
 }
 
+/// The command that checks.
+fn checking<'a>(alloc: Global) -> Result<Command<'a>, AllocError>
+    ensures { IfOk result (λ command. app_of command ≡ definition_of Check) }
+{
+    command_with(alloc, "check", "Checks a filter", &[])
+}
+
+/// The command that runs.
+fn running<'a>(alloc: Global) -> Result<Command<'a>, AllocError>
+    ensures { IfOk result (λ command. app_of command ≡ definition_of Run) }
+{
+    let path = "Also the places of the instructions on the way";
+    command_with(alloc, "run", "Runs a filter on a call", &call_options())?.arg(flag_argument(
+        alloc, PATH_FLAG, path,
+    ))
+}
+
+/// The command that decides.
+fn deciding<'a>(alloc: Global) -> Result<Command<'a>, AllocError>
+    ensures { IfOk result (λ command. app_of command ≡ definition_of Decide) }
+{
+    let about = "Runs a bundle of filters on a call";
+    command_with(alloc, "decide", about, &call_options())
+}
+
+/// The command that lists.
+fn listing<'a>(alloc: Global) -> Result<Command<'a>, AllocError>
+    ensures { IfOk result (λ command. app_of command ≡ definition_of Dis) }
+{
+    command_with(alloc, "dis", "Lists a filter, which isn't checked", &[])
+}
+
+/// The command that assembles.
+fn assembling<'a>(alloc: Global) -> Result<Command<'a>, AllocError>
+    ensures { IfOk result (λ command. app_of command ≡ definition_of Asm) }
+{
+    command_with(alloc, "asm", "Assembles a text, which isn't checked", &[])
+}
+
+/// The command that compiles.
+fn compiling<'a>(alloc: Global) -> Result<Command<'a>, AllocError>
+    ensures { IfOk result (λ command. app_of command ≡ definition_of Compile) }
+{
+    let about = "Compiles a bundle of a profile and a table";
+    command_with(alloc, "compile", about, &[])
+}
+
 /// The command that compares.
-fn comparison<'a>(alloc: Global) -> Result<Command<'a>, AllocError>
-    ensures { IfOk result (λ command. app_of command ≡ record { top = shape_for Compare; subs = [] }) }
+fn comparing<'a>(alloc: Global) -> Result<Command<'a>, AllocError>
+    ensures { IfOk result (λ command. app_of command ≡ definition_of Compare) }
 {
     let about = "Compares a bundle of filters, a profile and a table";
     let native = "Only calls of x86-64 with numbers below 0x40000000";
@@ -93,14 +140,12 @@ fn comparison<'a>(alloc: Global) -> Result<Command<'a>, AllocError>
         .arg(flag_argument(alloc, NO_LESS_FLAG, no_less))
 }
 
-/// The command that runs.
-fn running<'a>(alloc: Global) -> Result<Command<'a>, AllocError>
-    ensures { IfOk result (λ command. app_of command ≡ record { top = shape_for Run; subs = [] }) }
+/// The command that asks a profile.
+fn asking<'a>(alloc: Global) -> Result<Command<'a>, AllocError>
+    ensures { IfOk result (λ command. app_of command ≡ definition_of Ask) }
 {
-    let path = "Also the places of the instructions on the way";
-    command_with(alloc, "run", "Runs a filter on a call", &call_options())?.arg(flag_argument(
-        alloc, PATH_FLAG, path,
-    ))
+    let about = "Says what a profile answers to a call, and why, of a bundle with a table";
+    command_with(alloc, "ask", about, &call_options())
 }
 
 /// The program, without its commands.
@@ -116,42 +161,50 @@ fn alone<'a>(alloc: Global) -> Command<'a>
         .subcommand_required(true)
 }
 
-/// The program's commands and their options.
+/// The program with all its commands and their options.
 fn program<'a>(alloc: Global) -> Result<Command<'a>, AllocError>
     ensures { IfOk result (λ command. app_of command ≡ scf) }
 {
-    let check = command_with(alloc, "check", "Checks a filter", &[])?;
-    let run = running(alloc)?;
-    let decide = command_with(
-        alloc,
-        "decide",
-        "Runs a bundle of filters on a call",
-        &call_options(),
-    )?;
-    let list = command_with(alloc, "dis", "Lists a filter, which isn't checked", &[])?;
-    let assemble = command_with(alloc, "asm", "Assembles a text, which isn't checked", &[])?;
-    let compile = command_with(
-        alloc,
-        "compile",
-        "Compiles a bundle of a profile and a table",
-        &[],
-    )?;
-    let compare = comparison(alloc)?;
-    let ask = command_with(
-        alloc,
-        "ask",
-        "Says what a profile answers to a call, and why, of a bundle with a table",
-        &call_options(),
-    )?;
     alone(alloc)
-        .subcommand(check)?
-        .subcommand(run)?
-        .subcommand(decide)?
-        .subcommand(list)?
-        .subcommand(assemble)?
-        .subcommand(compile)?
-        .subcommand(compare)?
-        .subcommand(ask)
+        .subcommand(checking(alloc)?)?
+        .subcommand(running(alloc)?)?
+        .subcommand(deciding(alloc)?)?
+        .subcommand(listing(alloc)?)?
+        .subcommand(assembling(alloc)?)?
+        .subcommand(compiling(alloc)?)?
+        .subcommand(comparing(alloc)?)?
+        .subcommand(asking(alloc)?)
+}
+
+/// The command that the word names.
+fn command_named<'a>(alloc: Global, word: &str) -> Result<Option<Command<'a>>, AllocError>
+    ensures { IfOk result (λ found. IfSome found (λ command. IsNamed word.now (app_of command))) }
+{
+    let command = match word {
+        "ask" => asking(alloc)?,
+        "asm" => assembling(alloc)?,
+        "check" => checking(alloc)?,
+        "compare" => comparing(alloc)?,
+        "compile" => compiling(alloc)?,
+        "decide" => deciding(alloc)?,
+        "dis" => listing(alloc)?,
+        "run" => running(alloc)?,
+        _ => return Ok(None),
+    };
+    Ok(Some(command))
+}
+
+/// The program with the one command that the words begin with, or else with all. To define a command costs more than
+/// to run one.
+fn program_for<'a, T: AsStr>(alloc: Global, words: &[T]) -> Result<Command<'a>, AllocError>
+    ensures { IfOk result (λ command. ReadsAsProgram (app_of command) (map T.text words.now)) }
+{
+    if let Some(word) = words.get(1) {
+        if let Some(command) = command_named(alloc, word.as_str())? {
+            return alone(alloc).subcommand(command);
+        }
+    }
+    program(alloc)
 }
 
 /// What the words say, the first being the program's name.
@@ -159,7 +212,7 @@ pub(crate) fn parse<'a, T: AsStr>(alloc: Global, words: &'a [T]) -> Result<ArgMa
     ensures matches { IfOk result (λ m. subcommand_rows_of m ≡ subcommand_of scf (map T.text words.now)) }
     ensures kinds { FailsBy (fault_of scf (map T.text words.now)) result }
 {
-    program(alloc)?.try_get_matches_from(words)
+    program_for(alloc, words)?.try_get_matches_from(words)
 }
 
 /// The reply to words that name no command to be run: help, the version, or what is wrong with them.

@@ -1,6 +1,7 @@
--- The program's options, as it keeps them, and the reply to words that are refused.
-use Rattle.std.specs.Prelude.{◌≡◌, ◌≢◌, ℕ, List, map, Result, Ok, Err}
+-- The program's options and commands, as it defines them, and the reply to words that are refused.
+use Rattle.std.specs.Prelude.{◌≡◌, ◌≢◌, ℕ, List, [], ◌∷◌, map, true, Result, Ok, Err}
 use Rattle.std.specs.Borrow.{Bor}
+use Rattle.clap.specs.Words.{App, Text, fault_of, is_simple_and_free, subcommand_of}
 use Rattle.clap.specs.declared.error.kind.ErrorKind.{ErrorKind}
 use Rattle.clap.specs.declared.error.kind.ErrorKind.TheVariants.{OutOfMemory}
 use Rattle.scf_tool.specs.declared.fault.Fault.{Fault}
@@ -9,7 +10,8 @@ use Rattle.scf_tool.specs.declared.options.NumberOption.{NumberOption as Kept}
 use Rattle.scf_tool.specs.declared.reply.Reply.{Reply}
 use Rattle.scf_tool.specs.declared.reply.Reply.TheVariants as replies
 use Rattle.scf_tool.specs.Options.{NumberOption}
-use Rattle.scf_tool.specs.Runs.{kind_status}
+use Rattle.scf_tool.specs.Requests.{Command, word_of}
+use Rattle.scf_tool.specs.Runs.{kind_status, scf, scf_shape, shape_for}
 
 abbrev pub option_of : Kept → NumberOption
 option_of o = record { name = o.name.now; default = o.default; most = o.most }
@@ -20,6 +22,24 @@ flags_in group = map (λ flag. (flag.0.now, flag.1)) group
 
 abbrev pub options_of : List Kept → List NumberOption
 options_of = map option_of
+
+-- a command by itself
+abbrev pub definition_of : Command → App
+definition_of command = record { top = shape_for command; subs = [] }
+
+-- the program with one of its commands
+abbrev pub scf_with : Command → App
+scf_with command = record { top = scf_shape; subs = shape_for command ∷ [] }
+
+-- the word names a command, and this is it
+abbrev pub IsNamed : Text → App → Type 0
+IsNamed word app = (command : Command) × (word ≡ word_of command) × (app ≡ definition_of command)
+
+-- The words come to the same by this definition as by the program's.
+pub record ReadsAsProgram (app : App) (words : List Text) : Type 0 where
+  pub is_free : is_simple_and_free app ≡ true
+  pub asked : subcommand_of app words ≡ subcommand_of scf words
+  pub faults : fault_of app words ≡ fault_of scf words
 
 -- What is said of words that are refused, by the kind of the error. Want of memory may come in place of it.
 abbrev pub Explains : ErrorKind → Result Reply Fault → Type 0
