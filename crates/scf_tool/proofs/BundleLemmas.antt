@@ -1,5 +1,5 @@
 -- Parts of a bundle: one list of them at most is spelled, and a fault stands where none is.
-use Rattle.std.proofs.Common.{◌≡◌, ◌≢◌, ℕ, zero, suc, get_or, Option, None, Some, ◌+◌, ◌-◌, ◌<◌, ◌≤◌, List, [], ◌∷◌, ◌++◌, length, take, drop, refl, sym, ap, ◌∙◌, append_assoc, append-nil, arith, length-append, length-drop}
+use Rattle.std.proofs.Common.{◌≡◌, ◌≢◌, ℕ, zero, suc, get_or, Option, None, Some, ◌+◌, ◌-◌, ◌<◌, ◌≤◌, List, [], ◌∷◌, ◌++◌, length, take, drop, refl, sym, ap, subst, ◌∙◌, append_assoc, append-nil, arith, length-append, length-drop}
 use Rattle.std.proofs.lemmas.List.{append_cancel_left, take_all, take-append-drop, length-take-le}
 use Rattle.std.proofs.Math.Seq.{take-append_seam, take-add}
 use Rattle.std.specs.Option.{IfNone}
@@ -135,7 +135,7 @@ short_no_parts o bs (p ∷ ps) short h =
     ap (λ (xs : List ℕ). length xs) same.rest ∙ length-append part.content h.1 in
     absurd (omega (arith, long, same.count, short.fewer))
 
-broken_no_parts : (o at : ℕ) (bs : List ℕ) (ps : List Part) (fault : BundleFault) → IsFaultAt bs at fault
+pub broken_no_parts : (o at : ℕ) (bs : List ℕ) (ps : List Part) (fault : BundleFault) → IsFaultAt bs at fault
     → SpellsFrom o bs ps → ⊥
 broken_no_parts o at bs ps (Header offset) here h = no_header_no_parts o bs ps here.1 h
 broken_no_parts o at bs ps (Short offset) here h = short_no_parts o bs ps here.1 h
@@ -216,3 +216,61 @@ part_inside o bs (p ∷ ps) (suc i) d h lt =
 
 pub tail : (o : ℕ) (bs : List ℕ) → take (length bs - o) (drop o bs) ≡ drop o bs
 tail o bs = take_all (length bs - o) (drop o bs) (omega (arith, length-drop o bs))
+
+-- ---- bytes that begin with no whole part
+
+whole_in_front : (bs own rest : List ℕ) (p : Part) (fault : BundleFault) → bs ≡ own ++ rest → IsPart 0 p own
+    → IsFaultAt bs 0 fault → ⊥
+whole_in_front bs own rest p (Header offset) whole part here =
+    here.1.none p.kind (length part.content) (record {
+      header = part.header;
+      rest = part.content ++ rest;
+      is_header = part.is_header;
+      whole = whole ∙ ap (λ (xs : List ℕ). xs ++ rest) part.whole ∙ append_assoc part.header part.content rest;
+    })
+whole_in_front bs own rest p (Short offset) whole part here =
+    let short = here.1 in
+    let is : bs ≡ part.header ++ (part.content ++ rest) =
+    whole ∙ ap (λ (xs : List ℕ). xs ++ rest) part.whole ∙ append_assoc part.header part.content rest in
+    let same = same_header short.found.header part.header short.kind p.kind short.count (length part.content)
+    short.found.rest (part.content ++ rest) short.found.is_header part.is_header (sym short.found.whole ∙ is) in
+    let long : length short.found.rest ≡ length part.content + length rest =
+    ap (λ (xs : List ℕ). length xs) same.rest ∙ length-append part.content rest in
+    absurd (omega (arith, long, same.count, short.fewer))
+whole_in_front bs own rest p Memory whole part here = here
+
+none_before : (bs : List ℕ) (o : ℕ) (ps : List Part) (fault : BundleFault) → IsFaultAt bs 0 fault
+    → Spells (take o bs) ps → ps ≡ []
+none_before bs o [] fault here spelled = refl
+none_before bs o (p ∷ ps) fault here spelled =
+    absurd (whole_in_front bs spelled.0 (spelled.1 ++ drop o bs) p fault
+    (sym (take-append-drop o bs) ∙ ap (λ (xs : List ℕ). xs ++ drop o bs) spelled.2
+    ∙ append_assoc spelled.0 spelled.1 (drop o bs)) spelled.3 here)
+
+-- no part is found behind a bad one
+pub no_part_behind : (bs : List ℕ) (n : ℕ) (ps : List Part) (p : Part) (fault : BundleFault) → IsFaultAt bs 0 fault
+    → Spells (take n bs) (ps ++ p ∷ []) → ⊥
+no_part_behind bs n ps p fault here spelled =
+    let none : length (ps ++ p ∷ []) ≡ 0 =
+    ap (λ (qs : List Part). length qs) (none_before bs n (ps ++ p ∷ []) fault here spelled) in
+    absurd (omega (arith, none, length-append ps (p ∷ [])))
+
+one_fault : (bs : List ℕ) (fault other : BundleFault) → IsFaultAt bs 0 fault → IsFaultAt bs 0 other → fault ≡ other
+one_fault bs (Header offset) (Header at) h g = ap (λ (n : ℕ). let moved : BundleFault = Header n in moved) (h.0 ∙ sym g.0)
+one_fault bs (Header offset) (Short at) h g = absurd (h.1.none g.1.kind g.1.count g.1.found)
+one_fault bs (Header offset) Memory h g = absurd g
+one_fault bs (Short offset) (Header at) h g = absurd (g.1.none h.1.kind h.1.count h.1.found)
+one_fault bs (Short offset) (Short at) h g = ap (λ (n : ℕ). let moved : BundleFault = Short n in moved) (h.0 ∙ sym g.0)
+one_fault bs (Short offset) Memory h g = absurd g
+one_fault bs Memory other h g = absurd h
+
+-- a fault behind whole parts is that of the front, where there is one
+pub first_fault : (bs : List ℕ) (o : ℕ) (ps : List Part) (fault first : BundleFault) → o < length bs
+    → Spells (take o bs) ps → IsFaultAt (drop o bs) o fault → IsFaultAt bs 0 first → fault ≡ first
+first_fault bs zero ps fault first lt before here bad = one_fault bs fault first here bad
+first_fault bs (suc o) ps fault first lt before here bad =
+    let none : take (suc o) bs ≡ [] = subst (λ (qs : List Part). Spells (take (suc o) bs) qs)
+    (none_before bs (suc o) ps first bad before) before in
+    let long : length (take (suc o) bs) ≡ suc o = length-take-le (suc o) bs (omega arith) in
+    let empty : length (take (suc o) bs) ≡ 0 = ap (λ (xs : List ℕ). length xs) none in
+    absurd (omega (arith, long, empty))

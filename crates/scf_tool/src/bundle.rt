@@ -194,6 +194,8 @@ pub fn split(alloc: Global, bytes: &[u8]) -> Result<Vec<Part>, BundleFault>
     ensures fault { IfErr result (IsBundleFault bytes.now) }
     ensures none { IfErr result (λ fault. fault ≢ BundleFault.Memory
         → (parts : List Part) → Spells bytes.now parts → ⊥) }
+    // Where no whole part stands in front, no memory is wanted.
+    ensures first { (fault : BundleFault) → IsFaultAt bytes.now 0 fault → result ≡ Err fault }
 {
     let mut parts = Vec::new(alloc);
     let mut offset = 0;
