@@ -239,15 +239,15 @@ AreCompared filters profiles tables = (1 ≤ filters) × (profiles ≡ 1) × (ta
 
 -- The text is the report of the outcome of filters, a profile and a table over the calls of a scope and by a relation,
 -- and the status goes with its verdict.
-pub record IsReportedIn (scope : Scope) (relation : Relation) (filters : List (List ℕ)) (profile table : List ℕ) (limit : ℕ)
-    (text : List ℕ) (status : Status) : Type 0 where
+pub record IsReportedIn (scope : Scope) (relation : Relation) (filters : List (List ℕ)) (profile table : List ℕ)
+    (limit : ℕ) (text : List ℕ) (status : Status) : Type 0 where
   pub outcome : Outcome
   pub verified : IsVerifiedBy relation (map Some filters) (Some table) (Some profile) scope limit outcome
   pub reported : text ≡ report_text relation outcome
   pub with_verdict : status ≡ verdict_status outcome.verdict
 
--- The text is the report of the outcome of filters, a profile and a table call by call and by a relation, and the status
--- goes with the verdict that speaks for the calls.
+-- The text is the report of the outcome of filters, a profile and a table call by call and by a relation, and the
+-- status goes with the verdict that speaks for the calls.
 pub record IsReportedByCall (relation : Relation) (filters : List (List ℕ)) (profile table : List ℕ) (limit : ℕ)
     (text : List ℕ) (status : Status) : Type 0 where
   pub outcome : CallsOutcome

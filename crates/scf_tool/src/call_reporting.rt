@@ -152,7 +152,8 @@ fn write_answered<S: Sink>(
     filter: Answer,
     profile: Answer,
 ) -> Result<(), WriteFault>
-    ensures { Writes S.contents S.failures sink.old (difference_text relation arguments.now filter.0 profile.0) result sink.new }
+    ensures { Writes S.contents S.failures sink.old
+        (difference_text relation arguments.now filter.0 profile.0) result sink.new }
 {
     write_failing(sink, relation)?;
     write_arguments(sink, arguments)?;
