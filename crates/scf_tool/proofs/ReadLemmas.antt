@@ -1,8 +1,6 @@
 -- Parts of a bundle are read without a failure.
-use Rattle.std.proofs.Common.{◌≡◌, ◌≢◌, ℕ, List, Option, Result, Err}
-use Rattle.scf_insn.specs.declared.input.InputFault.{InputFault}
+use Rattle.std.proofs.Common.{◌≢◌, ℕ, List, Option, Err}
 use Rattle.scf_insn.specs.declared.input.InputFault.TheVariants as inputs
-use Rattle.scf_insn.specs.declared.encoding.ReadFault.{ReadFault}
 use Rattle.scf_insn.specs.declared.encoding.ReadFault.TheVariants as reads
 use Rattle.scf_insn.specs.Streams.{HasFailed}
 use Rattle.scf_tool.specs.declared.filter.FilterFault.TheVariants as filters

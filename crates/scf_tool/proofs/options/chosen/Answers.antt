@@ -1,4 +1,4 @@
-use Rattle.std.proofs.Common.{◌≡◌, ◌∙◌, ℕ, List, Bor, ap, false, get_or, sym, true}
+use Rattle.std.proofs.Common.{◌≡◌, ◌∙◌, ℕ, List, Bor, ap, get_or, sym, true}
 use Rattle.std.specs.Prelude.{is_some}
 use Rattle.clap.specs.Words.{found_of, rows_of}
 use Rattle.scf_tool.specs.Options.{is_given}
