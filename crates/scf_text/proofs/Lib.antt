@@ -4,6 +4,8 @@ pub mod FormLemmas
 pub mod DraftLemmas
 pub mod CappedLemmas
 pub mod StatementLemmas
+pub mod KeptLemmas
+pub mod PartLemmas
 pub mod ReadLemmas
 pub mod LawLemmas
 pub mod TextLemmas

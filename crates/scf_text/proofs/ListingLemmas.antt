@@ -111,7 +111,7 @@ words_mark b bs h k =
     ap (map (λ (l : Lexeme). l.text)) (one_in_front 0 b bs h (and_left (is_word_byte b) (begins_in_word bs) k))
     ∙ ap (λ (ws : List (List ℕ)). (b ∷ []) ∷ ws) (words_on bs)
 
-pub onto_word : ℕ → List (List ℕ) → List (List ℕ)
+unfoldable pub onto_word : ℕ → List (List ℕ) → List (List ℕ)
 onto_word b [] = (b ∷ []) ∷ []
 onto_word b (w ∷ ws) = (b ∷ w) ∷ ws
 

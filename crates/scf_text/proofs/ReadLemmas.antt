@@ -1,9 +1,8 @@
 -- Reading one statement after another.
-use Rattle.std.proofs.Common.{◌≡◌, ℕ, suc, ◌+◌, ◌-◌, ◌<◌, ◌≤◌, Bool, List, [], ◌∷◌, ◌++◌, length, take, drop, map}
-use Rattle.std.proofs.Common.{Option, Some, None, Result, Ok, Err, refl, sym, ap, subst, ◌∙◌, append_assoc}
-use Rattle.std.proofs.Common.{append-nil, arith, inl, inr}
+use Rattle.std.proofs.Common.{◌≡◌, ℕ, suc, ◌+◌, Bool, List, [], ◌∷◌, ◌++◌, length, map, Option, Some, None, Result, Ok}
+use Rattle.std.proofs.Common.{Err, refl, sym, ap, subst, ◌∙◌, append_assoc, append-nil, arith, inl, inr}
 use Rattle.std.proofs.Math.Path.{fun_ext}
-use Rattle.std.specs.List.{slice_split, flat_map, position_or_len, onto_first}
+use Rattle.std.specs.List.{flat_map}
 use Rattle.std.specs.Map.{lookup}
 use Rattle.std.specs.Option.{is_some, option_or}
 use Rattle.std.specs.Str.{bytes_eq}
@@ -13,24 +12,25 @@ use Rattle.std.specs.BTreeMap.{BTreeMap, UpdatesBy}
 use Rattle.std.specs.Cmp.Lexicographic.{slice_cmp}
 use Rattle.std.specs.Ordering.{nat_cmp}
 use Rattle.std.proofs.lemmas.Map.Text.{btree_map_updates_str}
-use Rattle.std.proofs.lemmas.Bool.{cases_Bool, cases_lt}
-use Rattle.std.proofs.lemmas.List.{take_all, take_rest, take-map, drop-map, drop-drop, length-map, length-drop}
+use Rattle.std.proofs.lemmas.Bool.{cases_Bool}
 use Rattle.std.proofs.lemmas.List.Concat.{flat_map-append}
-use Rattle.std.proofs.lemmas.List.Splits.{slice_split_first, slice_split-cons_no}
+use Rattle.std.proofs.lemmas.Simd.{map-map}
 use Rattle.std.proofs.lemmas.Slice.Eq.{bytes_eq-Decides}
-use Rattle.scf_text.specs.declared.token.Token.{Token}
 use Rattle.scf_text.specs.declared.line.Line.{Line}
 use Rattle.scf_text.specs.declared.fault.TextFault.{TextFault}
 use Rattle.scf_text.specs.declared.fault.TextFault.TheVariants as fault
-use Rattle.scf_text.specs.internal.Views.{texts}
-use Rattle.scf_text.specs.Tokens.{Lexeme, lexemes, lines_of, before_comment, lexemes_from}
+use Rattle.scf_text.specs.Characters.{semicolon}
+use Rattle.scf_text.specs.Tokens.{before_comment, lines_of}
 use Rattle.scf_text.specs.Drafts as drafts
-use Rattle.scf_text.specs.Statements.{Statement, Labels, Places, place_of, places_in, is_semicolon, label_in}
+use Rattle.scf_text.specs.Statements.{Statement, Labels, Places, place_of, places_in, label_in}
 use Rattle.scf_text.specs.Statements.{instruction_in, instruction_count, label_at, place_after, labels_from}
 use Rattle.scf_text.specs.Statements.{drafts_by, drafts_in, statements_from}
 use Rattle.scf_text.specs.Faults.{IsFault, label_fault, instruction_fault, statement_fault, statements_fault}
+use Rattle.scf_text.specs.internal.Parts.{parts_of, words_of_part}
 use Rattle.scf_text.specs.internal.Results.{AddsInstruction}
-use Rattle.scf_text.specs.internal.Reading.{places_view, drafts_view, with_label, line_statements, HasRead, ReadsMore}
+use Rattle.scf_text.specs.internal.Reading.{places_view, drafts_view, with_label, HasRead, ReadsMore}
+use Rattle.scf_text.specs.internal.Reading.{statement_of, line_statements}
+use Rattle.scf_text.proofs.PartLemmas.{words_of_parts}
 
 pub fault_first : (e : TextFault) (a b : Option TextFault) → IsFault e a → IsFault e (option_or a b)
 fault_first (fault.NotAscii n) a b h = rw h refl
@@ -162,6 +162,15 @@ one_statement s before p q ds es h new none e f n =
       },
     )
 
+pub label_fails : (e : TextFault) (s : Statement) (before : List Statement) (p : Places) (ds : List (ℕ × drafts.Draft))
+    → HasRead before p ds → IsFault e (label_fault p s.line (label_in s.tokens))
+    → IsFault e (statements_fault before (s ∷ []))
+label_fails e s before p ds read h =
+    fault_first e (statement_fault before s) None
+    (fault_first e (label_fault (places_in before) s.line (label_in s.tokens))
+    (instruction_fault (instruction_count before) s.line (instruction_in s.tokens))
+    (subst (λ (r : Places). IsFault e (label_fault r s.line (label_in s.tokens))) read.places h))
+
 pub instruction_fails : (e : TextFault) (s : Statement) (before : List Statement) (p : Places)
     (ds : List (ℕ × drafts.Draft)) → HasRead before p ds → label_fault p s.line (label_in s.tokens) ≡ None
     → IsFault e (instruction_fault (length ds) s.line (instruction_in s.tokens))
@@ -255,88 +264,29 @@ pub reads_one_fault : (e : TextFault) (before all : List Statement) (s : Stateme
     → IsFault e (statements_fault before all)
 reads_one_fault e before all s rest p ds h next = reads_fault e before all (s ∷ []) rest p ds h next
 
--- cutting a list
+-- the statements of a line
 
-cut_last : {X : Type 0} (p : X → Bool) (xs : List X) → length xs ≤ position_or_len p xs → slice_split p xs ≡ xs ∷ []
-cut_last p [] le = refl
-cut_last p (x ∷ xs) le =
-    elim (cases_Bool (p x)) [
-      | inl end ↦
-          let zero_is : position_or_len p (x ∷ xs) ≡ 0 = rw end refl in
-          absurd (omega arith)
-      | inr other ↦
-          let more : position_or_len p (x ∷ xs) ≡ 1 + position_or_len p xs = rw other refl in
-          slice_split-cons_no p x xs other ∙ ap (onto_first x) (cut_last p xs (omega arith))
-    ]
+pub some_parts : (end : ℕ) (o : Option (Bor (List ℕ))) (bytes part : List ℕ)
+    → MatchOption o (parts_of end bytes ≡ part ∷ []) (λ rest. parts_of end bytes ≡ part ∷ parts_of end rest.now)
+    → (parts : List (List ℕ)) × (parts_of end bytes ≡ part ∷ parts)
+some_parts end None bytes part h = ([], h)
+some_parts end (Some rest) bytes part h = (parts_of end rest.now, h)
 
--- the tokens of one more statement of a line
+pub next_statement : (line : ℕ) (bytes part : List ℕ) (parts : List (List ℕ)) → parts_of semicolon bytes ≡ part ∷ parts
+    → line_statements line bytes ≡ (statement_of line part ∷ []) ++ map (statement_of line) parts
+next_statement line bytes part parts e = ap (map (statement_of line)) e
 
-texts-length : (start : ℕ) (ts : List Token) → length (texts (drop start ts)) ≡ length ts - start
-texts-length start ts = length-map (drop start ts) (λ t. t.text.now) ∙ length-drop start ts
+statements_of_line : (n : ℕ) (line : List ℕ) (lines : List (List ℕ))
+    → statements_from n (line ∷ lines) ≡ line_statements n (before_comment line) ++ statements_from (n + 1) lines
+statements_of_line n line lines =
+    let statement : List (List ℕ) → Statement = λ ts. record { line = n; tokens = ts } in
+    ap (λ ss. ss ++ statements_from (n + 1) lines)
+    (ap (map statement) (words_of_parts (before_comment line))
+    ∙ map-map statement words_of_part (parts_of semicolon (before_comment line)))
 
-pub next_statement : (line start n m : ℕ) (ts : List Token)
-    → n ≡ position_or_len is_semicolon (texts (take (length ts - start) (drop start ts))) → m ≡ n
-    → start + n < length ts
-    → line_statements line
-    (texts (drop start ts)) ≡ ((record { line = line; tokens = texts (take m (drop start ts)) }) ∷ [])
-    ++ line_statements line (texts (drop (start + n + 1) ts))
-next_statement line start n m ts given f lt =
-    let xs = texts (drop start ts) in
-    let e : n ≡ position_or_len is_semicolon xs = rw take_rest at given in
-    let short : position_or_len is_semicolon xs < length xs = omega (arith, texts-length start ts) in
-    let place : start + n + 1 ≡ start + (n + 1) = omega arith in
-    let front : take n xs ≡ texts (take n (drop start ts)) = take-map (λ (t : Token). t.text.now) n (drop start ts) in
-    let back : drop (n + 1) xs ≡ texts (drop (start + (n + 1)) ts) =
-    drop-map (λ (t : Token). t.text.now) (n + 1) (drop start ts) ∙ ap texts (drop-drop (n + 1) start ts) in
-    let cut : slice_split is_semicolon xs ≡ take n xs ∷ slice_split is_semicolon (drop (n + 1) xs) =
-    rw e (slice_split_first is_semicolon xs [] short) in
-    ap (map (λ (us : List (List ℕ)). let s : Statement = record { line = line; tokens = us } in s)) cut
-    ∙ rw (front, back, f, place) refl
-
-pub last_statement : (line start n m : ℕ) (ts : List Token)
-    → n ≡ position_or_len is_semicolon (texts (take (length ts - start) (drop start ts))) → m ≡ n
-    → start + n ≡ length ts
-    → line_statements line
-    (texts (drop start ts)) ≡ ((record { line = line; tokens = texts (take m (drop start ts)) }) ∷ []) ++ []
-last_statement line start n m ts given f end =
-    let xs = texts (drop start ts) in
-    let e : n ≡ position_or_len is_semicolon xs = rw take_rest at given in
-    let long : length xs ≤ position_or_len is_semicolon xs = omega (arith, texts-length start ts) in
-    let all : take m (drop start ts) ≡ drop start ts =
-    take_all m (drop start ts) (omega (arith, length-drop start ts)) in
-    ap (map (λ (us : List (List ℕ)). let s : Statement = record { line = line; tokens = us } in s))
-    (cut_last is_semicolon xs long) ∙ rw all refl
-
-pub some_statement : (line start n m : ℕ) (ts : List Token)
-    → n ≡ position_or_len is_semicolon (texts (take (length ts - start) (drop start ts))) → m ≡ n
-    → start + n ≤ length ts
-    → (rest : List Statement)
-    × (line_statements line
-    (texts (drop start ts)) ≡ ((record { line = line; tokens = texts (take m (drop start ts)) }) ∷ []) ++ rest)
-some_statement line start n m ts e f le =
-    elim (cases_lt (start + n) (length ts)) [
-      | inl lt ↦ (line_statements line (texts (drop (start + n + 1) ts)), next_statement line start n m ts e f lt)
-      | inr ge ↦ ([], last_statement line start n m ts e f (omega arith))
-    ]
-
--- the lines of a text
-
-texts_are : (ts : List Token) → texts ts ≡ map (λ (l : Lexeme). l.text) (lexemes ts)
-texts_are [] = refl
-texts_are (t ∷ ts) = ap (λ (us : List (List ℕ)). t.text.now ∷ us) (texts_are ts)
-
-pub some_lines : (o : Option (Bor (List ℕ))) (text line : List ℕ)
-    → MatchOption o (lines_of text ≡ line ∷ []) (λ rest. lines_of text ≡ line ∷ lines_of rest.now)
-    → (lines : List (List ℕ)) × (lines_of text ≡ line ∷ lines)
-some_lines None text line h = ([], h)
-some_lines (Some rest) text line h = (lines_of rest.now, h)
-
-pub next_line : (n : ℕ) (text line : List ℕ) (lines : List (List ℕ)) (old ts us : List Token)
-    → lines_of text ≡ line ∷ lines → old ≡ [] → lexemes ts ≡ lexemes old ++ lexemes_from 0 (before_comment line)
-    → us ≡ ts
-    → statements_from n (lines_of text) ≡ line_statements n (texts us) ++ statements_from (n + 1) lines
-next_line n text line lines old ts us h none e f =
-    let found : lexemes ts ≡ lexemes_from 0 (before_comment line) = rw none at e in
-    let same : map (λ (l : Lexeme). l.text) (lexemes_from 0 (before_comment line)) ≡ texts us =
-    sym (rw f (texts_are ts) ∙ ap (map (λ (l : Lexeme). l.text)) found) in
-    rw (h, same) refl
+pub next_line : (n : ℕ) (text line bytes : List ℕ) (lines : List (List ℕ)) → lines_of text ≡ line ∷ lines
+    → bytes ≡ before_comment line
+    → statements_from n (lines_of text) ≡ line_statements n bytes ++ statements_from (n + 1) lines
+next_line n text line bytes lines e shown =
+    ap (statements_from n) e ∙ statements_of_line n line lines
+    ∙ ap (λ bs. line_statements n bs ++ statements_from (n + 1) lines) (sym shown)

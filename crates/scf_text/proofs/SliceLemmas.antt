@@ -119,6 +119,16 @@ last_tokens text rest line start found more so_far last added =
     (sym (append-nil (lexemes_from start (before_comment line))))
     ∙ ap (λ lines. lexemes found ++ lexemes_of_lines start lines) (sym last) ∙ so_far
 
+-- the tokens of a line that isn't the last were found
+pub next_tokens : (text rest line next : List ℕ) (start : ℕ) (found more : List Token)
+    → lexemes found ++ lexemes_of_lines start (lines_of rest) ≡ tokens_of text → lines_of rest ≡ line ∷ lines_of next
+    → lexemes more ≡ lexemes found ++ lexemes_from start (before_comment line)
+    → lexemes more ++ lexemes_of_lines (start + (length line + 1)) (lines_of next) ≡ tokens_of text
+next_tokens text rest line next start found more so_far line_more added =
+    let place : start + (length line + 1) ≡ start + length line + 1 = omega arith in
+    rw (place, added, append_assoc)
+    (ap (λ lines. lexemes found ++ lexemes_of_lines start lines) (sym line_more) ∙ so_far)
+
 -- the words of the lines, in order, are the tokens
 
 words_of_lines : (at : ℕ) (lines : List (List ℕ))

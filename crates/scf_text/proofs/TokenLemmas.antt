@@ -1,15 +1,17 @@
 -- Reading tokens from the front.
-use Rattle.std.proofs.Common.{◌≡◌, ◌≢◌, length-append, ℕ, suc, ◌+◌, ◌-◌, ◌<◌, ◌≤◌, Bool, true, false, ◌&&◌, eqb, List}
+use Rattle.std.proofs.Common.{◌≡◌, ◌≢◌, length-append, ℕ, suc, ◌+◌, ◌-◌, ◌<◌, ◌≤◌, ◌^◌, Bool, true, false, ◌&&◌, eqb, List}
 use Rattle.std.proofs.Common.{[], ◌∷◌, ◌++◌, length, get_or, take, drop, refl, sym, ap, subst, ◌∙◌, append_assoc}
-use Rattle.std.proofs.Common.{arith, inl, inr, max}
+use Rattle.std.proofs.Common.{append-nil, arith, inl, inr, max}
 use Rattle.std.specs.List.{prefix_len, position_or_len, onto_first}
 use Rattle.std.proofs.lemmas.Bool.{cases_Bool, and_left, and_right}
 use Rattle.std.proofs.lemmas.Bool.Decides.{nat_tests}
-use Rattle.std.proofs.lemmas.List.{drop_more, drop_all, take_more, take_rest}
+use Rattle.std.proofs.lemmas.List.{drop_more, drop_all, take_more, take_rest, length-map}
 use Rattle.std.proofs.lemmas.List.Splits.{slice_split_first, slice_split-cons_no}
+use Rattle.scf_text.specs.declared.token.Token.{Token}
 use Rattle.scf_text.specs.Characters.{is_blank, is_word_byte}
 use Rattle.scf_text.specs.Tokens.{Lexeme, begins_comment, before_comment, begins_in_word, joined, lexemes_from}
-use Rattle.scf_text.specs.Tokens.{lines_of}
+use Rattle.scf_text.specs.Tokens.{lexeme, lexemes}
+use Rattle.scf_text.specs.internal.Parts.{parts_of, AreFirst}
 use Rattle.scf_text.specs.internal.Views.{HeadIsBlank}
 
 pub word_not_blank : (b : ℕ) → is_word_byte b ≡ true → is_blank b ≡ false
@@ -77,27 +79,27 @@ no_comment_here xs i lt h =
     ∙ rw (let k : begins_comment (get_or xs i 0 ∷ drop (i + 1) xs) ≡ false =
     subst (λ (ys : List ℕ). begins_comment ys ≡ false) e h in k) refl
 
--- a line that ends
-pub line_ends : (text : List ℕ) (n : ℕ) → n ≡ position_or_len (λ b. eqb b 10) text → n < length text
-    → lines_of text ≡ take n text ∷ lines_of (take (length text - (n + 1)) (drop (n + 1) text))
-line_ends text n e lt =
-    let short : position_or_len (λ b. eqb b 10) text < length text = omega arith in
-    rw (take_rest text (n + 1), e) (slice_split_first (λ b. eqb b 10) text 0 short)
+-- a part that ends
+pub part_ends : (end : ℕ) (bytes : List ℕ) (n : ℕ) → n ≡ position_or_len (λ b. eqb b end) bytes → n < length bytes
+    → parts_of end bytes ≡ take n bytes ∷ parts_of end (take (length bytes - (n + 1)) (drop (n + 1) bytes))
+part_ends end bytes n e lt =
+    let short : position_or_len (λ b. eqb b end) bytes < length bytes = omega arith in
+    rw (take_rest bytes (n + 1), e) (slice_split_first (λ b. eqb b end) bytes 0 short)
 
--- the last line
-pub line_lasts : (text : List ℕ) (n : ℕ) → n ≡ position_or_len (λ b. eqb b 10) text → length text ≤ n
-    → lines_of text ≡ text ∷ []
-line_lasts [] n e le = refl
-line_lasts (b ∷ bs) n e le =
-    elim (cases_Bool (eqb b 10)) [
-      | inl end ↦
-          let zero_is : position_or_len (λ b. eqb b 10) (b ∷ bs) ≡ 0 = rw end refl in
+-- the last part
+pub part_lasts : (end : ℕ) (bytes : List ℕ) (n : ℕ) → n ≡ position_or_len (λ b. eqb b end) bytes → length bytes ≤ n
+    → parts_of end bytes ≡ bytes ∷ []
+part_lasts end [] n e le = refl
+part_lasts end (b ∷ bs) n e le =
+    elim (cases_Bool (eqb b end)) [
+      | inl here ↦
+          let zero_is : position_or_len (λ b. eqb b end) (b ∷ bs) ≡ 0 = rw here refl in
           absurd (omega arith)
       | inr other ↦
-          let more : position_or_len (λ b. eqb b 10) (b ∷ bs) ≡ 1 + position_or_len (λ b. eqb b 10) bs =
+          let more : position_or_len (λ b. eqb b end) (b ∷ bs) ≡ 1 + position_or_len (λ b. eqb b end) bs =
           rw other refl in
-          slice_split-cons_no (λ b. eqb b 10) b bs other
-          ∙ ap (onto_first b) (line_lasts bs (n - 1) (omega arith) (omega arith))
+          slice_split-cons_no (λ b. eqb b end) b bs other
+          ∙ ap (onto_first b) (part_lasts end bs (n - 1) (omega arith) (omega arith))
     ]
 
 pub comment_step : (xs : List ℕ) (i : ℕ) (total : List ℕ) → i < length xs
@@ -134,3 +136,17 @@ pub some_between : {A : Type 0} (a b c : List A) → b ≢ [] → a ++ (b ++ c) 
 some_between [] [] c some e = some refl
 some_between [] (x ∷ b) c some e = cc
 some_between (x ∷ a) b c some e = cc
+
+-- all of some elements, of which there are fewer than are wanted
+pub all_of_first : {A : Type 0} (wanted : ℕ) (all kept : List A) → AreFirst wanted all kept → length kept < wanted
+    → all ≡ kept
+all_of_first wanted all kept first lt =
+    first.whole ∙ ap (λ xs. kept ++ xs) (first.few lt) ∙ append-nil kept
+
+pub all_found : (found more : List Token) (start : ℕ) (line part : List ℕ)
+    → AreFirst (2 ^ 64 - 1) (lexemes found ++ lexemes_from start part) (lexemes more) → part ≡ before_comment line
+    → length more < 2 ^ 63 → lexemes more ≡ lexemes found ++ lexemes_from start (before_comment line)
+all_found found more start line part first shown few =
+    sym (all_of_first (2 ^ 64 - 1) (lexemes found ++ lexemes_from start part) (lexemes more) first
+    (omega (arith, length-map more lexeme)))
+    ∙ ap (λ bs. lexemes found ++ lexemes_from start bs) shown

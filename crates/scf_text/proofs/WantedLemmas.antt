@@ -6,9 +6,11 @@ use Rattle.std.specs.Prelude.{OnErr}
 use Rattle.std.specs.List.{flat_map}
 use Rattle.scf_text.specs.declared.token.Token.{Token}
 use Rattle.scf_text.specs.declared.line.Line.{Line}
-use Rattle.scf_text.specs.Tokens.{Lexeme, lexemes, lexemes_from, lines_of, before_comment, words_of_line, tokens_of}
+use Rattle.scf_text.specs.Tokens.{Lexeme, lexemes_from, lines_of, before_comment, words_of_line, tokens_of}
 use Rattle.scf_text.specs.Statements.{statements_from, drafts_in, drafts_of}
+use Rattle.scf_text.specs.internal.Parts.{words_of_part, AreFirst}
 use Rattle.scf_text.specs.internal.Reading.{HasWords, drafts_view}
+use Rattle.scf_text.specs.internal.Views.{texts}
 use Rattle.scf_text.proofs.SliceLemmas.{words_are_tokens}
 
 none_mapped : {A B : Type 0} (f : A → B) (xs : List A) → map f xs ≡ [] → xs ≡ []
@@ -24,11 +26,11 @@ none_behind [] ys e = e
 none_behind (x ∷ xs) ys e = absurd cc
 
 -- the first line has a token
-pub first_words : (text line : List ℕ) (lines : List (List ℕ)) → lines_of text ≡ line ∷ lines
-    → lexemes_from 0 (before_comment line) ≢ [] → HasWords text
-first_words text line lines e some = λ none.
-    some (none_mapped (λ (t : Lexeme). t.text) (lexemes_from 0 (before_comment line))
-    (none_in_front (words_of_line line) (flat_map words_of_line lines) (sym (ap (flat_map words_of_line) e) ∙ none)))
+pub first_words : (text line bytes : List ℕ) (lines : List (List ℕ)) → lines_of text ≡ line ∷ lines
+    → bytes ≡ before_comment line → words_of_part bytes ≢ [] → HasWords text
+first_words text line bytes lines e shown some = λ none.
+    some (ap words_of_part shown
+    ∙ none_in_front (words_of_line line) (flat_map words_of_line lines) (sym (ap (flat_map words_of_line) e) ∙ none))
 
 -- a later line has one
 pub later_words : (text line : List ℕ) (lines : List (List ℕ)) → lines_of text ≡ line ∷ lines
@@ -36,14 +38,14 @@ pub later_words : (text line : List ℕ) (lines : List (List ℕ)) → lines_of 
 later_words text line lines e some = λ none.
     some (none_behind (words_of_line line) (flat_map words_of_line lines) (sym (ap (flat_map words_of_line) e) ∙ none))
 
--- tokens of a line were found
-pub found_tokens : (line : List ℕ) (old ts us : List Token) → old ≡ []
-    → lexemes ts ≡ lexemes old ++ lexemes_from 0 (before_comment line) → us ≡ ts → 0 < length us
-    → lexemes_from 0 (before_comment line) ≢ []
-found_tokens line old ts us cleared found same some = λ none.
-    let no_lexemes : lexemes ts ≡ [] = found
-    ∙ ap (λ o. lexemes o ++ lexemes_from 0 (before_comment line)) cleared ∙ none in
-    let no_tokens : us ≡ [] = same ∙ none_mapped _ ts no_lexemes in
+-- a part has tokens, and so has it without their places
+pub some_texts : (part : List ℕ) → lexemes_from 0 part ≢ [] → words_of_part part ≢ []
+some_texts part some none = some (none_mapped (λ (t : Lexeme). t.text) (lexemes_from 0 part) none)
+
+-- some of them were kept
+pub some_kept : (all : List (List ℕ)) (ts : List Token) → AreFirst 11 all (texts ts) → 0 < length ts → all ≢ []
+some_kept all ts first some none =
+    let no_tokens = none_mapped _ ts (none_in_front (texts ts) first.others (sym first.whole ∙ none)) in
     omega (arith, ap length no_tokens, some)
 
 no_drafts : (n : ℕ) (lines : List (List ℕ)) → flat_map words_of_line lines ≡ []

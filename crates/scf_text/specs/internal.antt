@@ -1,3 +1,4 @@
+pub mod Parts
 pub mod Reading
 pub mod Results
 pub mod Views

@@ -15,7 +15,7 @@ use crate::draft::{Draft, Written};
 use crate::fault::TextFault;
 use crate::line::Line;
 use crate::statement::{Places, add_line, find_place};
-use crate::token::{first_line, push_tokens};
+use crate::token::{first_part, without_comment};
 use scf_insn::Insn;
 use std::alloc::Global;
 use std::collections::BTreeMap;
@@ -52,10 +52,8 @@ fn read_text<'a>(
     let mut rest = text;
     let mut number = 1;
     'lines: loop {
-        let (line, after) = first_line(rest);
-        tokens.clear();
-        push_tokens(&mut tokens, 0, line)?;
-        add_line(places, lines, &tokens, number)?;
+        let (line, after) = first_part(rest, b'\n');
+        add_line(places, lines, &mut tokens, without_comment(line), number)?;
         match after {
             None => return Ok(()),
             Some(next) => {

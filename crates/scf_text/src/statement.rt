@@ -1,8 +1,8 @@
 //! The statements of a text.
-ghost use Rattle.std.specs.Prelude.{◌≡◌, ◌<◌, ◌≤◌, ◌∷◌, [], List, length, OnErr, IsSome};
+ghost use Rattle.std.specs.Prelude.{◌≡◌, ◌≢◌, ◌<◌, ◌≤◌, ◌∷◌, [], ℕ, List, length, OnErr, IsSome};
 ghost use Rattle.std.specs.Option.{option_map};
-ghost use Rattle.std.specs.List.{position_or_len};
-ghost use Rattle.scf_text.specs.Statements.{Statement, is_semicolon, label_in, instruction_in};
+ghost use Rattle.scf_text.specs.Statements.{Statement, label_in, instruction_in};
+ghost use Rattle.scf_text.specs.internal.Parts.{words_of_part, AreFirst};
 ghost use Rattle.scf_text.specs.internal.Reading.{places_view, drafts_view, line_statements, HasRead, ReadsMore};
 ghost use Rattle.scf_text.specs.internal.Results.{TellsDraft, AddsLabel, AddsInstruction};
 ghost use Rattle.scf_text.specs.internal.Views.{texts};
@@ -10,7 +10,7 @@ ghost use Rattle.scf_text.specs.internal.Views.{texts};
 use crate::draft::{Draft, Reading, is_token_name, read};
 use crate::fault::TextFault;
 use crate::line::Line;
-use crate::token::Token;
+use crate::token::{Token, first_part, push_tokens};
 use scf_insn::kernel::BPF_MAXINSNS;
 use std::collections::BTreeMap;
 
@@ -98,15 +98,20 @@ fn add_instruction<'a>(
     Ok(())
 }
 
-/// Adds the label and the instruction of a statement.
+/// The most tokens of a statement that are read: a label and its `:`, `raw` and its seven operands, and one by which a
+/// longer statement is known.
+const MAX_TOKENS: usize = 11;
+
+/// Adds the label and the instruction of a statement, whose first tokens are given.
 fn add_statement<'a>(
     places: &mut Places<'a>,
     lines: &mut Vec<Line<'a>>,
     tokens: &[Token<'a>],
     line: usize,
 ) -> Result<(), TextFault>
-    ensures reads { (before : List Statement) → HasRead before (places_view places.old) (drafts_view lines.old.items)
-        → ReadsMore result before ((record { line = line; tokens = texts tokens.now }) ∷ []) (places_view places.new)
+    ensures reads { (before : List Statement) (all : List (List ℕ)) → AreFirst MAX_TOKENS all (texts tokens.now)
+        → HasRead before (places_view places.old) (drafts_view lines.old.items)
+        → ReadsMore result before ((record { line = line; tokens = all }) ∷ []) (places_view places.new)
         (drafts_view lines.new.items) }
     ensures some { OnErr result (0 < length tokens.now) }
 {
@@ -115,38 +120,28 @@ fn add_statement<'a>(
     add_instruction(lines, instruction, line)
 }
 
-/// How many tokens are in front of the first `;`.
-fn statement_len(tokens: &[Token]) -> usize
-    ensures value { result ≡ position_or_len is_semicolon (texts tokens.now) }
-    ensures within { result ≤ length tokens.now }
-{
-    for (len, token) in tokens.iter().enumerate() {
-        if token.text == b";".as_slice() {
-            return len;
-        }
-    }
-    tokens.len()
-}
-
-/// Adds the statements of a line.
+/// Adds the statements of a line without its comment. The tokens of one statement are kept at a time.
 pub(crate) fn add_line<'a>(
     places: &mut Places<'a>,
     lines: &mut Vec<Line<'a>>,
-    tokens: &[Token<'a>],
+    tokens: &mut Vec<Token<'a>>,
+    bytes: &'a [u8],
     line: usize,
 ) -> Result<(), TextFault>
     ensures reads { (before : List Statement) → HasRead before (places_view places.old) (drafts_view lines.old.items)
-        → ReadsMore result before (line_statements line (texts tokens.now)) (places_view places.new)
+        → ReadsMore result before (line_statements line bytes.now) (places_view places.new)
         (drafts_view lines.new.items) }
-    ensures some { OnErr result (0 < length tokens.now) }
+    ensures some { OnErr result (words_of_part bytes.now ≢ []) }
 {
-    let mut start = 0;
+    let mut rest = bytes;
     'statements: loop {
-        let end = start + statement_len(&tokens[start..]);
-        add_statement(places, lines, &tokens[start..end], line)?;
-        if end == tokens.len() {
-            return Ok(());
+        let (statement, after) = first_part(rest, b';');
+        tokens.clear();
+        push_tokens(tokens, 0, statement, MAX_TOKENS)?;
+        add_statement(places, lines, tokens.as_slice(), line)?;
+        match after {
+            None => return Ok(()),
+            Some(next) => rest = next,
         }
-        start = end + 1;
     }
 }

@@ -3,8 +3,9 @@ ghost use Rattle.std.specs.Prelude.{◌≡◌, ◌≢◌, ℕ, ◌+◌, ◌≤�
 ghost use Rattle.std.specs.Prelude.{OnOk, OnErr, IfOk, MatchOption, false};
 ghost use Rattle.std.specs.List.{All, position_or_len, prefix_len};
 ghost use Rattle.scf_text.specs.Characters.{is_blank, is_word_byte};
-ghost use Rattle.scf_text.specs.Tokens.{lines_of, begins_comment, before_comment, lexemes_from, tokens_of};
+ghost use Rattle.scf_text.specs.Tokens.{begins_comment, before_comment, lexemes_from, tokens_of};
 ghost use Rattle.scf_text.specs.Tokens.{IsSliceOf, lexemes};
+ghost use Rattle.scf_text.specs.internal.Parts.{parts_of, AreFirst};
 ghost use Rattle.scf_text.specs.internal.Views.{HeadIsBlank};
 
 use scf_insn::Memory;
@@ -42,32 +43,32 @@ fn word_len(bytes: &[u8]) -> usize
     bytes.len()
 }
 
-/// How long the first line is.
+/// How many bytes are in front of the first that ends a part.
 #[tactic(auto, using(std::proofs::lemmas::List::Sums::position_or_len_is))]
-fn line_len(text: &[u8]) -> usize
-    ensures { result ≡ position_or_len (λ b. b == 10) text.now }
+fn part_len(bytes: &[u8], end: u8) -> usize
+    ensures { result ≡ position_or_len (λ b. b == end) bytes.now }
 {
-    for (len, byte) in text.iter().enumerate() {
-        if *byte == b'\n' {
+    for (len, byte) in bytes.iter().enumerate() {
+        if *byte == end {
             return len;
         }
     }
-    text.len()
+    bytes.len()
 }
 
-/// The first line, and what follows its end.
-#[tactic(auto, using(crate::proofs::TokenLemmas::line_ends, crate::proofs::TokenLemmas::line_lasts))]
-pub(crate) fn first_line(text: &[u8]) -> (&[u8], Option<&[u8]>)
-    ensures lines { MatchOption result.1 (lines_of text.now ≡ result.0.now ∷ [])
-        (λ rest. lines_of text.now ≡ result.0.now ∷ lines_of rest.now) }
-    ensures len { MatchOption result.1 (result.0.now ≡ text.now)
-        (λ rest. length text.now ≡ length result.0.now + 1 + length rest.now) }
+/// The first of the parts that end at this byte, and what follows its end.
+#[tactic(auto, using(crate::proofs::TokenLemmas::part_ends, crate::proofs::TokenLemmas::part_lasts))]
+pub(crate) fn first_part(bytes: &[u8], end: u8) -> (&[u8], Option<&[u8]>)
+    ensures parts { MatchOption result.1 (parts_of end bytes.now ≡ result.0.now ∷ [])
+        (λ rest. parts_of end bytes.now ≡ result.0.now ∷ parts_of end rest.now) }
+    ensures len { MatchOption result.1 (result.0.now ≡ bytes.now)
+        (λ rest. length bytes.now ≡ length result.0.now + 1 + length rest.now) }
 {
-    let end = line_len(text);
-    if end < text.len() {
-        (&text[..end], Some(&text[end + 1..]))
+    let len = part_len(bytes, end);
+    if len < bytes.len() {
+        (&bytes[..len], Some(&bytes[len + 1..]))
     } else {
-        (text, None)
+        (bytes, None)
     }
 }
 
@@ -83,7 +84,7 @@ fn is_comment(bytes: &[u8]) -> bool
 
 /// The line without its comment.
 #[tactic(auto, using(crate::proofs::TokenLemmas::comment_step))]
-fn without_comment(line: &[u8]) -> &[u8]
+pub(crate) fn without_comment(line: &[u8]) -> &[u8]
     ensures value { result.now ≡ before_comment line.now }
     ensures len { length result.now ≤ length line.now }
 {
@@ -108,27 +109,27 @@ fn token_len(bytes: &[u8]) -> usize
     word_len(bytes).max(1)
 }
 
-/// Adds the tokens of a line.
+/// Adds the tokens of a part of a line, until there are as many as are wanted.
 pub(crate) fn push_tokens<'a>(
     found: &mut Vec<Token<'a>>,
     start: usize,
-    line: &'a [u8],
+    part: &'a [u8],
+    wanted: usize,
 ) -> Result<(), AllocError>
-    requires { start + length line.now < 2 ^ 64 }
-    ensures found { OnOk result
-        (lexemes found.new.items ≡ lexemes found.old.items ++ lexemes_from start (before_comment line.now)) }
-    ensures refused { OnErr result (lexemes_from start (before_comment line.now) ≢ []) }
+    requires { start + length part.now < 2 ^ 64 }
+    ensures found { OnOk result (AreFirst wanted (lexemes found.old.items ++ lexemes_from start part.now)
+        (lexemes found.new.items)) }
+    ensures refused { OnErr result (lexemes_from start part.now ≢ []) }
 {
-    let line = without_comment(line);
     let mut at = 0;
-    while at < line.len() {
-        if is_blank_byte(line[at]) {
+    while at < part.len() && found.len() < wanted {
+        if is_blank_byte(part[at]) {
             at += 1;
         } else {
-            let len = token_len(&line[at..]);
+            let len = token_len(&part[at..]);
             found.push(Token {
                 start: start + at,
-                text: &line[at..at + len],
+                text: &part[at..at + len],
             })?;
             at += len;
         }
@@ -141,8 +142,9 @@ pub(crate) fn push_tokens<'a>(
 ///
 /// Each borrows its slice of the text. `Memory` comes where memory was refused, and not where there is no token.
 ///
-/// These are the pieces that `assemble` works on. It looks for a byte that isn't ASCII first, and then takes them line by
-/// line: those of one line are kept at a time, where this call gives all of them.
+/// These are the pieces that `assemble` works on. It looks for a byte that isn't ASCII first, and then takes them
+/// statement by statement. Of each it reads the first eleven at most, since no statement that is longer has a form, and
+/// it keeps them no longer than their statement; this call gives all of them.
 #[tactic(auto, unfolding(crate::specs::Tokens::tokens_of))]
 pub fn tokens(alloc: Global, text: &[u8]) -> Result<Vec<Token<'_>>, Memory>
     ensures pieces { IfOk result (λ found. lexemes found.items ≡ tokens_of text.now) }
@@ -153,8 +155,8 @@ pub fn tokens(alloc: Global, text: &[u8]) -> Result<Vec<Token<'_>>, Memory>
     let mut start = 0;
     let mut rest = text;
     'lines: loop {
-        let (line, after) = first_line(rest);
-        push_tokens(&mut found, start, line)?;
+        let (line, after) = first_part(rest, b'\n');
+        push_tokens(&mut found, start, without_comment(line), usize::MAX)?;
         match after {
             None => return Ok(found),
             Some(next) => {

@@ -3,7 +3,7 @@ use Rattle.std.specs.Prelude.{◌≡◌, ◌≢◌, ℕ, List, [], ◌++◌, len
 use Rattle.std.specs.Borrow.{Bor}
 use Rattle.std.specs.BTreeMap.{BTreeMap, get_by}
 use Rattle.std.specs.Cmp.Lexicographic.{slice_cmp}
-use Rattle.std.specs.List.{slice_split, flat_map}
+use Rattle.std.specs.List.{flat_map}
 use Rattle.std.specs.Map.{update}
 use Rattle.std.specs.Ordering.{nat_cmp}
 use Rattle.std.specs.Str.{bytes_eq}
@@ -11,8 +11,10 @@ use Rattle.scf_text.specs.declared.fault.TextFault.{TextFault}
 use Rattle.scf_text.specs.declared.line.Line.{Line}
 use Rattle.scf_text.specs.Drafts as drafts
 use Rattle.scf_text.specs.internal.Views.{draft_view}
+use Rattle.scf_text.specs.internal.Parts.{parts_of, words_of_part}
+use Rattle.scf_text.specs.Characters.{semicolon}
 use Rattle.scf_text.specs.Tokens.{lines_of, words_of_line}
-use Rattle.scf_text.specs.Statements.{Statement, Places, is_semicolon, places_in, instruction_count, drafts_in}
+use Rattle.scf_text.specs.Statements.{Statement, Places, places_in, instruction_count, drafts_in}
 use Rattle.scf_text.specs.Faults.{IsFault, statements_fault}
 
 -- the places that a map has
@@ -27,9 +29,13 @@ with_label places at (Some name) = update bytes_eq places name (Some at)
 abbrev pub drafts_view : List Line → List (ℕ × drafts.Draft)
 drafts_view kept = map (λ l. (l.line, draft_view l.draft)) kept
 
--- the statements of a line, from its tokens
-abbrev pub line_statements : ℕ → List (List ℕ) → List Statement
-line_statements line tokens = map (λ ts. record { line = line; tokens = ts }) (slice_split is_semicolon tokens)
+-- the statement that a part of a line is
+abbrev pub statement_of : ℕ → List ℕ → Statement
+statement_of line part = record { line = line; tokens = words_of_part part }
+
+-- the statements of a line without its comment, which end at each `;`
+abbrev pub line_statements : ℕ → List ℕ → List Statement
+line_statements line bytes = map (statement_of line) (parts_of semicolon bytes)
 
 -- Some line of the text has a token.
 abbrev pub HasWords : List ℕ → Type 0
