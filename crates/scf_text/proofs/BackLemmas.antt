@@ -84,16 +84,7 @@ one_back f only i h =
 
 pub separated : (shape : Shape) → is_separated (pieces_of shape) ≡ true
 separated s.Nothing = refl
-separated s.Length = refl
-separated s.Accumulator = refl
-separated s.Index = refl
-separated s.Constant = refl
-separated s.Absolute = refl
-separated s.Scratch = refl
-separated s.Jump = refl
-separated s.TestConstant = refl
-separated s.TestIndex = refl
-separated s.Raw = refl
+separated shape = refl
 
 full_only : (i : Insn) (o : Option Form) → ((f : Form) → o ≡ Some f → IsOnlyReading f) → IsOnlyReading (full_form i o)
 full_only i None known = one_reading.0

@@ -9,7 +9,7 @@ use Rattle.std.proofs.lemmas.Bool.{cases_lt, le-ltb, ltb-true, and_parts}
 use Rattle.scf_text.specs.declared.form.Piece.{Piece}
 use Rattle.scf_text.specs.declared.form.Piece.TheVariants as p
 use Rattle.scf_text.specs.declared.form.Field.{Field}
-use Rattle.scf_text.specs.declared.form.Field.TheVariants.{Code, Jt, Jf, K}
+use Rattle.scf_text.specs.declared.form.Field.TheVariants.{Code}
 use Rattle.scf_text.specs.declared.form.Form.{Form}
 use Rattle.scf_insn.specs.Codes.{code_table}
 use Rattle.scf_text.specs.Forms.{pieces_of, known_forms, forms}
@@ -35,10 +35,7 @@ capped d =
 capped_field : (f : Field) (o : Written) (d : Draft)
     → with_field f (capped_written o) (capped d) ≡ capped (with_field f o d)
 capped_field Code (Number n) d = refl
-capped_field Code (Label name) d = refl
-capped_field Jt o d = refl
-capped_field Jf o d = refl
-capped_field K o d = refl
+capped_field f o d = refl
 
 capped_choice : (b : Bool) (d : Draft)
     → (if b then Some (capped d) else None) ≡ option_map capped (if b then Some d else None)
@@ -62,11 +59,7 @@ capped_put : (piece : Piece) (t : List ℕ) (d : Draft)
     → put_by capped_number piece t (capped d) ≡ option_map capped (put_by number_of piece t d)
 capped_put (p.Number f style) t d = capped_put_number f (number_of t) d
 capped_put (p.Target f) t d = capped_target (is_name t) f t d
-capped_put (p.Mark b) t d = capped_choice (list_any (bytes_eq t) (spellings (p.Mark b))) d
-capped_put p.Len t d = capped_choice (list_any (bytes_eq t) (spellings p.Len)) d
-capped_put p.Memory t d = capped_choice (list_any (bytes_eq t) (spellings p.Memory)) d
-capped_put p.Accumulator t d = capped_choice (list_any (bytes_eq t) (spellings p.Accumulator)) d
-capped_put p.Index t d = capped_choice (list_any (bytes_eq t) (spellings p.Index)) d
+capped_put piece t d = capped_choice (list_any (bytes_eq t) (spellings piece)) d
 
 capped_fill : (ps : List Piece) (ts : List (List ℕ)) (d : Draft)
     → fill_by capped_number ps ts (capped d) ≡ option_map capped (fill_by number_of ps ts d)

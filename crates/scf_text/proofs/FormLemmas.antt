@@ -65,6 +65,10 @@ find_form code = found_in code code_table
 
 -- ---- reading by the forms in turn
 
+or_true : (b : Bool) → (b || true) ≡ true
+or_true true = refl
+or_true false = refl
+
 module _ (number : List ℕ → Option ℕ) (t : List ℕ) (ts : List (List ℕ)) where
   -- no form so far has read the tokens; it is known whether one had the mnemonic
   pub record IsUnread (fs rest : List Form) (is_known : Bool) : Type 0 where
@@ -91,10 +95,6 @@ module _ (number : List ℕ → Option ℕ) (t : List ℕ) (ts : List (List ℕ)
           (read_by number rest t ts)) same
           ∙ ap (λ o. option_or o (read_by number rest t ts)) unfit;
     }
-      where
-        or_true : (b : Bool) → (b || true) ≡ true
-        or_true true = refl
-        or_true false = refl
 
     -- it has both
     pub said_here : (draft : Draft) → has_mnemonic t f ≡ true
@@ -107,7 +107,3 @@ module _ (number : List ℕ → Option ℕ) (t : List ℕ) (ts : List (List ℕ)
     pub known_here : has_mnemonic t f ≡ true → list_any (has_mnemonic t) fs ≡ true
     known_here same =
         unread.known ∙ ap (λ b. is_known || (b || list_any (has_mnemonic t) rest)) same ∙ or_true is_known
-      where
-        or_true : (b : Bool) → (b || true) ≡ true
-        or_true true = refl
-        or_true false = refl

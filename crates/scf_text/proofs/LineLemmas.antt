@@ -1,10 +1,10 @@
 -- The statements of a listing.
 use Rattle.std.proofs.Common.{◌≡◌, ℕ, ◌<◌, Bool, true, false, not, ◌&&◌, ◌||◌, eqb, ltb, List, [], ◌∷◌, ◌++◌, None}
-use Rattle.std.proofs.Common.{refl, ap, ◌∙◌, arith, inl, inr}
+use Rattle.std.proofs.Common.{refl, ap, ◌∙◌, arith}
 use Rattle.std.specs.List.{AllByRecursion, list_all, flat_map}
 use Rattle.std.specs.Str.{bytes_eq}
 use Rattle.std.specs.Fmt.{decimal}
-use Rattle.std.proofs.lemmas.Bool.{cases_Bool, ltb-true, and_parts, and_from, and_right, not-true}
+use Rattle.std.proofs.lemmas.Bool.{ltb-true, and_parts, and_from, and_right, not-true}
 use Rattle.std.proofs.lemmas.Bool.Decides.{nat_tests}
 use Rattle.std.proofs.lemmas.List.Folds.{list_all-append}
 use Rattle.scf_insn.specs.Insn.{IsInsn}
@@ -12,13 +12,13 @@ use Rattle.scf_insn.specs.declared.insn.Insn.{Insn}
 use Rattle.scf_text.specs.declared.form.Piece.{Piece}
 use Rattle.scf_text.specs.declared.form.Piece.TheVariants as p
 use Rattle.scf_text.specs.declared.form.Style.TheVariants.{Decimal}
-use Rattle.scf_text.specs.Characters.{is_blank, is_word_byte}
+use Rattle.scf_text.specs.Characters.{is_word_byte}
 use Rattle.scf_text.specs.Tokens.{before_comment}
 use Rattle.scf_text.specs.Forms.{mnemonic_text, pieces_of, field_of, form_for}
 use Rattle.scf_text.specs.Listing.{number_text, mark_text, piece_text, operands_text}
 use Rattle.scf_text.specs.Drafts.{is_name}
 use Rattle.scf_text.specs.Statements.{is_semicolon, label_in}
-use Rattle.scf_text.proofs.PieceLemmas.{IsWordy, is_fine_mark, is_fine, is_separated, is_mark, starts_with_mark}
+use Rattle.scf_text.proofs.PieceLemmas.{IsWordy, is_fine_mark, mark_cases, is_fine, is_separated, is_mark, starts_with_mark}
 use Rattle.scf_text.proofs.PieceLemmas.{piece_words, piece_wordy, mnemonic_wordy}
 use Rattle.scf_text.proofs.BackLemmas.{separated}
 
@@ -50,45 +50,21 @@ wordy_plain (b ∷ t) w =
     let h = (and_parts (is_word_byte b) (list_all is_word_byte t) w.each).0 in
     rw (word_semicolon b h, word_colon b h) refl
 
-abbrev rest_of_mark : ℕ → Bool
-rest_of_mark b =
-    not (is_word_byte b) && (ltb b 128 && (not (eqb b 47) && (not (eqb b 10) && (not (eqb b 58) && not (eqb b 59)))))
-
-mark_line : (b : ℕ) → is_fine_mark b ≡ true → list_all is_line_byte (mark_text b) ≡ true
+mark_line : (b : ℕ) → is_fine_mark b ≡ true
+    → (list_all is_line_byte (mark_text b) ≡ true) × (list_all is_plain ((b ∷ []) ∷ []) ≡ true)
 mark_line b fine =
-    let a = and_parts (not (is_blank b)) (rest_of_mark b) fine in
-    let c = and_parts (not (is_word_byte b))
-    (ltb b 128 && (not (eqb b 47) && (not (eqb b 10) && (not (eqb b 58) && not (eqb b 59))))) a.1 in
-    let d = and_parts (ltb b 128) (not (eqb b 47) && (not (eqb b 10) && (not (eqb b 58) && not (eqb b 59)))) c.1 in
-    let e = and_parts (not (eqb b 47)) (not (eqb b 10) && (not (eqb b 58) && not (eqb b 59))) d.1 in
-    let f = and_parts (not (eqb b 10)) (not (eqb b 58) && not (eqb b 59)) e.1 in
-    elim (cases_Bool (eqb b 44)) [
-      | inl comma ↦ rw comma refl
-      | inr other ↦ rw (other, d.0, e.0, f.0) refl
-    ]
-
-mark_plain : (b : ℕ) → is_fine_mark b ≡ true → is_plain (b ∷ []) ≡ true
-mark_plain b fine =
-    let a = and_parts (not (is_blank b)) (rest_of_mark b) fine in
-    let c = and_parts (not (is_word_byte b))
-    (ltb b 128 && (not (eqb b 47) && (not (eqb b 10) && (not (eqb b 58) && not (eqb b 59))))) a.1 in
-    let d = and_parts (ltb b 128) (not (eqb b 47) && (not (eqb b 10) && (not (eqb b 58) && not (eqb b 59)))) c.1 in
-    let e = and_parts (not (eqb b 47)) (not (eqb b 10) && (not (eqb b 58) && not (eqb b 59))) d.1 in
-    let f = and_parts (not (eqb b 10)) (not (eqb b 58) && not (eqb b 59)) e.1 in
-    let g = and_parts (not (eqb b 58)) (not (eqb b 59)) f.1 in
-    rw (not-true (eqb b 58) g.0, not-true (eqb b 59) g.1) refl
+    mark_cases
+    (λ c. (list_all is_line_byte (mark_text c) ≡ true) × (list_all is_plain ((c ∷ []) ∷ []) ≡ true)) (refl, refl)
+    (refl, refl) (refl, refl) (refl, refl) b fine
 
 piece_line : (i : Insn) (q : Piece) → IsInsn i → is_fine q ≡ true
     → (list_all is_line_byte (piece_text i q) ≡ true) × (list_all is_plain (piece_words i q) ≡ true)
-piece_line i (p.Mark b) fits fine = (mark_line b fine, rw (mark_plain b fine) refl)
-piece_line i p.Len fits fine = (refl, refl)
-piece_line i p.Memory fits fine = (refl, refl)
-piece_line i p.Accumulator fits fine = (refl, refl)
-piece_line i p.Index fits fine = (refl, refl)
+piece_line i (p.Mark b) fits fine = mark_line b fine
 piece_line i (p.Number f style) fits fine = let w = piece_wordy i f style fits in
     (words_line (number_text style (field_of i f)) w.each, rw (wordy_plain (number_text style (field_of i f)) w) refl)
 piece_line i (p.Target f) fits fine = let w = piece_wordy i f Decimal fits in
     (words_line (decimal (field_of i f)) w.each, rw (wordy_plain (decimal (field_of i f)) w) refl)
+piece_line i q fits fine = (refl, refl)
 
 pieces_line : (i : Insn) (ps : List Piece) → IsInsn i → is_separated ps ≡ true
     → (list_all is_line_byte (flat_map (piece_text i) ps) ≡ true)
@@ -127,28 +103,40 @@ body_line i fits =
     ∙ and_from (list_all is_line_byte (mnemonic_text n)) (list_all is_line_byte (operands_text i ps))
     (words_line (mnemonic_text n) (mnemonic_wordy n).each) (operands_line i ps fits (separated (form_for i).shape))
 
-pub no_comment : (t : List ℕ) → list_all is_line_byte t ≡ true → before_comment t ≡ t
-no_comment [] h = refl
-no_comment (b ∷ t) h =
-    let a = and_parts (is_line_byte b) (list_all is_line_byte t) h in
-    let c = and_parts (ltb b 128) (not (eqb b 47) && not (eqb b 10)) a.0 in
+-- what is known of a byte that neither ends a line nor begins a comment
+record LineByte (b : ℕ) : Type 0 where
+  pub ascii : b < 128
+  pub no_slash : eqb b 47 ≡ false
+  pub no_end : eqb b 10 ≡ false
+
+line_byte : (b : ℕ) → is_line_byte b ≡ true → LineByte b
+line_byte b h =
+    let c = and_parts (ltb b 128) (not (eqb b 47) && not (eqb b 10)) h in
     let d = and_parts (not (eqb b 47)) (not (eqb b 10)) c.1 in
-    rw (not-true (eqb b 47) d.0) (ap (λ (u : List ℕ). b ∷ u) (no_comment t a.1))
+    record { ascii = ltb-true b 128 c.0; no_slash = not-true (eqb b 47) d.0; no_end = not-true (eqb b 10) d.1 }
+
+line_bytes : (t : List ℕ) → list_all is_line_byte t ≡ true → AllByRecursion LineByte t
+line_bytes [] h = tt
+line_bytes (b ∷ t) h = let a = and_parts (is_line_byte b) (list_all is_line_byte t) h in
+    (line_byte b a.0, line_bytes t a.1)
+
+each_byte : (P : ℕ → Type 0) → ((b : ℕ) → LineByte b → P b) → (t : List ℕ) → AllByRecursion LineByte t
+    → AllByRecursion P t
+each_byte P f [] h = tt
+each_byte P f (b ∷ t) h = (f b h.0, each_byte P f t h.1)
+
+uncommented : (t : List ℕ) → AllByRecursion LineByte t → before_comment t ≡ t
+uncommented [] h = refl
+uncommented (b ∷ t) h = rw h.0.no_slash (ap (λ (u : List ℕ). b ∷ u) (uncommented t h.1))
+
+pub no_comment : (t : List ℕ) → list_all is_line_byte t ≡ true → before_comment t ≡ t
+no_comment t h = uncommented t (line_bytes t h)
 
 pub no_end : (t : List ℕ) → list_all is_line_byte t ≡ true → AllByRecursion (λ b. eqb b 10 ≡ false) t
-no_end [] h = tt
-no_end (b ∷ t) h =
-    let a = and_parts (is_line_byte b) (list_all is_line_byte t) h in
-    let c = and_parts (ltb b 128) (not (eqb b 47) && not (eqb b 10)) a.0 in
-    let d = and_parts (not (eqb b 47)) (not (eqb b 10)) c.1 in
-    (not-true (eqb b 10) d.1, no_end t a.1)
+no_end t h = each_byte (λ b. eqb b 10 ≡ false) (λ b here. here.no_end) t (line_bytes t h)
 
 pub small_bytes : (t : List ℕ) → list_all is_line_byte t ≡ true → AllByRecursion (λ b. b < 128) t
-small_bytes [] h = tt
-small_bytes (b ∷ t) h =
-    let a = and_parts (is_line_byte b) (list_all is_line_byte t) h in
-    let c = and_parts (ltb b 128) (not (eqb b 47) && not (eqb b 10)) a.0 in
-    (ltb-true b 128 c.0, small_bytes t a.1)
+small_bytes t h = each_byte (λ b. b < 128) (λ b here. here.ascii) t (line_bytes t h)
 
 pub no_semicolon : (ts : List (List ℕ)) → list_all is_plain ts ≡ true → AllByRecursion (λ t. is_semicolon t ≡ false) ts
 no_semicolon [] h = tt

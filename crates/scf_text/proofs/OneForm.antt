@@ -71,12 +71,7 @@ put_fixed : (number : List ℕ → Option ℕ) (q : Piece) (t : List ℕ) (d e :
     → put_by number q t d ≡ Some e → list_any (bytes_eq t) (spellings q) ≡ true
 put_fixed number (p.Number f style) t d e h k = absurd cc
 put_fixed number (p.Target f) t d e h k = absurd cc
-put_fixed number (p.Mark b) t d e h k = (chosen_true (list_any (bytes_eq t) (spellings (p.Mark b))) (Some d) e k).0
-put_fixed number p.Len t d e h k = (chosen_true (list_any (bytes_eq t) (spellings p.Len)) (Some d) e k).0
-put_fixed number p.Memory t d e h k = (chosen_true (list_any (bytes_eq t) (spellings p.Memory)) (Some d) e k).0
-put_fixed number p.Accumulator t d e h k =
-    (chosen_true (list_any (bytes_eq t) (spellings p.Accumulator)) (Some d) e k).0
-put_fixed number p.Index t d e h k = (chosen_true (list_any (bytes_eq t) (spellings p.Index)) (Some d) e k).0
+put_fixed number q t d e h k = (chosen_true (list_any (bytes_eq t) (spellings q)) (Some d) e k).0
 
 then_some : {A B : Type 0} (f : A → Option B) (o : Option A) (y : B) → option_and_then f o ≡ Some y
     → (x : A) × (o ≡ Some x) × (f x ≡ Some y)

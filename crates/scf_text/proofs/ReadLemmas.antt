@@ -33,14 +33,8 @@ use Rattle.scf_text.specs.internal.Reading.{statement_of, line_statements}
 use Rattle.scf_text.proofs.PartLemmas.{words_of_parts}
 
 pub fault_first : (e : TextFault) (a b : Option TextFault) → IsFault e a → IsFault e (option_or a b)
-fault_first (fault.NotAscii n) a b h = rw h refl
-fault_first (fault.Mnemonic n) a b h = rw h refl
-fault_first (fault.Operand n) a b h = rw h refl
-fault_first (fault.NumberRange n) a b h = rw h refl
-fault_first (fault.Label n) a b h = rw h refl
-fault_first (fault.JumpTooFar n) a b h = rw h refl
-fault_first (fault.TooLong n) a b h = rw h refl
 fault_first fault.Memory a b h = tt
+fault_first e a b h = rw h refl
 
 pub fault_then : (e : TextFault) (a b : Option TextFault) → a ≡ None → IsFault e b → IsFault e (option_or a b)
 fault_then e a b none h = rw none h

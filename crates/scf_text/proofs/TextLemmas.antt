@@ -22,14 +22,8 @@ use Rattle.scf_text.proofs.ReadLemmas.{fault_first, fault_then}
 use Rattle.scf_text.proofs.LawLemmas.{no_fault, spelled}
 
 pub is_fault : (e : TextFault) (o : Option TextFault) → o ≡ Some e → IsFault e o
-is_fault (fault.NotAscii n) o h = h
-is_fault (fault.Mnemonic n) o h = h
-is_fault (fault.Operand n) o h = h
-is_fault (fault.NumberRange n) o h = h
-is_fault (fault.Label n) o h = h
-is_fault (fault.JumpTooFar n) o h = h
-is_fault (fault.TooLong n) o h = h
 is_fault fault.Memory o h = tt
+is_fault e o h = h
 
 pub statements_fail : (x : TextFault) (text : List ℕ) → IsFault x (statements_fault [] (statements_of text))
     → IsFault x (fault_in text)
@@ -79,14 +73,8 @@ is_spelled text (Err e) h = tt
 
 nothing_spelled : (text : List ℕ) (e : TextFault) → e ≢ fault.Memory → IsFault e (fault_of text) → (is : List Insn)
     → Spells text is → ⊥
-nothing_spelled text (fault.NotAscii n) other h is s = let k = no_fault text is s in cc
-nothing_spelled text (fault.Mnemonic n) other h is s = let k = no_fault text is s in cc
-nothing_spelled text (fault.Operand n) other h is s = let k = no_fault text is s in cc
-nothing_spelled text (fault.NumberRange n) other h is s = let k = no_fault text is s in cc
-nothing_spelled text (fault.Label n) other h is s = let k = no_fault text is s in cc
-nothing_spelled text (fault.JumpTooFar n) other h is s = let k = no_fault text is s in cc
-nothing_spelled text (fault.TooLong n) other h is s = let k = no_fault text is s in cc
 nothing_spelled text fault.Memory other h is s = other refl
+nothing_spelled text e other h is s = let k = no_fault text is s in cc
 
 pub is_not_spelled : (text : List ℕ) (r : Result (Vec Insn) TextFault) → TellsText (fault_of text) text r
     → IfErr r (λ e. e ≢ fault.Memory → (insns : List Insn) → Spells text insns → ⊥)
