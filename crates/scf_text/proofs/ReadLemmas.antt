@@ -16,7 +16,7 @@ use Rattle.std.proofs.lemmas.Bool.{cases_Bool}
 use Rattle.std.proofs.lemmas.List.Concat.{flat_map-append}
 use Rattle.std.proofs.lemmas.Simd.{map-map}
 use Rattle.std.proofs.lemmas.Slice.Eq.{bytes_eq-Decides}
-use Rattle.scf_text.specs.declared.line.Line.{Line}
+use Rattle.scf_text.specs.declared.numbered_draft.NumberedDraft.{NumberedDraft}
 use Rattle.scf_text.specs.declared.fault.TextFault.{TextFault}
 use Rattle.scf_text.specs.declared.fault.TextFault.TheVariants as fault
 use Rattle.scf_text.specs.Characters.{semicolon}
@@ -176,7 +176,7 @@ instruction_fails e s before p ds read new h =
     (ap (λ (r : Places). label_fault r s.line (label_in s.tokens)) (sym read.places) ∙ new)
     (subst (λ m. IsFault e (instruction_fault m s.line (instruction_in s.tokens))) read.count h))
 
-pub drafts_length : (kept : List Line) → length (drafts_view kept) ≡ length kept
+pub drafts_length : (kept : List NumberedDraft) → length (drafts_view kept) ≡ length kept
 drafts_length [] = refl
 drafts_length (l ∷ kept) = ap suc (drafts_length kept)
 

@@ -15,7 +15,7 @@ use Rattle.scf_text.specs.Drafts as drafts
 use Rattle.scf_text.specs.Statements.{Places, place_of, statements_of, labels_of, drafts_of}
 use Rattle.scf_text.specs.Spelling.{Spells}
 use Rattle.scf_text.specs.Faults.{ascii_fault, statements_fault, all_targets_fault, fault_in, fault_of, IsFault}
-use Rattle.scf_text.specs.declared.line.Line.{Line}
+use Rattle.scf_text.specs.declared.numbered_draft.NumberedDraft.{NumberedDraft}
 use Rattle.scf_text.specs.internal.Results.{TellsInsns, TellsText}
 use Rattle.scf_text.specs.internal.Reading.{places_view, drafts_view, HasRead}
 use Rattle.scf_text.proofs.ReadLemmas.{fault_first, fault_then}
@@ -42,7 +42,7 @@ targets_tell text (Err e) none h =
     (all_targets_fault (place_of (labels_of text)) 0 (drafts_of text)) none h
 
 -- before the first statement
-pub nothing_read : (kept : BTreeMap (Bor (List ℕ)) ℕ) (lines : List Line) → IsEmpty kept → lines ≡ []
+pub nothing_read : (kept : BTreeMap (Bor (List ℕ)) ℕ) (lines : List NumberedDraft) → IsEmpty kept → lines ≡ []
     → HasRead [] (places_view kept) (drafts_view lines)
 nothing_read kept lines empty none = record {
   places = fun_ext λ name. ap (lookup (is_at (λ key. slice_cmp nat_cmp name key.now))) empty;

@@ -5,7 +5,7 @@ use Rattle.std.proofs.Common.{arith}
 use Rattle.std.specs.Prelude.{OnErr}
 use Rattle.std.specs.List.{flat_map}
 use Rattle.scf_text.specs.declared.token.Token.{Token}
-use Rattle.scf_text.specs.declared.line.Line.{Line}
+use Rattle.scf_text.specs.declared.numbered_draft.NumberedDraft.{NumberedDraft}
 use Rattle.scf_text.specs.Tokens.{Lexeme, lexemes_from, lines_of, before_comment, words_of_line, tokens_of}
 use Rattle.scf_text.specs.Statements.{statements_from, drafts_in, drafts_of}
 use Rattle.scf_text.specs.internal.Parts.{words_of_part, AreFirst}
@@ -56,14 +56,14 @@ no_drafts n (line ∷ lines) none =
     let later = none_behind (words_of_line line) (flat_map words_of_line lines) none in
     rw here (no_drafts (n + 1) lines later)
 
-read_words : (text : List ℕ) (lines : List Line) → drafts_view lines ≡ drafts_of text → 0 < length lines
+read_words : (text : List ℕ) (lines : List NumberedDraft) → drafts_view lines ≡ drafts_of text → 0 < length lines
     → HasWords text
 read_words text lines read some = λ none.
     let no_lines = none_mapped _ lines (read ∙ no_drafts 1 (lines_of text) none) in
     omega (arith, ap length no_lines, some)
 
 -- some instruction was read where one of them is refused
-pub text_words : {T E : Type 0} (text : List ℕ) (lines kept : List Line) (r : Result T E) → kept ≡ lines
+pub text_words : {T E : Type 0} (text : List ℕ) (lines kept : List NumberedDraft) (r : Result T E) → kept ≡ lines
     → drafts_view lines ≡ drafts_of text → OnErr r (0 < length kept) → OnErr r (HasWords text)
 text_words text lines kept (Ok v) same read some = tt
 text_words text lines kept (Err e) same read some = read_words text lines read (omega (arith, ap length same, some))

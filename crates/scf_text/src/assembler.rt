@@ -13,7 +13,7 @@ ghost use Rattle.scf_text.specs.internal.Views.{written_view, draft_view};
 
 use crate::draft::{Draft, Written};
 use crate::fault::TextFault;
-use crate::line::Line;
+use crate::numbered_draft::NumberedDraft;
 use crate::statement::{Places, add_line, find_place};
 use crate::token::{first_part, without_comment};
 use scf_insn::Insn;
@@ -41,11 +41,11 @@ fn check_ascii(text: &[u8]) -> Result<(), TextFault>
 fn read_text<'a>(
     alloc: Global,
     places: &mut Places<'a>,
-    lines: &mut Vec<Line<'a>>,
+    drafts: &mut Vec<NumberedDraft<'a>>,
     text: &'a [u8],
 ) -> Result<(), TextFault>
-    ensures reads { HasRead [] (places_view places.old) (drafts_view lines.old.items)
-        → ReadsMore result [] (statements_of text.now) (places_view places.new) (drafts_view lines.new.items) }
+    ensures reads { HasRead [] (places_view places.old) (drafts_view drafts.old.items)
+        → ReadsMore result [] (statements_of text.now) (places_view places.new) (drafts_view drafts.new.items) }
     ensures some { OnErr result (HasWords text.now) }
 {
     let mut tokens = Vec::new(alloc);
@@ -53,7 +53,7 @@ fn read_text<'a>(
     let mut number = 1;
     'lines: loop {
         let (line, after) = first_part(rest, b'\n');
-        add_line(places, lines, &mut tokens, without_comment(line), number)?;
+        add_line(places, drafts, &mut tokens, without_comment(line), number)?;
         match after {
             None => return Ok(()),
             Some(next) => {
@@ -94,7 +94,11 @@ fn value_of<'a>(
 }
 
 /// The instruction that is written, at this place.
-fn resolve<'a>(places: &Places<'a>, written: &Line<'a>, at: usize) -> Result<Insn, TextFault>
+fn resolve<'a>(
+    places: &Places<'a>,
+    written: &NumberedDraft<'a>,
+    at: usize,
+) -> Result<Insn, TextFault>
     ensures { TellsInsn (places_view places.now) at written.now.line (draft_view written.now.draft) result }
 {
     let line = written.line;
@@ -114,14 +118,14 @@ fn resolve<'a>(places: &Places<'a>, written: &Line<'a>, at: usize) -> Result<Ins
 fn resolve_all<'a>(
     alloc: Global,
     places: &Places<'a>,
-    lines: &[Line<'a>],
+    drafts: &[NumberedDraft<'a>],
 ) -> Result<Vec<Insn>, TextFault>
-    ensures tells { TellsInsns (places_view places.now) (drafts_view lines.now) result }
-    ensures some { OnErr result (0 < length lines.now) }
+    ensures tells { TellsInsns (places_view places.now) (drafts_view drafts.now) result }
+    ensures some { OnErr result (0 < length drafts.now) }
 {
     let mut insns = Vec::new(alloc);
-    for (at, line) in lines.iter().enumerate() {
-        insns.push(resolve(places, line, at)?)?;
+    for (at, draft) in drafts.iter().enumerate() {
+        insns.push(resolve(places, draft, at)?)?;
     }
     Ok(insns)
 }
@@ -132,9 +136,9 @@ fn read_all(alloc: Global, text: &[u8]) -> Result<Vec<Insn>, TextFault>
     ensures some { OnErr result (HasWords text.now) }
 {
     let mut places = BTreeMap::new(alloc);
-    let mut lines = Vec::new(alloc);
-    read_text(alloc, &mut places, &mut lines, text)?;
-    resolve_all(alloc, &places, &lines)
+    let mut drafts = Vec::new(alloc);
+    read_text(alloc, &mut places, &mut drafts, text)?;
+    resolve_all(alloc, &places, &drafts)
 }
 
 /// What a text says.

@@ -6,8 +6,8 @@ mod draft;
 mod fault;
 mod form;
 mod laws;
-mod line;
 mod listing;
+mod numbered_draft;
 mod statement;
 mod token;
 

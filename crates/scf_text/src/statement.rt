@@ -9,7 +9,7 @@ ghost use Rattle.scf_text.specs.internal.Views.{texts};
 
 use crate::draft::{Draft, Reading, is_token_name, read};
 use crate::fault::TextFault;
-use crate::line::Line;
+use crate::numbered_draft::NumberedDraft;
 use crate::token::{Token, first_part, push_tokens};
 use scf_insn::kernel::BPF_MAXINSNS;
 use std::collections::BTreeMap;
@@ -83,17 +83,17 @@ fn add_label<'a>(
 
 /// Adds an instruction, if there is one.
 fn add_instruction<'a>(
-    lines: &mut Vec<Line<'a>>,
+    drafts: &mut Vec<NumberedDraft<'a>>,
     tokens: &[Token<'a>],
     line: usize,
 ) -> Result<(), TextFault>
-    ensures adds { AddsInstruction (drafts_view lines.old.items) line (texts tokens.now) result
-        (drafts_view lines.new.items) }
+    ensures adds { AddsInstruction (drafts_view drafts.old.items) line (texts tokens.now) result
+        (drafts_view drafts.new.items) }
     ensures some { OnErr result (0 < length tokens.now) }
 {
     if let [mnemonic, operands @ ..] = tokens {
-        let draft = read_instruction(mnemonic.text, operands, lines.len(), line)?;
-        lines.push(Line { line, draft })?;
+        let draft = read_instruction(mnemonic.text, operands, drafts.len(), line)?;
+        drafts.push(NumberedDraft { line, draft })?;
     }
     Ok(())
 }
@@ -105,32 +105,32 @@ const MAX_TOKENS: usize = 11;
 /// Adds the label and the instruction of a statement, whose first tokens are given.
 fn add_statement<'a>(
     places: &mut Places<'a>,
-    lines: &mut Vec<Line<'a>>,
+    drafts: &mut Vec<NumberedDraft<'a>>,
     tokens: &[Token<'a>],
     line: usize,
 ) -> Result<(), TextFault>
     ensures reads { (before : List Statement) (all : List (List ℕ)) → AreFirst MAX_TOKENS all (texts tokens.now)
-        → HasRead before (places_view places.old) (drafts_view lines.old.items)
+        → HasRead before (places_view places.old) (drafts_view drafts.old.items)
         → ReadsMore result before ((record { line = line; tokens = all }) ∷ []) (places_view places.new)
-        (drafts_view lines.new.items) }
+        (drafts_view drafts.new.items) }
     ensures some { OnErr result (0 < length tokens.now) }
 {
     let (label, instruction) = split_label(tokens);
-    add_label(places, label, lines.len(), line)?;
-    add_instruction(lines, instruction, line)
+    add_label(places, label, drafts.len(), line)?;
+    add_instruction(drafts, instruction, line)
 }
 
 /// Adds the statements of a line without its comment. The tokens of one statement are kept at a time.
 pub(crate) fn add_line<'a>(
     places: &mut Places<'a>,
-    lines: &mut Vec<Line<'a>>,
+    drafts: &mut Vec<NumberedDraft<'a>>,
     tokens: &mut Vec<Token<'a>>,
     bytes: &'a [u8],
     line: usize,
 ) -> Result<(), TextFault>
-    ensures reads { (before : List Statement) → HasRead before (places_view places.old) (drafts_view lines.old.items)
+    ensures reads { (before : List Statement) → HasRead before (places_view places.old) (drafts_view drafts.old.items)
         → ReadsMore result before (line_statements line bytes.now) (places_view places.new)
-        (drafts_view lines.new.items) }
+        (drafts_view drafts.new.items) }
     ensures some { OnErr result (words_of_part bytes.now ≢ []) }
 {
     let mut rest = bytes;
@@ -138,7 +138,7 @@ pub(crate) fn add_line<'a>(
         let (statement, after) = first_part(rest, b';');
         tokens.clear();
         push_tokens(tokens, 0, statement, MAX_TOKENS)?;
-        add_statement(places, lines, tokens.as_slice(), line)?;
+        add_statement(places, drafts, tokens.as_slice(), line)?;
         match after {
             None => return Ok(()),
             Some(next) => rest = next,

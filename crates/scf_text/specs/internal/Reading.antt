@@ -8,7 +8,7 @@ use Rattle.std.specs.Map.{update}
 use Rattle.std.specs.Ordering.{nat_cmp}
 use Rattle.std.specs.Str.{bytes_eq}
 use Rattle.scf_text.specs.declared.fault.TextFault.{TextFault}
-use Rattle.scf_text.specs.declared.line.Line.{Line}
+use Rattle.scf_text.specs.declared.numbered_draft.NumberedDraft.{NumberedDraft}
 use Rattle.scf_text.specs.Drafts as drafts
 use Rattle.scf_text.specs.internal.Views.{draft_view}
 use Rattle.scf_text.specs.internal.Parts.{parts_of, words_of_part}
@@ -26,7 +26,7 @@ abbrev pub with_label : Places → ℕ → Option (List ℕ) → Places
 with_label places at None = places
 with_label places at (Some name) = update bytes_eq places name (Some at)
 
-abbrev pub drafts_view : List Line → List (ℕ × drafts.Draft)
+abbrev pub drafts_view : List NumberedDraft → List (ℕ × drafts.Draft)
 drafts_view kept = map (λ l. (l.line, draft_view l.draft)) kept
 
 -- the statement that a part of a line is

@@ -9,9 +9,9 @@ abbrev pub invariant-lines : goal.invariant-lines
 invariant-lines l = record {
   words : HasWords l.rest → HasWords l.text;
   small : l.number + length l.rest ≤ 1 + length l.text;
-  so_far : HasRead [] (places_view l.fn.places) (drafts_view l.fn.lines.items)
+  so_far : HasRead [] (places_view l.fn.places) (drafts_view l.fn.drafts.items)
       → HasReadUpTo [] (statements_of l.text) (statements_from l.number (lines_of l.rest)) (places_view l.places)
-      (drafts_view l.lines.items);
+      (drafts_view l.drafts.items);
 }
 
 abbrev pub decreases-lines : goal.decreases-lines

@@ -12,16 +12,16 @@ returns-clause-reads c = λ before all first read.
     let kept = texts c.args.tokens.now in
     let same = first_same all kept first in
     let label = c.in_ok-add_label.ensures.adds in
-    let items : c.len.result ≡ length c.args.lines.now.items =
-    first_of (search rules, omega (arith, c.len.ensures, c.args.lines.now.ok)) in
-    let count : c.len.result ≡ length (drafts_view c.args.lines.now.items) = items
-    ∙ sym (drafts_length c.args.lines.now.items) in
+    let items : c.len.result ≡ length c.args.drafts.now.items =
+    first_of (search rules, omega (arith, c.len.ensures, c.args.drafts.now.ok)) in
+    let count : c.len.result ≡ length (drafts_view c.args.drafts.now.items) = items
+    ∙ sym (drafts_length c.args.drafts.now.items) in
     let given = c.split_label.ensures.label ∙ same.0 in
     statement_reads c.add_instruction.result (record { line = c.args.line; tokens = all }) before
-    (places_view c.args.places.now) (places_view c.add_label.new.places) (drafts_view c.args.lines.now.items)
-    (drafts_view c.add_instruction.new.lines.items) read (rw given at label.0) (rw (given, count) at label.1)
-    (adds_same (drafts_view c.args.lines.now.items) c.args.line (instruction_in kept) (instruction_in all)
-    c.add_instruction.result (drafts_view c.add_instruction.new.lines.items) same.1
+    (places_view c.args.places.now) (places_view c.add_label.new.places) (drafts_view c.args.drafts.now.items)
+    (drafts_view c.add_instruction.new.drafts.items) read (rw given at label.0) (rw (given, count) at label.1)
+    (adds_same (drafts_view c.args.drafts.now.items) c.args.line (instruction_in kept) (instruction_in all)
+    c.add_instruction.result (drafts_view c.add_instruction.new.drafts.items) same.1
     (rw c.split_label.ensures.rest at c.add_instruction.ensures.adds))
 
 pub returns-in_err-add_label-clause-reads : goal.returns-in_err-add_label-clause-reads
@@ -30,5 +30,5 @@ returns-in_err-add_label-clause-reads c = λ before all first read.
     let same = first_same all (texts c.args.tokens.now) first in
     rw (p.1, p.2)
     (label_fails c.in_err-add_label.field-0.0 (record { line = c.args.line; tokens = all }) before
-    (places_view c.args.places.now) (drafts_view c.args.lines.now.items) read
+    (places_view c.args.places.now) (drafts_view c.args.drafts.now.items) read
     (rw (c.split_label.ensures.label ∙ same.0) at c.in_err-add_label.ensures.adds))
