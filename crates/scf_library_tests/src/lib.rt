@@ -27,9 +27,13 @@ mod facts;
 #[cfg(test)]
 mod facts_exact;
 #[cfg(test)]
+mod facts_largest;
+#[cfg(test)]
 mod facts_walk;
 #[cfg(test)]
 mod fixtures;
+#[cfg(test)]
+mod largest;
 #[cfg(test)]
 mod machine;
 #[cfg(test)]

@@ -1,0 +1,267 @@
+//! Each call once at its largest, with ample memory: the exact answer, worked out beside the libraries.
+
+use crate::fixtures::{call, insn, profile_of, push, table};
+use scf_compare::{Scope, Verdict, compare_stack, effort_stack};
+use scf_facts::WordSets;
+use scf_insn::faults::{Failing, Reader, Writer};
+use scf_insn::{Answer, InputFault, Insn, ReadFault, read_input, read_program, write_program};
+use scf_machine::{FilterStack, PushFault, check};
+use scf_profile::{CallTable, Reason, rules_by_number};
+use scf_test_fixtures::kernel::{ALLOW, ERRNO, ERRNO_1, X86_64};
+use scf_test_fixtures::profiles::DEFAULT_ALLOW;
+use scf_text::{assemble, disassemble, tokens};
+use std::alloc::{AllocError, Global};
+use std::test::Fail;
+
+/// An instruction of any code for each place, and its bytes (filter.h: code, jt, jf, k, little-endian).
+fn at_place(place: u32) -> (Insn, [u8; 8]) {
+    let [low, high, ..] = place.to_le_bytes();
+    let k = place.wrapping_mul(0x9e37_79b1);
+    let [k0, k1, k2, k3] = k.to_le_bytes();
+    let code = u16::from_le_bytes([low, high]);
+    (
+        insn(code, high, low, k),
+        [low, high, high, low, k0, k1, k2, k3],
+    )
+}
+
+/// So many of these instructions, and their bytes.
+fn places(alloc: Global, count: u32) -> Result<(Vec<Insn>, Vec<u8>), AllocError> {
+    let mut insns = Vec::new(alloc);
+    let mut bytes = Vec::new(alloc);
+    for place in 0..count {
+        let (one, its_bytes) = at_place(place);
+        insns.push(one)?;
+        bytes.extend_from_slice(&its_bytes)?;
+    }
+    Ok((insns, bytes))
+}
+
+#[test]
+fn filters_byte_by_byte(rt: HostRuntime) -> Result<(), Fail> {
+    let (insns, bytes) = places(rt.alloc(), 4096)?;
+    assert_eq!(rt; bytes.len(), 32768);
+    let mut source = Reader::new(&bytes, 1, Failing::Never);
+    let found = read_program(rt.alloc(), &mut source)?;
+    assert!(rt; found.as_slice() == insns.as_slice() && source.asks() == 32769);
+    let mut sink = Writer::new(rt.alloc(), 1, Failing::Never);
+    write_program(&insns, &mut sink)?;
+    assert!(rt; sink.taken() == bytes.as_slice() && sink.asks() == 32768);
+    let (_insns, longer) = places(rt.alloc(), 4097)?;
+    let mut source = Reader::new(&longer, 1, Failing::Never);
+    let refused = read_program(rt.alloc(), &mut source);
+    assert!(rt; refused.err() == Some(ReadFault::TooLong) && source.asks() == 32769);
+    Ok(())
+}
+
+#[test]
+fn inputs_byte_by_byte(rt: HostRuntime) -> Result<(), Fail> {
+    let (_insns, bytes) = places(rt.alloc(), 4096)?;
+    let mut source = Reader::new(&bytes, 1, Failing::Never);
+    let found = read_input(rt.alloc(), &mut source, 32768)?;
+    assert!(rt; found.as_slice() == bytes.as_slice() && source.asks() == 32769);
+    let mut source = Reader::new(&bytes, 1, Failing::Never);
+    let refused = read_input(rt.alloc(), &mut source, 32767);
+    assert!(rt; refused.err() == Some(InputFault::TooLong) && source.asks() == 32768);
+    Ok(())
+}
+
+/// The longest lines: 4096 of 33 bytes.
+#[test]
+fn listing_of_the_longest_lines(rt: HostRuntime) -> Result<(), Fail> {
+    let one = insn(0xffff, 255, 255, u32::MAX);
+    let insns = vec![in rt.alloc(); one; 4096]?;
+    let listing = "raw 0xffff, 255, 255, 0xffffffff\n".repeat(rt.alloc(), 4096)?;
+    let mut sink = Writer::new(rt.alloc(), 7, Failing::Never);
+    disassemble(&insns, &mut sink)?;
+    assert!(rt; sink.taken() == listing.as_bytes());
+    let found = assemble(rt.alloc(), listing.as_bytes())?;
+    assert!(rt; found.as_slice() == insns.as_slice());
+    Ok(())
+}
+
+/// Each line has a label and a jump in 8 tokens, 192 empty statements and a comment.
+#[test]
+fn text_of_4096_lines_of_200_tokens(rt: HostRuntime) -> Result<(), Fail> {
+    let empty = " ;".repeat(rt.alloc(), 192)?;
+    let empty = empty.as_str();
+    let mut text = String::new(rt.alloc());
+    let mut insns = Vec::new(rt.alloc());
+    for place in 0..4095u32 {
+        let line = format!(in rt.alloc();
+            "L{place}: jgt #{place}, L{}, 0{empty} // ret a; jgt #1, 2, 3\n",
+            place + 1
+        )?;
+        text.push_str(line.as_str())?;
+        insns.push(insn(0x25, 0, 0, place))?;
+    }
+    text.push_str("L4095: ret #0x7fff0000")?;
+    insns.push(insn(0x06, 0, 0, ALLOW))?;
+    let found = assemble(rt.alloc(), text.as_bytes())?;
+    assert!(rt; found.as_slice() == insns.as_slice());
+    let pieces = tokens(rt.alloc(), text.as_bytes())?;
+    // of the last line `L4095`, `:`, `ret`, `#` and a number
+    assert_eq!(rt; pieces.len(), 4095 * 201 + 5);
+    Ok(())
+}
+
+/// A filter that gives this answer.
+fn push_answer(alloc: Global, stack: &mut FilterStack, answer: u32) -> Result<(), Fail> {
+    let mut insns = Vec::new(alloc);
+    insns.push(insn(0x06, 0, 0, answer))?;
+    push(stack, check(alloc, insns)?)
+}
+
+/// A stack of as many filters as it takes, whose second oldest gives this answer: each counts its one instruction, and
+/// four more where another is pushed upon it (kernel/seccomp.c), so that 6554 filters are 32766.
+fn full_stack(alloc: Global, second: u32) -> Result<FilterStack, Fail> {
+    let mut stack = FilterStack::new(alloc);
+    push_answer(alloc, &mut stack, ALLOW)?;
+    push_answer(alloc, &mut stack, second)?;
+    for _ in 2..6554 {
+        push_answer(alloc, &mut stack, ALLOW)?;
+    }
+    Ok(stack)
+}
+
+#[test]
+fn as_many_filters_as_a_stack_takes(rt: HostRuntime) -> Result<(), Fail> {
+    let mut stack = full_stack(rt.alloc(), ERRNO | 9)?;
+    let native = call(0, X86_64, [0; 6]);
+    assert!(rt; stack.len() == 6554 && stack.decide(&native) == Answer(ERRNO | 9));
+    let more = vec![in rt.alloc(); insn(0x06, 0, 0, ALLOW); 1]?;
+    let refused = stack.push(check(rt.alloc(), more)?).err();
+    let fault = refused.map(|(fault, _)| fault);
+    assert!(rt; fault == Some(PushFault::TooMany { total: 32771 }) && stack.len() == 6554);
+    let profile = profile_of(rt.alloc(), "", DEFAULT_ALLOW)?;
+    // each filter has one path, and the profile a default answer alone
+    assert_eq!(rt; effort_stack(&stack, &profile), 8);
+    let verdict = compare_stack::<WordSets>(
+        rt.alloc(),
+        &stack,
+        &profile,
+        Scope::Native,
+        1_000_000,
+    )?;
+    let is_shown = match verdict {
+        Verdict::Differs {
+            call,
+            filter,
+            profile,
+        } => call.arch == X86_64 && filter == Answer(ERRNO | 9) && profile == Answer(ALLOW),
+        _ => false,
+    };
+    assert!(rt; is_shown, "{verdict:?}");
+    let same = full_stack(rt.alloc(), ALLOW)?;
+    let verdict = compare_stack::<WordSets>(rt.alloc(), &same, &profile, Scope::Native, 1_000_000)?;
+    assert!(rt; matches!(verdict, Verdict::Same { .. }), "{verdict:?}");
+    Ok(())
+}
+
+/// What the names of a number begin with. With the number behind each, they are in the order of their bytes.
+const BEGINS: [&str; 8] = ["B", "Z", "_", "a", "a_", "az", "z", "zz"];
+
+/// A table of 5,000 numbers: three times the multiples of 7919 under the prime 5003, three of which aren't there. Each
+/// has eight names.
+fn names_of_5000(alloc: Global) -> Result<String, AllocError> {
+    let mut text = String::new(alloc);
+    for begin in ["zz", "a", "_", "Z", "a_", "B", "az", "z"] {
+        for multiple in 0..5000u32 {
+            let number = multiple * 7919 % 5003 * 3;
+            let line = format!(in alloc; "{begin}{number} {number}\n")?;
+            text.push_str(line.as_str())?;
+        }
+    }
+    Ok(text)
+}
+
+/// The numbers that it has, rising: what it lacks are the multiples by 5000, 5001 and 5002.
+fn numbers_of_5000(alloc: Global) -> Result<Vec<u32>, AllocError> {
+    let mut numbers = Vec::new(alloc);
+    for rest in 0..5003u32 {
+        if ![1258, 4174, 2087].contains(&rest) {
+            numbers.push(3 * rest)?;
+        }
+    }
+    Ok(numbers)
+}
+
+/// Whether these are the eight names of a number, and the table has it under each.
+fn are_names(
+    alloc: Global,
+    table: &CallTable,
+    names: &[&str],
+    number: u32,
+) -> Result<bool, AllocError> {
+    for (name, begin) in names.iter().zip(&BEGINS) {
+        let wanted = format!(in alloc; "{begin}{number}")?;
+        if *name != wanted.as_str() || table.number_of(wanted.as_str()) != Some(number) {
+            return Ok(false);
+        }
+    }
+    Ok(names.len() == BEGINS.len())
+}
+
+#[test]
+fn table_of_5000_numbers_of_8_names(rt: HostRuntime) -> Result<(), Fail> {
+    let text = names_of_5000(rt.alloc())?;
+    let names = table(rt.alloc(), text.as_str())?;
+    let numbers = numbers_of_5000(rt.alloc())?;
+    let calls = names.calls(rt.alloc())?;
+    assert!(rt; calls.len() == 5000 && numbers.len() == 5000);
+    for (call, number) in calls.iter().zip(&numbers) {
+        assert_eq!(rt; call.number, *number);
+        let has_names = are_names(rt.alloc(), &names, call.names.as_slice(), *number)?;
+        assert!(rt; has_names, "{number}");
+    }
+    for lacked in ["a3774", "a6261", "a12522"] {
+        assert_eq!(rt; names.number_of(lacked), None, "{lacked}");
+    }
+    Ok(())
+}
+
+/// A table of the numbers from 7 to 4102, and the text of a profile whose one entry allows them, the last one first.
+fn falling_numbers(alloc: Global) -> Result<(String, String), AllocError> {
+    let mut names = String::new(alloc);
+    for number in 7..4103u32 {
+        let line = format!(in alloc; "c{number} {number}\n")?;
+        names.push_str(line.as_str())?;
+    }
+    let mut entry = String::new(alloc);
+    for below in 0..4096u32 {
+        let comma = if below == 0 { "" } else { "," };
+        let name = format!(in alloc; "{comma}\"c{}\"", 4102 - below)?;
+        entry.push_str(name.as_str())?;
+    }
+    let entry = entry.as_str();
+    let text = format!(in alloc;
+        r#"{{"defaultAction":"SCMP_ACT_ERRNO","syscalls":[{{"names":[{entry}],"action":"SCMP_ACT_ALLOW"}}]}}"#
+    )?;
+    Ok((names, text))
+}
+
+#[test]
+fn profile_of_4096_numbers(rt: HostRuntime) -> Result<(), Fail> {
+    let (names, text) = falling_numbers(rt.alloc())?;
+    let profile = profile_of(rt.alloc(), names.as_str(), text.as_str())?;
+    assert!(rt;
+        profile
+            .rules()
+            .first()
+            .is_some_and(|rule| rule.number == 4102)
+    );
+    let sorted = rules_by_number(rt.alloc(), profile.rules())?;
+    assert_eq!(rt; sorted.len(), 4096);
+    for (rule, number) in sorted.iter().zip(7u32..) {
+        assert_eq!(rt; rule.number, number);
+        let one = call(number, X86_64, [0; 6]);
+        assert_eq!(rt; profile.answer(&one), Answer(ALLOW), "{number}");
+        assert_eq!(rt; profile.reason(&one), Reason::Entry(0), "{number}");
+    }
+    for number in [6, 4103] {
+        let one = call(number, X86_64, [0; 6]);
+        assert_eq!(rt; profile.answer(&one), Answer(ERRNO_1), "{number}");
+        assert_eq!(rt; profile.reason(&one), Reason::Default, "{number}");
+    }
+    Ok(())
+}
