@@ -156,43 +156,56 @@ const TABLES: &[(TableFault, &str)] = &[
 
 const PROFILES: &[(LoadFault, &str)] = &[
     (LoadFault::Json, "no JSON, or nested more than 127 deep"),
-    (LoadFault::Missing { entry: Some(0) }, "a member is missing"),
+    (
+        LoadFault::Missing { entry: Some(0) },
+        "entry 0: a member is missing",
+    ),
     (
         LoadFault::Kind { entry: Some(0) },
-        "a value of the wrong kind",
+        "entry 0: a value of the wrong kind",
     ),
-    (LoadFault::Action { entry: Some(0) }, "no name of an action"),
+    (LoadFault::Kind { entry: None }, "a value of the wrong kind"),
+    (
+        LoadFault::Missing {
+            entry: Some(u32::MAX),
+        },
+        "entry 4294967295: a member is missing",
+    ),
+    (
+        LoadFault::Action { entry: Some(0) },
+        "entry 0: no name of an action",
+    ),
     (
         LoadFault::Operator { entry: Some(0) },
-        "no name of an operator",
+        "entry 0: no name of an operator",
     ),
     (
         LoadFault::EmptyNames { entry: Some(0) },
-        "an entry without names",
+        "entry 0: no names",
     ),
     (
         LoadFault::Index { entry: Some(0) },
-        "no index of an argument: they are 0 to 5",
+        "entry 0: no index of an argument: they are 0 to 5",
     ),
     (
         LoadFault::RepeatedIndex { entry: Some(0) },
-        "two conditions on one argument",
+        "entry 0: two conditions on one argument",
     ),
     (
         LoadFault::Errno { entry: Some(0) },
-        "an errno beside an action that takes none",
+        "entry 0: an errno beside an action that takes none",
     ),
     (
         LoadFault::ErrnoRange { entry: Some(0) },
-        "an errno outside 0 to 65535",
+        "entry 0: an errno outside 0 to 65535",
     ),
     (
-        LoadFault::NoX8664 { entry: Some(0) },
+        LoadFault::NoX8664 { entry: None },
         "x86-64 is not among the architectures",
     ),
     (
         LoadFault::EngineForm { entry: Some(0) },
-        "a form of container engines",
+        "entry 0: a form of container engines",
     ),
     (
         LoadFault::TooMany,

@@ -6,7 +6,21 @@ ghost use Rattle.scf_profile.specs.declared.load_fault.LoadFault.TheVariants as 
 use crate::limits::{MAX_RULES, MAX_TEXT_LEN};
 use scf_insn::Memory;
 use std::alloc::{AllocError, AllocFailed};
+use std::fmt;
 use thiserror::Error;
+
+/// The entry before a message, and nothing where there is none.
+#[derive(Clone, Copy)]
+struct Place(Option<u32>);
+
+impl fmt::Display for Place {
+    fn fmt<W: fmt::Write>(&self, f: &mut fmt::Formatter<W>) -> fmt::Result {
+        match self.0 {
+            Some(entry) => write!(f, "entry {entry}: "),
+            None => Ok(()),
+        }
+    }
+}
 
 /// The fault of the first test that fails. `entry` is the place from 0 of the entry of `syscalls` in which it stands,
 /// None where it stands outside of them.
@@ -15,48 +29,48 @@ pub enum LoadFault {
     /// The text is no UTF-8, or no JSON that is nested at most 127 deep.
     #[error("no JSON, or nested more than 127 deep")]
     Json,
-    #[error("a member is missing")]
+    #[error("{place}a member is missing", place = Place(*.entry))]
     Missing {
         entry: Option<u32>,
     },
-    #[error("a value of the wrong kind")]
+    #[error("{place}a value of the wrong kind", place = Place(*.entry))]
     Kind {
         entry: Option<u32>,
     },
-    #[error("no name of an action")]
+    #[error("{place}no name of an action", place = Place(*.entry))]
     Action {
         entry: Option<u32>,
     },
-    #[error("no name of an operator")]
+    #[error("{place}no name of an operator", place = Place(*.entry))]
     Operator {
         entry: Option<u32>,
     },
-    #[error("an entry without names")]
+    #[error("{place}no names", place = Place(*.entry))]
     EmptyNames {
         entry: Option<u32>,
     },
-    #[error("no index of an argument: they are 0 to 5")]
+    #[error("{place}no index of an argument: they are 0 to 5", place = Place(*.entry))]
     Index {
         entry: Option<u32>,
     },
-    #[error("two conditions on one argument")]
+    #[error("{place}two conditions on one argument", place = Place(*.entry))]
     RepeatedIndex {
         entry: Option<u32>,
     },
-    #[error("an errno beside an action that takes none")]
+    #[error("{place}an errno beside an action that takes none", place = Place(*.entry))]
     Errno {
         entry: Option<u32>,
     },
-    #[error("an errno outside 0 to 65535")]
+    #[error("{place}an errno outside 0 to 65535", place = Place(*.entry))]
     ErrnoRange {
         entry: Option<u32>,
     },
-    #[error("x86-64 is not among the architectures")]
+    #[error("{place}x86-64 is not among the architectures", place = Place(*.entry))]
     NoX8664 {
         entry: Option<u32>,
     },
     /// A non-empty `archMap`, `includes` or `excludes`, whose meaning depends on a container engine.
-    #[error("a form of container engines")]
+    #[error("{place}a form of container engines", place = Place(*.entry))]
     EngineForm {
         entry: Option<u32>,
     },
