@@ -1,5 +1,13 @@
--- The limits of texts and profiles.
+-- The limits of texts, of their numbers and of profiles.
 use Rattle.std.specs.Prelude.{ℕ}
+
+-- how many arguments a call has (linux/seccomp.h, struct seccomp_data)
+abbrev pub arguments : ℕ
+arguments = 6
+
+-- the greatest errno: the data of an answer have 16 bits
+abbrev pub max_errno : ℕ
+max_errno = 65535
 
 -- the most bytes of the text of a profile
 abbrev pub max_text_len : ℕ

@@ -7,6 +7,7 @@ use Rattle.scf_insn.specs.Words.{IsRecord, argument}
 use Rattle.scf_profile.specs.declared.condition.Condition.{Condition}
 use Rattle.scf_profile.specs.declared.rule.Rule.{Rule}
 use Rattle.scf_profile.specs.Condition.{holds}
+use Rattle.scf_profile.specs.Limits.{arguments}
 
 -- each condition holds of the argument at its index
 abbrev pub all_hold : CallRecord → List Condition → Bool
@@ -25,7 +26,7 @@ pub record Conflicts (r s : Rule) : Type 0 where
   pub answer : r.answer ≢ s.answer
 
 pub record IsCondition (c : Condition) : Type 0 where
-  pub index : c.index < 6
+  pub index : c.index < arguments
   pub value : c.value < 2 ^ 64
   pub value_two : c.value_two < 2 ^ 64
 
@@ -34,7 +35,7 @@ abbrev pub HaveDistinctIndices : List Condition → Type 0
 HaveDistinctIndices [] = Unit {0}
 HaveDistinctIndices (c ∷ cs) = AllByRecursion (λ d. c.index ≢ d.index) cs × HaveDistinctIndices cs
 
--- conditions on six arguments at most, one on each
+-- conditions on the arguments, at most one on each
 pub record AreConditions (conditions : List Condition) : Type 0 where
   pub each : AllByRecursion IsCondition conditions
   pub distinct : HaveDistinctIndices conditions

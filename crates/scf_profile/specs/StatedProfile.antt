@@ -2,7 +2,7 @@
 -- tests in their order, each a function to what is stated or to its fault. A fault carries the place of the entry of
 -- `syscalls` in which it stands, and none where it stands outside of them.
 use Rattle.std.specs.Prelude.{ℕ, ◌+◌, Bool, true, false, not, ◌&&◌, ◌==◌, List, [], ◌∷◌, ◌++◌, codes, length, ℤ, pos}
-use Rattle.std.specs.Prelude.{negsuc, Option, Some, None, Result, Ok, nat_lt, if◌then◌else◌, is_none, option_map, ⊤}
+use Rattle.std.specs.Prelude.{negsuc, Option, Some, None, Result, Ok, nat_lt, nat_le, if◌then◌else◌, is_none, option_map, ⊤}
 use Rattle.std.specs.List.{list_any, filter, flat_map, filter_map}
 use Rattle.std.specs.Str.{bytes_eq}
 use Rattle.std.specs.FinMap.{get}
@@ -23,7 +23,7 @@ use Rattle.scf_profile.specs.declared.load_fault.LoadFault.TheVariants as faults
 use Rattle.scf_profile.specs.declared.loaded.Loaded.{Loaded}
 use Rattle.scf_profile.specs.Steps.{◌>>=◌, some_or, refused_if}
 use Rattle.scf_profile.specs.JsonMembers.{member, whole_number, unsigned_number, has_items, has_members, each}
-use Rattle.scf_profile.specs.Limits.{max_rules}
+use Rattle.scf_profile.specs.Limits.{arguments, max_errno, max_rules}
 use Rattle.scf_profile.specs.Table.{Names}
 
 -- ---- an action and its answer
@@ -55,7 +55,7 @@ takes_errno actions.Trace = true
 takes_errno action = false
 
 abbrev pub errno_in_range : ℤ → Option ℕ
-errno_in_range (pos n) = if nat_lt n 65536 then Some n else None
+errno_in_range (pos n) = if nat_le n max_errno then Some n else None
 errno_in_range (negsuc n) = None
 
 -- an errno that is there
@@ -117,9 +117,9 @@ operator_named name =
     else if bytes_eq name (codes "SCMP_CMP_MASKED_EQ") then Some operators.MaskedEqual
     else None
 
--- a call has six arguments
+-- the index of an argument
 abbrev pub argument_index : ℤ → Option ℕ
-argument_index (pos n) = if nat_lt n 6 then Some n else None
+argument_index (pos n) = if nat_lt n arguments then Some n else None
 argument_index (negsuc n) = None
 
 unfoldable pub index_in : Option ℕ → Data → Result ℕ LoadFault

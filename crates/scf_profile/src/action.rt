@@ -6,6 +6,7 @@ ghost use Rattle.scf_profile.specs.StatedProfile.{action_named, takes_errno as e
 ghost use Rattle.scf_profile.specs.StatedProfile.{errno_of as errno_stated, answer_in};
 
 use crate::json_members::member_of;
+use crate::limits::MAX_ERRNO;
 use crate::load_fault::LoadFault;
 use scf_insn::{Action, Answer};
 use serde_json::Value;
@@ -61,7 +62,7 @@ fn errno_of(entry: Option<u32>, action: Action, value: &Value) -> Result<u16, Lo
         return Err(LoadFault::Errno { entry });
     }
     match number {
-        Some(errno) if errno < 65536 => Ok(errno as u16),
+        Some(errno) if errno <= MAX_ERRNO => Ok(errno as u16),
         _ => Err(LoadFault::ErrnoRange { entry }),
     }
 }

@@ -1,4 +1,4 @@
-//! The limits of texts and profiles.
+//! The limits of texts, of their numbers and of profiles.
 
 /// The most bytes of the text of a profile.
 pub const MAX_TEXT_LEN: usize = 4_194_304;
@@ -6,5 +6,8 @@ pub const MAX_TEXT_LEN: usize = 4_194_304;
 /// The most rules of a profile.
 pub const MAX_RULES: usize = 4096;
 
-/// How many arguments a call has.
+/// How many arguments a call has (linux/seccomp.h, struct seccomp_data).
 pub(crate) const ARGUMENTS: u8 = 6;
+
+/// The greatest errno: the data of an answer have 16 bits.
+pub(crate) const MAX_ERRNO: u64 = 65535;

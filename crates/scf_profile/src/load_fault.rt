@@ -3,7 +3,7 @@
 ghost use Rattle.std.specs.Prelude.{◌≡◌};
 ghost use Rattle.scf_profile.specs.declared.load_fault.LoadFault.TheVariants as faults;
 
-use crate::limits::{MAX_RULES, MAX_TEXT_LEN};
+use crate::limits::{ARGUMENTS, MAX_ERRNO, MAX_RULES, MAX_TEXT_LEN};
 use scf_insn::Memory;
 use std::alloc::{AllocError, AllocFailed};
 use std::fmt;
@@ -49,7 +49,7 @@ pub enum LoadFault {
     EmptyNames {
         entry: Option<u32>,
     },
-    #[error("{place}no index of an argument: they are 0 to 5", place = Place(*.entry))]
+    #[error("{place}no index of an argument: they are 0 to {last}", place = Place(*.entry), last = ARGUMENTS - 1)]
     Index {
         entry: Option<u32>,
     },
@@ -61,7 +61,7 @@ pub enum LoadFault {
     Errno {
         entry: Option<u32>,
     },
-    #[error("{place}an errno outside 0 to 65535", place = Place(*.entry))]
+    #[error("{place}an errno outside 0 to {most}", place = Place(*.entry), most = MAX_ERRNO)]
     ErrnoRange {
         entry: Option<u32>,
     },

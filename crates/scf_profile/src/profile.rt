@@ -2,6 +2,7 @@
 
 ghost use Rattle.std.specs.Prelude.{◌≡◌, ◌<◌, ◌↔◌, IsTrue, All, min};
 ghost use Rattle.std.specs.List.{reduce};
+ghost use Rattle.scf_profile.specs.Limits.{arguments};
 ghost use Rattle.scf_profile.specs.Profile.{IsProfile, IsNative};
 ghost use Rattle.scf_profile.specs.PlainProfile.{IsPlainProfile, IsPlainRule};
 ghost use Rattle.scf_profile.specs.ProfileAnswers.{ProfileAnswers};
@@ -17,8 +18,8 @@ use std::marker::Model;
 pub const FOREIGN_ANSWER: Answer = Answer(SECCOMP_RET_KILL_PROCESS);
 
 /// What a profile states: a default answer, and rules in the order of the text. No call meets two rules that answer it
-/// differently; numbers are below `X32_SYSCALL_BIT`, indices below 6 and none twice in a rule; there are at most
-/// `MAX_RULES` rules.
+/// differently; numbers are below `X32_SYSCALL_BIT`, indices below the count of arguments and none twice in a rule;
+/// there are at most `MAX_RULES` rules.
 #[derive(Debug, Drop)]
 pub struct Profile {
     default_answer: Answer,
@@ -132,7 +133,7 @@ fn answer_of(default_answer: Answer, rules: &[Rule], call: &CallRecord) -> Answe
 
 /// The least place of an entry of which a call meets a rule.
 fn first_entry_met(rules: &[Rule], call: &CallRecord) -> Option<u32>
-    requires { All (λ r. All (λ c. c.index < 6) r.conditions) rules.now }
+    requires { All (λ r. All (λ c. c.index < arguments) r.conditions) rules.now }
     ensures { result ≡ reduce min (entries_met rules.now call.now) }
 {
     rules

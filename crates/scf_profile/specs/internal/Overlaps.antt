@@ -2,6 +2,7 @@
 use Rattle.std.specs.Prelude.{◌≡◌, ℕ, ◌<◌, ◌^◌, true, List, All}
 use Rattle.scf_profile.specs.declared.condition.Condition.{Condition}
 use Rattle.scf_profile.specs.Condition.{holds}
+use Rattle.scf_profile.specs.Limits.{arguments}
 
 -- the conditions on an argument hold of a number
 abbrev pub HoldAt : List Condition → ℕ → ℕ → Type 0
@@ -14,6 +15,6 @@ pub record OverlapAt (cs ds : List Condition) (index : ℕ) : Type 0 where
   pub first : HoldAt cs index number
   pub second : HoldAt ds index number
 
--- they do on each of the six arguments
+-- they do on each argument
 abbrev pub Overlap : List Condition → List Condition → Type 0
-Overlap cs ds = (index : ℕ) → index < 6 → OverlapAt cs ds index
+Overlap cs ds = (index : ℕ) → index < arguments → OverlapAt cs ds index
