@@ -22,9 +22,6 @@ pub record IsLeast (numbers : List ℕ) (least : ℕ) : Type 0 where
   pub among : Contains numbers least
   pub bound : All (λ other. least ≤ other) numbers
 
-le_all : (numbers : List ℕ) (m n : ℕ) → m ≤ n → All (λ other. n ≤ other) numbers → All (λ other. m ≤ other) numbers
-le_all numbers m n le all k d inside = let h = all k d inside in omega arith
-
 least_of_fold : (n : ℕ) (numbers : List ℕ) → IsLeast (n ∷ numbers) (fold min n numbers)
 least_of_fold n [] = record {
   among = (0, omega arith, refl);
@@ -75,7 +72,8 @@ answer_of_entry : (p : Profile) (call : CallRecord) (answer : ℕ) → HaveNoCon
 answer_of_entry p call answer none fits native (foreign h) r has met = absurd (h native)
 answer_of_entry p call answer none fits native (by_rule s also has_too met_too) r has met =
     same_answer s r call (none s r has_too has) fits met_too met
-answer_of_entry p call answer none fits native (by_default also unmet) r has met = absurd (both_ways _ (unmet r has) met)
+answer_of_entry p call answer none fits native (by_default also unmet) r has met =
+    absurd (both_ways _ (unmet r has) met)
 
 answer_by_default : (p : Profile) (call : CallRecord) (answer : ℕ) → IsNative call → entries_met p.rules call ≡ []
     → ProfileAnswers p call answer → answer ≡ p.default_answer.0
