@@ -3,9 +3,9 @@
 use crate::readers::list_of;
 use crate::rows::{GATE, RETURNS, UNSET};
 use crate::shown::{Answered, Listed};
-use crate::twice::note;
+use crate::twice::{note, twice};
 use scf_insn::{Answer, CallRecord, Insn};
-use scf_machine::{CheckFault, FilterStack, Program, check};
+use scf_machine::{CheckFault, FilterStack, Program, check, trace};
 use std::alloc::Global;
 use std::io;
 
@@ -72,6 +72,18 @@ pub(crate) fn program_of(
     }
 }
 
+/// The way of a call through a program.
+fn trace_call(rt: &impl Print, alloc: Global, program: &Program) -> io::Result<()> {
+    if let Some(traced) = twice(rt, "trace", || trace(alloc, program, &CALL))? {
+        print!(rt; "trace {} path", Answered(traced.answer))?;
+        for place in &traced.places {
+            print!(rt; " {place}")?;
+        }
+        println!(rt; "")?;
+    }
+    Ok(())
+}
+
 /// How many filters a stack has, and what it answers to a call.
 fn state_of(stack: &FilterStack) -> (usize, Answer) {
     (stack.len(), stack.decide(&CALL))
@@ -122,7 +134,9 @@ pub(crate) fn stack_of(
 
 pub(crate) fn try_all(rt: &impl Print, alloc: Global) -> io::Result<()> {
     let _unset = program_of(rt, alloc, UNSET)?;
-    let _gate = program_of(rt, alloc, GATE)?;
+    if let Some(gate) = program_of(rt, alloc, GATE)? {
+        trace_call(rt, alloc, &gate)?;
+    }
     let _returns = stack_of(rt, alloc, RETURNS)?;
     Ok(())
 }

@@ -3,11 +3,12 @@
 use crate::rows::{ALLOW_ALL, BUNDLE, CLONE, MASKED, TABLE};
 use crate::shown::Found;
 use crate::twice::twice;
-use scf_compare::{Scope, Verdict};
+use scf_compare::{Relation, Scope, Verdict};
 use scf_insn::{Answer, CallRecord, Counted, Memory};
 use scf_profile::Texts;
 use scf_tool::{
-    CallsOutcome, Outcome, report, report_calls, split, verify, verify_calls, verify_stack,
+    CallsOutcome, Outcome, report, report_by, report_calls, report_calls_by, split, verify,
+    verify_by, verify_calls, verify_calls_by, verify_stack,
 };
 use std::alloc::Global;
 use std::{io, str};
@@ -95,8 +96,31 @@ fn verify_two(rt: &impl Print, alloc: Global) -> io::Result<()> {
     }
 }
 
-fn write_calls(rt: &impl Print, outcome: &CallsOutcome) -> io::Result<()> {
-    print!(rt; "verify_calls")?;
+fn verify_no_more(rt: &impl Print, alloc: Global) -> io::Result<()> {
+    let verified = twice(rt, "verify_by", || {
+        verify_by(
+            alloc,
+            &mut [Counted::new(CLONE)],
+            &mut Counted::new(MASKED),
+            &mut Counted::new(TABLE),
+            Scope::Native,
+            Relation::NoMore,
+            LIMIT,
+        )
+    })?;
+    match verified {
+        Some(outcome) => {
+            write_outcome(rt, "verify_by", &outcome)?;
+            write_text(rt, "report_by", || {
+                report_by(alloc, Relation::NoMore, &outcome)
+            })
+        }
+        None => Ok(()),
+    }
+}
+
+fn write_calls(rt: &impl Print, name: &str, outcome: &CallsOutcome) -> io::Result<()> {
+    print!(rt; "{name}")?;
     for call in &outcome.calls {
         print!(rt; " {}", call.number)?;
         for name in call.names.as_slice() {
@@ -119,8 +143,30 @@ fn verify_each(rt: &impl Print, alloc: Global) -> io::Result<()> {
     })?;
     match verified {
         Some(outcome) => {
-            write_calls(rt, &outcome)?;
+            write_calls(rt, "verify_calls", &outcome)?;
             write_text(rt, "report_calls", || report_calls(alloc, &outcome))
+        }
+        None => Ok(()),
+    }
+}
+
+fn verify_each_no_less(rt: &impl Print, alloc: Global) -> io::Result<()> {
+    let verified = twice(rt, "verify_calls_by", || {
+        verify_calls_by(
+            alloc,
+            &mut [Counted::new(CLONE)],
+            &mut Counted::new(MASKED),
+            &mut Counted::new(TABLE),
+            Relation::NoLess,
+            LIMIT,
+        )
+    })?;
+    match verified {
+        Some(outcome) => {
+            write_calls(rt, "verify_calls_by", &outcome)?;
+            write_text(rt, "report_calls_by", || {
+                report_calls_by(alloc, Relation::NoLess, &outcome)
+            })
         }
         None => Ok(()),
     }
@@ -132,7 +178,10 @@ fn report_difference(rt: &impl Print, alloc: Global) -> io::Result<()> {
         skipped: Texts::from_vec(Vec::new(alloc)),
         other_architectures: Texts::from_vec(Vec::new(alloc)),
     };
-    write_text(rt, "report", || report(alloc, &outcome))
+    write_text(rt, "report", || report(alloc, &outcome))?;
+    write_text(rt, "report_by", || {
+        report_by(alloc, Relation::NoLess, &outcome)
+    })
 }
 
 pub(crate) fn try_all(rt: &impl Print, alloc: Global) -> io::Result<()> {
@@ -140,5 +189,7 @@ pub(crate) fn try_all(rt: &impl Print, alloc: Global) -> io::Result<()> {
     report_difference(rt, alloc)?;
     verify_filter(rt, alloc)?;
     verify_two(rt, alloc)?;
-    verify_each(rt, alloc)
+    verify_no_more(rt, alloc)?;
+    verify_each(rt, alloc)?;
+    verify_each_no_less(rt, alloc)
 }
