@@ -27,6 +27,13 @@ packages is imported. So it adds its own folder to the path of imports, by its r
     engines     what a container engine makes of its own profile for one container
     processes   processes: all of their threads held still, and the filters that the kernel keeps of each
     foreign     calls that aren't native: whether any is let through
+    questions   whether filters refuse or make each call of a number, by profiles of a single answer
+    unnamed     native calls whose numbers a table doesn't name: of how many numbers some are let through
+    surfaces    what filters let through of each call that a table names
+    groups      what calls are for
+    showing     how surfaces are shown: as a table, in lines, as JSON
+    beside      two surfaces beside each other
+    surfacing   the surfaces of files or of a process, each with a status
     verifying   the filters of processes beside a profile, each distinct stack by itself
     hooks       hooks of container runtimes: whether a container's process is confined as configured
     units       the profile that a unit of systemd states by its settings of system calls

@@ -7,7 +7,7 @@ from dataclasses import dataclass
 
 from . import inputs, program
 
-LINE = re.compile(rb"[ \t]*([A-Za-z_][A-Za-z0-9_]*)[ \t]+([0-9]{1,10})[ \t]*\r?")
+LINE = re.compile(rb"[ \t]*([A-Za-z_][A-Za-z0-9_]*)[ \t]+0*([0-9]{1,10})[ \t]*\r?")
 # So many names that no call has are told one by one, and so long ones have no nearest name.
 TOLD, LONGEST = 20, 64
 
@@ -45,6 +45,9 @@ class Table:
     def names(self) -> Iterable[str]:
         self._read()
         return self._numbers.keys()
+
+    def numbers(self) -> Iterable[int]:
+        return self._read().keys()
 
 
 def read(name: str | None) -> Table:

@@ -165,6 +165,7 @@ class Failing(Case):
         return (("compare", self.same, self.profile), ("compare", "--json", self.same, self.profile),
                 ("decide", self.same), ("run", self.same), ("check", self.same), ("list", self.same),
                 ("compile", self.profile), ("bundle", "profile", self.profile), ("explain", "--help"),
+                ("surface", self.same), ("surface", "--json", self.same),
                 ("compare", "--version"))
 
     def test_a_reader_that_goes_away(self):

@@ -13,7 +13,8 @@ sys.path.append(os.path.join(TOP, "tools"))
 
 from scftools import tables  # noqa: E402
 
-TOOLS = ("ask", "bundle", "check", "compare", "compile", "decide", "explain", "list", "run")
+TOOLS = ("ask", "bundle", "check", "compare", "compile", "decide", "explain", "list", "run",
+         "surface")
 NATIVE = load(4) + jeq(X86_64, 1, 0) + ret(KILL_PROCESS) + load(0) + jge(0x40000000, 0, 1) + ret(KILL_PROCESS)
 # A is the number times the number, which isn't followed where the number isn't known.
 SQUARE = NATIVE + insn(0x07, 0) + insn(0x2C, 0) + jeq(49, 0, 1) + ret(EPERM) + ret(ALLOW)

@@ -1,0 +1,132 @@
+"""How surfaces are shown: a table as wide as the terminal, or where none reads it a line for each call; and as JSON."""
+from __future__ import annotations
+
+import os
+from collections.abc import Iterable, Iterator, Sequence
+
+from . import foreign
+from .groups import Groups
+from .surfaces import DEPENDS, MADE, REFUSED, SAID, Row, Surface
+
+# What a terminal has that doesn't say its width, and the least width that a cell of names is given beside others.
+USUAL, LEAST = 80, 24
+
+
+def width_of_terminal() -> int | None:
+    """How many columns the terminal has that reads the output, or None where none does."""
+    try:
+        return os.get_terminal_size(1).columns or USUAL
+    except OSError:
+        return None
+
+
+def wrapped(words: Iterable[str], width: int) -> list[str]:
+    """Words in lines of a width; a longer one has a line of its own."""
+    lines: list[str] = []
+    for word in words:
+        if lines and len(lines[-1]) + 1 + len(word) <= width:
+            lines[-1] += f" {word}"
+        else:
+            lines.append(word)
+    return lines
+
+
+def fitted(told: Iterable[str], width: int | None) -> Iterator[str]:
+    """Lines as a terminal of a width shows them: what goes on in another line is set in."""
+    for line in told:
+        for at, part in enumerate(wrapped(line.split(), width - 2) if width is not None else [line]):
+            yield f"{'  ' * (at > 0)}{part}"
+
+
+def _summary(surface: Surface) -> str:
+    counts = surface.counts
+    return ", ".join(f"{said} {counts[said]}" for said in SAID if counts[said] or said in (MADE, DEPENDS, REFUSED))
+
+
+def _foreign(surface: Surface) -> str:
+    if all(isinstance(one, foreign.Proved) and one.lets_none_through for one in surface.foreign):
+        return foreign.NONE
+    return "; ".join(one.told() for one in surface.foreign)
+
+
+def of_whole(surface: Surface) -> list[str]:
+    """How many calls are made, refused and so on; foreign calls; numbers without a name."""
+    return [_summary(surface), _foreign(surface), f"numbers without a name: {surface.unnamed.told()}"]
+
+
+def details(row: Row) -> list[str]:
+    """Behind what is said of all calls of a number: some of them by their fates, or else an answer of one."""
+    if row.shown:
+        return [f"{fate} {shown.told()}" for fate, shown in row.shown.items()]
+    return [str(row.answer)] if row.answer else []
+
+
+def plain(rows: Iterable[Row], groups: Groups) -> Iterator[str]:
+    """A line for each call, group by group."""
+    for group, members in grouped(rows, groups):
+        for row in members:
+            yield " ".join([group, row.said, str(row.number), ",".join(row.names), *details(row)])
+
+
+def grouped(rows: Iterable[Row], groups: Groups) -> list[tuple[str, list[Row]]]:
+    """The rows of each group, in the order of the groups; those without rows are left out."""
+    found: dict[str, list[Row]] = {group: [] for group in groups.order}
+    for row in rows:
+        found[groups.of_call(row.names)].append(row)
+    return [(group, members) for group, members in found.items() if members]
+
+
+def _cell(said: str, rows: Sequence[Row], width: int) -> list[str]:
+    """The calls of a group of which the same is said: their names, or where a call shows more, a line or more each."""
+    if not any(row.shown for row in rows):
+        names = [" or ".join(row.names) for row in rows]
+        return wrapped([f"{name}," for name in names[:-1]] + names[-1:], width)
+    lines: list[str] = []
+    for row in rows:
+        lines += wrapped([*" or ".join(row.names).split(), f"({row.number})"], width)
+        for detail in details(row):
+            lines += [f"  {line}" for line in wrapped(detail.split(), width - 2)]
+    return lines
+
+
+def as_table(rows: Iterable[Row], groups: Groups, width: int) -> Iterator[str]:
+    """The calls of each group, by what is said of them."""
+    found = grouped(rows, groups)
+    before, next_to = max((len(group) for group, _ in found), default=0) + 2, max(map(len, SAID)) + 2
+    is_narrow = width - before - next_to < LEAST
+    for group, members in found:
+        heading = group
+        for said in SAID:
+            those = [row for row in members if row.said == said]
+            if not those:
+                continue
+            if is_narrow:
+                yield from ([heading] if heading else []) + [f" {said}"]
+                yield from (f"  {line}" for line in _cell(said, those, width - 2))
+            else:
+                for at, line in enumerate(_cell(said, those, width - before - next_to)):
+                    yield f"{heading if at == 0 else '':{before}}{said if at == 0 else '':{next_to}}{line}"
+            heading = ""
+
+
+def lines(surface: Surface, groups: Groups, width: int | None) -> Iterator[str]:
+    """All that is said of filters."""
+    yield from fitted(of_whole(surface), width)
+    yield from plain(surface.rows, groups) if width is None else as_table(surface.rows, groups, width)
+
+
+def row_json(row: Row, groups: Groups) -> dict[str, object]:
+    found: dict[str, object] = {"number": row.number, "names": row.names, "group": groups.of_call(row.names),
+                                "said": row.said}
+    if row.shown:
+        found["shown"] = {fate: shown.as_json() for fate, shown in row.shown.items()}
+        found["never"] = row.never
+    elif row.answer:
+        found["answer"] = row.answer.as_json()
+    return found
+
+
+def as_json(surface: Surface, groups: Groups) -> dict[str, object]:
+    counts = surface.counts
+    return {"counts": {said: counts[said] for said in SAID}, "foreign": [one.as_json() for one in surface.foreign],
+            "unnamed": surface.unnamed.as_json(), "calls": [row_json(row, groups) for row in surface.rows]}

@@ -1,0 +1,155 @@
+"""Surfaces: what filters let through of each call that a table names, by verdicts of scf over all calls of a number."""
+from __future__ import annotations
+
+from collections import Counter
+from collections.abc import Iterable, Sequence
+from dataclasses import dataclass, field
+
+from . import answers, foreign, unnamed
+from .answers import Answer
+from .calls import Call
+from .questions import IS_MADE, IS_NEVER_MADE, IS_NEVER_REFUSED, IS_REFUSED, Asker, Question
+from .tables import Table
+from .unnamed import Unnamed
+from .verdicts import UNDECIDED, UNFINISHED, NamedCall
+
+MADE, REFERRED, REFUSED, DEPENDS = "made", "referred", "refused", "depends"
+FATES = {answers.MADE: MADE, answers.REFERRED: REFERRED, answers.REFUSED: REFUSED}
+# What may be said of all calls of a number, in the order in which it is told; the last two where scf couldn't tell.
+SAID = (MADE, DEPENDS, REFERRED, REFUSED, UNDECIDED, UNFINISHED)
+
+
+def fate_of(answer: Answer) -> str:
+    return FATES[answer.fate]
+
+
+@dataclass(frozen=True)
+class Shown:
+    """A call, and what it is answered; where it isn't whole, that is so at some other instruction pointer."""
+
+    call: Call
+    answer: Answer
+    is_whole: bool
+
+    def told(self) -> str:
+        at = f"ip {self.call.pointer:#x} " if self.call.pointer else "" if self.is_whole else "at some ip "
+        return f"{at}args {' '.join(map(hex, self.call.arguments))} {self.answer}"
+
+    def as_json(self) -> dict[str, object]:
+        return {"arguments": [hex(it) for it in self.call.arguments], "is_whole": self.is_whole,
+                "pointer": hex(self.call.pointer), "answer": {**self.answer.as_json(), "does": self.answer.does()}}
+
+
+@dataclass
+class Row:
+    """A number that the table names: the line of scf to each question, or None where the relation holds."""
+
+    number: int
+    names: list[str]
+    lines: dict[Question, NamedCall | None]
+    # a call for each fate that some call has, where it depends or couldn't be told
+    shown: dict[str, Shown] = field(default_factory=dict)
+
+    def holds(self, question: Question) -> bool:
+        return question in self.lines and self.lines[question] is None
+
+    @property
+    def failed(self) -> dict[str, tuple[Question, NamedCall]]:
+        """For each fate that some call has the first question that shows one."""
+        found: dict[str, tuple[Question, NamedCall]] = {}
+        for question, line in self.lines.items():
+            if line is not None and line.verdict.filters is not None:
+                found.setdefault(fate_of(line.verdict.filters), (question, line))
+        return found
+
+    @property
+    def said(self) -> str:
+        """What all calls of the number have in common: a fate, that they have several, or that it couldn't be told."""
+        if self.holds(IS_REFUSED):
+            return REFUSED
+        if self.holds(IS_MADE):
+            return MADE
+        if self.holds(IS_NEVER_MADE) and self.holds(IS_NEVER_REFUSED):
+            return REFERRED
+        if len(self.failed) > 1:
+            return DEPENDS
+        words = [line.verdict.word for line in self.lines.values() if line is not None]
+        return UNFINISHED if UNFINISHED in words else UNDECIDED
+
+    @property
+    def is_told(self) -> bool:
+        return self.said not in (UNDECIDED, UNFINISHED)
+
+    @property
+    def never(self) -> list[str]:
+        """The fates of which it is proved that no call has them, where that isn't said by one that all have."""
+        return [fate for fate, question in ((MADE, IS_NEVER_MADE), (REFUSED, IS_NEVER_REFUSED)) if self.holds(question)]
+
+    @property
+    def answer(self) -> Answer | None:
+        """An answer of some call."""
+        return next((line.verdict.filters for _, line in self.failed.values()), None)
+
+
+@dataclass
+class Surface:
+    """What filters let through."""
+
+    asker: Asker
+    table: Table
+    rows: list[Row]
+    foreign: list[foreign.Proved | foreign.Tried]
+    unnamed: Unnamed
+
+    @property
+    def counts(self) -> Counter[str]:
+        return Counter(row.said for row in self.rows)
+
+    @property
+    def is_told(self) -> bool:
+        """Whether scf could tell everything."""
+        return (all(row.is_told for row in self.rows) and not self.unnamed.untold
+                and all(isinstance(one, foreign.Proved) for one in self.foreign))
+
+
+def _asked(asker: Asker, question: Question, rows: Iterable[Row]) -> None:
+    """Asks of the calls of some rows alone."""
+    asked = list(rows)
+    table = b"".join(b"%s %d\n" % (name.encode(), row.number) for row in asked for name in row.names)
+    lines = {line.number: line for line in asker.of_named(question, table).calls} if table else {}
+    for row in asked:
+        row.lines[question] = lines.get(row.number)
+
+
+def _shown(asker: Asker, question: Question, line: NamedCall) -> Shown:
+    """The call of a line, which lacks its instruction pointer: that, or one that scf shows whole, if it was run so."""
+    call, answer = line.verdict.call, line.verdict.filters
+    assert call is not None and answer is not None
+    if asker.decided(call) == answer:
+        return Shown(call, answer, True)
+    alone = asker.of_number(question, line.number)
+    if alone is not None and alone.call is not None and alone.filters is not None:
+        if fate_of(alone.filters) == fate_of(answer) and asker.decided(alone.call) == alone.filters:
+            return Shown(alone.call, alone.filters, True)
+    return Shown(call, answer, False)
+
+
+def rows_of(asker: Asker, table: Table) -> list[Row]:
+    """What is said of each call that the table names. The last two questions are asked only where they say more."""
+    first = asker.of_named(IS_REFUSED, table.data)
+    lines = {line.number: line for line in first.calls}
+    rows = [Row(number, table.names_of(number), {IS_REFUSED: lines.get(number)}) for number in sorted(table.numbers())]
+    _asked(asker, IS_MADE, rows)
+    for question in (IS_NEVER_MADE, IS_NEVER_REFUSED):
+        _asked(asker, question, [row for row in rows if not row.holds(IS_REFUSED) and not row.holds(IS_MADE)])
+    for row in rows:
+        if row.said not in (MADE, REFERRED, REFUSED):
+            row.shown = {fate: _shown(asker, *found) for fate, found in row.failed.items()}
+    return rows
+
+
+def of_filters(filters: Sequence[bytes], table: Table, limit: str | None) -> Surface:
+    """The surface of filters, oldest first."""
+    asker = Asker(filters, limit)
+    rows = rows_of(asker, table)
+    return Surface(asker, table, rows, foreign.let_through(filters, limit), unnamed.of_filters(asker, table))

@@ -1,0 +1,676 @@
+"""tools/surface: what filters let through, beside another machine's answers to each call at which something can change;
+and what calls are for."""
+import fcntl
+import functools
+import itertools
+import json
+import os
+import pty
+import random
+import re
+import shutil
+import struct
+import subprocess
+import sys
+import termios
+import unittest
+
+from common import (ALLOW, EPERM, I386, KILL_PROCESS, KILL_THREAD, SCF, TABLE, TOP, X86_64, Case, filter_of, insn, jeq,
+                    jge, load, ret, tool)
+from confined import NEWEST, OLDEST, Confined, here
+from stand_in import StandIn
+from test_why import random_filter
+
+sys.path.append(os.path.join(TOP, "tools"))
+
+from scftools import (answers, beside, groups, processes, questions, showing, surfaces, surfacing,  # noqa: E402
+                      tables, unnamed)
+from scftools.calls import Call  # noqa: E402
+
+READ, WRITE, GETPID, SOCKET, EXIT_GROUP = 0, 1, 39, 41, 231
+NAMES = {"read": READ, "write": WRITE, "getpid": GETPID, "socket": SOCKET, "exit_group": EXIT_GROUP, "too": READ}
+OWN = "".join(f"{name} {number}\n" for name, number in NAMES.items()).encode()
+NUMBERS = sorted(set(NAMES.values()))
+X32 = 0x40000000
+OTHERS = X32 - len(NUMBERS)
+TRAP, USER_NOTIF, TRACE, LOG = 0x00030000, 0x7FC00000, 0x7FF00000, 0x7FFC0000
+# Answers that seccomp(2) doesn't name, between those of ERRNO and USER_NOTIF, and of LOG and ALLOW.
+BETWEEN, NEARLY = 0x00060000, 0x7FFD0000
+HIGH = 1 << 32
+
+
+def jgt(k, jt, jf):
+    return insn(0x25, k, jt, jf)
+
+
+def gate(native, foreign=KILL_PROCESS):
+    return load(4) + jeq(X86_64, 1, 0) + ret(foreign) + load(0) + jge(X32, 0, 1) + ret(foreign) + native
+
+
+def of_number(number, answer, other):
+    """Answers a number by a piece of code of one return or several, and all others so."""
+    code = answer if isinstance(answer, bytes) else ret(answer)
+    return gate(jeq(number, 0, len(code) // 8) + code + ret(other))
+
+
+def by_argument(value, answer, other):
+    """Answers by whether the whole of the first argument is a number."""
+    return load(16) + jeq(value % HIGH, 0, 3) + load(20) + jeq(value // HIGH, 0, 1) + ret(answer) + ret(other)
+
+
+BY_POINTER = load(8) + jeq(0x1234, 0, 1) + ret(ALLOW) + ret(EPERM)
+# The number times the number, which isn't followed where the number isn't known; and an argument, which never is.
+SQUARE = gate(insn(0x07, 0) + insn(0x2C, 0) + jeq(49, 0, 1) + ret(EPERM) + ret(ALLOW))
+BY_SQUARE = of_number(SOCKET, load(16) + insn(0x07, 0) + insn(0x2C, 0) + jeq(9, 0, 1) + ret(ALLOW) + ret(EPERM), ALLOW)
+M, D, F, R = surfaces.MADE, surfaces.DEPENDS, surfaces.REFERRED, surfaces.REFUSED
+# Filters, oldest first, with what people expect of read, write, getpid, socket and exit_group.
+KNOWN = {
+    "all is made": ([ret(ALLOW)], [M] * 5),
+    "all is logged": ([ret(LOG)], [M] * 5),
+    "all is refused": ([ret(EPERM)], [R] * 5),
+    "all threads end": ([ret(KILL_THREAD)], [R] * 5),
+    "all is trapped": ([ret(TRAP)], [R] * 5),
+    "all is referred": ([ret(TRACE | 7)], [F] * 5),
+    "a supervisor and a tracer": ([of_number(READ, USER_NOTIF, TRACE)], [F] * 5),
+    "some are made": ([filter_of([READ, GETPID])], [M, R, M, R, R]),
+    "one is refused": ([of_number(SOCKET, EPERM, ALLOW)], [M, M, M, R, M]),
+    "one is referred": ([of_number(SOCKET, USER_NOTIF, ALLOW)], [M, M, M, F, M]),
+    "by an argument": ([of_number(SOCKET, by_argument(40, EPERM, ALLOW), EPERM)], [R, R, R, D, R]),
+    "by a high half": ([of_number(SOCKET, by_argument(40 * HIGH, ALLOW, EPERM), EPERM)], [R, R, R, D, R]),
+    "by no argument": ([of_number(SOCKET, by_argument(40, LOG, ALLOW), EPERM)], [R, R, R, M, R]),
+    "refused so or so": ([of_number(SOCKET, by_argument(40, EPERM, KILL_PROCESS), ALLOW)], [M, M, M, R, M]),
+    "made or referred": ([of_number(SOCKET, by_argument(40, USER_NOTIF, ALLOW), EPERM)], [R, R, R, D, R]),
+    "refused or referred": ([of_number(SOCKET, by_argument(40, TRACE, EPERM), ALLOW)], [M, M, M, D, M]),
+    "of three fates": ([of_number(SOCKET, load(16) + jeq(1, 0, 1) + ret(EPERM) + jeq(2, 0, 1) + ret(TRACE) + ret(LOG),
+                                  ALLOW)], [M, M, M, D, M]),
+    "by a bit": ([of_number(WRITE, load(24) + insn(0x45, 4, 0, 1) + ret(EPERM) + ret(ALLOW), ALLOW)], [M, D, M, M, M]),
+    "by the instruction pointer": ([of_number(WRITE, BY_POINTER, EPERM)], [R, D, R, R, R]),
+    "a stack": ([filter_of([READ, WRITE]), filter_of([READ, SOCKET]), ret(ALLOW)], [M, R, R, R, R]),
+    "a stack that refers": ([of_number(READ, EPERM, ALLOW), ret(TRACE)], [R, F, F, F, F]),
+    "a stack of conditions": ([of_number(SOCKET, by_argument(40, EPERM, ALLOW), ALLOW),
+                               of_number(SOCKET, by_argument(41, TRACE, EPERM), ALLOW)], [M, M, M, D, M]),
+    "foreign calls are made": ([gate(jeq(READ, 0, 1) + ret(ALLOW) + ret(EPERM), ALLOW)], [M, R, R, R, R]),
+    "between refused and referred": ([ret(BETWEEN)], [F] * 5),
+    "between logged and made": ([ret(NEARLY)], [M] * 5),
+}
+ARGUMENTS = (0, 1, 2, 3, 4, 5, 8, 39, 40, 41, 42, 40 * HIGH, 40 * HIGH + 40, 41 * HIGH, (1 << 64) - 1)
+POINTERS = (0, 0x1234, 0x1235)
+
+
+def fate(answer):
+    """What becomes of a call by an answer of 32 bits, whose high half has a sign."""
+    high = answer >> 16
+    if high >= 0x8000 or high <= 0x0005:
+        return R
+    return F if high < 0x7FFC else M
+
+
+def fate_by_hand(filters, call):
+    return fate(answers.Answer.read(StandIn().decide(filters, call)).word)
+
+
+def fates_by_hand(filters, number):
+    """The fates of the calls of a number, at each corner of the filters here."""
+    calls = (Call(number, X86_64, pointer, (one, other, 0, 0, 0, 0))
+             for one, other, pointer in itertools.product(ARGUMENTS, (0, 4), POINTERS))
+    return {fate_by_hand(filters, call) for call in calls}
+
+
+def of(filters, limit=None, table=OWN):
+    return surfaces.of_filters(filters, tables.Table(table), limit)
+
+
+@functools.lru_cache(None)
+def known(name):
+    return of(KNOWN[name][0])
+
+
+def allowing(numbers):
+    """Allows any count of numbers."""
+    return gate(b"".join(jeq(number, 0, 1) + ret(ALLOW) for number in numbers) + ret(EPERM))
+
+
+def random_plain(random_of, count):
+    """An accepted filter of loads and tests, which ends in returns."""
+    made = []
+    while len(made) < count:
+        near = [random_of.randrange(9) for _ in range(2)]
+        made.append(random_of.choice((load(4 * random_of.choice((0, 1, 2, *range(4, 8)))), insn(random_of.choice(
+            (0x15, 0x25, 0x35)), random_of.choice((0, 1, 2, 41, HIGH - 1, X86_64)), *near), insn(0x45, 2, *near))))
+    ends = [random_of.choice((ALLOW, EPERM, TRACE, LOG, KILL_PROCESS)) for _ in range(10)]
+    return b"".join(made) + b"".join(map(ret, ends))
+
+
+class Rows(Case):
+    """What is said of each call that a small table names."""
+
+    def test_each(self):
+        """As its row says, and as the other machine answers at each corner."""
+        for name, (filters, expected) in KNOWN.items():
+            with self.subTest(name):
+                by_hand = [fates_by_hand(filters, number) for number in NUMBERS]
+                self.assertEqual([D if len(fates) > 1 else next(iter(fates)) for fates in by_hand], expected)
+                surface = known(name)
+                self.assertEqual([row.number for row in surface.rows], NUMBERS)
+                self.assertEqual([row.said for row in surface.rows], expected)
+                self.assertTrue(surface.is_told)
+                for row, fates in zip(surface.rows, by_hand):
+                    self.is_shown(filters, row, fates)
+
+    def is_shown(self, filters, row, fates):
+        """Where it depends, a call of two fates at least, each of which has it; and no fate is excluded that is."""
+        if row.said != D:
+            self.assertEqual(row.shown, {})
+            self.assertIn(fate(row.answer.word), fates)
+            return
+        self.assertGreater(len(row.shown), 1)
+        self.assertLessEqual(set(row.shown), fates)
+        for said, shown in row.shown.items():
+            self.assertTrue(shown.is_whole)
+            self.assertEqual((shown.call.number, shown.call.architecture), (row.number, X86_64))
+            self.assertEqual(answers.Answer.read(StandIn().decide(filters, shown.call)), shown.answer)
+            self.assertEqual(fate(shown.answer.word), said)
+        self.assertFalse(set(row.never) & fates)
+        if fates == {F, R}:
+            self.assertEqual(row.never, [M])
+        if fates == {F, M}:
+            self.assertEqual(row.never, [R])
+
+    def test_the_pointer_is_shown(self):
+        """A line of --calls lacks it; the call is shown whole all the same."""
+        row = known("by the instruction pointer").rows[1]
+        self.assertEqual(row.shown[M].call.pointer & 0xFFFFFFFF, 0x1234)
+        self.assertRegex(row.shown[M].told(), r"\Aip 0x[0-9a-f]*1234 args 0x0 0x0 0x0 0x0 0x0 0x0 ALLOW\Z")
+        self.assertEqual(row.shown[R].told(), "args 0x0 0x0 0x0 0x0 0x0 0x0 ERRNO 1")
+
+    def test_a_pointer_that_cannot_be_shown(self):
+        """The line says that there is one."""
+        asker = questions.Asker(KNOWN["by the instruction pointer"][0])
+        line = next(it for it in asker.of_named(questions.IS_REFUSED, OWN).calls if it.number == WRITE)
+        unable = type("Unable", (questions.Asker,), {"of_number": lambda *_: None})(asker.filters)
+        shown = surfaces._shown(unable, questions.IS_REFUSED, line)
+        self.assertEqual((shown.is_whole, shown.told()), (False, "at some ip args 0x0 0x0 0x0 0x0 0x0 0x0 ALLOW"))
+
+    def test_random_filters(self):
+        """No sampled call has a fate that what is said excludes, and what is shown is so."""
+        random_of, said = random.Random(35), set()
+        for count in (*range(6, 30), *[60] * 6):
+            made = random_of.choice((random_plain, random_plain, random_filter))
+            filters = [made(random_of, count) for _ in range(random_of.choice((1, 1, 2)))]
+            for row in of(filters).rows:
+                said.add(row.said)
+                sampled = set()
+                for _ in range(40):
+                    arguments = tuple(random_of.choice((0, 1, 2, 41, HIGH - 1, random_of.getrandbits(64)))
+                                      for _ in range(6))
+                    call = Call(row.number, X86_64, random_of.choice((0, random_of.getrandbits(64))), arguments)
+                    sampled.add(fate_by_hand(filters, call))
+                if row.said in (M, F, R):
+                    self.assertEqual(sampled, {row.said})
+                self.assertFalse(sampled & set(row.never))
+                for fated, shown in row.shown.items():
+                    if shown.is_whole:
+                        self.assertEqual(fate_by_hand(filters, shown.call), fated)
+        self.assertLessEqual({M, D, F, R}, said)
+
+    def test_undecided_and_unfinished(self):
+        """It is said so, with the calls that were found, and nothing is guessed."""
+        self.assertEqual({row.said for row in of([SQUARE]).rows}, {"undecided"})
+        surface = of([BY_SQUARE])
+        self.assertEqual([row.said for row in surface.rows], [M, M, M, "undecided", M])
+        self.assertFalse(surface.is_told)
+        self.assertEqual((surface.rows[3].never, set(surface.rows[3].shown) - {M, R}), ([], set()))
+        surface = of([filter_of([READ])], "0")
+        self.assertEqual([row.said for row in surface.rows], ["unfinished"] * 5)
+        self.assertEqual(surface.unnamed.told(), f"of {OTHERS} it couldn't be told")
+
+    def test_a_number_with_two_names_and_one_with_zeros(self):
+        self.assertEqual(of([ret(ALLOW)]).rows[0].names, ["read", "too"])
+        rows = of([filter_of([3])], table=b"a 00000000000000000003\nb 4\n").rows
+        self.assertEqual([(row.number, row.names, row.said) for row in rows], [(3, ["a"], M), (4, ["b"], R)])
+
+    def test_a_table_without_names(self):
+        surface = of([ret(ALLOW)], table=b"# none\n")
+        self.assertEqual((surface.rows, showing.of_whole(surface)[0]), ([], "made 0, depends 0, refused 0"))
+        self.assertEqual(surface.unnamed.told(), f"all calls of all {X32} are made")
+
+
+class Unnamed(unittest.TestCase):
+    """Numbers that the table doesn't name."""
+
+    def told(self, *filters, **more):
+        return of(filters, **more).unnamed.told()
+
+    def test_none_and_all(self):
+        self.assertEqual(self.told(filter_of([READ, EXIT_GROUP])), f"none of {OTHERS} is let through")
+        self.assertEqual(self.told(ret(ALLOW)), f"all calls of all {OTHERS} are made")
+        self.assertEqual(self.told(of_number(READ, EPERM, LOG)), f"all calls of all {OTHERS} are made")
+        self.assertEqual(self.told(ret(USER_NOTIF)), f"calls of all {OTHERS} are let through, as 2: USER_NOTIF")
+
+    def test_some(self):
+        """Counted on both sides of each test, and over what the table names."""
+        some = gate(jge(400, 0, 2) + jge(410, 1, 0) + ret(ALLOW) + ret(EPERM))
+        self.assertEqual(self.told(some), f"calls of 10 of {OTHERS} are let through, as 400: ALLOW")
+        self.assertEqual(self.told(filter_of([READ, 400])), f"calls of 1 of {OTHERS} are let through, as 400: ALLOW")
+        self.assertEqual(self.told(gate(jgt(X32 - 3, 0, 1) + ret(ALLOW) + ret(EPERM))),
+                         f"calls of 2 of {OTHERS} are let through, as {X32 - 2}: ALLOW")
+        below = gate(jge(42, 1, 0) + ret(ALLOW) + ret(EPERM))
+        self.assertEqual(self.told(below), f"calls of {42 - 4} of {OTHERS} are let through, as 2: ALLOW")
+        self.assertEqual(self.told(filter_of([*range(0, 80, 2)])),
+                         f"calls of {40 - 1} of {OTHERS} are let through, as 2: ALLOW")
+        all_but = of_number(300, EPERM, ALLOW)
+        self.assertEqual(self.told(all_but), f"calls of {OTHERS - 1} of {OTHERS} are let through, as 2: ALLOW")
+
+    def test_where_no_test_of_the_number_turns(self):
+        """The odd ones below 64, but for those that have a name."""
+        odd = gate(jge(64, 3, 0) + insn(0x45, 1, 0, 2) + ret(ALLOW) * 2 + ret(EPERM))
+        self.assertEqual(StandIn().decide([odd], Call(63)), "ALLOW 0")
+        self.assertEqual({StandIn().decide([odd], Call(number)) for number in (62, 64, 65)}, {"ERRNO 1"})
+        self.assertEqual(self.told(odd), f"calls of {32 - 3} of {OTHERS} are let through, as 3: ALLOW")
+
+    def test_by_an_argument(self):
+        self.assertEqual(self.told(of_number(400, by_argument(7, ALLOW, EPERM), EPERM)),
+                         f"calls of 1 of {OTHERS} are let through, as 400: ALLOW")
+
+    def test_a_stack(self):
+        self.assertEqual(self.told(filter_of([400, 401]), filter_of([401, 402])),
+                         f"calls of 1 of {OTHERS} are let through, as 401: ALLOW")
+
+    def test_what_could_not_be_told(self):
+        """A filter that isn't followed; more stretches than are looked at; a filter that is too long to be asked."""
+        found = of([SQUARE]).unnamed
+        self.assertGreater(found.untold, 0)
+        self.assertLessEqual(found.let_through + found.untold, OTHERS)
+        self.assertRegex(found.told(), rf"of [0-9]+ it couldn't be told\Z")
+        found = of([allowing(range(300, 1300, 2))]).unnamed
+        self.assertGreater(found.untold, 0)
+        self.assertLessEqual(found.let_through, 500)
+        self.assertGreaterEqual(found.let_through + found.untold, 500)
+        self.assertRegex(found.told(), r"\Acalls of at least [0-9]+ of [0-9]+ are let through, as 300: ALLOW; of ")
+        long = gate(jeq(400, 0, 1) + ret(ALLOW) + jeq(0, 0, 0) * 4087 + ret(EPERM))
+        self.assertEqual(StandIn().check(long), "accepted 4096")
+        self.assertEqual(self.told(long), f"of {OTHERS} it couldn't be told")
+
+    def test_gaps(self):
+        self.assertEqual(list(unnamed.gaps(tables.Table(OWN))), [(2, 39), (40, 41), (42, 231), (232, X32)])
+        last = tables.Table(b"a 0\nz 1073741823\n")
+        self.assertEqual(list(unnamed.gaps(last)), [(1, X32 - 1)])
+        self.assertEqual(list(unnamed.gaps(tables.Table(b""))), [(0, X32)])
+
+
+class Program(Case):
+    """What tools/surface prints, by files."""
+
+    def setUp(self):
+        super().setUp()
+        self.table = self.file("own.table", OWN)
+
+    def said(self, filters, *words, table=True):
+        names = [self.file(f"{at}.bpf", data) for at, data in enumerate(filters)]
+        status, out, err = self.run_tool("surface", *(["--table", self.table] if table else []), *names, *words)
+        self.assertEqual(err, "")
+        return status, out.split("\n")[:-1]
+
+    def test_usage(self):
+        self.says_usage("surface")
+        for words in (("--pid", "x"), ("--pid", "0"), ("--pid", "1", "f"), ("--beside", "f"), ("--table=-", "-"),
+                      ("-", "--beside", "-")):
+            status, out, err = self.run_tool("surface", *words)
+            self.assertEqual((status, out), (2, ""), words)
+            self.assertIn("surface: ", err)
+
+    def test_lines(self):
+        filters = KNOWN["by an argument"][0]
+        status, lines = self.said(filters)
+        self.assertEqual((status, lines), (0, [
+            "made 0, depends 1, refused 4", "no call of another architecture and no x32 call is let through",
+            f"numbers without a name: none of {OTHERS} is let through", "files refused 0 read,too ERRNO 1",
+            "files refused 1 write ERRNO 1", lines[5], "processes refused 39 getpid ERRNO 1",
+            "processes refused 231 exit_group ERRNO 1"]))
+        found = re.fullmatch(r"network depends 41 socket ((?:made|refused) args .*) ((?:made|refused) args .*)",
+                             lines[5])
+        self.assertEqual({part.split()[0] for part in found.groups()}, {"made", "refused"})
+        for part in found.groups():
+            said, _, *arguments = part.split()
+            call = Call(SOCKET, arguments=tuple(int(it, 16) for it in arguments[:6]))
+            self.assertEqual(StandIn().decide(filters, call), {"made": "ALLOW 0", "refused": "ERRNO 1"}[said])
+            self.assertEqual(" ".join(arguments[6:]), {"made": "ALLOW", "refused": "ERRNO 1"}[said])
+
+    def test_foreign_calls(self):
+        for name, says in (("all is made", "i386 calls: some are let through, as number 0: ALLOW; x32 calls: some are "
+                                           "let through, as read (0x40000000 + 0): ALLOW; other architectures' calls: "
+                                           "some are let through, as number 0 of 0x0: ALLOW"),
+                           ("some are made", "no call of another architecture and no x32 call is let through")):
+            self.assertEqual(self.said(KNOWN[name][0])[1][1], says)
+        gone = load(4) + jeq(I386, 0, 1) + ret(ALLOW) + ret(KILL_PROCESS)
+        self.assertEqual(self.said([gone])[1][1], "i386 calls: some are let through, as number 0: ALLOW; x32 calls: "
+                                                  "none is let through; other architectures' calls: none is let "
+                                                  "through")
+
+    def test_the_table_that_comes_with_scf(self):
+        """Each name of it once, in a group of its own; what a filter allows, and nothing else, is made."""
+        allowed = ["read", "mount", "ptrace", "keyctl", "clock_settime", "init_module"]
+        own = tables.read(None)
+        status, lines = self.said([filter_of([own.number_of(name) for name in allowed])], table=False)
+        self.assertEqual(status, 0)
+        rows = [line.split() for line in lines[3:]]
+        self.assertEqual(sorted(int(row[2]) for row in rows), sorted(own.numbers()))
+        self.assertEqual({row[0]: row[3] for row in rows if row[1] == M},
+                         {"files": "read", "mounts": "mount", "tracing": "ptrace", "keys": "keyctl",
+                          "time": "clock_settime", "modules": "init_module"})
+        self.assertEqual(lines[0], f"made {len(allowed)}, depends 0, refused {len(rows) - len(allowed)}")
+
+    def test_names_that_no_group_has(self):
+        lines = self.said([ret(ALLOW)], "--table", self.file("t", b"look 7\n"))[1]
+        self.assertEqual(lines[3:], ["other made 7 look ALLOW"])
+
+    def test_json(self):
+        filters = KNOWN["of three fates"][0]
+        status, lines = self.said(filters, "--json")
+        self.assertEqual((status, len(lines)), (0, 1))
+        found = json.loads(lines[0])
+        self.assertEqual((found["status"], found["counts"]), (0, {M: 4, D: 1, F: 0, R: 0, "undecided": 0,
+                                                                  "unfinished": 0}))
+        self.assertEqual([(row["number"], row["names"], row["group"], row["said"]) for row in found["calls"]], [
+            (0, ["read", "too"], "files", M), (1, ["write"], "files", M), (39, ["getpid"], "processes", M),
+            (41, ["socket"], "network", D), (231, ["exit_group"], "processes", M)])
+        self.assertEqual(found["calls"][0]["answer"], {"action": "ALLOW", "data": 0})
+        for said, shown in found["calls"][3]["shown"].items():
+            call = Call(SOCKET, X86_64, int(shown["pointer"], 16), tuple(int(it, 16) for it in shown["arguments"]))
+            self.assertEqual(fate_by_hand(filters, call), said)
+            self.assertEqual(answers.Answer.read(StandIn().decide(filters, call)).as_json(),
+                             {key: shown["answer"][key] for key in ("action", "data")})
+        self.assertEqual(found["unnamed"], {"count": OTHERS, "let_through": OTHERS, "untold": 0, "are_made": True,
+                                            "shown": {"number": 2, "answer": {"action": "ALLOW", "data": 0}}})
+        self.assertEqual([(one["kind"], one["let_through"]) for one in found["foreign"]],
+                         [(kind, []) for kind in ("i386", "x32", "other architectures'")])
+
+    def test_statuses(self):
+        good = filter_of([READ])
+        bad = self.file("bad\x1b[2J.bpf", jeq(0, 9, 0) + ret(ALLOW))
+        status, lines = self.said([good], bad)
+        self.assertEqual((status, lines[0]), (1, "fault filter Jump at 0"))
+        self.assertTrue(all(line.startswith("# ") and line.isprintable() for line in lines[1:]), lines)
+        self.assertTrue(lines[-1].startswith("# the filter is ") and lines[-1].endswith("bad\\x1b[2J.bpf"), lines)
+        status, lines = self.said([good], "--beside", bad)
+        self.assertEqual((status, lines[0]), (1, "fault filter Jump at 0"))
+        status, lines = self.said([good], "--json", "--beside", bad)
+        self.assertEqual((status, json.loads(lines[0])["fault"]["kind"]), (1, "Jump"))
+        self.assertEqual(self.said([b"\6\0"])[0], 3)
+        self.assertEqual(self.said([good], "--table", self.file("t", b"read\n"))[1][0], "fault table Form line 1")
+        self.assertEqual(self.said([good], "--limit", "x"), (2, ["fault number limit", *self.said([good], "--limit",
+                                                                                                   "x")[1][1:]]))
+        status, lines = self.said([good], "--limit", "0")
+        self.assertEqual((status, lines[0]), (4, "made 0, depends 0, refused 0, unfinished 5"))
+        status, lines = self.said([BY_SQUARE])
+        self.assertEqual((status, lines[0]), (4, "made 4, depends 0, refused 0, undecided 1"))
+        self.assertEqual(self.run_tool("surface", "none"), (2, "", "surface: there is no file 'none'\n"))
+        status, _, err = self.closed_output("surface", self.file("f", good))
+        self.assertEqual((status, err.split("\n")[0]), (3, "surface: the output failed: No space left on device"))
+
+    def test_inputs_without_an_end(self):
+        for words, status, says in ((("/dev/zero",), 3, "fault filter TooLong"),
+                                    (("--table=/dev/zero", "f"), 2, "has more than 4194304 bytes"),
+                                    ((self.file("f", ret(ALLOW)), "--beside", "/dev/zero"), 3, "fault filter TooLong")):
+            found, out, err = self.run_tool("surface", *words)
+            self.assertEqual(found, status, words)
+            self.assertIn(says, out + err)
+
+    def test_what_is_not_understood_ends_it(self):
+        """Of a call without a line the relation is taken to hold: so each line must be understood, and the status."""
+        for printed, status in (("more\\n0 read more\\n1 wri-te more", 1), ("no more", 1), ("more", 0), ("", 0),
+                                ("more\\nwhat", 1), ("undecided at 1", 0)):
+            tree = self.made_tree(f"#!/bin/sh\ncat >/dev/null\nprintf '{printed}\\n'\nexit {status}\n")
+            done = self.run_words([os.path.join(tree, "tools", "surface"), self.file("f", ret(ALLOW))])
+            self.assertEqual(done, (3, "", f"surface: scf ended with status {status} and lines that aren't "
+                                           "understood\n"), printed)
+
+    def test_standard_input(self):
+        expected = self.said([filter_of([READ])])
+        status, out, _ = self.run_tool("surface", "--table", self.table, "-", given=filter_of([READ]))
+        self.assertEqual((status, out.split("\n")[:-1]), expected)
+
+    def test_how_often_scf_is_run(self):
+        """Few runs: the time of a surface is a small multiple of one comparison's."""
+        counted = os.path.join(self.folder, "counted")
+        tree = self.made_tree(f'#!/bin/sh\necho "$*" >>"{counted}"\nexec "{SCF}" "$@"\n')
+        self.run_words([os.path.join(tree, "tools", "surface"), self.file("f", filter_of(range(200)))])
+        with open(counted, encoding="utf-8") as file:
+            ran = file.read().split("\n")[:-1]
+        self.assertEqual(sum("--calls" in line for line in ran), 2)
+        self.assertLessEqual(len(ran), 6)
+
+
+class Terminal(Case):
+    """What a terminal shows: a table as wide as it is."""
+
+    def shown(self, columns, *words):
+        ours, theirs = pty.openpty()
+        fcntl.ioctl(theirs, termios.TIOCSWINSZ, struct.pack("HHHH", 24, columns, 0, 0))
+        child = subprocess.Popen([tool("surface"), *words], stdout=theirs, stdin=subprocess.DEVNULL)
+        os.close(theirs)
+        found = b""
+        while True:
+            try:
+                piece = os.read(ours, 1 << 16)
+            except OSError:
+                break
+            if not piece:
+                break
+            found += piece
+        os.close(ours)
+        return child.wait(), found.decode().replace("\r\n", "\n").split("\n")[:-1]
+
+    def test_widths(self):
+        name = self.file("f.bpf", of_number(SOCKET, by_argument(40, EPERM, ALLOW), EPERM))
+        own = tables.read(None)
+        for columns in (12, 30, 44, 60, 100, 250):
+            with self.subTest(columns):
+                status, lines = self.shown(columns, name)
+                self.assertEqual(status, 0)
+                for line in lines:
+                    self.assertTrue(len(line) <= columns or len(line.split()) == 1 or columns < 30, line)
+                words = re.findall(r"[a-z_0-9]+", "\n".join(lines))
+                for number in own.numbers():
+                    for call in own.names_of(number):
+                        self.assertIn(call, words)
+                self.assertTrue(any("made args" in line for line in lines) or columns < 30)
+        self.assertGreater(max(map(len, self.shown(250, name)[1])), 200)
+
+    def test_no_width_is_told(self):
+        lines = self.shown(0, self.file("f.bpf", filter_of([READ])))[1]
+        self.assertLessEqual(max(map(len, lines)), 80)
+        self.assertRegex(lines[3], r"\Afiles +made +read\Z")
+
+    def test_beside(self):
+        one, other = self.file("f.bpf", filter_of([READ])), self.file("g.bpf", filter_of([READ, WRITE]))
+        for columns in (16, 40, 100):
+            status, lines = self.shown(columns, one, "--beside", other)
+            self.assertEqual(status, 1)
+            self.assertTrue(columns < 20 or max(map(len, lines)) <= columns, lines)
+            told = " ".join(" ".join(lines).split())
+            self.assertTrue(told.endswith("calls of which the same isn't said: 1 files write (1) refused ERRNO 1 "
+                                          "beside: made ALLOW"), told)
+
+    def test_wrapped(self):
+        self.assertEqual(showing.wrapped(["aa", "b", "cccc", "d"], 4), ["aa b", "cccc", "d"])
+        self.assertEqual(showing.wrapped([], 4), [])
+
+
+class Beside(Case):
+    """Two surfaces beside each other."""
+
+    def pairs(self, one, other):
+        found = beside.of_surfaces(known(one), known(other))
+        return found.status, [(pair.number, pair.one.said, pair.other.said) for pair in found.pairs], found
+
+    def test_each_two(self):
+        """The calls of which people expect the same aren't told, and all others are."""
+        for one, other in itertools.combinations(KNOWN, 2):
+            with self.subTest(one=one, other=other):
+                status, told, found = self.pairs(one, other)
+                expected = [row for row in zip(NUMBERS, KNOWN[one][1], KNOWN[other][1]) if row[1] != row[2]]
+                self.assertEqual([row for row in told if row[1] != row[2]], expected)
+                both = [number for number, *said in zip(NUMBERS, KNOWN[one][1], KNOWN[other][1]) if said == [D, D]]
+                self.assertEqual(sorted([row[0] for row in told if row[1] == row[2]]
+                                        + [pair.number for pair in found.alike]), both)
+                if told:
+                    self.assertEqual(status, 1)
+
+    def test_calls_that_depend_by_both(self):
+        """Where a call that one shows fares otherwise by the other, it is told; else it is said that it isn't known."""
+        for other, value, is_otherwise in (("fares otherwise", 41, True), ("fares alike", 40, False)):
+            more = jeq(0x77, 0, 0) if not is_otherwise else b""
+            filters = [gate(more) + jeq(SOCKET, 0, 6) + by_argument(value, EPERM, ALLOW) + ret(EPERM)]
+            found = beside.of_surfaces(known("by an argument"), of(filters))
+            self.assertEqual([pair.number for pair in found.pairs], [SOCKET] * is_otherwise, other)
+            self.assertEqual([pair.number for pair in found.alike], [SOCKET] * (not is_otherwise), other)
+            self.assertEqual(found.status, 1 if is_otherwise else 4)
+
+    def test_the_same_filters(self):
+        for name in ("by an argument", "a stack"):
+            status, told, found = self.pairs(name, name)
+            self.assertEqual((status, told, found.alike), (0, [], ()))
+        found = beside.of_surfaces(of([SQUARE]), of([SQUARE]))
+        self.assertEqual((found.status, found.pairs), (0, ()))
+
+    def test_what_could_not_be_told(self):
+        found = beside.of_surfaces(of([BY_SQUARE]), of([ret(ALLOW)]))
+        self.assertEqual([(pair.number, pair.one.said, pair.other.said) for pair in found.pairs],
+                         [(SOCKET, "undecided", M)])
+        found = beside.of_surfaces(of([gate(ret(ALLOW))], "0"), of([gate(ret(EPERM))], "0"))
+        self.assertEqual((found.status, [pair.number for pair in found.pairs]), (4, NUMBERS))
+
+    def test_foreign_calls_and_numbers_without_a_name(self):
+        inner = jeq(READ, 0, 1) + ret(ALLOW) + ret(EPERM)
+        found = beside.of_surfaces(of([gate(inner)]), of([gate(inner, ALLOW)]))
+        self.assertEqual((found.status, found.pairs, found.foreign_differ, found.unnamed_differ), (1, (), True, False))
+        found = beside.of_surfaces(of([filter_of([READ])]), of([filter_of([READ, 400])]))
+        self.assertEqual((found.status, found.pairs, found.foreign_differ, found.unnamed_differ), (1, (), False, True))
+
+    def test_lines_and_json(self):
+        one, other = self.file("1.bpf", filter_of([READ, 400])), self.file("2.bpf", filter_of([WRITE]))
+        words = ("--table", self.file("t", OWN), one, "--beside", other)
+        self.assertEqual(self.run_tool("surface", *words), (1, (
+            "made 1, depends 0, refused 4\nbeside: made 1, depends 0, refused 4\n"
+            "no call of another architecture and no x32 call is let through\n"
+            f"numbers without a name: calls of 1 of {OTHERS} are let through, as 400: ALLOW\n"
+            f"beside: numbers without a name: none of {OTHERS} is let through\n"
+            "calls of which the same isn't said: 2\n"
+            "files 0 read,too made ALLOW beside refused ERRNO 1\nfiles 1 write refused ERRNO 1 beside made ALLOW\n"),
+            ""))
+        found = json.loads(self.run_tool("surface", "--json", *words)[1])
+        self.assertEqual([(pair["one"]["number"], pair["one"]["said"], pair["other"]["said"])
+                          for pair in found["beside"]["differs"]], [(0, M, R), (1, R, M)])
+        self.assertEqual((found["status"], found["beside"]["unnamed_differ"], found["beside"]["alike"]), (1, True, []))
+
+
+class Process(Confined):
+    """--pid: the stacks of a process's threads."""
+
+    def surface(self, *words):
+        status, out, err = self.run_tool("surface", "--table", self.file("own.table", OWN), *words)
+        self.assertEqual(err, "")
+        return status, out.split("\n")[:-1]
+
+    @here
+    def test_one_stack(self):
+        refuses = of_number(0x0FFFFFFE, EPERM, ALLOW)
+        child = self.child([OLDEST, refuses])
+        status, lines = self.surface("--pid", str(child.pid))
+        self.assertEqual((status, lines[0]), (0, "made 5, depends 0, refused 0"))
+        self.assertEqual(lines[2], f"numbers without a name: calls of {OTHERS - 1} of {OTHERS} are let through, as 2: "
+                                   "ALLOW")
+        self.assertRegex(lines[-1], rf"\A# process {child.pid} \(.*\) has 2 filters, of 1, 9 instructions\Z")
+        found = json.loads(self.surface("--json", "--pid", str(child.pid))[1][0])
+        stack = found["stacks"][0]
+        self.assertEqual((found["status"], stack["counts"][M], stack["filters"]), (0, 5, [1, 9]))
+        self.assertEqual(stack["processes"][0]["threads"], child.threads)
+        self.runs_on(child)
+
+    @here
+    def test_threads_with_other_filters_and_without(self):
+        child = self.child([OLDEST], [OLDEST, NEWEST], [])
+        status, lines = self.surface("--pid", str(child.pid))
+        self.assertEqual(status, 1)
+        self.assertEqual(lines.count(""), 2)
+        self.assertRegex(lines[0], r"\A# thread [0-9]+ of process [0-9]+ \(.*\) has no filter: it isn't confined, and "
+                                   r"all calls are made\Z")
+        found = json.loads(self.surface("--json", "--pid", str(child.pid))[1][0])
+        self.assertEqual([stack["confined"] for stack in found["stacks"]], ["not", "by filters", "by filters"])
+        self.assertEqual([stack["status"] for stack in found["stacks"]], [1, 0, 0])
+
+    @here
+    def test_beside(self):
+        child = self.child([OLDEST])
+        status, lines = self.surface("--pid", str(child.pid), "--beside", self.file("f", OLDEST))
+        self.assertEqual((status, lines[-2]), (0, "calls of which the same isn't said: 0"))
+        status, lines = self.surface("--pid", str(child.pid), "--beside", self.file("f", filter_of([READ])))
+        self.assertEqual((status, lines[-6]), (1, "calls of which the same isn't said: 4"))
+
+    @here
+    def test_a_name_of_a_process_is_safe(self):
+        child = self.child([OLDEST])
+        self.do(child, "open('/proc/self/comm', 'w').write('\\x1b[2J\\n# made'); print('here', flush=True)")
+        self.assertEqual(child.stdout.readline(), "here\n")
+        lines = self.surface("--pid", str(child.pid))[1]
+        self.assertTrue(all(line.isprintable() for line in lines), lines)
+        self.assertIn("(\\x1b[2J\\x0a# made)", lines[-1])
+
+    def test_strict_mode_and_no_filter(self):
+        """Without a filter there is nothing to compare; the threads are told."""
+        asked = surfacing.Asked(tables.Table(OWN), None, [])
+        for is_strict, status, says in ((True, 4, "has no filter, but the strict mode of seccomp(2)"),
+                                        (False, 1, "has no filter: it isn't confined, and all calls are made")):
+            found = processes.Found([processes.Stack((), is_strict, {7: [7]})], {7: b"x"}, {})
+            blocks = surfacing.of_process(found, asked)
+            self.assertEqual((surfacing.worst(blocks), list(surfacing.lines(blocks, found, None))),
+                             (status, [f"# process 7 (x) {says}"]))
+            told = surfacing.as_json(blocks, found)["stacks"][0]
+            self.assertEqual((told["confined"], "counts" in told), ("strict" if is_strict else "not", False))
+
+    @here
+    def test_a_fault_of_the_table_is_said_once(self):
+        child = self.child([OLDEST], [OLDEST, NEWEST])
+        status, out, _ = self.run_tool("surface", "--table", self.file("t", b"read\n"), "--pid", str(child.pid))
+        self.assertEqual((status, out.count("fault table Form line 1\n"), out.count("# process")), (1, 1, 0))
+
+    def test_no_process(self):
+        status, out, err = self.run_tool("surface", "--pid", str(2**31 - 1))
+        self.assertEqual((status, out), (3, ""))
+        self.assertIn("surface: ", err)
+
+
+class Groups(unittest.TestCase):
+    """tables/calls.groups."""
+
+    def test_each_name_of_the_table_once_and_no_other(self):
+        with open(groups.FILE, encoding="ascii") as file:
+            lines = [line.split() for line in file if line.strip() and not line.startswith("#")]
+        names = [name for line in lines for name in line[1:]]
+        self.assertEqual(sorted(names), sorted(tables.Table(contents(TABLE)).names()))
+        self.assertEqual(len(set(names)), len(names))
+        self.assertEqual(groups.Groups().order, [*dict.fromkeys(line[0] for line in lines), "other"])
+        self.assertTrue(all(len(" ".join(line)) <= 120 for line in lines))
+
+    @unittest.skipUnless(shutil.which("systemd-analyze"), "there is no systemd-analyze here")
+    def test_the_sets_are_systemds(self):
+        """What stands behind a set's name is of this set; systemd's later versions only add to one."""
+        printed = subprocess.run(["systemd-analyze", "syscall-filter"], stdout=subprocess.PIPE,
+                                 stderr=subprocess.DEVNULL, check=False).stdout.decode()
+        sets = {name: set(rest.split()) for name, rest in re.findall(r"(?m)^(@\S+)\n((?:    .*\n)*)", printed)}
+        self.assertGreater(len(sets), 20)
+        now, looked_at = None, 0
+        with open(groups.FILE, encoding="ascii") as file:
+            for line in file:
+                if line.startswith("#"):
+                    now = line.split()[-1] if line.startswith("# @") else None
+                elif now:
+                    self.assertLessEqual(set(line.split()[1:]), sets[now], now)
+                    looked_at += 1
+        self.assertGreater(looked_at, 20)
+
+
+def contents(name):
+    with open(name, "rb") as file:
+        return file.read()
