@@ -37,6 +37,8 @@ packages is imported. So it adds its own folder to the path of imports, by its r
     verifying   the filters of processes beside a profile, each distinct stack by itself
     hooks       hooks of container runtimes: whether a container's process is confined as configured
     units       the profile that a unit of systemd states by its settings of system calls
+    changes     two profiles beside each other, call by call
+    change_lines  how changes from one profile to another are told
 
 And those of `tools/kernel`:
 

@@ -405,7 +405,8 @@ class Manual(Case):
         """Each is run, but for those of a container's process."""
         for name in os.listdir(os.path.join(TOP, "tools")):
             os.symlink(os.path.join(TOP, "tools", name), os.path.join(self.folder, f"scf-{name}"))
-        self.file("profile.json", profile_of("read", "openat"))
+        for name, allowed in (("profile", ["read", "openat"]), ("old", ["read", "openat"]), ("new", ["read"])):
+            self.file(f"{name}.json", profile_of(*allowed))
         env = {**os.environ, "PATH": f"{self.folder}:{os.environ['PATH']}"}
         ran = 0
         for block in self.examples():

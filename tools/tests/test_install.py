@@ -8,8 +8,8 @@ import unittest
 
 from common import TOP, Case, filter_of, profile_of, tool
 
-TOOLS = ("ask", "bundle", "call-table", "check", "compare", "compile", "decide", "explain", "filters-of", "list",
-         "oci-hook", "plain-profile", "run", "surface", "unit-profile", "verify-process")
+TOOLS = ("ask", "bundle", "call-table", "check", "compare", "compare-profiles", "compile", "decide", "explain",
+         "filters-of", "list", "oci-hook", "plain-profile", "run", "surface", "unit-profile", "verify-process")
 MODULES = sorted(name for name in os.listdir(os.path.join(TOP, "tools", "scftools")) if name.endswith(".py"))
 LIST = "lib/scf/installed"
 as_root = unittest.skipUnless(os.geteuid() == 0, "only root can give a folder to another user")

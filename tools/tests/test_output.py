@@ -166,6 +166,7 @@ class Failing(Case):
                 ("decide", self.same), ("run", self.same), ("check", self.same), ("list", self.same),
                 ("compile", self.profile), ("bundle", "profile", self.profile), ("explain", "--help"),
                 ("surface", self.same), ("surface", "--json", self.same),
+                ("compare-profiles", self.profile, self.profile),
                 ("compare", "--version"))
 
     def test_a_reader_that_goes_away(self):

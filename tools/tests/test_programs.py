@@ -13,7 +13,7 @@ sys.path.append(os.path.join(TOP, "tools"))
 
 from scftools import tables  # noqa: E402
 
-TOOLS = ("ask", "bundle", "check", "compare", "compile", "decide", "explain", "list", "run",
+TOOLS = ("ask", "bundle", "check", "compare", "compare-profiles", "compile", "decide", "explain", "list", "run",
          "surface")
 NATIVE = load(4) + jeq(X86_64, 1, 0) + ret(KILL_PROCESS) + load(0) + jge(0x40000000, 0, 1) + ret(KILL_PROCESS)
 # A is the number times the number, which isn't followed where the number isn't known.
@@ -373,7 +373,7 @@ class Programs(Case):
             os.symlink(tool(name), link)
             self.assertIn(f"usage: scf-{name} ", self.run_words([link, "--help"])[1])
             words = ("filter", "none") if name == "bundle" else \
-                ("none", "none") if name == "compare" else ("--table", "none", "check") if name == "explain" else \
+                ("none", "none") if name.startswith("compare") else ("--table", "none", "check") if name == "explain" else \
                 ("none",)
             status, out, err = self.run_words([link, *words])
             self.assertEqual((status, out), (2, ""))

@@ -1,0 +1,107 @@
+"""How changes from one profile to another are told, in lines and as JSON."""
+from __future__ import annotations
+
+from collections.abc import Iterator
+
+from . import reasons
+from .changes import KINDS, NEW, OLD, OTHERWISE, Change, Changes
+from .reasons import Reason
+from .tables import Table
+from .verdicts import LESS, MORE, UNDECIDED, UNFINISHED
+
+# What stands above the calls of a kind, before their count.
+HEADINGS = {MORE: "what the new profile lets through further than the old one",
+            LESS: "what the new profile lets through less far than the old one",
+            OTHERWISE: "what is answered otherwise, and let through as far as before",
+            UNDECIDED: "calls of which it couldn't be told whether they are let through as far",
+            UNFINISHED: "calls of which it couldn't be told within the limit whether they are let through as far"}
+# So many names are told one by one.
+TOLD = 20
+
+
+def _by(reason: Reason) -> str:
+    return "foreign" if reason.is_foreign else "default" if reason.entry is None else f"entry {reason.entry}"
+
+
+def line_of(change: Change) -> str:
+    """A number, its names and what changes; a call of it, and what both profiles answer to it, and by what."""
+    words = [str(change.number), *([",".join(change.names)] if change.names else []), change.kind]
+    if change.call is not None:
+        words += ["args", *map(hex, change.call.arguments)]
+        words += [f"{side} {reason.answer} {_by(reason)}" for side, reason in change.reasons.items()]
+    return " ".join(words)
+
+
+def _conditions(changes: Changes, change: Change) -> Iterator[str]:
+    """The conditions by which the entries of both profiles answer the call."""
+    for side, reason in change.reasons.items():
+        for line in list(reasons.told(reason, changes.profiles[side], change.call))[1:]:
+            yield f"{side}: {line}"
+
+
+def _entries(changes: Changes) -> Iterator[str]:
+    """The entries that were named, each once, and the defaults."""
+    for side in (OLD, NEW):
+        found = {change.reasons[side].entry: change.reasons[side] for change in (*changes.calls, changes.unnamed)
+                 if change is not None and change.reasons}
+        for place in sorted((it for it in found if it is not None)):
+            told = next(iter(reasons.told(found[place], changes.profiles[side], None)), "")
+            yield f"{side}: {told.partition(' ')[2]}"
+        if None in found:
+            answer = found[None].answer
+            yield f"{side}: default: {answer.told() if answer else ''}"
+
+
+def _apart(what: str, of_sides: dict[str, tuple[str, ...]]) -> Iterator[str]:
+    """What is left out of both profiles, and what of one alone."""
+    counts = {side: len(set(names)) for side, names in of_sides.items()}
+    if not any(counts.values()):
+        return
+    yield f"{what}: {counts[OLD]} in the old profile, {counts[NEW]} in the new one"
+    for side, other in ((OLD, NEW), (NEW, OLD)):
+        names = [name for name in dict.fromkeys(of_sides[side]) if name not in of_sides[other]]
+        more = f" and {len(names) - TOLD} more" if len(names) > TOLD else ""
+        if names:
+            yield f"of these only in the {side} one: {', '.join(names[:TOLD])}{more}"
+
+
+def lines(changes: Changes) -> Iterator[str]:
+    """The verdict, the counts, and then the changes; what is added is marked by `# `."""
+    yield changes.verdict
+    yield ", ".join(f"{kind} {count}" for kind, count in changes.counts.items()
+                    if count or kind not in (UNDECIDED, UNFINISHED))
+    for kind in KINDS:
+        those = [change for change in changes.calls if change.kind == kind]
+        if those:
+            yield f"# {HEADINGS[kind]}: {len(those)}"
+        for change in those:
+            yield line_of(change)
+            yield from (f"# {line}" for line in _conditions(changes, change))
+    if changes.unnamed is not None and changes.unnamed.call is not None:
+        yield "# numbers that the table doesn't name are answered by the defaults; one of them:"
+        yield line_of(changes.unnamed)
+    elif changes.unnamed is not None:
+        yield f"# whether numbers that the table doesn't name are answered alike: {changes.unnamed.kind}"
+    yield from (f"# {line}" for line in _entries(changes))
+    yield from (f"# {line}" for line in _apart("names that were skipped, since the table doesn't name such calls",
+                                               changes.skipped))
+    yield from (f"# {line}" for line in _apart("other architectures, which aren't looked at", changes.architectures))
+
+
+def _change_json(changes: Changes, change: Change, table: Table) -> dict[str, object]:
+    found: dict[str, object] = {"number": change.number, "names": list(change.names), "change": change.kind}
+    if change.call is not None:
+        found["call"] = change.call.as_json(table)
+    for side, reason in change.reasons.items():
+        answer = {"answer": {**reason.answer.as_json(), "does": reason.answer.does()}} if reason.answer else {}
+        found[side] = {**answer, **reasons.as_json(reason, changes.profiles[side], change.call)}
+    return found
+
+
+def as_json(changes: Changes, table: Table) -> dict[str, object]:
+    """All that `lines` says, as one object."""
+    return {"status": changes.status, "relation": changes.relation, "verdict": changes.verdict,
+            "counts": changes.counts, "changes": [_change_json(changes, change, table) for change in changes.calls],
+            "unnamed": None if changes.unnamed is None else _change_json(changes, changes.unnamed, table),
+            "skipped": {side: list(names) for side, names in changes.skipped.items()},
+            "other": {side: list(names) for side, names in changes.architectures.items()}}

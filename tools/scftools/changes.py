@@ -1,0 +1,174 @@
+"""Changes: two profiles beside each other, call by call, by verdicts of scf on the filter of one and the other."""
+from __future__ import annotations
+
+from collections.abc import Iterator, Sequence
+from dataclasses import dataclass, field, replace
+
+from . import bundles, program, reasons, unnamed
+from .answers import FATES, Answer
+from .calls import Call
+from .comparing import CALLS, NATIVE, Comparison
+from .filters import Filter
+from .questions import checked
+from .reasons import Reason
+from .tables import Table
+from .verdicts import (DIFFERS, LESS, MORE, NO_LESS, NO_MORE, SAME, UNDECIDED, UNFINISHED, Fault, NamedCall, Report,
+                       Verdict)
+
+OLD, NEW = "old", "new"
+# By the new profile more of a call is let through, less, or as much by another answer; or scf couldn't tell.
+OTHERWISE = "otherwise"
+KINDS = (MORE, LESS, OTHERWISE, UNDECIDED, UNFINISHED)
+# The word of each relation where it doesn't hold.
+FAILED = {SAME: DIFFERS, NO_MORE: MORE, NO_LESS: LESS}
+
+
+class Faulty(Exception):
+    """scf refuses a profile or the table: its status, the fault, and the side that it is of."""
+
+    def __init__(self, status: int, fault: Fault, word: str, data: bytes):
+        super().__init__(status)
+        self.status, self.fault, self.word, self.data = status, fault, word, data
+
+
+@dataclass(frozen=True)
+class Side:
+    """A profile, whether it is the old or the new one, and its filter."""
+
+    word: str
+    data: bytes
+    filter: Filter
+
+
+def side_of(word: str, data: bytes, table: Table) -> Side:
+    done = program.scf(["compile"], bundles.of_compilation(data, table.data))
+    fault = None if done.status == program.WELL else Fault.read(done.text.split("\n", 1)[0])
+    if fault is not None:
+        raise Faulty(done.status, fault, word, data)
+    return Side(word, data, Filter(word, done.out))
+
+
+@dataclass(frozen=True)
+class Given:
+    """Both profiles, the table, and the most steps, as a text, where they aren't scf's."""
+
+    old: Side
+    new: Side
+    table: Table
+    limit: str | None
+
+    def compared(self, one: Side, other: Side, scope: str, relation: str) -> Report:
+        """What scf says of the filter of one side beside the profile of the other."""
+        status, report = Comparison([one.filter], other.data, self.table, self.limit, relation).run(scope)
+        if report.fault is not None:
+            raise Faulty(status, report.fault, other.word, other.data)
+        return checked(status, report, scope)
+
+    def asked(self, call: Call) -> dict[str, Reason]:
+        """What each profile answers to a call, and why."""
+        return {side.word: reasons.of(side.data, self.table, call.words()) for side in (self.old, self.new)}
+
+
+@dataclass
+class Change:
+    """A number whose calls aren't all answered alike, of what kind that is, and one with both answers, if it is shown.
+
+    Where the two profiles couldn't be held beside each other, the kind is the word of scf.
+    """
+
+    number: int
+    names: tuple[str, ...]
+    kind: str
+    call: Call | None = None
+    reasons: dict[str, Reason] = field(default_factory=dict)
+
+
+@dataclass(frozen=True)
+class Changes:
+    """What changes from the old profile to the new one."""
+
+    relation: str
+    # what is said of all native calls
+    whole: Verdict
+    calls: Sequence[Change]
+    # the least number without a name, where the defaults differ, which answer all such numbers
+    unnamed: Change | None
+    # of each side
+    profiles: dict[str, bytes]
+    skipped: dict[str, tuple[str, ...]]
+    architectures: dict[str, tuple[str, ...]]
+
+    @property
+    def fails(self) -> bool:
+        """Whether some call shows that the relation doesn't hold."""
+        changes = [*self.calls, *([self.unnamed] if self.unnamed is not None else [])]
+        shown = [change.kind for change in changes if change.call is not None]
+        return self.whole.fails or (bool(shown) if self.relation == SAME else FAILED[self.relation] in shown)
+
+    @property
+    def verdict(self) -> str:
+        return FAILED[self.relation] if self.fails else self.whole.word
+
+    @property
+    def status(self) -> int:
+        return program.REFUSED if self.fails else program.WELL if self.whole.holds else program.UNKNOWN
+
+    @property
+    def counts(self) -> dict[str, int]:
+        kinds = [change.kind for change in self.calls]
+        return {kind: kinds.count(kind) for kind in KINDS}
+
+
+def _kinds(same: NamedCall | None, more: NamedCall | None, less: NamedCall | None) -> Iterator[tuple[str, NamedCall]]:
+    """What is to be said of a number's calls, each with the line of scf that shows a call, or that couldn't tell."""
+    found = [(kind, line) for kind, line in ((MORE, more), (LESS, less)) if line is not None and line.verdict.fails]
+    untold = [line for line in (more, less) if line is not None and not line.verdict.fails]
+    yield from found
+    if untold:
+        yield untold[0].verdict.word, same if same is not None and same.verdict.fails and not found else untold[0]
+    elif same is not None and not found:
+        yield OTHERWISE if same.verdict.fails else same.verdict.word, same
+
+
+def _of_calls(given: Given) -> list[Change]:
+    """The calls that aren't answered alike, those of which more is let through first, then less."""
+    lists = [{line.number: line for line in given.compared(one, other, CALLS, relation).calls}
+             for one, other, relation in ((given.old, given.new, SAME), (given.new, given.old, NO_MORE),
+                                          (given.old, given.new, NO_MORE))]
+    found = []
+    for number in sorted({number for lines in lists for number in lines}):
+        for kind, line in _kinds(*(lines.get(number) for lines in lists)):
+            call = line.verdict.call
+            found.append(Change(number, line.names, kind, call, given.asked(call) if call else {}))
+    return sorted(found, key=lambda it: KINDS.index(it.kind))
+
+
+def _kind_of(before: Answer | None, after: Answer | None) -> str:
+    """The kind of a change from one answer to another."""
+    one, other = (FATES.index(answer.fate) if answer else 0 for answer in (before, after))
+    return MORE if one < other else LESS if one > other else OTHERWISE
+
+
+def _of_unnamed(given: Given) -> Change | None:
+    """Whether the defaults differ, by a table that names nothing, so that both profiles have nothing else."""
+    number = next((first for first, _ in unnamed.gaps(given.table)), None)
+    nothing = Table(b"")
+    alone = replace(given, old=side_of(OLD, given.old.data, nothing), table=nothing)
+    verdict = alone.compared(alone.old, alone.new, NATIVE, SAME).verdict
+    if number is None or verdict is None or verdict.holds:
+        return None
+    if not verdict.fails:
+        return Change(number, (), verdict.word)
+    asked = given.asked(Call(number))
+    return Change(number, (), _kind_of(asked[OLD].answer, asked[NEW].answer), Call(number), asked)
+
+
+def of_profiles(old: bytes, new: bytes, table: Table, limit: str | None, relation: str) -> Changes:
+    """What changes from one profile to another."""
+    given = Given(side_of(OLD, old, table), side_of(NEW, new, table), table, limit)
+    beside_new = given.compared(given.old, given.new, NATIVE, SAME)
+    beside_old = given.compared(given.new, given.old, NATIVE, relation)
+    assert beside_old.verdict is not None
+    return Changes(relation, beside_old.verdict, _of_calls(given), _of_unnamed(given), {OLD: old, NEW: new},
+                   {OLD: beside_old.skipped, NEW: beside_new.skipped},
+                   {OLD: beside_old.architectures, NEW: beside_new.architectures})

@@ -1,0 +1,348 @@
+"""tools/compare-profiles: the calls that a new profile answers otherwise, held against a small reading of the JSON."""
+import json
+import os
+import random
+import sys
+import unittest
+
+from common import TABLE, TOP, Case
+from test_why import reading
+
+sys.path.append(os.path.join(TOP, "tools"))
+
+from scftools import changes, kernel_profiles, tables  # noqa: E402
+from scftools.calls import Call  # noqa: E402
+from scftools.kernel_profiles import answer_of  # noqa: E402
+
+ALLOW, ERRNO = "SCMP_ACT_ALLOW", "SCMP_ACT_ERRNO"
+NOT_40 = [{"index": 0, "value": 40, "op": "SCMP_CMP_NE"}]
+IS_41 = [{"index": 0, "value": 41, "op": "SCMP_CMP_EQ"}]
+NO_ARGUMENTS = "args 0x0 0x0 0x0 0x0 0x0 0x0"
+MORE, LESS, OTHERWISE = "more", "less", "otherwise"
+
+
+def profile(*entries, default=ERRNO, **members):
+    """A profile of entries, each names, an action and more."""
+    return json.dumps({"defaultAction": default, **members, "syscalls": [
+        {"names": names.split(), "action": f"SCMP_ACT_{action}", **more} for names, action, more in entries]})
+
+
+READ_WRITE = profile(("read write", "ALLOW", {}))
+
+
+def degree(answer):
+    return ("refused", "referred to a supervisor or tracer", "made").index(answer.fate)
+
+
+class Program(Case):
+    def compared(self, old, new, *words, given=b""):
+        """The status and the lines, of two texts."""
+        status, out, err = self.run_tool("compare-profiles", *words, self.file("old.json", old),
+                                         self.file("new.json", new), given=given)
+        self.assertEqual(err, "")
+        return status, out.split("\n")[:-1]
+
+    def test_usage(self):
+        self.says_usage("compare-profiles", "one")
+        for words in (("--no-more", "--no-less", "a", "b"), ("-", "-"), ("--caps", "NO_SUCH", "a", "b"),
+                      ("--kernel", "six", "a", "b"), ("--arch", "arm", "a", "b"), ("--table=-", "-", "b")):
+            status, out, err = self.run_tool("compare-profiles", *words)
+            self.assertEqual((status, out), (2, ""), words)
+            self.assertIn("compare-profiles: ", err)
+
+    def test_the_same(self):
+        """By other entries, and in another order."""
+        for new in (READ_WRITE, profile(("write", "ALLOW", {}), ("read", "ALLOW", {})),
+                    profile(("read write", "ALLOW", {}), ("mount", "ERRNO", {"errnoRet": 1}))):
+            self.assertEqual(self.compared(READ_WRITE, new), (0, ["same", "more 0, less 0, otherwise 0"]))
+
+    def test_more_less_and_otherwise(self):
+        """What is let through further comes first; each line has both answers and what gives them."""
+        new = profile(("read", "LOG", {}), ("mount", "ALLOW", {}), ("open", "ERRNO", {"errnoRet": 38}))
+        self.assertEqual(self.compared(READ_WRITE, new), (1, [
+            "differs", "more 1, less 1, otherwise 2",
+            "# what the new profile lets through further than the old one: 1",
+            f"165 mount more {NO_ARGUMENTS} old ERRNO 1 default new ALLOW entry 1",
+            "# what the new profile lets through less far than the old one: 1",
+            f"1 write less {NO_ARGUMENTS} old ALLOW entry 0 new ERRNO 1 default",
+            "# what is answered otherwise, and let through as far as before: 2",
+            f"0 read otherwise {NO_ARGUMENTS} old ALLOW entry 0 new LOG entry 0",
+            f"2 open otherwise {NO_ARGUMENTS} old ERRNO 1 default new ERRNO 38 entry 2",
+            '# old: entry 0 of syscalls: {"names": ["read", "write"], "action": "SCMP_ACT_ALLOW"}',
+            "# old: default: ERRNO 1: the call isn't made, and fails with EPERM",
+            '# new: entry 0 of syscalls: {"names": ["read"], "action": "SCMP_ACT_LOG"}',
+            '# new: entry 1 of syscalls: {"names": ["mount"], "action": "SCMP_ACT_ALLOW"}',
+            '# new: entry 2 of syscalls: {"names": ["open"], "action": "SCMP_ACT_ERRNO", "errnoRet": 38}',
+            "# new: default: ERRNO 1: the call isn't made, and fails with EPERM"]))
+
+    def test_a_call_of_which_more_and_less_is_let_through(self):
+        old, new = (profile(("socket", "ALLOW", {"args": it})) for it in (NOT_40, IS_41))
+        status, lines = self.compared(profile(("socket", "ALLOW", {"args": [{**IS_41[0], "value": 40}]})),
+                                      profile(("socket", "ALLOW", {"args": NOT_40})))
+        self.assertEqual((status, lines[1]), (1, "more 1, less 1, otherwise 0"))
+        self.assertTrue(lines[3].startswith("41 socket more args 0x"), lines)
+        self.assertTrue(lines[3].endswith(" old ERRNO 1 default new ALLOW entry 0"), lines)
+        self.assertRegex(lines[4], r"\A# new: argument 0 is [0-9]+ \(0x[0-9a-f]+\): SCMP_CMP_NE 40 \(0x28\) holds\Z")
+        self.assertIn("41 socket less args 0x28 0x0 0x0 0x0 0x0 0x0 old ALLOW entry 0 new ERRNO 1 default", lines)
+        self.assertIn("# old: argument 0 is 40 (0x28): SCMP_CMP_EQ 40 (0x28) holds", lines)
+        self.assertEqual(self.compared(old, new)[1][1], "more 0, less 1, otherwise 0")
+        self.assertEqual(self.compared(new, old)[1][1], "more 1, less 0, otherwise 0")
+
+    def test_relations(self):
+        for new, no_more, no_less in ((profile(("read", "ALLOW", {})), 0, 1),
+                                      (profile(("read write mount", "ALLOW", {})), 1, 0),
+                                      (profile(("read mount", "ALLOW", {})), 1, 1),
+                                      (profile(("read write", "LOG", {})), 0, 0),
+                                      (profile(("read write", "ALLOW", {}), default="SCMP_ACT_TRACE"), 1, 0)):
+            for flag, status in (("--no-more", no_more), ("--no-less", no_less)):
+                found, lines = self.compared(READ_WRITE, new, flag)
+                held, fails = ("no more", "more") if flag == "--no-more" else ("no less", "less")
+                self.assertEqual((found, lines[0]), (status, fails if status else held), (new, flag))
+            self.assertEqual(self.compared(READ_WRITE, new)[0], 1)
+
+    def test_numbers_without_a_name(self):
+        status, lines = self.compared(READ_WRITE, profile(("read write", "ALLOW", {}), defaultErrnoRet=38), "--table",
+                                      self.file("t", b"read 0\nwrite 1\n"))
+        self.assertEqual((status, lines), (1, [
+            "differs", "more 0, less 0, otherwise 0",
+            "# numbers that the table doesn't name are answered by the defaults; one of them:",
+            f"2 otherwise {NO_ARGUMENTS} old ERRNO 1 default new ERRNO 38 default",
+            "# old: default: ERRNO 1: the call isn't made, and fails with EPERM",
+            "# new: default: ERRNO 38: the call isn't made, and fails with ENOSYS"]))
+        for default, kind in (("SCMP_ACT_ALLOW", MORE), ("SCMP_ACT_TRACE", MORE), ("SCMP_ACT_KILL", OTHERWISE)):
+            status, lines = self.compared(READ_WRITE, profile(("read write", "ALLOW", {}), default=default), "--table",
+                                          self.file("t", b"read 0\nwrite 1\n"), "--json")
+            self.assertEqual(json.loads(lines[0])["unnamed"]["change"], kind)
+        self.assertEqual(json.loads(lines[0])["changes"], [])
+
+    def test_names_and_architectures_that_are_left_out(self):
+        hostile = "\x1b[2J\n0 read more"
+        old = profile(("read waitpid umont2", "ALLOW", {}), architectures=["SCMP_ARCH_X86_64", "SCMP_ARCH_X86"])
+        others = ["SCMP_ARCH_X86_64", "SCMP_ARCH_ARM", "\x9b\n# same"]
+        new = json.dumps({"defaultAction": ERRNO, "architectures": others,
+                          "syscalls": [{"names": ["read", "waitpid", hostile], "action": ALLOW}]})
+        status, lines = self.compared(old, new)
+        self.assertEqual((status, lines), (0, [
+            "same", "more 0, less 0, otherwise 0",
+            "# names that were skipped, since the table doesn't name such calls: 2 in the old profile, 2 in the new "
+            "one",
+            "# of these only in the old one: umont2", "# of these only in the new one: \\x1b[2J\\x0a0 read more",
+            "# other architectures, which aren't looked at: 1 in the old profile, 2 in the new one",
+            "# of these only in the old one: SCMP_ARCH_X86",
+            "# of these only in the new one: SCMP_ARCH_ARM, \\xc2\\x9b\\x0a# same"]))
+        found = json.loads(self.compared(old, new, "--json")[1][0])
+        self.assertEqual(found["skipped"], {"old": ["waitpid", "umont2"], "new": ["waitpid", hostile]})
+        many = profile((" ".join(["read", *(f"x{at}" for at in range(25))]), "ALLOW", {}))
+        self.assertEqual(self.compared(many, profile(("read", "ALLOW", {})))[1][-1],
+                         f"# of these only in the old one: {', '.join(f'x{at}' for at in range(20))} and 5 more")
+
+    def test_a_strangers_entry(self):
+        """It is one line, without a control character, and bounded."""
+        names = ["mount", "\x1b[2J\n# all is well\n0 read more", "y" * 5000]
+        status, lines = self.compared(READ_WRITE, json.dumps({"defaultAction": ERRNO, "syscalls": [
+            {"names": ["read", "write"], "action": ALLOW}, {"names": names, "action": ALLOW, "comment": "\x9b"}]}))
+        self.assertEqual((status, lines[1]), (1, "more 1, less 0, otherwise 0"))
+        self.assertTrue(all(line.isprintable() for line in lines), lines)
+        entry = next(line for line in lines if line.startswith("# new: entry 1"))
+        self.assertLess(len(entry), 500)
+        self.assertEqual([line for line in lines[2:] if not line.startswith("# ")],
+                         [f"165 mount more {NO_ARGUMENTS} old ERRNO 1 default new ALLOW entry 1"])
+
+    def test_json(self):
+        new = profile(("read", "ALLOW", {}), ("socket", "ALLOW", {"args": NOT_40}))
+        status, lines = self.compared(READ_WRITE, new, "--json")
+        self.assertEqual((status, len(lines)), (1, 1))
+        found = json.loads(lines[0])
+        self.assertEqual({key: found[key] for key in ("status", "relation", "verdict", "counts", "unnamed")}, {
+            "status": 1, "relation": "same", "verdict": "differs", "unnamed": None,
+            "counts": {MORE: 1, LESS: 1, OTHERWISE: 0, "undecided": 0, "unfinished": 0}})
+        more, less = found["changes"]
+        self.assertEqual([more[key] for key in ("number", "names", "change")], [41, ["socket"], MORE])
+        self.assertEqual((more["old"]["reason"], more["new"]["reason"], more["new"]["place"]), ("default", "entry", 1))
+        self.assertEqual(more["new"]["entry"], json.loads(new)["syscalls"][1])
+        self.assertEqual(len(more["new"]["held"]), 1)
+        self.assertEqual(less["old"]["answer"], {"action": "ALLOW", "data": 0, "does": "the call is made"})
+        self.assertEqual(less["call"]["names"], ["write"])
+
+    def test_a_whole_config_and_standard_input(self):
+        config = json.dumps({"ociVersion": "1.0.2", "linux": {"seccomp": json.loads(READ_WRITE)}})
+        self.assertEqual(self.compared(READ_WRITE, config)[0], 0)
+        status, out, _ = self.run_tool("compare-profiles", "-", self.file("p", READ_WRITE), given=config.encode())
+        self.assertEqual((status, out.split("\n")[0]), (0, "same"))
+
+    def test_refusals(self):
+        """Whose fault it is; the kinds are those of docs/FAULTS.md."""
+        for text, line in (("{", "fault profile Json"), ('{"defaultAction":"ALLOW"}', "fault profile Action"),
+                           (profile(("read", "ALLOW", {}), ("read", "LOG", {})),
+                            "fault profile Conflict number 0 first 0 second 1")):
+            for old, new, side in ((text, READ_WRITE, "old"), (READ_WRITE, text, "new")):
+                status, lines = self.compared(old, new)
+                self.assertEqual((status, lines[0], lines[-1]), (1, line, f"# it is the {side} profile"))
+                self.assertTrue(all(it.startswith("# ") for it in lines[1:]), lines)
+                found = json.loads(self.compared(old, new, "--json")[1][0])
+                self.assertEqual((found["status"], found["verdict"], found["fault"]["side"]), (1, None, side))
+        self.assertEqual(self.compared(READ_WRITE, READ_WRITE, "--table", self.file("t", b"read\n"))[1][0],
+                         "fault table Form line 1")
+        status, lines = self.compared(READ_WRITE, READ_WRITE, "--limit", "x")
+        self.assertEqual((status, lines[0]), (2, "fault number limit"))
+        status, out, err = self.run_tool("compare-profiles", "none", "none")
+        self.assertEqual((status, out, err), (2, "", "compare-profiles: there is no file 'none'\n"))
+
+    def test_inputs_without_an_end(self):
+        given = self.file("p.json", READ_WRITE)
+        for words, status, says in (((given, "/dev/zero"), 1, "fault profile TooMany"),
+                                    (("--caps=none", "/dev/zero", given), 2, "has more than 16777216 bytes"),
+                                    (("--table=/dev/zero", given, given), 2, "has more than 4194304 bytes")):
+            found, out, err = self.run_tool("compare-profiles", *words)
+            self.assertEqual(found, status, words)
+            self.assertIn(says, out + err)
+
+    def test_unfinished(self):
+        status, lines = self.compared(READ_WRITE, READ_WRITE, "--limit", "0", "--table",
+                                      self.file("t", b"read 0\nwrite 1\n"))
+        self.assertEqual((status, lines[0], lines[1]), (4, "unfinished", "more 0, less 0, otherwise 0, unfinished 2"))
+        self.assertIn("0 read unfinished", lines)
+        self.assertIn("# whether numbers that the table doesn't name are answered alike: unfinished", lines)
+
+    def test_undecided(self):
+        """By a program that stands in for scf: nothing is guessed of the calls."""
+        tree = self.made_tree("""#!/bin/sh
+cat >/dev/null
+case "$*" in
+compile) printf 12345678 ;;
+*--calls*--no-more*) printf 'undecided at 3\\n1 write undecided at 3\\n'; exit 4 ;;
+*--calls*)
+    printf 'differs\\n1 write differs args 0x1 0x0 0x0 0x0 0x0 0x0 filter ALLOW 0 profile ERRNO 1\\n'
+    exit 1 ;;
+ask*) echo ALLOW 0 entry 0 ;;
+*) echo undecided at 3; exit 4 ;;
+esac
+""")
+        given = self.file("p.json", READ_WRITE)
+        status, out, _ = self.run_words([os.path.join(tree, "tools", "compare-profiles"), given, given])
+        lines = out.split("\n")
+        self.assertEqual((status, lines[:4]), (1, [
+            "differs", "more 0, less 0, otherwise 0, undecided 1",
+            "# calls of which it couldn't be told whether they are let through as far: 1",
+            "1 write undecided args 0x1 0x0 0x0 0x0 0x0 0x0 old ALLOW entry 0 new ALLOW entry 0"]))
+        status, out, _ = self.run_words([os.path.join(tree, "tools", "compare-profiles"), "--no-more", given, given])
+        self.assertEqual((status, out.split("\n")[0]), (4, "undecided at 3".partition(" ")[0]))
+
+    def test_output_that_fails(self):
+        given = self.file("p.json", READ_WRITE)
+        status, _, err = self.closed_output("compare-profiles", given, given)
+        self.assertEqual((status, err), (3, "compare-profiles: the output failed: No space left on device\n"))
+
+
+class Engines(Case):
+    """Profiles as engines ship them."""
+
+    MAP = [{"architecture": "SCMP_ARCH_X86_64", "subArchitectures": []}]
+    OLD = {"defaultAction": ERRNO, "archMap": MAP, "syscalls": [
+        {"names": ["read"], "action": ALLOW},
+        {"names": ["mount"], "action": ALLOW, "includes": {"caps": ["CAP_SYS_ADMIN"]}},
+        {"names": ["ptrace"], "action": ALLOW, "includes": {"minKernel": "4.8"}}]}
+    NEW = {**OLD, "syscalls": [*OLD["syscalls"], {"name": "write", "action": ALLOW},
+                               {"names": ["reboot"], "action": ALLOW, "includes": {"caps": ["CAP_SYS_BOOT"]}}]}
+
+    def compared(self, *words, old=None, new=None):
+        names = [self.file(f"{name}.json", json.dumps(it)) for name, it in (("old", old or self.OLD),
+                                                                            ("new", new or self.NEW))]
+        status, out, err = self.run_tool("compare-profiles", *words, *names)
+        return status, [line.split()[:3] for line in out.split("\n") if line[:1].isdigit()], err
+
+    def test_the_options_resolve_both(self):
+        for words, expected in ((["--caps", "none"], ["write"]), (["--caps", "SYS_BOOT"], ["write", "reboot"]),
+                                (["--kernel", "4.0"], ["write"]), (["--arch", "native"], ["write"]),
+                                (["--keep-first"], ["write"])):
+            status, found, _ = self.compared(*words)
+            self.assertEqual((status, [line[1] for line in found]), (1, expected), words)
+
+    def test_without_an_option_scf_refuses_an_engines_form(self):
+        status, out, err = self.run_tool("compare-profiles", *[self.file("old.json", json.dumps(self.OLD))] * 2)
+        self.assertEqual((status, err, out.split("\n")[0]), (1, "", "fault profile EngineForm"))
+        self.assertTrue(out.endswith("# it is the old profile\n# --caps and its kin have both resolved as an engine "
+                                     "does\n"), out)
+
+    def test_what_a_setting_changes(self):
+        """The same profile by itself is the same, whatever it leaves out."""
+        for words in (["--caps", "none"], ["--caps", "docker,SYS_ADMIN", "--kernel", "6.1"]):
+            self.assertEqual(self.compared(*words, new=self.OLD), (0, [], ""))
+
+    def test_what_is_left_out_of_one_alone_is_said(self):
+        err = self.compared("--caps", "none")[2]
+        self.assertEqual(err, "compare-profiles: new: entry 4 (reboot) left out: only with CAP_SYS_BOOT\n")
+
+    def test_two_answers(self):
+        twice = {"defaultAction": ERRNO, "syscalls": [{"names": ["read"], "action": ALLOW},
+                                                      {"names": ["read"], "action": "SCMP_ACT_LOG"}]}
+        self.assertEqual(self.compared("--keep-first", old=twice, new={**twice, "syscalls": twice["syscalls"][:1]})[:2],
+                         (0, []))
+
+    def test_what_the_engines_refuse(self):
+        status, found, err = self.compared("--caps", "none", new={"defaultAction": ERRNO, "syscalls": 1})
+        self.assertEqual((status, found), (1, []))
+        self.assertRegex(err, r"\Acompare-profiles: [^\n]*new\.json: [^\n]+\n\Z")
+
+
+class RandomProfiles(unittest.TestCase):
+    """Two profiles beside a small reading of their JSON."""
+
+    def test_each_call_at_the_corners(self):
+        """No sampled call changes otherwise than is said; what is shown is so, by the entries that are named."""
+        random_of, table, seen = random.Random(36), tables.Table(kernel_profiles.table_text()), set()
+        for _ in range(25):
+            old = kernel_profiles.random_profile(random_of)
+            new = self.changed(random_of, old)
+            if random_of.random() < 0.2:
+                new = kernel_profiles.random_profile(random_of)
+            found = changes.of_profiles(old, new, table, None, "same")
+            kinds = {}
+            for change in found.calls:
+                kinds.setdefault(change.number, set()).add(change.kind)
+                self.is_shown(change, old, new)
+                seen.add(change.kind)
+            for number in set(kernel_profiles.TABLE.values()):
+                self.is_said(random_of, number, kinds.get(number, set()), old, new)
+            self.assertEqual(found.fails, bool(kinds) or found.unnamed is not None)
+        self.assertEqual(seen, {MORE, LESS, OTHERWISE})
+
+    def changed(self, random_of, profile_text):
+        """A profile with an entry less, or with another default."""
+        made = json.loads(profile_text)
+        if made["syscalls"] and random_of.random() < 0.8:
+            del made["syscalls"][random_of.randrange(len(made["syscalls"]))]
+        else:
+            made.pop("defaultErrnoRet", None)
+            made["defaultAction"] = random_of.choice(("SCMP_ACT_LOG", "SCMP_ACT_TRAP", "SCMP_ACT_NOTIFY"))
+        return json.dumps(made).encode()
+
+    def is_shown(self, change, old, new):
+        both = {"old": old, "new": new}
+        for side, reason in change.reasons.items():
+            self.assertEqual(reason.answer, answer_of(both[side], change.call))
+            self.assertEqual(reason.entry, reading(both[side], change.call)[1])
+        before, after = (degree(change.reasons[side].answer) for side in ("old", "new"))
+        self.assertNotEqual(change.reasons["old"].answer, change.reasons["new"].answer)
+        self.assertEqual(change.kind, MORE if before < after else LESS if before > after else OTHERWISE)
+
+    def is_said(self, random_of, number, kinds, old, new):
+        """The kinds of the sampled calls of a number are among those that are said of it."""
+        constants = [kernel_profiles.constants(it) for it in (old, new)]
+        for _ in range(30):
+            values = [random_of.choice(sorted(set().union(*(it.get(at, it[-1]) for it in constants))))
+                      for at in range(6)]
+            call = Call(number, arguments=tuple(values))
+            one, other = answer_of(old, call), answer_of(new, call)
+            if degree(one) != degree(other):
+                self.assertIn(MORE if degree(one) < degree(other) else LESS, kinds, (old, new, call))
+            elif one != other:
+                self.assertTrue(kinds, (old, new, call))
+
+
+class TheTable(unittest.TestCase):
+    def test_the_names_of_these_tests(self):
+        with open(TABLE, "rb") as file:
+            table = tables.Table(file.read())
+        for name, number in (("read", 0), ("write", 1), ("open", 2), ("socket", 41), ("mount", 165)):
+            self.assertEqual(table.number_of(name), number)
