@@ -1,0 +1,146 @@
+"""The entries of a profile that scf has read, as it reads them; and records that meet conditions, which are searched for.
+
+What is found here only spares comparisons: nothing is said as proved that wasn't a verdict of scf.
+"""
+from __future__ import annotations
+
+import itertools
+import json
+from collections.abc import Iterable, Iterator, Sequence
+from typing import NamedTuple
+
+from .profiles import LONGEST_NUMBER
+from .reasons import HOLDS
+
+TYPE_CHECKING = False
+if TYPE_CHECKING:
+    from typing import Any
+
+MOST = (1 << 64) - 1
+# So many values of an argument are tried, and so many records.
+VALUES, RECORDS = 32, 512
+# The actions that have two names, and those that have a number (the OCI specification; 1 where none is given).
+TWICE_NAMED = {"SCMP_ACT_KILL": "SCMP_ACT_KILL_THREAD"}
+WITH_ERRNO = ("SCMP_ACT_ERRNO", "SCMP_ACT_TRACE")
+
+
+class Condition(NamedTuple):
+    """What an entry asks of an argument."""
+
+    index: int
+    op: str
+    value: int
+    two: int
+
+    def holds(self, argument: int) -> bool:
+        return HOLDS[self.op](argument, self.value, self.two)
+
+    def edges(self) -> Iterator[int]:
+        """Values on both sides of it."""
+        yield from ((self.value + step) & MOST for step in (0, 1, -1))
+        if self.op == "SCMP_CMP_MASKED_EQ":
+            yield self.two & self.value
+            yield self.two & self.value | MOST & ~self.value
+
+    def as_json(self) -> dict[str, object]:
+        return {"index": self.index, "value": self.value, "valueTwo": self.two, "op": self.op}
+
+
+Conditions = Sequence[Condition]
+
+
+class Entry(NamedTuple):
+    """An entry of `syscalls`, of its names those that the table has, each once."""
+
+    place: int
+    names: tuple[str, ...]
+    answer: tuple[str, int]
+    conditions: tuple[Condition, ...]
+
+    def as_json(self) -> dict[str, object]:
+        found: dict[str, object] = {"names": list(self.names), "action": self.answer[0]}
+        if self.answer[0] in WITH_ERRNO:
+            found["errnoRet"] = self.answer[1]
+        return {**found, "args": [it.as_json() for it in self.conditions]}
+
+    def allowing(self, names: Sequence[str]) -> Entry:
+        """The entry for some names, if it let them through."""
+        return self._replace(names=tuple(names), answer=("SCMP_ACT_ALLOW", 0))
+
+
+def profile_of(default: tuple[str, int], entries: Iterable[Entry]) -> bytes:
+    """The text of a profile for x86-64."""
+    errno = {"defaultErrnoRet": default[1]} if default[0] in WITH_ERRNO else {}
+    return json.dumps({"defaultAction": default[0], **errno, "syscalls": [it.as_json() for it in entries]}).encode()
+
+
+def answer_of(action: str, errno: object) -> tuple[str, int]:
+    """An action under one name, with its number."""
+    number = errno if isinstance(errno, int) else 1 if action in WITH_ERRNO else 0
+    return TWICE_NAMED.get(action, action), number
+
+
+class Object(dict):
+    """An object of JSON, and the names of members that stand in it more than once; one that is null is absent."""
+
+    def __init__(self, pairs: Sequence[tuple[str, Any]]):
+        super().__init__(pairs)
+        for name in [name for name, value in self.items() if value is None]:
+            del self[name]
+        seen: set[str] = set()
+        # `add` has no value, so that a name is kept where it was seen before
+        self.repeated = list(dict.fromkeys(name for name, _ in pairs if name in seen or seen.add(name)))
+
+
+def read(data: bytes) -> Object | None:
+    """The seccomp object of a profile, or of a whole config.json; None where it can't be told."""
+    def whole(text: str) -> int | str:
+        return int(text) if len(text) <= LONGEST_NUMBER else text
+
+    try:
+        top = json.loads(data.decode("utf-8"), object_pairs_hook=Object, parse_int=whole, parse_float=str)
+        if isinstance(top, Object) and "defaultAction" not in top and "linux" in top:
+            top = top["linux"]["seccomp"]
+    except (ValueError, LookupError, TypeError, RecursionError):
+        return None
+    return top if isinstance(top, Object) else None
+
+
+def default_of(top: Object) -> tuple[str, int]:
+    return answer_of(top["defaultAction"], top.get("defaultErrnoRet"))
+
+
+def entry_of(place: int, entry: Object, has: Any) -> Entry:
+    """An entry that scf has read; of its names those that a table has."""
+    conditions = tuple(Condition(it["index"], it["op"], it["value"], it.get("valueTwo", 0))
+                       for it in entry.get("args", []))
+    names = tuple(name for name in dict.fromkeys(entry["names"]) if has(name) is not None)
+    return Entry(place, names, answer_of(entry["action"], entry.get("errnoRet")), conditions)
+
+
+def _values(conditions: Iterable[Condition], index: int) -> list[int]:
+    """Values of an argument at which some condition on it changes, alone or beside the bits of another."""
+    on_it = [it for it in conditions if it.index == index]
+    edges = list(itertools.islice(itertools.chain((edge for it in on_it for edge in it.edges()), (0, MOST)), VALUES))
+    mixed = ((it.two & it.value) | edge & ~it.value for it in on_it if it.op == "SCMP_CMP_MASKED_EQ" for edge in edges)
+    return list(dict.fromkeys([*edges, *itertools.islice(mixed, VALUES)]))
+
+
+def meet(conditions: Conditions, record: dict[int, int]) -> bool:
+    return all(it.holds(record.get(it.index, 0)) for it in conditions)
+
+
+def record_of(all_of: Sequence[Conditions], none_of: Sequence[Conditions]) -> dict[int, int] | None:
+    """Arguments that meet all of the first and none of the second, or None where no such are found."""
+    if any(not conditions for conditions in none_of):
+        return None
+    wanted = [condition for conditions in all_of for condition in conditions]
+    every = [*wanted, *(condition for conditions in none_of for condition in conditions)]
+    indices = sorted({it.index for it in every})
+    values = [[value for value in _values(every, index) if all(it.holds(value) for it in wanted if it.index == index)]
+              for index in indices]
+    for found in itertools.islice(itertools.product(*values), max(1, RECORDS // (1 + len(none_of) // 16))):
+        record = dict(zip(indices, found))
+        if not any(meet(conditions, record) for conditions in none_of):
+            return record
+    return None
