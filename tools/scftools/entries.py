@@ -6,7 +6,7 @@ from __future__ import annotations
 
 import itertools
 import json
-from collections.abc import Iterable, Iterator, Sequence
+from collections.abc import Callable, Iterable, Iterator, Sequence
 from typing import NamedTuple
 
 from .profiles import LONGEST_NUMBER
@@ -50,12 +50,13 @@ Conditions = Sequence[Condition]
 
 
 class Entry(NamedTuple):
-    """An entry of `syscalls`, of its names those that the table has, each once."""
+    """An entry of `syscalls`, of its names those that the table has, each once; and whether it has others."""
 
     place: int
     names: tuple[str, ...]
     answer: tuple[str, int]
     conditions: tuple[Condition, ...]
+    has_others: bool = False
 
     def as_json(self) -> dict[str, object]:
         found: dict[str, object] = {"names": list(self.names), "action": self.answer[0]}
@@ -69,9 +70,9 @@ class Entry(NamedTuple):
 
 
 def profile_of(default: tuple[str, int], entries: Iterable[Entry]) -> bytes:
-    """The text of a profile for x86-64."""
+    """The text of a profile for x86-64, without the entries that have no name."""
     errno = {"defaultErrnoRet": default[1]} if default[0] in WITH_ERRNO else {}
-    return json.dumps({"defaultAction": default[0], **errno, "syscalls": [it.as_json() for it in entries]}).encode()
+    return json.dumps({"defaultAction": default[0], **errno, "syscalls": [it.as_json() for it in entries if it.names]}).encode()
 
 
 def answer_of(action: str, errno: object) -> tuple[str, int]:
@@ -110,12 +111,17 @@ def default_of(top: Object) -> tuple[str, int]:
     return answer_of(top["defaultAction"], top.get("defaultErrnoRet"))
 
 
-def entry_of(place: int, entry: Object, has: Any) -> Entry:
+def entry_of(place: int, entry: Object, number_of: Callable[[str], int | None]) -> Entry:
     """An entry that scf has read; of its names those that a table has."""
     conditions = tuple(Condition(it["index"], it["op"], it["value"], it.get("valueTwo", 0))
                        for it in entry.get("args", []))
-    names = tuple(name for name in dict.fromkeys(entry["names"]) if has(name) is not None)
-    return Entry(place, names, answer_of(entry["action"], entry.get("errnoRet")), conditions)
+    names = dict.fromkeys(entry["names"])
+    known = tuple(name for name in names if number_of(name) is not None)
+    return Entry(place, known, answer_of(entry["action"], entry.get("errnoRet")), conditions, len(known) < len(names))
+
+
+def entries_of(top: Object, number_of: Callable[[str], int | None]) -> list[Entry]:
+    return [entry_of(place, entry, number_of) for place, entry in enumerate(top.get("syscalls", []))]
 
 
 def _values(conditions: Iterable[Condition], index: int) -> list[int]:

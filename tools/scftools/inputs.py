@@ -18,7 +18,7 @@ LIMITS = {"filter": 1 << 15, "profile": 1 << 22, "table": 1 << 22,
           "state": 1 << 20}
 
 
-def _why(name: str, kind: str, error: OSError) -> str:
+def why(name: str, kind: str, error: OSError) -> str:
     shown = "standard input" if name == "-" else f"'{output.escaped(name)}'"
     if error.errno == errno.EISDIR:
         return f"the {kind} {shown} is a folder"
@@ -43,7 +43,7 @@ def read(name: str, kind: str) -> bytes:
         finally:
             os.close(file)
     except OSError as error:
-        raise program.Refused(_why(name, kind, error)) from error
+        raise program.Refused(why(name, kind, error)) from error
     return b"".join(found)
 
 

@@ -59,7 +59,8 @@ class Report:
     untold: list[Finding] = field(default_factory=list)
     fault: Fault | None = None
     status: int = program.WELL
-    comparisons: int = 0
+    # whether scf said `same` of the profile without all that is covered or without effect
+    is_same_without: bool = False
 
 
 def shown(name: str) -> str:
@@ -200,40 +201,33 @@ def _made(trial: Trial, profile: bytes, found: NamedCall, is_always: bool, reaso
 def _of_needless(found: Needless) -> Finding:
     names = "" if found.is_whole else f", of its names {listed(found.names)}"
     more: dict[str, object] = {"entry": found.place, "names": list(found.names), "is_whole": found.is_whole}
-    without = f"without {'it' if found.is_whole else 'them' if len(found.names) > 1 else 'this'} scf says same"
     if found.why == needless.ONE:
-        return Finding("covered", f"entry {found.place}{names}: entry {found.others[0]} covers it; {without}",
+        return Finding("covered", f"entry {found.place}{names}: each call of it is one of entry {found.others[0]}",
                        {**more, "by": found.others[0]})
     why = {needless.BY_DEFAULT: "the default answers so too", needless.BY_NONE: "no call meets it"}.get(
-        found.why, f"entries {listed(list(map(str, found.others)))} have its calls together")
-    return Finding("without-effect", f"entry {found.place}{names}: {why}; {without}",
+        found.why, f"its calls are those of entries {listed(list(map(str, found.others)))} together")
+    return Finding("without-effect", f"entry {found.place}{names}: {why}",
                    {**more, "why": found.why, "others": list(found.others)})
 
 
 def _of_untold(found: Untold) -> Finding:
     said = "not looked at, since there are too many" if found.verdict is None else found.verdict.word
-    return Finding("without-effect", f"entry {found.place}, {listed(found.names)}: it couldn't be told whether it has an "
-                   f"effect: {said}", {"entry": found.place, "names": list(found.names), "verdict": said})
+    return Finding("without-effect", f"entry {found.place}, {shown(found.name)}: it couldn't be told whether it has an "
+                   f"effect: {said}", {"entry": found.place, "names": [found.name], "verdict": said})
 
 
 def of_entries(trial: Trial, top: Object, data: bytes, report: Report) -> None:
     """Adds the entries without effect to a report."""
-    default, found = entries.default_of(top), list(_entries_of(top, trial.table))
+    default, found = entries.default_of(top), entries.entries_of(top, trial.table.number_of)
     as_read = trial.verdict([data], entries.profile_of(default, found))
     if as_read.word != verdicts.SAME:
         report.untold.append(Finding("without-effect", "it couldn't be told which entries have an effect: "
                                      f"{as_read.word}", {"verdict": as_read.word}))
         return
-    for one in needless.Search(trial, data, default, found).run():
-        if isinstance(one, Needless):
-            report.findings.append(_of_needless(one))
-        else:
-            report.untold.append(_of_untold(one))
-
-
-def _entries_of(top: Object, table: Table) -> Iterator[entries.Entry]:
-    for place, entry in enumerate(top.get("syscalls", [])):
-        yield entries.entry_of(place, entry, table.number_of)
+    search = needless.Search(trial, data, default, found)
+    report.findings += map(_of_needless, search.run())
+    report.untold += map(_of_untold, search.untold)
+    report.is_same_without = bool(search.gone)
 
 
 def _answer(entry: entries.Entry) -> str:
@@ -243,7 +237,7 @@ def _answer(entry: entries.Entry) -> str:
 
 def of_conflicts(trial: Trial, top: Object) -> Iterator[Finding]:
     """Entries that conflict, each two with a call that both meet."""
-    for one in needless.conflicts(trial, list(_entries_of(top, trial.table)), TOLD):
+    for one in needless.conflicts(trial, entries.entries_of(top, trial.table.number_of), TOLD):
         shows = "scf shows no call of both" if one.call is None else \
             f"arguments {' '.join(map(hex, one.call.arguments))} meet both"
         yield Finding("conflict", f"entries {one.first.place} and {one.second.place} answer {one.name} "
@@ -258,7 +252,6 @@ def _of_fault(trial: Trial, top: Object | None, fault: Fault | None, status: int
     is_read = fault is not None and fault.kind in ("Conflict", "TooLarge")
     if is_read and top is not None:
         report.findings += [*of_conflicts(trial, top), *of_members(top), *of_names(top, trial.table), *of_default(top)]
-    report.comparisons = trial.count
     return report
 
 
@@ -283,7 +276,6 @@ def _lint(profile: bytes, trial: Trial) -> Report:
     of_entries(trial, top, done.out, report)
     for is_told, found in of_dangerous_calls(trial, profile, done.out):
         (report.findings if is_told else report.untold).append(found)
-    report.comparisons = trial.count
     return report
 
 
@@ -307,6 +299,8 @@ def lines(report: Report, profile: bytes, table: Table) -> Iterator[str]:
         yield from (f"# {line}" for line in comparing.of_fault(report.fault, profile, table))
     yield from (it.line for it in report.findings)
     yield from (f"# {it.line}" for it in report.untold)
+    if report.is_same_without:
+        yield "# without all that is covered or without effect, scf says same"
     told = f"findings: {len(report.findings)}" if report.findings else "nothing was found"
     yield f"# {told}" + (f"; couldn't be told: {len(report.untold)}" if report.untold else "")
 
@@ -315,6 +309,8 @@ def as_json(report: Report, profile: bytes, table: Table, status: int) -> dict[s
     found: dict[str, Any] = {"status": status}
     if report.fault:
         found["fault"] = {**report.fault.as_json(), "sentences": list(comparing.of_fault(report.fault, profile, table))}
+    if report.is_same_without:
+        found["verdict"] = verdicts.SAME
     found["findings"] = [it.as_json() for it in report.findings]
     found["untold"] = [it.as_json() for it in report.untold]
     return found

@@ -1,13 +1,14 @@
 """Entries without effect: a profile without them answers each call as before, which is said where `scf compare` says
 so; and entries that give one call two answers, with such a call.
 
-A comparison is made only where a short search finds no call that an entry alone answers. An entry that was found is
-left out of what the next one is held against, so that all that are told can be left out together.
+A short search finds calls that an entry alone answers. Where it finds none the entry is doubtful, and scf is asked: of
+the profile without all that is doubtful, and where that isn't the same, without its halves. So all that is told can be
+left out together, and each by itself.
 """
 from __future__ import annotations
 
 from collections.abc import Callable, Iterator, Sequence
-from dataclasses import dataclass, field
+from dataclasses import dataclass
 
 from . import bundles, program, verdicts
 from .calls import Call
@@ -17,7 +18,7 @@ from .verdicts import MORE, SAME, UNFINISHED, Report, Verdict
 
 REFUSES, ALLOWS = ("SCMP_ACT_ERRNO", 1), ("SCMP_ACT_ALLOW", 0)
 # The most comparisons of one run, pairs of entries that are looked at, and entries that may cover another.
-COMPARISONS, PAIRS, COVERS = 1000, 10000, 8
+COMPARISONS, PAIRS, COVERS = 500, 10000, 8
 # The most entries that are held against another in the search for calls that one alone answers.
 LOOKS = 200000
 ONE, BY_DEFAULT, BY_NONE, TOGETHER = "one", "default", "none", "together"
@@ -70,59 +71,75 @@ class Needless:
 
 @dataclass(frozen=True)
 class Untold:
-    """An entry, or some names of it, of which it couldn't be told, and the verdict; without one it wasn't looked at."""
+    """A name of an entry of which it couldn't be told, and the verdict; without one it wasn't looked at."""
 
     place: int
-    names: tuple[str, ...]
+    name: str
     verdict: Verdict | None
 
 
-@dataclass
+# A name of an entry by its place.
+Named = tuple[int, str]
+
+
 class Search:
-    """The entries of a profile, the filter of it, and which of them are still there."""
+    """The entries of a profile, the filter of it, and which names of entries are still there."""
 
-    trial: Trial
-    filter: bytes
-    default: tuple[str, int]
-    entries: Sequence[Entry]
-    looks: int = LOOKS
-    kept: dict[int, Entry] = field(default_factory=dict)
-    by_number: dict[int | None, dict[int, Entry]] = field(default_factory=dict)
-
-    def __post_init__(self) -> None:
-        for entry in self.entries:
-            self.kept[entry.place] = entry
+    def __init__(self, trial: Trial, data: bytes, default: tuple[str, int], entries: Sequence[Entry]):
+        self.trial, self.filter, self.default = trial, data, default
+        self.entries = {it.place: it for it in entries}
+        self.looks = LOOKS
+        self.gone: set[Named] = set()
+        self.untold: list[Untold] = []
+        self._by_number: dict[int | None, dict[Named, Entry]] = {}
+        for entry in entries:
             for name in entry.names:
-                self.by_number.setdefault(self.trial.table.number_of(name), {})[entry.place] = entry
+                self._having(name)[entry.place, name] = entry
+
+    def _having(self, name: str) -> dict[Named, Entry]:
+        """The entries that have a call."""
+        return self._by_number.setdefault(self.trial.table.number_of(name), {})
 
     def _beside(self, entry: Entry, name: str) -> list[Entry]:
-        """The other entries that are still there and have the call."""
-        found = self.by_number[self.trial.table.number_of(name)]
-        return [it for it in found.values() if it.place != entry.place]
+        """The other entries that have the call, without what is gone."""
+        return [it for at, it in self._having(name).items() if at not in self.gone and it.place != entry.place]
 
-    def _has_own_call(self, entry: Entry, name: str) -> bool:
+    def _is_doubtful(self, entry: Entry, name: str) -> bool:
+        """Whether no call is found that an entry alone answers by a name, and otherwise than the default."""
+        if entry.answer == self.default:
+            return True
         others = self._beside(entry, name)
         self.looks -= len(others)
-        return record_of([entry.conditions], [it.conditions for it in others]) is not None
+        return self.looks > 0 and record_of([entry.conditions], [it.conditions for it in others]) is None
 
-    def _doubtful(self, entry: Entry) -> list[str]:
-        """The names of an entry for which no call was found that it alone answers."""
-        if entry.answer == self.default:
-            return list(entry.names)
-        return [name for name in entry.names if self.looks <= 0 or not self._has_own_call(entry, name)]
+    def _doubtful(self) -> list[Named]:
+        """What may be without effect all together, from the last entry on."""
+        try:
+            for entry in reversed(self.entries.values()):
+                self.gone |= {(entry.place, name) for name in entry.names if self._is_doubtful(entry, name)}
+            return sorted(self.gone, reverse=True)
+        finally:
+            self.gone = set()
 
-    def _kept_without(self, entry: Entry, names: Sequence[str]) -> dict[int, Entry]:
-        """The entries without these names of one, which without a name is none."""
-        gone = set(names)
-        left = tuple(name for name in self.kept[entry.place].names if name not in gone)
-        kept = {**self.kept, entry.place: entry._replace(names=left)}
-        if not left:
-            del kept[entry.place]
-        return kept
+    def _kept(self, gone: set[Named]) -> Iterator[Entry]:
+        """The entries without some names."""
+        for entry in self.entries.values():
+            yield entry._replace(names=tuple(it for it in entry.names if (entry.place, it) not in gone))
 
-    def _verdict(self, entry: Entry, names: Sequence[str]) -> Verdict:
-        """Whether the profile without these names of an entry answers as before."""
-        return self.trial.verdict([self.filter], profile_of(self.default, self._kept_without(entry, names).values()))
+    def _settle(self, doubtful: Sequence[Named]) -> None:
+        """Adds to what is gone what scf says is without effect: all of it, or else what is of its halves."""
+        if self.trial.count >= COMPARISONS:
+            self.untold += [Untold(*it, None) for it in doubtful]
+            return
+        gone = self.gone | set(doubtful)
+        verdict = self.trial.verdict([self.filter], profile_of(self.default, self._kept(gone)))
+        if verdict.word == SAME:
+            self.gone = gone
+        elif len(doubtful) > 1:
+            self._settle(doubtful[:len(doubtful) // 2])
+            self._settle(doubtful[len(doubtful) // 2:])
+        elif not verdict.fails:
+            self.untold.append(Untold(*doubtful[0], verdict))
 
     def _is_within(self, entry: Entry, names: Sequence[str], others: Sequence[Entry]) -> bool:
         """Whether each call of an entry is one of others, by scf."""
@@ -133,43 +150,28 @@ class Search:
     def _why(self, entry: Entry, names: Sequence[str]) -> tuple[str, tuple[int, ...]]:
         if entry.answer == self.default:
             return BY_DEFAULT, ()
-        others = {it.place: it for name in names for it in self._beside(entry, name)}
-        around = [it for it in others.values() if set(names) <= set(it.names)
-                  and record_of([entry.conditions], [it.conditions]) is None]
-        for other in around[:COVERS]:
+        having = [{it.place for it in self._beside(entry, name)} for name in names]
+        around = [self.entries[place] for place in sorted(set.intersection(*having))]
+        around = [it for it in around if record_of([entry.conditions], [it.conditions]) is None][:COVERS]
+        if self.trial.count >= COMPARISONS:
+            return TOGETHER, tuple(sorted(set.union(*having)))
+        for other in around:
             if self._is_within(entry, names, [other]):
                 return ONE, (other.place,)
         if record_of([entry.conditions], []) is None and self._is_within(entry, names, []):
             return BY_NONE, ()
-        return TOGETHER, tuple(sorted(others))
+        return TOGETHER, tuple(sorted(set.union(*having)))
 
-    def _told(self, entry: Entry, names: Sequence[str]) -> Needless:
-        why, others = self._why(entry, names)
-        self.kept = self._kept_without(entry, names)
-        for name in names:
-            self.by_number[self.trial.table.number_of(name)].pop(entry.place, None)
-        return Needless(entry.place, tuple(names), len(names) == len(entry.names), why, others)
-
-    def _of(self, entry: Entry, names: Sequence[str]) -> Iterator[Needless | Untold]:
-        """What is said of some names of an entry: of all together, or else of each by itself."""
-        if self.trial.count >= COMPARISONS or self.looks <= 0:
-            yield Untold(entry.place, tuple(names), None)
-            return
-        verdict = self._verdict(entry, names)
-        if verdict.word == SAME:
-            yield self._told(entry, names)
-        elif not verdict.fails:
-            yield Untold(entry.place, tuple(names), verdict)
-        elif len(names) > 1:
-            for name in names:
-                yield from self._of(entry, [name])
-
-    def run(self) -> Iterator[Needless | Untold]:
-        """What is without effect, from the last entry on, and of what that couldn't be told."""
-        for entry in reversed(self.entries):
-            names = self._doubtful(entry)
+    def run(self) -> Iterator[Needless]:
+        """What is without effect, all together, by the entries; what couldn't be told is in `untold` then."""
+        doubtful = self._doubtful()
+        if doubtful:
+            self._settle(doubtful)
+        for entry in self.entries.values():
+            names = tuple(name for name in entry.names if (entry.place, name) in self.gone)
             if names:
-                yield from self._of(entry, names)
+                is_whole = len(names) == len(entry.names) and not entry.has_others
+                yield Needless(entry.place, names, is_whole, *self._why(entry, names))
 
 
 @dataclass(frozen=True)

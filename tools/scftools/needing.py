@@ -1,0 +1,320 @@
+"""What a program needs of a profile: the calls of a log of strace, each judged by scf.
+
+A call whose arguments are known, as far as a condition looks at them, is asked for by `scf ask`. Where such an argument
+isn't known, scf compares: whether the profile's filter makes all calls with the arguments that are known, or none.
+"""
+from __future__ import annotations
+
+import itertools
+import json
+from collections.abc import Iterator, Sequence
+from dataclasses import dataclass, field
+
+from . import bundles, entries, output, program, reasons, straces, verdicts
+from .answers import MADE, Answer
+from .calls import Call
+from .deciding import Asked
+from .entries import Condition, Entry, Object
+from .straces import Log, Seen
+from .tables import Table
+from .verdicts import Fault, Verdict
+
+IS_MADE, ISNT_MADE, DEPENDS, UNTOLD = "made", "not made", "depends", "untold"
+# The most calls that are judged, values of one call that are asked for, and entries with conditions for one name.
+CALLS, VALUES, CONDITIONS = 5000, 64, 64
+REFERRED, EQUAL = ("SCMP_ACT_TRACE", 1), "SCMP_CMP_EQ"
+# What a least profile has of the one that is given, beside its default.
+KEPT = ("architectures", "flags", "listenerPath", "listenerMetadata")
+LETS_THROUGH = ("SCMP_ACT_ALLOW", "SCMP_ACT_LOG")
+
+
+class Refused(Exception):
+    """scf refuses the profile, the table or a comparison: its line and its status."""
+
+    def __init__(self, line: str, status: int):
+        super().__init__(line)
+        self.line, self.status = line, status
+
+
+@dataclass(frozen=True)
+class Traced:
+    """A call of a log: its number, its name, and the values of the arguments that a condition looks at; None where one
+    isn't known."""
+
+    number: int
+    name: str
+    arguments: tuple[tuple[int, tuple[int, ...] | None], ...]
+    seen: Seen
+
+    @property
+    def unknown(self) -> list[int]:
+        return [index for index, values in self.arguments if values is None]
+
+    @property
+    def unsure(self) -> list[int]:
+        """The arguments of which not one value alone is known."""
+        return [index for index, values in self.arguments if values is None or len(values) > 1]
+
+    def known(self) -> Iterator[dict[int, int]]:
+        """The values of the known arguments, in each way that they may be."""
+        pairs = [(index, values) for index, values in self.arguments if values is not None]
+        for values in itertools.islice(itertools.product(*(values for _, values in pairs)), VALUES):
+            yield dict(zip((index for index, _ in pairs), values))
+
+    def told(self) -> str:
+        shown = "".join(f" arg {index} {values[0]:#x}" for index, values in self.arguments
+                        if values is not None and len(values) == 1)
+        return f"{self.number} {self.name}{shown}"
+
+
+@dataclass(frozen=True)
+class Judged:
+    """What becomes of a call: made, not made, or it depends; calls that show it, with their answers."""
+
+    traced: Traced
+    fate: str
+    line: str = ""
+    made: Call | None = None
+    refused: tuple[Call, Answer] | None = None
+
+
+@dataclass
+class Needs:
+    """What was found: the calls that were judged, and what wasn't."""
+
+    judged: list[Judged]
+    unnamed: dict[str, int] = field(default_factory=dict)
+    foreign: int = 0
+    unread: int = 0
+    left: int = 0
+
+    def of(self, fate: str) -> list[Judged]:
+        return [it for it in self.judged if it.fate == fate]
+
+    @property
+    def isnt_whole(self) -> bool:
+        """Whether something in the log wasn't judged, or there was nothing to judge."""
+        return bool(self.unnamed or self.foreign or self.left or not self.judged)
+
+    @property
+    def status(self) -> int:
+        if self.of(ISNT_MADE):
+            return program.REFUSED
+        return program.UNKNOWN if self.of(DEPENDS) or self.of(UNTOLD) or self.isnt_whole else program.WELL
+
+
+def number_of(name: str, table: Table) -> int | None:
+    """The number of a call by its name in a log; strace prints one without a name as `syscall_0x1c3`."""
+    if name.startswith("syscall_0x"):
+        digits = name[len("syscall_0x"):]
+        return int(digits, 16) if len(digits) <= 8 and not set(digits) - set("0123456789abcdef") else None
+    return table.number_of(name)
+
+
+class Judge:
+    """A profile, its filter, and what of each call its conditions look at."""
+
+    def __init__(self, profile: bytes, table: Table, limit: str | None):
+        self.profile, self.table, self.limit = profile, table, limit
+        done = program.scf(["compile"], bundles.of_compilation(profile, table.data))
+        if done.status != program.WELL:
+            raise Refused(done.text.split("\n", 1)[0], done.status)
+        self.filter = done.out
+        top = entries.read(profile)
+        if top is None:
+            raise program.Refused("the profile's JSON can't be looked at beside scf", program.FAILED)
+        self.top: Object = top
+        self.looked: dict[int | None, set[int]] = {}
+        for entry in entries.entries_of(top, table.number_of):
+            for name in entry.names if entry.conditions else ():
+                self.looked.setdefault(table.number_of(name), set()).update(it.index for it in entry.conditions)
+
+    def looked_at(self, name: str) -> tuple[int, ...]:
+        """The arguments of a call that a condition looks at."""
+        return tuple(sorted(self.looked.get(number_of(name, self.table), ())))
+
+    def of(self, traced: Traced) -> Judged:
+        return self._compared(traced) if traced.unknown else self._asked(traced)
+
+    def _asked(self, traced: Traced) -> Judged:
+        """By `scf ask`, of each value that the arguments may have."""
+        made, refused, line = None, None, ""
+        for values in traced.known():
+            call = Call(traced.number, arguments=tuple(values.get(index, 0) for index in range(6)))
+            words = [(name, text) for name, _, text in (it[2:].partition("=") for it in call.words())]
+            reason = reasons.of(self.profile, self.table, Asked(tuple(words)).words())
+            if reason.answer is None:
+                raise Refused(reason.line, reason.status)
+            if reason.answer.fate == MADE:
+                made = call
+            else:
+                refused, line = (call, reason.answer), reason.line
+        fate = DEPENDS if made and refused else IS_MADE if made else ISNT_MADE
+        return Judged(traced, fate, line, made, refused)
+
+    def _verdict(self, traced: Traced, values: dict[int, int], default: str, answer: tuple[str, int],
+                 relation: str) -> Verdict:
+        """What scf says of the filter beside a profile that gives the calls with these arguments an answer."""
+        conditions = tuple(Condition(index, EQUAL, value, 0) for index, value in values.items())
+        beside = entries.profile_of((default, 1), [Entry(0, ("it",), answer, conditions)])
+        limit = [] if self.limit is None else ["--limit", self.limit]
+        given = bundles.of_comparison([self.filter], beside, f"it {traced.number}\n".encode())
+        done = program.scf(["compare", "--native", relation, *limit], given)
+        report = verdicts.report(done.text)
+        if report.verdict is None:
+            raise Refused(report.lines[0] if report.lines else "", done.status)
+        return report.verdict
+
+    def _compared(self, traced: Traced) -> Judged:
+        """By comparisons: whether all calls with the known arguments are made, or none is."""
+        made, refused, line = None, None, ""
+        for values in traced.known():
+            less = self._verdict(traced, values, "SCMP_ACT_ERRNO", ("SCMP_ACT_ALLOW", 0), "--no-less")
+            more = self._verdict(traced, values, "SCMP_ACT_ALLOW", REFERRED, "--no-more")
+            for verdict in (less, more):
+                if not verdict.holds and not verdict.fails:
+                    return Judged(traced, UNTOLD, verdict.word)
+            if less.call is not None and less.filters is not None:
+                refused = less.call, less.filters
+                line = reasons.of(self.profile, self.table, less.call.words()).line
+            made = more.call or made
+        fate = DEPENDS if made and refused else IS_MADE if made else ISNT_MADE
+        return Judged(traced, fate, line, made, refused)
+
+
+def find(log: Log, judge: Judge) -> Needs:
+    """The calls of a log, by their numbers, each judged."""
+    found = Needs([], foreign=log.foreign.count, unread=log.unread.count)
+    traced: list[Traced] = []
+    for (name, values), seen in log.calls.items():
+        number = number_of(name, judge.table)
+        if number is None:
+            found.unnamed[name] = found.unnamed.get(name, 0) + seen.count
+        else:
+            traced.append(Traced(number, name, tuple(zip(judge.looked_at(name), values)), seen))
+    found.left = max(0, len(traced) - CALLS)
+    for one in sorted(traced[:CALLS], key=lambda it: (it.number, it.name, it.seen.line)):
+        found.judged.append(judge.of(one))
+    return found
+
+
+def _of_judged(one: Judged) -> Iterator[str]:
+    """The lines of a call that isn't made, or not always."""
+    if one.fate == ISNT_MADE:
+        yield f"{one.traced.told()} {one.line}"
+    elif one.fate == DEPENDS:
+        unsure = one.traced.unsure
+        args = f"arg {unsure[0]}" if len(unsure) == 1 else f"args {', '.join(map(str, unsure))}"
+        yield f"{one.traced.told()} depends on {args}"
+        if one.made and one.refused:
+            yield (f"# made with {_arguments(one.made)}; with {_arguments(one.refused[0])} it is {one.refused[1]}")
+    else:
+        yield f"{one.traced.told()} {one.line}"
+    seen = one.traced.seen
+    yield f"# {'once' if seen.count == 1 else f'{seen.count} times, first'} in line {seen.line} of the log"
+
+
+def _arguments(call: Call) -> str:
+    return f"args {' '.join(map(hex, call.arguments))}"
+
+
+def _of_unjudged(needs: Needs) -> Iterator[str]:
+    """What in the log wasn't judged."""
+    for name, count in sorted(needs.unnamed.items()):
+        yield f"not judged, since the table names no such call: {name}, calls of it: {count}"
+    if needs.foreign:
+        yield f"not judged, since they are calls of processes that don't run in 64 bit mode: {needs.foreign}"
+    if needs.left:
+        yield f"not judged, since there are more than {CALLS}: {needs.left} calls with other arguments"
+    if needs.unread:
+        yield f"lines that strace didn't write, or that can't be read: {needs.unread}"
+    if not needs.judged:
+        yield "no call was found in the log"
+
+
+def lines(needs: Needs) -> Iterator[str]:
+    """The report: what the profile doesn't make, what depends, and how much was looked at."""
+    for fate in (ISNT_MADE, DEPENDS, UNTOLD):
+        for one in needs.of(fate):
+            yield from _of_judged(one)
+    yield from (f"# {line}" for line in _of_unjudged(needs))
+    counts = ", ".join(f"{fate} {len(needs.of(fate))}" for fate in (IS_MADE, ISNT_MADE, DEPENDS, UNTOLD)
+                       if fate != UNTOLD or needs.of(UNTOLD))
+    yield f"# calls, each with the arguments that conditions look at: {counts}"
+
+
+def as_json(needs: Needs, table: Table) -> dict[str, object]:
+    found = []
+    for one in needs.judged:
+        traced = one.traced
+        shown: dict[str, object] = {
+            "number": traced.number, "name": traced.name, "fate": one.fate, "count": traced.seen.count,
+            "line": traced.seen.line, "depends_on": traced.unsure if one.fate == DEPENDS else [],
+            "arguments": {str(index): None if values is None else list(map(hex, values))
+                          for index, values in traced.arguments}}
+        if one.refused:
+            shown["refused"] = {"call": one.refused[0].as_json(table), "answer": one.refused[1].as_json(),
+                                "reason": one.line.split(" ", 2)[-1]}
+        if one.made and one.fate == DEPENDS:
+            shown["made"] = one.made.as_json(table)
+        if one.fate == UNTOLD:
+            shown["verdict"] = one.line
+        found.append(shown)
+    return {"status": needs.status, "calls": found,
+            "not_judged": {"names": needs.unnamed, "foreign": needs.foreign, "more": needs.left, "lines": needs.unread}}
+
+
+def _entries(needs: Needs) -> Iterator[dict[str, object]]:
+    """The entries that let the calls through, each argument that is known and looked at with its value."""
+    plain: dict[str, None] = {}
+    ruled: dict[str, dict[tuple[tuple[int, int], ...], None]] = {}
+    for one in needs.judged:
+        for values in one.traced.known():
+            ruled.setdefault(one.traced.name, {})[tuple(values.items())] = None
+    for name, rules in ruled.items():
+        if () in rules or len(rules) > CONDITIONS:
+            plain[name] = None
+    if plain:
+        yield {"names": list(plain), "action": "SCMP_ACT_ALLOW"}
+    for name, rules in ruled.items():
+        for rule in rules if name not in plain else ():
+            yield {"names": [name], "action": "SCMP_ACT_ALLOW",
+                   "args": [{"index": index, "value": value, "op": EQUAL} for index, value in rule]}
+
+
+def least_profile(needs: Needs, judge: Judge) -> tuple[str, list[str]]:
+    """The least profile that lets the calls of the log through, as JSON, and what isn't in it."""
+    top, default = judge.top, judge.top["defaultAction"]
+    found: dict[str, object] = {"defaultAction": default}
+    if default in LETS_THROUGH:
+        found = {"defaultAction": "SCMP_ACT_ERRNO"}
+    elif "defaultErrnoRet" in top:
+        found["defaultErrnoRet"] = top["defaultErrnoRet"]
+    found.update((name, top[name]) for name in KEPT if name in top)
+    named = [it for it in needs.judged if judge.table.number_of(it.traced.name) is not None]
+    found["syscalls"] = list(_entries(Needs(named)))
+    remarks = list(_of_unjudged(needs))
+    remarks += [f"number {it.traced.number} has no name, and isn't in the profile" for it in needs.judged
+                if it not in named]
+    remarks += [f"{it.traced.name}: strace doesn't show arguments {', '.join(map(str, it.traced.unknown))} as numbers: "
+                "they may be any" for it in named if it.traced.unknown]
+    return json.dumps(found, indent=4) + "\n", remarks
+
+
+def say_refused(why: Refused, profile: bytes, table: Table) -> Iterator[str]:
+    """scf's line, and what it means."""
+    from . import comparing  # pylint: disable=import-outside-toplevel
+
+    yield why.line
+    fault = Fault.read(why.line)
+    if fault:
+        yield from (f"# {line}" for line in comparing.of_fault(fault, profile, table))
+
+
+def read(name: str, judge: Judge) -> Needs:
+    return find(straces.read(name, judge.looked_at), judge)
+
+
+def put(found: Iterator[str]) -> None:
+    for line in found:
+        output.put_line(line)
