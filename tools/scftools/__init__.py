@@ -24,6 +24,11 @@ packages is imported. So it adds its own folder to the path of imports, by its r
     paths       which instructions of a filter run on a call, and the last tests on the way
     reasons     why a profile answers a call so: the entry that says it, and its conditions
     listing     a filter with the targets of its jumps and the names of its calls
+    entries     the entries of a profile as scf reads them, and records that meet conditions
+    needless    entries without effect, entries that conflict
+    linting     what is odd in a profile
+    straces     logs of strace
+    needing     what a program needs of a profile, by a log of strace
     engines     what a container engine makes of its own profile for one container
     processes   processes: all of their threads held still, and the filters that the kernel keeps of each
     foreign     calls that aren't native: whether any is let through

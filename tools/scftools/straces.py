@@ -5,6 +5,8 @@ at all, the argument isn't known.
 """
 from __future__ import annotations
 
+import functools
+import operator
 import os
 import re
 from collections.abc import Callable, Iterator
@@ -39,22 +41,28 @@ ORDER = {"preadv2": (0, 1, 2, 3, 5), "pwritev2": (0, 1, 2, 3, 5)}
 FORKS = ("clone(", "clone3(", "fork(", "vfork(")
 
 
+def _number_of(found: re.Match[str]) -> int:
+    return int(found[1]) if found[1] else int(found[2], 8) if found[2] else int(found[3], 16)
+
+
+def _number_in(text: str) -> int | None:
+    """The number that is printed, or the numbers that have bits of it, as 0x1200000|17."""
+    whole = NUMBER.fullmatch(text)
+    parts = [whole] if whole else [NUMBER.fullmatch(it) for it in text.split("|")]
+    numbers = [_number_of(it) for it in parts if it]
+    if len(numbers) < len(parts):
+        return SYMBOLS.get(text.partition("<")[0])
+    return functools.reduce(operator.or_, numbers) if len(numbers) == 1 or min(numbers) >= 0 else None
+
+
 def values_of(text: str) -> tuple[int, ...] | None:
     """The values that a printed argument may have, None where it isn't known: of a negative one that fits 32 bits, with
     and without the sign in the upper half."""
-    shown = text.strip().removesuffix(UNFINISHED.strip()).strip()
-    found = NUMBER.fullmatch(shown)
-    if found:
-        number = int(found[1]) if found[1] else int(found[2], 8) if found[2] else int(found[3], 16)
-    else:
-        symbol = SYMBOLS.get(shown.partition("<")[0])
-        if symbol is None:
-            return None
-        number = symbol
-    if number >= 0:
-        return (number,) if number < 1 << 64 else None
-    if number < -(1 << 63):
+    number = _number_in(text.strip().removesuffix(UNFINISHED.strip()).strip())
+    if number is None or not -(1 << 63) <= number < 1 << 64:
         return None
+    if number >= 0:
+        return (number,)
     return (number + (1 << 32), number + (1 << 64)) if number >= -(1 << 31) else (number + (1 << 64),)
 
 
@@ -175,7 +183,7 @@ class Log:
                 self._pending_ends(next(iter(self._pending)))
         elif CALL.match(text):
             self._call(number, who, text)
-        elif text.strip() and not text.startswith(("--- ", " > ", "strace: ")):
+        elif text.strip() and not text.startswith(("--- ", "> ", "strace: ")):
             self._count(self.unread, number)
 
     def _pending_ends(self, who: str | None) -> None:

@@ -9,7 +9,8 @@ import unittest
 from common import TOP, Case, filter_of, profile_of, tool
 
 TOOLS = ("ask", "bundle", "call-table", "check", "compare", "compare-profiles", "compile", "decide", "explain",
-         "filters-of", "list", "oci-hook", "plain-profile", "run", "surface", "unit-profile", "verify-process")
+         "filters-of", "lint", "list", "needs", "oci-hook", "plain-profile", "run", "surface", "unit-profile",
+         "verify-process")
 MODULES = sorted(name for name in os.listdir(os.path.join(TOP, "tools", "scftools")) if name.endswith(".py"))
 LIST = "lib/scf/installed"
 as_root = unittest.skipUnless(os.geteuid() == 0, "only root can give a folder to another user")
@@ -44,6 +45,7 @@ class Put(Case):
                        *(f"lib/scf/tools/{name}" for name in TOOLS),
                        *(f"lib/scf/tools/scftools/{name}" for name in MODULES), "lib/scf/tables/x86_64.table",
                        "lib/scf/tables/other_architectures.names", "lib/scf/tables/calls.groups",
+                       "lib/scf/tables/dangerous.calls",
                        "lib/scf/docs/FAULTS.md", LIST,
                        "share/doc/scf/LICENSE", "share/man/man1/scf.1",
                        *(f"share/man/man1/scf-{name}.1" for name in TOOLS)])

@@ -13,8 +13,8 @@ sys.path.append(os.path.join(TOP, "tools"))
 
 from scftools import tables  # noqa: E402
 
-TOOLS = ("ask", "bundle", "check", "compare", "compare-profiles", "compile", "decide", "explain", "list", "run",
-         "surface")
+TOOLS = ("ask", "bundle", "check", "compare", "compare-profiles", "compile", "decide", "explain", "lint", "list", "needs",
+         "run", "surface")
 NATIVE = load(4) + jeq(X86_64, 1, 0) + ret(KILL_PROCESS) + load(0) + jge(0x40000000, 0, 1) + ret(KILL_PROCESS)
 # A is the number times the number, which isn't followed where the number isn't known.
 SQUARE = NATIVE + insn(0x07, 0) + insn(0x2C, 0) + jeq(49, 0, 1) + ret(EPERM) + ret(ALLOW)
@@ -373,7 +373,8 @@ class Programs(Case):
             os.symlink(tool(name), link)
             self.assertIn(f"usage: scf-{name} ", self.run_words([link, "--help"])[1])
             words = ("filter", "none") if name == "bundle" else \
-                ("none", "none") if name.startswith("compare") else ("--table", "none", "check") if name == "explain" else \
+                ("none", "none") if name.startswith("compare") or name == "needs" else \
+                ("--table", "none", "check") if name == "explain" else \
                 ("none",)
             status, out, err = self.run_words([link, *words])
             self.assertEqual((status, out), (2, ""))
