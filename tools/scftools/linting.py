@@ -25,6 +25,8 @@ KINDS = ("conflict", "covered", "dangerous-call", "default-allows", "left-out-na
 DANGEROUS = os.path.join(program.TOP, "tables", "dangerous.calls")
 # So many findings of a kind that a stranger can multiply are told, and so many names of one finding.
 TOLD, NAMES = 100, 20
+# How like a member must be to be the nearest.
+LIKENESS = 0.7
 # The members that are read: by scf's loader and, of the top, by a container's runtime (OCI runtime specification,
 # seccomp); a comment is for people.
 TOP = ("defaultAction", "defaultErrnoRet", "architectures", "archMap", "syscalls", "flags", "listenerPath",
@@ -77,7 +79,7 @@ def _nearest(name: str, known: Sequence[str]) -> str | None:
     if len(name) > tables.LONGEST:
         return None
     lower = {it.lower(): it for it in known}
-    return next((lower[it] for it in difflib.get_close_matches(name.lower(), list(lower), n=1)), None)
+    return next((lower[it] for it in difflib.get_close_matches(name.lower(), lower, 1, LIKENESS)), None)
 
 
 def _of_object(value: Object, known: Sequence[str], where: str, place: int | None) -> Iterator[Finding]:

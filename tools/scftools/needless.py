@@ -113,13 +113,17 @@ class Search:
         return self.looks > 0 and record_of([entry.conditions], [it.conditions for it in others]) is None
 
     def _doubtful(self) -> list[Named]:
-        """What may be without effect all together, from the last entry on."""
-        try:
+        """What may be without effect all together: whole entries first, and then names of others, from the last on."""
+        found: list[Named] = []
+        for is_whole in (True, False):
             for entry in reversed(self.entries.values()):
-                self.gone |= {(entry.place, name) for name in entry.names if self._is_doubtful(entry, name)}
-            return sorted(self.gone, reverse=True)
-        finally:
-            self.gone = set()
+                names = [it for it in entry.names if (entry.place, it) not in self.gone]
+                doubtful = [(entry.place, it) for it in names if self._is_doubtful(entry, it)]
+                if len(doubtful) == len(entry.names) or not is_whole:
+                    found += doubtful
+                    self.gone.update(doubtful)
+        self.gone = set()
+        return found
 
     def _kept(self, gone: set[Named]) -> Iterator[Entry]:
         """The entries without some names."""

@@ -1,0 +1,461 @@
+"""tools/lint: each kind of finding where it is, and its absence at the border; what is said as proved, beside scf."""
+import itertools
+import json
+import os
+import random
+import sys
+import time
+
+from common import TABLE, TOP, Case, part, profile_of
+from test_output import HOSTILE
+
+sys.path.append(os.path.join(TOP, "tools"))
+
+from scftools import kernel_profiles, linting, program, tables  # noqa: E402
+
+ALLOW, ERRNO, TOP_OF = "SCMP_ACT_ALLOW", "SCMP_ACT_ERRNO", (1 << 64) - 1
+ACTIONS = ("ALLOW", "LOG", "ERRNO", "TRACE", "TRAP", "NOTIFY", "KILL", "KILL_THREAD", "KILL_PROCESS")
+with open(TABLE, "rb") as opened:
+    TABLE_TEXT = opened.read()
+
+
+def entry(*names, action=ALLOW, args=(), **members):
+    found = {"names": list(names), "action": action, **members}
+    if args:
+        found["args"] = [arg if isinstance(arg, dict) else
+                         dict(zip(("index", "op", "value", "valueTwo"), (arg[0], f"SCMP_CMP_{arg[1]}", *arg[2:])))
+                         for arg in args]
+    return found
+
+
+def profile(*entries, default=ERRNO, **members):
+    return {"defaultAction": default, "syscalls": list(entries), **members}
+
+
+class Linted(Case):
+    def run_lint(self, given, *words):
+        text = given if isinstance(given, bytes) else json.dumps(given).encode()
+        return self.run_tool("lint", *words, self.file("p.json", text))
+
+    def report(self, given, *words, status=0):
+        """What --json says, whose kinds and entries stand in the lines, too."""
+        found, out, err = self.run_lint(given, "--json", *words)
+        self.assertEqual((found, err, out.count("\n")), (status, "", 1))
+        report = json.loads(out)
+        self.assertEqual(report["status"], status)
+        lines = self.run_lint(given, *words)[1].split("\n")
+        self.assertEqual([line.partition(":")[0] for line in lines if line and line[:2] != "# " and line[:6] != "fault "],
+                         [it["kind"] for it in report["findings"]])
+        return report
+
+    def found(self, given, *words, kinds=(), status=0):
+        """The findings of some kinds."""
+        return [it for it in self.report(given, *words, status=status)["findings"] if it["kind"] in kinds]
+
+    def effects(self, *entries, default=ERRNO, **members):
+        """Each entry that is covered or without effect, as its place, whether all of it is, and why."""
+        found = self.found(profile(*entries, default=default, **members), kinds=("covered", "without-effect"))
+        return [(it["entry"], it["is_whole"], it.get("why") or it["by"]) for it in found]
+
+
+class Usage(Linted):
+    def test_usage(self):
+        self.says_usage("lint")
+
+    def test_nothing(self):
+        clean = profile(entry("read", "write", comment="as it is"), defaultErrnoRet=38)
+        for words in ((), ("--strict",)):
+            self.assertEqual(self.run_lint(clean, *words), (0, "# nothing was found\n", ""))
+        self.assertEqual(self.report(clean, "--strict"), {"status": 0, "findings": [], "untold": []})
+
+    def test_strict_and_except(self):
+        odd = profile(entry("umont2"), default=ALLOW)
+        self.assertEqual(self.run_lint(odd, "--except", "dangerous-call"), (0, (
+            "unknown-name: entry 0: no call that is known here is called umont2; the nearest name of the table is "
+            "umount2\ndefault-allows: SCMP_ACT_ALLOW: a call that no entry names is made\n# findings: 2\n"), ""))
+        self.assertEqual(self.run_lint(odd, "--strict")[0], 1)
+        without = ("--except", "unknown-name", "--except=default-allows", "--except=dangerous-call")
+        self.assertEqual(self.run_lint(odd, "--strict", *without), (0, "# nothing was found\n", ""))
+        status, out, err = self.run_lint(odd, "--except", "everything")
+        self.assertEqual((status, out), (2, ""))
+        self.assertIn("invalid choice", err)
+
+    def test_inputs(self):
+        given = json.dumps(profile(entry("reed")))
+        expected = self.run_lint(profile(entry("reed")))
+        config = json.dumps({"ociVersion": "1.0.2", "linux": {"seccomp": profile(entry("reed"))}})
+        self.assertEqual(self.run_tool("lint", "-", given=given.encode()), expected)
+        self.assertEqual(self.run_tool("lint", self.file("config.json", config)), expected)
+        status, out, err = self.run_tool("lint", "--table=-", "-")
+        self.assertEqual((status, out), (2, ""))
+        self.assertIn("only one input can be '-'", err)
+        status, out, _ = self.run_tool("lint", "/dev/zero")
+        self.assertEqual((status, out.split("\n")[0]), (1, "fault profile TooMany"))
+        status, _, err = self.closed_output("lint", self.file("p.json", given))
+        self.assertEqual((status, err), (3, "lint: the output failed: No space left on device\n"))
+
+    def test_refusals_are_those_of_compile(self):
+        for text in (b"{", b"", b"[]", b'{"defaultAction":"ALLOW"}', json.dumps(profile(entry())).encode(),
+                     json.dumps(profile(entry("read", includes={"caps": ["CAP_KILL"]}))).encode(),
+                     json.dumps(profile(entry("read", args=[(9, "EQ", 1)]))).encode()):
+            status, out, _ = self.run_lint(text)
+            expected = self.run_tool("compile", self.file("q.json", text))
+            self.assertEqual(status, expected[0])
+            self.assertEqual([line.replace("compile: ", "# ", 1) for line in expected[2].split("\n")[1:-1]],
+                             out.split("\n")[1:-2])
+            self.assertEqual(f"compile: {out.split(chr(10))[0]}", expected[2].split("\n")[0])
+            self.assertEqual(self.report(text, status=1)["fault"]["source"], "profile")
+        bad = self.file("bad.table", b"read\n")
+        status, out, _ = self.run_lint(profile(), "--table", bad)
+        self.assertEqual((status, out.split("\n")[0]), (1, "fault table Form line 1"))
+        status, out, _ = self.run_lint(profile(), "--limit", "x")
+        self.assertEqual((status, out.split("\n")[0]), (2, "fault number limit"))
+
+    def test_a_filter_that_would_be_too_large(self):
+        entries = [entry("socket", args=[(0, "GT", it), (1, "GT", it)]) for it in range(2**40, 2**40 + 4000)]
+        status, out, _ = self.run_lint(profile(entry("reed"), *entries))
+        self.assertEqual((status, out.split("\n")[0]), (1, "fault compile TooLarge"))
+        self.assertIn("\nunknown-name: entry 0: no call that is known here is called reed; the nearest name of the "
+                      "table is read\n", out)
+
+    def test_what_could_not_be_told(self):
+        given = profile(entry("read"), entry("read"))
+        report = self.report(given, "--limit=0")
+        self.assertEqual(report["findings"], [])
+        self.assertEqual({it["verdict"] for it in report["untold"] if it["kind"] == "without-effect"}, {"unfinished"})
+        self.assertTrue(any(it["kind"] == "dangerous-call" for it in report["untold"]))
+        out = self.run_lint(given, "--limit=0")[1]
+        self.assertIn("# without-effect: it couldn't be told which entries have an effect: unfinished\n", out)
+        self.assertTrue(out.split("\n")[-2].startswith("# nothing was found; couldn't be told: "), out)
+        self.report(given, "--limit=0", "--strict", status=4)
+        self.report(profile(entry("reed")), "--limit=0", "--strict", status=1)
+
+
+class Names(Linted):
+    def test_names_that_no_call_has(self):
+        kinds = ("unknown-name", "other-architectures", "left-out-name")
+        self.assertEqual(self.found(profile(entry("read"), entry("umont2", "zzqqzz")), kinds=kinds), [
+            {"kind": "unknown-name", "entry": 1, "name": "umont2", "nearest": "umount2", "text": "entry 1: no call that "
+             "is known here is called umont2; the nearest name of the table is umount2"},
+            {"kind": "unknown-name", "entry": 1, "name": "zzqqzz", "nearest": None,
+             "text": "entry 1: no call that is known here is called zzqqzz"}])
+        self.assertEqual(self.found(profile(entry("read", "umount2"), default=ERRNO), kinds=kinds), [])
+
+    def test_names_of_other_architectures_are_counted(self):
+        found = self.found(profile(entry("read", "waitpid"), entry("_llseek", "waitpid")), kinds=(
+            "unknown-name", "other-architectures"))
+        self.assertEqual([(it["kind"], it["count"], it["names"]) for it in found],
+                         [("other-architectures", 2, ["waitpid", "_llseek"])])
+        self.assertTrue(found[0]["text"].endswith(": 2"))
+
+    def test_a_table_of_ones_own(self):
+        own = self.file("own.table", b"read 0\n")
+        kinds = ("left-out-name", "unknown-name")
+        self.assertEqual([(it["kind"], it["name"]) for it in self.found(
+            profile(entry("read", "write", "wriet")), "--table", own, kinds=kinds)],
+            [("unknown-name", "wriet"), ("left-out-name", "write")])
+        self.assertEqual(self.found(profile(entry("read", "write")), kinds=kinds), [])
+
+    def test_a_name_twice_in_an_entry(self):
+        twice = self.found(profile(entry("read", "write", "read"), entry("close")), kinds=("repeated-name",))
+        self.assertEqual([(it["entry"], it["names"]) for it in twice], [(0, ["read"])])
+        self.assertEqual(self.found(profile(entry("read"), entry("read")), kinds=("repeated-name",)), [])
+
+
+class Members(Linted):
+    KINDS = ("unread-member", "repeated-member")
+
+    def unread(self, *entries, **members):
+        return [(it.get("entry"), it["member"], it["nearest"]) for it in
+                self.found(profile(*entries, **members), kinds=self.KINDS)]
+
+    def test_members_that_nothing_reads(self):
+        self.assertEqual(self.unread(entry("read"), entry("write", arg=[])), [(1, "arg", "args")])
+        self.assertEqual(self.unread(entry("read", flags=["SECCOMP_FILTER_FLAG_LOG"], Args=[])),
+                         [(0, "flags", None), (0, "Args", "args")])
+        self.assertEqual(self.unread(entry("read"), defaultErrno="EPERM"), [(None, "defaultErrno", "defaultErrnoRet")])
+        self.assertEqual(self.unread(entry("read", args=[{"index": 0, "op": "SCMP_CMP_EQ", "value": 1, "valueTow": 1}])),
+                         [(0, "valueTow", "valueTwo")])
+
+    def test_members_that_are_read(self):
+        self.assertEqual(self.unread(entry("read", comment="c", errnoRet=None, args=None, includes={}, excludes={}),
+                                     entry("write", action=ERRNO, errnoRet=2), flags=["x"], listenerPath="/x",
+                                     listenerMetadata="m", comment="c", defaultErrnoRet=1, archMap=[],
+                                     architectures=[]), [])
+        self.assertEqual(self.unread(entry("read", arg=None)), [])
+
+    def test_the_second_value_is_that_of_masks(self):
+        for operator, second, expected in (("EQ", 5, [(0, "valueTwo", None)]), ("EQ", 0, []), ("MASKED_EQ", 5, []),
+                                           ("NE", 1, [(0, "valueTwo", None)]), ("MASKED_EQ", 0, [])):
+            self.assertEqual(self.unread(entry("read", args=[(0, operator, 1, second)])), expected, operator)
+
+    def test_members_that_stand_twice(self):
+        text = b'{"defaultAction":"SCMP_ACT_ERRNO","syscalls":[{"names":["read"],"action":"SCMP_ACT_LOG",' \
+               b'"action":"SCMP_ACT_ALLOW"}]}'
+        found = self.found(text, kinds=self.KINDS)
+        self.assertEqual([(it["kind"], it["entry"], it["member"]) for it in found], [("repeated-member", 0, "action")])
+        # the last is taken
+        self.assertEqual(self.run_tool("ask", self.file("q.json", text))[1].split("\n")[0], "ALLOW 0 entry 0")
+
+
+class Defaults(Linted):
+    def test_a_default_that_allows(self):
+        for action in ACTIONS:
+            found = self.found(profile(default=f"SCMP_ACT_{action}"), kinds=("default-allows",))
+            self.assertEqual(len(found), action in ("ALLOW", "LOG"), action)
+
+    def test_architectures_without_x32(self):
+        x86_64, x86, x32 = (f"SCMP_ARCH_{name}" for name in ("X86_64", "X86", "X32"))
+        for named, is_found in (([x86_64], True), ([x86, x86_64], True), ([x86_64, x86, x32], False),
+                                ([x86_64, x32], False), ([], False), (None, False)):
+            found = self.found(profile(architectures=named), kinds=("x32",))
+            self.assertEqual([it["architectures"] for it in found], [named] if is_found else [])
+        self.assertIn("the default refuses it", self.run_lint(profile(architectures=[x86_64]))[1])
+        self.assertIn("may be made as x32 call", self.run_lint(profile(default=ALLOW, architectures=[x86_64]))[1])
+
+
+class Dangerous(Linted):
+    def made(self, given):
+        return [(it["name"], it["is_always"], it["entry"]) for it in self.found(given, kinds=("dangerous-call",))]
+
+    def test_the_list(self):
+        listed, table = linting.dangerous_calls(), tables.read(TABLE)
+        self.assertEqual(list(listed), sorted(listed))
+        for name, reason in listed.items():
+            self.assertIsNotNone(table.number_of(name), name)
+            self.assertGreater(len(reason), 20, name)
+        for name in ("ptrace", "bpf", "mount", "kexec_load"):
+            self.assertIn(name, listed)
+
+    def test_each_of_them(self):
+        names = sorted(linting.dangerous_calls())
+        self.assertEqual(self.made(profile(entry(*names))), [(name, True, 0) for name in names])
+        self.assertEqual(self.made(profile(default=ALLOW)), [(name, True, None) for name in names])
+        self.assertEqual(self.made(profile(entry("read", "clone"))), [])
+
+    def test_what_is_made(self):
+        for action in ACTIONS:
+            found = self.made(profile(entry("ptrace", action=f"SCMP_ACT_{action}")))
+            self.assertEqual(found, [("ptrace", True, 0)] if action in ("ALLOW", "LOG") else [], action)
+
+    def test_some_arguments(self):
+        given = profile(entry("read"), entry("ptrace", args=[(0, "EQ", 7), (3, "GT", 9)]))
+        found, = self.found(given, kinds=("dangerous-call",))
+        self.assertEqual((found["name"], found["is_always"], found["entry"]), ("ptrace", False, 1))
+        arguments = [int(it, 16) for it in found["arguments"]]
+        self.assertEqual(arguments[0], 7)
+        self.assertGreater(arguments[3], 9)
+        self.assertIn("ptrace (101) is made with some arguments, as 0x7 ", found["text"])
+        both = profile(entry("ptrace", args=[(0, "LT", 7)]), entry("ptrace", args=[(0, "GE", 7)]))
+        self.assertEqual([it[:2] for it in self.made(both)], [("ptrace", True)])
+        referred = profile(entry("ptrace", args=[(0, "LT", 7)]),
+                           entry("ptrace", action="SCMP_ACT_TRACE", args=[(0, "GE", 7)]))
+        self.assertEqual(self.made(referred), [("ptrace", False, 0)])
+        self.assertEqual(self.made(profile(entry("ptrace", args=[(0, "LT", 0)]))), [])
+
+
+class Effects(Linted):
+    def test_as_the_default(self):
+        self.assertEqual(self.effects(entry("read"), entry("write", "close", action=ERRNO)), [(1, True, "default")])
+        self.assertEqual(self.effects(entry("read", action=ERRNO, errnoRet=1)), [(0, True, "default")])
+        self.assertEqual(self.effects(entry("read", action=ERRNO, errnoRet=2)), [])
+        self.assertEqual(self.effects(entry("read", action=ERRNO, errnoRet=2), defaultErrnoRet=2), [(0, True, "default")])
+        self.assertEqual(self.effects(entry("read", action="SCMP_ACT_KILL_THREAD"), default="SCMP_ACT_KILL"),
+                         [(0, True, "default")])
+        self.assertEqual(self.effects(entry("read", action="SCMP_ACT_KILL_PROCESS"), default="SCMP_ACT_KILL"), [])
+
+    def test_covered(self):
+        self.assertEqual(self.effects(entry("read", "write"), entry("read")), [(1, True, 0)])
+        self.assertEqual(self.effects(entry("read"), entry("read", "write")), [(0, True, 1)])
+        self.assertEqual(self.effects(entry("read", "write"), entry("read", "close")), [(1, False, 0)])
+        self.assertEqual(self.effects(entry("read"), entry("read", args=[(0, "EQ", 5)])), [(1, True, 0)])
+        for wide, narrow, is_covered in (((0, "LE", 5), (0, "LT", 6), True), ((0, "LE", 5), (0, "LE", 6), False),
+                                         ((0, "NE", 5), (0, "GT", 5), True), ((0, "NE", 5), (0, "GE", 5), False),
+                                         ((0, "MASKED_EQ", 4, 4), (0, "EQ", 12), True),
+                                         ((0, "MASKED_EQ", 4, 4), (0, "EQ", 8), False),
+                                         ((0, "EQ", 5), (1, "EQ", 5), False)):
+            found = self.effects(entry("read", args=[wide]), entry("read", args=[narrow]))
+            self.assertEqual((1, True, 0) in found, is_covered, (wide, narrow))
+
+    def test_two_that_are_alike(self):
+        """The later is told, and not both, which can't be left out together."""
+        self.assertEqual(self.effects(entry("read"), entry("write"), entry("read")), [(2, True, 0)])
+
+    def test_together(self):
+        halves = entry("read", args=[(0, "LT", 5)]), entry("read", args=[(0, "GE", 5)])
+        self.assertEqual(self.effects(*halves, entry("read")), [(2, True, "together")])
+        self.assertEqual(self.effects(entry("read"), *halves), [(1, True, 0), (2, True, 0)])
+        gap = entry("read", args=[(0, "LT", 5)]), entry("read", args=[(0, "GT", 5)])
+        self.assertEqual([it for it in self.effects(*gap, entry("read")) if it[0] == 2], [])
+
+    def test_no_call_meets_it(self):
+        for condition, is_met in (((0, "LT", 0), False), ((0, "LE", 0), True), ((5, "GT", TOP_OF), False),
+                                  ((5, "GE", TOP_OF), True)):
+            self.assertEqual(self.effects(entry("read"), entry("write", args=[condition])),
+                             [] if is_met else [(1, True, "none")], condition)
+
+    def test_names_of_other_architectures_have_an_effect_there(self):
+        self.assertEqual(self.effects(entry("read"), entry("read", "waitpid")), [(1, False, 0)])
+        self.assertEqual(self.effects(entry("read"), entry("waitpid", "umont2")), [])
+
+    def test_what_is_said_behind_them(self):
+        same = "# without all that is covered or without effect, scf says same\n"
+        self.assertIn(same, self.run_lint(profile(entry("read"), entry("read")))[1])
+        self.assertNotIn(same, self.run_lint(profile(entry("read"), entry("reed")))[1])
+        self.assertEqual(self.report(profile(entry("read"), entry("read")))["verdict"], "same")
+
+
+class Beside(Linted):
+    """Random profiles: what is told is without effect, each by itself and all together, and nothing else is."""
+
+    CONDITIONS = [(index, op, value) for index in (0, 1) for op in ("EQ", "NE", "LT", "LE", "GT", "GE")
+                  for value in (0, 1, 5, TOP_OF)] + [(0, "MASKED_EQ", 1, 1), (0, "MASKED_EQ", 1, 0), (1, "MASKED_EQ", 5, 4)]
+
+    def random_profile(self, random_of):
+        made = []
+        for _ in range(random_of.randint(2, 6)):
+            indices = random_of.sample((0, 1), random_of.randint(0, 2))
+            args = [random_of.choice([it for it in self.CONDITIONS if it[0] == index]) for index in indices]
+            made.append(entry(*random_of.sample(("read", "write", "close"), random_of.randint(1, 3)), args=args))
+        if random_of.random() < 0.3:
+            made.append(entry("open", action=ERRNO))
+        return made
+
+    def is_same(self, filters, entries):
+        text = json.dumps(profile(*(it for it in entries if it["names"]))).encode()
+        given = part("filter", filters) + part("profile", text) + part("table", TABLE_TEXT)
+        return program.scf(["compare"], given).lines[0] == "same"
+
+    @staticmethod
+    def without(entries, gone):
+        return [{**it, "names": [name for name in it["names"] if (place, name) not in gone]}
+                for place, it in enumerate(entries)]
+
+    def test_random_profiles(self):
+        random_of, told = random.Random(7), 0
+        for _ in range(30):
+            entries = self.random_profile(random_of)
+            text = json.dumps(profile(*entries)).encode()
+            data = program.scf(["compile"], part("profile", text) + part("table", TABLE_TEXT)).out
+            found = self.found(profile(*entries), kinds=("covered", "without-effect"))
+            gone = {(it["entry"], name) for it in found for name in it["names"]}
+            told += len(gone)
+            self.assertTrue(self.is_same(data, self.without(entries, gone)), entries)
+            for place, it in enumerate(entries):
+                for name in it["names"]:
+                    with self.subTest(entries=entries, place=place, name=name):
+                        if (place, name) in gone:
+                            self.assertTrue(self.is_same(data, self.without(entries, {(place, name)})))
+                        else:
+                            self.assertFalse(self.is_same(data, self.without(entries, gone | {(place, name)})))
+        self.assertGreater(told, 20)
+
+
+class Conflicts(Linted):
+    def conflict(self, *args):
+        """The arguments that are shown of two entries with these conditions, and the fault; None where they agree."""
+        entries = [entry("read", "socket", args=args[0]), entry("write"),
+                   entry("socket", action="SCMP_ACT_LOG", args=args[1])]
+        status, out, _ = self.run_lint(profile(*entries), "--json")
+        report = json.loads(out)
+        found = [it for it in report["findings"] if it["kind"] == "conflict"]
+        self.assertEqual((status, "fault" in report), (1, True) if found else (0, False))
+        if not found:
+            return None
+        self.assertEqual(report["fault"]["numbers"], {"number": 41, "first": 0, "second": 2})
+        self.assertEqual([(it["first"], it["second"], it["name"]) for it in found], [(0, 2, "socket")])
+        self.assertEqual(found[0]["call"]["number"], 41)
+        arguments = [int(it, 16) for it in found[0]["call"]["arguments"]]
+        for condition in (*entries[0].get("args", []), *entries[2].get("args", [])):
+            self.assertTrue(kernel_profiles.holds(condition, arguments), (condition, arguments))
+        return arguments
+
+    def test_a_call_that_both_meet(self):
+        for args in (((), ()), ([(0, "EQ", 5)], ()), ((), [(3, "GT", 7)]), ([(0, "LE", 5)], [(0, "GE", 5)]),
+                     ([(0, "NE", 5)], [(0, "NE", 6), (1, "EQ", TOP_OF)]), ([(0, "EQ", 5)], [(1, "EQ", 6)]),
+                     ([(0, "MASKED_EQ", 0xF0, 0x30)], [(0, "MASKED_EQ", 0x0F, 0x05)])):
+            self.assertIsNotNone(self.conflict(*args), args)
+
+    def test_none_that_both_meet(self):
+        for args in (([(0, "EQ", 5)], [(0, "EQ", 6)]), ([(0, "LT", 5)], [(0, "GE", 5)]),
+                     ([(0, "MASKED_EQ", 1, 1)], [(0, "MASKED_EQ", 1, 0)])):
+            self.assertIsNone(self.conflict(*args), args)
+
+    def test_its_lines(self):
+        given = profile(entry("socket", "umont2"), entry("socket", action=ERRNO, errnoRet=2))
+        status, out, _ = self.run_lint(given)
+        lines = out.split("\n")
+        self.assertEqual((status, lines[0]), (1, "fault profile Conflict number 41 first 0 second 1"))
+        self.assertTrue(lines[1].startswith("# Two entries"), lines[1])
+        self.assertIn("conflict: entries 0 and 1 answer socket (41) by ALLOW and by ERRNO 2: arguments 0x0 0x0 0x0 0x0 "
+                      "0x0 0x0 meet both", lines)
+        self.assertIn("unknown-name: ", out)
+
+    def test_several(self):
+        entries = [entry("read"), entry("read", action="SCMP_ACT_LOG"), entry("read", "write", action="SCMP_ACT_TRAP"),
+                   entry("write")]
+        found = self.found(profile(*entries), kinds=("conflict",), status=1)
+        self.assertEqual([(it["first"], it["second"]) for it in found], [(0, 1), (0, 2), (1, 2), (2, 3)])
+
+
+class Hostile(Linted):
+    def test_names(self):
+        for name, shown in HOSTILE.items():
+            given = profile(entry("read", name), entry("write", **{f"{name}x": 1}),
+                            architectures=["SCMP_ARCH_X86_64", name])
+            status, out, err = self.run_lint(given)
+            self.assertEqual((status, err), (0, ""))
+            lines = out.split("\n")[:-1]
+            self.assertTrue(all(line.isprintable() for line in lines), out)
+            self.assertEqual([line.partition(":")[0] for line in lines],
+                             ["unread-member", "unknown-name", "x32", "# findings"])
+            self.assertIn(shown[:40], lines[1])
+            report = self.report(given)
+            self.assertEqual([it["member"] for it in report["findings"] if it["kind"] == "unread-member"], [f"{name}x"])
+            self.assertEqual([it["name"] for it in report["findings"] if it["kind"] == "unknown-name"], [name])
+            self.assertTrue(self.run_lint(given, "--json")[1][:-1].isascii())
+
+    def test_large_profiles_take_no_time(self):
+        names = [name for name in (line.split()[0].decode() for line in TABLE_TEXT.split(b"\n") if line.strip())
+                 if name != "#"]
+        many = [profile(*(entry(name, action=ERRNO) for name in names * 10)),
+                profile(*(entry("read", args=[(0, "EQ", it)]) for it in range(300))),
+                profile(*(entry("read", args=[(0, "MASKED_EQ", it * 2654435761, it)]) for it in range(300))),
+                profile(*(entry("read", action=f"SCMP_ACT_{'ALLOW' if it % 2 else 'LOG'}", args=[(0, "NE", it)])
+                          for it in range(4000))),
+                profile(entry(*(f"x{it:0900}" for it in range(4000)), "read")),
+                profile(entry("read", **{f"m{it}": 1 for it in range(4000)}))]
+        for given in many:
+            begun = time.monotonic()
+            status, out, err = self.run_lint(given)
+            self.assertEqual(err, "")
+            self.assertIn("\n# ", f"\n{out}")
+            self.assertLess(time.monotonic() - begun, 30)
+
+    def test_text_that_python_reads_otherwise(self):
+        """Numbers past all range, halves of surrogate pairs: scf's fault, or a report; no traceback."""
+        for text in (b'{"defaultAction":"SCMP_ACT_ALLOW","x":%s}' % (b"9" * 5000),
+                     b'{"defaultAction":"SCMP_ACT_ALLOW","x":1e999}', b'{"defaultAction":"SCMP_ACT_ALLOW","x":"\\ud800"}',
+                     b'{"defaultAction":"SCMP_ACT_ALLOW","x":%s}' % (b"[" * 120 + b"]" * 120),
+                     b'{"defaultAction":"SCMP_ACT_ALLOW","x":%s}' % (b"[" * 5000 + b"]" * 5000), b"\xff" * 100):
+            status, out, err = self.run_lint(text, "--except=dangerous-call")
+            self.assertIn(status, (0, 1))
+            self.assertEqual(err, "")
+            self.assertTrue(all(line.isprintable() for line in out.split("\n")))
+
+
+class Container(Linted):
+    def test_a_list_as_long_as_a_containers(self):
+        """Some 350 names and conditions of one call; within the time that is promised, by far."""
+        names = [line.split()[0].decode() for line in TABLE_TEXT.split(b"\n") if line.strip() and line[:1] != b"#"][:346]
+        given = profile(entry(*names), *(entry("personality", args=[(0, "EQ", it)]) for it in (0, 8, 131072, 131080)),
+                        entry("clone", args=[(0, "MASKED_EQ", 2114060288, 0)]), entry("clone3", action=ERRNO, errnoRet=38),
+                        default="SCMP_ACT_KILL_PROCESS")
+        given["syscalls"][0]["names"] = [it for it in names if it not in ("personality", "clone")]
+        begun = time.monotonic()
+        self.assertEqual(self.found(given, kinds=("covered", "without-effect")), [])
+        self.assertLess(time.monotonic() - begun, 20)
+        given["syscalls"].append(entry("personality", "read"))
+        self.assertEqual([(it["entry"], it["names"]) for it in self.found(given, kinds=("covered", "without-effect"))],
+                         list(itertools.chain([(it, ["personality"]) for it in range(1, 5)], [(7, ["read"])])))
+        self.assertEqual(self.run_lint(profile_of("read"))[1], "# nothing was found\n")
