@@ -21,7 +21,7 @@ from .verdicts import Fault, Verdict
 
 IS_MADE, ISNT_MADE, DEPENDS, UNTOLD = "made", "not made", "depends", "untold"
 # The most calls that are judged, values of one call that are asked for, and entries with conditions for one name.
-CALLS, VALUES, CONDITIONS = 5000, 64, 64
+CALLS, VALUES, CONDITIONS = 1000, 64, 64
 REFERRED, EQUAL = ("SCMP_ACT_TRACE", 1), "SCMP_CMP_EQ"
 # What a least profile has of the one that is given, beside its default.
 KEPT = ("architectures", "flags", "listenerPath", "listenerMetadata")

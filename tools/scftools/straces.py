@@ -16,6 +16,8 @@ from . import inputs, output, program
 
 # The most bytes of a log; so many of a line are looked at, and so many calls are kept that aren't finished yet.
 LIMIT, LINE, PENDING = 1 << 30, 1 << 16, 10000
+# So many processes may make one at a time, and it is still looked at in which mode each runs.
+MAKERS = 100
 # What stands before a call: a process, a time, the instruction pointer and the call's number (strace(1): -f, -Y; -t,
 # -tt, -ttt, -r; -i; -n).
 LEADER = re.compile(
@@ -133,6 +135,9 @@ class Log:
     _modes: dict[str | None, str] = field(default_factory=dict)
     _alive: set[str] = field(default_factory=set)
     _pending: dict[str | None, tuple[int, str]] = field(default_factory=dict)
+    # those of which such a call makes processes
+    _makers: dict[str | None, None] = field(default_factory=dict)
+    _other_mode: str | None = None
     _broken: str = ""
 
     def add(self, number: int, line: str) -> None:
@@ -159,16 +164,22 @@ class Log:
         return printed
 
     def _mode_of_new(self) -> str:
-        """The mode of a process that comes up: that of the one that makes it; where that isn't seen, of any that isn't
-        native."""
-        makers = [who for who, (_, text) in self._pending.items() if text.startswith(FORKS)]
-        modes = [self._modes.get(who, NATIVE) for who in makers] or self._modes.values()
-        return next((mode for mode in modes if mode != NATIVE), NATIVE)
+        """The mode of a process that comes up: that of those of which one makes it; where none is seen to, it isn't
+        native once any process wasn't."""
+        if self._other_mode is None:
+            return NATIVE
+        if self._makers and len(self._makers) <= MAKERS:
+            return next((mode for mode in map(self._mode_of, self._makers) if mode != NATIVE), NATIVE)
+        return self._other_mode
+
+    def _mode_of(self, who: str | None) -> str:
+        return self._modes.get(who, NATIVE)
 
     def _add(self, number: int, who: str | None, text: str) -> None:
         mode = MODE.match(text)
         if mode:
             self._modes[mode[1]] = self._modes[who] = mode[2]
+            self._other_mode = mode[2] if mode[2] != NATIVE else self._other_mode
         elif text.startswith("+++ "):
             self._pending_ends(who)
             if who is not None:
@@ -179,6 +190,8 @@ class Log:
         elif text.endswith(UNFINISHED) and CALL.match(text):
             self._pending_ends(who)
             self._pending[who] = number, text.removesuffix(UNFINISHED)
+            if text.startswith(FORKS):
+                self._makers[who] = None
             if len(self._pending) > PENDING:
                 self._pending_ends(next(iter(self._pending)))
         elif CALL.match(text):
@@ -189,8 +202,13 @@ class Log:
     def _pending_ends(self, who: str | None) -> None:
         """A call that isn't finished won't be."""
         if who in self._pending:
-            number, text = self._pending.pop(who)
+            number, text = self._taken(who)
             self._call(number, who, text, is_cut=True)
+
+    def _taken(self, who: str | None) -> tuple[int, str]:
+        """A call that isn't finished, which is kept no longer."""
+        self._makers.pop(who, None)
+        return self._pending.pop(who)
 
     def _resume(self, number: int, who: str | None, text: str) -> None:
         found = RESUMED.match(text)
@@ -199,7 +217,7 @@ class Log:
         if not found or key not in self._pending or CALL.match(self._pending[key][1])[1] != found[1]:
             self._count(self.unread, number)
             return
-        begun, before = self._pending.pop(key)
+        begun, before = self._taken(key)
         self._call(begun, who, before + text[found.end():])
 
     @staticmethod
@@ -215,7 +233,7 @@ class Log:
             return
         if text.startswith(FORKS):
             self._forked(who, text)
-        if self._modes.get(who, NATIVE) != NATIVE:
+        if self._mode_of(who) != NATIVE:
             self._count(self.foreign, number)
             return
         wanted = self.looked_at(name[1])
@@ -228,7 +246,7 @@ class Log:
         at = text.rfind(")")
         result = RESULT.match(text, at + 1)
         if result and result[1].isdigit() and result[1] not in self._modes:
-            self._modes[result[1]] = self._modes.get(who, NATIVE)
+            self._modes[result[1]] = self._mode_of(who)
 
     def end(self) -> None:
         for who in list(self._pending):

@@ -1,0 +1,430 @@
+"""tools/needs: the forms of a log of strace, and each call judged; the least profile, beside scf."""
+import json
+import os
+import random
+import re
+import shutil
+import subprocess
+import sys
+import time
+import unittest
+
+from common import TABLE, TOP, Case, profile_of
+
+sys.path.append(os.path.join(TOP, "tools"))
+
+from scftools import straces  # noqa: E402
+
+ALLOW, ERRNO = "SCMP_ACT_ALLOW", "SCMP_ACT_ERRNO"
+HIGH = 1 << 64
+
+
+def log_of(text, looked_at=()):
+    """The calls of a log: for each name and values how often; and the counts of what wasn't read, or is foreign."""
+    found = straces.Log(lambda name: tuple(looked_at))
+    for number, line in enumerate(text.split("\n"), 1):
+        found.add(number, line)
+    found.end()
+    calls = {}
+    for (name, values), seen in found.calls.items():
+        calls[(name, *values) if looked_at else name] = seen.count
+    return calls, found.unread.count, found.foreign.count
+
+
+class Values(unittest.TestCase):
+    def test_numbers(self):
+        for text, value in (("3", 3), ("0", 0), ("0x1c3", 0x1C3), ("0644", 0o644), ("022", 0o22), ("NULL", 0),
+                            ("0x2 /* AF_INET */", 2), ("0x80000 /* O_RDONLY|O_CLOEXEC */", 0x80000),
+                            ("3</tmp/a, b>", 3), ("0x1200000|17", 0x1200011), ("18446744073709551615", HIGH - 1),
+                            ("-9223372036854775808", 1 << 63), ("-2147483649", HIGH - 2147483649), (" 7 ", 7)):
+            self.assertEqual(straces.values_of(text), (value,), text)
+
+    def test_a_sign_stands_in_the_upper_half_or_not(self):
+        for text, number in (("-1", -1), ("-100", -100), ("AT_FDCWD", -100), ("AT_FDCWD</tmp>", -100),
+                             ("-2147483648", -(1 << 31))):
+            self.assertEqual(straces.values_of(text), (number + (1 << 32), number + HIGH), text)
+
+    def test_what_is_not_known(self):
+        for text in ("", "AF_INET", "AF_INET|1", "O_RDONLY", '"3"', "[3]", "{3}", "1<<3", "1|-1", "08", "0xg", "3x",
+                     "18446744073709551616", "0x10000000000000000", "-9223372036854775809", "9" * 5000, "a=3", "~3"):
+            self.assertIsNone(straces.values_of(text), text)
+
+
+class Arguments(unittest.TestCase):
+    def test_where_they_end(self):
+        for text, expected in (("()", []), ("(1)", ["1"]), ("(1, 2)", ["1", " 2"]), ('("a, \\"b)", 2)', ['"a, \\"b)"', " 2"]),
+                               ("([1, 2], {a=1, b={2, 3}}, 4)", ["[1, 2]", " {a=1, b={2, 3}}", " 4"]),
+                               ("(3</a,b)>, 4)", ["3</a,b)>", " 4"]),
+                               ("(4<TCP:[127.0.0.1:1->127.0.0.1:2]>, 5)", ["4<TCP:[127.0.0.1:1->127.0.0.1:2]>", " 5"]),
+                               ("(0x2 /* a, b) */, 5)", ["0x2 /* a, b) */", " 5"]), ("(1<<3, 5)", ["1<<3", " 5"]),
+                               ("(makedev(0x1, 0x3), 5)", ["makedev(0x1, 0x3)", " 5"])):
+            found, end = straces.arguments_in(text, 1)
+            self.assertEqual((found, end), (expected, len(text)), text)
+
+    def test_what_is_cut(self):
+        for text, expected in (("(1, 2", ["1"]), ('(1, "ab', ["1"]), ("(1, [2, 3", ["1"]), ("(1, 3</a", ["1"]),
+                               ("(1, 2 /* x", ["1"]), ("(", [])):
+            self.assertEqual(straces.arguments_in(text, 1), (expected, None), text)
+
+
+class Forms(unittest.TestCase):
+    """The forms of strace(1)."""
+
+    def test_what_stands_before_a_call(self):
+        for leader in ("", "1234  ", "1234 ", "[pid  1234] ", "12:34:56 ", "12:34:56.123456 ", "1700000000.123456 ",
+                       "     0.000123 ", "1234  12:34:56.1 ", "[pid 1234] 12:34:56 ", "1234       0.000012 ",
+                       "12:34:56 (+     0.000012) ", "[00007f12345678ab] ", "1234  [00007f12345678ab] ", "[ 257] ",
+                       "[pid  1234<ls>] ", "1234<ls> "):
+            self.assertEqual(log_of(f"{leader}openat(3, \"x\", O_RDONLY) = 4"), ({"openat": 1}, 0, 0), leader)
+
+    def test_what_stands_behind_a_call(self):
+        for text in ("close(3)   = 0", "close(3) = -1 EBADF (Bad file descriptor)", "exit_group(0) = ?",
+                     "brk(NULL) = 0x55b162d91000", "read(0, 0x7ff, 1) = ? ERESTARTSYS (To be restarted)",
+                     "close(3) = 0 <0.000010>", "mkdir(\"a\", 0777) = 0 (INJECTED)"):
+            calls, unread, _ = log_of(text)
+            self.assertEqual((list(calls.values()), unread), ([1], 0), text)
+
+    def test_what_is_no_call(self):
+        text = ("--- SIGCHLD {si_signo=SIGCHLD, si_pid=7} ---\n1234  --- SIGINT {si_signo=SIGINT} ---\n"
+                "+++ exited with 0 +++\n[pid 7] +++ killed by SIGKILL (core dumped) +++\n"
+                "strace: Process 12 attached\nstrace: Process 12 detached\n > /usr/lib/x.so(read+0x1) [0x12]\n\n")
+        self.assertEqual(log_of(text), ({}, 0, 0))
+        self.assertEqual(log_of("hello\nread is fine\nread(3\n<... read resumed>) = 3\nRead(3) = 3\n"), ({}, 5, 0))
+
+    def test_unfinished_and_resumed(self):
+        for text in ("1  read(3,  <unfinished ...>\n2  close(4) = 0\n1  <... read resumed>\"a\", 1) = 1",
+                     "[pid 1] read(3,  <unfinished ...>\n[pid 2] close(4) = 0\n[pid 1] <... read resumed> \"a\", 1) = 1",
+                     "read(3,  <unfinished ...>\n[pid 2] close(4) = 0\n[pid 1] <... read resumed>\"a\", 1) = 1",
+                     "1  read(3,  <unfinished ...>\n2  close(4) = 0\n1  +++ killed by SIGKILL +++",
+                     "1  read(3,  <unfinished ...>\n2  close(4) = 0",
+                     "1  read(3,  <unfinished ...>) = ?\n2  close(4) = 0"):
+            self.assertEqual(log_of(text, [0]), ({("read", (3,)): 1, ("close", (4,)): 1}, 0, 0), text)
+        text = '1  socket(AF_UNIX <unfinished ...>\n2  socket(3 <unfinished ...>\n2  <... socket resumed>, 4, 5) = 1\n' \
+               '1  <... socket resumed>, 6, 7) = 1'
+        self.assertEqual(log_of(text, [0, 1]), ({("socket", (3,), (4,)): 1, ("socket", None, (6,)): 1}, 0, 0))
+        # the last argument of a call that never ended may not be whole
+        self.assertEqual(log_of("1  read(3, 4 <unfinished ...>", [0, 1])[0], {("read", (3,), None): 1})
+
+    def test_a_text_that_looks_unfinished(self):
+        text = '1  write(1, " <unfinished ...>", 17) = 17\n1  write(2, "<... read resumed>) = 3", 4) = 1'
+        self.assertEqual(log_of(text, [0]), ({("write", (1,)): 1, ("write", (2,)): 1}, 0, 0))
+
+    def test_a_message_in_the_midst_of_a_line(self):
+        text = ("clone(child_stack=NULL, flags=CLONE_CHILD_SETTID|SIGCHLDstrace: Process 7 attached\n"
+                " <unfinished ...>\n[pid 7] close(3) = 0\n[pid 6] <... clone resumed>, child_tidptr=0x7f) = 7\n")
+        self.assertEqual(log_of(text), ({"clone": 1, "close": 1}, 0, 0))
+
+    def test_arguments_by_name_and_in_another_order(self):
+        text = "clone(child_stack=NULL, flags=0x1200000|17, child_tidptr=0x7f) = 7"
+        self.assertEqual(log_of(text, range(5))[0], {("clone", (0x1200011,), (0,), None, (0x7F,), None): 1})
+        self.assertEqual(log_of("other(a=1, 2) = 0", [0, 1])[0], {("other", None, None): 1})
+        self.assertEqual(log_of("preadv2(3, [], 0, 9, 5) = 0", [3, 4, 5])[0], {("preadv2", (9,), None, (5,)): 1})
+
+    def test_calls_without_a_name(self):
+        self.assertEqual(log_of("syscall_0x1c3(0x1, 0x2, 0x3, 0, 0, 0) = -1 ENOSYS (x)", [1])[0],
+                         {("syscall_0x1c3", (2,)): 1})
+
+    def test_other_modes(self):
+        mode = "[ Process PID=7 runs in 32 bit mode. ]"
+        for text, calls, foreign in (
+                (f"getpid() = 7\n{mode}\ngetpid() = 7\nexit(0) = ?", {"getpid": 1}, 2),
+                (f"7  getpid() = 7\n7  {mode}\n7  getpid() = 7\n8  getuid() = 0", {"getpid": 1}, 2),
+                (f"8  getuid() = 0\n7  {mode}\n7  getpid() = 7\n8  getuid() = 0", {"getuid": 2}, 1),
+                (f"7  {mode}\n7  getpid() = 7\n7  [ Process PID=7 runs in 64 bit mode. ]\n7  getuid() = 7",
+                 {"getuid": 1}, 1),
+                (f"strace: {mode}\ngetpid() = 7", {}, 1),
+                (f"7  {mode}\n7  fork() = 9\n9  getpid() = 9", {}, 2),
+                (f"7  {mode}\n8  vfork() = 9\n7  getpid() = 7\n9  getpid() = 9", {}, 3),
+                (f"8  getuid() = 0\n7  {mode}\n8  vfork() = 9\n7  getpid() = 7\n9  getpid() = 9",
+                 {"getuid": 1, "vfork": 1, "getpid": 1}, 1),
+                (f"8  getuid() = 0\n7  {mode}\n7  fork( <unfinished ...>\n8  getuid() = 0\n9  getpid() = 9",
+                 {"getuid": 2}, 2),
+                ("7  [ Process PID=7 runs in x32 mode. ]\n7  getpid() = 7", {}, 1)):
+            self.assertEqual(log_of(text), (calls, 0, foreign), text)
+
+
+class Judged(Case):
+    PROFILE = {"defaultAction": ERRNO, "syscalls": [
+        {"names": ["read", "write", "exit_group"], "action": ALLOW},
+        {"names": ["socket"], "action": ALLOW, "args": [{"index": 0, "op": "SCMP_CMP_NE", "value": 40}]},
+        {"names": ["wait4"], "action": ALLOW, "args": [{"index": 0, "op": "SCMP_CMP_EQ", "value": (1 << 32) - 1}]},
+        {"names": ["socket"], "action": "SCMP_ACT_ERRNO", "errnoRet": 22,
+         "args": [{"index": 0, "op": "SCMP_CMP_EQ", "value": 40}]},
+        {"names": ["bpf"], "action": "SCMP_ACT_TRACE"}, {"names": ["ptrace"], "action": "SCMP_ACT_LOG"}]}
+
+    def needs(self, log, *words, profile=None):
+        return self.run_tool("needs", *words, self.file("log", log),
+                             self.file("p.json", json.dumps(profile or self.PROFILE)))
+
+    def judged(self, log, status, profile=None):
+        """The fate of each call, by name, as --json and the lines tell it."""
+        found, out, err = self.needs(log, "--json", profile=profile)
+        self.assertEqual((found, err, out.count("\n")), (status, "", 1), out)
+        report = json.loads(out)
+        self.assertEqual(report["status"], status)
+        found, out, err = self.needs(log, profile=profile)
+        self.assertEqual((found, err), (status, ""))
+        self.assertEqual([line.split(" ")[1] for line in out.split("\n")[:-1] if line[0] != "#"],
+                         [it["name"] for fate in ("not made", "depends", "untold") for it in report["calls"]
+                          if it["fate"] == fate])
+        return {it["name"]: it["fate"] for it in report["calls"]}, report, out
+
+
+class Needs(Judged):
+    def test_usage(self):
+        self.says_usage("needs", "a")
+        status, out, err = self.run_tool("needs", "--profile", "--json", "a", "b")
+        self.assertEqual((status, out), (2, ""))
+        self.assertIn("leave --json out", err)
+
+    def test_made_and_not_made(self):
+        fates, _, out = self.judged("read(3, 0x7f, 1) = 1\nexit_group(0) = ?\n", 0)
+        self.assertEqual(fates, {"read": "made", "exit_group": "made"})
+        self.assertEqual(out, "# calls, each with the arguments that conditions look at: made 2, not made 0, depends 0\n")
+        fates, report, out = self.judged("1 open(\"a\") = 3\n1 ptrace(1) = 0\n1 open(\"b\") = 3\n1 bpf(1) = 3\n", 1)
+        self.assertEqual(fates, {"open": "not made", "ptrace": "made", "bpf": "not made"})
+        self.assertEqual(out, "2 open ERRNO 1 default\n# 2 times, first in line 1 of the log\n321 bpf TRACE 1 entry 4\n"
+                              "# once in line 4 of the log\n# calls, each with the arguments that conditions look at: "
+                              "made 1, not made 2, depends 0\n")
+        first = report["calls"][0]
+        self.assertEqual((first["number"], first["count"], first["line"], first["refused"]["answer"],
+                          first["refused"]["reason"]), (2, 2, 1, {"action": "ERRNO", "data": 1}, "default"))
+
+    def test_arguments_that_a_condition_looks_at(self):
+        _, report, out = self.judged("socket(40, 1, 0) = 3\nsocket(0x28, 2, 0) = 3\nsocket(1, 1, 0) = 3\n", 1)
+        self.assertEqual(out.split("\n")[:2], ["41 socket arg 0 0x28 ERRNO 22 entry 3",
+                                               "# 2 times, first in line 1 of the log"])
+        self.assertEqual([(it["fate"], it["arguments"]) for it in report["calls"]],
+                         [("not made", {"0": ["0x28"]}), ("made", {"0": ["0x1"]})])
+
+    def test_arguments_that_are_not_known(self):
+        for log in ("socket(AF_VSOCK, 1, 0) = 3", "socket(AF_VSOCK|1, 1, 0) = 3", "socket(40", "socket() = 3",
+                    "1 socket(40 <unfinished ...>"):
+            fates, report, out = self.judged(f"{log} = 3" if log == "socket(40" else log, 4)
+            self.assertEqual(fates, {"socket": "depends"}, log)
+            self.assertEqual(out.split("\n")[0], "41 socket depends on arg 0")
+            one = report["calls"][0]
+            self.assertEqual(one["depends_on"], [0])
+            self.assertEqual((one["refused"]["call"]["arguments"][0], one["refused"]["answer"]),
+                             ("0x28", {"action": "ERRNO", "data": 22}))
+            self.assertNotEqual(one["made"]["arguments"][0], "0x28")
+            self.assertRegex(out.split("\n")[1], r"^# made with args 0x[0-9a-f]+( 0x0){5}; with args 0x28( 0x0){5} it is "
+                                                 r"ERRNO 22$")
+
+    def test_conditions_that_do_not_matter(self):
+        """An argument isn't known, and the call is made with each of its values, or with none."""
+        halves = {"defaultAction": ERRNO, "syscalls": [
+            {"names": ["socket"], "action": ALLOW, "args": [{"index": 0, "op": "SCMP_CMP_LT", "value": 5}]},
+            {"names": ["socket"], "action": "SCMP_ACT_LOG", "args": [{"index": 0, "op": "SCMP_CMP_GE", "value": 5}]},
+            {"names": ["bind"], "action": ALLOW, "args": [{"index": 0, "op": "SCMP_CMP_EQ", "value": 5},
+                                                          {"index": 1, "op": "SCMP_CMP_EQ", "value": 5}]}]}
+        self.assertEqual(self.judged("socket(AF_INET) = 3", 0, halves)[0], {"socket": "made"})
+        self.assertEqual(self.judged("bind(6, {x}) = 3", 1, halves)[0], {"bind": "not made"})
+        fates, _, out = self.judged("bind(5, {x}) = 3", 4, halves)
+        self.assertEqual((fates, out.split("\n")[0]), ({"bind": "depends"}, "49 bind arg 0 0x5 depends on arg 1"))
+        self.assertEqual(self.judged("bind(X, {x}) = 3", 4, halves)[2].split("\n")[0], "49 bind depends on args 0, 1")
+
+    def test_a_negative_number(self):
+        fates, report, out = self.judged("wait4(-1, NULL, 0, NULL) = 3", 4)
+        self.assertEqual((fates, out.split("\n")[0]), ({"wait4": "depends"}, "61 wait4 depends on arg 0"))
+        self.assertEqual(report["calls"][0]["arguments"], {"0": ["0xffffffff", "0xffffffffffffffff"]})
+        self.assertEqual(self.judged("wait4(-2, NULL, 0, NULL) = 3", 1)[0], {"wait4": "not made"})
+        self.assertEqual(self.judged("wait4(0xffffffff, NULL, 0, NULL) = 3", 0)[0], {"wait4": "made"})
+
+    def test_what_is_not_judged(self):
+        log = "read(1) = 1\nno_such_call(1) = 1\n[ Process PID=7 runs in 32 bit mode. ]\nopen(1) = 1\nwhat\n"
+        fates, report, out = self.judged(log, 4)
+        self.assertEqual((fates, report["not_judged"]),
+                         ({"read": "made"}, {"names": {"no_such_call": 1}, "foreign": 1, "more": 0, "lines": 1}))
+        for line in ("# not judged, since the table names no such call: no_such_call, calls of it: 1",
+                     "# not judged, since they are calls of processes that don't run in 64 bit mode: 1",
+                     "# lines that strace didn't write, or that can't be read: 1"):
+            self.assertIn(f"{line}\n", out)
+        self.assertEqual(self.judged("read(1) = 1\nwhat\n", 0)[0], {"read": "made"})
+        for log in ("", "\n\n", "what\n"):
+            self.assertIn("# no call was found in the log\n", self.judged(log, 4)[2])
+
+    def test_a_call_without_a_name(self):
+        fates, report, out = self.judged("syscall_0x3ff(0x1, 0, 0, 0, 0, 0) = -1\nsyscall_0x1(0x1) = 0", 1)
+        self.assertEqual(out.split("\n")[0], "1023 syscall_0x3ff ERRNO 1 default")
+        self.assertEqual(fates, {"syscall_0x3ff": "not made", "syscall_0x1": "made"})
+        self.assertIn("isn't in the profile", self.needs("syscall_0x3ff(0x1) = -1", "--profile")[2])
+        self.assertEqual(self.judged("syscall_0x1ffffffff(0x1) = -1", 4)[0], {})
+
+    def test_limits_and_refusals(self):
+        status, out, _ = self.needs("socket(X) = 3", "--limit=0")
+        self.assertEqual((status, out.split("\n")[0]), (4, "41 socket unfinished"))
+        status, out, _ = self.needs("socket(X) = 3", "--limit=x")
+        self.assertEqual((status, out.split("\n")[0]), (2, "fault number limit"))
+        for text, fault in (("{", "fault profile Json"), ('{"defaultAction":"ALLOW"}', "fault profile Action")):
+            status, out, err = self.run_tool("needs", self.file("log", "read(1) = 1"), self.file("q.json", text))
+            self.assertEqual((status, out.split("\n")[0], err), (1, fault, ""))
+            self.assertTrue(out.split("\n")[1].startswith("# "), out)
+        status, out, err = self.run_tool("needs", self.file("log", "x"), "none")
+        self.assertEqual((status, out, err), (2, "", "needs: there is no file 'none'\n"))
+        status, out, err = self.run_tool("needs", self.folder, self.file("p.json", profile_of("read")))
+        self.assertEqual((status, out), (2, ""))
+        self.assertIn("is a folder", err)
+        status, _, err = self.closed_output("needs", self.file("log", "x"), self.file("p.json", profile_of("read")))
+        self.assertEqual((status, err), (3, "needs: the output failed: No space left on device\n"))
+
+    def test_inputs(self):
+        config = self.file("c.json", json.dumps({"linux": {"seccomp": self.PROFILE}}))
+        expected = self.needs("open(1) = 1\n")
+        self.assertEqual(self.run_tool("needs", "-", config, given=b"open(1) = 1\n"), expected)
+        self.assertEqual(self.run_tool("needs", self.file("log", "open(1) = 1"), "-",
+                                       given=json.dumps(self.PROFILE).encode()), expected)
+        self.assertEqual(self.run_tool("needs", "-", "-")[0], 2)
+        own = self.file("t", b"look 7\n")
+        self.assertEqual(self.run_tool("needs", "--table", own, self.file("log", "look(1) = 1\n"),
+                                       self.file("q.json", profile_of("look")))[0], 0)
+
+
+class Least(Judged):
+    LOG = ("read(3, 0x7f, 1) = 1\nopen(\"a\", O_RDONLY) = 3\nsocket(40, 1, 0) = 3\nsocket(1, 1, 0) = 3\n"
+           "wait4(-1, NULL, 0, NULL) = 3\nread(4, 0x7f, 1) = 1\n")
+
+    def least(self, log, profile=None, status=0):
+        found, out, err = self.needs(log, "--profile", profile=profile)
+        self.assertEqual(found, status, err)
+        return json.loads(out), err
+
+    def test_it_lets_the_calls_through_and_nothing_else(self):
+        made, err = self.least(self.LOG)
+        self.assertEqual(err, "")
+        self.assertEqual(made, {"defaultAction": ERRNO, "syscalls": [
+            {"names": ["read", "open"], "action": ALLOW},
+            *({"names": [name], "action": ALLOW, "args": [{"index": 0, "value": value, "op": "SCMP_CMP_EQ"}]}
+              for name, value in (("socket", 40), ("socket", 1), ("wait4", (1 << 32) - 1), ("wait4", HIGH - 1)))]})
+        self.assertEqual(self.needs(self.LOG, profile=made)[0], 0)
+        self.assertEqual(self.needs("socket(2, 1, 0) = 3", profile=made)[0], 1)
+        # without any of it a call of the log isn't made
+        for place, entry in enumerate(made["syscalls"]):
+            for name in entry["names"]:
+                left = [{**it, "names": [other for other in it["names"] if (at, other) != (place, name)]}
+                        for at, it in enumerate(made["syscalls"])]
+                less = {**made, "syscalls": [it for it in left if it["names"]]}
+                self.assertIn(self.needs(self.LOG, profile=less)[0], (1, 4))
+
+    def test_its_default(self):
+        for default, errno, expected in (
+                (ALLOW, None, {"defaultAction": ERRNO}), ("SCMP_ACT_LOG", None, {"defaultAction": ERRNO}),
+                (ERRNO, 38, {"defaultAction": ERRNO, "defaultErrnoRet": 38}),
+                ("SCMP_ACT_KILL_PROCESS", None, {"defaultAction": "SCMP_ACT_KILL_PROCESS"})):
+            given = {"defaultAction": default, "architectures": ["SCMP_ARCH_X86_64"], "syscalls": [
+                {"names": ["close"], "action": "SCMP_ACT_TRAP"}]}
+            if errno:
+                given["defaultErrnoRet"] = errno
+            made, _ = self.least("read(1) = 1", profile=given)
+            self.assertEqual(made, {**expected, "architectures": ["SCMP_ARCH_X86_64"],
+                                    "syscalls": [{"names": ["read"], "action": ALLOW}]})
+
+    def test_arguments_that_are_not_known(self):
+        made, err = self.least("socket(AF_INET, 1, 0) = 3\nsocket(1, 1, 0) = 3\n")
+        self.assertEqual(made["syscalls"], [{"names": ["socket"], "action": ALLOW}])
+        self.assertEqual(err, "needs: socket: strace doesn't show arguments 0 as numbers: they may be any\n")
+
+    def test_many_values(self):
+        made, _ = self.least("".join(f"socket({it}, 1, 0) = 3\n" for it in range(200)))
+        self.assertEqual(made["syscalls"], [{"names": ["socket"], "action": ALLOW}])
+
+    def test_what_is_not_in_it(self):
+        made, err = self.least("read(1) = 1\nno_such_call(1) = 1\n", status=4)
+        self.assertEqual(made["syscalls"], [{"names": ["read"], "action": ALLOW}])
+        self.assertEqual(err, "needs: not judged, since the table names no such call: no_such_call, calls of it: 1\n")
+
+
+class Hostile(Judged):
+    def test_control_characters(self):
+        for text in ("\x1b[2J\x1b[Hread(1) = 1", "read(\"\x1b[2J\n# made\", 1) = 1", "\x9b2Jread(1) = 1\r",
+                     "1 \x00read(1) = 1", "no_such_call\x1b(1) = 1", "read(\u2028\u202e) = 1", "# calls: made 7"):
+            status, out, err = self.needs(f"{text}\nopen(1) = 1\n")
+            self.assertEqual((status, err), (1, ""), text)
+            self.assertTrue(all(line.isprintable() for line in out.split("\n")), out)
+            self.assertEqual(out.split("\n")[0], "2 open ERRNO 1 default")
+            json.loads(self.needs(f"{text}\nopen(1) = 1\n", "--json")[1])
+
+    def test_random_bytes(self):
+        random_of = random.Random(3)
+        pieces = (b"read(", b")", b" = 3", b"\n", b'"', b"\\", b"<unfinished ...>", b"<... read resumed>", b"[", b"{",
+                  b"/*", b"3<", b"1 ", b", ", b"\xff", b"[ Process PID=7 runs in 32 bit mode. ]", b"+++ ", b"strace: "
+                  b"Process 7 attached")
+        for _ in range(30):
+            log = b"".join(random_of.choice(pieces) for _ in range(2000))
+            status, out, err = self.needs(log)
+            self.assertIn(status, (0, 1, 4))
+            self.assertEqual(err, "")
+            self.assertTrue(all(line.isprintable() for line in out.split("\n")))
+
+    def test_huge_lines_and_logs(self):
+        for log in ("socket(" + "1<" * 40000, "socket(" + "[" * 1000000, 'socket("' + "\\" * 1000000,
+                    "socket(" + "," * 1000000 + ") = 3", "socket(" + "3</a" * 300000, "socket(" + "/*" * 500000,
+                    "1|" * 500000, "socket(" + "1|" * 30000 + "1) = 3", "9" * 1000000, "[" * 1000000,
+                    "".join(f"{it} read(1 <unfinished ...>\n" for it in range(50000)),
+                    "".join(f"{it} read(1) = 1\n" for it in range(50000)),
+                    "".join(f"no_such_{it}(1) = 1\n" for it in range(2000))):
+            begun = time.monotonic()
+            status, out, err = self.needs(log)
+            self.assertIn(status, (0, 1, 4))
+            self.assertEqual(err, "")
+            self.assertLess(time.monotonic() - begun, 20, log[:30])
+
+    def test_many_values(self):
+        log = "".join(f"wait4({it}) = 1\n" for it in range(2, 6002))
+        begun = time.monotonic()
+        status, out, _ = self.needs(log)
+        self.assertEqual(status, 1)
+        self.assertIn("# not judged, since there are more than 1000: 5000 calls with other arguments\n", out)
+        self.assertLess(time.monotonic() - begun, 60)
+
+    def test_a_log_without_an_end(self):
+        status, out, err = self.run_tool("needs", "/dev/zero", self.file("p.json", profile_of("read")))
+        self.assertEqual((status, out), (2, ""))
+        self.assertIn("has more than 1073741824 bytes", err)
+
+
+@unittest.skipUnless(shutil.which("strace"), "there is no strace here")
+class Real(Judged):
+    """A log that strace wrote, in each of its forms."""
+
+    SCRIPT = "ls / | head -n 1; (sleep 0.05) & wait; kill -USR1 $$; exit 3"
+
+    def traced(self, *words, to_file=True):
+        log = os.path.join(self.folder, "real.log")
+        out = ["-o", log] if to_file else []
+        done = subprocess.run(["strace", "-f", *out, *words, "sh", "-c", self.SCRIPT], stdin=subprocess.DEVNULL,
+                              stdout=subprocess.DEVNULL, stderr=subprocess.PIPE, check=False)
+        if not to_file:
+            self.file("real.log", done.stderr)
+        elif done.returncode == 1 and not os.path.getsize(log):
+            self.skipTest("strace may not trace here")
+        return log
+
+    def test_each_form(self):
+        profile = self.file("p.json", json.dumps(self.PROFILE))
+        for words in ((), ("-t",), ("-ttt",), ("-r",), ("-T", "-i"), ("-y",), ("-X", "raw"), ("-X", "verbose"),
+                      ("--quiet=none",)):
+            for to_file in (True, False):
+                log = self.traced(*words, to_file=to_file)
+                status, out, err = self.run_tool("needs", "--json", log, profile)
+                self.assertEqual((status, err), (1, ""), words)
+                report = json.loads(out)
+                self.assertEqual({key: it for key, it in report["not_judged"].items() if key != "lines"},
+                                 {"names": {}, "foreign": 0, "more": 0}, words)
+                self.assertEqual(report["not_judged"]["lines"], 0, words)
+                found = {it["name"] for it in report["calls"]}
+                with open(log, encoding="utf-8", errors="replace") as file:
+                    text = file.read()
+                # each name that opens a bracket where a call may begin
+                shown = set(re.findall(r"(?m)^(?:\[pid +\d+\] |\d+ +)? *(?:[\d:.]+ +)?(?:\[[0-9a-f]+\] )?([a-z0-9_]+)\(", text))
+                self.assertEqual(found, {it for it in shown if not it.isdigit()}, words)
+                self.assertLessEqual({"execve", "wait4", "exit_group", "openat"}, found)
+
+    def test_the_least_profile_lets_it_through(self):
+        log = self.traced("-X", "raw")
+        made = self.run_tool("needs", "--profile", log, self.file("p.json", json.dumps(self.PROFILE)))
+        self.assertEqual((made[0], made[2]), (0, ""))
+        least = self.file("least.json", made[1])
+        status, out, _ = self.run_tool("needs", log, least)
+        self.assertEqual(status, 0, out)
+        self.assertEqual(self.run_tool("lint", "--strict", "--except=dangerous-call", least)[0], 0)
