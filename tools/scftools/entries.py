@@ -1,4 +1,4 @@
-"""The entries of a profile that scf has read, as it reads them; and records that meet conditions, which are searched for.
+"""The entries of a profile that scf has read, as it reads them; and a search for records that meet conditions.
 
 What is found here only spares comparisons: nothing is said as proved that wasn't a verdict of scf.
 """
@@ -72,7 +72,8 @@ class Entry(NamedTuple):
 def profile_of(default: tuple[str, int], entries: Iterable[Entry]) -> bytes:
     """The text of a profile for x86-64, without the entries that have no name."""
     errno = {"defaultErrnoRet": default[1]} if default[0] in WITH_ERRNO else {}
-    return json.dumps({"defaultAction": default[0], **errno, "syscalls": [it.as_json() for it in entries if it.names]}).encode()
+    listed = [it.as_json() for it in entries if it.names]
+    return json.dumps({"defaultAction": default[0], **errno, "syscalls": listed}).encode()
 
 
 def answer_of(action: str, errno: object) -> tuple[str, int]:

@@ -130,8 +130,8 @@ def of_names(top: Object, table: Table) -> Iterator[Finding]:
         yield Finding("unknown-name", f"entry {places[name]}: no call that is known here is called {shown(name)}"
                       f"{nearest}", {"entry": places[name], "name": name, "nearest": near})
     for name in skipped.left_out:
-        yield Finding("left-out-name", f"entry {places[name]}: {name} is a call of x86-64, which this table leaves out",
-                      {"entry": places[name], "name": name})
+        yield Finding("left-out-name", f"entry {places[name]}: {name} is a call of x86-64, which this table leaves "
+                      "out", {"entry": places[name], "name": name})
     if skipped.elsewhere:
         yield Finding("other-architectures", f"names of calls of other architectures alone: {len(skipped.elsewhere)}",
                       {"count": len(skipped.elsewhere), "names": skipped.elsewhere})
@@ -163,7 +163,7 @@ def dangerous_calls() -> dict[str, str]:
     return {name: reason.strip() for name, reason in lines}
 
 
-def _by_name(trial: Trial, data: bytes, profile: bytes, calls: bytes, relation: str) -> dict[int, NamedCall]:
+def _by_name(trial: Trial, data: bytes, profile: bytes, calls: bytes, relation: str) -> dict[int | None, NamedCall]:
     """The named calls of a small table that fail a relation, or of which it couldn't be told, by their numbers."""
     return {it.number: it for it in trial.report([data], profile, calls, "--calls", relation).calls}
 
@@ -171,40 +171,39 @@ def _by_name(trial: Trial, data: bytes, profile: bytes, calls: bytes, relation: 
 def of_dangerous_calls(trial: Trial, profile: bytes, data: bytes) -> Iterator[tuple[bool, Finding]]:
     """The calls of the list that the profile's filter makes, always or by some arguments; and whether it could be
     told."""
-    reasons_of = {name: reason for name, reason in dangerous_calls().items() if trial.table.number_of(name) is not None}
-    calls = "".join(f"{name} {trial.table.number_of(name)}\n" for name in reasons_of).encode()
+    numbers = {name: trial.table.number_of(name) for name in dangerous_calls()}
+    calls = "".join(f"{name} {number}\n" for name, number in numbers.items() if number is not None).encode()
     made = _by_name(trial, data, REFERS, calls, "--no-more")
     not_always = _by_name(trial, data, MAKES, calls, "--no-less") if made else {}
-    for name, reason in reasons_of.items():
-        number = trial.table.number_of(name)
-        found = made.get(number) if number is not None else None
+    for name, reason in dangerous_calls().items():
+        found = made.get(numbers[name])
         if found is None:
             continue
-        told = Call(found.number).told(trial.table)
         more: dict[str, object] = {"name": name, "number": found.number, "reason": reason}
-        if not found.verdict.fails or found.verdict.call is None:
-            yield False, Finding("dangerous-call", f"whether {told} is made couldn't be told: {found.verdict.word}", more)
-            continue
-        yield True, _made(trial, profile, found, number not in not_always, reason, more)
+        if found.verdict.call is None:
+            told = Call(found.number).told(trial.table)
+            yield False, Finding("dangerous-call", f"whether {told} is made couldn't be told: {found.verdict.word}",
+                                 more)
+        else:
+            yield True, _made(trial, profile, found.verdict.call, found.number not in not_always, more)
 
 
-def _made(trial: Trial, profile: bytes, found: NamedCall, is_always: bool, reason: str,
-          more: dict[str, object]) -> Finding:
+def _made(trial: Trial, profile: bytes, call: Call, is_always: bool, more: dict[str, object]) -> Finding:
     """That a call is made, and by what of the profile."""
-    call = found.verdict.call or Call(found.number)
     by = reasons.of(profile, trial.table, call.words()).entry
     where = "by the default" if by is None else f"by entry {by}"
     arguments = [hex(it) for it in call.arguments]
     how = "" if is_always else f" with some arguments, as {' '.join(arguments)},"
-    return Finding("dangerous-call", f"{call.told(trial.table)} is made{how} {where}: {reason}",
+    return Finding("dangerous-call", f"{call.told(trial.table)} is made{how} {where}: {more['reason']}",
                    {**more, "is_always": is_always, "arguments": arguments, "entry": by})
 
 
 def _of_needless(found: Needless) -> Finding:
     names = "" if found.is_whole else f", of its names {listed(found.names)}"
+    calls = "each call of them" if len(found.names) > 1 and not found.is_whole else "each call of it"
     more: dict[str, object] = {"entry": found.place, "names": list(found.names), "is_whole": found.is_whole}
     if found.why == needless.ONE:
-        return Finding("covered", f"entry {found.place}{names}: each call of it is one of entry {found.others[0]}",
+        return Finding("covered", f"entry {found.place}{names}: {calls} is one of entry {found.others[0]}",
                        {**more, "by": found.others[0]})
     why = {needless.BY_DEFAULT: "the default answers so too", needless.BY_NONE: "no call meets it"}.get(
         found.why, f"its calls are those of entries {listed(list(map(str, found.others)))} together")
@@ -214,7 +213,7 @@ def _of_needless(found: Needless) -> Finding:
 
 def _of_untold(found: Untold) -> Finding:
     said = "not looked at, since there are too many" if found.verdict is None else found.verdict.word
-    return Finding("without-effect", f"entry {found.place}, {shown(found.name)}: it couldn't be told whether it has an "
+    return Finding("without-effect", f"entry {found.place}, {found.name}: it couldn't be told whether it has an "
                    f"effect: {said}", {"entry": found.place, "names": [found.name], "verdict": said})
 
 
@@ -242,8 +241,9 @@ def of_conflicts(trial: Trial, top: Object) -> Iterator[Finding]:
     for one in needless.conflicts(trial, entries.entries_of(top, trial.table.number_of), TOLD):
         shows = "scf shows no call of both" if one.call is None else \
             f"arguments {' '.join(map(hex, one.call.arguments))} meet both"
-        yield Finding("conflict", f"entries {one.first.place} and {one.second.place} answer {one.name} "
-                      f"({trial.table.number_of(one.name)}) by {_answer(one.first)} and by {_answer(one.second)}: {shows}",
+        called = f"{one.name} ({trial.table.number_of(one.name)})"
+        yield Finding("conflict", f"entries {one.first.place} and {one.second.place} answer {called} by "
+                      f"{_answer(one.first)} and by {_answer(one.second)}: {shows}",
                       {"first": one.first.place, "second": one.second.place, "name": one.name,
                        "call": one.call.as_json(trial.table) if one.call else None})
 
@@ -310,7 +310,8 @@ def lines(report: Report, profile: bytes, table: Table) -> Iterator[str]:
 def as_json(report: Report, profile: bytes, table: Table, status: int) -> dict[str, Any]:
     found: dict[str, Any] = {"status": status}
     if report.fault:
-        found["fault"] = {**report.fault.as_json(), "sentences": list(comparing.of_fault(report.fault, profile, table))}
+        sentences = list(comparing.of_fault(report.fault, profile, table))
+        found["fault"] = {**report.fault.as_json(), "sentences": sentences}
     if report.is_same_without:
         found["verdict"] = verdicts.SAME
     found["findings"] = [it.as_json() for it in report.findings]

@@ -17,6 +17,9 @@ from scftools import straces  # noqa: E402
 
 ALLOW, ERRNO = "SCMP_ACT_ALLOW", "SCMP_ACT_ERRNO"
 HIGH = 1 << 64
+COUNTED = "# calls, each with the arguments that conditions look at"
+# A name that opens a bracket where a call may begin.
+BEGUN = re.compile(r"(?m)^(?:\[pid +\d+\] |\d+ +)? *(?:[\d:.]+ +)?(?:\[[0-9a-f]+\] )?([a-z_]\w*)\(", re.A)
 
 
 def log_of(text, looked_at=()):
@@ -52,7 +55,8 @@ class Values(unittest.TestCase):
 
 class Arguments(unittest.TestCase):
     def test_where_they_end(self):
-        for text, expected in (("()", []), ("(1)", ["1"]), ("(1, 2)", ["1", " 2"]), ('("a, \\"b)", 2)', ['"a, \\"b)"', " 2"]),
+        for text, expected in (("()", []), ("(1)", ["1"]), ("(1, 2)", ["1", " 2"]),
+                               ('("a, \\"b)", 2)', ['"a, \\"b)"', " 2"]),
                                ("([1, 2], {a=1, b={2, 3}}, 4)", ["[1, 2]", " {a=1, b={2, 3}}", " 4"]),
                                ("(3</a,b)>, 4)", ["3</a,b)>", " 4"]),
                                ("(4<TCP:[127.0.0.1:1->127.0.0.1:2]>, 5)", ["4<TCP:[127.0.0.1:1->127.0.0.1:2]>", " 5"]),
@@ -93,14 +97,14 @@ class Forms(unittest.TestCase):
 
     def test_unfinished_and_resumed(self):
         for text in ("1  read(3,  <unfinished ...>\n2  close(4) = 0\n1  <... read resumed>\"a\", 1) = 1",
-                     "[pid 1] read(3,  <unfinished ...>\n[pid 2] close(4) = 0\n[pid 1] <... read resumed> \"a\", 1) = 1",
+                     "[pid 1] read(3,  <unfinished ...>\n[pid 2] close(4) = 0\n[pid 1] <... read resumed> \"a\") = 1",
                      "read(3,  <unfinished ...>\n[pid 2] close(4) = 0\n[pid 1] <... read resumed>\"a\", 1) = 1",
                      "1  read(3,  <unfinished ...>\n2  close(4) = 0\n1  +++ killed by SIGKILL +++",
                      "1  read(3,  <unfinished ...>\n2  close(4) = 0",
                      "1  read(3,  <unfinished ...>) = ?\n2  close(4) = 0"):
             self.assertEqual(log_of(text, [0]), ({("read", (3,)): 1, ("close", (4,)): 1}, 0, 0), text)
-        text = '1  socket(AF_UNIX <unfinished ...>\n2  socket(3 <unfinished ...>\n2  <... socket resumed>, 4, 5) = 1\n' \
-               '1  <... socket resumed>, 6, 7) = 1'
+        text = "1  socket(AF_UNIX <unfinished ...>\n2  socket(3 <unfinished ...>\n" \
+               "2  <... socket resumed>, 4, 5) = 1\n1  <... socket resumed>, 6, 7) = 1"
         self.assertEqual(log_of(text, [0, 1]), ({("socket", (3,), (4,)): 1, ("socket", None, (6,)): 1}, 0, 0))
         # the last argument of a call that never ended may not be whole
         self.assertEqual(log_of("1  read(3, 4 <unfinished ...>", [0, 1])[0], {("read", (3,), None): 1})
@@ -180,12 +184,11 @@ class Needs(Judged):
     def test_made_and_not_made(self):
         fates, _, out = self.judged("read(3, 0x7f, 1) = 1\nexit_group(0) = ?\n", 0)
         self.assertEqual(fates, {"read": "made", "exit_group": "made"})
-        self.assertEqual(out, "# calls, each with the arguments that conditions look at: made 2, not made 0, depends 0\n")
+        self.assertEqual(out, f"{COUNTED}: made 2, not made 0, depends 0\n")
         fates, report, out = self.judged("1 open(\"a\") = 3\n1 ptrace(1) = 0\n1 open(\"b\") = 3\n1 bpf(1) = 3\n", 1)
         self.assertEqual(fates, {"open": "not made", "ptrace": "made", "bpf": "not made"})
         self.assertEqual(out, "2 open ERRNO 1 default\n# 2 times, first in line 1 of the log\n321 bpf TRACE 1 entry 4\n"
-                              "# once in line 4 of the log\n# calls, each with the arguments that conditions look at: "
-                              "made 1, not made 2, depends 0\n")
+                              f"# once in line 4 of the log\n{COUNTED}: made 1, not made 2, depends 0\n")
         first = report["calls"][0]
         self.assertEqual((first["number"], first["count"], first["line"], first["refused"]["answer"],
                           first["refused"]["reason"]), (2, 2, 1, {"action": "ERRNO", "data": 1}, "default"))
@@ -208,8 +211,8 @@ class Needs(Judged):
             self.assertEqual((one["refused"]["call"]["arguments"][0], one["refused"]["answer"]),
                              ("0x28", {"action": "ERRNO", "data": 22}))
             self.assertNotEqual(one["made"]["arguments"][0], "0x28")
-            self.assertRegex(out.split("\n")[1], r"^# made with args 0x[0-9a-f]+( 0x0){5}; with args 0x28( 0x0){5} it is "
-                                                 r"ERRNO 22$")
+            self.assertRegex(out.split("\n")[1],
+                             r"^# made with args 0x[0-9a-f]+( 0x0){5}; with args 0x28( 0x0){5} it is ERRNO 22$")
 
     def test_conditions_that_do_not_matter(self):
         """An argument isn't known, and the call is made with each of its values, or with none."""
@@ -415,9 +418,7 @@ class Real(Judged):
                 found = {it["name"] for it in report["calls"]}
                 with open(log, encoding="utf-8", errors="replace") as file:
                     text = file.read()
-                # each name that opens a bracket where a call may begin
-                shown = set(re.findall(r"(?m)^(?:\[pid +\d+\] |\d+ +)? *(?:[\d:.]+ +)?(?:\[[0-9a-f]+\] )?([a-z0-9_]+)\(", text))
-                self.assertEqual(found, {it for it in shown if not it.isdigit()}, words)
+                self.assertEqual(found, set(BEGUN.findall(text)), words)
                 self.assertLessEqual({"execve", "wait4", "exit_group", "openat"}, found)
 
     def test_the_least_profile_lets_it_through(self):
