@@ -11,13 +11,14 @@ from collections.abc import Iterator, Sequence
 from dataclasses import dataclass, field, replace
 from typing import Any
 
-from . import bundles, comparing, entries, needless, program, reasons, tables, verdicts
+from . import comparing, entries, needless, program, reasons, tables, verdicts
 from .answers import Answer
 from .calls import Call
 from .entries import Object
-from .needless import Needless, Trial, Untold
+from .needless import Needless, Untold
 from .profiles import LETS_THROUGH
 from .tables import Table
+from .trials import Trial, Unanswered
 from .verdicts import Fault, NamedCall
 
 KINDS = ("conflict", "covered", "dangerous-call", "default-allows", "left-out-name", "other-architectures",
@@ -248,36 +249,28 @@ def of_conflicts(trial: Trial, top: Object) -> Iterator[Finding]:
                        "call": one.call.as_json(trial.table) if one.call else None})
 
 
-def _of_fault(trial: Trial, top: Object | None, fault: Fault | None, status: int) -> Report:
+def _of_fault(trial: Trial, top: Object | None, why: Unanswered) -> Report:
     """What is told of a profile that scf refuses: of one that it could read, what needs no comparison."""
-    report = Report([], fault=fault, status=status)
-    is_read = fault is not None and fault.kind in ("Conflict", "TooLarge")
-    if is_read and top is not None:
+    report = Report([], fault=Fault.read(why.line), status=why.status)
+    if report.fault and report.fault.kind in ("Conflict", "TooLarge") and top is not None:
         report.findings += [*of_conflicts(trial, top), *of_members(top), *of_names(top, trial.table), *of_default(top)]
     return report
 
 
 def lint(profile: bytes, trial: Trial) -> Report:
     """All that is odd in a profile."""
+    top, report = entries.read(profile), Report([])
     try:
-        return _lint(profile, trial)
-    except needless.Unanswered as why:
-        return Report([], fault=Fault.read(why.line), status=why.status)
-
-
-def _lint(profile: bytes, trial: Trial) -> Report:
-    done = program.scf(["compile"], bundles.of_compilation(profile, trial.table.data))
-    top = entries.read(profile)
-    if done.status != program.WELL:
-        return _of_fault(trial, top, Fault.read(done.text.split("\n", 1)[0]), done.status)
-    report = Report([])
-    if top is None:
-        report.untold.append(Finding("unread-member", "its JSON can't be looked at beside scf"))
-        return report
-    report.findings += [*of_members(top), *of_names(top, trial.table), *of_default(top)]
-    of_entries(trial, top, done.out, report)
-    for is_told, found in of_dangerous_calls(trial, profile, done.out):
-        (report.findings if is_told else report.untold).append(found)
+        data = trial.filter_of(profile)
+        if top is None:
+            report.untold.append(Finding("unread-member", "its JSON can't be looked at beside scf"))
+            return report
+        report.findings += [*of_members(top), *of_names(top, trial.table), *of_default(top)]
+        of_entries(trial, top, data, report)
+        for is_told, found in of_dangerous_calls(trial, profile, data):
+            (report.findings if is_told else report.untold).append(found)
+    except Unanswered as why:
+        return _of_fault(trial, top, why)
     return report
 
 

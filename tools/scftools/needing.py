@@ -10,30 +10,28 @@ import json
 from collections.abc import Iterator, Sequence
 from dataclasses import dataclass, field
 
-from . import bundles, entries, output, program, reasons, straces, verdicts
+from . import comparing, entries, output, program, reasons, straces, tables
 from .answers import MADE, Answer
 from .calls import Call
-from .deciding import Asked
 from .entries import Condition, Entry, Object
+from .reasons import Reason
 from .straces import Log, Seen
 from .tables import Table
-from .verdicts import Fault, Verdict
+from .trials import Trial, Unanswered
+from .verdicts import UNFINISHED, Fault, Verdict
+
+TYPE_CHECKING = False
+if TYPE_CHECKING:
+    # a call that is made, and one that isn't, with its answer
+    Answers = tuple[Call | None, tuple[Call, Answer] | None]
 
 IS_MADE, ISNT_MADE, DEPENDS, UNTOLD = "made", "not made", "depends", "untold"
-# The most calls that are judged, values of one call that are asked for, and entries with conditions for one name.
-CALLS, VALUES, CONDITIONS = 1000, 64, 64
+# The most calls that are judged, and entries with conditions for one name.
+CALLS, CONDITIONS = 1000, 64
 REFERRED, EQUAL = ("SCMP_ACT_TRACE", 1), "SCMP_CMP_EQ"
 # What a least profile has of the one that is given, beside its default.
 KEPT = ("architectures", "flags", "listenerPath", "listenerMetadata")
 LETS_THROUGH = ("SCMP_ACT_ALLOW", "SCMP_ACT_LOG")
-
-
-class Refused(Exception):
-    """scf refuses the profile, the table or a comparison: its line and its status."""
-
-    def __init__(self, line: str, status: int):
-        super().__init__(line)
-        self.line, self.status = line, status
 
 
 @dataclass(frozen=True)
@@ -58,7 +56,7 @@ class Traced:
     def known(self) -> Iterator[dict[int, int]]:
         """The values of the known arguments, in each way that they may be."""
         pairs = [(index, values) for index, values in self.arguments if values is not None]
-        for values in itertools.islice(itertools.product(*(values for _, values in pairs)), VALUES):
+        for values in itertools.product(*(values for _, values in pairs)):
             yield dict(zip((index for index, _ in pairs), values))
 
     def told(self) -> str:
@@ -114,72 +112,61 @@ def number_of(name: str, table: Table) -> int | None:
 class Judge:
     """A profile, its filter, and what of each call its conditions look at."""
 
-    def __init__(self, profile: bytes, table: Table, limit: str | None):
-        self.profile, self.table, self.limit = profile, table, limit
-        done = program.scf(["compile"], bundles.of_compilation(profile, table.data))
-        if done.status != program.WELL:
-            raise Refused(done.text.split("\n", 1)[0], done.status)
-        self.filter = done.out
+    def __init__(self, profile: bytes, trial: Trial):
+        self.profile, self.trial, self.table = profile, trial, trial.table
+        self.filter = trial.filter_of(profile)
         top = entries.read(profile)
         if top is None:
             raise program.Refused("the profile's JSON can't be looked at beside scf", program.FAILED)
         self.top: Object = top
         self.looked: dict[int | None, set[int]] = {}
-        for entry in entries.entries_of(top, table.number_of):
+        for entry in entries.entries_of(top, self.table.number_of):
             for name in entry.names if entry.conditions else ():
-                self.looked.setdefault(table.number_of(name), set()).update(it.index for it in entry.conditions)
+                self.looked.setdefault(self.table.number_of(name), set()).update(it.index for it in entry.conditions)
 
     def looked_at(self, name: str) -> tuple[int, ...]:
         """The arguments of a call that a condition looks at."""
         return tuple(sorted(self.looked.get(number_of(name, self.table), ())))
 
     def of(self, traced: Traced) -> Judged:
-        return self._compared(traced) if traced.unknown else self._asked(traced)
-
-    def _asked(self, traced: Traced) -> Judged:
-        """By `scf ask`, of each value that the arguments may have."""
         made, refused, line = None, None, ""
         for values in traced.known():
-            call = Call(traced.number, arguments=tuple(values.get(index, 0) for index in range(6)))
-            words = [(name, text) for name, _, text in (it[2:].partition("=") for it in call.words())]
-            reason = reasons.of(self.profile, self.table, Asked(tuple(words)).words())
-            if reason.answer is None:
-                raise Refused(reason.line, reason.status)
-            if reason.answer.fate == MADE:
-                made = call
-            else:
-                refused, line = (call, reason.answer), reason.line
-        fate = DEPENDS if made and refused else IS_MADE if made else ISNT_MADE
-        return Judged(traced, fate, line, made, refused)
+            answers = self._compared(traced, values) if traced.unknown else self._asked(traced, values)
+            if isinstance(answers, Verdict):
+                return Judged(traced, UNTOLD, answers.word)
+            made, refused = answers[0] or made, answers[1] or refused
+        if refused:
+            line = self._reason(refused[0]).line
+        return Judged(traced, DEPENDS if made and refused else IS_MADE if made else ISNT_MADE, line, made, refused)
+
+    def _reason(self, call: Call) -> Reason:
+        found = reasons.of(self.profile, self.table, call.words())
+        if found.answer is None:
+            raise Unanswered(found.line, found.status)
+        return found
+
+    def _asked(self, traced: Traced, values: dict[int, int]) -> Answers:
+        """By `scf ask`: the call with these arguments, as one that is made or one that isn't."""
+        call = Call(traced.number, arguments=tuple(values.get(index, 0) for index in range(6)))
+        answer = self._reason(call).answer
+        return (call, None) if answer is None or answer.fate == MADE else (None, (call, answer))
 
     def _verdict(self, traced: Traced, values: dict[int, int], default: str, answer: tuple[str, int],
                  relation: str) -> Verdict:
         """What scf says of the filter beside a profile that gives the calls with these arguments an answer."""
         conditions = tuple(Condition(index, EQUAL, value, 0) for index, value in values.items())
         beside = entries.profile_of((default, 1), [Entry(0, ("it",), answer, conditions)])
-        limit = [] if self.limit is None else ["--limit", self.limit]
-        given = bundles.of_comparison([self.filter], beside, f"it {traced.number}\n".encode())
-        done = program.scf(["compare", "--native", relation, *limit], given)
-        report = verdicts.report(done.text)
-        if report.verdict is None:
-            raise Refused(report.lines[0] if report.lines else "", done.status)
-        return report.verdict
+        table = f"it {traced.number}\n".encode()
+        return self.trial.report([self.filter], beside, table, "--native", relation).verdict or Verdict(UNFINISHED)
 
-    def _compared(self, traced: Traced) -> Judged:
-        """By comparisons: whether all calls with the known arguments are made, or none is."""
-        made, refused, line = None, None, ""
-        for values in traced.known():
-            less = self._verdict(traced, values, "SCMP_ACT_ERRNO", ("SCMP_ACT_ALLOW", 0), "--no-less")
-            more = self._verdict(traced, values, "SCMP_ACT_ALLOW", REFERRED, "--no-more")
-            for verdict in (less, more):
-                if not verdict.holds and not verdict.fails:
-                    return Judged(traced, UNTOLD, verdict.word)
-            if less.call is not None and less.filters is not None:
-                refused = less.call, less.filters
-                line = reasons.of(self.profile, self.table, less.call.words()).line
-            made = more.call or made
-        fate = DEPENDS if made and refused else IS_MADE if made else ISNT_MADE
-        return Judged(traced, fate, line, made, refused)
+    def _compared(self, traced: Traced, values: dict[int, int]) -> Answers | Verdict:
+        """By comparisons: a call with these arguments that is made, and one that isn't; or a verdict without either."""
+        less = self._verdict(traced, values, "SCMP_ACT_ERRNO", ("SCMP_ACT_ALLOW", 0), "--no-less")
+        more = self._verdict(traced, values, "SCMP_ACT_ALLOW", REFERRED, "--no-more")
+        for verdict in (less, more):
+            if not verdict.holds and verdict.call is None:
+                return verdict
+        return more.call, (less.call, less.filters) if less.call and less.filters else None
 
 
 def find(log: Log, judge: Judge) -> Needs:
@@ -220,8 +207,12 @@ def _arguments(call: Call) -> str:
 
 def _of_unjudged(needs: Needs) -> Iterator[str]:
     """What in the log wasn't judged."""
-    for name, count in sorted(needs.unnamed.items()):
-        yield f"not judged, since the table names no such call: {name}, calls of it: {count}"
+    elsewhere = tables.names_elsewhere() if needs.unnamed else ()
+    for name, count in sorted(needs.unnamed.items())[:tables.TOLD]:
+        yield (f"not judged, since the table names no such call: {name}, calls of it: {count}"
+               + ("; it is one of other architectures alone" if name in elsewhere else ""))
+    if len(needs.unnamed) > tables.TOLD:
+        yield f"more such names: {len(needs.unnamed) - tables.TOLD}"
     if needs.foreign:
         yield f"not judged, since they are calls of processes that don't run in 64 bit mode: {needs.foreign}"
     if needs.left:
@@ -294,17 +285,15 @@ def least_profile(needs: Needs, judge: Judge) -> tuple[str, list[str]]:
     named = [it for it in needs.judged if judge.table.number_of(it.traced.name) is not None]
     found["syscalls"] = list(_entries(Needs(named)))
     remarks = list(_of_unjudged(needs))
-    remarks += [f"number {it.traced.number} has no name, and isn't in the profile" for it in needs.judged
-                if it not in named]
+    remarks += [f"{it.traced.name} has no name, and isn't in the profile" for it in needs.judged
+                if judge.table.number_of(it.traced.name) is None]
     remarks += [f"{it.traced.name}: strace doesn't show arguments {', '.join(map(str, it.traced.unknown))} as numbers: "
                 "they may be any" for it in named if it.traced.unknown]
     return json.dumps(found, indent=4) + "\n", remarks
 
 
-def say_refused(why: Refused, profile: bytes, table: Table) -> Iterator[str]:
+def of_refusal(why: Unanswered, profile: bytes, table: Table) -> Iterator[str]:
     """scf's line, and what it means."""
-    from . import comparing  # pylint: disable=import-outside-toplevel
-
     yield why.line
     fault = Fault.read(why.line)
     if fault:

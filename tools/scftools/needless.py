@@ -10,11 +10,10 @@ from __future__ import annotations
 from collections.abc import Callable, Iterator, Sequence
 from dataclasses import dataclass
 
-from . import bundles, program, verdicts
 from .calls import Call
 from .entries import Conditions, Entry, profile_of, record_of
-from .tables import Table
-from .verdicts import MORE, SAME, UNFINISHED, Report, Verdict
+from .trials import Trial
+from .verdicts import MORE, SAME, Verdict
 
 REFUSES, ALLOWS = ("SCMP_ACT_ERRNO", 1), ("SCMP_ACT_ALLOW", 0)
 # The most comparisons of one run, pairs of entries that are looked at, and entries that may cover another.
@@ -22,39 +21,6 @@ COMPARISONS, PAIRS, COVERS = 500, 10000, 8
 # The most entries that are held against another in the search for calls that one alone answers.
 LOOKS = 200000
 ONE, BY_DEFAULT, BY_NONE, TOGETHER = "one", "default", "none", "together"
-
-
-class Unanswered(Exception):
-    """scf refuses a comparison: the line of its fault, and its status."""
-
-    def __init__(self, line: str, status: int):
-        super().__init__(line)
-        self.line, self.status = line, status
-
-
-@dataclass
-class Trial:
-    """Runs scf's compiler and its comparison, by a table and so many steps, and counts the comparisons."""
-
-    table: Table
-    limit: str | None = None
-    count: int = 0
-
-    def filter_of(self, profile: bytes) -> bytes:
-        return program.scf(["compile"], bundles.of_compilation(profile, self.table.data)).out
-
-    def report(self, filters: Sequence[bytes], profile: bytes, table: bytes, *words: str) -> Report:
-        """What scf says of filters beside a profile, by a table."""
-        self.count += 1
-        limit = [] if self.limit is None else ["--limit", self.limit]
-        done = program.scf(["compare", *words, *limit], bundles.of_comparison(filters, profile, table))
-        report = verdicts.report(done.text)
-        if report.verdict is None:
-            raise Unanswered(report.lines[0] if report.lines else "", done.status)
-        return report
-
-    def verdict(self, filters: Sequence[bytes], profile: bytes, *words: str) -> Verdict:
-        return self.report(filters, profile, self.table.data, *words).verdict or Verdict(UNFINISHED)
 
 
 @dataclass(frozen=True)

@@ -9,7 +9,7 @@ import sys
 import time
 import unittest
 
-from common import TABLE, TOP, Case, profile_of
+from common import TOP, Case, profile_of, tool
 
 sys.path.append(os.path.join(TOP, "tools"))
 
@@ -244,6 +244,10 @@ class Needs(Judged):
                      "# lines that strace didn't write, or that can't be read: 1"):
             self.assertIn(f"{line}\n", out)
         self.assertEqual(self.judged("read(1) = 1\nwhat\n", 0)[0], {"read": "made"})
+        out = self.judged("read(1) = 1\nmmap2(1) = 1\n" + "".join(f"no{it}(1) = 1\n" for it in range(30)), 4)[2]
+        self.assertIn("names no such call: mmap2, calls of it: 1; it is one of other architectures alone\n", out)
+        self.assertEqual(out.count("# not judged, since the table names no such call: "), 20)
+        self.assertIn("# more such names: 11\n", out)
         for log in ("", "\n\n", "what\n"):
             self.assertIn("# no call was found in the log\n", self.judged(log, 4)[2])
 
@@ -429,3 +433,39 @@ class Real(Judged):
         status, out, _ = self.run_tool("needs", log, least)
         self.assertEqual(status, 0, out)
         self.assertEqual(self.run_tool("lint", "--strict", "--except=dangerous-call", least)[0], 0)
+
+    # Puts itself under a filter and becomes another program, whose first call is execve.
+    CONFINED = """
+import ctypes, os, sys
+class Program(ctypes.Structure):
+    _fields_ = [("len", ctypes.c_ushort), ("filter", ctypes.c_char_p)]
+data, library = open(sys.argv[1], "rb").read(), ctypes.CDLL(None)
+if library.prctl(38, 1, 0, 0, 0) or library.prctl(22, 2, ctypes.byref(Program(len(data) // 8, data)), 0, 0):
+    os._exit(99)
+os.execv(sys.argv[2], sys.argv[2:])
+"""
+
+    def ended(self, profile):
+        """How the program ends under a profile's filter."""
+        filters = os.path.join(self.folder, "f.bpf")
+        with open(filters, "wb") as out:
+            subprocess.run([tool("compile"), profile], stdout=out, check=True)
+        done = subprocess.run([sys.executable, "-IS", "-c", self.CONFINED, filters, shutil.which("ls"), self.folder],
+                              stdout=subprocess.PIPE, stderr=subprocess.PIPE, check=False)
+        if done.returncode == 99:
+            self.skipTest("no filter can be installed here")
+        return done.returncode, b"real.log" in done.stdout
+
+    def test_a_program_runs_under_its_least_profile(self):
+        log = os.path.join(self.folder, "real.log")
+        subprocess.run(["strace", "-f", "-X", "raw", "-o", log, "ls", self.folder], stdout=subprocess.DEVNULL,
+                       stderr=subprocess.DEVNULL, check=False)
+        if not os.path.exists(log) or not os.path.getsize(log):
+            self.skipTest("strace may not trace here")
+        made = json.loads(self.run_tool("needs", "--profile", log, self.file("p.json", profile_of()))[1])
+        self.assertEqual(self.ended(self.file("least.json", json.dumps(made))), (0, True))
+        made["syscalls"][0]["names"].remove("getdents64")
+        less = self.file("less.json", json.dumps(made))
+        self.assertIn("217 getdents64 ERRNO 1 default\n", self.run_tool("needs", log, less)[1])
+        status, is_shown = self.ended(less)
+        self.assertEqual((bool(status), is_shown), (True, False))
