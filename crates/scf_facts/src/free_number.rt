@@ -35,7 +35,8 @@ pub(crate) fn free_number(
     ensures found { (x : ℕ) → result ≡ Searched.Found x
         → LiesInOne intervals.now x × HasBits known x × HasBits more x × All (λ bits. LacksBits bits x) refuted.now }
     ensures nothing { result ≡ Searched.Nothing → (x : ℕ) → x < 2 ^ 32
-        → LiesInOne intervals.now x → HasBits known x → HasBits more x → All (λ bits. LacksBits bits x) refuted.now → ⊥ }
+        → LiesInOne intervals.now x → HasBits known x → HasBits more x → All (λ bits. LacksBits bits x) refuted.now
+        → ⊥ }
     ensures gave_up { result ≡ Searched.GaveUp → tries.new ≡ 0 }
     ensures fewer { tries.new ≤ tries.old }
 {

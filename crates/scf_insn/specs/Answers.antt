@@ -48,8 +48,8 @@ answer_of action detail = half_of action * 2 ^ 16 + detail
 abbrev pub rank_of : ℕ → ℤ
 rank_of answer = cast_signed w16 (action_half answer)
 
--- What becomes of a call by the rank of its answer: it is refused up to the rank of ERRNO, referred to a supervisor or a
--- tracer above that and below the rank of LOG, and made from that on. The data play no part.
+-- What becomes of a call by the rank of its answer: it is refused up to the rank of ERRNO, referred to a supervisor or
+-- a tracer above that and below the rank of LOG, and made from that on. The data play no part.
 abbrev pub fate_of : ℕ → Fate
 fate_of answer = (
     if int_lt (rank_of seccomp_ret_errno) (rank_of answer)

@@ -130,8 +130,8 @@ impl Answer {
         }
     }
 
-    /// Whether no more of a call is let through by this answer than by another: a call that is refused counts least, and
-    /// one that is made most.
+    /// Whether no more of a call is let through by this answer than by another: a call that is refused counts least,
+    /// and one that is made most.
     pub fn lets_through_no_more(&self, other: Answer) -> bool
         ensures { IsTrue result ↔ LetsThroughNoMore self.now.0 other.0 }
     {

@@ -155,8 +155,8 @@ enum Wanted {
 
 use Wanted::{Holds, Shown};
 
-/// The filters of a stack, with the table and the text of a profile, a scope, and what is wanted by the same answers, by
-/// no more and by no less.
+/// The filters of a stack, with the table and the text of a profile, a scope, and what is wanted by the same answers,
+/// by no more and by no less.
 struct Row {
     filters: &'static [(&'static str, &'static str)],
     table: &'static str,

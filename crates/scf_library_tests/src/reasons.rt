@@ -10,8 +10,8 @@ use std::test::Fail;
 /// Two names have one number, and one the last below x32's.
 const TABLE: &str = "read 0\nwrite 1\nsend 1\nlast 1073741823\n";
 
-/// Entry 0 has no name of the table. `write` has rules of the entries 1 to 4, some of which a call meets at once, `send`
-/// among them; one entry names it twice.
+/// Entry 0 has no name of the table. `write` has rules of the entries 1 to 4, some of which a call meets at once,
+/// `send` among them; one entry names it twice.
 const ENTRIES: &str = r#"{"defaultAction":"SCMP_ACT_ERRNO","syscalls":[
     {"names":["elsewhere"],"action":"SCMP_ACT_TRAP"},
     {"names":["write"],"action":"SCMP_ACT_ALLOW","args":[{"index":0,"value":1,"op":"SCMP_CMP_EQ"}]},

@@ -1,5 +1,5 @@
-//! `compare --no-more` and `compare --no-less`: whether a filter lets through nothing that a profile refuses, or nothing
-//! less than it allows.
+//! `compare --no-more` and `compare --no-less`: whether a filter lets through nothing that a profile refuses, or
+//! nothing less than it allows.
 
 use crate::parts::{ALLOW, NATIVE, NO_TABLE, Part, bundle};
 use crate::runs::{Case, pass, run_with};

@@ -29,8 +29,8 @@ pub record ComesTo (insns : List Insn) (place : ℕ) (registers : Registers) (wo
   pub there : state.place ≡ place
   pub describes : Describes registers words state
 
--- What is known of the answer where a run ends by how its instruction goes on: the constant of a return; 0 of a division
--- by 0; and whatever is known of the accumulator.
+-- What is known of the answer where a run ends by how its instruction goes on: the constant of a return; 0 of a
+-- division by 0; and whatever is known of the accumulator.
 abbrev pub EndsWith : Flow → Insn → Option Answer → Type 0
 EndsWith ReturnConstant i answer = answer ≡ Some (record { 0 = i.k })
 EndsWith ReturnAccumulator i answer = Unit {0}
