@@ -51,11 +51,9 @@ use crate::profile_numbers::{FirstRule, ProfileNumbers};
 use crate::question::{Part, Way, question_of};
 use crate::turn::Turn;
 use scf_facts::{Atom, Tell, WordFacts};
-use scf_insn::kernel::{AUDIT_ARCH_X86_64, SECCOMP_RET_KILL_PROCESS, X32_SYSCALL_BIT};
+use scf_insn::kernel::{AUDIT_ARCH_X86_64, X32_SYSCALL_BIT};
 use scf_insn::{Answer, CallRecord};
-use scf_profile::{Condition, Rule};
-
-const KILL_PROCESS: Answer = Answer(SECCOMP_RET_KILL_PROCESS);
+use scf_profile::{Condition, FOREIGN_ANSWER, Rule};
 
 /// A node of a profile's tree.
 #[derive(Clone, Copy)]
@@ -100,14 +98,14 @@ impl ProfileTree for ProfileNumbers<'_> {
                     value: AUDIT_ARCH_X86_64,
                 },
                 if_true: ProfileNode::Range,
-                if_false: ProfileNode::Answer(KILL_PROCESS),
+                if_false: ProfileNode::Answer(FOREIGN_ANSWER),
             },
             ProfileNode::Range => Turn::Ask {
                 atom: Atom::Ge {
                     word: 0,
                     value: X32_SYSCALL_BIT,
                 },
-                if_true: ProfileNode::Answer(KILL_PROCESS),
+                if_true: ProfileNode::Answer(FOREIGN_ANSWER),
                 if_false: ProfileNode::Number(0),
             },
             ProfileNode::Number(place) => {
