@@ -1,6 +1,7 @@
 pub mod ApartLaws
 pub mod AtomLaws
 pub mod CountLaws
+pub mod HighMasks
 pub mod IntervalLaws
 pub mod LeastNumber
 pub mod MaskLaws

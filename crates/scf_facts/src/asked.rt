@@ -4,6 +4,7 @@ ghost use Rattle.scf_facts.specs.internal.Asked.{Asks, AsksSimply};
 
 use crate::atom::Atom;
 use crate::bits::Bits;
+use crate::high_mask::is_high_mask;
 use crate::interval::Interval;
 
 /// What an atom asks of the number of its word.
@@ -16,7 +17,7 @@ pub(crate) enum Asked {
 }
 
 impl Asked {
-    /// What the atom asks. A mask of all bits asks for a single number.
+    /// What the atom asks. A mask of all bits asks for one number, and one of all bits from one on for a range.
     pub(crate) fn of(atom: Atom) -> Asked
         ensures asks { Asks atom result }
         ensures simple { AsksSimply atom result }
@@ -44,6 +45,15 @@ impl Asked {
                 range: Interval::point(value),
                 answer: true,
             },
+            Atom::Eq { mask, value, .. } if is_high_mask(mask) && value & mask == value => {
+                Asked::Within {
+                    range: Interval {
+                        low: value,
+                        high: value + !mask,
+                    },
+                    answer: true,
+                }
+            }
             Atom::Eq { mask, value, .. } => Asked::Masked(Bits { mask, value }),
         }
     }

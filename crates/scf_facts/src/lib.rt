@@ -6,6 +6,7 @@ mod atom;
 mod atom_list;
 mod bits;
 mod free_number;
+mod high_mask;
 mod interval;
 mod intervals;
 mod laws;
@@ -18,6 +19,7 @@ mod word_sets;
 
 pub use atom::{Atom, Tell};
 pub use atom_list::AtomList;
+pub use high_mask::is_high_mask;
 pub use laws::word_sets_start_exact;
 pub use word_facts::WordFacts;
 pub use word_sets::WordSets;

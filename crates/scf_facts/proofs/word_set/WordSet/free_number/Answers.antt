@@ -1,8 +1,8 @@
-use Rattle.std.proofs.Common.{ap, sym, subst, ◌∙◌}
+use Rattle.std.proofs.Common.{ap, subst, ◌∙◌}
 use Rattle.std.specs.Prelude.{All}
 use Rattle.scf_facts.specs.internal.Bits.{HasBits, LacksBits}
 use Rattle.scf_facts.specs.internal.Intervals.{LiesInOne}
-use Rattle.scf_facts.specs.internal.WordSets.{NumberFacts, AllowsNumber}
+use Rattle.scf_facts.specs.internal.WordSets.{NumberFacts}
 use Rattle.scf_facts.proofs.word_set.WordSet.free_number.Goals as goal
 
 pub returns-clause-found : goal.returns-clause-found

@@ -1,4 +1,4 @@
-use Rattle.std.proofs.Common.{◌≡◌, refl, sym, ◌∙◌, subst}
+use Rattle.std.proofs.Common.{◌≡◌, sym, ◌∙◌, subst}
 use Rattle.std.specs.Prelude.{Option, Some, None, IfNone, Bool, IsTrue}
 use Rattle.scf_facts.specs.Atoms.{answer_at}
 use Rattle.scf_facts.specs.internal.Bits.{HasBits, LacksBits}

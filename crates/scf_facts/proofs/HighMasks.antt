@@ -1,0 +1,44 @@
+-- Masks of all bits from one on.
+use Rattle.std.proofs.Common.{◌≡◌, ℕ, ◌+◌, ◌-◌, ◌*◌, ◌/◌, ◌<◌, ◌≤◌, ◌^◌, ◌↔◌, true, eqb, sym, ap, ◌∙◌, arith, bit_and}
+use Rattle.std.proofs.lemmas.Bool.{eq-eqb, eqb-true}
+use Rattle.std.proofs.lemmas.Nat.{and_le_r, pow_pos, shr_split}
+use Rattle.std.proofs.lemmas.Nat.Bits.{and_high_mask}
+use Rattle.std.proofs.Math.Nat.{add-mul, div-lt_iff_lt-mul, le-div_iff_mul-le, mod-lt}
+use Rattle.std.proofs.Math.Pow.{pow_mono}
+
+pub one_more : (q d : ℕ) → (q + 1) * d ≡ q * d + d
+one_more q d = add-mul q 1 d ∙ (let once : q * d + 1 * d ≡ q * d + d = omega arith in once)
+
+-- the numbers within a range that starts at a multiple have its quotient
+same_quotient : (x q k : ℕ) → q * 2 ^ k ≤ x → x ≤ q * 2 ^ k + (2 ^ k - 1) → x / 2 ^ k ≡ q
+same_quotient x q k least most =
+    let low : q ≤ x / 2 ^ k = (le-div_iff_mul-le (pow_pos k)).1 least in
+    let below : x < (q + 1) * 2 ^ k = omega (arith, one_more q (2 ^ k), pow_pos k) in
+    let high : x / 2 ^ k < q + 1 = (div-lt_iff_lt-mul (pow_pos k)).1 below in
+    omega arith
+
+pub of_multiple : (x m k : ℕ) → k < 32 → m ≡ 2 ^ 32 - 2 ^ k → x < 2 ^ 32 → bit_and x m ≡ x / 2 ^ k * 2 ^ k
+of_multiple x m k within mask h = ap (bit_and x) mask ∙ and_high_mask 32 k (omega arith) x h
+
+pub beyond_mask : (m k : ℕ) → k < 32 → m ≡ 2 ^ 32 - 2 ^ k → 2 ^ 32 - 1 - m ≡ 2 ^ k - 1
+beyond_mask m k within mask =
+    let places : k ≤ 32 = omega arith in
+    let most : 2 ^ k ≤ 2 ^ 32 = pow_mono places in
+    omega (arith, pow_pos k)
+
+-- a number has bits under such a mask where it lies in the range that begins at them
+pub high_range : (x v m k : ℕ) → k < 32 → m ≡ 2 ^ 32 - 2 ^ k → x < 2 ^ 32 → bit_and v m ≡ v
+    → ((v ≤ x) × (x ≤ v + (2 ^ 32 - 1 - m))) ↔ (eqb (bit_and x m) v ≡ true)
+high_range x v m k within mask h multiple =
+    let fits : v < 2 ^ 32 = omega (arith, multiple, and_le_r v m, pow_pos k) in
+    let of_x : bit_and x m ≡ x / 2 ^ k * 2 ^ k = of_multiple x m k within mask h in
+    let of_v : v / 2 ^ k * 2 ^ k ≡ v = sym (of_multiple v m k within mask fits) ∙ multiple in
+    let rest : 2 ^ 32 - 1 - m ≡ 2 ^ k - 1 = beyond_mask m k within mask in (
+      λ lies.
+          let least : v / 2 ^ k * 2 ^ k ≤ x = omega (arith, of_v, lies.0) in
+          let most : x ≤ v / 2 ^ k * 2 ^ k + (2 ^ k - 1) = omega (arith, of_v, lies.1, rest) in
+          eq-eqb _ _ (of_x ∙ ap (λ n. n * 2 ^ k) (same_quotient x (v / 2 ^ k) k least most) ∙ of_v),
+      λ has.
+          let part : x / 2 ^ k * 2 ^ k ≡ v = sym of_x ∙ eqb-true _ _ has in
+          (omega (arith, part, shr_split x k), omega (arith, part, rest, shr_split x k, mod-lt x (pow_pos k))),
+    )

@@ -1,0 +1,11 @@
+//! Masks of all bits from one on.
+
+ghost use Rattle.std.specs.Prelude.{IsTrue};
+ghost use Rattle.scf_facts.specs.HighMask.{IsHighMask};
+
+/// Whether a mask has all bits from one on, and none before it.
+pub fn is_high_mask(mask: u32) -> bool
+    ensures { IsTrue result → IsHighMask mask }
+{
+    mask != 0 && mask == u32::MAX << mask.trailing_zeros()
+}
