@@ -72,7 +72,7 @@ image_or w m c v =
     ∙ ap (λ n. (min (bit_at w i) ((bit_at m i + min (bit_at m i) (bit_at v i)) % 2) + n) % 2) (bit_at_or c v i)))
 
 -- a word under a mask that is shifted back
-shifted_back : (w m s : ℕ) → bit_and w (m * 2 ^ s) ≡ bit_and (w / 2 ^ s) m * 2 ^ s
+pub shifted_back : (w m s : ℕ) → bit_and w (m * 2 ^ s) ≡ bit_and (w / 2 ^ s) m * 2 ^ s
 shifted_back w m s =
     let whole : w / 2 ^ s * 2 ^ s + w % 2 ^ s ≡ w = div-add-mod' w (2 ^ s) in
     let none : bit_and (w % 2 ^ s) 0 ≡ 0 = omega (arith, and_le_r (w % 2 ^ s) 0) in
@@ -83,7 +83,7 @@ shifted_back w m s =
     (subst (λ n. bit_and (w / 2 ^ s * 2 ^ s + w % 2 ^ s) n ≡ bit_and (w / 2 ^ s) m * 2 ^ s) mask (blocks ∙ sum))
 
 -- a word shifted to the left, under a mask
-under_mask : (y t m : ℕ) → bit_and (y * 2 ^ t) m ≡ bit_and y (m / 2 ^ t) * 2 ^ t
+pub under_mask : (y t m : ℕ) → bit_and (y * 2 ^ t) m ≡ bit_and y (m / 2 ^ t) * 2 ^ t
 under_mask y t m =
     and_comm (y * 2 ^ t) m ∙ shifted_back m y t ∙ ap (λ n. n * 2 ^ t) (and_comm (m / 2 ^ t) y)
 

@@ -1,13 +1,14 @@
 //! What a filter computes from one word of the record bit by bit.
 
 ghost use Rattle.std.specs.Prelude.{◌≡◌, ◌==◌, ◌↔◌, ◌*◌, ◌/◌, ◌%◌, ◌<◌, ◌^◌, ℕ, List, IsTrue};
-ghost use Rattle.std.specs.Prelude.{bit_and, bit_or, bit_xor};
+ghost use Rattle.std.specs.Prelude.{bit_and, bit_or, bit_xor, nat_lt};
 ghost use Rattle.scf_insn.specs.SimpleMask.{IsSimpleMask};
+ghost use Rattle.scf_insn.specs.Words.{IsWords};
 ghost use Rattle.scf_compare.specs.internal.Images.{IsImage, IsWhole, image_number};
 ghost use Rattle.scf_compare.specs.internal.Values.{IsValue, StandsFor, IsDecision, Decides, IsPlainDecision};
 
 use crate::value::{Decision, Value};
-use scf_facts::Atom;
+use scf_facts::{Atom, is_high_mask};
 
 /// A word of the record, shifted to the right and then to the left, AND a mask, XOR a number.
 #[derive(Clone, Copy)]
@@ -152,6 +153,28 @@ impl Image {
                 word: self.word,
                 mask: mask << self.right,
                 value: value << self.right,
+            },
+            holds: true,
+        }
+    }
+    /// Whether it is above a number, as an atom about its word, where its mask has all bits of the word from one on.
+    pub(crate) fn is_above(self, v: u32) -> Decision
+        requires { IsImage self }
+        ensures asks { IsDecision result }
+        ensures decides { (words : List ℕ) → IsWords words → Decides result words (nat_lt v (image_number self words)) }
+    {
+        let mask = self.mask >> self.left << self.right;
+        if self.flipped != 0 || !is_high_mask(mask) {
+            return Decision::Open;
+        }
+        let value = v >> self.left;
+        if value > u32::MAX >> self.right {
+            return Decision::Known(false);
+        }
+        Decision::Asks {
+            atom: Atom::Gt {
+                word: self.word,
+                value: (value << self.right & mask) + !mask,
             },
             holds: true,
         }

@@ -229,7 +229,9 @@ fn decide_image(image: Image, test: Test, v: u32) -> Decision
             atom: Atom::Ge { word, value: v },
             holds: true,
         },
-        _ => Decision::Open,
+        Test::Greater => image.is_above(v),
+        Test::GreaterOrEqual if v == 0 => Decision::Known(true),
+        Test::GreaterOrEqual => image.is_above(v - 1),
     }
 }
 
