@@ -1,12 +1,13 @@
 -- A header ends at the first line end, so bytes begin with at most one.
-use Rattle.std.proofs.Common.{◌≡◌, ◌≢◌, ℕ, zero, suc, ◌+◌, ◌<◌, ◌≤◌, ◌^◌, true, false, List, [], ◌∷◌, ◌++◌, ◌&&◌, nat_lt, not, eqb, length, get_or, take, drop, codes, Option, Some, Err, unwrap_or, refl, sym, ap, subst, ◌∙◌, append_assoc, arith, length-append}
+use Rattle.std.proofs.Common.{◌≡◌, ◌≢◌, ℕ, zero, suc, ◌+◌, ◌<◌, ◌≤◌, ◌^◌, true, false, List, [], ◌∷◌, ◌++◌, ◌&&◌, nat_lt, not, eqb, length, get_or, take, drop, codes, Option, Some, None, Err, unwrap_or, refl, sym, ap, subst, ◌∙◌, append_assoc, arith, length-append}
 use Rattle.std.specs.List.{list_all}
+use Rattle.std.specs.Option.{MatchOption}
 use Rattle.std.proofs.lemmas.List.Folds.{list_all-append}
 use Rattle.std.specs.Char.{is_digit}
 use Rattle.std.specs.Str.Parse.{digits_value, AllDigits}
 use Rattle.std.proofs.lemmas.Bool.{and_from, and_parts, eqb-false, false≢true, ltb-true, ne_eqb, not-true}
 use Rattle.std.proofs.lemmas.Option.{cond_some}
-use Rattle.std.proofs.lemmas.List.{append_cancel_left, drop_more, take-append-drop}
+use Rattle.std.proofs.lemmas.List.{append_cancel_left, append_cancel_right, drop_more, take-append-drop}
 use Rattle.std.proofs.lemmas.Int.Digits.{digits_value-lt}
 use Rattle.std.proofs.Math.Nat.{pow-le-pow_right}
 use Rattle.scf_insn.specs.Numbers.{numeral, ReadsNumber}
@@ -162,6 +163,19 @@ pub no_count : (ds : List ℕ) (n : ℕ) (e : NumeralFault) → ReadsNumber (num
 no_count ds n TooLarge reads count = let past : 2 ^ 64 ≤ n = rw count.1 at reads in let small : n < 2 ^ 64 =
     count_is_small ds n count in absurd (omega arith)
 no_count ds n Malformed reads count = rw count.1 at reads
+
+-- what is said of the digits of a line is said of the header that it ends
+pub header_by_count : (kind : PartKind) (line digits : List ℕ) (counted : Option ℕ)
+    → line ≡ kind_word kind ++ (codes " " ++ digits)
+    → MatchOption counted ((n : ℕ) → IsCount digits n → ⊥) (IsCount digits)
+    → MatchOption counted ((n : ℕ) → IsHeader (line ++ codes "\n") kind n → ⊥) (IsHeader (line ++ codes "\n") kind)
+header_by_count kind line digits None is none = λ n header.
+    let others : line ≡ kind_word kind ++ (codes " " ++ header.digits) =
+    append_cancel_right line (kind_word kind ++ (codes " " ++ header.digits)) (codes "\n") header.text in
+    let same = (same_word kind kind header.digits digits (sym others ∙ is)).1 in
+    none n (subst (λ (ds : List ℕ). IsCount ds n) same header.is_count)
+header_by_count kind line digits (Some n) is count =
+    record { digits = digits; is_count = count; text = ap (λ (xs : List ℕ). xs ++ codes "\n") is }
 
 pub no_kind : (h : List ℕ) → ((n : ℕ) → IsHeader h Filter n → ⊥) → ((n : ℕ) → IsHeader h Profile n → ⊥)
     → ((n : ℕ) → IsHeader h Table n → ⊥) → (k : PartKind) (n : ℕ) → IsHeader h k n → ⊥
