@@ -1,5 +1,6 @@
 -- The distinct numbers of a profile's rules: how many there are, and the bounds that their search keeps.
-use Rattle.std.proofs.Common.{◌≡◌, ℕ, zero, suc, ◌+◌, ◌*◌, ◌/◌, ◌^◌, ◌<◌, ◌≤◌, Bool, true, false, not, cond, eqb, ltb, Bor, List, [], ◌∷◌}
+use Rattle.std.proofs.Common.{◌≡◌, ℕ, zero, suc, ◌+◌, ◌*◌, ◌/◌, ◌^◌, ◌<◌, ◌≤◌, Bool, true, false, not, cond, eqb, ltb}
+use Rattle.std.proofs.Common.{Bor, List, [], ◌∷◌}
 use Rattle.std.proofs.Common.{length, get_or, map, All, refl, sym, ap, ◌∙◌, subst, arith, inl, inr, length-append}
 use Rattle.std.proofs.Common.{sum_by}
 use Rattle.std.specs.Prelude.{Contains}
@@ -131,7 +132,8 @@ can_be_searched default rules sorted ns ss same cut laid fine few =
     in
     record {
       some = laid.some;
-      rules = of_contained IsRule (rules_along ss) (rules_in ns) (recursion_from_All IsRule (rules_in ns) each) laid.own;
+      rules =
+          of_contained IsRule (rules_along ss) (rules_in ns) (recursion_from_All IsRule (rules_in ns) each) laid.own;
       small =
           let small = laid.small in
           omega (

@@ -1,5 +1,6 @@
 -- What is put before a search makes it a filter.
-use Rattle.std.proofs.Common.{◌≡◌, ◌⊎◌, ℕ, ◌+◌, ◌-◌, ◌<◌, ◌≤◌, leb, List, [], ◌∷◌, ◌++◌, drop, length, refl, sym, ap, ◌∙◌, subst}
+use Rattle.std.proofs.Common.{◌≡◌, ◌⊎◌, ℕ, ◌+◌, ◌-◌, ◌<◌, ◌≤◌, leb, List, [], ◌∷◌, ◌++◌, drop, length, refl, sym, ap}
+use Rattle.std.proofs.Common.{◌∙◌, subst}
 use Rattle.std.proofs.Common.{arith, inl, inr, length-append, append-nil}
 use Rattle.std.proofs.Math.ListN.{length-drop}
 use Rattle.std.specs.List.{AllByRecursion}
@@ -120,8 +121,11 @@ module _ (default : Answer) (plan : Plan) (searched killed ranged loaded answere
   filter_sound =
       let ranged_sound = subst (λ (l : List Insn). AreSound l 0) (sym (ranged_put.whole ∙ append-nil ranged_put.front))
       ranged_put.sound in
-      let loaded_sound = subst (λ (l : List Insn). AreSound l 0) (sym load)
-      (load_is_sound 0 (length ranged + 0) (omega arith) (omega (arith, some_heads default (in_range plan) ranged is_searched)), ranged_sound) in
+      let loaded_sound = subst (λ (l : List Insn). AreSound l 0) (sym load) (
+        load_is_sound 0 (length ranged + 0) (omega arith)
+            (omega (arith, some_heads default (in_range plan) ranged is_searched)),
+        ranged_sound,
+      ) in
       let answered_sound = subst (λ (l : List Insn). AreSound l 0) (sym foreign_put.whole)
       (sound-append foreign_put.front loaded 0
       (subst (λ (n : ℕ). AreSound foreign_put.front n) (omega arith) foreign_put.sound) loaded_sound) in

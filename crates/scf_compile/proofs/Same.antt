@@ -151,7 +151,8 @@ module _ (p : Profile) (plan : Plan) (code : List Insn) (most : ℕ) (filter : I
       answer = seccomp_ret_kill_process;
       of_words = run;
       of_profile =
-          foreign (λ native. let below : call.nr < x32_syscall_bit = native.nr in grind (arith, nat_tests, high, below));
+          foreign (λ native. let below : call.nr < x32_syscall_bit = native.nr in
+          grind (arith, nat_tests, high, below));
     }
     native_answered false own low each run =
         let below : call.nr < x32_syscall_bit = grind (arith, nat_tests, low) in

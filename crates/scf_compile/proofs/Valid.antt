@@ -113,7 +113,10 @@ half_sound_of OneBit word mask wanted out room lt h = bit_sound _ word mask out 
 half_sound_of Full word mask wanted out room lt h = word_sound SameWord word wanted 0 out room lt (omega arith) h
 half_sound_of Mixed word mask wanted out room lt h = (
   load_is_sound word (2 + room) lt (omega arith),
-  (mask_is_sound mask (1 + room) (omega arith), (jump_is_sound SameWord wanted 0 out (0 + room) (omega arith) (omega arith), tt)),
+  (
+    mask_is_sound mask (1 + room) (omega arith),
+    (jump_is_sound SameWord wanted 0 out (0 + room) (omega arith) (omega arith), tt),
+  ),
 )
 
 half_sound : (word mask wanted out room : ℕ) → word < 16 → out < room → AreSound (half_code word mask wanted out) room

@@ -2,6 +2,7 @@
 
 ghost use Rattle.std.specs.Prelude.{◌≡◌, ◌++◌, ◌<◌, ◌≤◌, OnOk, length, All};
 ghost use Rattle.scf_profile.specs.ByNumber.{rules_at};
+ghost use Rattle.scf_profile.specs.Limits.{arguments};
 ghost use Rattle.scf_profile.specs.Rule.{IsRule};
 ghost use Rattle.scf_compile.specs.internal.Plans.{conditions_code, rule_code, rules_code};
 
@@ -13,7 +14,7 @@ use std::alloc::AllocError;
 
 /// How many instructions test some conditions.
 fn conditions_len(conditions: &[Condition]) -> u8
-    requires { length conditions.now ≤ 6 }
+    requires { length conditions.now ≤ arguments }
     ensures len { result ≡ length (conditions_code conditions.now) }
     ensures few { result ≤ 36 }
 {
@@ -26,8 +27,8 @@ fn conditions_len(conditions: &[Condition]) -> u8
 
 /// Tests conditions. Where one fails, what is left of them and one instruction more are passed.
 fn put_conditions(code: &mut Vec<Insn>, conditions: &[Condition]) -> Result<(), AllocError>
-    requires few { length conditions.now ≤ 6 }
-    requires indices { All (λ c. c.index < 6) conditions.now }
+    requires few { length conditions.now ≤ arguments }
+    requires indices { All (λ c. c.index < arguments) conditions.now }
     ensures { OnOk result (code.new.items ≡ code.old.items ++ conditions_code conditions.now) }
 {
     for i in 0..conditions.len() {

@@ -1,4 +1,5 @@
-use Rattle.std.proofs.Common.{rules, ◌≡◌, ◌≢◌, take, ◌+◌, ◌-◌, ◌<◌, drop, length, get_or, length-take, refl, ap, ◌∙◌, arith, inl}
+use Rattle.std.proofs.Common.{rules, ◌≡◌, ◌≢◌, take, ◌+◌, ◌-◌, ◌<◌, drop, length, get_or, length-take, refl, ap, ◌∙◌}
+use Rattle.std.proofs.Common.{arith, inl}
 use Rattle.std.proofs.lemmas.Grind.{common_steps}
 use Rattle.std.proofs.lemmas.List.{get_or-take, take_more}
 use Rattle.std.proofs.lemmas.List.Elements.{All-push}

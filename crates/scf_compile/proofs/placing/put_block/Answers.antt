@@ -1,4 +1,5 @@
-use Rattle.std.proofs.Common.{rules, ◌≡◌, ◌++◌, ◌∷◌, ◌-◌, ◌+◌, ◌<◌, List, drop, get_or, length, sym, ap, ◌∙◌, subst, arith, inr}
+use Rattle.std.proofs.Common.{rules, ◌≡◌, ◌++◌, ◌∷◌, ◌-◌, ◌+◌, ◌<◌, List, drop, get_or, length, sym, ap, ◌∙◌, subst}
+use Rattle.std.proofs.Common.{arith, inr}
 use Rattle.std.proofs.lemmas.List.{drop_all, drop_more}
 use Rattle.scf_insn.specs.declared.insn.Insn.{Insn}
 use Rattle.scf_compile.specs.internal.Placing.{IsOutOfReach}

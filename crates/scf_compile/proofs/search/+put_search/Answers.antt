@@ -1,4 +1,5 @@
-use Rattle.std.proofs.Common.{rules, ◌≡◌, ◌++◌, List, get_or, length, refl, sym, ap, ◌∙◌, subst, arith, length-append, sum_by}
+use Rattle.std.proofs.Common.{rules, ◌≡◌, ◌++◌, List, get_or, length, refl, sym, ap, ◌∙◌, subst, arith, length-append}
+use Rattle.std.proofs.Common.{sum_by}
 use Rattle.std.proofs.Math.ListN.{length-take, length-drop}
 use Rattle.std.proofs.lemmas.List.Sums.{sum_by-append}
 use Rattle.std.proofs.lemmas.Result.{IfOk-weaker}
