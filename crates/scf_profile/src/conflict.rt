@@ -1,7 +1,6 @@
 //! Conflicts among rules: the least one, among all pairs of one number.
 
 ghost use Rattle.std.specs.Prelude.{◌≡◌, ◌⊎◌, ℕ, IfOk, IfSome, IfNone, All, Some};
-ghost use Rattle.std.specs.Bool.{MatchBool};
 ghost use Rattle.scf_profile.specs.ByNumber.{rules_at};
 ghost use Rattle.scf_profile.specs.declared.conflict.Clash.{Clash};
 ghost use Rattle.scf_profile.specs.internal.Clashes.{IsBoundedBy, IsClash, IsClashAmong};
@@ -14,28 +13,13 @@ use scf_insn::Memory;
 use std::alloc::Global;
 
 /// Two entries that conflict, and the number of the calls on which they do.
-#[derive(Clone, Copy)]
+///
+/// They are ordered by the second entry, then by the first, then by the number.
+#[derive(Clone, Copy, PartialEq, Eq, PartialOrd, Ord)]
 pub(crate) struct Clash {
     pub(crate) second: u32,
     pub(crate) first: u32,
     pub(crate) number: u32,
-}
-
-impl Clash {
-    ghost use Rattle.scf_profile.specs.internal.Clashes.{IsAtMost};
-
-    /// Whether it stands before another or is it: the second entry counts first, then the first, then the number.
-    fn is_at_most(self, other: Clash) -> bool
-        ensures { MatchBool result (IsAtMost self other) (IsAtMost other self) }
-    {
-        if self.second != other.second {
-            return self.second < other.second;
-        }
-        if self.first != other.first {
-            return self.first < other.first;
-        }
-        self.number <= other.number
-    }
 }
 
 /// The lesser of two clashes, where there are any.
@@ -48,7 +32,7 @@ fn lesser(least: Option<Clash>, clash: Option<Clash>) -> Option<Clash>
         return least;
     };
     match least {
-        Some(known) if known.is_at_most(other) => Some(known),
+        Some(known) if known <= other => Some(known),
         _ => Some(other),
     }
 }

@@ -52,10 +52,7 @@ fn all_hold(conditions: &[Condition], call: &CallRecord) -> bool
     requires { All (λ c. c.index < arguments) conditions.now }
     ensures { result ≡ all_conditions_hold call.now conditions.now }
 {
-    for condition in conditions {
-        if !condition.holds_of(call.args[usize::from(condition.index)]) {
-            return false;
-        }
-    }
-    true
+    conditions
+        .iter()
+        .all(|c| c.holds_of(call.args[usize::from(c.index)]))
 }
