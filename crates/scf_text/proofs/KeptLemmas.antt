@@ -1,7 +1,7 @@
 -- A statement with more tokens than any form has: its first ones say as much as all of them.
-use Rattle.std.proofs.Common.{◌≡◌, ℕ, ◌<◌, ◌≤◌, Bool, true, false, ◌&&◌, leb, List, [], ◌∷◌, ◌++◌, length, map}
+use Rattle.std.proofs.Common.{◌≡◌, ◌≢◌, ℕ, ◌<◌, ◌≤◌, Bool, true, false, ◌&&◌, leb, List, [], ◌∷◌, ◌++◌, length, map}
 use Rattle.std.proofs.Common.{Option, Some, None, Result, Ok, Err, refl, sym, ap, subst, ◌∙◌, arith, inl, inr}
-use Rattle.std.specs.Prelude.{if◌then◌else◌}
+use Rattle.std.specs.Prelude.{if◌then◌else◌, OnOk, OnErr}
 use Rattle.std.specs.Option.{is_some, option_or}
 use Rattle.std.specs.List.{list_all}
 use Rattle.std.specs.Str.{bytes_eq}
@@ -22,6 +22,7 @@ use Rattle.scf_text.specs.internal.Parts.{words_of_part, AreFirst}
 use Rattle.scf_text.specs.internal.Views.{texts}
 use Rattle.scf_text.specs.internal.Results.{AddsInstruction}
 use Rattle.scf_text.proofs.DraftLemmas.{unequal}
+use Rattle.scf_text.proofs.WantedLemmas.{some_texts}
 use Rattle.scf_text.proofs.TokenLemmas.{all_of_first}
 
 abbrev is_short : Form → Bool
@@ -106,16 +107,24 @@ texts_are : (ts : List Token) → texts ts ≡ map (λ (l : Lexeme). l.text) (le
 texts_are [] = refl
 texts_are (t ∷ ts) = ap (λ (us : List (List ℕ)). t.text.now ∷ us) (texts_are ts)
 
-pub kept_words : (old ts us : List Token) (part : List ℕ) → old ≡ []
-    → AreFirst 11 (lexemes old ++ lexemes_from 0 part) (lexemes ts) → us ≡ ts
-    → AreFirst 11 (words_of_part part) (texts us)
-kept_words old ts us part none first same =
-    let all : lexemes_from 0 part ≡ lexemes ts ++ first.others = rw none at first.whole in
-    record {
-      others = map (λ (l : Lexeme). l.text) first.others;
-      whole = ap (map (λ (l : Lexeme). l.text)) all
-          ∙ map-append (λ (l : Lexeme). l.text) (lexemes ts) first.others
-          ∙ ap (λ ws. ws ++ map (λ (l : Lexeme). l.text) first.others) (sym (texts_are ts) ∙ ap texts (sym same));
-      few = λ lt. ap (map (λ (l : Lexeme). l.text))
-          (first.few (omega (arith, length-map ts lexeme, length-map us (λ t. t.text.now), ap length same, lt)));
-    }
+first_texts : (ts : List Token) (part : List ℕ) → AreFirst 11 (lexemes_from 0 part) (lexemes ts)
+    → AreFirst 11 (words_of_part part) (texts ts)
+first_texts ts part first = record {
+  others = map (λ (l : Lexeme). l.text) first.others;
+  whole = ap (map (λ (l : Lexeme). l.text)) first.whole
+      ∙ map-append (λ (l : Lexeme). l.text) (lexemes ts) first.others
+      ∙ ap (λ ws. ws ++ map (λ (l : Lexeme). l.text) first.others) (sym (texts_are ts));
+  few = λ lt. ap (map (λ (l : Lexeme). l.text))
+      (first.few (omega (arith, length-map ts lexeme, length-map ts (λ t. t.text.now), lt)));
+}
+
+pub first_words : {T E : Type 0} (old ts : List Token) (part : List ℕ) (r : Result T E) → old ≡ []
+    → OnOk r (AreFirst 11 (lexemes old ++ lexemes_from 0 part) (lexemes ts))
+    → OnOk r (AreFirst 11 (words_of_part part) (texts ts))
+first_words old ts part (Ok x) none first = first_texts ts part (rw none at first)
+first_words old ts part (Err e) none first = tt
+
+pub no_words : {T E : Type 0} (part : List ℕ) (r : Result T E) → OnErr r (lexemes_from 0 part ≢ [])
+    → OnErr r (words_of_part part ≢ [])
+no_words part (Ok x) some = tt
+no_words part (Err e) some = some_texts part some

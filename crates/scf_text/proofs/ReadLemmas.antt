@@ -252,12 +252,6 @@ reads_fault e before all more rest p ds h next =
     (fault_then e (statements_fault before h.done) _ h.none
     (fault_first e (statements_fault (before ++ h.done) more) _ now))
 
-pub reads_one_fault : (e : TextFault) (before all : List Statement) (s : Statement) (rest : List Statement)
-    (p : Places) (ds : List (ℕ × drafts.Draft)) → HasReadUpTo before all ((s ∷ []) ++ rest) p ds
-    → ((ss : List Statement) → HasRead ss p ds → IsFault e (statements_fault ss (s ∷ [])))
-    → IsFault e (statements_fault before all)
-reads_one_fault e before all s rest p ds h next = reads_fault e before all (s ∷ []) rest p ds h next
-
 -- the statements of a line
 
 pub some_parts : (end : ℕ) (o : Option (Bor (List ℕ))) (bytes part : List ℕ)

@@ -1,5 +1,5 @@
 -- Which texts have a token, so that memory may be wanted for them.
-use Rattle.std.proofs.Common.{◌≡◌, ◌≢◌, ℕ, ◌+◌, ◌<◌, List, [], ◌∷◌, ◌++◌, length, map, Result, Ok, Err, refl, sym, ap}
+use Rattle.std.proofs.Common.{◌≡◌, ◌≢◌, ℕ, ◌+◌, ◌<◌, ◌≤◌, List, [], ◌∷◌, ◌++◌, length, map, Result, Ok, Err, refl, sym, ap}
 use Rattle.std.proofs.Common.{◌∙◌}
 use Rattle.std.proofs.Common.{arith}
 use Rattle.std.specs.Prelude.{OnErr}
@@ -47,6 +47,12 @@ pub some_kept : (all : List (List ℕ)) (ts : List Token) → AreFirst 11 all (t
 some_kept all ts first some none =
     let no_tokens = none_mapped _ ts (none_in_front (texts ts) first.others (sym first.whole ∙ none)) in
     omega (arith, ap length no_tokens, some)
+
+-- the instruction behind the label, which is refused, has tokens
+pub some_refused : {T E : Type 0} (all : List (List ℕ)) (ts us : List Token) (r : Result T E)
+    → AreFirst 11 all (texts ts) → length us ≤ length ts → OnErr r (0 < length us) → OnErr r (all ≢ [])
+some_refused all ts us (Ok x) first le some = tt
+some_refused all ts us (Err e) first le some = some_kept all ts first (omega (arith, le, some))
 
 no_drafts : (n : ℕ) (lines : List (List ℕ)) → flat_map words_of_line lines ≡ []
     → flat_map drafts_in (statements_from n lines) ≡ []

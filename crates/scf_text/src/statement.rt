@@ -1,9 +1,10 @@
 //! The statements of a text.
-ghost use Rattle.std.specs.Prelude.{◌≡◌, ◌≢◌, ◌<◌, ◌≤◌, ◌∷◌, [], ℕ, List, length, OnErr, IsSome};
+ghost use Rattle.std.specs.Prelude.{◌≡◌, ◌≢◌, ◌<◌, ◌≤◌, ◌∷◌, [], List, length, OnOk, OnErr, IsSome};
 ghost use Rattle.std.specs.Option.{option_map};
 ghost use Rattle.scf_text.specs.Statements.{Statement, label_in, instruction_in};
 ghost use Rattle.scf_text.specs.internal.Parts.{words_of_part, AreFirst};
-ghost use Rattle.scf_text.specs.internal.Reading.{places_view, drafts_view, line_statements, HasRead, ReadsMore};
+ghost use Rattle.scf_text.specs.internal.Reading.{places_view, drafts_view, HasRead, ReadsMore};
+ghost use Rattle.scf_text.specs.internal.Reading.{statement_of, line_statements};
 ghost use Rattle.scf_text.specs.internal.Results.{TellsDraft, AddsLabel, AddsInstruction};
 ghost use Rattle.scf_text.specs.internal.Views.{texts};
 
@@ -12,6 +13,7 @@ use crate::fault::TextFault;
 use crate::numbered_draft::NumberedDraft;
 use crate::token::{Token, first_part, push_tokens};
 use scf_insn::kernel::BPF_MAXINSNS;
+use std::alloc::AllocError;
 use std::collections::BTreeMap;
 
 /// The instruction that a mnemonic and operands are, in this line and behind as many others.
@@ -102,25 +104,35 @@ fn add_instruction<'a>(
 /// longer statement is known.
 const MAX_TOKENS: usize = 11;
 
-/// Adds the label and the instruction of a statement, whose first tokens are given.
+/// Reads the first tokens of a statement.
+fn read_tokens<'a>(tokens: &mut Vec<Token<'a>>, statement: &'a [u8]) -> Result<(), AllocError>
+    ensures first { OnOk result (AreFirst MAX_TOKENS (words_of_part statement.now) (texts tokens.new.items)) }
+    ensures some { OnErr result (words_of_part statement.now ≢ []) }
+{
+    tokens.clear();
+    push_tokens(tokens, 0, statement, MAX_TOKENS)
+}
+
+/// Adds the label and the instruction of a statement. Its tokens stand in place of those that there were.
 fn add_statement<'a>(
     places: &mut Places<'a>,
     drafts: &mut Vec<NumberedDraft<'a>>,
-    tokens: &[Token<'a>],
+    tokens: &mut Vec<Token<'a>>,
+    statement: &'a [u8],
     line: usize,
 ) -> Result<(), TextFault>
-    ensures reads { (before : List Statement) (all : List (List ℕ)) → AreFirst MAX_TOKENS all (texts tokens.now)
-        → HasRead before (places_view places.old) (drafts_view drafts.old.items)
-        → ReadsMore result before ((record { line = line; tokens = all }) ∷ []) (places_view places.new)
+    ensures reads { (before : List Statement) → HasRead before (places_view places.old) (drafts_view drafts.old.items)
+        → ReadsMore result before (statement_of line statement.now ∷ []) (places_view places.new)
         (drafts_view drafts.new.items) }
-    ensures some { OnErr result (0 < length tokens.now) }
+    ensures some { OnErr result (words_of_part statement.now ≢ []) }
 {
-    let (label, instruction) = split_label(tokens);
+    read_tokens(tokens, statement)?;
+    let (label, instruction) = split_label(tokens.as_slice());
     add_label(places, label, drafts.len(), line)?;
     add_instruction(drafts, instruction, line)
 }
 
-/// Adds the statements of a line without its comment. The tokens of one statement are kept at a time.
+/// Adds the statements of a line without its comment.
 pub(crate) fn add_line<'a>(
     places: &mut Places<'a>,
     drafts: &mut Vec<NumberedDraft<'a>>,
@@ -136,9 +148,7 @@ pub(crate) fn add_line<'a>(
     let mut rest = bytes;
     'statements: loop {
         let (statement, after) = first_part(rest, b';');
-        tokens.clear();
-        push_tokens(tokens, 0, statement, MAX_TOKENS)?;
-        add_statement(places, drafts, tokens.as_slice(), line)?;
+        add_statement(places, drafts, tokens, statement, line)?;
         match after {
             None => return Ok(()),
             Some(next) => rest = next,
