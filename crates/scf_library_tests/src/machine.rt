@@ -37,6 +37,7 @@ fn answers(alloc: Global, insns: &[Insn], answer: u32, steps: u32) -> Result<boo
         ran.answer == Answer(answer)
             && ran.steps == steps
             && program.len() == insns.len()
+            && !program.is_empty()
             && program.insns() == insns
             && program.into_insns().as_slice() == insns,
     )
@@ -327,6 +328,7 @@ fn stacks(rt: HostRuntime) -> Result<(), Fail> {
     for (answers, wanted) in all {
         let stack = stack_of(rt.alloc(), answers)?;
         assert_eq!(rt; stack.len(), answers.len());
+        assert_eq!(rt; stack.is_empty(), answers.is_empty());
         assert_eq!(rt; stack.decide(&CALL), Answer(wanted));
         for i in 0..answers.len() {
             let found = stack.get(i).map(|filter| run(filter, &CALL).answer);

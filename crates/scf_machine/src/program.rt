@@ -1,6 +1,6 @@
 //! Filters that were checked.
 
-ghost use Rattle.std.specs.Prelude.{◌≡◌, ℕ, List, length};
+ghost use Rattle.std.specs.Prelude.{◌≡◌, ℕ, false, List, length};
 ghost use Rattle.std.specs.List.{AllByRecursion};
 ghost use Rattle.scf_insn.specs.Insn.{IsInsn};
 ghost use Rattle.scf_machine.specs.Machine.{RunsSafely};
@@ -44,6 +44,13 @@ impl Program {
         ensures { result ≡ length self.now }
     {
         self.list.len()
+    }
+
+    /// Whether there are no instructions: never, since an accepted list has one at least.
+    pub fn is_empty(&self) -> bool
+        ensures { result ≡ false }
+    {
+        self.list.is_empty()
     }
 
     /// The list that was checked.

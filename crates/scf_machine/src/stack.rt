@@ -1,6 +1,6 @@
 //! Stacks of filters.
 
-ghost use Rattle.std.specs.Prelude.{◌≡◌, [], ◌∷◌, ℕ, List, All, length, slice_get, option_copied};
+ghost use Rattle.std.specs.Prelude.{◌≡◌, ◌==◌, [], ◌∷◌, ℕ, List, All, length, slice_get, option_copied};
 ghost use Rattle.scf_insn.specs.Words.{words_of};
 ghost use Rattle.scf_machine.specs.Precedence.{IsDecision, StackAnswers, with_newest};
 ghost use Rattle.scf_machine.specs.Rules.{IsFilter};
@@ -79,6 +79,13 @@ impl FilterStack {
         ensures { result ≡ length self.now }
     {
         self.filters.len()
+    }
+
+    /// Whether there are none.
+    pub fn is_empty(&self) -> bool
+        ensures { result ≡ (length self.now == 0) }
+    {
+        self.filters.is_empty()
     }
 
     /// The filter at a place, 0 being the oldest. None from the length on. Each filter keeps the rules of filters.
