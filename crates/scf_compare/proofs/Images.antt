@@ -12,7 +12,6 @@ use Rattle.std.proofs.Math.Nat.{div-add-mod, div-div-eq-div-mul, div-eq_of_lt, d
 use Rattle.std.proofs.Math.Pow.{pow_mono, shr_mono}
 use Rattle.scf_compare.specs.declared.image.Image.{Image}
 use Rattle.scf_compare.specs.internal.Images.{IsWhole, shifted_word, image_number}
-use Rattle.scf_compare.proofs.Bits.{whole_word}
 
 flipped_bit : (a c : ℕ) → a < 2 → c < 2 → ((a + c) % 2 + c) % 2 ≡ a
 flipped_bit a c h k = omega arith
@@ -160,10 +159,6 @@ image_below w s t m c v fits past =
 unshifted : (w : ℕ) → w / 2 ^ 0 * 2 ^ 0 ≡ w
 unshifted w = let once : w / 2 ^ 0 * 2 ^ 0 ≡ w / 2 ^ 0 = omega arith in once ∙ div-one w
 
--- a whole word is an image of itself
-whole_image : (w : ℕ) → w < 2 ^ 32 → w ≡ bit_xor (bit_and (w / 2 ^ 0 * 2 ^ 0) 4294967295) 0
-whole_image w h = whole_word w h ∙ ap (λ n. bit_and n 4294967295) (sym (unshifted w)) ∙ sym (xor_zero_r _)
-
 regrouped : (a b c : ℕ) → a * (b * c) ≡ b * (c * a)
 regrouped a b c = mul_left_comm a b c ∙ ap (λ n. b * n) (mul_comm a c)
 
@@ -197,16 +192,22 @@ mask_left m v =
     omega (arith, same, and_le_l m (bit_xor m (bit_and m v)))
 
 -- the number of an image that is a whole word
+pub whole_number : (image : Image) (words : List ℕ) → IsWhole image
+    → slice_index words image.word % 2 ^ 32 ≡ image_number image words
+whole_number image words whole =
+    let word = slice_index words image.word in
+    sym (and_mask word 32)
+    ∙ ap (λ n. bit_and n 4294967295) (sym (unshifted word))
+    ∙ sym (xor_zero_r _)
+    ∙ ap (λ n. bit_xor (bit_and (word / 2 ^ n * 2 ^ 0) 4294967295) 0) (sym whole.right)
+    ∙ ap (λ n. bit_xor (bit_and (word / 2 ^ image.right * 2 ^ n) 4294967295) 0) (sym whole.left)
+    ∙ ap (λ n. bit_xor (bit_and (shifted_word image words) n) 0) (sym whole.mask)
+    ∙ ap (λ n. bit_xor (bit_and (shifted_word image words) image.mask) n) (sym whole.flipped)
+
 pub of_whole_word : (image : Image) (words : List ℕ) (word : ℕ) → IsWhole image → image.word ≡ word
     → slice_index words word < 2 ^ 32 → slice_index words word ≡ image_number image words
 of_whole_word image words word whole same below =
-    whole_image (slice_index words word) below
-    ∙ ap (λ n. bit_xor (bit_and (slice_index words n / 2 ^ 0 * 2 ^ 0) 4294967295) 0) (sym same)
-    ∙ ap (λ n. bit_xor (bit_and (slice_index words image.word / 2 ^ n * 2 ^ 0) 4294967295) 0) (sym whole.right)
-    ∙ ap (λ n. bit_xor (bit_and (slice_index words image.word / 2 ^ image.right * 2 ^ n) 4294967295) 0)
-    (sym whole.left)
-    ∙ ap (λ n. bit_xor (bit_and (shifted_word image words) n) 0) (sym whole.mask)
-    ∙ ap (λ n. bit_xor (bit_and (shifted_word image words) image.mask) n) (sym whole.flipped)
+    sym (mod-eq_of_lt below) ∙ ap (λ n. slice_index words n % 2 ^ 32) (sym same) ∙ whole_number image words whole
 
 -- ---- shifts
 

@@ -1,6 +1,6 @@
 //! What is known of a register or a scratch word on a way through a filter.
 
-ghost use Rattle.std.specs.Prelude.{◌≡◌, ℕ, ◌-◌, ◌%◌, ◌^◌, ◌<◌, List, Bool, not, IfSome, IsTrue};
+ghost use Rattle.std.specs.Prelude.{◌≡◌, ◌==◌, ℕ, ◌+◌, ◌-◌, ◌%◌, ◌^◌, ◌<◌, List, Bool, not, IfSome, IsTrue, slice_index};
 ghost use Rattle.scf_insn.specs.SimpleMask.{IsSimpleMask};
 ghost use Rattle.scf_insn.specs.Words.{IsWords};
 ghost use Rattle.scf_machine.specs.Machine.{holds, value_computed};
@@ -19,6 +19,8 @@ pub(crate) enum Value {
     Known(u32),
     /// What is computed from a word of the record bit by bit.
     OfWord(Image),
+    /// A word of the record and a number added to it, modulo 2^32.
+    Sum { word: u8, added: u32 },
     Unknown,
 }
 
@@ -55,8 +57,12 @@ impl Value {
         match (self, other) {
             (Value::Known(a), Value::Known(v)) => known_result(arithmetic, a, v),
             (Value::OfWord(image), Value::Known(v)) => image_result(arithmetic, image, v),
+            (Value::Sum { word, added }, Value::Known(v)) => sum_result(arithmetic, word, added, v),
             (Value::Known(a), Value::OfWord(image)) if is_commutative(arithmetic) => {
                 image_result(arithmetic, image, a)
+            }
+            (Value::Known(a), Value::Sum { word, added }) if is_commutative(arithmetic) => {
+                sum_result(arithmetic, word, added, a)
             }
             _ => Value::Unknown,
         }
@@ -105,7 +111,7 @@ impl Value {
                 Value::Known(a) => decide_turned(a, test, image),
                 _ => Decision::Open,
             },
-            Value::Unknown => Decision::Open,
+            Value::Sum { .. } | Value::Unknown => Decision::Open,
         }
     }
 
@@ -121,6 +127,10 @@ impl Value {
         match self {
             Value::Known(a) => Decision::Known(holds_of(test, a, v)),
             Value::OfWord(image) => decide_image(image, test, v),
+            Value::Sum { word, added } => match test {
+                Test::Equal => is_sum(word, added, v),
+                _ => Decision::Open,
+            },
             Value::Unknown => Decision::Open,
         }
     }
@@ -182,6 +192,14 @@ fn image_result(arithmetic: Arithmetic, image: Image, v: u32) -> Value
 {
     match arithmetic {
         Arithmetic::Add | Arithmetic::Sub if v == 0 => Value::OfWord(image),
+        Arithmetic::Add if image.is_whole() => Value::Sum {
+            word: image.word,
+            added: v,
+        },
+        Arithmetic::Sub if image.is_whole() => Value::Sum {
+            word: image.word,
+            added: 0u32.wrapping_sub(v),
+        },
         Arithmetic::And => Value::OfWord(image.and(v)),
         Arithmetic::Or => Value::OfWord(image.or(v)),
         Arithmetic::Xor => Value::OfWord(image.xor(v)),
@@ -196,6 +214,43 @@ fn image_result(arithmetic: Arithmetic, image: Image, v: u32) -> Value
             None => Value::Unknown,
         },
         _ => Value::Unknown,
+    }
+}
+
+/// A computation on the sum of a word and a number, and a known number.
+fn sum_result(arithmetic: Arithmetic, word: u8, added: u32, v: u32) -> Value
+    requires { word < 16 }
+    ensures value { IsValue result }
+    ensures stands { (words : List ℕ)
+        → StandsFor result words (value_computed arithmetic ((slice_index words word + added) % 2 ^ 32) v) }
+{
+    match arithmetic {
+        Arithmetic::Add => Value::Sum {
+            word,
+            added: added.wrapping_add(v),
+        },
+        Arithmetic::Sub => Value::Sum {
+            word,
+            added: added.wrapping_sub(v),
+        },
+        _ => Value::Unknown,
+    }
+}
+
+/// Whether the sum of a word and a number is another number, as an atom about the word.
+fn is_sum(word: u8, added: u32, v: u32) -> Decision
+    requires { word < 16 }
+    ensures asks { IsDecision result }
+    ensures decides { (words : List ℕ) → IsWords words
+        → Decides result words ((slice_index words word + added) % 2 ^ 32 == v) }
+{
+    Decision::Asks {
+        atom: Atom::Eq {
+            word,
+            mask: u32::MAX,
+            value: v.wrapping_sub(added),
+        },
+        holds: true,
     }
 }
 
