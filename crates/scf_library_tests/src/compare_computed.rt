@@ -158,6 +158,90 @@ const READS: &[(&str, Wanted)] = &[
         "div #2; jeq #0, 0, 1; ret #0x7fff0000; ret #0x50001",
         Differs,
     ),
+    // orders where the mask has all bits from one on
+    (
+        "st M[0]; and #0xfffffff0; jgt #0, 3, 0; ld M[0]; jeq #0, 0, 1; ret #0x7fff0000; ret #0x50001",
+        Same,
+    ),
+    (
+        "st M[0]; and #0xfffffff0; jgt #0, 2, 0; ld M[0]; jeq #0, 0, 1; ret #0x7fff0000; ret #0x50001",
+        Differs,
+    ),
+    (
+        "st M[0]; and #0xfffffff0; jge #16, 3, 0; ld M[0]; jeq #0, 0, 1; ret #0x7fff0000; ret #0x50001",
+        Same,
+    ),
+    (
+        "st M[0]; rsh #4; jge #1, 3, 0; ld M[0]; jeq #0, 0, 1; ret #0x7fff0000; ret #0x50001",
+        Same,
+    ),
+    (
+        "st M[0]; rsh #4; jge #1, 2, 0; ld M[0]; jeq #0, 0, 1; ret #0x7fff0000; ret #0x50001",
+        Differs,
+    ),
+    (
+        "st M[0]; rsh #4; jge #0x10000000, 2, 0; ld M[0]; jeq #0, 0, 1; ret #0x7fff0000; ret #0x50001",
+        Same,
+    ),
+    (
+        "st M[0]; div #16; lsh #2; jgt #3, 3, 0; ld M[0]; jeq #0, 0, 1; ret #0x7fff0000; ret #0x50001",
+        Same,
+    ),
+    (
+        "st M[0]; and #0xfffffff0; tax; ld #0; jge x, 0, 3; ld M[0]; jeq #0, 0, 1; ret #0x7fff0000; ret #0x50001",
+        Same,
+    ),
+    (
+        "and #0xfffffff0; jge #0, 0, 1; ret #0x7fff0000; ret #0x50001",
+        Differs,
+    ),
+    // a bound by the high bits
+    (
+        "st M[0]; and #0xfffffff0; jeq #0, 0, 3; ld M[0]; jgt #0, 1, 0; ret #0x7fff0000; ret #0x50001",
+        Same,
+    ),
+    (
+        "jset #0xfffffff0, 2, 0; jgt #0, 1, 0; ret #0x7fff0000; ret #0x50001",
+        Same,
+    ),
+    (
+        "jset #0xfffffff0, 2, 0; jgt #1, 1, 0; ret #0x7fff0000; ret #0x50001",
+        Differs,
+    ),
+    (
+        "jset #0xfffffff0, 0, 1; jgt #15, 2, 1; jeq #0, 0, 1; ret #0x7fff0000; ret #0x50001",
+        Same,
+    ),
+    // numbers added and taken away, modulo 2^32
+    ("add #5; jeq #5, 0, 1; ret #0x7fff0000; ret #0x50001", Same),
+    (
+        "add #5; jeq #6, 0, 1; ret #0x7fff0000; ret #0x50001",
+        Differs,
+    ),
+    (
+        "sub #1; jeq #0xffffffff, 0, 1; ret #0x7fff0000; ret #0x50001",
+        Same,
+    ),
+    (
+        "sub #1; jeq #0, 0, 1; ret #0x7fff0000; ret #0x50001",
+        Differs,
+    ),
+    (
+        "add #0xffffffff; add #2; sub #1; jeq #0, 0, 1; ret #0x7fff0000; ret #0x50001",
+        Same,
+    ),
+    (
+        "tax; ld #7; add x; jeq #7, 0, 1; ret #0x7fff0000; ret #0x50001",
+        Same,
+    ),
+    (
+        "st M[0]; ldx #3; ld M[0]; sub x; jeq #0xfffffffd, 0, 1; ret #0x7fff0000; ret #0x50001",
+        Same,
+    ),
+    (
+        "st M[0]; ldx #3; ld M[0]; sub x; jeq #3, 0, 1; ret #0x7fff0000; ret #0x50001",
+        Differs,
+    ),
     // what changes nothing
     ("add #0; jeq #0, 0, 1; ret #0x7fff0000; ret #0x50001", Same),
     (

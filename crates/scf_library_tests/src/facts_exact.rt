@@ -144,7 +144,7 @@ fn a_narrow_range_is_refuted(rt: HostRuntime) -> Result<(), Fail> {
     let mut facts = WordSets::all(rt.alloc())?;
     learn(&rt, &mut facts, at_least(0x1238), true)?;
     learn(&rt, &mut facts, at_least(0x1240), false)?;
-    learn(&rt, &mut facts, equal(0xffff_fffc, 0x1238), false)?;
+    learn(&rt, &mut facts, equal(0x7fff_fffc, 0x1238), false)?;
     assert_eq!(rt; facts.is_empty(), false);
     assert_eq!(rt; facts.pick(), words_with(0x123f));
     learn(&rt, &mut facts, equal(0x0fff_fffc, 0x123c), false)?;
