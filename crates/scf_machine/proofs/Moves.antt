@@ -220,17 +220,9 @@ pub effect_passes : (len : ℕ) (operation : Operation) (i : Insn) (words : List
     → IsFine len s.place i operation
     → (IsScratchLoad operation → IsStored s i.k) → IsNoFault (effect operation i words s)
 effect_passes len LoadWord i words s fine stored = passes _ _ (Goes _) (word_test i.k fine) tt
-effect_passes len (LoadLength r) i words s fine stored = tt
-effect_passes len (LoadConstant r) i words s fine stored = tt
 effect_passes len (LoadScratch r) i words s fine stored =
     passes _ _ _ (lt_test i.k bpf_memwords fine) (loads_stored r s (word_at s.scratch i.k) _ (stored tt).is)
 effect_passes len (StoreScratch r) i words s fine stored = passes _ _ (Goes _) (lt_test i.k bpf_memwords fine) tt
 effect_passes len (Compute arithmetic operand) i words s fine stored =
     compute_passes len s.place arithmetic operand i s fine
-effect_passes len Negate i words s fine stored = tt
-effect_passes len Jump i words s fine stored = tt
-effect_passes len (JumpIf test operand) i words s fine stored = tt
-effect_passes len ReturnConstant i words s fine stored = tt
-effect_passes len ReturnAccumulator i words s fine stored = tt
-effect_passes len CopyToIndex i words s fine stored = tt
-effect_passes len CopyToAccumulator i words s fine stored = tt
+effect_passes len operation i words s fine stored = tt

@@ -8,7 +8,7 @@ use Rattle.scf_insn.specs.declared.operation.Register.{Register}
 use Rattle.scf_insn.specs.declared.operation.Register.TheVariants.{A}
 use Rattle.scf_insn.specs.declared.operation.Operand.TheVariants.{Constant, Index}
 use Rattle.scf_insn.specs.declared.operation.Arithmetic.{Arithmetic}
-use Rattle.scf_insn.specs.declared.operation.Arithmetic.TheVariants.{Add, Sub, Mul, Div, Or, And, Lsh, Rsh, Xor}
+use Rattle.scf_insn.specs.declared.operation.Arithmetic.TheVariants.{Div, Lsh, Rsh}
 use Rattle.scf_insn.specs.declared.operation.Test.{Test}
 use Rattle.scf_insn.specs.declared.operation.Operation.TheVariants.{Compute, StoreScratch}
 use Rattle.scf_machine.specs.declared.machine.Registers.{Registers}
@@ -62,12 +62,7 @@ pub computes_by_index : (arithmetic : Arithmetic) (i : Insn) (s : State) (new : 
 computes_by_index Div i s new div lsh rsh h = absurd (div refl)
 computes_by_index Lsh i s new div lsh rsh h = absurd (lsh refl)
 computes_by_index Rsh i s new div lsh rsh h = absurd (rsh refl)
-computes_by_index Add i s new div lsh rsh h = h
-computes_by_index Sub i s new div lsh rsh h = h
-computes_by_index Mul i s new div lsh rsh h = h
-computes_by_index Or i s new div lsh rsh h = h
-computes_by_index And i s new div lsh rsh h = h
-computes_by_index Xor i s new div lsh rsh h = h
+computes_by_index arithmetic i s new div lsh rsh h = h
 
 pub stores_register : (r : Register) (i : Insn) (words : List ℕ) (s : State) (new : Registers) (v : ℕ)
     → v ≡ value_of r s → i.k < bpf_memwords
