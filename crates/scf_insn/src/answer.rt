@@ -116,6 +116,7 @@ impl Answer {
     {
         self.high_half().cast_signed()
     }
+
     /// What becomes of a call that is answered so, by the rank of the answer.
     pub fn fate(&self) -> Fate
         ensures { result ≡ fate_of self.now.0 }

@@ -22,7 +22,7 @@ pub enum ReadFault {
     Read,
     #[error("the instruction at byte {offset} is cut")]
     Truncated { offset: usize },
-    #[error("the input has more than 32768 bytes")]
+    #[error("the input has more than {most} bytes", most = MAX_FILTER_LEN)]
     TooLong,
     #[error("out of memory")]
     Memory,
