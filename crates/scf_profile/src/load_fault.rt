@@ -11,9 +11,9 @@ use thiserror::Error;
 
 /// The entry before a message, and nothing where there is none.
 #[derive(Clone, Copy)]
-struct Place(Option<u32>);
+struct InEntry(Option<u32>);
 
-impl fmt::Display for Place {
+impl fmt::Display for InEntry {
     fn fmt<W: fmt::Write>(&self, f: &mut fmt::Formatter<W>) -> fmt::Result {
         match self.0 {
             Some(entry) => write!(f, "entry {entry}: "),
@@ -29,48 +29,48 @@ pub enum LoadFault {
     /// The text is no UTF-8, or no JSON that is nested at most 127 deep.
     #[error("no JSON, or nested more than 127 deep")]
     Json,
-    #[error("{place}a member is missing", place = Place(*.entry))]
+    #[error("{place}a member is missing", place = InEntry(*.entry))]
     Missing {
         entry: Option<u32>,
     },
-    #[error("{place}a value of the wrong kind", place = Place(*.entry))]
+    #[error("{place}a value of the wrong kind", place = InEntry(*.entry))]
     Kind {
         entry: Option<u32>,
     },
-    #[error("{place}no name of an action", place = Place(*.entry))]
+    #[error("{place}no name of an action", place = InEntry(*.entry))]
     Action {
         entry: Option<u32>,
     },
-    #[error("{place}no name of an operator", place = Place(*.entry))]
+    #[error("{place}no name of an operator", place = InEntry(*.entry))]
     Operator {
         entry: Option<u32>,
     },
-    #[error("{place}no names", place = Place(*.entry))]
+    #[error("{place}no names", place = InEntry(*.entry))]
     EmptyNames {
         entry: Option<u32>,
     },
-    #[error("{place}no index of an argument: they are 0 to {last}", place = Place(*.entry), last = ARGUMENTS - 1)]
+    #[error("{place}no index of an argument: they are 0 to {last}", place = InEntry(*.entry), last = ARGUMENTS - 1)]
     Index {
         entry: Option<u32>,
     },
-    #[error("{place}two conditions on one argument", place = Place(*.entry))]
+    #[error("{place}two conditions on one argument", place = InEntry(*.entry))]
     RepeatedIndex {
         entry: Option<u32>,
     },
-    #[error("{place}an errno beside an action that takes none", place = Place(*.entry))]
+    #[error("{place}an errno beside an action that takes none", place = InEntry(*.entry))]
     Errno {
         entry: Option<u32>,
     },
-    #[error("{place}an errno outside 0 to {most}", place = Place(*.entry), most = MAX_ERRNO)]
+    #[error("{place}an errno outside 0 to {most}", place = InEntry(*.entry), most = MAX_ERRNO)]
     ErrnoRange {
         entry: Option<u32>,
     },
-    #[error("{place}x86-64 is not among the architectures", place = Place(*.entry))]
+    #[error("{place}x86-64 is not among the architectures", place = InEntry(*.entry))]
     NoX8664 {
         entry: Option<u32>,
     },
     /// A non-empty `archMap`, `includes` or `excludes`, whose meaning depends on a container engine.
-    #[error("{place}a form of container engines", place = Place(*.entry))]
+    #[error("{place}a form of container engines", place = InEntry(*.entry))]
     EngineForm {
         entry: Option<u32>,
     },
