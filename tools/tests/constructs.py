@@ -264,10 +264,10 @@ CONSTRUCTS = {
     "some bit of a mask": (by_bits, True), "copies through M[] and X": (by_copies, True),
     "an order against X": (by_order_in_x, True),
     "or": (by_or, True), "xor under a mask": (by_xor_and_mask, True), "xor": (by_xor, True),
-    "a right shift": (by_right_shift, True), "a division by a power of two": (by_division, False),
-    "a left shift": (by_left_shift, False), "a product by a power of two": (by_product, False),
-    "two halves": (by_halves, True), "no high bits": (by_high_bits, True), "an identity": (by_identity, False),
-    "an order of high bits": (by_order_of_high_bits, False), "an offset": (by_offset, False),
+    "a right shift": (by_right_shift, True), "a division by a power of two": (by_division, True),
+    "a left shift": (by_left_shift, True), "a product by a power of two": (by_product, True),
+    "two halves": (by_halves, True), "no high bits": (by_high_bits, True), "an identity": (by_identity, True),
+    "an order of high bits": (by_order_of_high_bits, True), "an offset": (by_offset, True),
     "a negation": (by_negation, False), "an order of an offset": (by_order_of_offset, False),
     "an order of a negation": (by_order_of_negation, False),
     "an order of a complement": (by_order_of_complement, False),
@@ -365,10 +365,14 @@ def pair_of(dice, construct):
 
 
 def changed(dice, pair):
-    """The pair with a constant of the filter's part behind the tests of the number changed, which is still accepted."""
+    """The pair with a constant of the filter's part behind the tests of the number changed, which is still accepted.
+    The construct stays: factors, divisors and the masks of orders aren't changed."""
     first = 4 + len(pair.numbers)
+    kept = {LD, RET, NEG, TAX, TXA, ST, MUL, DIV}
+    if any(code in (JGT, JGE) for code, *_ in pair.program[first:]):
+        kept.add(AND)
     places = [at for at, (code, *_) in enumerate(pair.program)
-              if at >= first and code not in (LD, RET, NEG, TAX, TXA, ST) and not (code & 7 in (4, 5) and code & X)]
+              if at >= first and code not in kept and not (code & 7 in (4, 5) and code & X)]
     while True:
         program, at = list(pair.program), dice.choice(places)
         code, jt, jf, k = pair.program[at]
