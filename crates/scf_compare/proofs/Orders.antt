@@ -1,10 +1,9 @@
 -- Orders of an image of a word whose mask has all bits from one on.
-use Rattle.std.proofs.Common.{◌≡◌, ℕ, ◌+◌, ◌-◌, ◌*◌, ◌/◌, ◌%◌, ◌<◌, ◌≤◌, ◌^◌, ◌↔◌, true, false, not, sym, ap, subst, ◌∙◌, arith}
+use Rattle.std.proofs.Common.{◌≡◌, ℕ, ◌+◌, ◌-◌, ◌*◌, ◌/◌, ◌%◌, ◌<◌, ◌≤◌, ◌^◌, ◌↔◌, true, false, sym, ap, subst, ◌∙◌, arith}
 use Rattle.std.proofs.Common.{bit_and, bit_xor}
 use Rattle.std.specs.Prelude.{nat_lt}
 use Rattle.std.specs.Int.Bits.{xor_zero_r}
 use Rattle.std.proofs.lemmas.Bool.{lt-ltb, ltb-true, le-ltb}
-use Rattle.std.proofs.lemmas.Bool.Decides.{nat_tests}
 use Rattle.std.proofs.lemmas.Nat.{pow_pos, shr_split}
 use Rattle.std.proofs.Math.Nat.{div-lt_iff_lt-mul, le-div_iff_mul-le, lt_of_mul-lt-mul_right, mod-eq_of_lt, mul-lt-mul_of_pos_right}
 use Rattle.scf_facts.proofs.HighMasks.{one_more, of_multiple, beyond_mask}
@@ -81,7 +80,3 @@ module _ (w s t m c k : ℕ) (none : c ≡ 0) (below : w < 2 ^ 32) (within : k <
         (above_quotient v).0 (subst (λ b. v < b) number_of_bits above),
         shr_split w k,
       ) in contrary)
-
--- to be at least a number that isn't 0 is to be above the one before it
-pub above_before : (a v : ℕ) → 0 < v → not (nat_lt a v) ≡ nat_lt (v - 1) a
-above_before a v some = grind (arith, nat_tests)
