@@ -3,6 +3,7 @@
 What is expected comes from the formats: an answer, a fault's line, or one of two verdicts where both are true. The
 bounds on time and memory are some ten times what is measured, so that what grows with the square of an input fails.
 """
+import json
 import os
 import subprocess
 import tempfile
@@ -186,6 +187,27 @@ class Hostile(Case):
         self.compares(words + ret(ALLOW), same, unfinished)
         cuts = b"".join(load(16 + 4 * (at % 12)) + jge(at // 12 * 1000 + 500, 0, 1) + load(16) for at in range(1300))
         self.compares(cuts + ret(ALLOW), same, unfinished)
+
+    def test_many_facts(self):
+        """Tests that split what is known thousands of times, before a profile whose rules split it again."""
+        bits = load(16) + b"".join(jset(1 << bit, 0, 1) + load(16) for bit in range(14))
+        wide = load(24) + b"".join(jset(at * 2654435761 % 2**32 | 3, 0, 1) + load(24) for at in range(14))
+        one_value = [{"index": 1, "value": 5, "op": "SCMP_CMP_EQ"}]
+        numbers = [("c%d" % (3 * at), None) for at in range(4000)]
+        values = [("c0", [{"index": 1, "value": 3 * at, "op": "SCMP_CMP_EQ"}]) for at in range(4000)]
+        masks = [("c0", [{"index": 1, "value": mask, "valueTwo": mask & ~2, "op": "SCMP_CMP_MASKED_EQ"}])
+                 for mask in (at * 2654435761 % 2**32 | 3 for at in range(4000))]
+        pairs = {"bits before numbers": (bits, numbers), "bits before values": (bits, values),
+                 "bits before masks": (bits, masks), "masks before values": (wide, values), "masks before masks":
+                 (wide, masks), "masks before numbers": (wide, [(name, one_value) for name, _ in numbers])}
+        table = b"".join(b"c%d %d\n" % (3 * at, 3 * at) for at in range(4000))
+        for what, (tests, rules) in pairs.items():
+            entries = [{"names": [name], "action": "SCMP_ACT_ALLOW", "args": conditions or []}
+                       for name, conditions in rules]
+            profile = json.dumps({"defaultAction": "SCMP_ACT_ALLOW", "syscalls": entries}).encode()
+            with self.subTest(what):
+                self.ends(["compare"], part("filter", GATE + tests + ret(ALLOW)) + with_table(profile, table),
+                          (0, b"same\n"), (4, b"unfinished\n"))
 
     def test_a_test_behind_the_other(self):
         both = jset(1, 0, 2) + jset(1, 1, 0) + ret(0) + ret(ALLOW)
