@@ -37,6 +37,24 @@ impl Asked {
                 },
                 answer: true,
             },
+            Atom::Arc { first, last, .. } if first <= last => Asked::Within {
+                range: Interval {
+                    low: first,
+                    high: last,
+                },
+                answer: true,
+            },
+            Atom::Arc { first, last, .. } if last + 1 < first => Asked::Within {
+                range: Interval {
+                    low: last + 1,
+                    high: first - 1,
+                },
+                answer: false,
+            },
+            Atom::Arc { .. } => Asked::Within {
+                range: Interval::ALL,
+                answer: true,
+            },
             Atom::Eq {
                 mask: u32::MAX,
                 value,

@@ -12,6 +12,9 @@ pub enum Atom {
     Gt { word: u8, value: u32 },
     /// The word is at least the value.
     Ge { word: u8, value: u32 },
+    /// The word is on the arc from `first` up to `last`, both included, round the circle of the numbers of 32 bits,
+    /// where 0 follows 2^32 - 1.
+    Arc { word: u8, first: u32, last: u32 },
 }
 
 impl Atom {
@@ -20,7 +23,10 @@ impl Atom {
         ensures { result ≡ word_of self }
     {
         match self {
-            Atom::Eq { word, .. } | Atom::Gt { word, .. } | Atom::Ge { word, .. } => word,
+            Atom::Eq { word, .. }
+            | Atom::Gt { word, .. }
+            | Atom::Ge { word, .. }
+            | Atom::Arc { word, .. } => word,
         }
     }
 
@@ -32,6 +38,7 @@ impl Atom {
             Atom::Eq { mask, value, .. } => number & mask == value,
             Atom::Gt { value, .. } => number > value,
             Atom::Ge { value, .. } => number >= value,
+            Atom::Arc { first, last, .. } => number.wrapping_sub(first) <= last.wrapping_sub(first),
         }
     }
 }
