@@ -7,6 +7,7 @@ pub mod Frontier
 pub mod Images
 pub mod Laws
 pub mod Numbers
+pub mod Offsets
 pub mod Pairs
 pub mod Profiles
 pub mod Scopes

@@ -108,7 +108,8 @@ fn compare_party<A: FilterTree, F: WordFacts>(
     limit: u64,
 ) -> Result<Verdict, Memory>
     ensures holds { IfOk result (
-        IsTrueVerdict (compared_in relation scope (IsPlaceOf (A.is_end filter.now)) (A.answers filter.now) profile.now)) }
+        IsTrueVerdict
+        (compared_in relation scope (IsPlaceOf (A.is_end filter.now)) (A.answers filter.now) profile.now)) }
     ensures within { IfOk result (IsWithin limit (A.whole_size filter.now * spread profile.now.rules)) }
     ensures decided { IsTrue F.starts_exact → A.is_plain filter.now → IsPlainProfile profile.now
         → IfOk result (IsDecided

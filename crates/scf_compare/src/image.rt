@@ -1,7 +1,8 @@
 //! What a filter computes from one word of the record bit by bit.
 
 ghost use Rattle.std.specs.Prelude.{◌≡◌, ◌==◌, ◌↔◌, ◌*◌, ◌/◌, ◌%◌, ◌<◌, ◌^◌, ℕ, List, IsTrue};
-ghost use Rattle.std.specs.Prelude.{bit_and, bit_or, bit_xor, nat_lt};
+ghost use Rattle.std.specs.Prelude.{bit_and, bit_or, bit_xor, nat_lt, nat_le};
+ghost use Rattle.scf_facts.specs.Atoms.{steps_from};
 ghost use Rattle.scf_insn.specs.SimpleMask.{IsSimpleMask};
 ghost use Rattle.scf_insn.specs.Words.{IsWords};
 ghost use Rattle.scf_compare.specs.internal.Images.{IsImage, IsWhole, image_number};
@@ -42,6 +43,13 @@ impl Image {
         ensures { IsTrue result ↔ IsWhole self }
     {
         self.right == 0 && self.left == 0 && self.mask == u32::MAX && self.flipped == 0
+    }
+
+    /// The bits that it may have.
+    pub(crate) fn bits(self) -> u32
+        ensures { result ≡ bit_or self.mask self.flipped }
+    {
+        self.mask | self.flipped
     }
 
     /// It AND a number.
@@ -157,6 +165,7 @@ impl Image {
             holds: true,
         }
     }
+
     /// Whether it is above a number, as an atom about its word, where its mask has all bits of the word from one on.
     pub(crate) fn is_above(self, v: u32) -> Decision
         requires { IsImage self }
@@ -175,6 +184,25 @@ impl Image {
             atom: Atom::Gt {
                 word: self.word,
                 value: (value << self.right & mask) + !mask,
+            },
+            holds: true,
+        }
+    }
+    /// Whether it is on the arc from one number up to another, as an atom about its word, where it is the whole word.
+    pub(crate) fn is_on_arc(self, first: u32, last: u32) -> Decision
+        requires { IsImage self }
+        ensures asks { IsDecision result }
+        ensures decides { (words : List ℕ) → IsWords words
+            → Decides result words (nat_le (steps_from first (image_number self words)) (steps_from first last)) }
+    {
+        if !self.is_whole() {
+            return Decision::Open;
+        }
+        Decision::Asks {
+            atom: Atom::Arc {
+                word: self.word,
+                first,
+                last,
             },
             holds: true,
         }

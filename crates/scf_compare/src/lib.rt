@@ -9,6 +9,7 @@ mod flow;
 mod frontier;
 mod image;
 mod laws;
+mod offset;
 mod pair;
 mod party;
 mod plain;

@@ -1,14 +1,16 @@
 //! What is known of a register or a scratch word on a way through a filter.
 
-ghost use Rattle.std.specs.Prelude.{◌≡◌, ◌==◌, ℕ, ◌+◌, ◌-◌, ◌%◌, ◌^◌, ◌<◌, List, Bool, not, IfSome, IsTrue, slice_index};
+ghost use Rattle.std.specs.Prelude.{◌≡◌, ◌==◌, ℕ, ◌+◌, ◌-◌, ◌%◌, ◌^◌, ◌<◌, List, Bool, not, IfSome, IsTrue};
 ghost use Rattle.scf_insn.specs.SimpleMask.{IsSimpleMask};
 ghost use Rattle.scf_insn.specs.Words.{IsWords};
 ghost use Rattle.scf_machine.specs.Machine.{holds, value_computed};
 ghost use Rattle.scf_compare.specs.internal.Images.{IsImage, IsWhole, image_number};
+ghost use Rattle.scf_compare.specs.internal.Offsets.{offset_number};
 ghost use Rattle.scf_compare.specs.internal.Values.{IsValue, StandsFor, IsPlainValue, IsDecision, Decides};
 ghost use Rattle.scf_compare.specs.internal.Values.{IsPlainDecision};
 
 use crate::image::Image;
+use crate::offset::Offset;
 use scf_facts::Atom;
 use scf_insn::{Answer, Arithmetic, Test};
 use scf_machine::{compute, holds_of};
@@ -19,8 +21,8 @@ pub(crate) enum Value {
     Known(u32),
     /// What is computed from a word of the record bit by bit.
     OfWord(Image),
-    /// A word of the record and a number added to it, modulo 2^32.
-    Sum { word: u8, added: u32 },
+    /// What is computed from a word of the record bit by bit, and a number added to it or it taken from the number.
+    Offset(Offset),
     Unknown,
 }
 
@@ -55,29 +57,56 @@ impl Value {
             → StandsFor result words (value_computed arithmetic a v) }
     {
         match (self, other) {
-            (Value::Known(a), Value::Known(v)) => known_result(arithmetic, a, v),
-            (Value::OfWord(image), Value::Known(v)) => image_result(arithmetic, image, v),
-            (Value::Sum { word, added }, Value::Known(v)) => sum_result(arithmetic, word, added, v),
-            (Value::Known(a), Value::OfWord(image)) if is_commutative(arithmetic) => {
-                image_result(arithmetic, image, a)
+            (_, Value::Known(v)) => self.computed_with(arithmetic, v),
+            (Value::Known(a), _) if is_commutative(arithmetic) => {
+                other.computed_with(arithmetic, a)
             }
-            (Value::Known(a), Value::Sum { word, added }) if is_commutative(arithmetic) => {
-                sum_result(arithmetic, word, added, a)
-            }
+            (Value::Known(a), _) => match arithmetic {
+                Arithmetic::Sub => other.taken_from(a),
+                _ => Value::Unknown,
+            },
             _ => Value::Unknown,
+        }
+    }
+
+    /// What is known of the result of a computation with a known number.
+    fn computed_with(self, arithmetic: Arithmetic, v: u32) -> Value
+        requires { IsValue self }
+        ensures value { IsValue result }
+        ensures stands { (words : List ℕ) (a : ℕ) → StandsFor self words a
+            → StandsFor result words (value_computed arithmetic a v) }
+    {
+        match self {
+            Value::Known(a) => known_result(arithmetic, a, v),
+            Value::OfWord(image) => image_result(arithmetic, image, v),
+            Value::Offset(offset) => offset_result(arithmetic, offset, v),
+            Value::Unknown => Value::Unknown,
+        }
+    }
+
+    /// What is known of the difference from a known number.
+    fn taken_from(self, v: u32) -> Value
+        requires { IsValue self }
+        ensures value { IsValue result }
+        ensures stands { (words : List ℕ) (a : ℕ) → StandsFor self words a
+            → StandsFor result words ((v + 2 ^ 32 - a) % 2 ^ 32) }
+    {
+        match self {
+            Value::Known(a) => Value::Known(v.wrapping_sub(a)),
+            Value::OfWord(image) => Offset::of(image).taken_from(v).value(),
+            Value::Offset(offset) => offset.taken_from(v).value(),
+            Value::Unknown => Value::Unknown,
         }
     }
 
     /// What is known of its negation.
     pub(crate) fn negated(self) -> Value
+        requires { IsValue self }
         ensures value { IsValue result }
         ensures stands { (words : List ℕ) (a : ℕ) → StandsFor self words a
             → StandsFor result words ((2 ^ 32 - a) % 2 ^ 32) }
     {
-        match self {
-            Value::Known(a) => Value::Known(0u32.wrapping_sub(a)),
-            _ => Value::Unknown,
-        }
+        self.taken_from(0)
     }
 
     /// What is known of its low five bits.
@@ -105,13 +134,10 @@ impl Value {
             → (test ≡ Test.CommonBit → IsSimpleMask v)
             → IsPlainDecision result }
     {
-        match other {
-            Value::Known(v) => self.decide_with(test, v),
-            Value::OfWord(image) => match self {
-                Value::Known(a) => decide_turned(a, test, image),
-                _ => Decision::Open,
-            },
-            Value::Sum { .. } | Value::Unknown => Decision::Open,
+        match (self, other) {
+            (_, Value::Known(v)) => self.decide_with(test, v),
+            (Value::Known(a), _) => other.decide_turned(a, test),
+            _ => Decision::Open,
         }
     }
 
@@ -127,18 +153,31 @@ impl Value {
         match self {
             Value::Known(a) => Decision::Known(holds_of(test, a, v)),
             Value::OfWord(image) => decide_image(image, test, v),
-            Value::Sum { word, added } => match test {
-                Test::Equal => is_sum(word, added, v),
-                _ => Decision::Open,
-            },
+            Value::Offset(offset) => decide_offset(offset, test, v),
             Value::Unknown => Decision::Open,
+        }
+    }
+
+    /// How a test of a known number against it comes out.
+    fn decide_turned(self, a: u32, test: Test) -> Decision
+        requires { IsValue self }
+        ensures asks { IsDecision result }
+        ensures decides { (words : List ℕ) (v : ℕ) → IsWords words
+            → StandsFor self words v
+            → Decides result words (holds test a v) }
+    {
+        match test {
+            Test::Equal => self.decide_with(Test::Equal, a),
+            Test::CommonBit => self.decide_with(Test::CommonBit, a),
+            Test::Greater => self.decide_with(Test::GreaterOrEqual, a).negated(),
+            Test::GreaterOrEqual => self.decide_with(Test::Greater, a).negated(),
         }
     }
 }
 
 impl Decision {
     /// How the opposite of the test comes out.
-    fn negated(self) -> Decision
+    pub(crate) fn negated(self) -> Decision
         requires { IsDecision self }
         ensures asks { IsDecision result }
         ensures decides { (words : List ℕ) (outcome : Bool) → Decides self words outcome
@@ -188,18 +227,12 @@ fn is_commutative(arithmetic: Arithmetic) -> bool
 fn image_result(arithmetic: Arithmetic, image: Image, v: u32) -> Value
     requires { IsImage image }
     ensures value { IsValue result }
-    ensures stands { (words : List ℕ) → StandsFor result words (value_computed arithmetic (image_number image words) v) }
+    ensures stands { (words : List ℕ)
+        → StandsFor result words (value_computed arithmetic (image_number image words) v) }
 {
     match arithmetic {
-        Arithmetic::Add | Arithmetic::Sub if v == 0 => Value::OfWord(image),
-        Arithmetic::Add if image.is_whole() => Value::Sum {
-            word: image.word,
-            added: v,
-        },
-        Arithmetic::Sub if image.is_whole() => Value::Sum {
-            word: image.word,
-            added: 0u32.wrapping_sub(v),
-        },
+        Arithmetic::Add => Offset::of(image).plus(v).value(),
+        Arithmetic::Sub => Offset::of(image).minus(v).value(),
         Arithmetic::And => Value::OfWord(image.and(v)),
         Arithmetic::Or => Value::OfWord(image.or(v)),
         Arithmetic::Xor => Value::OfWord(image.xor(v)),
@@ -217,40 +250,18 @@ fn image_result(arithmetic: Arithmetic, image: Image, v: u32) -> Value
     }
 }
 
-/// A computation on the sum of a word and a number, and a known number.
-fn sum_result(arithmetic: Arithmetic, word: u8, added: u32, v: u32) -> Value
-    requires { word < 16 }
+/// A computation on an offset of an image and a known number. A number of 32 ones XOR another is their difference.
+fn offset_result(arithmetic: Arithmetic, offset: Offset, v: u32) -> Value
+    requires { IsImage offset.image }
     ensures value { IsValue result }
     ensures stands { (words : List ℕ)
-        → StandsFor result words (value_computed arithmetic ((slice_index words word + added) % 2 ^ 32) v) }
+        → StandsFor result words (value_computed arithmetic (offset_number offset words) v) }
 {
     match arithmetic {
-        Arithmetic::Add => Value::Sum {
-            word,
-            added: added.wrapping_add(v),
-        },
-        Arithmetic::Sub => Value::Sum {
-            word,
-            added: added.wrapping_sub(v),
-        },
+        Arithmetic::Add => offset.plus(v).value(),
+        Arithmetic::Sub => offset.minus(v).value(),
+        Arithmetic::Xor if v == u32::MAX => offset.taken_from(v).value(),
         _ => Value::Unknown,
-    }
-}
-
-/// Whether the sum of a word and a number is another number, as an atom about the word.
-fn is_sum(word: u8, added: u32, v: u32) -> Decision
-    requires { word < 16 }
-    ensures asks { IsDecision result }
-    ensures decides { (words : List ℕ) → IsWords words
-        → Decides result words ((slice_index words word + added) % 2 ^ 32 == v) }
-{
-    Decision::Asks {
-        atom: Atom::Eq {
-            word,
-            mask: u32::MAX,
-            value: v.wrapping_sub(added),
-        },
-        holds: true,
     }
 }
 
@@ -269,7 +280,8 @@ fn exponent_of(v: u32) -> Option<u32>
 fn decide_image(image: Image, test: Test, v: u32) -> Decision
     requires { IsImage image }
     ensures asks { IsDecision result }
-    ensures decides { (words : List ℕ) → IsWords words → Decides result words (holds test (image_number image words) v) }
+    ensures decides { (words : List ℕ) → IsWords words
+        → Decides result words (holds test (image_number image words) v) }
     ensures plain { IsWhole image → (test ≡ Test.CommonBit → IsSimpleMask v) → IsPlainDecision result }
 {
     let word = image.word;
@@ -284,22 +296,23 @@ fn decide_image(image: Image, test: Test, v: u32) -> Decision
             atom: Atom::Ge { word, value: v },
             holds: true,
         },
-        Test::Greater => image.is_above(v),
-        Test::GreaterOrEqual if v == 0 => Decision::Known(true),
-        Test::GreaterOrEqual => image.is_above(v - 1),
+        Test::Greater | Test::GreaterOrEqual => decide_offset(Offset::of(image), test, v),
     }
 }
 
-/// How a test of a known number against an image of a word comes out.
-fn decide_turned(a: u32, test: Test, image: Image) -> Decision
-    requires { IsImage image }
+/// How a test of an offset of an image against a known number comes out.
+fn decide_offset(offset: Offset, test: Test, v: u32) -> Decision
+    requires { IsImage offset.image }
     ensures asks { IsDecision result }
-    ensures decides { (words : List ℕ) → IsWords words → Decides result words (holds test a (image_number image words)) }
+    ensures decides { (words : List ℕ) → IsWords words
+        → Decides result words (holds test (offset_number offset words) v) }
 {
     match test {
-        Test::Equal => decide_image(image, Test::Equal, a),
-        Test::CommonBit => decide_image(image, Test::CommonBit, a),
-        Test::Greater => decide_image(image, Test::GreaterOrEqual, a).negated(),
-        Test::GreaterOrEqual => decide_image(image, Test::Greater, a).negated(),
+        Test::Equal => offset.is(v),
+        Test::Greater => offset.is_above(v),
+        Test::GreaterOrEqual if v == 0 => Decision::Known(true),
+        Test::GreaterOrEqual => offset.is_above(v - 1),
+        Test::CommonBit if v == u32::MAX => offset.is(0).negated(),
+        Test::CommonBit => Decision::Open,
     }
 }

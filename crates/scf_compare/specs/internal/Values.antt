@@ -1,27 +1,28 @@
 -- What is known of the numbers that a filter computes from the words of a record.
-use Rattle.std.specs.Prelude.{◌≡◌, ◌<◌, ◌↔◌, ◌+◌, ◌%◌, ◌^◌, ℕ, List, Bool, true, Some, All, slice_index, slice_index_or}
+use Rattle.std.specs.Prelude.{◌≡◌, ◌<◌, ◌↔◌, ℕ, List, Bool, true, Some, All, slice_index_or}
 use Rattle.scf_facts.specs.Atoms.{atom_answer, word_of}
 use Rattle.scf_machine.specs.Machine.{State, word_at}
 use Rattle.scf_compare.specs.declared.value.Value.{Value}
-use Rattle.scf_compare.specs.declared.value.Value.TheVariants.{Known, OfWord, Sum, Unknown}
+use Rattle.scf_compare.specs.declared.value.Value.TheVariants.{Known, OfWord, Offset, Unknown}
 use Rattle.scf_compare.specs.declared.value.Decision.{Decision}
 use Rattle.scf_compare.specs.declared.value.Decision.TheVariants.{Known as Decided, Asks, Open}
 use Rattle.scf_compare.specs.declared.registers.Registers.{Registers}
 use Rattle.scf_compare.specs.internal.Images.{IsImage, IsWhole, image_number}
+use Rattle.scf_compare.specs.internal.Offsets.{offset_number}
 use Rattle.scf_compare.specs.internal.Trees.{KeepsEither}
 
 -- a value is of one of the sixteen words
 abbrev pub IsValue : Value → Type 0
 IsValue (Known value) = Unit {0}
 IsValue (OfWord image) = IsImage image
-IsValue (Sum word added) = word < 16
+IsValue (Offset offset) = IsImage offset.image
 IsValue Unknown = Unit {0}
 
 -- over the words a value stands for a number
 abbrev pub StandsFor : Value → List ℕ → ℕ → Type 0
 StandsFor (Known value) words x = x ≡ value
 StandsFor (OfWord image) words x = x ≡ image_number image words
-StandsFor (Sum word added) words x = x ≡ (slice_index words word + added) % 2 ^ 32
+StandsFor (Offset offset) words x = x ≡ offset_number offset words
 StandsFor Unknown words x = Unit {0}
 
 -- a decision asks of one of the sixteen words
@@ -40,7 +41,7 @@ Decides Open words test = Unit {0}
 abbrev pub IsPlainValue : Value → Type 0
 IsPlainValue (Known value) = Unit {0}
 IsPlainValue (OfWord image) = IsWhole image
-IsPlainValue (Sum word added) = ⊥
+IsPlainValue (Offset offset) = ⊥
 IsPlainValue Unknown = ⊥
 
 -- a decision that isn't left open, and that keeps exact facts exact
