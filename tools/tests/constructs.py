@@ -239,6 +239,53 @@ def by_order_of_complement(dice, low):
     return least(value, low, (XOR, WORD), (JGT, value ^ WORD, "no", "yes"))
 
 
+def by_difference(dice, low):
+    value, by = dice.getrandbits(32), dice.getrandbits(32)
+    return equal(value, low, (TAX, 0), (0x00, by), (SUB | X, 0), is_equal(by - value))
+
+
+def by_order_of_difference(dice, low):
+    value = dice.randrange(1, 1 << 32)
+    return least(value, low, (TAX, 0), (0x00, value - 1), (SUB | X, 0), (JGE, value, "yes", "no"))
+
+
+def by_order_of_high_complement(dice, low):
+    by = dice.randrange(1, 31)
+    mask = WORD >> by << by
+    value = value_in(dice, mask)
+    return least(value, low, *dice.choice(([(XOR, WORD), (AND, mask)], [(AND, mask), (XOR, mask)])),
+                 (JGT, mask - value, "no", "yes"))
+
+
+def by_offset_under_mask(dice, low):
+    mask, by = some_mask(dice), dice.getrandbits(32)
+    value = value_in(dice, mask)
+    return masked(mask, value, low, (AND, mask), *dice.choice((
+        [(ADD, by), is_equal(value + by)], [(SUB, by), is_equal(value - by)], [(NEG, 0), is_equal(-value)],
+        [(XOR, WORD), (ADD, by), is_equal(~value + by)])))
+
+
+# Parts of a word joined
+
+def by_joined_masks(dice, low):
+    first, second = some_mask(dice), some_mask(dice)
+    value = value_in(dice, first | second)
+    by = dice.getrandbits(32)
+    parts = (AND, first), (TAX, 0), (LD, low), (AND, second)
+    return masked(first | second, value, low, *dice.choice((
+        [*parts, (OR | X, 0), is_equal(value)],
+        [(OR, ~first & WORD), (TAX, 0), (LD, low), (OR, ~(second & ~first) & WORD), (AND | X, 0),
+         is_equal(value | ~(first | second))],
+        [(AND, first), (TAX, 0), (LD, low), (AND, second & ~first), (XOR, by), (XOR | X, 0), is_equal(value ^ by)])))
+
+
+def by_joined_halves(dice, low):
+    value = dice.getrandbits(32)
+    return equal(value, low, (RSH, 16), (XOR, value >> 16), (TAX, 0), (LD, low), (AND, 0xFFFF),
+                 (XOR, value & 0xFFFF), (OR | X, 0), *dice.choice((
+                     [is_equal(0)], [(JSET, WORD, "no", "yes")], [(JGT, 0, "no", "yes")], [(JGE, 1, "no", "yes")])))
+
+
 # Both words of an argument joined
 
 def by_joined_words(dice, low):
@@ -252,12 +299,6 @@ def by_no_bit_of_both(dice, low):
     return Asked("SCMP_CMP_EQ", 0, code=[(LD, words[0]), (TAX, 0), (LD, words[1]), (OR | X, 0), is_equal(0)])
 
 
-def by_joined_halves(dice, low):
-    value = dice.getrandbits(32)
-    return equal(value, low, (RSH, 16), (XOR, value >> 16), (TAX, 0), (LD, low), (AND, 0xFFFF),
-                 (XOR, value & 0xFFFF), (OR | X, 0), is_equal(0))
-
-
 # What stands for each construct, and whether scf decides all such pairs.
 CONSTRUCTS = {
     "a mask": (by_mask, True), "a mask in X": (by_mask_in_x, True), "the word in X": (by_word_in_x, True),
@@ -268,11 +309,13 @@ CONSTRUCTS = {
     "a left shift": (by_left_shift, True), "a product by a power of two": (by_product, True),
     "two halves": (by_halves, True), "no high bits": (by_high_bits, True), "an identity": (by_identity, True),
     "an order of high bits": (by_order_of_high_bits, True), "an offset": (by_offset, True),
-    "a negation": (by_negation, False), "an order of an offset": (by_order_of_offset, False),
-    "an order of a negation": (by_order_of_negation, False),
-    "an order of a complement": (by_order_of_complement, False),
+    "a negation": (by_negation, True), "a difference": (by_difference, True),
+    "an offset under a mask": (by_offset_under_mask, True), "an order of an offset": (by_order_of_offset, True),
+    "an order of a negation": (by_order_of_negation, True), "an order of a difference": (by_order_of_difference, True),
+    "an order of a complement": (by_order_of_complement, True),
+    "an order of a high complement": (by_order_of_high_complement, True),
+    "masks joined": (by_joined_masks, False), "two halves joined": (by_joined_halves, False),
     "both words joined": (by_joined_words, False), "no bit of both words": (by_no_bit_of_both, False),
-    "two halves joined": (by_joined_halves, False),
 }
 
 
@@ -366,13 +409,15 @@ def pair_of(dice, construct):
 
 def changed(dice, pair):
     """The pair with a constant of the filter's part behind the tests of the number changed, which is still accepted.
-    The construct stays: factors, divisors and the masks of orders aren't changed."""
+    The construct stays: factors, divisors, the masks and flips of orders, and a test for 0 of what is joined aren't
+    changed."""
     first = 4 + len(pair.numbers)
     kept = {LD, RET, NEG, TAX, TXA, ST, MUL, DIV}
     if any(code in (JGT, JGE) for code, *_ in pair.program[first:]):
-        kept.add(AND)
+        kept |= {AND, XOR}
     places = [at for at, (code, *_) in enumerate(pair.program)
-              if at >= first and code not in kept and not (code & 7 in (4, 5) and code & X)]
+              if at >= first and code not in kept and not (code & 7 in (4, 5) and code & X)
+              and pair.program[at - 1][0] != OR | X]
     while True:
         program, at = list(pair.program), dice.choice(places)
         code, jt, jf, k = pair.program[at]
