@@ -155,8 +155,8 @@ fn read_ascii(alloc: Global, text: &[u8]) -> Result<Vec<Insn>, TextFault>
 ///
 /// Where it spells none, the first of its faults is answered: first of all a byte that isn't ASCII; then the first
 /// statement with a label given before, no mnemonic, operands that its mnemonic doesn't have, a number that doesn't
-/// fit, or the 4097th instruction; then the first jump to a label that isn't given or isn't reached. `Memory` comes
-/// where memory was refused, and not for a text that isn't ASCII or has no token.
+/// fit, or an instruction behind the most that a filter may have; then the first jump to a label that isn't given or
+/// isn't reached. `Memory` comes where memory was refused, and not for a text that isn't ASCII or has no token.
 pub fn assemble(alloc: Global, text: &[u8]) -> Result<Vec<Insn>, TextFault>
     ensures spelled { IfOk result (λ insns. Spells text.now insns.items) }
     // A refusal is for memory, or the first fault of the text.

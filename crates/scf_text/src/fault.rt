@@ -2,6 +2,7 @@
 ghost use Rattle.std.specs.Prelude.{◌≡◌};
 ghost use Rattle.scf_text.specs.declared.fault.TextFault.TheVariants.{Memory};
 
+use scf_insn::kernel::BPF_MAXINSNS;
 use std::alloc::{AllocError, AllocFailed};
 use thiserror::Error;
 
@@ -26,8 +27,8 @@ pub enum TextFault {
     /// The label of a jump stands at or before it, or farther than its field reaches.
     #[error("line {line}: a label that this jump does not reach")]
     JumpTooFar { line: usize },
-    /// The line has the instruction after the 4096th.
-    #[error("line {line}: more than 4096 instructions")]
+    /// The line has the instruction behind the most that a filter may have, `BPF_MAXINSNS`.
+    #[error("line {line}: more than {most} instructions", most = BPF_MAXINSNS)]
     TooLong { line: usize },
     #[error("out of memory")]
     Memory,

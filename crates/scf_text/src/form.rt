@@ -230,8 +230,8 @@ macro_rules! forms {
     };
 }
 
-/// The form that every instruction has, and then those of the 41 codes. The code of the first stands among its operands,
-/// so the 0 here is always written over.
+/// The form that every instruction has, and then those of the 41 codes. The code of the first stands among its
+/// operands, so the 0 here is always written over.
 static FORMS: [Form; 42] = forms! {
     0x00 Raw Raw;
     0x20 Ld Absolute; 0x80 Ld Length; 0x81 Ldx Length; 0x00 Ld Constant; 0x01 Ldx Constant;
