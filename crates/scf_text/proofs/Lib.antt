@@ -5,16 +5,10 @@ pub mod DraftLemmas
 pub mod CappedLemmas
 pub mod StatementLemmas
 pub mod KeptLemmas
-pub mod PartLemmas
 pub mod ReadLemmas
 pub mod LawLemmas
 pub mod TextLemmas
 pub mod ListingLemmas
-pub mod PieceLemmas
-pub mod BackLemmas
-pub mod LineLemmas
 pub mod RoundTrip
-pub mod OneForm
-pub mod SliceLemmas
 pub mod TextLaws
 pub mod WantedLemmas

@@ -1,36 +1,40 @@
--- The tokens of a listing.
+-- The lines of a listing: their tokens, and that no byte or token of them ends a line, a statement or a label.
 use Rattle.std.proofs.Common.{◌≡◌, ℕ, ◌+◌, ◌/◌, ◌%◌, ◌<◌, ◌^◌, true, false, ◌&&◌, ◌||◌, eqb, List, [], ◌∷◌, ◌++◌}
-use Rattle.std.proofs.Common.{length, map, Some, refl, ap, ◌∙◌, arith, inl, inr}
-use Rattle.std.specs.List.{list_all}
+use Rattle.std.proofs.Common.{length, map, Some, refl, ap, ◌∙◌, arith, inl, inr, zero, suc, ◌≤◌, Bool, ltb, sym, subst}
+use Rattle.std.proofs.Common.{None, not}
+use Rattle.std.specs.List.{list_all, flat_map, AllByRecursion}
 use Rattle.std.specs.Char.{is_digit, digit_value}
-use Rattle.std.specs.Fmt.{decimal, digits, digit_glyph}
+use Rattle.std.specs.Fmt.{decimal, digits, digit_glyph, digits_onto}
 use Rattle.std.specs.Str.Parse.{digits_value, AllDigits, IsNumeral}
-use Rattle.std.proofs.lemmas.Bool.{eqb-true, ne_eqb, cases_Bool, lt-ltb, agree_below_at, and_parts, and_from}
-use Rattle.std.proofs.lemmas.Bool.{and_left, and_right}
+use Rattle.std.proofs.lemmas.Bool.{eqb-true, ne_eqb, cases_Bool, lt-ltb, agree_below_at, and_parts, and_from, and_right}
+use Rattle.std.proofs.lemmas.Bool.{ltb-true, or_cases, not-true}
 use Rattle.std.proofs.lemmas.Fmt.{digits_is_IsNumeral}
 use Rattle.std.proofs.lemmas.Str.Parse.{digit_from_value}
-use Rattle.scf_text.specs.Characters.{is_blank, is_word_byte}
-use Rattle.scf_text.specs.Tokens.{Lexeme, begins_in_word, joined, lexemes_from}
+use Rattle.scf_text.specs.Characters.{is_word_byte}
+use Rattle.scf_text.specs.Tokens.{begins_in_word, before_comment}
 use Rattle.scf_insn.specs.Numbers.{number_of, numeral, has_hex_prefix}
 use Rattle.scf_text.specs.Drafts.{is_name}
 use Rattle.std.proofs.lemmas.Bool.Decides.{nat_tests}
-use Rattle.scf_text.specs.Listing.{four_digits}
-use Rattle.scf_text.proofs.TokenLemmas.{blank_in_front, one_in_front, more_in_front, word_not_blank}
-
--- tokens without their places
-abbrev pub words : List ℕ → List (List ℕ)
-words bs = map (λ (l : Lexeme). l.text) (lexemes_from 0 bs)
-
-abbrev pub words_from : ℕ → List ℕ → List (List ℕ)
-words_from at bs = map (λ (l : Lexeme). l.text) (lexemes_from at bs)
-
-joined_text : (a b c : ℕ) (ls ms : List Lexeme) → map (λ (l : Lexeme). l.text) ls ≡ map (λ (l : Lexeme). l.text) ms
-    → map (λ (l : Lexeme). l.text) (joined a c ls) ≡ map (λ (l : Lexeme). l.text) (joined b c ms)
-joined_text a b c [] [] h = refl
-joined_text a b c [] (m ∷ ms) h = absurd cc
-joined_text a b c (l ∷ ls) [] h = absurd cc
-joined_text a b c (l ∷ ls) (m ∷ ms) h =
-    let k : l.text ∷ map (λ (x : Lexeme). x.text) ls ≡ m.text ∷ map (λ (x : Lexeme). x.text) ms = h in cc
+use Rattle.scf_text.specs.Listing.{four_digits, number_text, mark_text, piece_text, operands_text}
+use Rattle.scf_text.specs.internal.Parts.{words_of_part}
+use Rattle.scf_text.proofs.TokenLemmas.{words_nil, words_blank, words_mark, words_word}
+use Rattle.std.specs.Prelude.{codes, if◌then◌else◌}
+use Rattle.scf_insn.specs.Insn.{IsInsn}
+use Rattle.scf_insn.specs.declared.insn.Insn.{Insn}
+use Rattle.scf_text.specs.declared.form.Mnemonic.{Mnemonic}
+use Rattle.scf_text.specs.declared.form.Piece.{Piece}
+use Rattle.scf_text.specs.declared.form.Field.{Field}
+use Rattle.scf_text.specs.declared.form.Field.TheVariants.{Code, Jt, Jf, K}
+use Rattle.scf_text.specs.declared.form.Style.{Style}
+use Rattle.scf_text.specs.declared.form.Style.TheVariants.{Decimal, Hexadecimal, FourDigits}
+use Rattle.scf_text.specs.Forms.{mnemonic_text, field_of, pieces_of, form_for}
+use Rattle.std.specs.Str.{bytes_eq}
+use Rattle.scf_text.specs.declared.form.Shape.{Shape}
+use Rattle.scf_text.specs.Statements.{is_semicolon, label_in}
+use Rattle.std.proofs.lemmas.List.Folds.{list_all-append}
+use Rattle.scf_text.specs.declared.form.Mnemonic.TheVariants as m
+use Rattle.scf_text.specs.declared.form.Piece.TheVariants as p
+use Rattle.scf_text.specs.declared.form.Shape.TheVariants as s
 
 -- numbers
 
@@ -83,69 +87,6 @@ four_digits_is n lt =
       rw (a, b, c, d) (omega arith),
     )
 
--- words do not depend on where the text begins
-
-pub words_at : (a b : ℕ) (bs : List ℕ) → words_from a bs ≡ words_from b bs
-unfolding lexemes_from
-words_at a b [] = refl
-words_at a b (c ∷ cs) =
-    let rest = words_at (a + 1) (b + 1) cs in
-    elim (cases_Bool (is_blank c)) [
-      | inl blank ↦ rw blank rest
-      | inr other ↦
-          elim (cases_Bool (is_word_byte c && begins_in_word cs)) [
-            | inl more ↦ rw (other, more) (joined_text a b c (lexemes_from (a + 1) cs) (lexemes_from (b + 1) cs) rest)
-            | inr end ↦ rw (other, end) (ap (λ (ws : List (List ℕ)). (c ∷ []) ∷ ws) rest)
-          ]
-    ]
-
-words_on : (bs : List ℕ) → map (λ (l : Lexeme). l.text) (lexemes_from 1 bs) ≡ words bs
-words_on bs = words_at 1 0 bs
-
-pub words_blank : (b : ℕ) (bs : List ℕ) → is_blank b ≡ true → words (b ∷ bs) ≡ words bs
-words_blank b bs h = ap (map (λ (l : Lexeme). l.text)) (blank_in_front 0 b bs h) ∙ words_on bs
-
-pub words_mark : (b : ℕ) (bs : List ℕ) → is_blank b ≡ false → is_word_byte b ≡ false
-    → words (b ∷ bs) ≡ (b ∷ []) ∷ words bs
-words_mark b bs h k =
-    ap (map (λ (l : Lexeme). l.text)) (one_in_front 0 b bs h (and_left (is_word_byte b) (begins_in_word bs) k))
-    ∙ ap (λ (ws : List (List ℕ)). (b ∷ []) ∷ ws) (words_on bs)
-
-unfoldable pub onto_word : ℕ → List (List ℕ) → List (List ℕ)
-onto_word b [] = (b ∷ []) ∷ []
-onto_word b (w ∷ ws) = (b ∷ w) ∷ ws
-
-joined_words : (b : ℕ) (ls : List Lexeme)
-    → map (λ (l : Lexeme). l.text) (joined 0 b ls) ≡ onto_word b (map (λ (l : Lexeme). l.text) ls)
-unfolding onto_word
-joined_words b [] = refl
-joined_words b (l ∷ ls) = refl
-
-pub words_more : (b c : ℕ) (bs : List ℕ) → is_word_byte b ≡ true → is_word_byte c ≡ true
-    → words (b ∷ c ∷ bs) ≡ onto_word b (words (c ∷ bs))
-words_more b c bs h k = ap (map (λ (l : Lexeme). l.text)) (more_in_front 0 b (c ∷ bs) h k)
-    ∙ joined_words b (lexemes_from 1 (c ∷ bs)) ∙ ap (onto_word b) (words_on (c ∷ bs))
-
-words_end : (b : ℕ) (bs : List ℕ) → is_word_byte b ≡ true → begins_in_word bs ≡ false
-    → words (b ∷ bs) ≡ (b ∷ []) ∷ words bs
-words_end b bs h k =
-    ap (map (λ (l : Lexeme). l.text))
-    (one_in_front 0 b bs (word_not_blank b h) (and_right (is_word_byte b) (begins_in_word bs) k))
-    ∙ ap (λ (ws : List (List ℕ)). (b ∷ []) ∷ ws) (words_on bs)
-
--- a word in front of something else
-pub words_word : (b : ℕ) (w rest : List ℕ) → is_word_byte b ≡ true → list_all is_word_byte w ≡ true
-    → begins_in_word rest ≡ false → words (b ∷ (w ++ rest)) ≡ (b ∷ w) ∷ words rest
-unfolding onto_word
-words_word b [] rest h all k = words_end b rest h k
-words_word b (c ∷ w) rest h all k =
-    let both = and_parts (is_word_byte c) (list_all is_word_byte w) all in
-    words_more b c (w ++ rest) h both.0 ∙ ap (onto_word b) (words_word c w rest both.0 both.1 k)
-
-pub words_nil : words [] ≡ []
-unfolding lexemes_from
-words_nil = refl
-
 digits_no_name : (ds : List ℕ) → AllDigits 10 ds → is_name ds ≡ false
 digits_no_name [] h = refl
 digits_no_name (c ∷ cs) h = let r = digit_from_value c h.0 in grind (arith, nat_tests)
@@ -153,3 +94,314 @@ digits_no_name (c ∷ cs) h = let r = digit_from_value c h.0 in grind (arith, na
 pub decimal_no_name : (n : ℕ) → n < 2 ^ 32 → is_name (decimal n) ≡ false
 decimal_no_name n lt =
     digits_no_name (decimal n) (digits_is_IsNumeral 10 false (omega arith) (omega arith) n (omega arith)).0.1
+
+-- letters, digits and `_`, at least one
+pub record IsWordy (t : List ℕ) : Type 0 where
+  pub some : 0 < length t
+  pub each : list_all is_word_byte t ≡ true
+
+words_wordy : (t rest : List ℕ) → IsWordy t → begins_in_word rest ≡ false → words_of_part (t ++ rest) ≡ t ∷ words_of_part rest
+words_wordy [] rest w h = absurd (omega (arith, w.some))
+words_wordy (b ∷ t) rest w h = let both = and_parts (is_word_byte b) (list_all is_word_byte t) w.each in
+    words_word b t rest both.0 both.1 h
+
+-- digits
+
+digit_word : (base n : ℕ) → 2 ≤ base → base ≤ 16 → is_word_byte (digit_glyph false (n % base)) ≡ true
+digit_word base n low high = glyph_word (n % base) (omega arith)
+
+digits_word : (k base n : ℕ) (acc : List ℕ) → 2 ≤ base → base ≤ 16 → list_all is_word_byte acc ≡ true
+    → list_all is_word_byte (digits_onto k base false n acc) ≡ true
+digits_word zero base n acc low high h = h
+digits_word (suc k) base n acc low high h =
+    let more =
+    and_from (is_word_byte (digit_glyph false (n % base))) (list_all is_word_byte acc)
+    (digit_word base n low high) h in
+    elim (cases_Bool (eqb (n / base) 0)) [
+      | inl last ↦ rw last more
+      | inr other ↦ rw other (digits_word k base (n / base) (digit_glyph false (n % base) ∷ acc) low high more)
+    ]
+
+digits_wordy : (base n : ℕ) → 2 ≤ base → base ≤ 16 → n < base ^ 64 → IsWordy (digits base false n)
+unfolding digits
+digits_wordy base n low high lt =
+    record { some = (digits_is_IsNumeral base false low high n lt).0.0; each = digits_word 64 base n [] low high refl }
+
+number_wordy : (style : Style) (n : ℕ) → n < 2 ^ 32 → IsWordy (number_text style n)
+number_wordy Decimal n lt = digits_wordy 10 n (omega arith) (omega arith) (omega arith)
+number_wordy Hexadecimal n lt =
+    record { some = omega arith; each = (digits_wordy 16 n (omega arith) (omega arith) (omega arith)).each }
+number_wordy FourDigits n lt =
+    record {
+      some = omega arith;
+      each =
+          rw (
+            glyph_word (n / 4096 % 16) (omega arith),
+            glyph_word (n / 256 % 16) (omega arith),
+            glyph_word (n / 16 % 16)
+                (omega arith),
+            glyph_word (n % 16) (omega arith),
+          ) refl;
+    }
+
+pub field_small : (i : Insn) (f : Field) → IsInsn i → field_of i f < 2 ^ 32
+field_small i Code h = omega (arith, h.code)
+field_small i Jt h = omega (arith, h.jt)
+field_small i Jf h = omega (arith, h.jf)
+field_small i K h = h.k
+
+pub piece_wordy : (i : Insn) (f : Field) (style : Style) → IsInsn i → IsWordy (number_text style (field_of i f))
+piece_wordy i f style fits = number_wordy style (field_of i f) (field_small i f fits)
+
+-- pieces
+
+abbrev pub is_mark : Piece → Bool
+is_mark (p.Mark b) = true
+is_mark _ = false
+
+-- one of `#`, `,`, `[` and `]`
+abbrev pub is_fine_mark : ℕ → Bool
+is_fine_mark b = eqb b 35 || (eqb b 44 || (eqb b 91 || eqb b 93))
+
+abbrev pub is_fine : Piece → Bool
+is_fine (p.Mark b) = is_fine_mark b
+is_fine _ = true
+
+abbrev pub starts_with_mark : List Piece → Bool
+starts_with_mark [] = true
+starts_with_mark (q ∷ ps) = is_mark q
+
+-- no two words stand side by side
+abbrev pub is_separated : List Piece → Bool
+is_separated [] = true
+is_separated (q ∷ ps) = is_fine q && ((is_mark q || starts_with_mark ps) && is_separated ps)
+
+abbrev pub piece_words : Insn → Piece → List (List ℕ)
+piece_words i (p.Mark b) = (b ∷ []) ∷ []
+piece_words i p.Len = codes "len" ∷ []
+piece_words i p.Memory = codes "M" ∷ []
+piece_words i p.Accumulator = codes "a" ∷ []
+piece_words i p.Index = codes "x" ∷ []
+piece_words i (p.Number f style) = number_text style (field_of i f) ∷ []
+piece_words i (p.Target f) = decimal (field_of i f) ∷ []
+
+-- what holds of each byte that the forms have as a token holds of a fine mark
+pub mark_cases : (P : ℕ → Type 0) → P 35 → P 44 → P 91 → P 93 → (b : ℕ) → is_fine_mark b ≡ true → P b
+mark_cases P sign comma left right b fine =
+    elim (or_cases (eqb b 35) (eqb b 44 || (eqb b 91 || eqb b 93)) fine) [
+      | inl e ↦ subst P (sym (eqb-true b 35 e)) sign
+      | inr others ↦
+          elim (or_cases (eqb b 44) (eqb b 91 || eqb b 93) others) [
+            | inl e ↦ subst P (sym (eqb-true b 44 e)) comma
+            | inr brackets ↦
+                elim (or_cases (eqb b 91) (eqb b 93) brackets) [
+                  | inl e ↦ subst P (sym (eqb-true b 91 e)) left
+                  | inr e ↦ subst P (sym (eqb-true b 93 e)) right
+                ]
+          ]
+    ]
+
+one_piece : (i : Insn) (q : Piece) (rest : List ℕ) → IsInsn i → is_fine q ≡ true
+    → (is_mark q ≡ false → begins_in_word rest ≡ false) → words_of_part (piece_text i q ++ rest) ≡ piece_words i q ++ words_of_part rest
+one_piece i (p.Mark b) rest fits fine h =
+    mark_cases (λ c. words_of_part (mark_text c ++ rest) ≡ (c ∷ []) ∷ words_of_part rest) (words_mark 35 rest refl refl)
+    (words_mark 44 (32 ∷ rest) refl refl ∙ ap (λ (ws : List (List ℕ)). (44 ∷ []) ∷ ws) (words_blank 32 rest refl))
+    (words_mark 91 rest refl refl) (words_mark 93 rest refl refl) b fine
+one_piece i (p.Number f style) rest fits fine h =
+    words_wordy (number_text style (field_of i f)) rest (piece_wordy i f style fits) (h refl)
+one_piece i (p.Target f) rest fits fine h =
+    words_wordy (decimal (field_of i f)) rest (piece_wordy i f Decimal fits) (h refl)
+one_piece i q rest fits fine h =
+    words_wordy (piece_text i q) rest (record { some = omega arith; each = refl }) (h refl)
+
+mark_in_front : (b : ℕ) (rest : List ℕ) → is_fine_mark b ≡ true → begins_in_word (mark_text b ++ rest) ≡ false
+mark_in_front b rest fine =
+    mark_cases (λ c. begins_in_word (mark_text c ++ rest) ≡ false) refl refl refl refl b fine
+
+no_word_in_front : (i : Insn) (ps : List Piece) → is_separated ps ≡ true → starts_with_mark ps ≡ true
+    → begins_in_word (flat_map (piece_text i) ps) ≡ false
+no_word_in_front i [] s h = refl
+no_word_in_front i (p.Mark b ∷ ps) s h =
+    mark_in_front b (flat_map (piece_text i) ps)
+    (and_parts (is_fine_mark b) ((true || starts_with_mark ps) && is_separated ps) s).0
+no_word_in_front i (q ∷ ps) s h = absurd cc
+
+or_right : (a b : Bool) → (a || b) ≡ true → a ≡ false → b ≡ true
+or_right true b h k = absurd cc
+or_right false b h k = h
+
+pub pieces_words : (i : Insn) (ps : List Piece) → IsInsn i → is_separated ps ≡ true
+    → words_of_part (flat_map (piece_text i) ps) ≡ flat_map (piece_words i) ps
+pieces_words i [] fits s = words_nil
+pieces_words i (q ∷ ps) fits s =
+    let a = and_parts (is_fine q) ((is_mark q || starts_with_mark ps) && is_separated ps) s in
+    let b = and_parts (is_mark q || starts_with_mark ps) (is_separated ps) a.1 in
+    one_piece i q (flat_map (piece_text i) ps) fits a.0
+    (λ h. no_word_in_front i ps b.1 (or_right (is_mark q) (starts_with_mark ps) b.0 h))
+    ∙ ap (λ (ws : List (List ℕ)). piece_words i q ++ ws) (pieces_words i ps fits b.1)
+
+-- the mnemonic
+
+abbrev is_wordy : List ℕ → Bool
+is_wordy t = ltb 0 (length t) && list_all is_word_byte t
+
+wordy_from : (t : List ℕ) → is_wordy t ≡ true → IsWordy t
+wordy_from t h = let both = and_parts (ltb 0 (length t)) (list_all is_word_byte t) h in
+    record { some = ltb-true 0 (length t) both.0; each = both.1 }
+
+pub mnemonic_wordy : (n : Mnemonic) → IsWordy (mnemonic_text n)
+mnemonic_wordy m.Ld = wordy_from (mnemonic_text m.Ld) refl
+mnemonic_wordy n = wordy_from (mnemonic_text n) refl
+
+operands_words : (i : Insn) (ps : List Piece) → IsInsn i → is_separated ps ≡ true
+    → words_of_part (operands_text i ps) ≡ flat_map (piece_words i) ps
+operands_words i [] fits s = words_nil
+operands_words i (q ∷ ps) fits s = words_blank 32 (flat_map (piece_text i) (q ∷ ps)) refl
+    ∙ pieces_words i (q ∷ ps) fits s
+
+operands_apart : (i : Insn) (ps : List Piece) → begins_in_word (operands_text i ps) ≡ false
+operands_apart i [] = refl
+operands_apart i (q ∷ ps) = refl
+
+pub line_words : (i : Insn) (n : Mnemonic) (ps : List Piece) → IsInsn i → is_separated ps ≡ true
+    → words_of_part (mnemonic_text n ++ operands_text i ps) ≡ mnemonic_text n ∷ flat_map (piece_words i) ps
+line_words i n ps fits s =
+    words_wordy (mnemonic_text n) (operands_text i ps) (mnemonic_wordy n) (operands_apart i ps)
+    ∙ ap (λ (ws : List (List ℕ)). mnemonic_text n ∷ ws) (operands_words i ps fits s)
+
+pub separated : (shape : Shape) → is_separated (pieces_of shape) ≡ true
+separated s.Nothing = refl
+separated shape = refl
+
+-- a byte that neither ends a line nor begins a comment
+abbrev pub is_line_byte : ℕ → Bool
+is_line_byte b = ltb b 128 && (not (eqb b 47) && not (eqb b 10))
+
+-- a token that ends neither a statement nor a label
+abbrev pub is_plain : List ℕ → Bool
+is_plain t = not (bytes_eq t (59 ∷ [])) && not (bytes_eq t (58 ∷ []))
+
+word_line : (b : ℕ) → is_word_byte b ≡ true → is_line_byte b ≡ true
+word_line b h = grind (arith, nat_tests)
+
+words_line : (t : List ℕ) → list_all is_word_byte t ≡ true → list_all is_line_byte t ≡ true
+words_line [] h = refl
+words_line (b ∷ t) h = let both = and_parts (is_word_byte b) (list_all is_word_byte t) h in
+    and_from (is_line_byte b) (list_all is_line_byte t) (word_line b both.0) (words_line t both.1)
+
+word_semicolon : (b : ℕ) → is_word_byte b ≡ true → eqb b 59 ≡ false
+word_semicolon b h = grind (arith, nat_tests)
+
+word_colon : (b : ℕ) → is_word_byte b ≡ true → eqb b 58 ≡ false
+word_colon b h = grind (arith, nat_tests)
+
+pub wordy_plain : (t : List ℕ) → IsWordy t → is_plain t ≡ true
+wordy_plain [] w = absurd (omega (arith, w.some))
+wordy_plain (b ∷ t) w =
+    let h = (and_parts (is_word_byte b) (list_all is_word_byte t) w.each).0 in
+    rw (word_semicolon b h, word_colon b h) refl
+
+mark_line : (b : ℕ) → is_fine_mark b ≡ true
+    → (list_all is_line_byte (mark_text b) ≡ true) × (list_all is_plain ((b ∷ []) ∷ []) ≡ true)
+mark_line b fine =
+    mark_cases
+    (λ c. (list_all is_line_byte (mark_text c) ≡ true) × (list_all is_plain ((c ∷ []) ∷ []) ≡ true)) (refl, refl)
+    (refl, refl) (refl, refl) (refl, refl) b fine
+
+piece_line : (i : Insn) (q : Piece) → IsInsn i → is_fine q ≡ true
+    → (list_all is_line_byte (piece_text i q) ≡ true) × (list_all is_plain (piece_words i q) ≡ true)
+piece_line i (p.Mark b) fits fine = mark_line b fine
+piece_line i (p.Number f style) fits fine = let w = piece_wordy i f style fits in
+    (words_line (number_text style (field_of i f)) w.each, rw (wordy_plain (number_text style (field_of i f)) w) refl)
+piece_line i (p.Target f) fits fine = let w = piece_wordy i f Decimal fits in
+    (words_line (decimal (field_of i f)) w.each, rw (wordy_plain (decimal (field_of i f)) w) refl)
+piece_line i q fits fine = (refl, refl)
+
+pieces_line : (i : Insn) (ps : List Piece) → IsInsn i → is_separated ps ≡ true
+    → (list_all is_line_byte (flat_map (piece_text i) ps) ≡ true)
+    × (list_all is_plain (flat_map (piece_words i) ps) ≡ true)
+pieces_line i [] fits s = (refl, refl)
+pieces_line i (q ∷ ps) fits s =
+    let a = and_parts (is_fine q) ((is_mark q || starts_with_mark ps) && is_separated ps) s in
+    let b = and_parts (is_mark q || starts_with_mark ps) (is_separated ps) a.1 in
+    let one = piece_line i q fits a.0 in
+    let rest = pieces_line i ps fits b.1 in (
+      list_all-append is_line_byte (piece_text i q) (flat_map (piece_text i) ps)
+          ∙ and_from (list_all is_line_byte (piece_text i q)) (list_all is_line_byte (flat_map (piece_text i) ps))
+          one.0 rest.0,
+      list_all-append is_plain (piece_words i q) (flat_map (piece_words i) ps)
+          ∙ and_from (list_all is_plain (piece_words i q)) (list_all is_plain (flat_map (piece_words i) ps)) one.1
+          rest.1,
+    )
+
+operands_line : (i : Insn) (ps : List Piece) → IsInsn i → is_separated ps ≡ true
+    → list_all is_line_byte (operands_text i ps) ≡ true
+operands_line i [] fits s = refl
+operands_line i (q ∷ ps) fits s = (pieces_line i (q ∷ ps) fits s).0
+
+-- the line of an instruction, without its end, and its tokens
+abbrev pub body : Insn → List ℕ
+body i = mnemonic_text (form_for i).mnemonic ++ operands_text i (pieces_of (form_for i).shape)
+
+abbrev pub operands : Insn → List (List ℕ)
+operands i = flat_map (piece_words i) (pieces_of (form_for i).shape)
+
+pub body_line : (i : Insn) → IsInsn i → list_all is_line_byte (body i) ≡ true
+body_line i fits =
+    let ps = pieces_of (form_for i).shape in
+    let n = (form_for i).mnemonic in
+    list_all-append is_line_byte (mnemonic_text n) (operands_text i ps)
+    ∙ and_from (list_all is_line_byte (mnemonic_text n)) (list_all is_line_byte (operands_text i ps))
+    (words_line (mnemonic_text n) (mnemonic_wordy n).each) (operands_line i ps fits (separated (form_for i).shape))
+
+-- what is known of a byte that neither ends a line nor begins a comment
+record LineByte (b : ℕ) : Type 0 where
+  pub ascii : b < 128
+  pub no_slash : eqb b 47 ≡ false
+  pub no_end : eqb b 10 ≡ false
+
+line_byte : (b : ℕ) → is_line_byte b ≡ true → LineByte b
+line_byte b h =
+    let c = and_parts (ltb b 128) (not (eqb b 47) && not (eqb b 10)) h in
+    let d = and_parts (not (eqb b 47)) (not (eqb b 10)) c.1 in
+    record { ascii = ltb-true b 128 c.0; no_slash = not-true (eqb b 47) d.0; no_end = not-true (eqb b 10) d.1 }
+
+line_bytes : (t : List ℕ) → list_all is_line_byte t ≡ true → AllByRecursion LineByte t
+line_bytes [] h = tt
+line_bytes (b ∷ t) h = let a = and_parts (is_line_byte b) (list_all is_line_byte t) h in
+    (line_byte b a.0, line_bytes t a.1)
+
+each_byte : (P : ℕ → Type 0) → ((b : ℕ) → LineByte b → P b) → (t : List ℕ) → AllByRecursion LineByte t
+    → AllByRecursion P t
+each_byte P f [] h = tt
+each_byte P f (b ∷ t) h = (f b h.0, each_byte P f t h.1)
+
+uncommented : (t : List ℕ) → AllByRecursion LineByte t → before_comment t ≡ t
+uncommented [] h = refl
+uncommented (b ∷ t) h = rw h.0.no_slash (ap (λ (u : List ℕ). b ∷ u) (uncommented t h.1))
+
+pub no_comment : (t : List ℕ) → list_all is_line_byte t ≡ true → before_comment t ≡ t
+no_comment t h = uncommented t (line_bytes t h)
+
+pub no_end : (t : List ℕ) → list_all is_line_byte t ≡ true → AllByRecursion (λ b. eqb b 10 ≡ false) t
+no_end t h = each_byte (λ b. eqb b 10 ≡ false) (λ b here. here.no_end) t (line_bytes t h)
+
+pub small_bytes : (t : List ℕ) → list_all is_line_byte t ≡ true → AllByRecursion (λ b. b < 128) t
+small_bytes t h = each_byte (λ b. b < 128) (λ b here. here.ascii) t (line_bytes t h)
+
+pub no_semicolon : (ts : List (List ℕ)) → list_all is_plain ts ≡ true → AllByRecursion (λ t. is_semicolon t ≡ false) ts
+no_semicolon [] h = tt
+no_semicolon (t ∷ ts) h =
+    let a = and_parts (is_plain t) (list_all is_plain ts) h in
+    let c = and_parts (not (bytes_eq t (59 ∷ []))) (not (bytes_eq t (58 ∷ []))) a.0 in
+    (not-true (bytes_eq t (59 ∷ [])) c.0, no_semicolon ts a.1)
+
+pub no_label : (t : List ℕ) (ts : List (List ℕ)) → list_all is_plain ts ≡ true → label_in (t ∷ ts) ≡ None
+no_label t [] h = refl
+no_label t (u ∷ ts) h =
+    let a = and_parts (is_plain u) (list_all is_plain ts) h in
+    let c = and_parts (not (bytes_eq u (59 ∷ []))) (not (bytes_eq u (58 ∷ []))) a.0 in
+    rw (and_right (is_name t) (bytes_eq u (58 ∷ [])) (not-true (bytes_eq u (58 ∷ [])) c.1)) refl
+
+pub operands_plain : (i : Insn) → IsInsn i → list_all is_plain (operands i) ≡ true
+operands_plain i fits = (pieces_line i (pieces_of (form_for i).shape) fits (separated (form_for i).shape)).1

@@ -30,7 +30,7 @@ use Rattle.scf_text.specs.internal.Parts.{parts_of, words_of_part}
 use Rattle.scf_text.specs.internal.Results.{AddsInstruction}
 use Rattle.scf_text.specs.internal.Reading.{places_view, drafts_view, with_label, HasRead, ReadsMore}
 use Rattle.scf_text.specs.internal.Reading.{statement_of, line_statements}
-use Rattle.scf_text.proofs.PartLemmas.{words_of_parts}
+use Rattle.scf_text.proofs.TokenLemmas.{words_of_parts}
 
 pub fault_first : (e : TextFault) (a b : Option TextFault) → IsFault e a → IsFault e (option_or a b)
 fault_first fault.Memory a b h = tt

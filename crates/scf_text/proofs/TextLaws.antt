@@ -9,8 +9,8 @@ use Rattle.scf_text.specs.Statements.{place_of, labels_of, drafts_of}
 use Rattle.scf_text.specs.Spelling.{Spells}
 use Rattle.scf_text.proofs.LawLemmas.{one_said}
 use Rattle.scf_text.proofs.RoundTrip.{round_trip}
-pub use Rattle.scf_text.proofs.OneForm.{one_reading}
-pub use Rattle.scf_text.proofs.SliceLemmas.{words_are_tokens}
+pub use Rattle.scf_text.proofs.FormLemmas.{one_reading}
+pub use Rattle.scf_text.proofs.TokenLemmas.{words_are_tokens}
 
 -- a text spells at most one list
 pub one_list : (text : List ℕ) (a b : List Insn) → Spells text a → Spells text b → a ≡ b

@@ -11,7 +11,7 @@ use Rattle.scf_text.specs.Statements.{statements_from, drafts_in, drafts_of}
 use Rattle.scf_text.specs.internal.Parts.{words_of_part, AreFirst}
 use Rattle.scf_text.specs.internal.Reading.{HasWords, drafts_view}
 use Rattle.scf_text.specs.internal.Views.{texts}
-use Rattle.scf_text.proofs.SliceLemmas.{words_are_tokens}
+use Rattle.scf_text.proofs.TokenLemmas.{words_are_tokens}
 
 none_mapped : {A B : Type 0} (f : A → B) (xs : List A) → map f xs ≡ [] → xs ≡ []
 none_mapped f [] e = refl

@@ -3,7 +3,7 @@ use Rattle.std.proofs.lemmas.Result.{err_from_is_err_and}
 use Rattle.scf_text.specs.Characters.{semicolon}
 use Rattle.scf_text.specs.internal.Parts.{parts_of}
 use Rattle.scf_text.specs.internal.Reading.{statement_of, line_statements}
-use Rattle.scf_text.proofs.PartLemmas.{some_words, more_words}
+use Rattle.scf_text.proofs.TokenLemmas.{some_words, more_words}
 use Rattle.scf_text.proofs.ReadLemmas.{reads_nothing, reads_on, reads_all, reads_fault, next_statement, some_parts}
 use Rattle.scf_text.proofs.statement.add_line.Goals as goal
 

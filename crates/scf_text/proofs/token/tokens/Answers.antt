@@ -1,4 +1,4 @@
-use Rattle.scf_text.proofs.SliceLemmas.{found_slices, last_tokens, next_tokens}
+use Rattle.scf_text.proofs.TokenLemmas.{found_slices, last_tokens, next_tokens}
 use Rattle.std.proofs.Common.{◌∙◌, arith}
 use Rattle.std.proofs.lemmas.Result.{err_from_is_err_and}
 use Rattle.scf_text.specs.Characters.{line_feed}
