@@ -20,6 +20,7 @@ use Rattle.scf_text.specs.Statements.{Statement, Labels, Places, place_of, instr
 use Rattle.scf_text.specs.Statements.{instruction_in, label_at, place_after, labels_from, drafts_by, drafts_in}
 use Rattle.scf_text.specs.Statements.{IsRead, statements_of, labels_of, drafts_of}
 use Rattle.scf_text.specs.Spelling.{Says, SaysInsn, SaysEach, AreNew, Spells}
+use Rattle.scf_text.specs.internal.Reading.{one_behind, behind}
 use Rattle.scf_text.proofs.ReadLemmas.{count_more, labels_more}
 use Rattle.scf_text.specs.Faults.{ascii_fault, label_fault, draft_fault, instruction_fault, statement_fault}
 use Rattle.scf_text.specs.Faults.{statements_fault, fault_in, target_fault, targets_fault, all_targets_fault}
@@ -102,19 +103,7 @@ instruction_from at line (t ∷ ts) le h =
     (mnemonic_from (list_any (has_mnemonic t) forms) line (draft_fault at line (draft_of t ts)) h) in
     (rw d.1 refl, rw d.1 refl, omega (arith, d.2))
 
--- the first fault of statements behind labels and as many instructions
-abbrev one_behind : Labels → ℕ → Statement → Option TextFault
-one_behind labels at s =
-    option_or (label_fault (place_of labels) s.line (label_in s.tokens))
-    (instruction_fault at s.line (instruction_in s.tokens))
-
-abbrev behind : Labels → ℕ → List Statement → Option TextFault
-behind labels at [] = None
-behind labels at (s ∷ ss) =
-    option_or (one_behind labels at s)
-    (behind (labels ++ label_at at (label_in s.tokens)) (place_after at (instruction_in s.tokens)) ss)
-
-behind_is : (before ss : List Statement)
+pub behind_is : (before ss : List Statement)
     → statements_fault before ss ≡ behind (labels_from 0 before) (instruction_count before) ss
 behind_is before [] = refl
 behind_is before (s ∷ ss) =

@@ -486,21 +486,3 @@ words_of_parts (b ∷ bs) =
           ∙ sym (ap (map words_of_part)
           (slice_split-cons_no (λ c. eqb c semicolon) b bs other ∙ ap (onto_first b) rest.parts))
     ]
-
--- a part has a token, and so has what it is of
-pub some_words : (bytes part : List ℕ) (parts : List (List ℕ)) → parts_of semicolon bytes ≡ part ∷ parts
-    → words_of_part part ≢ [] → words_of_part bytes ≢ []
-some_words bytes part parts e some none =
-    let one : [] ∷ [] ≡ words_of_part part ∷ map words_of_part parts =
-    sym (ap (slice_split is_semicolon) none) ∙ words_of_parts bytes ∙ ap (map words_of_part) e in
-    some cc
-
--- what has more parts than one has a token, the `;` between them
-pub more_words : (bytes part next : List ℕ) → parts_of semicolon bytes ≡ part ∷ parts_of semicolon next
-    → words_of_part bytes ≢ []
-more_words bytes part next e none =
-    let rest = cut next in
-    let two : [] ∷ [] ≡ words_of_part part ∷ words_of_part rest.first ∷ map words_of_part rest.others =
-    sym (ap (slice_split is_semicolon) none) ∙ words_of_parts bytes
-    ∙ ap (map words_of_part) (e ∙ ap (λ ps. part ∷ ps) rest.parts) in
-    cc

@@ -3,11 +3,11 @@ ghost use Rattle.std.specs.Prelude.{◌≡◌, ◌≢◌, ◌<◌, [], ℕ, List
 ghost use Rattle.scf_insn.specs.declared.insn.Insn.{Insn};
 ghost use Rattle.scf_text.specs.declared.fault.TextFault.{TextFault};
 ghost use Rattle.scf_text.specs.Drafts.{is_below};
-ghost use Rattle.scf_text.specs.Statements.{statements_of};
+ghost use Rattle.scf_text.specs.Statements.{Statement, statements_of};
 ghost use Rattle.scf_text.specs.Spelling.{Spells};
 ghost use Rattle.scf_text.specs.Tokens.{tokens_of};
 ghost use Rattle.scf_text.specs.Faults.{IsFault, ascii_fault, fault_in, fault_of};
-ghost use Rattle.scf_text.specs.internal.Reading.{places_view, drafts_view, HasRead, HasWords, ReadsMore};
+ghost use Rattle.scf_text.specs.internal.Reading.{places_view, drafts_view, HaveTokens, IsLeft, Leaves};
 ghost use Rattle.scf_text.specs.internal.Results.{TellsTarget, TellsInsn, TellsInsns, TellsText};
 ghost use Rattle.scf_text.specs.internal.Views.{written_view, draft_view};
 
@@ -44,9 +44,9 @@ fn read_text<'a>(
     drafts: &mut Vec<NumberedDraft<'a>>,
     text: &'a [u8],
 ) -> Result<(), TextFault>
-    ensures reads { HasRead [] (places_view places.old) (drafts_view drafts.old.items)
-        → ReadsMore result [] (statements_of text.now) (places_view places.new) (drafts_view drafts.new.items) }
-    ensures some { OnErr result (HasWords text.now) }
+    ensures { (all : List Statement)
+        → IsLeft all (statements_of text.now) (places_view places.old) (drafts_view drafts.old.items)
+        → Leaves result all [] (places_view places.new) (drafts_view drafts.new.items) }
 {
     let mut tokens = Vec::new(alloc);
     let mut rest = text;
@@ -133,7 +133,7 @@ fn resolve_all<'a>(
 /// What the statements of an ASCII text say.
 fn read_all(alloc: Global, text: &[u8]) -> Result<Vec<Insn>, TextFault>
     ensures tells { TellsText (fault_in text.now) text.now result }
-    ensures some { OnErr result (HasWords text.now) }
+    ensures some { OnErr result (HaveTokens (statements_of text.now)) }
 {
     let mut places = BTreeMap::new(alloc);
     let mut drafts = Vec::new(alloc);
@@ -145,7 +145,7 @@ fn read_all(alloc: Global, text: &[u8]) -> Result<Vec<Insn>, TextFault>
 fn read_ascii(alloc: Global, text: &[u8]) -> Result<Vec<Insn>, TextFault>
     ensures tells { TellsText (fault_of text.now) text.now result }
     ensures ascii { (e : TextFault) → ascii_fault 1 text.now ≡ Some e → result ≡ Err e }
-    ensures wanted { result ≡ Err TextFault.Memory → HasWords text.now }
+    ensures wanted { result ≡ Err TextFault.Memory → HaveTokens (statements_of text.now) }
 {
     check_ascii(text)?;
     read_all(alloc, text)

@@ -1,9 +1,9 @@
 //! The statements of a text.
-ghost use Rattle.std.specs.Prelude.{◌≡◌, ◌≢◌, ◌<◌, ◌≤◌, ◌∷◌, [], List, length, OnOk, OnErr, IsSome};
+ghost use Rattle.std.specs.Prelude.{◌≡◌, ◌≢◌, ◌<◌, ◌≤◌, ◌∷◌, ◌++◌, [], List, length, OnOk, OnErr, IsSome};
 ghost use Rattle.std.specs.Option.{option_map};
 ghost use Rattle.scf_text.specs.Statements.{Statement, label_in, instruction_in};
 ghost use Rattle.scf_text.specs.internal.Parts.{words_of_part, AreFirst};
-ghost use Rattle.scf_text.specs.internal.Reading.{places_view, drafts_view, HasRead, ReadsMore};
+ghost use Rattle.scf_text.specs.internal.Reading.{places_view, drafts_view, IsLeft, Leaves};
 ghost use Rattle.scf_text.specs.internal.Reading.{statement_of, line_statements};
 ghost use Rattle.scf_text.specs.internal.Results.{TellsDraft, AddsLabel, AddsInstruction};
 ghost use Rattle.scf_text.specs.internal.Views.{texts};
@@ -121,10 +121,9 @@ fn add_statement<'a>(
     statement: &'a [u8],
     line: usize,
 ) -> Result<(), TextFault>
-    ensures reads { (before : List Statement) → HasRead before (places_view places.old) (drafts_view drafts.old.items)
-        → ReadsMore result before (statement_of line statement.now ∷ []) (places_view places.new)
-        (drafts_view drafts.new.items) }
-    ensures some { OnErr result (words_of_part statement.now ≢ []) }
+    ensures { (all rest : List Statement)
+        → IsLeft all (statement_of line statement.now ∷ rest) (places_view places.old) (drafts_view drafts.old.items)
+        → Leaves result all rest (places_view places.new) (drafts_view drafts.new.items) }
 {
     read_tokens(tokens, statement)?;
     let (label, instruction) = split_label(tokens.as_slice());
@@ -140,10 +139,9 @@ pub(crate) fn add_line<'a>(
     bytes: &'a [u8],
     line: usize,
 ) -> Result<(), TextFault>
-    ensures reads { (before : List Statement) → HasRead before (places_view places.old) (drafts_view drafts.old.items)
-        → ReadsMore result before (line_statements line bytes.now) (places_view places.new)
-        (drafts_view drafts.new.items) }
-    ensures some { OnErr result (words_of_part bytes.now ≢ []) }
+    ensures { (all rest : List Statement)
+        → IsLeft all (line_statements line bytes.now ++ rest) (places_view places.old) (drafts_view drafts.old.items)
+        → Leaves result all rest (places_view places.new) (drafts_view drafts.new.items) }
 {
     let mut rest = bytes;
     'statements: loop {

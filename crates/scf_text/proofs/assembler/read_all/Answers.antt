@@ -1,31 +1,35 @@
 use Rattle.std.proofs.lemmas.Result.{err_from_is_err_and}
+use Rattle.scf_text.specs.Statements.{statements_of}
 use Rattle.scf_text.specs.internal.Reading.{places_view, drafts_view}
-use Rattle.scf_text.proofs.TextLemmas.{statements_fail, text_tells, nothing_read}
-use Rattle.scf_text.proofs.WantedLemmas.{text_words}
+use Rattle.scf_text.proofs.TextLemmas.{statements_fail, drafts_read, text_tells, nothing_read}
+use Rattle.scf_text.proofs.WantedLemmas.{drafts_words}
 use Rattle.scf_text.proofs.assembler.read_all.Goals as goal
 
-pub returns-in_err-read_text-clause-tells : goal.returns-in_err-read_text-clause-tells
-returns-in_err-read_text-clause-tells c =
+pub returns-in_err-read_text : goal.returns-in_err-read_text
+returns-in_err-read_text c =
     let p = err_from_is_err_and c.from_residual.result c.from_residual.ensures.1 in
-    let start =
-    nothing_read c.new-places.result c.new-drafts.result.items c.new-places.ensures.empty
-    c.new-drafts.ensures.items in
-    rw (p.1, p.2)
-    (statements_fail c.in_err-read_text.field-0.0 c.args.text.now (c.in_err-read_text.ensures.reads start))
+    let all = statements_of c.args.text.now in
+    let refused =
+    c.in_err-read_text.ensures all
+    (nothing_read all c.new-places.result c.new-drafts.result.items c.new-places.ensures.empty
+    c.new-drafts.ensures.items) in
+    record {
+      tells = rw (p.1, p.2) (statements_fail c.in_err-read_text.field-0.0 c.args.text.now refused.0);
+      some = rw p.1 refused.1;
+    }
 
-pub returns-clause-tells : goal.returns-clause-tells
-returns-clause-tells c =
-    let start =
-    nothing_read c.new-places.result c.new-drafts.result.items c.new-places.ensures.empty
-    c.new-drafts.ensures.items in
-    text_tells c.args.text.now (places_view c.read_text.new.places) (drafts_view c.read_text.new.drafts.items)
-    c.resolve_all.result (c.in_ok-read_text.ensures.reads start)
-    (rw c.deref.ensures.value at c.resolve_all.ensures.tells)
-
-pub returns-clause-some : goal.returns-clause-some
-returns-clause-some c =
-    let start =
-    nothing_read c.new-places.result c.new-drafts.result.items c.new-places.ensures.empty
-    c.new-drafts.ensures.items in
-    text_words c.args.text.now c.read_text.new.drafts.items c.deref.result.now c.resolve_all.result
-    c.deref.ensures.value (c.in_ok-read_text.ensures.reads start).1.drafts c.resolve_all.ensures.some
+pub returns : goal.returns
+returns c =
+    let all = statements_of c.args.text.now in
+    let places = places_view c.read_text.new.places in
+    let drafts = drafts_view c.read_text.new.drafts.items in
+    let left =
+    c.in_ok-read_text.ensures all
+    (nothing_read all c.new-places.result c.new-drafts.result.items c.new-places.ensures.empty
+    c.new-drafts.ensures.items) in
+    record {
+      tells = text_tells c.args.text.now places drafts c.resolve_all.result left
+          (rw c.deref.ensures.value at c.resolve_all.ensures.tells);
+      some = drafts_words all c.read_text.new.drafts.items c.deref.result.now c.resolve_all.result
+          c.deref.ensures.value (drafts_read all places drafts left) c.resolve_all.ensures.some;
+    }
