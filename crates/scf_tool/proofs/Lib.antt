@@ -2,7 +2,6 @@ pub mod BundleLemmas
 mod ContentLemmas
 mod FaultLemmas
 mod JointLemmas
-mod LoadLemmas
 pub mod HeaderLemmas
 mod OptionLemmas
 mod PartyLemmas

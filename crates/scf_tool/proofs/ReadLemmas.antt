@@ -1,11 +1,10 @@
 -- Parts of a bundle are read without a failure.
-use Rattle.std.proofs.Common.{◌≢◌, ℕ, List, Option, Err}
+use Rattle.std.proofs.Common.{◌≢◌, ℕ, List, Option, Err, refl, subst}
 use Rattle.scf_insn.specs.declared.input.InputFault.TheVariants as inputs
 use Rattle.scf_insn.specs.declared.encoding.ReadFault.TheVariants as reads
 use Rattle.scf_insn.specs.Streams.{HasFailed}
-use Rattle.scf_tool.specs.declared.filter.FilterFault.TheVariants as filters
 use Rattle.scf_tool.specs.declared.verification.VerifyFault.{VerifyFault}
-use Rattle.scf_tool.specs.declared.verification.VerifyFault.TheVariants.{FilterRead, Check, Stack, TableRead, Table, ProfileRead, Profile, Memory}
+use Rattle.scf_tool.specs.declared.verification.VerifyFault.TheVariants.{FilterRead, ProfileRead, TableRead}
 use Rattle.scf_tool.specs.Commands.{NoReadFailed}
 use Rattle.scf_tool.specs.Verifying.{LeavesProfileReader, LeavesTableReader}
 use Rattle.scf_tool.specs.VerifyingStacks.{LeavesFilterReaders}
@@ -13,37 +12,23 @@ use Rattle.scf_tool.proofs.StackLemmas.{never_fails}
 
 filter_read : {R : Type 0} (remaining : R → Option (List ℕ)) (T : Type 0) (fault : VerifyFault) (olds news : List R)
     → LeavesFilterReaders {T = T} remaining (λ _. 0) olds (Err fault) news → fault ≢ FilterRead reads.Read
-filter_read remaining T (FilterRead why) olds news left is =
-    never_fails remaining (filters.Read why) olds news left (cc)
-filter_read remaining T (Check why) olds news left is = cc
-filter_read remaining T (Stack why) olds news left is = cc
-filter_read remaining T (TableRead why) olds news left is = cc
-filter_read remaining T (Table why) olds news left is = cc
-filter_read remaining T (ProfileRead why) olds news left is = cc
-filter_read remaining T (Profile why) olds news left is = cc
-filter_read remaining T Memory olds news left is = cc
+filter_read remaining T fault olds news left is =
+    never_fails remaining (FilterRead reads.Read) olds news
+    (subst (λ (f : VerifyFault). LeavesFilterReaders {T = T} remaining (λ _. 0) olds (Err f) news) is left) refl
 
 table_read : {R : Type 0} (remaining : R → Option (List ℕ)) (T : Type 0) (fault : VerifyFault) (old new : R)
     → LeavesTableReader {T = T} remaining (λ _. 0) old (Err fault) new → fault ≢ TableRead inputs.Read
-table_read remaining T (TableRead why) old new left is = let failed : HasFailed 0 0 = left.0 (cc) in cc
-table_read remaining T (FilterRead why) old new left is = cc
-table_read remaining T (Check why) old new left is = cc
-table_read remaining T (Stack why) old new left is = cc
-table_read remaining T (Table why) old new left is = cc
-table_read remaining T (ProfileRead why) old new left is = cc
-table_read remaining T (Profile why) old new left is = cc
-table_read remaining T Memory old new left is = cc
+table_read remaining T fault old new left is =
+    let leaves = subst (λ (f : VerifyFault). LeavesTableReader {T = T} remaining (λ _. 0) old (Err f) new) is left in
+    let failed : HasFailed 0 0 = leaves.0 refl in
+    cc
 
 profile_read : {R : Type 0} (remaining : R → Option (List ℕ)) (T : Type 0) (fault : VerifyFault) (old new : R)
     → LeavesProfileReader {T = T} remaining (λ _. 0) old (Err fault) new → fault ≢ ProfileRead inputs.Read
-profile_read remaining T (ProfileRead why) old new left is = let failed : HasFailed 0 0 = left.0 (cc) in cc
-profile_read remaining T (FilterRead why) old new left is = cc
-profile_read remaining T (Check why) old new left is = cc
-profile_read remaining T (Stack why) old new left is = cc
-profile_read remaining T (TableRead why) old new left is = cc
-profile_read remaining T (Table why) old new left is = cc
-profile_read remaining T (Profile why) old new left is = cc
-profile_read remaining T Memory old new left is = cc
+profile_read remaining T fault old new left is =
+    let leaves = subst (λ (f : VerifyFault). LeavesProfileReader {T = T} remaining (λ _. 0) old (Err f) new) is left in
+    let failed : HasFailed 0 0 = leaves.0 refl in
+    cc
 
 -- a fault that comes of readers that never fail
 pub no_read_failed : {F T P : Type 0} (filters : F → Option (List ℕ)) (table : T → Option (List ℕ))

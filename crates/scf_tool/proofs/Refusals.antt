@@ -1,17 +1,20 @@
 -- Faults of a comparison of a filter, by the part whose they are.
 use Rattle.std.specs.Prelude.{ℕ, List, Option}
-use Rattle.scf_tool.specs.declared.filter.FilterFault.{FilterFault}
-use Rattle.scf_tool.specs.declared.filter.FilterFault.TheVariants as reads
 use Rattle.scf_tool.specs.declared.verification.VerifyFault.{VerifyFault}
 use Rattle.scf_tool.specs.declared.verification.VerifyFault.TheVariants.{FilterRead, Check, Stack, TableRead, Table, ProfileRead, Profile, Memory}
-use Rattle.scf_tool.specs.Filters.{IsNoFilter}
-use Rattle.scf_tool.specs.Verifying.{HasFilter, IsRefused}
-use Rattle.scf_tool.specs.internal.Verification.{verify_fault, IsNoTable, IsNoProfile}
+use Rattle.scf_tool.specs.Verifying.{HasFilter, IsNoFilter, IsRefused}
+use Rattle.scf_tool.specs.internal.Verification.{IsNoTable, IsNoProfile}
 
-pub no_filter : (filter table profile : Option (List ℕ)) (fault : FilterFault) → IsNoFilter filter fault
-    → IsRefused filter table profile (verify_fault fault)
-no_filter filter table profile (reads.Read fault) why = why
-no_filter filter table profile (reads.Check fault) why = why
+pub no_filter : (filter table profile : Option (List ℕ)) (fault : VerifyFault) → IsNoFilter filter fault
+    → IsRefused filter table profile fault
+no_filter filter table profile (FilterRead why) h = h
+no_filter filter table profile (Check why) h = h
+no_filter filter table profile (Stack why) h = h
+no_filter filter table profile (TableRead why) h = absurd h
+no_filter filter table profile (Table why) h = absurd h
+no_filter filter table profile (ProfileRead why) h = absurd h
+no_filter filter table profile (Profile why) h = absurd h
+no_filter filter table profile Memory h = absurd h
 
 pub no_table : (filter table profile : Option (List ℕ)) (fault : VerifyFault) → HasFilter filter
     → IsNoTable table fault → IsRefused filter table profile fault

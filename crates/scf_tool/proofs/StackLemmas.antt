@@ -1,27 +1,24 @@
 -- Readers of filters, one after another.
-use Rattle.std.proofs.Common.{◌≡◌, ℕ, ◌+◌, ◌<◌, ◌≤◌, List, [], ◌∷◌, ◌++◌, length, take, drop, set, get_or, map, Option, Some, Result, Bor, refl, sym, ap, ◌∙◌, ◌≢◌, arith, add-one, length-drop}
+use Rattle.std.proofs.Common.{◌≡◌, ℕ, ◌+◌, ◌<◌, ◌≤◌, List, [], ◌∷◌, ◌++◌, length, take, drop, set, get_or, map, Option, Some, Result, Err, Bor, refl, subst, sym, ap, ◌∙◌, ◌≢◌, arith, add-one, length-drop}
 use Rattle.std.proofs.lemmas.List.{drop_more, take_more, take_more_set, set_split, drop-set-lt, take-append-drop, map-append, length-map}
 use Rattle.std.proofs.lemmas.List.Sums.{sum_by_push}
 use Rattle.scf_insn.specs.declared.insn.Insn.{Insn}
 use Rattle.scf_machine.specs.Stack.{cost_of}
-use Rattle.scf_insn.specs.declared.encoding.ReadFault.TheVariants.{Read as CantRead}
+use Rattle.scf_insn.specs.declared.encoding.ReadFault.TheVariants as reads
 use Rattle.scf_insn.specs.Streams.{HasFailed}
 use Rattle.scf_tool.specs.declared.contents.PartReader.{PartReader}
-use Rattle.scf_tool.specs.declared.filter.FilterFault.{FilterFault}
-use Rattle.scf_tool.specs.declared.filter.FilterFault.TheVariants.{Read, Check}
-use Rattle.scf_tool.specs.declared.filter_stack.StackFault.{StackFault}
-use Rattle.scf_tool.specs.declared.filter_stack.StackFault.TheVariants.{Filter, Push}
-use Rattle.scf_tool.specs.Verifying.{HasEnded, IsFilter}
-use Rattle.scf_tool.specs.FilterStacks.{AreFilters, HasStack, HasNoStack, IsNotPushed, HaveEnded, HaveStopped, LeavesOwn}
+use Rattle.scf_tool.specs.Verifying.{HasEnded, IsFilter, LeavesFilterReader}
+use Rattle.scf_tool.specs.FilterStacks.{AreFilters, HasStack, HasNoStack, IsNotPushed, HaveEnded, HaveStopped}
 use Rattle.scf_compare.specs.declared.relation.Relation.{Relation}
 use Rattle.scf_tool.specs.declared.reply.Reply.{Reply}
 use Rattle.scf_tool.specs.declared.request.Scopes.{Scopes}
 use Rattle.scf_tool.specs.declared.verification.VerifyFault.{VerifyFault}
+use Rattle.scf_tool.specs.declared.verification.VerifyFault.TheVariants.{FilterRead}
 use Rattle.scf_tool.specs.Bundle.{IsBundle}
 use Rattle.scf_tool.specs.Commands.{IsRead, IsCompared, ComparesParts}
 use Rattle.scf_profile.specs.References.{texts_at}
 use Rattle.scf_tool.specs.internal.Contents.{rest_of}
-use Rattle.scf_tool.specs.internal.Pushing.{PushesFilter, IsNoStackOf, stack_fault}
+use Rattle.scf_tool.specs.internal.Pushing.{PushesFilter}
 
 -- one more filter
 one_more_filter : (filters : List (Option (List ℕ))) (stack : List (List Insn)) (bytes : Option (List ℕ))
@@ -103,7 +100,7 @@ stack_grows remaining failures i olds news old new stack pushed from upto push e
 
 -- a filter isn't pushed
 pub no_stack : {R : Type 0} (remaining : R → Option (List ℕ)) (failures : R → ℕ) (i : ℕ) (olds news : List R) (old : R)
-    (stack : List (List Insn)) (fault : StackFault) → SameFrom i olds news old
+    (stack : List (List Insn)) (fault : VerifyFault) → SameFrom i olds news old
     → IsStackUpTo remaining failures i olds news stack → IsNotPushed stack (remaining old) fault
     → HasNoStack (map remaining olds) fault
 no_stack remaining failures i olds news old stack fault from upto refused = record {
@@ -119,8 +116,9 @@ no_stack remaining failures i olds news old stack fault from upto refused = reco
 
 -- and its reader is the last that was asked
 pub readers_stop : {R : Type 0} (remaining : R → Option (List ℕ)) (failures : R → ℕ) (i : ℕ) (olds news : List R)
-    (old new : R) (stack : List (List Insn)) (fault : StackFault) → SameFrom i olds news old
-    → IsStackUpTo remaining failures i olds news stack → LeavesOwn remaining failures fault old new
+    (old new : R) (stack : List (List Insn)) (fault : VerifyFault) → SameFrom i olds news old
+    → IsStackUpTo remaining failures i olds news stack
+    → LeavesFilterReader {T = List Insn} remaining failures old (Err fault) new
     → HaveStopped remaining failures fault olds (set news i new)
 readers_stop remaining failures i olds news old new stack fault from upto left = record {
   before = take i olds;
@@ -140,22 +138,14 @@ pub told_of_parts : (readers : List PartReader) → map (λ reader. Some (rest_o
 told_of_parts [] = refl
 told_of_parts (reader ∷ readers) = ap (λ told. Some (rest_of reader) ∷ told) (told_of_parts readers)
 
-hasnt_failed : {R : Type 0} (remaining : R → Option (List ℕ)) (fault : FilterFault) (old new : R)
-    → LeavesOwn remaining (λ _. 0) (Filter fault) old new → fault ≢ Read CantRead
-hasnt_failed remaining (Read fault) old new left is = let failed : HasFailed 0 0 = left.0 (cc) in cc
-hasnt_failed remaining (Check fault) old new left is = cc
-
 -- a reader that never fails isn't why there is no stack
-pub never_fails : {R : Type 0} (remaining : R → Option (List ℕ)) (fault : FilterFault) (olds news : List R)
-    → HaveStopped remaining (λ _. 0) (Filter fault) olds news → fault ≢ Read CantRead
-never_fails remaining fault olds news stopped = hasnt_failed remaining fault stopped.old stopped.new stopped.left
-
-pub no_stack_of_parts : (texts : List (List ℕ)) (fault : StackFault) {R : Type 0} (remaining : R → Option (List ℕ))
-    (olds news : List R) → HasNoStack (map Some texts) fault → HaveStopped remaining (λ _. 0) fault olds news
-    → IsNoStackOf texts (stack_fault fault)
-no_stack_of_parts texts (Filter fault) remaining olds news none stopped =
-    (never_fails remaining fault olds news stopped, none)
-no_stack_of_parts texts (Push fault) remaining olds news none stopped = none
+pub never_fails : {R : Type 0} (remaining : R → Option (List ℕ)) (fault : VerifyFault) (olds news : List R)
+    → HaveStopped remaining (λ _. 0) fault olds news → fault ≢ FilterRead reads.Read
+never_fails {R} remaining fault olds news stopped is =
+    let leaves = subst (λ (f : VerifyFault).
+    LeavesFilterReader {T = List Insn} remaining (λ (_ : R). 0) stopped.old (Err f) stopped.new) is stopped.left in
+    let failed : HasFailed 0 0 = leaves.0 refl in
+    cc
 
 -- a bundle of filters, a profile and a table that come to this
 pub bundle_compared : (told : Option (List ℕ)) (bytes : List ℕ) (over : Scopes) (relation : Relation) (limit : ℕ)

@@ -27,13 +27,10 @@ use Rattle.scf_compile.specs.declared.fault.CompileFault.TheVariants as compiles
 use Rattle.scf_compile.specs.SizeBound.{size_bound_of}
 use Rattle.scf_tool.specs.declared.fault.Fault.{Fault}
 use Rattle.scf_tool.specs.declared.fault.Fault.TheVariants as faults
-use Rattle.scf_tool.specs.declared.filter.FilterFault.TheVariants as filters
 use Rattle.scf_compare.specs.declared.relation.Relation.{Relation}
 use Rattle.scf_compare.specs.declared.scope.Scope.{Scope}
 use Rattle.scf_compare.specs.declared.scope.Scope.TheVariants as scopes
 use Rattle.scf_tool.specs.declared.call_verification.CallsOutcome.{CallsOutcome}
-use Rattle.scf_tool.specs.declared.filter_stack.StackFault.{StackFault}
-use Rattle.scf_tool.specs.declared.filter_stack.StackFault.TheVariants as stacks
 use Rattle.scf_tool.specs.declared.reply.Reply.{Reply}
 use Rattle.scf_tool.specs.declared.reply.Reply.TheVariants.{Accepted, Ran, Decided, Asked, Bytes, Compared}
 use Rattle.scf_tool.specs.declared.request.Request.{Request}
@@ -46,12 +43,11 @@ use Rattle.scf_tool.specs.declared.verification.VerifyFault.TheVariants as verif
 use Rattle.scf_tool.specs.declared.status.Status.{Status}
 use Rattle.scf_tool.specs.Bundle.{IsBundle, IsBundleFault}
 use Rattle.scf_tool.specs.CallReports.{calls_text, joint_of}
-use Rattle.scf_tool.specs.Filters.{IsNoFilter}
 use Rattle.scf_tool.specs.Lines.{traced_text}
 use Rattle.scf_tool.specs.FilterStacks.{HasStack, HasNoStack}
 use Rattle.scf_tool.specs.Reports.{report_text}
 use Rattle.scf_tool.specs.Statuses.{joint_status, verdict_status}
-use Rattle.scf_tool.specs.Verifying.{IsFilter}
+use Rattle.scf_tool.specs.Verifying.{IsFilter, IsNoFilter}
 use Rattle.scf_tool.specs.VerifyingCalls.{AreVerifiedCalls}
 use Rattle.scf_tool.specs.VerifyingStacks.{IsRefusedStack, IsVerifiedBy}
 
@@ -91,14 +87,14 @@ IsNoBundle told counts fault = ⊥
 -- `check`: the input is an accepted filter, of so many instructions
 abbrev pub Checks : Option (List ℕ) → Result Reply Fault → Type 0
 Checks told (Ok (Accepted count)) = (insns : List Insn) × IsFilter told insns × (count ≡ length insns)
-Checks told (Err (faults.Filter fault)) = IsNoFilter told fault
+Checks told (Err (faults.Verify fault)) = IsNoFilter told fault
 Checks told ending = ⊥
 
 -- `run`: the answer of the accepted filter to the call, and the length of its run
 abbrev pub Runs : CallRecord → Option (List ℕ) → Result Reply Fault → Type 0
 Runs call told (Ok (Ran ran)) =
     (insns : List Insn) × IsFilter told insns × IsRun insns (words_of call) ran.answer.0 ran.steps
-Runs call told (Err (faults.Filter fault)) = IsNoFilter told fault
+Runs call told (Err (faults.Verify fault)) = IsNoFilter told fault
 Runs call told ending = ⊥
 
 -- `run --path`: the answer and the length of the run, and the places of the instructions on its way
@@ -106,7 +102,7 @@ abbrev pub Traces : CallRecord → Option (List ℕ) → Result Reply Fault → 
 Traces call told (Ok (Bytes bytes)) =
     (insns : List Insn) × IsFilter told insns × (answer : ℕ) × (places : List ℕ)
     × IsPathOf insns (words_of call) answer places × (bytes.items ≡ traced_text answer places)
-Traces call told (Err (faults.Filter fault)) = IsNoFilter told fault
+Traces call told (Err (faults.Verify fault)) = IsNoFilter told fault
 Traces call told ending = ⊥
 
 -- `dis`: the listing of the instructions whose bytes the input is
@@ -114,7 +110,7 @@ abbrev pub Lists : Option (List ℕ) → Result Reply Fault → Type 0
 Lists told (Ok (Bytes bytes)) =
     (insns : List Insn) × IfSome told (λ all. IsReading (λ (read : List Insn). read) all (Ok insns))
     × (bytes.items ≡ text_of insns)
-Lists told (Err (faults.Filter (filters.Read fault))) =
+Lists told (Err (faults.Verify (verifies.FilterRead fault))) =
     IfSome told (λ all. IsReading (λ (read : List Insn). read) all (Err fault))
 Lists told ending = ⊥
 
@@ -143,14 +139,13 @@ pub record IsDecided (call : CallRecord) (told : Option (List ℕ)) (answer : �
   pub answers : StackAnswers stack (words_of call) answer
 
 -- The input is a bundle of filters, but no stack.
-abbrev pub IsNoStack : Option (List ℕ) → StackFault → Type 0
+abbrev pub IsNoStack : Option (List ℕ) → VerifyFault → Type 0
 IsNoStack told fault = (filters : List (List ℕ)) × HoldsBundle told filters [] [] × HasNoStack (map Some filters) fault
 
 -- `decide`: the answer of the stack to the call
 abbrev pub Decides : CallRecord → Option (List ℕ) → Result Reply Fault → Type 0
 Decides call told (Ok (Decided answer)) = IsDecided call told answer.0
-Decides call told (Err (faults.Filter fault)) = (fault ≢ filters.Read reads.Read) × IsNoStack told (stacks.Filter fault)
-Decides call told (Err (faults.Stack fault)) = IsNoStack told (stacks.Push fault)
+Decides call told (Err (faults.Verify fault)) = (fault ≢ verifies.FilterRead reads.Read) × IsNoStack told fault
 Decides call told (Err fault) = IsNoBundle told AreFiltersAlone fault
 Decides call told ending = ⊥
 
@@ -166,9 +161,9 @@ pub record IsStated (profile table : List ℕ) (loaded : Loaded) : Type 0 where
   pub loads : Loads profile names loaded
 
 -- why a profile and a table state nothing
-abbrev pub CantLoad : List ℕ → List ℕ → Fault → Type 0
-CantLoad profile table (faults.Table fault) = fault ≢ tables.Memory → table_of table ≡ Err fault
-CantLoad profile table (faults.Profile fault) =
+abbrev pub CantLoad : List ℕ → List ℕ → VerifyFault → Type 0
+CantLoad profile table (verifies.Table fault) = fault ≢ tables.Memory → table_of table ≡ Err fault
+CantLoad profile table (verifies.Profile fault) =
     (names : Names) × (table_of table ≡ Ok names) × Refuses profile names fault
 CantLoad profile table fault = ⊥
 
@@ -197,22 +192,20 @@ pub record IsAsked (call : CallRecord) (told : Option (List ℕ)) (answer : ℕ)
   pub has_reason : IsReason loaded.profile call reason
 
 -- The input is a bundle of a profile and a table that state nothing.
-abbrev pub IsNotLoaded : Option (List ℕ) → Fault → Type 0
+abbrev pub IsNotLoaded : Option (List ℕ) → VerifyFault → Type 0
 IsNotLoaded told fault =
     (profile table : List ℕ) × HoldsBundle told [] (profile ∷ []) (table ∷ []) × CantLoad profile table fault
 
 -- `ask`: the answer of the profile to the call, and why
 abbrev pub GivesReason : CallRecord → Option (List ℕ) → Result Reply Fault → Type 0
 GivesReason call told (Ok (Asked answer reason)) = IsAsked call told answer.0 reason
-GivesReason call told (Err (faults.Table fault)) = IsNotLoaded told (faults.Table fault)
-GivesReason call told (Err (faults.Profile fault)) = IsNotLoaded told (faults.Profile fault)
+GivesReason call told (Err (faults.Verify fault)) = IsNotLoaded told fault
 GivesReason call told (Err fault) = IsNoBundle told IsProfileWithTable fault
 GivesReason call told ending = ⊥
 
 -- why a profile and a table aren't compiled
 abbrev pub CantCompile : List ℕ → List ℕ → Fault → Type 0
-CantCompile profile table (faults.Table fault) = CantLoad profile table (faults.Table fault)
-CantCompile profile table (faults.Profile fault) = CantLoad profile table (faults.Profile fault)
+CantCompile profile table (faults.Verify fault) = CantLoad profile table fault
 CantCompile profile table (faults.Compile fault) =
     (loaded : Loaded) × IsStated profile table loaded
     × (fault ≡ compiles.TooLarge → 4096 < size_bound_of loaded.profile)
@@ -226,8 +219,7 @@ IsNotCompiled told fault =
 -- `compile`: the filter of the profile
 abbrev pub Compiles : Option (List ℕ) → Result Reply Fault → Type 0
 Compiles told (Ok (Bytes bytes)) = IsCompiled told bytes.items
-Compiles told (Err (faults.Table fault)) = IsNotCompiled told (faults.Table fault)
-Compiles told (Err (faults.Profile fault)) = IsNotCompiled told (faults.Profile fault)
+Compiles told (Err (faults.Verify fault)) = IsNotCompiled told (faults.Verify fault)
 Compiles told (Err (faults.Compile fault)) = IsNotCompiled told (faults.Compile fault)
 Compiles told (Err fault) = IsNoBundle told IsProfileWithTable fault
 Compiles told ending = ⊥
@@ -288,7 +280,7 @@ IsCompared over relation limit told ending =
 -- `compare`: the report of the comparison
 abbrev pub Compares : Scopes → Relation → ℕ → Option (List ℕ) → Result Reply Fault → Type 0
 Compares over relation limit told (Ok reply) = IsCompared over relation limit told (Ok reply)
-Compares over relation limit told (Err (faults.Compare fault)) = IsCompared over relation limit told (Err fault)
+Compares over relation limit told (Err (faults.Verify fault)) = IsCompared over relation limit told (Err fault)
 Compares over relation limit told (Err fault) = IsNoBundle told AreCompared fault
 
 -- ---- all commands

@@ -26,7 +26,6 @@ use Rattle.scf_tool.specs.declared.status.Status.{Status}
 use Rattle.scf_tool.specs.declared.status.Status.TheVariants.{Refused, CommandLine, Failed}
 use Rattle.scf_tool.specs.declared.fault.Fault.{Fault}
 use Rattle.scf_tool.specs.declared.fault.Fault.TheVariants as faults
-use Rattle.scf_tool.specs.declared.filter.FilterFault.TheVariants as filters
 
 -- A number that a fault names.
 pub record Number : Type 0 where
@@ -166,14 +165,9 @@ kind_of_fault faults.Flags = wrong_words (codes "Flags")
 kind_of_fault (faults.Input fault) = input_kind fault
 kind_of_fault (faults.Bundle fault) = bundle_kind fault
 kind_of_fault faults.Parts = failed (codes "Parts")
-kind_of_fault (faults.Filter (filters.Read fault)) = read_kind fault
-kind_of_fault (faults.Filter (filters.Check fault)) = check_kind fault
 kind_of_fault (faults.Text fault) = text_kind fault
-kind_of_fault (faults.Table fault) = table_kind fault
-kind_of_fault (faults.Profile fault) = load_kind fault
 kind_of_fault (faults.Compile fault) = compile_kind fault
-kind_of_fault (faults.Stack fault) = push_kind fault
-kind_of_fault (faults.Compare fault) = verify_kind fault
+kind_of_fault (faults.Verify fault) = verify_kind fault
 
 -- ---- what is wrong
 
@@ -195,13 +189,9 @@ source_of faults.Flags = codes "command"
 source_of (faults.Input fault) = codes "input"
 source_of (faults.Bundle fault) = codes "bundle"
 source_of faults.Parts = codes "bundle"
-source_of (faults.Filter fault) = codes "filter"
 source_of (faults.Text fault) = codes "text"
-source_of (faults.Table fault) = codes "table"
-source_of (faults.Profile fault) = codes "profile"
 source_of (faults.Compile fault) = codes "compile"
-source_of (faults.Stack fault) = codes "stack"
-source_of (faults.Compare fault) = verify_source fault
+source_of (faults.Verify fault) = verify_source fault
 
 -- ---- the line
 

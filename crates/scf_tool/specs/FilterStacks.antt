@@ -3,10 +3,9 @@ use Rattle.std.specs.Prelude.{◌≡◌, ◌≤◌, ◌+◌, ◌++◌, ℕ, List
 use Rattle.scf_insn.specs.declared.insn.Insn.{Insn}
 use Rattle.scf_insn.specs.Kernel.{max_insns_per_path}
 use Rattle.scf_machine.specs.Stack.{IsPush, cost_of}
-use Rattle.scf_tool.specs.declared.filter_stack.StackFault.{StackFault}
-use Rattle.scf_tool.specs.declared.filter_stack.StackFault.TheVariants.{Filter, Push}
-use Rattle.scf_tool.specs.Filters.{IsNoFilter, LeavesInput}
-use Rattle.scf_tool.specs.Verifying.{HasEnded, IsFilter}
+use Rattle.scf_tool.specs.declared.verification.VerifyFault.{VerifyFault}
+use Rattle.scf_tool.specs.declared.verification.VerifyFault.TheVariants.{Stack}
+use Rattle.scf_tool.specs.Verifying.{HasEnded, IsFilter, IsNoFilter, LeavesFilterReader}
 
 -- ---- the filters
 
@@ -23,13 +22,13 @@ pub record HasStack (filters : List (Option (List ℕ))) (stack : List (List Ins
   pub total : cost_of stack ≤ max_insns_per_path + 4
 
 -- why a filter isn't pushed on a stack of these
-abbrev pub IsNotPushed : List (List Insn) → Option (List ℕ) → StackFault → Type 0
-IsNotPushed stack bytes (Filter fault) = IsNoFilter bytes fault
-IsNotPushed stack bytes (Push fault) =
+abbrev pub IsNotPushed : List (List Insn) → Option (List ℕ) → VerifyFault → Type 0
+IsNotPushed stack bytes (Stack fault) =
     (insns : List Insn) × IsFilter bytes insns × IsPush stack insns (Err (fault, insns)) stack
+IsNotPushed stack bytes fault = IsNoFilter bytes fault
 
 -- Of these filters, the oldest first, the first that isn't pushed.
-pub record HasNoStack (filters : List (Option (List ℕ))) (fault : StackFault) : Type 0 where
+pub record HasNoStack (filters : List (Option (List ℕ))) (fault : VerifyFault) : Type 0 where
   pub before : List (Option (List ℕ))
   pub own : Option (List ℕ)
   pub behind : List (Option (List ℕ))
@@ -48,13 +47,8 @@ module _ {R : Type 0} (remaining : R → Option (List ℕ)) (failures : R → �
   HaveEnded [] (new ∷ news) = ⊥
   HaveEnded (old ∷ olds) [] = ⊥
 
-  -- how the reader is left whose filter isn't pushed
-  abbrev pub LeavesOwn : StackFault → R → R → Type 0
-  LeavesOwn (Filter fault) old new = LeavesInput {T = List Insn} remaining failures old (Err fault) new
-  LeavesOwn (Push fault) old new = HasEnded remaining failures old new
-
   -- The readers before one have ended, this one is left so, and those behind it aren't asked.
-  pub record HaveStopped (fault : StackFault) (olds news : List R) : Type 0 where
+  pub record HaveStopped (fault : VerifyFault) (olds news : List R) : Type 0 where
     pub before : List R
     pub before_new : List R
     pub old : R
@@ -63,9 +57,9 @@ module _ {R : Type 0} (remaining : R → Option (List ℕ)) (failures : R → �
     pub olds_are : olds ≡ before ++ old ∷ behind
     pub news_are : news ≡ before_new ++ new ∷ behind
     pub ended : HaveEnded before before_new
-    pub left : LeavesOwn fault old new
+    pub left : LeavesFilterReader {T = List Insn} remaining failures old (Err fault) new
 
   -- how the readers of a stack's filters are left
-  abbrev pub LeavesReaders : {T : Type 0} → List R → Result T StackFault → List R → Type 0
+  abbrev pub LeavesReaders : {T : Type 0} → List R → Result T VerifyFault → List R → Type 0
   LeavesReaders olds (Ok stack) news = HaveEnded olds news
   LeavesReaders olds (Err fault) news = HaveStopped fault olds news

@@ -3,7 +3,6 @@ pub mod CallReports
 pub mod Commands
 pub mod Faults
 pub mod FilterStacks
-pub mod Filters
 pub mod Lines
 pub mod Numerals
 pub mod Options

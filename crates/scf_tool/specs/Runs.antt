@@ -71,7 +71,7 @@ pub record IsAnswered {R : Type 0} (words : List Text) (remaining : R → Option
   pub request : Request
   pub asked : IsRequest (subcommand_of scf words) request
   pub answered : IsTrueOf request (remaining old) ending
-  pub left : LeavesInput remaining failures old ending new
+  pub left : LeavesInput request remaining failures old ending new
 
 -- How a run ends: it speaks of its words, before it reads any input, or answers what they ask for.
 abbrev pub Ends : {R : Type 0} → List Text → (R → Option (List ℕ)) → (R → ℕ) → R → Result Reply Fault → R → Type 0

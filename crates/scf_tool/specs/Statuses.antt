@@ -2,14 +2,14 @@
 use Rattle.std.specs.Prelude.{◌≡◌, ℕ, List, Option, Some, None, Result, Err}
 use Rattle.scf_compare.specs.declared.verdict.Verdict.{Verdict}
 use Rattle.scf_compare.specs.declared.verdict.Verdict.TheVariants.{Same, Differs, Undecided, Unfinished}
-use Rattle.scf_insn.specs.declared.encoding.ReadFault.TheVariants as reads
 use Rattle.scf_insn.specs.declared.input.InputFault.TheVariants as inputs
 use Rattle.scf_tool.specs.declared.fault.Fault.{Fault}
-use Rattle.scf_tool.specs.declared.fault.Fault.TheVariants.{Input, Filter}
-use Rattle.scf_tool.specs.declared.filter.FilterFault.TheVariants.{Read}
+use Rattle.scf_tool.specs.declared.fault.Fault.TheVariants.{Input, Verify}
+use Rattle.scf_tool.specs.declared.request.Request.{Request}
+use Rattle.scf_tool.specs.declared.request.Request.TheVariants as requests
 use Rattle.scf_tool.specs.declared.status.Status.{Status}
 use Rattle.scf_tool.specs.declared.status.Status.TheVariants.{Well, Refused, CommandLine, Failed, Open}
-use Rattle.scf_tool.specs.Verifying.{HasEnded, HasFailedWhere}
+use Rattle.scf_tool.specs.Verifying.{HasEnded, HasFailedWhere, LeavesFilterReader}
 
 abbrev pub status_code : Status → ℕ
 status_code Well = 0
@@ -30,9 +30,21 @@ abbrev pub joint_status : Option Verdict → Status
 joint_status None = Well
 joint_status (Some verdict) = verdict_status verdict
 
--- How a command leaves standard input: it came to its end, and failed only where that is the fault.
-abbrev pub LeavesInput : {R T : Type 0} → (R → Option (List ℕ)) → (R → ℕ) → R → Result T Fault → R → Type 0
-LeavesInput remaining failures old (Err (Input fault)) new = HasFailedWhere (fault ≡ inputs.Read) failures old new
-LeavesInput remaining failures old (Err (Filter (Read fault))) new =
-    HasFailedWhere (fault ≡ reads.Read) failures old new
-LeavesInput remaining failures old ending new = HasEnded remaining failures old new
+-- How a command leaves standard input that is one filter: it came to its end, or the filter isn't read.
+abbrev pub LeavesFilter : {R T : Type 0} → (R → Option (List ℕ)) → (R → ℕ) → R → Result T Fault → R → Type 0
+LeavesFilter {T} remaining failures old (Err (Verify fault)) new =
+    LeavesFilterReader {T = T} remaining failures old (Err fault) new
+LeavesFilter remaining failures old ending new = HasEnded remaining failures old new
+
+-- And that is read whole: it came to its end, and failed only where that is the fault.
+abbrev pub LeavesWhole : {R T : Type 0} → (R → Option (List ℕ)) → (R → ℕ) → R → Result T Fault → R → Type 0
+LeavesWhole remaining failures old (Err (Input fault)) new = HasFailedWhere (fault ≡ inputs.Read) failures old new
+LeavesWhole remaining failures old ending new = HasEnded remaining failures old new
+
+-- by what is asked for
+abbrev pub LeavesInput : {R T : Type 0} → Request → (R → Option (List ℕ)) → (R → ℕ) → R → Result T Fault → R → Type 0
+LeavesInput requests.Check = LeavesFilter
+LeavesInput requests.List = LeavesFilter
+LeavesInput (requests.Run call) = LeavesFilter
+LeavesInput (requests.Trace call) = LeavesFilter
+LeavesInput request = LeavesWhole

@@ -140,6 +140,12 @@ pub record IsRefusedFilter (bytes : Option (List ℕ)) (fault : CheckFault) : Ty
   pub first : IsFirstFault insns fault
   pub breaks : fault ≢ checks.Memory → IsValidList insns → KeepsScratchRule insns → ⊥
 
+-- why a reader has no accepted filter
+abbrev pub IsNoFilter : Option (List ℕ) → VerifyFault → Type 0
+IsNoFilter bytes (FilterRead fault) = IsUnreadFilter bytes fault
+IsNoFilter bytes (Check fault) = IsRefusedFilter bytes fault
+IsNoFilter bytes fault = ⊥
+
 -- The bytes spell no call table, for this fault first. Want of memory may come in place of it.
 abbrev pub IsRefusedTable : Option (List ℕ) → TableFault → Type 0
 IsRefusedTable bytes fault =
@@ -153,14 +159,12 @@ pub record IsRefusedProfile (table profile : Option (List ℕ)) (fault : LoadFau
 
 -- What each fault says: all that is read and looked at before is accepted, and this is why the next isn't.
 abbrev pub IsRefused : Option (List ℕ) → Option (List ℕ) → Option (List ℕ) → VerifyFault → Type 0
-IsRefused filter table profile (FilterRead fault) = IsUnreadFilter filter fault
-IsRefused filter table profile (Check fault) = IsRefusedFilter filter fault
-IsRefused filter table profile (Stack fault) = ⊥
 IsRefused filter table profile (TableRead fault) = HasFilter filter × IsUnread table fault
 IsRefused filter table profile (Table fault) = HasFilter filter × IsRefusedTable table fault
 IsRefused filter table profile (ProfileRead fault) = HasFilter filter × HasTable table × IsUnread profile fault
 IsRefused filter table profile (Profile fault) = HasFilter filter × IsRefusedProfile table profile fault
 IsRefused filter table profile Memory = HasFilter filter × HasProfile table profile
+IsRefused filter table profile fault = IsNoFilter filter fault
 
 -- What the comparison of a filter with a profile, from the bytes of their readers, answers.
 abbrev pub Verifies : Option (List ℕ) → Option (List ℕ) → Option (List ℕ) → ℕ → Result Outcome VerifyFault → Type 0

@@ -15,8 +15,6 @@ use Rattle.scf_compare.specs.declared.verdict.Verdict.{Verdict}
 use Rattle.scf_compare.specs.Effort.{effort_of_stack}
 use Rattle.scf_compare.specs.Scope.{RelatedAnswersIn}
 use Rattle.scf_compare.specs.Verdicts.{IsTrueOfStackBy, IsWithin, IsDecided}
-use Rattle.scf_tool.specs.declared.filter.FilterFault.TheVariants as reads
-use Rattle.scf_tool.specs.declared.filter_stack.StackFault.TheVariants as stacks
 use Rattle.scf_tool.specs.declared.verification.Outcome.{Outcome}
 use Rattle.scf_tool.specs.declared.verification.VerifyFault.{VerifyFault}
 use Rattle.scf_tool.specs.declared.verification.VerifyFault.TheVariants.{FilterRead, Check, Stack, TableRead, Table}
@@ -59,9 +57,6 @@ HasSomeStack filters = (stack : List (List Insn)) × HasStack filters stack
 
 -- What each fault says: all that is read and looked at before is accepted, and this is why the next isn't.
 abbrev pub IsRefusedStack : List (Option (List ℕ)) → Option (List ℕ) → Option (List ℕ) → VerifyFault → Type 0
-IsRefusedStack filters table profile (FilterRead fault) = HasNoStack filters (stacks.Filter (reads.Read fault))
-IsRefusedStack filters table profile (Check fault) = HasNoStack filters (stacks.Filter (reads.Check fault))
-IsRefusedStack filters table profile (Stack fault) = HasNoStack filters (stacks.Push fault)
 IsRefusedStack filters table profile (TableRead fault) = HasSomeStack filters × IsUnread table fault
 IsRefusedStack filters table profile (Table fault) = HasSomeStack filters × IsRefusedTable table fault
 IsRefusedStack filters table profile (ProfileRead fault) =
@@ -69,6 +64,7 @@ IsRefusedStack filters table profile (ProfileRead fault) =
 IsRefusedStack filters table profile (RefusedProfile fault) =
     HasSomeStack filters × IsRefusedProfile table profile fault
 IsRefusedStack filters table profile Memory = HasSomeStack filters × HasProfile table profile
+IsRefusedStack filters table profile fault = HasNoStack filters fault
 
 -- What the comparison of a stack with a profile by a relation, from the bytes of their readers, answers.
 abbrev pub VerifiesBy : Relation → List (Option (List ℕ)) → Option (List ℕ) → Option (List ℕ) → Scope → ℕ
@@ -86,9 +82,9 @@ VerifiesStack filters table profile scope limit result = VerifiesBy Same filters
 abbrev pub LeavesFilterReaders : {R T : Type 0} → (R → Option (List ℕ)) → (R → ℕ)
     → List R → Result T VerifyFault → List R → Type 0
 LeavesFilterReaders remaining failures olds (Err (FilterRead fault)) news =
-    HaveStopped remaining failures (stacks.Filter (reads.Read fault)) olds news
+    HaveStopped remaining failures (FilterRead fault) olds news
 LeavesFilterReaders remaining failures olds (Err (Check fault)) news =
-    HaveStopped remaining failures (stacks.Filter (reads.Check fault)) olds news
+    HaveStopped remaining failures (Check fault) olds news
 LeavesFilterReaders remaining failures olds (Err (Stack fault)) news =
-    HaveStopped remaining failures (stacks.Push fault) olds news
+    HaveStopped remaining failures (Stack fault) olds news
 LeavesFilterReaders remaining failures olds result news = HaveEnded remaining failures olds news

@@ -32,7 +32,7 @@ const MAX_INPUT: usize = 16_777_216;
 /// What a request ends with.
 fn answer<R: Source>(alloc: Global, request: &Request, input: &mut R) -> Result<Reply, Fault>
     ensures answer { IsTrueOf request.now (R.remaining input.old) result }
-    ensures left { LeavesInput R.remaining R.failures input.old result input.new }
+    ensures left { LeavesInput request.now R.remaining R.failures input.old result input.new }
 {
     match request {
         Request::Ask(call) => ask_profile(alloc, call, input),

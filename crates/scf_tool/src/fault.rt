@@ -2,17 +2,12 @@
 
 ghost use Rattle.std.specs.Prelude.{◌≡◌};
 ghost use Rattle.scf_tool.specs.declared.fault.Fault.TheVariants as faults;
-ghost use Rattle.scf_tool.specs.declared.filter.FilterFault.TheVariants as filters;
 
 use crate::bundle::BundleFault;
-use crate::filter::FilterFault;
-use crate::filter_stack::StackFault;
 use crate::options::NumberFault;
 use crate::verification::VerifyFault;
 use scf_compile::CompileFault;
 use scf_insn::{InputFault, ReadFault};
-use scf_machine::PushFault;
-use scf_profile::{LoadFault, TableFault};
 use scf_text::TextFault;
 
 /// Why a command ends early: what is wrong, and how.
@@ -31,13 +26,10 @@ pub(crate) enum Fault {
     Bundle(BundleFault),
     /// The parts of a bundle aren't those that the command takes.
     Parts,
-    Filter(FilterFault),
     Text(TextFault),
-    Table(TableFault),
-    Profile(LoadFault),
     Compile(CompileFault),
-    Stack(PushFault),
-    Compare(VerifyFault),
+    /// A filter, a stack, a table or a profile is refused, or memory for their comparison.
+    Verify(VerifyFault),
 }
 
 impl From<NumberFault> for Fault {
@@ -65,31 +57,12 @@ impl From<BundleFault> for Fault {
 }
 
 impl From<ReadFault> for Fault {
-    ghost from_gives = { λ fault e. e ≡ faults.Filter (filters.Read fault) };
+    ghost use Rattle.scf_tool.specs.declared.verification.VerifyFault.TheVariants as verifies;
+
+    ghost from_gives = { λ fault e. e ≡ faults.Verify (verifies.FilterRead fault) };
 
     fn from(fault: ReadFault) -> Fault {
-        Fault::Filter(FilterFault::Read(fault))
-    }
-}
-
-impl From<FilterFault> for Fault {
-    ghost from_gives = { λ fault e. e ≡ faults.Filter fault };
-
-    fn from(fault: FilterFault) -> Fault {
-        Fault::Filter(fault)
-    }
-}
-
-impl From<StackFault> for Fault {
-    ghost use Rattle.scf_tool.specs.internal.Pushing.{stack_fault};
-
-    ghost from_gives = { λ fault e. e ≡ stack_fault fault };
-
-    fn from(fault: StackFault) -> Fault {
-        match fault {
-            StackFault::Filter(fault) => Fault::Filter(fault),
-            StackFault::Push(fault) => Fault::Stack(fault),
-        }
+        Fault::Verify(VerifyFault::FilterRead(fault))
     }
 }
 
@@ -98,22 +71,6 @@ impl From<TextFault> for Fault {
 
     fn from(fault: TextFault) -> Fault {
         Fault::Text(fault)
-    }
-}
-
-impl From<TableFault> for Fault {
-    ghost from_gives = { λ fault e. e ≡ faults.Table fault };
-
-    fn from(fault: TableFault) -> Fault {
-        Fault::Table(fault)
-    }
-}
-
-impl From<LoadFault> for Fault {
-    ghost from_gives = { λ fault e. e ≡ faults.Profile fault };
-
-    fn from(fault: LoadFault) -> Fault {
-        Fault::Profile(fault)
     }
 }
 
@@ -126,9 +83,9 @@ impl From<CompileFault> for Fault {
 }
 
 impl From<VerifyFault> for Fault {
-    ghost from_gives = { λ fault e. e ≡ faults.Compare fault };
+    ghost from_gives = { λ fault e. e ≡ faults.Verify fault };
 
     fn from(fault: VerifyFault) -> Fault {
-        Fault::Compare(fault)
+        Fault::Verify(fault)
     }
 }

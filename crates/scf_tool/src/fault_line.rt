@@ -8,7 +8,6 @@ ghost use Rattle.scf_tool.specs.internal.Fields.{field_text, kind_of, numbers_of
 
 use crate::bundle::BundleFault;
 use crate::fault::Fault;
-use crate::filter::FilterFault;
 use crate::pieces::{Piece, write_pieces};
 use crate::status::Status;
 use crate::verification::VerifyFault;
@@ -265,7 +264,7 @@ fn verify_kind(fault: VerifyFault) -> FaultKind
     }
 }
 
-/// What a comparison found wrong.
+/// What is refused of a filter, a stack, a table and a profile.
 fn verify_source(fault: VerifyFault) -> &'static str
     ensures { result.now ≡ table.verify_source fault }
 {
@@ -288,13 +287,9 @@ impl Fault {
             Fault::Number(_) => "number",
             Fault::Input(_) => "input",
             Fault::Bundle(_) | Fault::Parts => "bundle",
-            Fault::Filter(_) => "filter",
             Fault::Text(_) => "text",
-            Fault::Table(_) => "table",
-            Fault::Profile(_) => "profile",
             Fault::Compile(_) => "compile",
-            Fault::Stack(_) => "stack",
-            Fault::Compare(fault) => verify_source(fault),
+            Fault::Verify(fault) => verify_source(fault),
         }
     }
 
@@ -310,14 +305,9 @@ impl Fault {
             Fault::Input(fault) => input_kind(fault),
             Fault::Bundle(fault) => bundle_kind(fault),
             Fault::Parts => failed("Parts"),
-            Fault::Filter(FilterFault::Read(fault)) => read_kind(fault),
-            Fault::Filter(FilterFault::Check(fault)) => check_kind(fault),
             Fault::Text(fault) => text_kind(fault),
-            Fault::Table(fault) => table_kind(fault),
-            Fault::Profile(fault) => load_kind(fault),
             Fault::Compile(fault) => compile_kind(fault),
-            Fault::Stack(fault) => push_kind(fault),
-            Fault::Compare(fault) => verify_kind(fault),
+            Fault::Verify(fault) => verify_kind(fault),
         }
     }
 

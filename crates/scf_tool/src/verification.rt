@@ -11,8 +11,7 @@ ghost use Rattle.scf_tool.specs.Verifying.{
 };
 ghost use Rattle.scf_tool.specs.internal.Verification.{IsNoProfile, IsNoTable};
 
-use crate::filter::{FilterFault, read_filter};
-use crate::filter_stack::StackFault;
+use crate::filter::read_filter;
 use scf_compare::{Verdict, compare};
 use scf_facts::WordSets;
 use scf_insn::{InputFault, Memory, ReadFault, Source, read_input};
@@ -53,31 +52,14 @@ pub enum VerifyFault {
     Memory,
 }
 
-impl From<FilterFault> for VerifyFault {
+impl From<ReadFault> for VerifyFault {
     ghost use Rattle.std.specs.Prelude.{◌≡◌};
-    ghost use Rattle.scf_tool.specs.internal.Verification.{verify_fault};
+    ghost use Rattle.scf_tool.specs.declared.verification.VerifyFault.TheVariants.{FilterRead};
 
-    ghost from_gives = { λ fault e. e ≡ verify_fault fault };
+    ghost from_gives = { λ fault e. e ≡ FilterRead fault };
 
-    fn from(fault: FilterFault) -> VerifyFault {
-        match fault {
-            FilterFault::Read(fault) => VerifyFault::FilterRead(fault),
-            FilterFault::Check(fault) => VerifyFault::Check(fault),
-        }
-    }
-}
-
-impl From<StackFault> for VerifyFault {
-    ghost use Rattle.std.specs.Prelude.{◌≡◌};
-    ghost use Rattle.scf_tool.specs.internal.Verification.{verify_stack_fault};
-
-    ghost from_gives = { λ fault e. e ≡ verify_stack_fault fault };
-
-    fn from(fault: StackFault) -> VerifyFault {
-        match fault {
-            StackFault::Filter(fault) => VerifyFault::from(fault),
-            StackFault::Push(fault) => VerifyFault::Stack(fault),
-        }
+    fn from(fault: ReadFault) -> VerifyFault {
+        VerifyFault::FilterRead(fault)
     }
 }
 

@@ -1,22 +1,10 @@
 -- The parties of a comparison, and its faults, by the part whose they are.
 use Rattle.std.specs.Prelude.{ℕ, List, Option}
-use Rattle.scf_tool.specs.declared.filter.FilterFault.{FilterFault}
-use Rattle.scf_tool.specs.declared.filter.FilterFault.TheVariants as filters
-use Rattle.scf_tool.specs.declared.filter_stack.StackFault.{StackFault}
-use Rattle.scf_tool.specs.declared.filter_stack.StackFault.TheVariants as stacks
 use Rattle.scf_tool.specs.declared.verification.VerifyFault.{VerifyFault}
-use Rattle.scf_tool.specs.declared.verification.VerifyFault.TheVariants.{FilterRead, Check, Stack, TableRead, Table, ProfileRead, Profile}
+use Rattle.scf_tool.specs.declared.verification.VerifyFault.TheVariants.{TableRead, Table, ProfileRead, Profile}
 use Rattle.scf_tool.specs.declared.parties.Parties.{Parties}
 use Rattle.scf_tool.specs.FilterStacks.{HasStack}
 use Rattle.scf_tool.specs.Verifying.{HasTable, IsLoaded, IsTable, IsUnread, IsRefusedTable, IsRefusedProfile}
-
-abbrev pub verify_fault : FilterFault → VerifyFault
-verify_fault (filters.Read fault) = FilterRead fault
-verify_fault (filters.Check fault) = Check fault
-
-abbrev pub verify_stack_fault : StackFault → VerifyFault
-verify_stack_fault (stacks.Filter fault) = verify_fault fault
-verify_stack_fault (stacks.Push fault) = Stack fault
 
 -- why a reader has no call table
 abbrev pub IsNoTable : Option (List ℕ) → VerifyFault → Type 0

@@ -2,7 +2,7 @@
 
 ghost use Rattle.std.specs.Prelude.{◌≡◌, map};
 ghost use Rattle.scf_tool.specs.Commands.{ComesTo, Compares, ComparesParts, IsReportedByCall, IsReportedIn};
-ghost use Rattle.scf_tool.specs.Statuses.{LeavesInput, joint_status, verdict_status};
+ghost use Rattle.scf_tool.specs.Statuses.{LeavesWhole, joint_status, verdict_status};
 ghost use Rattle.scf_tool.specs.internal.Contents.{rest_of};
 
 use crate::call_reporting::{joint_verdict, report_calls_by};
@@ -118,7 +118,7 @@ pub(super) fn compare_bundle<R: Source>(
     input: &mut R,
 ) -> Result<Reply, Fault>
     ensures answer { Compares scopes relation limit (R.remaining input.old) result }
-    ensures left { LeavesInput R.remaining R.failures input.old result input.new }
+    ensures left { LeavesWhole R.remaining R.failures input.old result input.new }
 {
     let bytes = read_input(alloc, input, MAX_INPUT)?;
     let mut contents = Contents::of(alloc, &bytes)?;

@@ -6,7 +6,7 @@ ghost use Rattle.scf_machine.specs.Path.{IsPathOf};
 ghost use Rattle.scf_text.specs.Listing.{text_of};
 ghost use Rattle.scf_tool.specs.Commands.{Checks, Lists, Runs, Traces};
 ghost use Rattle.scf_tool.specs.Lines.{traced_text};
-ghost use Rattle.scf_tool.specs.Statuses.{LeavesInput};
+ghost use Rattle.scf_tool.specs.Statuses.{LeavesFilter};
 
 use crate::fault::Fault;
 use crate::filter::read_filter;
@@ -21,7 +21,7 @@ use std::alloc::Global;
 /// `check`: whether a filter is accepted.
 pub(super) fn check_filter<R: Source>(alloc: Global, input: &mut R) -> Result<Reply, Fault>
     ensures answer { Checks (R.remaining input.old) result }
-    ensures left { LeavesInput R.remaining R.failures input.old result input.new }
+    ensures left { LeavesFilter R.remaining R.failures input.old result input.new }
 {
     let program = read_filter(alloc, input)?;
     Ok(Reply::Accepted(program.len()))
@@ -34,7 +34,7 @@ pub(super) fn run_filter<R: Source>(
     input: &mut R,
 ) -> Result<Reply, Fault>
     ensures answer { Runs call.now (R.remaining input.old) result }
-    ensures left { LeavesInput R.remaining R.failures input.old result input.new }
+    ensures left { LeavesFilter R.remaining R.failures input.old result input.new }
 {
     let program = read_filter(alloc, input)?;
     Ok(Reply::Ran(run(&program, call)))
@@ -67,7 +67,7 @@ pub(super) fn trace_filter<R: Source>(
     input: &mut R,
 ) -> Result<Reply, Fault>
     ensures answer { Traces call.now (R.remaining input.old) result }
-    ensures left { LeavesInput R.remaining R.failures input.old result input.new }
+    ensures left { LeavesFilter R.remaining R.failures input.old result input.new }
 {
     let program = read_filter(alloc, input)?;
     match traced(alloc, &program, call) {
@@ -90,7 +90,7 @@ fn listing_of(alloc: Global, insns: &[Insn]) -> Result<Vec<u8>, Memory>
 /// `dis`: the listing of a filter, which isn't checked.
 pub(super) fn list_filter<R: Source>(alloc: Global, input: &mut R) -> Result<Reply, Fault>
     ensures answer { Lists (R.remaining input.old) result }
-    ensures left { LeavesInput R.remaining R.failures input.old result input.new }
+    ensures left { LeavesFilter R.remaining R.failures input.old result input.new }
 {
     let insns = read_program(alloc, input)?;
     match listing_of(alloc, &insns) {

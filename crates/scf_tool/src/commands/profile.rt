@@ -2,20 +2,21 @@
 
 ghost use Rattle.std.specs.Prelude.{IfOk, IfErr};
 ghost use Rattle.scf_tool.specs.Commands.{CantCompile, CantLoad, Compiles, GivesReason, IsFilterOf, IsStated};
-ghost use Rattle.scf_tool.specs.Statuses.{LeavesInput};
+ghost use Rattle.scf_tool.specs.Statuses.{LeavesWhole};
 
 use crate::commands::MAX_INPUT;
 use crate::contents::{Contents, only};
 use crate::fault::Fault;
 use crate::gathered::encoding_of;
 use crate::reply::Reply;
+use crate::verification::VerifyFault;
 use scf_compile::{CompileFault, compile};
 use scf_insn::{CallRecord, Source, read_input};
 use scf_profile::{CallTable, Loaded, load};
 use std::alloc::Global;
 
 /// What a profile and a table state.
-fn stated(alloc: Global, profile: &[u8], table: &[u8]) -> Result<Loaded, Fault>
+fn stated(alloc: Global, profile: &[u8], table: &[u8]) -> Result<Loaded, VerifyFault>
     ensures stated { IfOk result (IsStated profile.now table.now) }
     ensures fault { IfErr result (CantLoad profile.now table.now) }
 {
@@ -39,7 +40,7 @@ fn filter_bytes(alloc: Global, profile: &[u8], table: &[u8]) -> Result<Vec<u8>, 
 /// `compile`: the filter that answers as a profile does.
 pub(super) fn compile_profile<R: Source>(alloc: Global, input: &mut R) -> Result<Reply, Fault>
     ensures answer { Compiles (R.remaining input.old) result }
-    ensures left { LeavesInput R.remaining R.failures input.old result input.new }
+    ensures left { LeavesWhole R.remaining R.failures input.old result input.new }
 {
     let bytes = read_input(alloc, input, MAX_INPUT)?;
     let contents = Contents::of(alloc, &bytes)?;
@@ -58,7 +59,7 @@ pub(super) fn ask_profile<R: Source>(
     input: &mut R,
 ) -> Result<Reply, Fault>
     ensures answer { GivesReason call.now (R.remaining input.old) result }
-    ensures left { LeavesInput R.remaining R.failures input.old result input.new }
+    ensures left { LeavesWhole R.remaining R.failures input.old result input.new }
 {
     let bytes = read_input(alloc, input, MAX_INPUT)?;
     let contents = Contents::of(alloc, &bytes)?;

@@ -1,27 +1,30 @@
 //! Commands on a stack of filters.
 
-ghost use Rattle.std.specs.Prelude.{map, Some, IfOk, IfErr};
+ghost use Rattle.std.specs.Prelude.{◌≢◌, map, Some, IfOk, IfErr};
+ghost use Rattle.scf_insn.specs.declared.encoding.ReadFault.TheVariants as reads;
 ghost use Rattle.scf_tool.specs.Commands.{Decides};
-ghost use Rattle.scf_tool.specs.FilterStacks.{HasStack};
-ghost use Rattle.scf_tool.specs.Statuses.{LeavesInput};
+ghost use Rattle.scf_tool.specs.declared.verification.VerifyFault.TheVariants as verifies;
+ghost use Rattle.scf_tool.specs.FilterStacks.{HasNoStack, HasStack};
+ghost use Rattle.scf_tool.specs.Statuses.{LeavesWhole};
 ghost use Rattle.scf_tool.specs.internal.Contents.{rest_of};
-ghost use Rattle.scf_tool.specs.internal.Pushing.{IsNoStackOf};
 
 use crate::commands::MAX_INPUT;
 use crate::contents::{Contents, PartReader};
 use crate::fault::Fault;
 use crate::filter_stack::read_stack;
 use crate::reply::Reply;
+use crate::verification::VerifyFault;
 use scf_insn::{CallRecord, Source, read_input};
 use scf_machine::FilterStack;
 use std::alloc::Global;
 
 /// The stack of the filters of a bundle.
-fn stack_of(alloc: Global, filters: &mut [PartReader<'_>]) -> Result<FilterStack, Fault>
+fn stack_of(alloc: Global, filters: &mut [PartReader<'_>]) -> Result<FilterStack, VerifyFault>
     ensures stack { IfOk result (HasStack (map Some (map rest_of filters.old))) }
-    ensures fault { IfErr result (IsNoStackOf (map rest_of filters.old)) }
+    ensures fault { IfErr result (HasNoStack (map Some (map rest_of filters.old))) }
+    ensures read { IfErr result (λ fault. fault ≢ verifies.FilterRead reads.Read) }
 {
-    Ok(read_stack(alloc, filters)?)
+    read_stack(alloc, filters)
 }
 
 /// `decide`: what a stack of filters answers to a call.
@@ -31,7 +34,7 @@ pub(super) fn decide_stack<R: Source>(
     input: &mut R,
 ) -> Result<Reply, Fault>
     ensures answer { Decides call.now (R.remaining input.old) result }
-    ensures left { LeavesInput R.remaining R.failures input.old result input.new }
+    ensures left { LeavesWhole R.remaining R.failures input.old result input.new }
 {
     let bytes = read_input(alloc, input, MAX_INPUT)?;
     let mut contents = Contents::of(alloc, &bytes)?;

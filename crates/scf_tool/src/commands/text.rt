@@ -1,7 +1,7 @@
 //! Texts that spell a filter.
 
 ghost use Rattle.scf_tool.specs.Commands.{Assembles};
-ghost use Rattle.scf_tool.specs.Statuses.{LeavesInput};
+ghost use Rattle.scf_tool.specs.Statuses.{LeavesWhole};
 
 use crate::commands::MAX_INPUT;
 use crate::fault::Fault;
@@ -14,7 +14,7 @@ use std::alloc::Global;
 /// `asm`: the filter that a text spells, which isn't checked.
 pub(super) fn assemble_text<R: Source>(alloc: Global, input: &mut R) -> Result<Reply, Fault>
     ensures answer { Assembles (R.remaining input.old) result }
-    ensures left { LeavesInput R.remaining R.failures input.old result input.new }
+    ensures left { LeavesWhole R.remaining R.failures input.old result input.new }
 {
     let text = read_input(alloc, input, MAX_INPUT)?;
     let insns = assemble(alloc, &text)?;

@@ -1,11 +1,10 @@
 use Rattle.std.proofs.lemmas.Result.{err_from_is_err_and}
-use Rattle.scf_tool.proofs.LoadLemmas.{cant_compile}
 use Rattle.scf_tool.proofs.commands.profile.filter_bytes.Goals as goal
 
 pub returns-in_err-loaded-clause-fault : goal.returns-in_err-loaded-clause-fault
 returns-in_err-loaded-clause-fault c =
     let p = err_from_is_err_and c.from_residual.result c.from_residual.ensures.1 in
-    rw (p.1, p.2) (cant_compile c.args.profile.now c.args.table.now _ c.in_err-loaded.ensures.fault)
+    rw (p.1, p.2) c.in_err-loaded.ensures.fault
 
 pub returns-in_err-program-clause-fault : goal.returns-in_err-program-clause-fault
 returns-in_err-program-clause-fault c =
