@@ -1,12 +1,15 @@
 -- Parts of intervals that are in order and apart are so again.
-use Rattle.std.proofs.Common.{◌≡◌, ℕ, zero, suc, ◌+◌, ◌-◌, ◌<◌, ◌≤◌, List, [], ◌∷◌, ◌++◌, inl, inr, ◌^◌, length, get_or}
-use Rattle.std.proofs.Common.{refl, sym, subst, ◌∙◌, arith}
+use Rattle.std.proofs.Common.{◌≡◌, ℕ, zero, suc, ◌+◌, ◌-◌, ◌<◌, ◌≤◌, List, [], ◌∷◌, ◌++◌, inl, inr, length, get_or}
+use Rattle.std.proofs.Common.{refl, sym, ap, subst, arith}
 use Rattle.std.specs.Prelude.{Option, Some, None, Bool, true, false, nat_le, nat_lt, min, max, slice_get, if◌then◌else◌}
+use Rattle.std.specs.Prelude.{IfSome, IfNone}
 use Rattle.std.specs.List.{filter_map, cons_option, AllByRecursion}
+use Rattle.std.specs.List.{AllWithin}
 use Rattle.std.proofs.lemmas.Bool.{cases_lt, leb-true, ltb-true}
-use Rattle.std.proofs.lemmas.Option.{slice_get-get_or}
+use Rattle.std.proofs.lemmas.List.Elements.{All-from_recursion}
+use Rattle.std.proofs.lemmas.Option.{slice_get-get_or, slice_get_within, get_or_from_slice_get}
 use Rattle.scf_facts.specs.declared.interval.Interval.{Interval}
-use Rattle.scf_facts.specs.internal.Intervals.{LiesIn, LiesInOne, AreApart, part_within, part_below, part_above}
+use Rattle.scf_facts.specs.internal.Intervals.{LiesInOne, AreApart, part_within, part_below, part_above}
 
 -- a part lies in its interval and is filled
 abbrev IsPart : Interval → Option Interval → Type 0
@@ -121,52 +124,74 @@ apart_outside range is filled a =
     (below_inside range.low) (λ j. j.high ≤ range.high) (below_bound range.low range.high filled) is)
     (all_parts (part_above range.high) (above_inside range.high) (λ j. range.high < j.low) (above_bound range.high) is)
 
--- no interval begins before an earlier one
-above_at : (b : ℕ) (is : List Interval) (k : ℕ) (i : Interval)
-    → AllByRecursion (λ j. b < j.low) is → slice_get is k ≡ Some i → b < i.low
-above_at b [] k i h e = cc
-above_at b (j ∷ is) zero i h e = let same : j ≡ i = cc in subst (λ o. b < o.low) same h.0
-above_at b (j ∷ is) (suc k) i h e = above_at b is k i h.1 e
+pub apart_left : (is js : List Interval) → AreApart (is ++ js) → AreApart is
+apart_left [] js a = tt
+apart_left (i ∷ is) js a = (a.0, all_left i.high is js a.1, apart_left is js a.2)
+  where
+    all_left : (b : ℕ) (is js : List Interval)
+        → AllByRecursion (λ i. b < i.low) (is ++ js) → AllByRecursion (λ i. b < i.low) is
+    all_left b [] js h = tt
+    all_left b (i ∷ is) js h = (h.0, all_left b is js h.1)
 
-pub in_order : (is : List Interval) (k l : ℕ) (i j : Interval)
-    → AreApart is → slice_get is k ≡ Some i → slice_get is l ≡ Some j → k ≤ l → i.low ≤ j.low
-in_order [] k l i j a p q le = cc
-in_order (x ∷ is) zero zero i j a p q le = let same : i ≡ j = cc in subst (λ o. i.low ≤ o.low) same (omega arith)
-in_order (x ∷ is) zero (suc l) i j a p q le =
-    let same : x ≡ i = cc in
-    let above = above_at x.high is l j a.1 q in
-    subst (λ o. o.low ≤ j.low) same (omega (arith, above, a.0))
-in_order (x ∷ is) (suc k) zero i j a p q le = absurd (omega arith)
-in_order (x ∷ is) (suc k) (suc l) i j a p q le = in_order is k l i j a.2 p q (omega arith)
+pub apart_right : (is js : List Interval) → AreApart (is ++ js) → AreApart js
+apart_right [] js a = a
+apart_right (i ∷ is) js a = apart_right is js a.2
 
--- ---- a walk over intervals in order
+pub filled : (is : List Interval) (k : ℕ) (d : Interval)
+    → AreApart is → k < length is → (get_or is k d).low ≤ (get_or is k d).high
+filled [] k d a lt = absurd (omega arith)
+filled (i ∷ is) zero d a lt = a.0
+filled (i ∷ is) (suc k) d a lt = filled is k d a.2 (omega arith)
 
-module _ (is : List Interval) (k : ℕ) (d : Interval) (lt : k < length is) where
-  pub interval_at : slice_get is k ≡ Some (get_or is k d)
-  interval_at = slice_get-get_or is k d lt
+-- no interval begins or ends before an earlier one
+pub rising : (is : List Interval) → AreApart is → (k l : ℕ) (d : Interval) → k ≤ l → l < length is
+    → ((get_or is k d).low ≤ (get_or is l d).low) × ((get_or is k d).high ≤ (get_or is l d).high)
+rising [] a k l d le lt = absurd (omega arith)
+rising (i ∷ is) a zero zero d le lt = (omega arith, omega arith)
+rising (i ∷ is) a zero (suc l) d le lt =
+    let above = All-from_recursion (λ j. i.high < j.low) is a.1 l d (omega arith) in
+    let some = filled is l d a.2 (omega arith) in
+    (omega (arith, a.0, above), omega (arith, above, some))
+rising (i ∷ is) a (suc k) zero d le lt = absurd (omega arith)
+rising (i ∷ is) a (suc k) (suc l) d le lt = rising is a.2 k l d (omega arith) (omega arith)
 
-  pub more_intervals : (Q : Interval → Type 0)
-      → ((place : ℕ) (i : Interval) → place < k → slice_get is place ≡ Some i → Q i)
-      → Q (get_or is k d) → (place : ℕ) (i : Interval) → place < k + 1 → slice_get is place ≡ Some i → Q i
-  more_intervals Q before here place i more e = elim (cases_lt place k) [
-    | inl earlier ↦ before place i earlier e
-    | inr from ↦
-        let same : place ≡ k = omega arith in
-        let this = subst (λ j. slice_get is j ≡ Some i) same e in
-        subst Q (one_interval (get_or is k d) i (sym interval_at ∙ this)) here
-  ]
+-- ---- the first interval that reaches up to a number
+
+module _ (is : List Interval) (k x : ℕ) (apart : AreApart is) (below : AllWithin (λ i. i.high < x) is 0 k) where
+  first_begins : (i : Interval) → slice_get is k ≡ Some i → (y : ℕ) → x ≤ y → LiesInOne is y → i.low ≤ y
+  first_begins i e y le (place, j, at, inside) =
+      let this = get_or_from_slice_get is k i j e in
+      let that = get_or_from_slice_get is place j j at in
+      elim (cases_lt place k) [
+        | inl before ↦
+            let ends = subst (λ o. o.high < x) that (below place j (omega arith) before) in
+            absurd (omega (arith, ends, inside.1))
+        | inr from ↦
+            let order = (rising is apart k place j from (slice_get_within is place j at)).0 in
+            omega (arith, order, inside.0, ap (λ (o : Interval). o.low) this, ap (λ (o : Interval). o.low) that)
+      ]
+
+  none_reaches : slice_get is k ≡ None → (y : ℕ) → x ≤ y → LiesInOne is y → ⊥
+  none_reaches none y le (place, j, at, inside) =
+      let that = get_or_from_slice_get is place j j at in
+      elim (cases_lt place k) [
+        | inl before ↦
+            let ends = subst (λ o. o.high < x) that (below place j (omega arith) before) in
+            absurd (omega (arith, ends, inside.1))
+        | inr from ↦
+            let within = slice_get_within is place j at in
+            nothing _ (none) (slice_get-get_or is k j (omega arith))
+      ]
     where
-      one_interval : (a b : Interval) → Some a ≡ Some b → a ≡ b
-      one_interval a b h = cc
+      nothing : (i : Interval) → slice_get is k ≡ None → slice_get is k ≡ Some i → ⊥
+      nothing i a b = cc
 
-  -- where an interval begins past a range, no later one has a number of the range
-  pub none_from : AreApart is → (range : Interval) (P : ℕ → Type 0)
-      → range.high < (get_or is k d).low → ((place : ℕ) (i : Interval)
-      → place < k → slice_get is place ≡ Some i → (x : ℕ) → x < 2 ^ 32 → LiesIn i x → LiesIn range x → P x → ⊥)
-      → (x : ℕ) → x < 2 ^ 32 → LiesInOne is x → LiesIn range x → P x → ⊥
-  none_from apart range P past before x fits inside r p = elim (cases_lt inside.0 k) [
-    | inl earlier ↦ before inside.0 inside.1 earlier inside.2 x fits inside.3 r p
-    | inr from ↦
-        let order = in_order is k inside.0 (get_or is k d) inside.1 apart interval_at inside.2 from in
-        absurd (omega (arith, order, past, inside.3.0, r.1))
-  ]
+  pub reached : (found : Option Interval) → found ≡ slice_get is k
+      → IfSome found (λ i. (y : ℕ) → x ≤ y → LiesInOne is y → i.low ≤ y)
+  reached None e = tt
+  reached (Some i) e = first_begins i (sym e)
+
+  pub unreached : (found : Option Interval) → found ≡ slice_get is k
+      → IfNone found ((y : ℕ) → x ≤ y → LiesInOne is y → ⊥)
+  unreached None e = none_reaches (sym e)
+  unreached (Some i) e = tt

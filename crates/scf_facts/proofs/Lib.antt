@@ -7,5 +7,6 @@ pub mod LeastNumber
 pub mod MaskLaws
 pub mod OpenBits
 pub mod SetLaws
+pub mod SplitLaws
 pub mod StoreLaws
 pub mod TrailLaws

@@ -1,7 +1,7 @@
 //! Intervals of numbers, one alone.
 
-ghost use Rattle.std.specs.Prelude.{◌≡◌, ◌↔◌, IsTrue};
-ghost use Rattle.scf_facts.specs.internal.Intervals.{LiesIn, part_within, part_below, part_above};
+ghost use Rattle.std.specs.Prelude.{◌≡◌};
+ghost use Rattle.scf_facts.specs.internal.Intervals.{part_within, part_below, part_above};
 
 /// The numbers from one to another, both included.
 #[derive(Clone, Copy)]
@@ -22,13 +22,6 @@ impl Interval {
         ensures { result ≡ record { low = x; high = x } }
     {
         Interval { low: x, high: x }
-    }
-
-    /// Whether a number lies in it.
-    pub(crate) fn contains(self, x: u32) -> bool
-        ensures { IsTrue result ↔ LiesIn self x }
-    {
-        self.low <= x && x <= self.high
     }
 
     /// Its part within a range.

@@ -1,8 +1,8 @@
 //! Numbers, as intervals in order and apart.
 
-ghost use Rattle.std.specs.Prelude.{◌≡◌, ◌≤◌, ◌++◌, ◌↔◌, [], IsTrue, IfOk};
-ghost use Rattle.std.specs.List.{filter_map};
-ghost use Rattle.scf_facts.specs.internal.Intervals.{LiesInOne, AreApart};
+ghost use Rattle.std.specs.Prelude.{◌≡◌, ◌<◌, ◌≤◌, ◌++◌, ◌↔◌, ℕ, [], All, length, IsTrue, IfSome, IfNone, IfOk};
+ghost use Rattle.std.specs.List.{filter_map, AllWithin};
+ghost use Rattle.scf_facts.specs.internal.Intervals.{LiesIn, LiesInOne, AreApart};
 ghost use Rattle.scf_facts.specs.internal.Intervals.{all_intervals, part_within, part_below, part_above};
 
 use crate::interval::Interval;
@@ -89,9 +89,21 @@ fn parts_within(
     intervals: &[Interval],
     range: Interval,
 ) -> Result<Vec<Interval>, AllocError>
+    requires { AreApart intervals.now }
     ensures { IfOk result (λ parts. parts.items ≡ filter_map (part_within range) intervals.now) }
 {
-    intervals
+    parts_of_touched_within(alloc, split_by(intervals, range).touched, range)
+}
+
+/// The parts of intervals within a range, looked for in each.
+fn parts_of_touched_within(
+    alloc: Global,
+    touched: &[Interval],
+    range: Interval,
+) -> Result<Vec<Interval>, AllocError>
+    ensures { IfOk result (λ parts. parts.items ≡ filter_map (part_within range) touched.now) }
+{
+    touched
         .iter()
         .filter_map(|interval| interval.part_within(range))
         .collect(alloc)
@@ -103,26 +115,102 @@ fn parts_outside(
     intervals: &[Interval],
     range: Interval,
 ) -> Result<Vec<Interval>, AllocError>
+    requires apart { AreApart intervals.now }
+    requires filled { range.low ≤ range.high }
     ensures { IfOk result (λ parts. parts.items
         ≡ filter_map (part_below range.low) intervals.now ++ filter_map (part_above range.high) intervals.now) }
 {
-    let below = intervals
+    let split = split_by(intervals, range);
+    let cut = parts_of_touched_outside(alloc, split.touched, range)?;
+    let mut parts = Vec::with_capacity(alloc, intervals.len() + 1)?;
+    parts.extend_from_slice(split.below)?;
+    parts.extend_from_slice(&cut)?;
+    parts.extend_from_slice(split.above)?;
+    Ok(parts)
+}
+
+/// The parts of intervals outside a range, looked for in each.
+fn parts_of_touched_outside(
+    alloc: Global,
+    touched: &[Interval],
+    range: Interval,
+) -> Result<Vec<Interval>, AllocError>
+    ensures { IfOk result (λ parts. parts.items
+        ≡ filter_map (part_below range.low) touched.now ++ filter_map (part_above range.high) touched.now) }
+{
+    let below = touched
         .iter()
         .filter_map(|interval| interval.part_below(range.low));
-    let above = intervals
+    let above = touched
         .iter()
         .filter_map(|interval| interval.part_above(range.high));
     below.chain(above).collect(alloc)
 }
 
-/// Whether a number lies in one of the intervals.
+/// Sorted intervals by how they stand to a range.
+#[derive(Clone, Copy)]
+struct Split<'a> {
+    /// Those that end below it.
+    below: &'a [Interval],
+    /// Those between.
+    touched: &'a [Interval],
+    /// Those that begin above it.
+    above: &'a [Interval],
+}
+
+/// Splits sorted intervals by a range.
+fn split_by(intervals: &[Interval], range: Interval) -> Split<'_>
+    requires { AreApart intervals.now }
+    ensures whole { intervals.now ≡ result.below.now ++ (result.touched.now ++ result.above.now) }
+    ensures below { All (λ interval. interval.high < range.low) result.below.now }
+    ensures above { All (λ interval. range.high < interval.low) result.above.now }
+{
+    let (below, rest) = intervals.split_at(count_ending_below(intervals, range.low));
+    let (touched, above) = rest.split_at(count_beginning_within(rest, range.high));
+    Split {
+        below,
+        touched,
+        above,
+    }
+}
+
+/// How many of sorted intervals end below a number.
+fn count_ending_below(intervals: &[Interval], x: u32) -> usize
+    requires { AreApart intervals.now }
+    ensures bound { result ≤ length intervals.now }
+    ensures below { AllWithin (λ interval. interval.high < x) intervals.now 0 result }
+    ensures rest { AllWithin (λ interval. x ≤ interval.high) intervals.now result (length intervals.now) }
+{
+    intervals.partition_point(|interval| interval.high < x)
+}
+
+/// How many of sorted intervals begin at a number or below it.
+fn count_beginning_within(intervals: &[Interval], x: u32) -> usize
+    requires { AreApart intervals.now }
+    ensures bound { result ≤ length intervals.now }
+    ensures above { AllWithin (λ interval. x < interval.low) intervals.now result (length intervals.now) }
+{
+    intervals.partition_point(|interval| interval.low <= x)
+}
+
+/// The first of sorted intervals that reaches up to a number.
+pub(crate) fn first_reaching(intervals: &[Interval], x: u32) -> Option<Interval>
+    requires { AreApart intervals.now }
+    ensures reaches { IfSome result (λ interval. x ≤ interval.high) }
+    ensures one { IfSome result (λ interval. (y : ℕ) → LiesIn interval y → LiesInOne intervals.now y) }
+    ensures first { IfSome result (λ interval. (y : ℕ) → x ≤ y → LiesInOne intervals.now y → interval.low ≤ y) }
+    ensures none { IfNone result ((y : ℕ) → x ≤ y → LiesInOne intervals.now y → ⊥) }
+{
+    intervals.get(count_ending_below(intervals, x)).copied()
+}
+
+/// Whether a number lies in one of sorted intervals.
 pub(crate) fn lies_in_one(intervals: &[Interval], x: u32) -> bool
+    requires { AreApart intervals.now }
     ensures { IsTrue result ↔ LiesInOne intervals.now x }
 {
-    for interval in intervals {
-        if interval.contains(x) {
-            return true;
-        }
+    match first_reaching(intervals, x) {
+        Some(interval) => interval.low <= x,
+        None => false,
     }
-    false
 }

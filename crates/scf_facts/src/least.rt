@@ -7,6 +7,7 @@ ghost use Rattle.scf_facts.specs.internal.Intervals.{LiesIn, LiesInOne, AreApart
 
 use crate::bits::Bits;
 use crate::interval::Interval;
+use crate::intervals::first_reaching;
 
 /// The place of the highest bit that is set.
 fn highest_bit(n: u32) -> Option<u32>
@@ -47,35 +48,25 @@ fn least_from(low: u32, bits: Bits) -> Option<u32>
 }
 
 /// The first number of sorted intervals that lies in a range and has the bits.
+///
+/// The least number from a bound on that has the bits may lie before the first interval that reaches up to it: then
+/// that interval's low end is the next bound.
 pub(crate) fn first_number(intervals: &[Interval], range: Interval, bits: Bits) -> Option<u32>
     requires { AreApart intervals.now }
     ensures found { IfSome result (λ x. LiesInOne intervals.now x × LiesIn range x × HasBits bits x) }
     ensures none { IfNone result ((x : ℕ) → x < 2 ^ 32
         → LiesInOne intervals.now x → LiesIn range x → HasBits bits x → ⊥) }
 {
-    for interval in intervals {
-        if interval.low > range.high {
+    let mut bound = range.low;
+    while let Some(x) = least_from(bound, bits) {
+        if x > range.high {
             return None;
         }
-        if let Some(x) = first_of(*interval, range, bits) {
+        let interval = first_reaching(intervals, x)?;
+        if interval.low <= x {
             return Some(x);
         }
+        bound = interval.low;
     }
     None
-}
-
-/// The least number of an interval that lies in a range and has the bits.
-fn first_of(interval: Interval, range: Interval, bits: Bits) -> Option<u32>
-    ensures found { IfSome result (λ x. LiesIn interval x × LiesIn range x × HasBits bits x) }
-    ensures none { IfNone result ((x : ℕ) → x < 2 ^ 32 → LiesIn interval x → LiesIn range x → HasBits bits x → ⊥) }
-{
-    let low = interval.low.max(range.low);
-    let high = interval.high.min(range.high);
-    if low > high {
-        return None;
-    }
-    match least_from(low, bits) {
-        Some(x) if x <= high => Some(x),
-        _ => None,
-    }
 }

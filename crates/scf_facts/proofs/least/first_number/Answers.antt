@@ -1,40 +1,30 @@
-use Rattle.std.proofs.Common.{◌<◌, ◌^◌, ℕ, arith}
-use Rattle.std.proofs.lemmas.Option.{slice_get_within}
-use Rattle.scf_facts.specs.internal.Bits.{HasBits}
-use Rattle.scf_facts.specs.internal.Intervals.{LiesIn}
-use Rattle.scf_facts.proofs.ApartLaws.{interval_at, more_intervals, none_from}
+use Rattle.std.proofs.Common.{ℕ, arith, inl, inr}
+use Rattle.std.specs.Prelude.{Option, Some, None, IfNone}
+use Rattle.std.proofs.lemmas.Bool.{cases_lt}
 use Rattle.scf_facts.proofs.least.first_number.Goals as goal
 
-pub returns-then-interval-range-clause-none : goal.returns-then-interval-range-clause-none
-returns-then-interval-range-clause-none c =
-    none_from c.args.intervals.now c.loop-interval.interval-index
-    (record { low = 0; high = 0 }) c.loop-interval-test.true c.requires c.args.range
-    (HasBits c.args.bits) c.if-interval-range.true c.loop-interval.invariant
+if_none : (result : Option ℕ) (P : Type 0) → P → IfNone result P
+if_none None P p = p
+if_none (Some x) P p = tt
 
-pub returns-in-Some-clause-found : goal.returns-in-Some-clause-found
-returns-in-Some-clause-found c =
-    let found = c.in-Some.ensures.found in (
-      (
-        c.loop-interval.interval-index,
-        _,
-        interval_at c.args.intervals.now c.loop-interval.interval-index
-            (record { low = 0; high = 0 }) c.loop-interval-test.true,
-        found.0,
-      ),
-      found.1,
-      found.2,
-    )
+pub returns-in_err-interval-clause-none : goal.returns-in_err-interval-clause-none
+returns-in_err-interval-clause-none c = if_none c.from_residual.result _ (λ y fits inside within has.
+    elim (cases_lt y c.loop-x.bound) [
+      | inl before ↦ c.loop-x.invariant.none y within.0 before inside has
+      | inr from ↦ elim (cases_lt y c.in-Some.x) [
+        | inl below ↦ c.in-Some.ensures.least y from below has
+        | inr reached ↦ c.in_err-interval.ensures.none y reached inside
+      ]
+    ])
 
-pub loop-interval-preserved : goal.loop-interval-preserved
-loop-interval-preserved c =
-    more_intervals c.args.intervals.now c.loop-interval.interval-index
-    (record { low = 0; high = 0 }) c.loop-interval-test.true
-    (λ interval. (x : ℕ) → x < 2 ^ 32 → LiesIn interval x → LiesIn c.args.range x → HasBits c.args.bits x → ⊥)
-    c.loop-interval.invariant c.in_default.ensures.none
-
-pub returns-clause-none : goal.returns-clause-none
-returns-clause-none c =
-    λ x fits inside.
-    let within = slice_get_within c.args.intervals.now inside.0 inside.1 inside.2 in
-    c.loop-interval.invariant inside.0 inside.1
-    (omega (arith, within, c.loop-interval-test.false)) inside.2 x fits inside.3
+pub loop-x-preserved : goal.loop-x-preserved
+loop-x-preserved c = record {
+  from = omega (arith, c.loop-x.invariant.from, c.in-Some.ensures.found.0, c.if-interval-x.false);
+  none = λ y low lt inside has. elim (cases_lt y c.loop-x.bound) [
+    | inl before ↦ c.loop-x.invariant.none y low before inside has
+    | inr from ↦ elim (cases_lt y c.in-Some.x) [
+      | inl below ↦ c.in-Some.ensures.least y from below has
+      | inr reached ↦ absurd (omega (arith, c.in_ok-interval.ensures.first y reached inside, lt))
+    ]
+  ];
+}

@@ -1,12 +1,14 @@
-use Rattle.std.proofs.Common.{◌≡◌, ◌<◌, ◌^◌, ℕ}
-use Rattle.std.specs.Prelude.{slice_get, Some}
-use Rattle.scf_facts.specs.declared.interval.Interval.{Interval}
+use Rattle.std.proofs.Common.{◌<◌, ◌≤◌, ◌-◌, ◌^◌, ℕ}
 use Rattle.scf_facts.specs.internal.Bits.{HasBits}
-use Rattle.scf_facts.specs.internal.Intervals.{LiesIn}
+use Rattle.scf_facts.specs.internal.Intervals.{LiesInOne}
 use Rattle.scf_facts.proofs.least.first_number.Given as goal
 
--- no interval so far has such a number
-abbrev pub invariant-loop-interval : goal.invariant-loop-interval
-invariant-loop-interval l =
-    (place : ℕ) (interval : Interval) → place < l.interval-index → slice_get l.intervals place ≡ Some interval
-    → (x : ℕ) → x < 2 ^ 32 → LiesIn interval x → LiesIn l.range x → HasBits l.bits x → ⊥
+-- no interval has such a number below the bound
+abbrev pub invariant-loop-x : goal.invariant-loop-x
+invariant-loop-x l = record {
+  from : l.range.low ≤ l.bound;
+  none : (y : ℕ) → l.range.low ≤ y → y < l.bound → LiesInOne l.intervals y → HasBits l.bits y → ⊥;
+}
+
+abbrev pub decreases-loop-x : goal.decreases-loop-x
+decreases-loop-x l = 2 ^ 32 - l.bound
