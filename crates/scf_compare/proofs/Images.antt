@@ -260,7 +260,7 @@ no_bit x m c none =
     ap (λ n. bit_xor (bit_and x n) c) none ∙ ap (λ n. bit_xor n c) (and_zero_r x) ∙ xor_zero_l c
 
 -- an image shifted to the left
-xor_scaled : (a b k : ℕ) → bit_xor a b * 2 ^ k ≡ bit_xor (a * 2 ^ k) (b * 2 ^ k)
+pub xor_scaled : (a b k : ℕ) → bit_xor a b * 2 ^ k ≡ bit_xor (a * 2 ^ k) (b * 2 ^ k)
 xor_scaled a b k =
     let plus : (n : ℕ) → n + 0 ≡ n = λ n. omega arith in
     sym (plus _) ∙ sym (xor_block k a b 0 0 (pow_pos k) (pow_pos k))

@@ -6,6 +6,7 @@ pub mod Flows
 pub mod Halves
 pub mod Headline
 pub mod Images
+pub mod Joins
 pub mod Offsets
 pub mod Orders
 pub mod PlainFlows

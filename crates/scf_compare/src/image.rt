@@ -5,11 +5,13 @@ ghost use Rattle.std.specs.Prelude.{bit_and, bit_or, bit_xor, nat_lt, nat_le};
 ghost use Rattle.scf_facts.specs.Atoms.{steps_from};
 ghost use Rattle.scf_insn.specs.SimpleMask.{IsSimpleMask};
 ghost use Rattle.scf_insn.specs.Words.{IsWords};
-ghost use Rattle.scf_compare.specs.internal.Images.{IsImage, IsWhole, image_number};
+ghost use Rattle.scf_compare.specs.internal.Images.{IsImage, IsWhole, AreShiftedAlike, image_number};
+ghost use Rattle.scf_machine.specs.Machine.{value_computed};
 ghost use Rattle.scf_compare.specs.internal.Values.{IsValue, StandsFor, IsDecision, Decides, IsPlainDecision};
 
 use crate::value::{Decision, Value};
 use scf_facts::{Atom, is_high_mask};
+use scf_insn::Arithmetic;
 
 /// A word of the record, shifted to the right and then to the left, AND a mask, XOR a number.
 #[derive(Clone, Copy)]
@@ -90,6 +92,52 @@ impl Image {
         Image {
             flipped: self.flipped ^ v,
             ..self
+        }
+    }
+
+    /// Whether another image is of the same word, shifted alike.
+    pub(crate) fn is_shifted_as(self, other: Image) -> bool
+        ensures { IsTrue result → AreShiftedAlike self other }
+    {
+        self.word == other.word && self.right == other.right && self.left == other.left
+    }
+
+    /// It AND, OR or XOR another image that is shifted alike: what comes of a bit of their word that is 0, and of one
+    /// that is 1, tells all.
+    pub(crate) fn joined(self, arithmetic: Arithmetic, other: Image) -> Value
+        requires first { IsImage self }
+        requires second { IsImage other }
+        requires alike { AreShiftedAlike self other }
+        ensures value { IsValue result }
+        ensures stands { (words : List ℕ)
+            → StandsFor result words
+            (value_computed arithmetic (image_number self words) (image_number other words)) }
+    {
+        match arithmetic {
+            Arithmetic::And => {
+                let zeros = self.flipped & other.flipped;
+                let ones = (self.mask ^ self.flipped) & (other.mask ^ other.flipped);
+                Value::OfWord(Image {
+                    mask: zeros ^ ones,
+                    flipped: zeros,
+                    ..self
+                })
+            }
+            Arithmetic::Or => {
+                let zeros = self.flipped | other.flipped;
+                let ones = (self.mask ^ self.flipped) | (other.mask ^ other.flipped);
+                Value::OfWord(Image {
+                    mask: zeros ^ ones,
+                    flipped: zeros,
+                    ..self
+                })
+            }
+            Arithmetic::Xor => Value::OfWord(Image {
+                mask: self.mask ^ other.mask,
+                flipped: self.flipped ^ other.flipped,
+                ..self
+            }),
+            _ => Value::Unknown,
         }
     }
 

@@ -24,6 +24,7 @@ mod tree_sizes;
 mod turn;
 mod value;
 mod verdict;
+mod zeros;
 
 pub use comparer::{compare, compare_by, compare_stack};
 pub use laws::{no_more_and_no_less_is_one_fate, same_is_no_more_and_no_less};

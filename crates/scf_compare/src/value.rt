@@ -1,6 +1,6 @@
 //! What is known of a register or a scratch word on a way through a filter.
 
-ghost use Rattle.std.specs.Prelude.{◌≡◌, ◌==◌, ℕ, ◌+◌, ◌-◌, ◌%◌, ◌^◌, ◌<◌, List, Bool, not, IfSome, IsTrue};
+ghost use Rattle.std.specs.Prelude.{◌≡◌, ◌==◌, ℕ, ◌+◌, ◌-◌, ◌%◌, ◌^◌, ◌<◌, List, Bool, not, IfSome, IsTrue, bit_or};
 ghost use Rattle.scf_insn.specs.SimpleMask.{IsSimpleMask};
 ghost use Rattle.scf_insn.specs.Words.{IsWords};
 ghost use Rattle.scf_machine.specs.Machine.{holds, value_computed};
@@ -11,6 +11,7 @@ ghost use Rattle.scf_compare.specs.internal.Values.{IsPlainDecision};
 
 use crate::image::Image;
 use crate::offset::Offset;
+use crate::zeros::Zeros;
 use scf_facts::Atom;
 use scf_insn::{Answer, Arithmetic, Test};
 use scf_machine::{compute, holds_of};
@@ -23,6 +24,8 @@ pub(crate) enum Value {
     OfWord(Image),
     /// What is computed from a word of the record bit by bit, and a number added to it or it taken from the number.
     Offset(Offset),
+    /// What is known to be 0 where a word of the record is a value under a mask, and nowhere else.
+    ZeroWhere(Zeros),
     Unknown,
 }
 
@@ -65,7 +68,58 @@ impl Value {
                 Arithmetic::Sub => other.taken_from(a),
                 _ => Value::Unknown,
             },
+            _ => self.joined(arithmetic, other),
+        }
+    }
+
+    /// What is known of the result of a computation with another value, where neither is known.
+    fn joined(self, arithmetic: Arithmetic, other: Value) -> Value
+        requires first { IsValue self }
+        requires second { IsValue other }
+        ensures value { IsValue result }
+        ensures stands { (words : List ℕ) (a b : ℕ) → StandsFor self words a
+            → StandsFor other words b
+            → StandsFor result words (value_computed arithmetic a b) }
+    {
+        match (self, other) {
+            (Value::OfWord(first), Value::OfWord(second)) => {
+                images_result(arithmetic, first, second)
+            }
+            _ => match arithmetic {
+                Arithmetic::Or => self.either(other),
+                _ => Value::Unknown,
+            },
+        }
+    }
+
+    /// What is known of it OR another value: of two of one word, where it is 0.
+    fn either(self, other: Value) -> Value
+        requires first { IsValue self }
+        requires second { IsValue other }
+        ensures value { IsValue result }
+        ensures stands { (words : List ℕ) (a b : ℕ) → StandsFor self words a
+            → StandsFor other words b
+            → StandsFor result words (bit_or a b) }
+    {
+        match (self.zeros(), other.zeros()) {
+            (Value::ZeroWhere(first), Value::ZeroWhere(second)) if first.word == second.word => {
+                Value::ZeroWhere(first.and(second))
+            }
             _ => Value::Unknown,
+        }
+    }
+
+    /// Where it is 0, of all that is known of it.
+    fn zeros(self) -> Value
+        requires { IsValue self }
+        ensures value { IsValue result }
+        ensures stands { (words : List ℕ) (a : ℕ) → StandsFor self words a → StandsFor result words a }
+    {
+        match self {
+            Value::OfWord(image) => Zeros::by_test(image.word, image.is(0)),
+            Value::Offset(offset) => Zeros::by_test(offset.image.word, offset.is(0)),
+            Value::ZeroWhere(zeros) => Value::ZeroWhere(zeros),
+            Value::Known(_) | Value::Unknown => Value::Unknown,
         }
     }
 
@@ -80,7 +134,7 @@ impl Value {
             Value::Known(a) => known_result(arithmetic, a, v),
             Value::OfWord(image) => image_result(arithmetic, image, v),
             Value::Offset(offset) => offset_result(arithmetic, offset, v),
-            Value::Unknown => Value::Unknown,
+            Value::ZeroWhere(_) | Value::Unknown => Value::Unknown,
         }
     }
 
@@ -95,7 +149,7 @@ impl Value {
             Value::Known(a) => Value::Known(v.wrapping_sub(a)),
             Value::OfWord(image) => Offset::of(image).taken_from(v).value(),
             Value::Offset(offset) => offset.taken_from(v).value(),
-            Value::Unknown => Value::Unknown,
+            Value::ZeroWhere(_) | Value::Unknown => Value::Unknown,
         }
     }
 
@@ -154,6 +208,7 @@ impl Value {
             Value::Known(a) => Decision::Known(holds_of(test, a, v)),
             Value::OfWord(image) => decide_image(image, test, v),
             Value::Offset(offset) => decide_offset(offset, test, v),
+            Value::ZeroWhere(zeros) => zeros.decide(test, v),
             Value::Unknown => Decision::Open,
         }
     }
@@ -246,6 +301,24 @@ fn image_result(arithmetic: Arithmetic, image: Image, v: u32) -> Value
             Some(count) => image.shifted_right(count),
             None => Value::Unknown,
         },
+        _ => Value::Unknown,
+    }
+}
+
+/// A computation on images of words.
+fn images_result(arithmetic: Arithmetic, first: Image, second: Image) -> Value
+    requires first { IsImage first }
+    requires second { IsImage second }
+    ensures value { IsValue result }
+    ensures stands { (words : List ℕ)
+        → StandsFor result words
+        (value_computed arithmetic (image_number first words) (image_number second words)) }
+{
+    if first.is_shifted_as(second) {
+        return first.joined(arithmetic, second);
+    }
+    match arithmetic {
+        Arithmetic::Or => Value::OfWord(first).either(Value::OfWord(second)),
         _ => Value::Unknown,
     }
 }

@@ -23,3 +23,9 @@ pub record IsWhole (image : Image) : Type 0 where
   pub left : image.left ≡ 0
   pub mask : image.mask ≡ 2 ^ 32 - 1
   pub flipped : image.flipped ≡ 0
+
+-- Two images of one word, shifted alike.
+pub record AreShiftedAlike (image other : Image) : Type 0 where
+  pub word : image.word ≡ other.word
+  pub right : image.right ≡ other.right
+  pub left : image.left ≡ other.left

@@ -1,12 +1,13 @@
 -- What is known of the numbers that a filter computes from the words of a record.
-use Rattle.std.specs.Prelude.{◌≡◌, ◌<◌, ◌↔◌, ℕ, List, Bool, true, Some, All, slice_index_or}
+use Rattle.std.specs.Prelude.{◌≡◌, ◌<◌, ◌↔◌, ◌^◌, ℕ, List, Bool, true, Some, All, bit_and, slice_index, slice_index_or}
 use Rattle.scf_facts.specs.Atoms.{atom_answer, word_of}
 use Rattle.scf_machine.specs.Machine.{State, word_at}
 use Rattle.scf_compare.specs.declared.value.Value.{Value}
-use Rattle.scf_compare.specs.declared.value.Value.TheVariants.{Known, OfWord, Offset, Unknown}
+use Rattle.scf_compare.specs.declared.value.Value.TheVariants.{Known, OfWord, Offset, ZeroWhere, Unknown}
 use Rattle.scf_compare.specs.declared.value.Decision.{Decision}
 use Rattle.scf_compare.specs.declared.value.Decision.TheVariants.{Known as Decided, Asks, Open}
 use Rattle.scf_compare.specs.declared.registers.Registers.{Registers}
+use Rattle.scf_compare.specs.declared.zeros.Zeros.{Zeros}
 use Rattle.scf_compare.specs.internal.Images.{IsImage, IsWhole, image_number}
 use Rattle.scf_compare.specs.internal.Offsets.{offset_number}
 use Rattle.scf_compare.specs.internal.Trees.{KeepsEither}
@@ -16,13 +17,19 @@ abbrev pub IsValue : Value → Type 0
 IsValue (Known value) = Unit {0}
 IsValue (OfWord image) = IsImage image
 IsValue (Offset offset) = IsImage offset.image
+IsValue (ZeroWhere zeros) = zeros.word < 16
 IsValue Unknown = Unit {0}
+
+-- a number is 0 where a word under a mask is a value, and nowhere else
+abbrev pub IsZeroWhere : Zeros → List ℕ → ℕ → Type 0
+IsZeroWhere zeros words x = (x ≡ 0) ↔ (bit_and (slice_index words zeros.word) zeros.mask ≡ zeros.value)
 
 -- over the words a value stands for a number
 abbrev pub StandsFor : Value → List ℕ → ℕ → Type 0
 StandsFor (Known value) words x = x ≡ value
 StandsFor (OfWord image) words x = x ≡ image_number image words
 StandsFor (Offset offset) words x = x ≡ offset_number offset words
+StandsFor (ZeroWhere zeros) words x = (x < 2 ^ 32) × IsZeroWhere zeros words x
 StandsFor Unknown words x = Unit {0}
 
 -- a decision asks of one of the sixteen words
@@ -42,6 +49,7 @@ abbrev pub IsPlainValue : Value → Type 0
 IsPlainValue (Known value) = Unit {0}
 IsPlainValue (OfWord image) = IsWhole image
 IsPlainValue (Offset offset) = ⊥
+IsPlainValue (ZeroWhere zeros) = ⊥
 IsPlainValue Unknown = ⊥
 
 -- a decision that isn't left open, and that keeps exact facts exact
