@@ -25,30 +25,6 @@ the_form code (Some operation) f h = let same : f ≡ form_of code operation = c
 pub same_code : (code : ℕ) (f : Form) → form_of_code code ≡ Some f → f.code ≡ code
 same_code code f h = the_form code (operation_of code) f h
 
--- what holds of each of the known forms holds of the form of a code
-found : (P : Form → Type 0) (table : List Row) (code : ℕ) (f : Form)
-    → AllByRecursion P (map (λ (known : Row). form_of known.0 known.1) table)
-    → option_map (form_of code) (lookup (λ known. eqb known code) table) ≡ Some f → P f
-found P [] code f all h = absurd cc
-found P (row ∷ table) code f all h =
-    elim (cases_Bool (eqb row.0 code)) [
-      | inl here ↦
-          let one : option_map (form_of code) (lookup (λ known. eqb known code) (row ∷ table)) ≡ Some
-          (form_of code row.1) = rw here refl in
-          let is : Some (form_of code row.1) ≡ Some f = sym one ∙ h in
-          let form : form_of row.0 row.1 ≡ f = ap (λ c. form_of c row.1) (eqb-true row.0 code here) ∙ cc in
-          subst P form all.0
-      | inr other ↦
-          let rest : option_map (form_of code) (lookup (λ known. eqb known code) (row ∷ table)) ≡ option_map
-          (form_of code) (lookup (λ known. eqb known code) table) = rw other refl in
-          found P table code f all.1 (sym rest ∙ h)
-    ]
-
-pub all_to_one : (P : Form → Type 0) → AllByRecursion P known_forms → (code : ℕ) (f : Form)
-    → form_of_code code ≡ Some f → P f
-unfolding known_forms operation_of
-all_to_one P all code f h = found P code_table code f all h
-
 -- the form of a code is the first of the known ones with that code
 found_as : (code : ℕ) (row : Row) (table : List Row) (b : Bool) → (row.0 == code) ≡ b
     → option_map (form_of code) (lookup (λ known. known == code) table)
@@ -68,50 +44,34 @@ pub find_form : (code : ℕ) → form_of_code code ≡ find (λ (f : Form). f.co
 unfolding known_forms operation_of
 find_form code = found_in code code_table
 
--- ---- reading by the forms in turn
+pub found_form : (code : ℕ) (forms : List Form) (o : Option Form) → forms ≡ known_forms
+    → o ≡ find (λ (f : Form). f.code == code) forms → o ≡ form_of_code code
+found_form code forms o known found = rw known at found ∙ sym (find_form code)
 
-or_true : (b : Bool) → (b || true) ≡ true
-or_true true = refl
-or_true false = refl
+-- what holds of each of the known forms holds of the form of a code
+found_all : (p : Form → Bool) (P : Form → Type 0) (fs : List Form) (f : Form) → AllByRecursion P fs → find p fs ≡ Some f
+    → P f
+found_all p P [] f all h = absurd cc
+found_all p P (g ∷ fs) f all h =
+    elim (cases_Bool (p g)) [
+      | inl here ↦
+          let is : Some g ≡ Some f = rw here at h in
+          let same : g ≡ f = cc in
+          subst P same all.0
+      | inr other ↦ found_all p P fs f all.1 (rw other at h)
+    ]
+
+pub all_to_one : (P : Form → Type 0) → AllByRecursion P known_forms → (code : ℕ) (f : Form)
+    → form_of_code code ≡ Some f → P f
+all_to_one P all code f h = found_all (λ (g : Form). g.code == code) P known_forms f all (sym (find_form code) ∙ h)
+
+-- ---- reading by the forms in turn
 
 module _ (number : List ℕ → Option ℕ) (t : List ℕ) (ts : List (List ℕ)) where
   -- no form so far has read the tokens; it is known whether one had the mnemonic
   pub record IsUnread (fs rest : List Form) (is_known : Bool) : Type 0 where
     pub known : list_any (has_mnemonic t) fs ≡ (is_known || list_any (has_mnemonic t) rest)
     pub read : read_by number fs t ts ≡ read_by number rest t ts
-
-  module _ (fs rest : List Form) (is_known : Bool) (f : Form) (unread : IsUnread fs (f ∷ rest) is_known) where
-    -- the form has another mnemonic
-    pub unread_other : has_mnemonic t f ≡ false → IsUnread fs rest is_known
-    unread_other other = record {
-      known = unread.known ∙ ap (λ b. is_known || (b || list_any (has_mnemonic t) rest)) other;
-      read = unread.read ∙ ap
-          (λ b. option_or (if b then fill_by number (pieces_of f.shape) ts (blank f) else None) (read_by number rest t ts))
-          other;
-    }
-
-    -- it has the mnemonic and not the tokens
-    pub unread_unfit : has_mnemonic t f ≡ true → fill_by number (pieces_of f.shape) ts (blank f) ≡ None
-        → IsUnread fs rest true
-    unread_unfit same unfit = record {
-      known = unread.known ∙ ap (λ b. is_known || (b || list_any (has_mnemonic t) rest)) same ∙ or_true is_known;
-      read = unread.read
-          ∙ ap (λ b. option_or (if b then fill_by number (pieces_of f.shape) ts (blank f) else None)
-          (read_by number rest t ts)) same
-          ∙ ap (λ o. option_or o (read_by number rest t ts)) unfit;
-    }
-
-    -- it has both
-    pub said_here : (draft : Draft) → has_mnemonic t f ≡ true
-        → fill_by number (pieces_of f.shape) ts (blank f) ≡ Some draft → read_by number fs t ts ≡ Some draft
-    said_here draft same said = unread.read
-        ∙ ap (λ b. option_or (if b then fill_by number (pieces_of f.shape) ts (blank f) else None)
-        (read_by number rest t ts)) same
-        ∙ ap (λ o. option_or o (read_by number rest t ts)) said
-
-    pub known_here : has_mnemonic t f ≡ true → list_any (has_mnemonic t) fs ≡ true
-    known_here same =
-        unread.known ∙ ap (λ b. is_known || (b || list_any (has_mnemonic t) rest)) same ∙ or_true is_known
 
 -- no text is in both
 abbrev disjoint : List (List ℕ) → List (List ℕ) → Bool

@@ -10,5 +10,4 @@ pub mod LawLemmas
 pub mod TextLemmas
 pub mod ListingLemmas
 pub mod RoundTrip
-pub mod TextLaws
 pub mod WantedLemmas

@@ -326,12 +326,8 @@ pieces_line i (q ∷ ps) fits s =
     let b = and_parts (is_mark q || starts_with_mark ps) (is_separated ps) a.1 in
     let one = piece_line i q fits a.0 in
     let rest = pieces_line i ps fits b.1 in (
-      list_all-append is_line_byte (piece_text i q) (flat_map (piece_text i) ps)
-          ∙ and_from (list_all is_line_byte (piece_text i q)) (list_all is_line_byte (flat_map (piece_text i) ps))
-          one.0 rest.0,
-      list_all-append is_plain (piece_words i q) (flat_map (piece_words i) ps)
-          ∙ and_from (list_all is_plain (piece_words i q)) (list_all is_plain (flat_map (piece_words i) ps)) one.1
-          rest.1,
+      rw (list_all-append is_line_byte (piece_text i q) (flat_map (piece_text i) ps), one.0, rest.0) refl,
+      rw (list_all-append is_plain (piece_words i q) (flat_map (piece_words i) ps), one.1, rest.1) refl,
     )
 
 operands_line : (i : Insn) (ps : List Piece) → IsInsn i → is_separated ps ≡ true
@@ -350,44 +346,38 @@ pub body_line : (i : Insn) → IsInsn i → list_all is_line_byte (body i) ≡ t
 body_line i fits =
     let ps = pieces_of (form_for i).shape in
     let n = (form_for i).mnemonic in
-    list_all-append is_line_byte (mnemonic_text n) (operands_text i ps)
-    ∙ and_from (list_all is_line_byte (mnemonic_text n)) (list_all is_line_byte (operands_text i ps))
-    (words_line (mnemonic_text n) (mnemonic_wordy n).each) (operands_line i ps fits (separated (form_for i).shape))
+    rw (
+      list_all-append is_line_byte (mnemonic_text n) (operands_text i ps),
+      words_line (mnemonic_text n) (mnemonic_wordy n).each,
+      operands_line i ps fits (separated (form_for i).shape),
+    ) refl
 
--- what is known of a byte that neither ends a line nor begins a comment
-record LineByte (b : ℕ) : Type 0 where
-  pub ascii : b < 128
-  pub no_slash : eqb b 47 ≡ false
-  pub no_end : eqb b 10 ≡ false
+line_small : (b : ℕ) → is_line_byte b ≡ true → b < 128
+line_small b h = ltb-true b 128 (and_parts (ltb b 128) (not (eqb b 47) && not (eqb b 10)) h).0
 
-line_byte : (b : ℕ) → is_line_byte b ≡ true → LineByte b
-line_byte b h =
-    let c = and_parts (ltb b 128) (not (eqb b 47) && not (eqb b 10)) h in
-    let d = and_parts (not (eqb b 47)) (not (eqb b 10)) c.1 in
-    record { ascii = ltb-true b 128 c.0; no_slash = not-true (eqb b 47) d.0; no_end = not-true (eqb b 10) d.1 }
+line_no_slash : (b : ℕ) → is_line_byte b ≡ true → eqb b 47 ≡ false
+line_no_slash b h = grind (arith, nat_tests)
 
-line_bytes : (t : List ℕ) → list_all is_line_byte t ≡ true → AllByRecursion LineByte t
-line_bytes [] h = tt
-line_bytes (b ∷ t) h = let a = and_parts (is_line_byte b) (list_all is_line_byte t) h in
-    (line_byte b a.0, line_bytes t a.1)
+line_no_end : (b : ℕ) → is_line_byte b ≡ true → eqb b 10 ≡ false
+line_no_end b h = grind (arith, nat_tests)
 
-each_byte : (P : ℕ → Type 0) → ((b : ℕ) → LineByte b → P b) → (t : List ℕ) → AllByRecursion LineByte t
+each_byte : (P : ℕ → Type 0) → ((b : ℕ) → is_line_byte b ≡ true → P b) → (t : List ℕ) → list_all is_line_byte t ≡ true
     → AllByRecursion P t
 each_byte P f [] h = tt
-each_byte P f (b ∷ t) h = (f b h.0, each_byte P f t h.1)
-
-uncommented : (t : List ℕ) → AllByRecursion LineByte t → before_comment t ≡ t
-uncommented [] h = refl
-uncommented (b ∷ t) h = rw h.0.no_slash (ap (λ (u : List ℕ). b ∷ u) (uncommented t h.1))
+each_byte P f (b ∷ t) h = let a = and_parts (is_line_byte b) (list_all is_line_byte t) h in
+    (f b a.0, each_byte P f t a.1)
 
 pub no_comment : (t : List ℕ) → list_all is_line_byte t ≡ true → before_comment t ≡ t
-no_comment t h = uncommented t (line_bytes t h)
+no_comment [] h = refl
+no_comment (b ∷ t) h =
+    let a = and_parts (is_line_byte b) (list_all is_line_byte t) h in
+    rw (line_no_slash b a.0) (ap (λ (u : List ℕ). b ∷ u) (no_comment t a.1))
 
 pub no_end : (t : List ℕ) → list_all is_line_byte t ≡ true → AllByRecursion (λ b. eqb b 10 ≡ false) t
-no_end t h = each_byte (λ b. eqb b 10 ≡ false) (λ b here. here.no_end) t (line_bytes t h)
+no_end t h = each_byte (λ b. eqb b 10 ≡ false) line_no_end t h
 
 pub small_bytes : (t : List ℕ) → list_all is_line_byte t ≡ true → AllByRecursion (λ b. b < 128) t
-small_bytes t h = each_byte (λ b. b < 128) (λ b here. here.ascii) t (line_bytes t h)
+small_bytes t h = each_byte (λ b. b < 128) line_small t h
 
 pub no_semicolon : (ts : List (List ℕ)) → list_all is_plain ts ≡ true → AllByRecursion (λ t. is_semicolon t ≡ false) ts
 no_semicolon [] h = tt

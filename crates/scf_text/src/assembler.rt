@@ -142,6 +142,7 @@ fn read_all(alloc: Global, text: &[u8]) -> Result<Vec<Insn>, TextFault>
 }
 
 /// What a text says.
+#[tactic(auto, using(crate::proofs::TextLemmas::ascii_fails, crate::proofs::TextLemmas::ascii_tells))]
 fn read_ascii(alloc: Global, text: &[u8]) -> Result<Vec<Insn>, TextFault>
     ensures tells { TellsText (fault_of text.now) text.now result }
     ensures ascii { (e : TextFault) → ascii_fault 1 text.now ≡ Some e → result ≡ Err e }
@@ -157,6 +158,7 @@ fn read_ascii(alloc: Global, text: &[u8]) -> Result<Vec<Insn>, TextFault>
 /// statement with a label given before, no mnemonic, operands that its mnemonic doesn't have, a number that doesn't
 /// fit, or an instruction behind the most that a filter may have; then the first jump to a label that isn't given or
 /// isn't reached. `Memory` comes where memory was refused, and not for a text that isn't ASCII or has no token.
+#[tactic(auto, using(crate::proofs::TextLemmas::is_spelled, crate::proofs::TextLemmas::is_not_spelled, crate::proofs::WantedLemmas::words_tokens))]
 pub fn assemble(alloc: Global, text: &[u8]) -> Result<Vec<Insn>, TextFault>
     ensures spelled { IfOk result (λ insns. Spells text.now insns.items) }
     // A refusal is for memory, or the first fault of the text.

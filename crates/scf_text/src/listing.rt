@@ -101,6 +101,7 @@ fn write_mnemonic<S: Sink>(sink: &mut S, mnemonic: Mnemonic) -> Result<(), Write
 }
 
 /// Writes the operands, and the end of the line.
+#[tactic(auto, using(scf_insn::proofs::Written::fails_first, scf_insn::proofs::Written::writes_then))]
 fn write_rest<S: Sink>(sink: &mut S, insn: &Insn, pieces: &[Piece]) -> Result<(), WriteFault>
     ensures { Writes S.contents S.failures sink.old (operands_text insn.now pieces.now ++ 10 ∷ []) result sink.new }
 {
@@ -109,6 +110,7 @@ fn write_rest<S: Sink>(sink: &mut S, insn: &Insn, pieces: &[Piece]) -> Result<()
 }
 
 /// Writes the line of an instruction, with its end.
+#[tactic(auto, using(scf_insn::proofs::Written::fails_first, scf_insn::proofs::Written::writes_then))]
 fn write_line<S: Sink>(sink: &mut S, insn: &Insn) -> Result<(), WriteFault>
     ensures { Writes S.contents S.failures sink.old (line_of insn.now) result sink.new }
 {

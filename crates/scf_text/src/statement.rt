@@ -17,6 +17,7 @@ use std::alloc::AllocError;
 use std::collections::BTreeMap;
 
 /// The instruction that a mnemonic and operands are, in this line and behind as many others.
+#[tactic(auto, using(crate::proofs::StatementLemmas::form_fault))]
 fn read_instruction<'a>(
     mnemonic: &[u8],
     operands: &[Token<'a>],
@@ -105,6 +106,7 @@ fn add_instruction<'a>(
 const MAX_TOKENS: usize = 11;
 
 /// Reads the first tokens of a statement.
+#[tactic(auto, using(crate::proofs::KeptLemmas::first_words, crate::proofs::KeptLemmas::no_words))]
 fn read_tokens<'a>(tokens: &mut Vec<Token<'a>>, statement: &'a [u8]) -> Result<(), AllocError>
     ensures first { OnOk result (AreFirst MAX_TOKENS (words_of_part statement.now) (texts tokens.new.items)) }
     ensures some { OnErr result (words_of_part statement.now ≢ []) }

@@ -1,5 +1,5 @@
-use Rattle.scf_text.proofs.TextLaws.{spells_listing}
+use Rattle.scf_text.proofs.RoundTrip.{round_trip}
 use Rattle.scf_text.proofs.laws.listing_spells.Goals as goal
 
 pub returns : goal.returns
-returns c = spells_listing
+returns c = round_trip

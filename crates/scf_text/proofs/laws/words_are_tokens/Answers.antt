@@ -1,4 +1,4 @@
-use Rattle.scf_text.proofs.TextLaws.{words_are_tokens}
+use Rattle.scf_text.proofs.TokenLemmas.{words_are_tokens}
 use Rattle.scf_text.proofs.laws.words_are_tokens.Goals as goal
 
 pub returns : goal.returns
