@@ -1,5 +1,4 @@
 pub mod Answering
-pub mod ArrayLengths
 pub mod ByNumber
 pub mod ConditionLists
 pub mod Cuts

@@ -7,7 +7,6 @@ use Rattle.std.proofs.lemmas.Bool.{ne_eqb, or_left, or_right}
 use Rattle.std.proofs.lemmas.List.{drop_all}
 use Rattle.serde_json.specs.declared.value.Value.{Value}
 use Rattle.serde_json.specs.Data.{Data, item}
-use Rattle.serde_json.specs.Events.{items_len}
 use Rattle.serde_json.specs.View.{view, items_view, members_view}
 use Rattle.scf_profile.specs.JsonMembers.{has_items, has_members, each}
 use Rattle.scf_profile.specs.References.{texts_at}
@@ -53,10 +52,6 @@ items_there (v ∷ vs) = rw (ne_eqb (length (v ∷ vs)) 0 (λ e. omega arith)) r
 pub members_there : (ms : List (String Global × Value)) → not (eqb (length ms) 0) ≡ has_members (members_view ms)
 members_there [] = refl
 members_there (m ∷ ms) = rw (ne_eqb (length (m ∷ ms)) 0 (λ e. omega arith)) refl
-
-pub items_counted : (vs : List Value) → items_len (items_view vs) ≡ length vs
-items_counted [] = refl
-items_counted (v ∷ vs) = let e = items_counted vs in omega (arith, e)
 
 -- a text that passes is among them
 pub any_at : (p : List ℕ → Bool) (xs : List (Bor (List ℕ))) (i : ℕ) (d : Bor (List ℕ)) → i < length xs

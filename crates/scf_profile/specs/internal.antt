@@ -5,5 +5,4 @@ pub mod NumberSets
 pub mod Overlaps
 pub mod Refusals
 pub mod Results
-pub mod ShortArrays
 pub mod Stated

@@ -1,6 +1,6 @@
 //! From the names of entries to the numbers that the call table has for them.
 
-ghost use Rattle.std.specs.Prelude.{◌≡◌, ◌<◌, ◌≤◌, ◌^◌, ◌++◌, ◌∷◌, [], length, vec_len, IfOk, IfErr, OnOk};
+ghost use Rattle.std.specs.Prelude.{◌≡◌, ◌≤◌, ◌^◌, ◌++◌, ◌∷◌, [], length, vec_len, IfOk, IfErr, OnOk};
 ghost use Rattle.std.specs.List.{filter};
 ghost use Rattle.scf_profile.specs.declared.load_fault.LoadFault.TheVariants.{Memory};
 ghost use Rattle.scf_profile.specs.internal.EntryRanges.{TellsTooMany};
@@ -94,7 +94,7 @@ pub(crate) fn expand(
     table: &CallTable,
     entries: &[Entry],
 ) -> Result<Expanded, LoadFault>
-    requires { length entries.now < 2 ^ 32 }
+    requires { length entries.now ≤ 2 ^ 32 }
     ensures rules { Gives Memory (result_map (λ e. e.rules.items) result)
         (rules_in table.now entries.now) }
     ensures skipped { IfOk result (λ e. e.skipped ≡ skipped_names table.now entries.now) }

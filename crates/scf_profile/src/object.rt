@@ -1,15 +1,13 @@
 //! The seccomp object.
 
-ghost use Rattle.std.specs.Prelude.{◌≡◌, ◌<◌, ◌^◌, [], IfOk, All, vec_len};
+ghost use Rattle.std.specs.Prelude.{◌≡◌, ◌≤◌, ◌^◌, [], IfOk, All, vec_len};
 ghost use Rattle.std.specs.List.{list_any};
 ghost use Rattle.std.specs.Str.{bytes_eq};
-ghost use Rattle.serde_json.specs.Events.{items_len};
 ghost use Rattle.serde_json.specs.View.{view, items_view};
 ghost use Rattle.scf_profile.specs.declared.load_fault.LoadFault.TheVariants.{Memory};
 ghost use Rattle.scf_profile.specs.internal.EntryRanges.{IsEntry};
 ghost use Rattle.scf_profile.specs.JsonMembers.{each};
 ghost use Rattle.scf_profile.specs.References.{texts_at};
-ghost use Rattle.scf_profile.specs.internal.ShortArrays.{HasShortArrays};
 ghost use Rattle.scf_profile.specs.StatedProfile.{seccomp_in, seccomp_of, next_entry, entries_in, architectures_in};
 ghost use Rattle.scf_profile.specs.StatedProfile.{x86_64};
 ghost use Rattle.scf_profile.specs.Steps.{Gives};
@@ -97,15 +95,17 @@ pub(crate) fn find_architectures(
 
 /// What the entries of an array state, each with its place.
 fn entries_of<'v>(alloc: Global, items: &'v [Value]) -> Result<Vec<Entry<'v>>, LoadFault>
-    requires { items_len (items_view items.now) < 2 ^ 32 }
     ensures value { Gives Memory (result_map (λ v. v.items) result)
         (each next_entry [] (items_view items.now)) }
     ensures range { IfOk result (λ v. All IsEntry v.items) }
-    ensures count { IfOk result (λ v. vec_len v < 2 ^ 32) }
+    ensures count { IfOk result (λ v. vec_len v ≤ 2 ^ 32) }
 {
     let mut entries = Vec::new(alloc);
     for item in items {
-        let place = entries.len() as u32;
+        // A text of `MAX_TEXT_LEN` bytes has fewer entries than there are places.
+        let Ok(place) = u32::try_from(entries.len()) else {
+            return Err(LoadFault::Memory);
+        };
         let entry = Entry::read(alloc, place, item)?;
         entries.push(entry)?;
     }
@@ -115,10 +115,9 @@ fn entries_of<'v>(alloc: Global, items: &'v [Value]) -> Result<Vec<Entry<'v>>, L
 /// What the entries in the `syscalls` of the object state, none where it has none.
 #[tactic(auto, unfolding(crate::specs::StatedProfile::entries_in, crate::specs::JsonMembers::each))]
 pub(crate) fn find_entries(alloc: Global, object: &Value) -> Result<Vec<Entry<'_>>, LoadFault>
-    requires { HasShortArrays 0xffff_ffff (view object.now) }
     ensures value { Gives Memory (result_map (λ v. v.items) result) (entries_in (view object.now)) }
     ensures range { IfOk result (λ v. All IsEntry v.items) }
-    ensures count { IfOk result (λ v. vec_len v < 2 ^ 32) }
+    ensures count { IfOk result (λ v. vec_len v ≤ 2 ^ 32) }
 {
     match member_of(object, "syscalls") {
         None => Ok(Vec::new(alloc)),

@@ -1,24 +1,18 @@
-use Rattle.std.proofs.Common.{rules, ◌≡◌, ℕ, ◌<◌, ◌^◌, ap, ◌∙◌, length, arith}
+use Rattle.std.proofs.Common.{◌≡◌, ℕ, ap, ◌∙◌, length, arith}
+use Rattle.std.proofs.lemmas.Grind.{common_steps}
 use Rattle.std.proofs.lemmas.Result.{err_from_is_err_and}
 use Rattle.std.proofs.lemmas.List.Elements.{All-push}
 use Rattle.serde_json.specs.View.{view}
 use Rattle.scf_profile.specs.internal.EntryRanges.{IsEntry}
 use Rattle.scf_profile.specs.StatedProfile.{next_entry, entry_of}
-use Rattle.scf_profile.proofs.Loops.{goes_on, ends, is_done, items_counted}
+use Rattle.scf_profile.proofs.Loops.{goes_on, ends, is_done}
 use Rattle.scf_profile.proofs.object.entries_of.Goals as goal
-
-pub overflow_cast-place : goal.overflow_cast-place
-overflow_cast-place c =
-    let few : length c.args.items.now < 2 ^ 32 = omega (arith, items_counted c.args.items.now) in
-    search rules
-
-pub returns-clause-count : goal.returns-clause-count
-returns-clause-count c = omega (arith, items_counted c.args.items.now)
 
 pub returns-in_err-entry-clause-value : goal.returns-in_err-entry-clause-value
 returns-in_err-entry-clause-value c =
     let p = err_from_is_err_and c.from_residual.result c.from_residual.ensures.1 in
-    let place : length c.loop-item.entries.items ≡ c.len-place.result = omega (arith, c.loop-item.entries.ok.0) in
+    let place : length c.loop-item.entries.items ≡ c.in-Ok.place =
+    grind (arith, common_steps, c.loop-item.entries.ok.0, c.in-Ok.ensures) in
     rw (p.1, p.2) (λ not_memory. ends next_entry c.args.items.now _ c.loop-item.entries.items c.loop-item.item-index
     c.item-item.result c.in_err-entry.field-0.0 c.loop-item-test.true c.item-item.is
     (ap (λ (n : ℕ). entry_of n (view c.item-item.result)) place ∙ c.in_err-entry.ensures.value not_memory)
@@ -26,7 +20,8 @@ returns-in_err-entry-clause-value c =
 
 pub loop-item-preserved : goal.loop-item-preserved
 loop-item-preserved c =
-    let place : length c.loop-item.entries.items ≡ c.len-place.result = omega (arith, c.loop-item.entries.ok.0) in
+    let place : length c.loop-item.entries.items ≡ c.in-Ok.place =
+    grind (arith, common_steps, c.loop-item.entries.ok.0, c.in-Ok.ensures) in
     record {
       so_far =
           rw c.in_ok-push.ensures.items
@@ -34,7 +29,7 @@ loop-item-preserved c =
           c.in_ok-entry.entry c.loop-item-test.true c.item-item.is
           (ap (λ (n : ℕ). entry_of n (view c.item-item.result)) place ∙ c.in_ok-entry.ensures.value)
           c.loop-item.invariant.so_far);
-      count = omega (arith, c.in_ok-push.ensures.len);
+      count = grind (arith, common_steps, c.in_ok-push.ensures.len, c.in-Ok.ensures);
       range =
           rw c.in_ok-push.ensures.items
           (All-push IsEntry c.loop-item.entries.items c.in_ok-entry.entry c.loop-item.invariant.range

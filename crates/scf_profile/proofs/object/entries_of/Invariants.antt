@@ -1,4 +1,4 @@
-use Rattle.std.proofs.Common.{◌≡◌, [], drop, vec_len, All}
+use Rattle.std.proofs.Common.{◌≡◌, ◌≤◌, ◌^◌, [], drop, vec_len, All}
 use Rattle.serde_json.specs.View.{items_view}
 use Rattle.scf_profile.specs.internal.EntryRanges.{IsEntry}
 use Rattle.scf_profile.specs.JsonMembers.{each}
@@ -10,6 +10,6 @@ abbrev pub invariant-loop-item : goal.invariant-loop-item
 invariant-loop-item l = record {
   so_far : each next_entry l.entries.items (items_view (drop l.item-index l.items))
       ≡ each next_entry [] (items_view l.items);
-  count : vec_len l.entries ≡ l.item-index;
+  count : vec_len l.entries ≤ 2 ^ 32;
   range : All IsEntry l.entries.items;
 }

@@ -6,7 +6,6 @@ use Rattle.scf_profile.specs.Loading.{Loads}
 use Rattle.scf_profile.specs.Profile.{HaveNoConflict}
 use Rattle.scf_profile.specs.internal.Stated.{loaded_of, IsLoaded}
 use Rattle.scf_profile.specs.StatedProfile.{profile_of}
-use Rattle.scf_profile.proofs.ArrayLengths.{object_short}
 use Rattle.scf_profile.proofs.TestFaults.{refuses_of_fault, refuses_of_conflict}
 use Rattle.scf_profile.proofs.profile_text.load.Goals as goal
 
@@ -18,11 +17,6 @@ returns-in_err-object-clause-err c =
     rw (p.1, p.2) (refuses_of_fault c.args.text.now c.args.table.now (view c.in_ok-value.value)
     c.in_err-object.field-0.0 c.in_ok-value.ensures.ok (λ _. rw (← e) refl))
 
-pub read_object-requires : goal.read_object-requires
-read_object-requires c =
-    object_short c.args.text.now (view c.in_ok-value.value) (view c.in_ok-object.object.now) c.in_ok-value.ensures.ok
-    c.in_ok-object.ensures
-
 pub returns-in_err-read_object-clause-err : goal.returns-in_err-read_object-clause-err
 unfolding profile_of
 returns-in_err-read_object-clause-err c =
@@ -31,13 +25,13 @@ returns-in_err-read_object-clause-err c =
     let s = c.in_ok-object.ensures in
     rw (p.1, p.2) (refuses_of_fault c.args.text.now c.args.table.now (view c.in_ok-value.value)
     c.in_err-read_object.field-0.0 c.in_ok-value.ensures.ok
-    (λ not_memory. let h = c.in_err-read_object.ensures.value not_memory in rw (← s, h) refl))
+    (λ not_memory. let h = c.in_err-read_object.ensures.err not_memory in rw (← s, h) refl))
 
 pub returns-clause-ok : goal.returns-clause-ok
 unfolding profile_of
 returns-clause-ok c =
     let s = c.in_ok-object.ensures in
-    let h = c.in_ok-read_object.ensures.value in
+    let h = c.in_ok-read_object.ensures.ok in
     let stated : profile_of c.args.table.now (view c.in_ok-value.value) ≡ Ok (loaded_of c.in_ok-read_object.field-0) =
     rw (← s, h) refl in
     IfOk-weaker c.without_conflict.result (IsLoaded c.in_ok-read_object.field-0)
@@ -53,7 +47,7 @@ pub returns-clause-err : goal.returns-clause-err
 unfolding profile_of
 returns-clause-err c =
     let s = c.in_ok-object.ensures in
-    let h = c.in_ok-read_object.ensures.value in
+    let h = c.in_ok-read_object.ensures.ok in
     let stated : profile_of c.args.table.now (view c.in_ok-value.value) ≡ Ok (loaded_of c.in_ok-read_object.field-0) =
     rw (← s, h) refl in
     MatchResult-weaker c.without_conflict.result c.without_conflict.ensures.err (λ loaded k. k)

@@ -5,63 +5,69 @@ use Rattle.scf_profile.specs.StatedProfile.{object_states, rules_in, skipped_nam
 use Rattle.scf_profile.proofs.StatedRules.{stated_rules}
 use Rattle.scf_profile.proofs.profile_text.read_object.Goals as goal
 
-pub returns-in_err-default_answer-clause-value : goal.returns-in_err-default_answer-clause-value
+pub returns-in_err-default_answer-clause-err : goal.returns-in_err-default_answer-clause-err
 unfolding object_states
-returns-in_err-default_answer-clause-value c =
+returns-in_err-default_answer-clause-err c =
     let p =
     err_from_is_err_and c.from_residual-in_err-default_answer.result
     c.from_residual-in_err-default_answer.ensures.1 in
-    let a = c.in_ok-action.ensures in
-    let e = c.in_err-default_answer.ensures.value in
-    rw (p.1, p.2) (λ _. rw (← a, ← e) refl)
+    rw (p.1, p.2) (λ _. rw (← c.in_ok-action.ensures, ← c.in_err-default_answer.ensures.value) refl)
 
-pub returns-in_err-architectures-clause-value : goal.returns-in_err-architectures-clause-value
+pub returns-in_err-architectures-clause-err : goal.returns-in_err-architectures-clause-err
 unfolding object_states
-returns-in_err-architectures-clause-value c =
+returns-in_err-architectures-clause-err c =
     let p =
     err_from_is_err_and c.from_residual-in_err-architectures.result
     c.from_residual-in_err-architectures.ensures.1 in
-    let a = c.in_ok-action.ensures in
-    let b = c.in_ok-default_answer.ensures.value in
-    rw (p.1, p.2) (λ not_memory. let e = c.in_err-architectures.ensures not_memory in rw (← a, ← b, e) refl)
+    rw (p.1, p.2) (λ not_memory. rw (
+      ← c.in_ok-action.ensures,
+      ← c.in_ok-default_answer.ensures.value,
+      c.in_err-architectures.ensures not_memory,
+    ) refl)
 
-pub returns-in_err-check_no_engine_form-clause-value : goal.returns-in_err-check_no_engine_form-clause-value
+pub returns-in_err-check_no_engine_form-clause-err : goal.returns-in_err-check_no_engine_form-clause-err
 unfolding object_states
-returns-in_err-check_no_engine_form-clause-value c =
+returns-in_err-check_no_engine_form-clause-err c =
     let p =
     err_from_is_err_and c.from_residual-in_err-check_no_engine_form.result
     c.from_residual-in_err-check_no_engine_form.ensures.1 in
-    let a = c.in_ok-action.ensures in
-    let b = c.in_ok-default_answer.ensures.value in
-    let d = c.in_ok-architectures.ensures in
-    let e = c.in_err-check_no_engine_form.ensures in
-    rw (p.1, p.2) (λ _. rw (← a, ← b, d, ← e) refl)
+    rw (p.1, p.2) (λ _. rw (
+      ← c.in_ok-action.ensures,
+      ← c.in_ok-default_answer.ensures.value,
+      c.in_ok-architectures.ensures,
+      ← c.in_err-check_no_engine_form.ensures,
+    ) refl)
 
-pub returns-in_err-entries-clause-value : goal.returns-in_err-entries-clause-value
+pub returns-in_err-entries-clause-err : goal.returns-in_err-entries-clause-err
 unfolding object_states
-returns-in_err-entries-clause-value c =
+returns-in_err-entries-clause-err c =
     let p = err_from_is_err_and c.from_residual-in_err-entries.result c.from_residual-in_err-entries.ensures.1 in
-    let a = c.in_ok-action.ensures in
-    let b = c.in_ok-default_answer.ensures.value in
-    let d = c.in_ok-architectures.ensures in
-    let e = c.in_ok-check_no_engine_form.ensures in
-    rw (p.1, p.2) (λ not_memory. let f = c.in_err-entries.ensures.value not_memory in rw (← a, ← b, d, ← e, f) refl)
+    rw (p.1, p.2) (λ not_memory. rw (
+      ← c.in_ok-action.ensures,
+      ← c.in_ok-default_answer.ensures.value,
+      c.in_ok-architectures.ensures,
+      ← c.in_ok-check_no_engine_form.ensures,
+      c.in_err-entries.ensures.value not_memory,
+    ) refl)
 
-pub returns-in_err-rules-clause-value : goal.returns-in_err-rules-clause-value
+pub returns-in_err-rules-clause-err : goal.returns-in_err-rules-clause-err
 unfolding object_states
-returns-in_err-rules-clause-value c =
+returns-in_err-rules-clause-err c =
     let p = err_from_is_err_and c.from_residual-in_err-rules.result c.from_residual-in_err-rules.ensures.1 in
-    let a = c.in_ok-action.ensures in
-    let b = c.in_ok-default_answer.ensures.value in
-    let d = c.in_ok-architectures.ensures in
-    let e = c.in_ok-check_no_engine_form.ensures in
-    let f = c.in_ok-entries.ensures.value in
-    rw (p.1, p.2) (λ not_memory. let g = ap (rules_in c.args.table.now) (sym c.deref.ensures.value)
-    ∙ c.in_err-rules.ensures.rules not_memory in rw (← a, ← b, d, ← e, f, g) refl)
+    rw (p.1, p.2) (λ not_memory.
+    let g = ap (rules_in c.args.table.now) (sym c.deref.ensures.value) ∙ c.in_err-rules.ensures.rules not_memory in
+    rw (
+      ← c.in_ok-action.ensures,
+      ← c.in_ok-default_answer.ensures.value,
+      c.in_ok-architectures.ensures,
+      ← c.in_ok-check_no_engine_form.ensures,
+      c.in_ok-entries.ensures.value,
+      g,
+    ) refl)
 
-pub returns-clause-value : goal.returns-clause-value
+pub returns-clause-ok : goal.returns-clause-ok
 unfolding object_states
-returns-clause-value c =
+returns-clause-ok c =
     let a = c.in_ok-action.ensures in
     let b = c.in_ok-default_answer.ensures.value in
     let d = c.in_ok-architectures.ensures in
