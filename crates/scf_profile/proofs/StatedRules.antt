@@ -1,12 +1,10 @@
 -- The rules that entries state: their ranges, and one answer for each entry.
-use Rattle.std.proofs.Common.{◌≡◌, ℕ, true, false, ◌+◌, ◌<◌, ◌≤◌, ◌^◌, ◌⊎◌, List, [], ◌∷◌, ◌++◌, length, take, drop}
-use Rattle.std.proofs.Common.{get_or, Some, None, Ok, All, refl, sym, ap, ◌∙◌, subst, arith, inl, inr, append_assoc}
-use Rattle.std.proofs.Common.{length-append, Bor}
+use Rattle.std.proofs.Common.{◌≡◌, ℕ, true, false, ◌+◌, ◌<◌, ◌≤◌, ◌^◌, ◌⊎◌, List, [], ◌∷◌, ◌++◌, length}
+use Rattle.std.proofs.Common.{Some, None, Ok, All, refl, sym, ◌∙◌, subst, arith, inl, inr}
 use Rattle.std.specs.Prelude.{Contains, nat_lt, option_map}
 use Rattle.std.specs.List.{cons_option, filter}
 use Rattle.std.specs.FinMap.{get}
 use Rattle.std.proofs.lemmas.Bool.{cases_lt, cases_order, lt-ltb, le-ltb}
-use Rattle.std.proofs.lemmas.List.{map_more, take-append-drop, map-append}
 use Rattle.std.proofs.lemmas.List.Elements.{recursion_from_All, All-nil, All-cons, All-append, All-head, All-tail}
 use Rattle.std.proofs.lemmas.List.Elements.{All-contains, Contains-append_cases, filter-append}
 use Rattle.std.proofs.lemmas.List.Elements.{filter_map-append}
@@ -17,7 +15,6 @@ use Rattle.scf_insn.specs.declared.answer.Answer.{Answer}
 use Rattle.scf_profile.specs.Loading.{EntriesConflict}
 use Rattle.scf_profile.specs.Limits.{max_rules}
 use Rattle.scf_profile.specs.Profile.{IsProfile, HaveNoConflict}
-use Rattle.scf_profile.specs.References.{texts_at}
 use Rattle.scf_profile.specs.Rule.{Conflicts, IsRule}
 use Rattle.scf_profile.proofs.Answering.{conflicts_both_ways}
 use Rattle.scf_profile.specs.Table.{Names, AreCallNumbers}
@@ -84,73 +81,20 @@ one_answer_each table place (e ∷ es) r s h k same =
     (Contains-append_cases (rules_named table place e e.names) (rules_from table (place + 1) es) r h)
     (Contains-append_cases (rules_named table place e e.names) (rules_from table (place + 1) es) s k)
 
--- ---- the loops over names and entries
+-- ---- one name after another
 
--- one more name
-pub named_more : (table : Names) (place : ℕ) (e : Entry) (names : List (Bor (List ℕ))) (i : ℕ) (d : Bor (List ℕ))
-    → i < length names
-    → rules_named table place e (texts_at (take (i + 1) names))
-    ≡ rules_named table place e (texts_at (take i names))
-    ++ rules_named table place e ((get_or names i d).now ∷ [])
-named_more table place e names i d lt =
-    ap (rules_named table place e) (map_more (λ (s : Bor (List ℕ)). s.now) names i d lt)
-    ∙ filter_map-append _ (texts_at (take i names)) ((get_or names i d).now ∷ [])
+pub rules_first : (table : Names) (place : ℕ) (e : Entry) (name : List ℕ) (names : List (List ℕ))
+    → rules_named table place e (name ∷ names)
+    ≡ rules_named table place e (name ∷ []) ++ rules_named table place e names
+rules_first table place e name names =
+    filter_map-append (λ n. option_map (rule_for place e) (get table n)) (name ∷ []) names
 
-pub rules_more : (first old new : List Rule) (table : Names) (place : ℕ) (e : Entry) (names : List (Bor (List ℕ)))
-    (i : ℕ) (d : Bor (List ℕ)) → i < length names
-    → old ≡ first ++ rules_named table place e (texts_at (take i names))
-    → new ≡ old ++ rules_named table place e ((get_or names i d).now ∷ [])
-    → new ≡ first ++ rules_named table place e (texts_at (take (i + 1) names))
-rules_more first old new table place e names i d lt so_far one =
-    one ∙ ap (λ (l : List Rule). l ++ rules_named table place e ((get_or names i d).now ∷ [])) so_far
-    ∙ append_assoc first _ _ ∙ ap (λ (l : List Rule). first ++ l) (sym (named_more table place e names i d lt))
+pub skipped_first : (table : Names) (name : List ℕ) (names : List (List ℕ))
+    → filter (is_skipped table) (name ∷ names)
+    ≡ filter (is_skipped table) (name ∷ []) ++ filter (is_skipped table) names
+skipped_first table name names = filter-append (is_skipped table) (name ∷ []) names
 
--- one more name that may be skipped
-pub skipped_more : (first old new : List (List ℕ)) (table : Names) (names : List (Bor (List ℕ))) (i : ℕ)
-    (d : Bor (List ℕ)) → i < length names → old ≡ first ++ filter (is_skipped table) (texts_at (take i names))
-    → new ≡ old ++ filter (is_skipped table) ((get_or names i d).now ∷ [])
-    → new ≡ first ++ filter (is_skipped table) (texts_at (take (i + 1) names))
-skipped_more first old new table names i d lt so_far one =
-    let last = filter (is_skipped table) ((get_or names i d).now ∷ []) in
-    one ∙ ap (λ (l : List (List ℕ)). l ++ last) so_far ∙ append_assoc first _ _
-    ∙ ap (λ (l : List (List ℕ)). first ++ l)
-    (sym (ap (filter (is_skipped table)) (map_more (λ (s : Bor (List ℕ)). s.now) names i d lt)
-    ∙ filter-append (is_skipped table) (texts_at (take i names)) ((get_or names i d).now ∷ [])))
-
--- a beginning is no longer than the whole
-rest_of_names : (table : Names) (place : ℕ) (e : Entry) (front back : List (List ℕ))
-    → length (rules_named table place e front) ≤ length (rules_named table place e (front ++ back))
-rest_of_names table place e front back =
-    omega (
-      arith,
-      ap length (filter_map-append (λ name. option_map (rule_for place e) (get table name)) front back),
-      length-append (rules_named table place e front) (rules_named table place e back),
-    )
-
--- too many rules for the names so far are too many for all names
-pub too_many_named : (first old : List Rule) (table : Names) (place : ℕ) (e : Entry) (names : List (Bor (List ℕ)))
-    (all : List (List ℕ)) (i : ℕ) (d : Bor (List ℕ)) → i < length names → texts_at names ≡ all
-    → old ≡ first ++ rules_named table place e (texts_at (take i names))
-    → max_rules < length (old ++ rules_named table place e ((get_or names i d).now ∷ []))
-    → max_rules < length (first ++ rules_named table place e all)
-too_many_named first old table place e names all i d lt is so_far many =
-    let front = texts_at (take (i + 1) names) in
-    let back = texts_at (drop (i + 1) names) in
-    let more =
-    rules_more first old (old ++ rules_named table place e ((get_or names i d).now ∷ [])) table place e names i d lt
-    so_far refl in
-    let whole : front ++ back ≡ all =
-    sym (map-append (λ (s : Bor (List ℕ)). s.now) (take (i + 1) names) (drop (i + 1) names))
-    ∙ ap texts_at (take-append-drop (i + 1) names) ∙ is in
-    let shorter : length (rules_named table place e front) ≤ length (rules_named table place e all) =
-    subst (λ (l : List (List ℕ)). length (rules_named table place e front) ≤ length (rules_named table place e l))
-    whole (rest_of_names table place e front back) in
-    omega (
-      arith,
-      ap length more,
-      length-append first (rules_named table place e front),
-      length-append first (rules_named table place e all),
-    )
+pub ruleset names_first = (rules_first, skipped_first)
 
 -- the rules that pass the tests
 pub stated_rules : (table : Names) (es : List Entry) (rules : List Rule) → AreCallNumbers table → All IsEntry es

@@ -64,6 +64,7 @@ impl Expanded {
     }
 
     /// Adds what an entry at a place states for its names.
+    #[tactic(auto, using(std::proofs::lemmas::Grind::common_steps, crate::proofs::StatedRules::names_first))]
     fn add_entry(
         &mut self,
         alloc: Global,

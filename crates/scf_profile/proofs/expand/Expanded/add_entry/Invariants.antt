@@ -1,16 +1,16 @@
-use Rattle.std.proofs.Common.{◌≡◌, ◌≤◌, ◌++◌, take, vec_len}
+use Rattle.std.proofs.Common.{◌≡◌, ◌≤◌, ◌++◌, drop, vec_len}
 use Rattle.std.specs.List.{filter}
 use Rattle.scf_profile.specs.Limits.{max_rules}
 use Rattle.scf_profile.specs.References.{texts_at}
 use Rattle.scf_profile.specs.StatedProfile.{rules_named, is_skipped}
 use Rattle.scf_profile.proofs.expand.Expanded.add_entry.Given as goal
 
--- what is stated for the names so far was added
+-- what was added and what is stated for the names that are left is what all names state
 abbrev pub invariant-loop-name : goal.invariant-loop-name
 invariant-loop-name l = record {
-  rules : l.self.rules.items
-      ≡ l.fn.self.rules.items ++ rules_named l.table l.place l.entry (texts_at (take l.name-index l.name-items));
-  skipped : l.self.skipped
-      ≡ l.fn.self.skipped ++ filter (is_skipped l.table) (texts_at (take l.name-index l.name-items));
+  rules : l.self.rules.items ++ rules_named l.table l.place l.entry (texts_at (drop l.name-index l.name-items))
+      ≡ l.fn.self.rules.items ++ rules_named l.table l.place l.entry l.entry.names;
+  skipped : l.self.skipped ++ filter (is_skipped l.table) (texts_at (drop l.name-index l.name-items))
+      ≡ l.fn.self.skipped ++ filter (is_skipped l.table) l.entry.names;
   few : vec_len l.self.rules ≤ max_rules;
 }
