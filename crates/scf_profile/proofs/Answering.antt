@@ -1,17 +1,17 @@
 -- A profile has an answer to every call, and one only.
-use Rattle.std.proofs.Common.{◌≡◌, ℕ, suc, ◌<◌, ◌⊎◌, true, false, List, [], ◌∷◌, length, get_or, All, refl, sym, ap}
-use Rattle.std.proofs.Common.{subst, arith, inl, inr}
+use Rattle.std.proofs.Common.{◌≡◌, ℕ, suc, ◌<◌, ◌⊎◌, Bool, true, false, cond, List, [], ◌∷◌, length, get_or, All, refl}
+use Rattle.std.proofs.Common.{Option, Some, None, sym, ap, arith, inl, inr}
 use Rattle.std.specs.Prelude.{Contains}
-use Rattle.std.specs.List.{AllByRecursion}
-use Rattle.std.proofs.lemmas.Bool.{cases_eq, cases_lt, cases_Bool, both_ways}
-use Rattle.std.proofs.lemmas.List.Elements.{All-from_recursion, All-contains, All-nil, All-cons}
+use Rattle.std.specs.List.{find}
+use Rattle.std.specs.Option.{option_map_or}
+use Rattle.std.proofs.lemmas.Bool.{cases_eq, cases_lt, both_ways}
+use Rattle.std.proofs.lemmas.List.Elements.{All-contains, All-nil, All-cons}
 use Rattle.scf_insn.specs.declared.answer.Answer.{Answer}
 use Rattle.scf_insn.specs.declared.record.CallRecord.{CallRecord}
 use Rattle.scf_insn.specs.Kernel.{audit_arch_x86_64, seccomp_ret_kill_process, x32_syscall_bit}
 use Rattle.scf_insn.specs.Words.{IsRecord}
-use Rattle.scf_profile.specs.declared.condition.Condition.{Condition}
 use Rattle.scf_profile.specs.declared.rule.Rule.{Rule}
-use Rattle.scf_profile.specs.Rule.{meets, Conflicts, IsRule, IsCondition}
+use Rattle.scf_profile.specs.Rule.{meets, Conflicts}
 use Rattle.scf_profile.specs.Profile.{Profile, IsNative, HaveNoConflict}
 use Rattle.scf_profile.specs.ProfileAnswers.{ProfileAnswers, foreign, by_rule, by_default}
 
@@ -51,29 +51,37 @@ native_or_foreign call =
       | inr other ↦ inr (λ native. other native.arch)
     ]
 
-met_or_unmet : (rules : List Rule) (call : CallRecord)
-    → ((r : Rule) × Contains rules r × (meets r call ≡ true)) ⊎ All (λ r. meets r call ≡ false) rules
-met_or_unmet [] call = inr (All-nil (λ s. meets s call ≡ false))
-met_or_unmet (r ∷ rs) call =
-    elim (cases_Bool (meets r call)) [
-      | inl met ↦ inl (r, (0, omega arith, refl), met)
-      | inr unmet ↦ elim (met_or_unmet rs call) [
-        | inl h ↦ inl (h.0, (suc h.1.0, omega (arith, h.1.1), h.1.2), h.2)
-        | inr none ↦ inr (All-cons (λ s. meets s call ≡ false) r rs unmet none)
-      ]
-    ]
+-- a rule among these that the call meets, and none only where it meets none
+abbrev IsFound : List Rule → CallRecord → Option Rule → Type 0
+IsFound rules call None = All (λ r. meets r call ≡ false) rules
+IsFound rules call (Some r) = Contains rules r × (meets r call ≡ true)
+
+first_is_found : (rules : List Rule) (call : CallRecord) → IsFound rules call (find (λ r. meets r call) rules)
+first_is_found [] call = All-nil (λ s. meets s call ≡ false)
+first_is_found (r ∷ rs) call =
+    one_more (meets r call) refl (find (λ s. meets s call) rs) (first_is_found rs call) where
+      one_more : (b : Bool) → meets r call ≡ b → (o : Option Rule) → IsFound rs call o
+          → IsFound (r ∷ rs) call (cond b (Some r) o)
+      one_more true met o rest = ((0, omega arith, refl), met)
+      one_more false unmet None none = All-cons (λ s. meets s call ≡ false) r rs unmet none
+      one_more false unmet (Some s) h = ((suc h.0.0, omega (arith, h.0.1), h.0.2), h.1)
+
+-- the answer to a native call by the first rule that it meets
+pub answered : (p : Profile) (call : CallRecord) → IsNative call → (found : Option Rule)
+    → found ≡ find (λ r. meets r call) p.rules
+    → ProfileAnswers p call (option_map_or (λ (r : Rule). r.answer.0) found p.default_answer.0)
+answered p call native found is = by_found found (rw is (first_is_found p.rules call)) where
+  by_found : (o : Option Rule) → IsFound p.rules call o
+      → ProfileAnswers p call (option_map_or (λ (r : Rule). r.answer.0) o p.default_answer.0)
+  by_found None none =
+      by_default native (λ r among. All-contains (λ s. meets s call ≡ false) p.rules r none among)
+  by_found (Some r) h = by_rule r native h.0 h.1
 
 -- every call has an answer
 pub some_answer : (p : Profile) (call : CallRecord) → (answer : ℕ) × ProfileAnswers p call answer
 some_answer p call =
     elim (native_or_foreign call) [
-      | inl native ↦ elim (met_or_unmet p.rules call) [
-        | inl h ↦ (h.0.answer.0, by_rule h.0 native h.1 h.2)
-        | inr none ↦ (
-          p.default_answer.0,
-          by_default native (λ r among. All-contains (λ s. meets s call ≡ false) p.rules r none among),
-        )
-      ]
+      | inl native ↦ (_, answered p call native (find (λ r. meets r call) p.rules) refl)
       | inr not_native ↦ (seccomp_ret_kill_process, foreign not_native)
     ]
 
@@ -93,23 +101,5 @@ one_answer p call none fits (by_default native unmet) (by_rule s native_too amon
     absurd (both_ways _ (unmet s among) met)
 one_answer p call none fits (by_default native unmet) (by_default native_too unmet_too) = refl
 
--- the answer to a native call that meets no rule
-pub answer_of_unmet : (p : Profile) (call : CallRecord) → IsNative call → All (λ r. meets r call ≡ false) p.rules
-    → ProfileAnswers p call p.default_answer.0
-answer_of_unmet p call native none =
-    by_default native (λ r among. All-contains (λ s. meets s call ≡ false) p.rules r none among)
-
 pub is_among : {A : Type 0} (xs : List A) (i : ℕ) (x : A) → i < length xs → x ≡ get_or xs i x → Contains xs x
 is_among xs i x lt is = (i, lt, sym is)
-
-below_six : (cs : List Condition) → AllByRecursion IsCondition cs → AllByRecursion (λ c. c.index < 6) cs
-below_six [] h = tt
-below_six (c ∷ cs) h = (h.0.index, below_six cs h.1)
-
--- the conditions of a rule of a profile are on the six arguments
-pub indices_of : (rules : List Rule) (i : ℕ) (r : Rule) → AllByRecursion IsRule rules → i < length rules
-    → r ≡ get_or rules i r → All (λ c. c.index < 6) r.conditions
-indices_of rules i r h lt is =
-    let rule : IsRule (get_or rules i r) = All-from_recursion IsRule rules h i r lt in
-    let here : IsRule r = subst IsRule (sym is) rule in
-    All-from_recursion (λ c. c.index < 6) r.conditions (below_six r.conditions here.conditions.each)

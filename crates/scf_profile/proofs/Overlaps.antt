@@ -1,42 +1,52 @@
 -- Conditions on one argument.
-use Rattle.std.proofs.Common.{◌≡◌, ◌≢◌, ℕ, zero, suc, ◌<◌, ◌^◌, ◌↔◌, Bool, true, ◌&&◌, List, [], ◌∷◌, length, get_or}
-use Rattle.std.proofs.Common.{All, refl, sym, ap, ◌∙◌, subst, arith, inl, inr}
-use Rattle.std.specs.List.{AllByRecursion}
-use Rattle.std.proofs.lemmas.Bool.{and_parts, cases_lt, eq-eqb}
+use Rattle.std.proofs.Common.{◌≡◌, ◌≢◌, ℕ, zero, suc, ◌<◌, ◌^◌, ◌↔◌, Bool, true, ◌&&◌, List, [], ◌∷◌, eqb, get_or}
+use Rattle.std.proofs.Common.{Option, Some, None, refl, sym, ap, ◌∙◌, subst, arith, inl, inr}
+use Rattle.std.specs.List.{AllByRecursion, find}
+use Rattle.std.proofs.lemmas.Bool.{and_parts, cases_eq, cases_lt, eq-eqb, ne_eqb}
 use Rattle.std.proofs.lemmas.List.{get_or_past}
-use Rattle.std.proofs.lemmas.List.Elements.{All-from_recursion}
+use Rattle.std.proofs.lemmas.List.Elements.{All-cons, All-from_recursion, All-head, All-nil, All-tail}
 use Rattle.std.proofs.lemmas.List.Sums.{AllPass-from_list_all, list_all-from_AllPass}
 use Rattle.scf_insn.specs.declared.record.CallRecord.{CallRecord}
 use Rattle.scf_insn.specs.Words.{IsRecord, argument}
 use Rattle.scf_profile.specs.declared.condition.Condition.{Condition}
 use Rattle.scf_profile.specs.declared.rule.Rule.{Rule}
 use Rattle.scf_profile.specs.Condition.{holds}
+use Rattle.scf_profile.specs.Limits.{arguments}
 use Rattle.scf_profile.specs.Rule.{Conflicts, HaveDistinctIndices, IsCondition, IsRule, all_hold}
 use Rattle.scf_profile.specs.internal.Overlaps.{HoldAt, Overlap}
 
--- two conditions on one argument are one
-same_place : (cs : List Condition) (k j : ℕ) (c d : Condition) → HaveDistinctIndices cs → k < length cs → j < length cs
-    → (get_or cs j d).index ≡ (get_or cs k c).index → get_or cs j d ≡ get_or cs k c
-same_place [] k j c d h below below_too e = absurd (let none : k < 0 = below in omega arith)
-same_place (x ∷ xs) zero zero c d h below below_too e = refl
-same_place (x ∷ xs) zero (suc j) c d h below below_too e =
-    absurd (All-from_recursion (λ y. x.index ≢ y.index) xs h.0 j d (omega arith) (sym e))
-same_place (x ∷ xs) (suc k) zero c d h below below_too e =
-    absurd (All-from_recursion (λ y. x.index ≢ y.index) xs h.0 k c (omega arith) e)
-same_place (x ∷ xs) (suc k) (suc j) c d h below below_too e = same_place xs k j c d h.1 (omega arith) (omega arith) e
+-- what holds of a condition where it is on the argument
+abbrev HoldsOn : ℕ → ℕ → Condition → Type 0
+HoldsOn index n c = c.index ≡ index → holds c n ≡ true
 
--- the one condition on an argument says what all do
-pub hold_by_one : (cs : List Condition) (k : ℕ) (c : Condition) (index n : ℕ) → HaveDistinctIndices cs → k < length cs
-    → (get_or cs k c).index ≡ index → (holds (get_or cs k c) n ≡ true) ↔ HoldAt cs index n
-hold_by_one cs k c index n h below on = (
-  λ held j d below_too on_too. ap (λ (x : Condition). holds x n)
-      (same_place cs k j c d h below below_too (on_too ∙ sym on)) ∙ held,
-  λ all. all k c below on,
-)
+-- the one condition on an argument says what all do, and where none is on it any number will do
+abbrev HoldByOne : List Condition → ℕ → ℕ → Option Condition → Type 0
+HoldByOne cs index n None = HoldAt cs index n
+HoldByOne cs index n (Some c) = (holds c n ≡ true) ↔ HoldAt cs index n
 
--- where none is on the argument, any number will do
-pub hold_by_none : (cs : List Condition) (index n : ℕ) → All (λ c. c.index ≢ index) cs → HoldAt cs index n
-hold_by_none cs index n none k c below on = absurd (none k c below on)
+by_others : (c : Condition) (cs : List Condition) (index n : ℕ) → HoldsOn index n c → (found : Option Condition)
+    → HoldByOne cs index n found → HoldByOne (c ∷ cs) index n found
+by_others c cs index n here None all = All-cons (HoldsOn index n) c cs here all
+by_others c cs index n here (Some d) one =
+    (λ held. All-cons (HoldsOn index n) c cs here (one.0 held), λ all. one.1 (All-tail (HoldsOn index n) c cs all))
+
+hold_by_first : (cs : List Condition) (index n : ℕ) → HaveDistinctIndices cs
+    → HoldByOne cs index n (find (λ c. eqb c.index index) cs)
+hold_by_first [] index n h = All-nil (HoldsOn index n)
+hold_by_first (c ∷ cs) index n h =
+    elim (cases_eq c.index index) [
+      | inl same ↦ rw (eq-eqb c.index index same) (
+        λ held. All-cons (HoldsOn index n) c cs (λ _. held)
+            (λ k d lt on. absurd (All-from_recursion (λ e. c.index ≢ e.index) cs h.0 k d lt (same ∙ sym on))),
+        λ all. All-head (HoldsOn index n) c cs all same,
+      )
+      | inr apart ↦ rw (ne_eqb c.index index apart)
+          (by_others c cs index n (λ on. absurd (apart on)) _ (hold_by_first cs index n h.1))
+    ]
+
+pub hold_by_found : (cs : List Condition) (index n : ℕ) → HaveDistinctIndices cs → (found : Option Condition)
+    → found ≡ find (λ c. eqb c.index index) cs → HoldByOne cs index n found
+hold_by_found cs index n h found is = rw is (hold_by_first cs index n h)
 
 -- ---- two rules
 
@@ -48,14 +58,14 @@ held_at call cs all i k c below on =
 
 -- a call of whose arguments the conditions hold
 all_held : (call : CallRecord) (cs : List Condition) → AllByRecursion IsCondition cs
-    → ((i : ℕ) → i < 6 → HoldAt cs i (argument call i)) → all_hold call cs ≡ true
+    → ((i : ℕ) → i < arguments → HoldAt cs i (argument call i)) → all_hold call cs ≡ true
 all_held call cs each held =
     list_all-from_AllPass (λ c. holds c (argument call c.index)) cs
     (λ k c below. held (get_or cs k c).index (All-from_recursion IsCondition cs each k c below).index k c below refl)
 
 -- a number for each argument makes a call that meets both rules
 module _ (r s : Rule) (rule : IsRule r) (other : IsRule s) (overlap : Overlap r.conditions s.conditions) where
-  abbrev number : (i : ℕ) → i < 6 → ℕ
+  abbrev number : (i : ℕ) → i < arguments → ℕ
   number i lt = (overlap i lt).number
 
   abbrev call : CallRecord
@@ -69,7 +79,7 @@ module _ (r s : Rule) (rule : IsRule r) (other : IsRule s) (overlap : Overlap r.
   }
 
   -- what holds of each number with its index holds of the arguments with theirs
-  at_arguments : (P : ℕ → ℕ → Type 0) → ((i : ℕ) (lt : i < 6) → P i (number i lt)) → (i : ℕ) → i < 6
+  at_arguments : (P : ℕ → ℕ → Type 0) → ((i : ℕ) (lt : i < arguments) → P i (number i lt)) → (i : ℕ) → i < arguments
       → P i (argument call i)
   at_arguments P h zero lt = h 0 (omega arith)
   at_arguments P h (suc zero) lt = h 1 (omega arith)
@@ -85,7 +95,7 @@ module _ (r s : Rule) (rule : IsRule r) (other : IsRule s) (overlap : Overlap r.
     arch = omega arith;
     ip = omega arith;
     count = refl;
-    args = λ i. elim (cases_lt i 6) [
+    args = λ i. elim (cases_lt i arguments) [
       | inl lt ↦ at_arguments (λ j n. n < 2 ^ 64) (λ j lt. (overlap j lt).fits) i lt
       | inr past ↦ let none : argument call i ≡ 0 = get_or_past call.args i 0 past in omega arith
     ];

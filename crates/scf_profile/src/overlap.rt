@@ -1,6 +1,7 @@
 //! Whether a call can meet the conditions of two rules.
 
-ghost use Rattle.std.specs.Prelude.{◌≡◌, ◌<◌, ◌^◌, ◌↔◌, ℕ, IfSome, IsTrue, true};
+ghost use Rattle.std.specs.Prelude.{◌≡◌, ◌<◌, ◌^◌, ◌↔◌, ◌==◌, ℕ, IfSome, IsTrue, option_map, true};
+ghost use Rattle.std.specs.List.{find};
 ghost use Rattle.scf_profile.specs.Rule.{HaveDistinctIndices};
 ghost use Rattle.scf_profile.specs.internal.NumberSets.{IsNumberSet, is_in_some};
 ghost use Rattle.scf_profile.specs.internal.Overlaps.{HoldAt, Overlap, OverlapAt};
@@ -9,6 +10,13 @@ use crate::condition::Condition;
 use crate::limits::ARGUMENTS;
 use crate::number_set::NumberSet;
 
+/// The first condition on an argument.
+fn condition_on(conditions: &[Condition], index: u8) -> Option<&Condition>
+    ensures { option_map (λ c. c.now) result ≡ find (λ c. c.index == index) conditions.now }
+{
+    conditions.iter().find(|condition| condition.index == index)
+}
+
 /// The numbers of which the conditions on an argument hold, where there are any.
 fn numbers_at(conditions: &[Condition], index: u8) -> Option<NumberSet>
     requires { HaveDistinctIndices conditions.now }
@@ -16,12 +24,10 @@ fn numbers_at(conditions: &[Condition], index: u8) -> Option<NumberSet>
         → (is_in_some result n ≡ true) ↔ HoldAt conditions.now index n }
     ensures set { IfSome result IsNumberSet }
 {
-    for condition in conditions {
-        if condition.index == index {
-            return condition.numbers();
-        }
+    match condition_on(conditions, index) {
+        Some(condition) => condition.numbers(),
+        None => Some(NumberSet::AtLeast(0)),
     }
-    Some(NumberSet::AtLeast(0))
 }
 
 /// Whether the conditions of both lists on an argument hold of some number.

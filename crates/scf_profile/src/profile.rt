@@ -1,12 +1,13 @@
 //! A profile: a default answer, and rules that never answer one call differently.
 
-ghost use Rattle.std.specs.Prelude.{◌≡◌, ◌<◌, ◌↔◌, IsTrue, All, min};
-ghost use Rattle.std.specs.List.{reduce};
+ghost use Rattle.std.specs.Prelude.{◌≡◌, ◌<◌, ◌↔◌, IsTrue, All, min, option_map};
+ghost use Rattle.std.specs.List.{find, reduce};
 ghost use Rattle.scf_profile.specs.Limits.{arguments};
 ghost use Rattle.scf_profile.specs.Profile.{IsProfile, IsNative};
 ghost use Rattle.scf_profile.specs.PlainProfile.{IsPlainProfile, IsPlainRule};
 ghost use Rattle.scf_profile.specs.ProfileAnswers.{ProfileAnswers};
 ghost use Rattle.scf_profile.specs.Reasons.{IsReason, entries_met};
+ghost use Rattle.scf_profile.specs.Rule.{meets};
 
 use crate::reason::Reason;
 use crate::rule::Rule;
@@ -123,12 +124,18 @@ fn answer_of(default_answer: Answer, rules: &[Rule], call: &CallRecord) -> Answe
     ensures { ProfileAnswers (record { default_answer = default_answer; rules = rules.now })
         call.now result.0 }
 {
-    for rule in rules {
-        if rule.is_met(call) {
-            return rule.answer;
-        }
+    match first_met(rules, call) {
+        Some(rule) => rule.answer,
+        None => default_answer,
     }
-    default_answer
+}
+
+/// The first rule that a call meets.
+fn first_met<'r>(rules: &'r [Rule], call: &CallRecord) -> Option<&'r Rule>
+    requires { All (λ r. All (λ c. c.index < arguments) r.conditions) rules.now }
+    ensures { option_map (λ r. r.now) result ≡ find (λ r. meets r call.now) rules.now }
+{
+    rules.iter().find(|rule| rule.is_met(call))
 }
 
 /// The least place of an entry of which a call meets a rule.
