@@ -1,11 +1,11 @@
 -- One line of a table after the other.
-use Rattle.std.proofs.Common.{◌≡◌, ℕ, ◌+◌, ◌⊎◌, inl, inr, Bool, true, false, not, List, [], ◌∷◌, Option, None, Some}
-use Rattle.std.proofs.Common.{Result, Ok, Err, refl, sym, ◌∙◌, cond}
+use Rattle.std.proofs.Common.{◌≡◌, ℕ, ◌+◌, ◌⊎◌, inl, inr, List, [], ◌∷◌, Option, None, Some, Result}
+use Rattle.std.proofs.Common.{Ok, Err, refl, sym, ◌∙◌}
 use Rattle.scf_profile.specs.declared.table_fault.TableFault.{TableFault}
 use Rattle.scf_profile.specs.declared.table_fault.TableFault.TheVariants as faults
-use Rattle.scf_profile.specs.Steps.{some_or, refused_if, ◌>>=◌}
-use Rattle.scf_profile.specs.Table.{Names, with_line, with_lines, with_entry, fields, entry_in, two_fields, pair_of}
-use Rattle.scf_profile.specs.Table.{begins_comment, is_name, call_number, HasCall, IsPassedOver, BeginWithCall}
+use Rattle.scf_profile.specs.Steps.{◌>>=◌}
+use Rattle.scf_profile.specs.Table.{Names, with_line, with_lines, with_entry, fields, entry_in, HasCall}
+use Rattle.scf_profile.specs.Table.{BeginWithCall}
 
 module _ (number : ℕ) (names : Names) (line : List ℕ) (texts : List (List ℕ)) (total : Result Names TableFault) where
   pub line_fails : (e : TableFault) → with_line number names line ≡ Err e
@@ -28,34 +28,6 @@ unfolding with_lines
 no_lines number names total h = sym h
 
 -- ---- when memory is wanted
-refused_for_name : (line : ℕ) (b : Bool) (found : Option ℕ) (name : List ℕ)
-    → ◌>>=◌ {B = Option (List ℕ × ℕ)} (refused_if b (faults.Name line))
-    (λ _. ◌>>=◌ {B = Option (List ℕ × ℕ)} (some_or found (faults.Number line)) (λ n. Ok (Some (name, n))))
-    ≡ Err faults.Memory → ⊥
-refused_for_name line true found name e = cc
-refused_for_name line false None name e = cc
-refused_for_name line false (Some n) name e = cc
-
-pair_wants_none : (line : ℕ) (name digits : List ℕ) → pair_of line name digits ≡ Err faults.Memory → ⊥
-unfolding pair_of
-pair_wants_none line name digits e = refused_for_name line (not (is_name name)) (call_number digits) name e
-
-two_want_none : (line : ℕ) (name : List ℕ) (others : List (List ℕ))
-    → two_fields line name others ≡ Err faults.Memory → ⊥
-two_want_none line name [] e = cc
-two_want_none line name (digits ∷ []) e = pair_wants_none line name digits e
-two_want_none line name (digits ∷ more ∷ others) e = cc
-
-unless_comment : (b : Bool) (o : Result (Option (List ℕ × ℕ)) TableFault) → (o ≡ Err faults.Memory → ⊥)
-    → cond b (Ok None) o ≡ Err faults.Memory → ⊥
-unless_comment true o none e = cc
-unless_comment false o none e = none e
-
--- no fault of a line is want of memory
-pub line_wants_none : (line : ℕ) (parts : List (List ℕ)) → entry_in line parts ≡ Err faults.Memory → ⊥
-line_wants_none line [] e = cc
-line_wants_none line (name ∷ others) e =
-    unless_comment (begins_comment name) (two_fields line name others) (two_want_none line name others) e
 
 pub same_fault : {A : Type 0} (result : Result A TableFault) (p e : TableFault) → result ≡ Err p → p ≡ e
     → result ≡ Err faults.Memory → e ≡ faults.Memory

@@ -1,10 +1,11 @@
 //! The lines of a call table, and the name and the number on one.
 
 ghost use Rattle.std.specs.Prelude.{◌≡◌, ◌<◌, ◌≤◌, [], ◌∷◌, length, nat_lt, if◌then◌else◌, slice_index, false};
-ghost use Rattle.std.specs.Prelude.{option_map, IfOk, IfSome};
+ghost use Rattle.std.specs.Prelude.{option_map, ◌≢◌, IfErr, IfOk, IfSome};
 ghost use Rattle.std.specs.List.{list_all};
 ghost use Rattle.std.specs.Str.Lines.{lines, strip_carriage_return as without_carriage_return};
 ghost use Rattle.scf_insn.specs.Kernel.{x32_syscall_bit};
+ghost use Rattle.scf_profile.specs.declared.table_fault.TableFault.TheVariants.{Memory};
 ghost use Rattle.scf_profile.specs.internal.Results.{result_map};
 ghost use Rattle.scf_profile.specs.Table.{is_blank as blank, fields, begins_name as name_begins, is_in_name as in_name};
 ghost use Rattle.scf_profile.specs.Table.{is_name as name_is, call_number as number_stated, entry_in};
@@ -114,6 +115,7 @@ pub(crate) fn entry_on(line: usize, text: &[u8]) -> Result<Option<(&str, u32)>, 
     ensures value { result_map (option_map (λ e. (e.0.now, e.1))) result
         ≡ entry_in line (fields text.now) }
     ensures range { IfOk result (λ found. IfSome found (λ e. e.1 < x32_syscall_bit)) }
+    ensures err { IfErr result (λ e. e ≢ Memory) }
 {
     let (name, rest) = first_field(text);
     if name.is_empty() || name[0] == b'#' {
