@@ -23,8 +23,8 @@ pub enum Operator {
     MaskedEqual,
 }
 
-/// A condition on the argument at `index`, which is from 0 to 5 in a loaded profile. Only `MaskedEqual` looks at
-/// `value_two`.
+/// A condition on the argument at `index`, which is below the count of arguments in a loaded profile. Only
+/// `MaskedEqual` looks at `value_two`.
 #[derive(Clone, Copy, Debug, PartialEq, Eq)]
 pub struct Condition {
     pub index: u8,
@@ -64,6 +64,7 @@ impl Condition {
     }
 
     /// The numbers of which it holds, where there are any.
+    #[tactic(auto, using(crate::proofs::Masks::masked_twice))]
     pub(crate) fn numbers(&self) -> Option<NumberSet>
         ensures same { (n : ℕ) → n < 2 ^ 64 → is_in_some result n ≡ holds self.now n }
         ensures set { IfSome result IsNumberSet }

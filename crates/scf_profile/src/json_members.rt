@@ -17,6 +17,7 @@ pub(crate) fn member_of<'v>(object: &'v Value, name: &str) -> Option<&'v Value>
 }
 
 /// Whether an array has an item.
+#[tactic(auto, using(crate::proofs::Loops::items_there))]
 pub(crate) fn has_items(items: &[Value]) -> bool
     ensures { result ≡ items_there (items_view items.now) }
 {
@@ -24,6 +25,7 @@ pub(crate) fn has_items(items: &[Value]) -> bool
 }
 
 /// Whether an object has a member.
+#[tactic(auto, using(crate::proofs::Loops::members_there))]
 pub(crate) fn has_members(members: &Map<String, Value>) -> bool
     ensures { result ≡ members_there (members_view members.now.entries) }
 {

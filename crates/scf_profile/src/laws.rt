@@ -9,17 +9,20 @@ ghost use Rattle.scf_profile.specs.ProfileAnswers.{ProfileAnswers};
 ghost use Rattle.scf_profile.specs.Reasons.{IsAnswerOf, IsReason};
 
 /// Every call has an answer.
+#[tactic(auto, using(crate::proofs::Answering::some_answer))]
 pub fn some_answer()
     ensures { (p : Profile) (call : CallRecord) → (answer : ℕ) × ProfileAnswers p call answer }
 {}
 
 /// Where no two rules conflict, a call record has one answer only.
+#[tactic(auto, using(crate::proofs::Answering::one_answer))]
 pub fn one_answer()
     ensures { (p : Profile) (call : CallRecord) (a b : ℕ) → HaveNoConflict p.rules → IsRecord call
         → ProfileAnswers p call a → ProfileAnswers p call b → a ≡ b }
 {}
 
 /// Where no two rules conflict, the answer to a call record is the answer of its reason.
+#[tactic(auto, using(crate::proofs::Reasons::answer_of_reason))]
 pub fn answer_of_reason()
     ensures { (p : Profile) (call : CallRecord) (reason : Reason) (answer : ℕ) → HaveNoConflict p.rules
         → IsRecord call → IsReason p call reason → ProfileAnswers p call answer → IsAnswerOf p call reason answer }

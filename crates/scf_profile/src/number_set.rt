@@ -16,6 +16,7 @@ pub(crate) enum NumberSet {
 
 impl NumberSet {
     /// Its least number.
+    #[tactic(auto, using(crate::proofs::Masks::least_masked))]
     fn least(self) -> u64
         requires { IsNumberSet self }
         ensures { IsLeastOf self result }
@@ -29,6 +30,7 @@ impl NumberSet {
     }
 
     /// Its greatest number.
+    #[tactic(auto, using(crate::proofs::Masks::greatest_masked))]
     fn greatest(self) -> u64
         requires { IsNumberSet self }
         ensures { IsGreatestOf self result }
