@@ -32,15 +32,10 @@ module _ (refs : List (Bor Rule)) (i : ℕ) (rule : Bor Rule) (lt : i < length r
     pub one_more : IfSome least (λ c. (known ≡ Some c) ⊎ IsClashAmong (rules_at refs) later c)
         → (clash : Option Clash) → IfSome clash (λ c. IsClash rule.now later c) → (more ≡ least) ⊎ (more ≡ clash)
         → IfSome more (λ c. (known ≡ Some c) ⊎ IsClashAmong (rules_at refs) later c)
-    one_more had clash found (inl e) =
-        subst (λ (o : Option Clash). IfSome o (λ c. (known ≡ Some c) ⊎ IsClashAmong (rules_at refs) later c)) (sym e)
-        had
-    one_more had None found (inr e) =
-        subst (λ (o : Option Clash). IfSome o (λ c. (known ≡ Some c) ⊎ IsClashAmong (rules_at refs) later c)) (sym e)
-        tt
+    one_more had clash found (inl e) = rw e had
+    one_more had None found (inr e) = rw e tt
     one_more had (Some c) found (inr e) =
-        subst (λ (o : Option Clash). IfSome o (λ c. (known ≡ Some c) ⊎ IsClashAmong (rules_at refs) later c)) (sym e)
-        (inr (record {
+        rw e (inr (record {
           rule = rule.now;
           has_rule = is_among (rules_at refs) i rule.now inside rule_is;
           clash = found;

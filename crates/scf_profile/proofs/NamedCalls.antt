@@ -32,27 +32,21 @@ use Rattle.scf_profile.specs.Table.{Names}
 use Rattle.scf_profile.specs.internal.NamesByNumber.{Named, call_of, names_under, names_with, AreByNumber}
 use Rattle.scf_profile.proofs.NamesOf.{get_named}
 
--- elements in the order of their keys, and keys in order
+-- keys are in order where the elements are in the order of their keys
 module _ {X K : Type 0} (c : K → K → Ordering) (key : X → K) where
-  above_keys : (k : K) (xs : List X) → AllByRecursion (λ y. c k y ≡ Less) (map key xs)
-      → AllByRecursion (λ x. c k (key x) ≡ Less) xs
-  above_keys k [] h = h
-  above_keys k (x ∷ xs) h = (h.0, above_keys k xs h.1)
+  keys_above : (k : K) (xs : List X)
+      → AllByRecursion (λ y. c k y ≡ Less) (map key xs) ↔ AllByRecursion (λ x. c k (key x) ≡ Less) xs
+  keys_above k [] = (λ h. h, λ h. h)
+  keys_above k (x ∷ xs) = (λ h. (h.0, (keys_above k xs).0 h.1), λ h. (h.0, (keys_above k xs).1 h.1))
 
-  keys_above : (k : K) (xs : List X) → AllByRecursion (λ x. c k (key x) ≡ Less) xs
-      → AllByRecursion (λ y. c k y ≡ Less) (map key xs)
-  keys_above k [] h = h
-  keys_above k (x ∷ xs) h = (h.0, keys_above k xs h.1)
-
-  sorted_by_key : (xs : List X) → IsStrictlySortedBy c (map key xs) → IsStrictlySortedBy (λ x y. c (key x) (key y)) xs
+  sorted_keys : (xs : List X)
+      → IsStrictlySortedBy c (map key xs) ↔ IsStrictlySortedBy (λ x y. c (key x) (key y)) xs
   unfolding IsStrictlySortedBy
-  sorted_by_key [] h = h
-  sorted_by_key (x ∷ xs) h = (above_keys (key x) xs h.0, sorted_by_key xs h.1)
-
-  sorted_keys : (xs : List X) → IsStrictlySortedBy (λ x y. c (key x) (key y)) xs → IsStrictlySortedBy c (map key xs)
-  unfolding IsStrictlySortedBy
-  sorted_keys [] h = h
-  sorted_keys (x ∷ xs) h = (keys_above (key x) xs h.0, sorted_keys xs h.1)
+  sorted_keys [] = (λ h. h, λ h. h)
+  sorted_keys (x ∷ xs) = (
+    λ h. ((keys_above (key x) xs).0 h.0, (sorted_keys xs).0 h.1),
+    λ h. ((keys_above (key x) xs).1 h.0, (sorted_keys xs).1 h.1),
+  )
 
 abbrev TableEntry : Type 0
 TableEntry = String Global × ℕ
@@ -99,16 +93,16 @@ module _ (numbers : BTreeMap (String Global) ℕ) (ordered : IsOrdered string_cm
   entries = numbers.entries
 
   in_order : IsStrictlySortedBy (λ (x y : TableEntry). string_cmp x.0 y.0) entries
-  in_order = sorted_by_key string_cmp (λ (e : TableEntry). e.0) entries ordered
+  in_order = (sorted_keys string_cmp (λ (e : TableEntry). e.0) entries).0 ordered
 
   names_rise : (n : ℕ) → IsStrictlySortedBy by_bytes (names_with n entries)
   names_rise n =
-      sorted_keys by_bytes (λ (e : TableEntry). string_bytes e.0) (filter (has_number n) entries)
+      (sorted_keys by_bytes (λ (e : TableEntry). string_bytes e.0) (filter (has_number n) entries)).1
       (IsStrictlySortedBy-filter _ (has_number n) entries in_order)
 
   distinct : IsDistinct (eq_by_cmp by_bytes) (keys_of (map named entries))
   distinct =
-      let rising = sorted_keys by_bytes (λ (e : TableEntry). string_bytes e.0) entries in_order in
+      let rising = (sorted_keys by_bytes (λ (e : TableEntry). string_bytes e.0) entries).1 in_order in
       IsDistinct-from_sorted by_bytes _ (subst (IsStrictlySortedBy by_bytes) (sym (keys_named entries)) rising)
 
   got : (q : List ℕ) → get (names_of entries) q ≡ lookup (eq_by_cmp by_bytes q) (map named entries)
