@@ -12,13 +12,13 @@ use Rattle.scf_profile.specs.Profile.{HaveNoConflict}
 use Rattle.scf_profile.specs.Table.{Names}
 use Rattle.scf_profile.specs.StatedProfile.{profile_of}
 
--- the text is short enough, and JSON for the value, nested at most 127 deep
+-- the text is short enough, and JSON for the value, nested at most as deep as serde_json reads
 pub record IsText (text : List ℕ) (d : Data) : Type 0 where
   pub short : length text ≤ max_text_len
   pub utf8 : IsUtf8 text
   pub value : read text ≡ Some d
 
--- the text is short enough, but no UTF-8, or no JSON that is nested at most 127 deep
+-- the text is short enough, but no UTF-8, or no JSON that is nested at most as deep as serde_json reads
 pub record HasNoReading (text : List ℕ) : Type 0 where
   pub short : length text ≤ max_text_len
   pub no_value : IsUtf8 text → read text ≡ None

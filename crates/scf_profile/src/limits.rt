@@ -6,6 +6,9 @@ pub const MAX_TEXT_LEN: usize = 4_194_304;
 /// The most rules of a profile.
 pub const MAX_RULES: usize = 4096;
 
+/// How deep arrays and objects may stand in one another: deeper JSON is not read (serde_json, `max_depth`).
+pub(crate) const MAX_DEPTH: u8 = 127;
+
 /// How many arguments a call has (linux/seccomp.h, struct seccomp_data).
 pub(crate) const ARGUMENTS: u8 = 6;
 

@@ -3,7 +3,7 @@
 ghost use Rattle.std.specs.Prelude.{◌≡◌};
 ghost use Rattle.scf_profile.specs.declared.load_fault.LoadFault.TheVariants as faults;
 
-use crate::limits::{ARGUMENTS, MAX_ERRNO, MAX_RULES, MAX_TEXT_LEN};
+use crate::limits::{ARGUMENTS, MAX_DEPTH, MAX_ERRNO, MAX_RULES, MAX_TEXT_LEN};
 use scf_insn::Memory;
 use std::alloc::{AllocError, AllocFailed};
 use std::fmt;
@@ -26,8 +26,8 @@ impl fmt::Display for InEntry {
 /// None where it stands outside of them.
 #[derive(Clone, Copy, Debug, PartialEq, Eq, Error)]
 pub enum LoadFault {
-    /// The text is no UTF-8, or no JSON that is nested at most 127 deep.
-    #[error("no JSON, or nested more than 127 deep")]
+    /// The text is no UTF-8, or no JSON that is nested at most `MAX_DEPTH` deep.
+    #[error("no JSON, or nested more than {most} deep", most = MAX_DEPTH)]
     Json,
     #[error("{place}a member is missing", place = InEntry(*.entry))]
     Missing {
