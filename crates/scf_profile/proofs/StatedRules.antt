@@ -1,12 +1,12 @@
 -- The rules that entries state: their ranges, and one answer for each entry.
-use Rattle.std.proofs.Common.{◌≡◌, ℕ, true, false, ◌+◌, ◌<◌, ◌≤◌, ◌^◌, ◌⊎◌, List, [], ◌∷◌, ◌++◌, length}
-use Rattle.std.proofs.Common.{Some, None, Ok, All, refl, sym, ◌∙◌, subst, arith, inl, inr}
+use Rattle.std.proofs.Common.{◌≡◌, ℕ, suc, true, false, ◌+◌, ◌<◌, ◌^◌, List, [], ◌∷◌, ◌++◌, length, get_or, map}
+use Rattle.std.proofs.Common.{Some, None, Ok, All, refl, sym, ap, ◌∙◌, subst, arith, inl, inr}
 use Rattle.std.specs.Prelude.{Contains, nat_lt, option_map}
 use Rattle.std.specs.List.{cons_option, filter}
 use Rattle.std.specs.FinMap.{get}
 use Rattle.std.proofs.lemmas.Bool.{cases_lt, cases_order, lt-ltb, le-ltb}
 use Rattle.std.proofs.lemmas.List.Elements.{recursion_from_All, All-nil, All-cons, All-append, All-head, All-tail}
-use Rattle.std.proofs.lemmas.List.Elements.{All-contains, Contains-append_cases, filter-append}
+use Rattle.std.proofs.lemmas.List.Elements.{All-contains, All-weaker, filter-append}
 use Rattle.std.proofs.lemmas.List.Elements.{filter_map-append}
 use Rattle.scf_profile.specs.declared.entry.Entry.{Entry}
 use Rattle.scf_profile.specs.declared.rule.Rule.{Rule}
@@ -44,42 +44,32 @@ all_rules table below place (e ∷ es) h =
     e.names)
     (all_rules table below (place + 1) es (All-tail IsEntry e es h))
 
--- rules of entries from a place on
-from_place : (table : Names) (place : ℕ) (es : List Entry) → All (λ r. place ≤ r.entry) (rules_from table place es)
-from_place table place [] = All-nil (λ r. place ≤ r.entry)
-from_place table place (e ∷ es) =
-    All-append (λ r. place ≤ r.entry) (rules_named table place e e.names) (rules_from table (place + 1) es)
-    (all_named (λ r. place ≤ r.entry) table place e (λ name number is. omega arith) e.names)
-    (λ k d lt. let h = from_place table (place + 1) es k d lt in omega arith)
+-- a rule has the answer of the entry at its place, where these are the answers of the entries from a place on
+abbrev HasItsAnswer : ℕ → List Answer → Rule → Type 0
+HasItsAnswer place answers r =
+    (k : ℕ) × (r.entry ≡ place + k) × (r.answer ≡ get_or answers k (record { 0 = 0 }))
 
-module _ (table : Names) (place : ℕ) (e : Entry) (es : List Entry) (r s : Rule) (same : r.entry ≡ s.entry)
-    (more : Contains (rules_from table (place + 1) es) r → Contains (rules_from table (place + 1) es) s
-    → r.answer ≡ s.answer) where
-  here : (x : Rule) → Contains (rules_named table place e e.names) x → (x.entry ≡ place) × (x.answer ≡ e.answer)
-  here x c =
-      All-contains (λ x. (x.entry ≡ place) × (x.answer ≡ e.answer)) _ x
-      (all_named (λ x. (x.entry ≡ place) × (x.answer ≡ e.answer)) table place e (λ name number is. (refl, refl))
-      e.names) c
-
-  later : (x : Rule) → Contains (rules_from table (place + 1) es) x → place + 1 ≤ x.entry
-  later x c = All-contains (λ x. place + 1 ≤ x.entry) _ x (from_place table (place + 1) es) c
-
-  either_answer : Contains (rules_named table place e e.names) r ⊎ Contains (rules_from table (place + 1) es) r
-      → Contains (rules_named table place e e.names) s ⊎ Contains (rules_from table (place + 1) es) s
-      → r.answer ≡ s.answer
-  either_answer (inl a) (inl b) = (here r a).1 ∙ sym (here s b).1
-  either_answer (inl a) (inr b) = absurd (let x = (here r a).0 in let y = later s b in omega arith)
-  either_answer (inr a) (inl b) = absurd (let x = later r a in let y = (here s b).0 in omega arith)
-  either_answer (inr a) (inr b) = more a b
+have_their_answers : (table : Names) (place : ℕ) (es : List Entry)
+    → All (HasItsAnswer place (map (λ e. e.answer) es)) (rules_from table place es)
+have_their_answers table place [] = All-nil (HasItsAnswer place [])
+have_their_answers table place (e ∷ es) =
+    let answers = map (λ (x : Entry). x.answer) es in
+    let P = HasItsAnswer place (e.answer ∷ answers) in
+    All-append P (rules_named table place e e.names) (rules_from table (place + 1) es)
+    (all_named P table place e (λ name number is. (0, omega arith, refl)) e.names)
+    (All-weaker (HasItsAnswer (place + 1) answers) P (λ r h. (suc h.0, omega (arith, h.1), h.2))
+    (rules_from table (place + 1) es) (have_their_answers table (place + 1) es))
 
 pub one_answer_each : (table : Names) (place : ℕ) (es : List Entry) (r s : Rule)
     → Contains (rules_from table place es) r → Contains (rules_from table place es) s → r.entry ≡ s.entry
     → r.answer ≡ s.answer
-one_answer_each table place [] r s h k same = absurd (let lt : h.0 < 0 = h.1 in omega arith)
-one_answer_each table place (e ∷ es) r s h k same =
-    either_answer table place e es r s same (λ a b. one_answer_each table (place + 1) es r s a b same)
-    (Contains-append_cases (rules_named table place e e.names) (rules_from table (place + 1) es) r h)
-    (Contains-append_cases (rules_named table place e e.names) (rules_from table (place + 1) es) s k)
+one_answer_each table place es r s has_r has_s same =
+    let answers = map (λ (e : Entry). e.answer) es in
+    let all = have_their_answers table place es in
+    let one = All-contains (HasItsAnswer place answers) (rules_from table place es) r all has_r in
+    let two = All-contains (HasItsAnswer place answers) (rules_from table place es) s all has_s in
+    let at : one.0 ≡ two.0 = omega (arith, one.1, two.1) in
+    one.2 ∙ ap (λ (k : ℕ). get_or answers k (record { 0 = 0 })) at ∙ sym two.2
 
 -- ---- one name after another
 
