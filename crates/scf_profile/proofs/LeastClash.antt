@@ -1,12 +1,11 @@
 -- The least of clashes, rule by rule.
-use Rattle.std.proofs.Common.{◌≡◌, ℕ, ◌+◌, ◌<◌, ◌≤◌, ◌⊎◌, List, [], ◌∷◌, length, get_or, take, Option, Some, None, All}
+use Rattle.std.proofs.Common.{◌≡◌, ℕ, ◌+◌, ◌<◌, ◌≤◌, ◌⊎◌, List, [], ◌∷◌, ◌++◌, length, get_or, take, Option, Some, None, All}
 use Rattle.std.proofs.Common.{refl, sym, ap, ◌∙◌, subst, eqb, arith, inl, inr, Bor}
 use Rattle.std.specs.Prelude.{IfSome, IfNone, Contains}
-use Rattle.std.proofs.lemmas.Bool.{cases_eq, eq-eqb, ne_eqb}
+use Rattle.std.proofs.lemmas.Bool.{eq-eqb}
 use Rattle.std.proofs.lemmas.Bool.Decides.{nat_tests}
-use Rattle.std.proofs.lemmas.List.{get_or-map, length-map, take_all}
-use Rattle.std.proofs.lemmas.List.Elements.{All-more, All-weaker, All-contains, All-contains_itself, All-cons}
-use Rattle.std.proofs.lemmas.List.Elements.{All-filter, All-head, All-same, All-tail}
+use Rattle.std.proofs.lemmas.List.{get_or-map, length-map, take_all, take_more}
+use Rattle.std.proofs.lemmas.List.Elements.{All-contains, All-contains_itself, All-filter, All-same, Contains-push_cases}
 use Rattle.scf_profile.specs.declared.conflict.Clash.{Clash}
 use Rattle.scf_profile.specs.declared.rule.Rule.{Rule}
 use Rattle.scf_profile.specs.internal.Clashes.{IsAtMost, IsBoundedBy, IsClash, IsClashAmong}
@@ -15,6 +14,17 @@ use Rattle.scf_profile.specs.Loading.{EntriesConflict, IsLeastConflict}
 use Rattle.scf_profile.specs.Rule.{Conflicts, IsRule}
 use Rattle.scf_profile.specs.RulesByNumber.{rules_of}
 use Rattle.scf_profile.proofs.Answering.{is_among}
+use Rattle.scf_profile.proofs.Numbers.{contains_filtered}
+
+contains_more : {A : Type 0} (xs : List A) (i : ℕ) (x y : A) → i < length xs → x ≡ get_or xs i x
+    → Contains (take (i + 1) xs) y → Contains (take i xs) y ⊎ (x ≡ y)
+contains_more {A} xs i x y lt is h =
+    Contains-push_cases (take i xs) x y
+    (subst (λ (l : List A). Contains l y)
+    (take_more xs i x lt ∙ ap (λ (z : A). take i xs ++ z ∷ []) (sym is)) h)
+
+pub to_the_end : {A : Type 0} (xs : List A) (i : ℕ) (x : A) → length xs ≤ i → Contains xs x → Contains (take i xs) x
+to_the_end {A} xs i x end h = subst (λ (l : List A). Contains l x) (sym (take_all i xs end)) h
 
 -- one more rule is tested with a later one
 module _ (refs : List (Bor Rule)) (i : ℕ) (rule : Bor Rule) (lt : i < length refs)
@@ -41,43 +51,25 @@ module _ (refs : List (Bor Rule)) (i : ℕ) (rule : Bor Rule) (lt : i < length r
           clash = found;
         }))
 
-    pub bounds_more : ((c : Clash) → All (λ r. IsClash r later c → IsBoundedBy least c) (take i (rules_at refs)))
+    pub bounds_more : ((c : Clash) (r : Rule) → Contains (take i (rules_at refs)) r → IsClash r later c
+        → IsBoundedBy least c)
         → ((c : Clash) → IsBoundedBy least c → IsBoundedBy more c)
         → ((c : Clash) → IsClash rule.now later c → IsBoundedBy more c)
-        → (c : Clash) → All (λ r. IsClash r later c → IsBoundedBy more c) (take (i + 1) (rules_at refs))
-    bounds_more so_far keeps here c =
-        All-more (λ r. IsClash r later c → IsBoundedBy more c) (rules_at refs) i rule.now inside
-        (All-weaker (λ r. IsClash r later c → IsBoundedBy least c) (λ r. IsClash r later c → IsBoundedBy more c)
-        (λ r h k. keeps c (h k)) (take i (rules_at refs)) (so_far c))
-        (λ k. here c (subst (λ (r : Rule). IsClash r later c) (sym rule_is) k))
+        → (c : Clash) (r : Rule) → Contains (take (i + 1) (rules_at refs)) r → IsClash r later c → IsBoundedBy more c
+    bounds_more so_far keeps here c r has clash =
+        elim (contains_more (rules_at refs) i rule.now r inside rule_is has) [
+          | inl before ↦ keeps c (so_far c r before clash)
+          | inr same ↦ here c (subst (λ (s : Rule). IsClash s later c) (sym same) clash)
+        ]
 
 pub bounds_all : (refs : List (Bor Rule)) (later : Rule) (least : Option Clash) (i : ℕ)
-    → ((c : Clash) → All (λ r. IsClash r later c → IsBoundedBy least c) (take i (rules_at refs))) → length refs ≤ i
-    → (c : Clash) → All (λ r. IsClash r later c → IsBoundedBy least c) (rules_at refs)
-bounds_all refs later least i so_far end c =
-    All-same (λ r. IsClash r later c → IsBoundedBy least c) (rules_at refs) (take i (rules_at refs))
-    (sym (take_all i (rules_at refs) (omega (arith, length-map refs (λ (r : Bor Rule). r.now))))) (so_far c)
+    → ((c : Clash) (r : Rule) → Contains (take i (rules_at refs)) r → IsClash r later c → IsBoundedBy least c)
+    → length refs ≤ i → (c : Clash) (r : Rule) → Contains (rules_at refs) r → IsClash r later c → IsBoundedBy least c
+bounds_all refs later least i so_far end c r has =
+    so_far c r (to_the_end (rules_at refs) i r (omega (arith, length-map refs (λ (r : Bor Rule). r.now))) has)
 
 same_number : (r s : Rule) → Conflicts r s → r.number ≡ s.number
 same_number r s conflict = grind (arith, nat_tests, conflict.meets_first, conflict.meets_second)
-
--- a rule of another number has no clash with the later one
-all_bounded : (rules : List Rule) (later : Rule) (least : Option Clash) (c : Clash)
-    → All (λ r. IsClash r later c → IsBoundedBy least c) (rules_of later.number rules)
-    → All (λ r. IsClash r later c → IsBoundedBy least c) rules
-all_bounded [] later least c h = h
-all_bounded (r ∷ rs) later least c h =
-    let P : Rule → Type 0 = λ r. IsClash r later c → IsBoundedBy least c in
-    elim (cases_eq r.number later.number) [
-      | inl same ↦
-          let own = rw (eq-eqb r.number later.number same) at h in
-          All-cons P r rs (All-head P r (rules_of later.number rs) own)
-          (all_bounded rs later least c (All-tail P r (rules_of later.number rs) own))
-      | inr apart ↦
-          let others = rw (ne_eqb r.number later.number apart) at h in
-          All-cons P r rs (λ k. absurd (apart (same_number r later k.conflict)))
-          (all_bounded rs later least c others)
-    ]
 
 -- what holds of all rules holds of those of a number
 pub all_own : (P : Rule → Type 0) (rules own : List Rule) (number : ℕ) → own ≡ rules_of number rules → All P rules
@@ -88,19 +80,21 @@ all_own P rules own number is all =
 -- one more later rule is tested with those of its number
 module _ (rules own : List Rule) (least more : Option Clash) (i : ℕ) (later : Rule) (lt : i < length rules)
     (is : later ≡ get_or rules i later) (own_is : own ≡ rules_of later.number rules) where
-  pub later_more : ((c : Clash) → All (λ l. All (λ r. IsClash r l c → IsBoundedBy least c) rules) (take i rules))
+  pub later_more : ((c : Clash) (r l : Rule) → Contains rules r → Contains (take i rules) l → IsClash r l c
+      → IsBoundedBy least c)
       → ((c : Clash) → IsBoundedBy least c → IsBoundedBy more c)
-      → ((c : Clash) → All (λ r. IsClash r later c → IsBoundedBy more c) own)
-      → (c : Clash) → All (λ l. All (λ r. IsClash r l c → IsBoundedBy more c) rules) (take (i + 1) rules)
-  later_more so_far keeps here c =
-      All-more (λ l. All (λ r. IsClash r l c → IsBoundedBy more c) rules) rules i later lt
-      (All-weaker (λ l. All (λ r. IsClash r l c → IsBoundedBy least c) rules)
-      (λ l. All (λ r. IsClash r l c → IsBoundedBy more c) rules)
-      (λ l h. All-weaker (λ r. IsClash r l c → IsBoundedBy least c) (λ r. IsClash r l c → IsBoundedBy more c)
-      (λ r g k. keeps c (g k)) rules h) (take i rules) (so_far c))
-      (subst (λ (l : Rule). All (λ r. IsClash r l c → IsBoundedBy more c) rules) is
-      (all_bounded rules later more c
-      (All-same (λ r. IsClash r later c → IsBoundedBy more c) (rules_of later.number rules) own (sym own_is) (here c))))
+      → ((c : Clash) (r : Rule) → Contains own r → IsClash r later c → IsBoundedBy more c)
+      → (c : Clash) (r l : Rule) → Contains rules r → Contains (take (i + 1) rules) l → IsClash r l c
+      → IsBoundedBy more c
+  later_more so_far keeps here c r l has_r has_l clash =
+      elim (contains_more rules i later l lt is has_l) [
+        | inl before ↦ keeps c (so_far c r l has_r before clash)
+        | inr same ↦
+            let now = subst (λ (s : Rule). IsClash r s c) (sym same) clash in
+            let passes = eq-eqb r.number later.number (same_number r later now.conflict) in
+            let among = contains_filtered (λ (s : Rule). eqb s.number later.number) rules r passes has_r in
+            here c r (subst (λ (rs : List Rule). Contains rs r) (sym own_is) among) now
+      ]
 
   pub conflict_more : IfSome least (λ c. EntriesConflict rules c.first c.second c.number)
       → IfSome more (λ c. (least ≡ Some c) ⊎ IsClashAmong own later c)
@@ -131,14 +125,14 @@ module _ (rules own : List Rule) (least more : Option Clash) (i : ℕ) (later : 
 abbrev pub clash_for : ℕ → ℕ → ℕ → Clash
 clash_for first second number = record { second = second; first = first; number = number }
 
-bounded : (rules : List Rule) (least : Option Clash)
-    → ((c : Clash) → All (λ l. All (λ r. IsClash r l c → IsBoundedBy least c) rules) rules) → (first second number : ℕ)
+abbrev AreBounded : List Rule → Option Clash → Type 0
+AreBounded rules least =
+    (c : Clash) (r l : Rule) → Contains rules r → Contains rules l → IsClash r l c → IsBoundedBy least c
+
+bounded : (rules : List Rule) (least : Option Clash) → AreBounded rules least → (first second number : ℕ)
     → EntriesConflict rules first second number → IsBoundedBy least (clash_for first second number)
 bounded rules least all first second number e =
-    let c = clash_for first second number in
-    All-contains (λ r. IsClash r e.later c → IsBoundedBy least c) rules e.rule
-    (All-contains (λ l. All (λ r. IsClash r l c → IsBoundedBy least c) rules) rules e.later (all c) e.has_later)
-    e.has_rule
+    all (clash_for first second number) e.rule e.later e.has_rule e.has_later
     (record {
       first = e.entry;
       second = e.later_entry;
@@ -149,13 +143,8 @@ bounded rules least all first second number e =
       order_of : (h : EntriesConflict rules first second number) → h.rule.entry < h.later.entry
       order_of h = let lt : first < second = h.order in let l = h.entry in let m = h.later_entry in omega arith
 
-pub no_conflict_from : (rules : List Rule)
-    → ((c : Clash) → All (λ l. All (λ r. IsClash r l c → IsBoundedBy None c) rules) rules) → (first second number : ℕ)
-    → EntriesConflict rules first second number → ⊥
-no_conflict_from rules all first second number e = bounded rules None all first second number e
-
 pub least_conflict_from : (rules : List Rule) (c : Clash) → EntriesConflict rules c.first c.second c.number
-    → ((d : Clash) → All (λ l. All (λ r. IsClash r l d → IsBoundedBy (Some c) d) rules) rules)
+    → AreBounded rules (Some c)
     → IsLeastConflict rules c.number c.first c.second
 least_conflict_from rules c conflict all = record {
   conflict = conflict;
@@ -168,13 +157,13 @@ least_conflict_from rules c conflict all = record {
 
 pub least_found : (rules : List Rule) (least : Option Clash)
     → IfSome least (λ c. EntriesConflict rules c.first c.second c.number)
-    → ((d : Clash) → All (λ l. All (λ r. IsClash r l d → IsBoundedBy least d) rules) rules)
+    → AreBounded rules least
     → IfSome least (λ c. IsLeastConflict rules c.number c.first c.second)
 least_found rules None found all = tt
 least_found rules (Some c) found all = least_conflict_from rules c found all
 
 pub none_found : (rules : List Rule) (least : Option Clash)
-    → ((d : Clash) → All (λ l. All (λ r. IsClash r l d → IsBoundedBy least d) rules) rules)
+    → AreBounded rules least
     → IfNone least ((first second number : ℕ) → EntriesConflict rules first second number → ⊥)
-none_found rules None all = no_conflict_from rules all
+none_found rules None all = bounded rules None all
 none_found rules (Some c) all = tt

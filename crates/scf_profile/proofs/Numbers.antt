@@ -41,7 +41,9 @@ contains_cons_cases : {A : Type 0} (y : A) (ys : List A) (x : A) → Contains (y
 contains_cons_cases y ys x (zero, lt, e) = inl e
 contains_cons_cases y ys x (suc k, lt, e) = inr (k, omega arith, e)
 
-contains_filtered : (p : ℕ → Bool) (xs : List ℕ) (x : ℕ) → p x ≡ true → Contains xs x → Contains (filter p xs) x
+-- an element that passes a test is among those that do
+pub contains_filtered : {A : Type 0} (p : A → Bool) (xs : List A) (x : A) → p x ≡ true → Contains xs x
+    → Contains (filter p xs) x
 contains_filtered p [] x passes h = absurd (let lt : h.0 < 0 = h.1 in omega arith)
 contains_filtered p (y ∷ ys) x passes h =
     elim (contains_cons_cases y ys x h) [

@@ -1,8 +1,9 @@
 //! Conflicts among rules: the least one, among all pairs of one number.
 
-ghost use Rattle.std.specs.Prelude.{◌≡◌, ◌⊎◌, ℕ, IfOk, IfSome, IfNone, All, Some};
+ghost use Rattle.std.specs.Prelude.{◌≡◌, ◌⊎◌, ℕ, IfOk, IfSome, IfNone, All, Some, Contains};
 ghost use Rattle.scf_profile.specs.ByNumber.{rules_at};
 ghost use Rattle.scf_profile.specs.declared.conflict.Clash.{Clash};
+ghost use Rattle.scf_profile.specs.declared.rule.Rule.{Rule};
 ghost use Rattle.scf_profile.specs.internal.Clashes.{IsBoundedBy, IsClash, IsClashAmong};
 ghost use Rattle.scf_profile.specs.Loading.{IsLeastConflict, EntriesConflict};
 ghost use Rattle.scf_profile.specs.Rule.{IsRule};
@@ -59,8 +60,8 @@ fn least_with(rules: &[&Rule], later: &Rule, known: Option<Clash>) -> Option<Cla
     requires rules { All IsRule (rules_at rules.now) }
     requires later { IsRule later.now }
     ensures one { IfSome result (λ c. (known ≡ Some c) ⊎ IsClashAmong (rules_at rules.now) later.now c) }
-    ensures bounds { (c : Clash)
-        → All (λ rule. IsClash rule later.now c → IsBoundedBy result c) (rules_at rules.now) }
+    ensures bounds { (c : Clash) (rule : Rule) → Contains (rules_at rules.now) rule → IsClash rule later.now c
+        → IsBoundedBy result c }
     ensures keeps { (c : Clash) → IsBoundedBy known c → IsBoundedBy result c }
 {
     let mut least = known;

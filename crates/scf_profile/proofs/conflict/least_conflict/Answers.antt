@@ -1,11 +1,9 @@
-use Rattle.std.proofs.Common.{◌≡◌, sym, All}
-use Rattle.std.proofs.lemmas.List.{take_all}
-use Rattle.std.proofs.lemmas.List.Elements.{All-same}
+use Rattle.std.proofs.Common.{◌≡◌}
 use Rattle.scf_profile.specs.ByNumber.{rules_at}
 use Rattle.scf_profile.specs.Rule.{IsRule}
 use Rattle.scf_profile.specs.RulesByNumber.{rules_of}
-use Rattle.scf_profile.specs.internal.Clashes.{IsClash, IsBoundedBy}
 use Rattle.scf_profile.proofs.LeastClash.{all_own, later_more, conflict_more, least_found, none_found}
+use Rattle.scf_profile.proofs.LeastClash.{to_the_end}
 use Rattle.scf_profile.proofs.conflict.least_conflict.Goals as goal
 
 pub rules_of_number-requires : goal.rules_of_number-requires
@@ -37,11 +35,9 @@ loop-later-preserved c =
 pub returns-clause-least : goal.returns-clause-least
 returns-clause-least c =
     least_found c.args.rules.now c.loop-later.least c.loop-later.invariant.one
-    (λ d. All-same (λ l. All (λ r. IsClash r l d → IsBoundedBy c.loop-later.least d) c.args.rules.now)
-    c.args.rules.now _ (sym (take_all _ _ c.loop-later-test.false)) (c.loop-later.invariant.bounds d))
+    (λ d r l has_r has_l. c.loop-later.invariant.bounds d r l has_r (to_the_end _ _ l c.loop-later-test.false has_l))
 
 pub returns-clause-none : goal.returns-clause-none
 returns-clause-none c =
     none_found c.args.rules.now c.loop-later.least
-    (λ d. All-same (λ l. All (λ r. IsClash r l d → IsBoundedBy c.loop-later.least d) c.args.rules.now)
-    c.args.rules.now _ (sym (take_all _ _ c.loop-later-test.false)) (c.loop-later.invariant.bounds d))
+    (λ d r l has_r has_l. c.loop-later.invariant.bounds d r l has_r (to_the_end _ _ l c.loop-later-test.false has_l))
