@@ -1,6 +1,6 @@
 //! The calls of a table by number, each with its names.
 
-ghost use Rattle.std.specs.Prelude.{◌≡◌, ℕ, ◌||◌, ◌==◌, ◌++◌, ◌∷◌, [], if◌then◌else◌, is_some, map, IfOk, OnOk};
+ghost use Rattle.std.specs.Prelude.{◌≡◌, ◌≢◌, ℕ, ◌++◌, ◌∷◌, [], is_some, map, true, IfOk, OnOk};
 ghost use Rattle.std.specs.BTreeMap.{get, IsOrdered};
 ghost use Rattle.std.specs.Ordering.{nat_cmp};
 ghost use Rattle.scf_profile.specs.NamedCalls.{AreCallsOf};
@@ -18,15 +18,15 @@ pub struct NamedCall<'a> {
 }
 
 /// Adds a name to those of its number.
+#[tactic(auto, using(std::proofs::lemmas::List::map_push))]
 fn add_name<'a>(
     named: &mut BTreeMap<u32, Vec<&'a str>>,
     number: u32,
     name: &'a str,
 ) -> Result<(), AllocError>
-    ensures names { OnOk result ((n : ℕ) → names_under named.new n
-        ≡ names_under named.old n ++ (if n == number then name.now ∷ [] else [])) }
-    ensures numbers { OnOk result ((n : ℕ) → is_some (get nat_cmp named.new n)
-        ≡ (is_some (get nat_cmp named.old n) || n == number)) }
+    ensures names { OnOk result (names_under named.new number ≡ names_under named.old number ++ name.now ∷ []) }
+    ensures has { OnOk result (is_some (get nat_cmp named.new number) ≡ true) }
+    ensures others { OnOk result ((n : ℕ) → n ≢ number → get nat_cmp named.new n ≡ get nat_cmp named.old n) }
 {
     named.entry(number)?.or_default().push(name)?;
     Ok(())
