@@ -314,7 +314,7 @@ CONSTRUCTS = {
     "an order of a negation": (by_order_of_negation, True), "an order of a difference": (by_order_of_difference, True),
     "an order of a complement": (by_order_of_complement, True),
     "an order of a high complement": (by_order_of_high_complement, True),
-    "masks joined": (by_joined_masks, False), "two halves joined": (by_joined_halves, False),
+    "masks joined": (by_joined_masks, True), "two halves joined": (by_joined_halves, True),
     "both words joined": (by_joined_words, False), "no bit of both words": (by_no_bit_of_both, False),
 }
 
@@ -409,15 +409,15 @@ def pair_of(dice, construct):
 
 def changed(dice, pair):
     """The pair with a constant of the filter's part behind the tests of the number changed, which is still accepted.
-    The construct stays: factors, divisors, the masks and flips of orders, and a test for 0 of what is joined aren't
-    changed."""
+    The construct stays: factors, divisors, the masks and flips of orders, and, where there are others, the number that
+    what is joined is tested for aren't changed."""
     first = 4 + len(pair.numbers)
     kept = {LD, RET, NEG, TAX, TXA, ST, MUL, DIV}
     if any(code in (JGT, JGE) for code, *_ in pair.program[first:]):
         kept |= {AND, XOR}
     places = [at for at, (code, *_) in enumerate(pair.program)
-              if at >= first and code not in kept and not (code & 7 in (4, 5) and code & X)
-              and pair.program[at - 1][0] != OR | X]
+              if at >= first and code not in kept and not (code & 7 in (4, 5) and code & X)]
+    places = [at for at in places if pair.program[at - 1][0] != OR | X] or places
     while True:
         program, at = list(pair.program), dice.choice(places)
         code, jt, jf, k = pair.program[at]
