@@ -1,14 +1,13 @@
 -- Images of one word that are joined.
-use Rattle.std.proofs.Common.{◌≡◌, ◌≢◌, ℕ, ◌+◌, ◌*◌, ◌/◌, ◌%◌, ◌<◌, ◌≤◌, ◌^◌, ◌↔◌, Bool, true, false, eqb, refl, sym, ap, subst, ◌∙◌, arith}
+use Rattle.std.proofs.Common.{◌≡◌, ℕ, ◌+◌, ◌*◌, ◌/◌, ◌%◌, ◌<◌, ◌≤◌, ◌^◌, ◌↔◌, true, false, eqb, sym, ap, subst, ◌∙◌, arith}
 use Rattle.std.proofs.Common.{bit_and, bit_or, bit_xor, min, max}
 use Rattle.std.specs.Prelude.{List, nat_lt, not, slice_index}
 use Rattle.std.specs.Int.{bit_at}
 use Rattle.std.specs.Int.Bits.{and_zero_r}
 use Rattle.std.proofs.lemmas.Bool.{eq-eqb, eqb-true}
 use Rattle.std.proofs.lemmas.Bool.Decides.{nat_tests}
-use Rattle.std.proofs.lemmas.Nat.{and_assoc, and_comm, and_le_r, or_block, or_lt, or_shr, xor_lt, xor_shr, le_or_l, le_or_r, pow_pos}
+use Rattle.std.proofs.lemmas.Nat.{and_assoc, and_le_r, or_block, or_lt, or_shr, xor_lt, xor_shr, le_or_l, le_or_r, pow_pos}
 use Rattle.std.proofs.lemmas.Nat.Bits.{bit_at_and, bit_at_or, bit_at_xor, bit_at-lt, same_from_bits}
-use Rattle.std.proofs.Math.Nat.{mul-le-mul_left}
 use Rattle.scf_compare.proofs.Bits.{whole_word}
 use Rattle.scf_compare.specs.declared.image.Image.{Image}
 use Rattle.scf_compare.specs.internal.Images.{AreShiftedAlike, shifted_word}

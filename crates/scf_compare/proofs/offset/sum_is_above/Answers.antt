@@ -1,4 +1,4 @@
-use Rattle.std.proofs.Common.{◌≤◌, ◌∙◌, subst, arith, bit_or}
+use Rattle.std.proofs.Common.{subst, arith}
 use Rattle.scf_compare.specs.internal.Images.{shifted_word, image_number}
 use Rattle.scf_compare.specs.internal.Values.{Decides}
 use Rattle.scf_compare.proofs.Offsets.{number_fits, image_within, sum_on_arc, sum_above, sum_above_all}

@@ -1,6 +1,6 @@
 use Rattle.std.proofs.Common.{◌≡◌, ◌↔◌, refl, subst, true}
 use Rattle.std.specs.Prelude.{nat_le, slice_index}
-use Rattle.scf_facts.specs.Atoms.{steps_from, atom_answer}
+use Rattle.scf_facts.specs.Atoms.{steps_from}
 use Rattle.scf_insn.proofs.CallWords.{word_below}
 use Rattle.scf_compare.proofs.Images.{of_whole_word}
 use Rattle.scf_compare.proofs.image.Image.is_on_arc.Goals as goal

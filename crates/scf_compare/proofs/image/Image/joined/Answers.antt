@@ -1,5 +1,4 @@
-use Rattle.std.proofs.Common.{◌≡◌, ◌/◌, ◌*◌, ◌^◌, ◌<◌, ◌∙◌, ap, subst, sym, bit_and, bit_or, bit_xor}
-use Rattle.std.specs.Prelude.{slice_index}
+use Rattle.std.proofs.Common.{◌∙◌, ap, sym, bit_and, bit_or, bit_xor}
 use Rattle.scf_compare.specs.internal.Images.{shifted_word, image_number}
 use Rattle.scf_compare.proofs.Joins.{same_shift, same_fit, joined_and, joined_or, joined_xor, and_mask_fits, or_mask_fits, xor_mask_fits}
 use Rattle.scf_compare.proofs.image.Image.joined.Goals as goal

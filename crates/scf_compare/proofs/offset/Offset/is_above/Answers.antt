@@ -1,4 +1,4 @@
-use Rattle.std.proofs.Common.{ap, subst, sym, arith}
+use Rattle.std.proofs.Common.{subst, sym, arith}
 use Rattle.std.specs.Prelude.{nat_lt}
 use Rattle.scf_compare.specs.internal.Images.{image_number}
 use Rattle.scf_compare.specs.internal.Offsets.{signed_sum}
