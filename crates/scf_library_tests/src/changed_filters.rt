@@ -14,7 +14,6 @@ use scf_test_fixtures::profiles::{
 };
 use std::alloc::{AllocError, Global};
 use std::process::Abort;
-use std::test::Fail;
 
 /// One rule for each operator, each with another answer.
 const ALL_OPERATORS: &str = r#"{"defaultAction":"SCMP_ACT_ERRNO","defaultErrnoRet":38,"syscalls":[
@@ -241,15 +240,15 @@ struct Subject {
     probes: Vec<Probe>,
 }
 
-fn subject_of(alloc: Global, case: &Probed) -> Result<Subject, Fail> {
-    let profile = profile_of(alloc, case.table, case.text)?;
-    let program = compile(alloc, &profile)?;
-    let probes = probes_of(alloc, case, &profile)?;
-    Ok(Subject {
+fn subject_of(rt: &impl Abort, alloc: Global, case: &Probed) -> Subject {
+    let profile = profile_of(rt, alloc, case.table, case.text);
+    let program = compile(alloc, &profile).expect(rt, "no fault");
+    let probes = probes_of(alloc, case, &profile).expect(rt, "no fault");
+    Subject {
         profile,
         program,
         probes,
-    })
+    }
 }
 
 /// What of an instruction is changed.
@@ -322,48 +321,50 @@ impl Subject {
     }
 
     /// What the comparer says of a filter at its effort.
-    fn compare<F: WordFacts>(&self, alloc: Global, program: &Program) -> Result<Verdict, Fail> {
+    fn compare<F: WordFacts>(&self, rt: &impl Abort, alloc: Global, program: &Program) -> Verdict {
         let limit = effort(program, &self.profile);
-        Ok(compare::<F>(alloc, program, &self.profile, limit)?)
+        compare::<F>(alloc, program, &self.profile, limit).expect(rt, "no fault")
     }
 
     /// Whether the filter as it was compiled is told to be the profile's. A list of atoms may leave that open.
-    fn is_own(&self, alloc: Global) -> Result<bool, Fail> {
-        let by_atoms = self.compare::<AtomList>(alloc, &self.program)?;
-        let by_sets = self.compare::<WordSets>(alloc, &self.program)?;
-        Ok(
-            matches!(by_atoms, Verdict::Same { .. } | Verdict::Undecided { .. })
-                && matches!(by_sets, Verdict::Same { .. })
-                && !self.is_told_apart(&self.program),
-        )
+    fn is_own(&self, rt: &impl Abort, alloc: Global) -> bool {
+        let by_atoms = self.compare::<AtomList>(rt, alloc, &self.program);
+        let by_sets = self.compare::<WordSets>(rt, alloc, &self.program);
+        matches!(by_atoms, Verdict::Same { .. } | Verdict::Undecided { .. })
+            && matches!(by_sets, Verdict::Same { .. })
+            && !self.is_told_apart(&self.program)
     }
 
     /// The filter with another instruction at a place, where the checker accepts that.
     fn with_change(
         &self,
+        rt: &impl Abort,
         alloc: Global,
         place: usize,
         changed: Insn,
-    ) -> Result<Option<Program>, Fail> {
-        let mut list = self.program.insns().to_vec(alloc)?;
-        *list.get_mut(place).ok_or("no such place")? = changed;
+    ) -> Option<Program> {
+        let mut list = self.program.insns().to_vec(alloc).expect(rt, "no fault");
+        *list.get_mut(place).expect(rt, "no such place") = changed;
         match check(alloc, list) {
-            Ok(program) => Ok(Some(program)),
-            Err((CheckFault::Memory, _)) => Err(Fail::new(CheckFault::Memory)),
-            Err(_) => Ok(None),
+            Ok(program) => Some(program),
+            Err((fault, _)) => {
+                assert!(rt; fault != CheckFault::Memory);
+                None
+            }
         }
     }
 
     /// Whether what the comparer says of a changed filter can be true.
     fn is_right_of(
         &self,
+        rt: &impl Abort,
         alloc: Global,
         program: &Program,
         part: Part,
         seen: &mut Seen,
-    ) -> Result<bool, Fail> {
-        let by_atoms = self.compare::<AtomList>(alloc, program)?;
-        let by_sets = self.compare::<WordSets>(alloc, program)?;
+    ) -> bool {
+        let by_atoms = self.compare::<AtomList>(rt, alloc, program);
+        let by_sets = self.compare::<WordSets>(rt, alloc, program);
         let is_apart = self.is_told_apart(program);
         if is_apart {
             seen.note(part);
@@ -371,45 +372,41 @@ impl Subject {
         if let Verdict::Differs { .. } = by_atoms {
             seen.shown = true;
         }
-        Ok(
-            is_true(by_atoms, program, &self.profile, is_apart)
-                && is_true(by_sets, program, &self.profile, is_apart),
-        )
+        is_true(by_atoms, program, &self.profile, is_apart)
+            && is_true(by_sets, program, &self.profile, is_apart)
     }
 
     /// The same of each change of the instruction at a place.
-    fn is_right_at(&self, alloc: Global, place: usize, seen: &mut Seen) -> Result<bool, Fail> {
-        let given = self.program.insns().get(place).ok_or("no such place")?;
+    fn is_right_at(&self, rt: &impl Abort, alloc: Global, place: usize, seen: &mut Seen) -> bool {
+        let given = self.program.insns().get(place).expect(rt, "no such place");
         for (part, changed) in changes_of(*given) {
-            if let Some(program) = self.with_change(alloc, place, changed)?
-                && !self.is_right_of(alloc, &program, part, seen)?
+            if let Some(program) = self.with_change(rt, alloc, place, changed)
+                && !self.is_right_of(rt, alloc, &program, part, seen)
             {
-                return Ok(false);
+                return false;
             }
         }
-        Ok(true)
+        true
     }
 }
 
-fn compare_all(rt: &impl Abort, alloc: Global, case: &Probed) -> Result<(), Fail> {
-    let subject = subject_of(alloc, case)?;
-    assert!(rt; subject.is_own(alloc)?, "{}", case.text);
+fn compare_all(rt: &impl Abort, alloc: Global, case: &Probed) {
+    let subject = subject_of(rt, alloc, case);
+    assert!(rt; subject.is_own(rt, alloc), "{}", case.text);
     let mut seen = Seen::nothing();
     for place in 0..subject.program.len() {
         assert!(rt;
-            subject.is_right_at(alloc, place, &mut seen)?,
+            subject.is_right_at(rt, alloc, place, &mut seen),
             "at {place} of {}",
             case.text
         );
     }
     assert!(rt; seen.is_all(), "{}", case.text);
-    Ok(())
 }
 
 #[test]
-fn changed_filters(rt: HostRuntime) -> Result<(), Fail> {
+fn changed_filters(rt: HostRuntime) {
     for case in cases() {
-        compare_all(&rt, rt.alloc(), case)?;
+        compare_all(&rt, rt.alloc(), case);
     }
-    Ok(())
 }

@@ -17,7 +17,6 @@ use scf_test_fixtures::profiles::{
 };
 use std::alloc::Global;
 use std::process::Abort;
-use std::test::Fail;
 
 /// `ONE_CALL` by scratch words; and with another answer in one.
 const STORED: &str =
@@ -174,37 +173,35 @@ fn pairs() -> &'static [Pair] {
 }
 
 /// The filter and the profile of a pair.
-fn made(alloc: Global, pair: &Pair) -> Result<(Program, Profile), Fail> {
-    Ok((
-        assembled(alloc, pair.head, pair.rest)?,
-        profile_of(alloc, pair.table, pair.text)?,
-    ))
+fn made(rt: &impl Abort, alloc: Global, pair: &Pair) -> (Program, Profile) {
+    (
+        assembled(rt, alloc, pair.head, pair.rest),
+        profile_of(rt, alloc, pair.table, pair.text),
+    )
 }
 
 #[test]
-fn efforts(rt: HostRuntime) -> Result<(), Fail> {
+fn efforts(rt: HostRuntime) {
     for pair in pairs() {
-        let (program, profile) = made(rt.alloc(), pair)?;
-        assert_eq!(rt;
-            effort(&program, &profile),
-            pair.effort,
+        let (program, profile) = made(&rt, rt.alloc(), pair);
+        assert!(rt;
+            effort(&program, &profile) == pair.effort,
             "{} {}",
             pair.rest,
             pair.text
         );
     }
-    Ok(())
 }
 
 /// A filter of so many jumps with one target each.
-fn jumps(alloc: Global, count: usize) -> Result<Program, Fail> {
-    let text = "jeq #7, 0, 0;".repeat(alloc, count)?;
-    assembled(alloc, text.as_str(), ALLOW_ALL)
+fn jumps(rt: &impl Abort, alloc: Global, count: usize) -> Program {
+    let text = "jeq #7, 0, 0;".repeat(alloc, count).expect(rt, "no fault");
+    assembled(rt, alloc, text.as_str(), ALLOW_ALL)
 }
 
 #[test]
-fn largest_efforts(rt: HostRuntime) -> Result<(), Fail> {
-    let profile = profile_of(rt.alloc(), "", DEFAULT_ALLOW)?;
+fn largest_efforts(rt: HostRuntime) {
+    let profile = profile_of(&rt, rt.alloc(), "", DEFAULT_ALLOW);
     // 8 times one less than a power of two, while that fits.
     for (count, expected) in [
         (0, 8),
@@ -216,72 +213,70 @@ fn largest_efforts(rt: HostRuntime) -> Result<(), Fail> {
         (64, u64::MAX),
         (4095, u64::MAX),
     ] {
-        let program = jumps(rt.alloc(), count)?;
-        assert_eq!(rt; effort(&program, &profile), expected, "{count}");
+        let program = jumps(&rt, rt.alloc(), count);
+        assert!(rt; effort(&program, &profile) == expected, "{count}");
     }
-    Ok(())
 }
 
 /// A test of the low word of the first argument for each number below 64, whose two ways are one.
-fn tests_of_numbers(alloc: Global) -> Result<Program, Fail> {
-    let mut text = String::from_str(alloc, "ld [16];")?;
+fn tests_of_numbers(rt: &impl Abort, alloc: Global) -> Program {
+    let mut text = String::from_str(alloc, "ld [16];").expect(rt, "no fault");
     for number in 0..64 {
-        let one = format!(in alloc; "jeq #{number}, 0, 0;")?;
-        text.push_str(one.as_str())?;
+        let one = format!(in alloc; "jeq #{number}, 0, 0;").expect(rt, "no fault");
+        text.push_str(one.as_str()).expect(rt, "no fault");
     }
-    text.push_str(ALLOW_ALL)?;
-    assembled(alloc, GATE, text.as_str())
+    text.push_str(ALLOW_ALL).expect(rt, "no fault");
+    assembled(rt, alloc, GATE, text.as_str())
 }
 
 /// A test of each bit of the first argument, whose two ways are one.
-fn tests_of_bits(alloc: Global) -> Result<Program, Fail> {
+fn tests_of_bits(rt: &impl Abort, alloc: Global) -> Program {
     let mut text = String::new(alloc);
     for word in [16, 20] {
-        let load = format!(in alloc; "ld [{word}];")?;
-        text.push_str(load.as_str())?;
+        let load = format!(in alloc; "ld [{word}];").expect(rt, "no fault");
+        text.push_str(load.as_str()).expect(rt, "no fault");
         for bit in 0u32..32 {
-            let one = format!(in alloc; "jset #{}, 0, 0;", 1u32 << bit)?;
-            text.push_str(one.as_str())?;
+            let one = format!(in alloc; "jset #{}, 0, 0;", 1u32 << bit).expect(rt, "no fault");
+            text.push_str(one.as_str()).expect(rt, "no fault");
         }
     }
-    text.push_str(ALLOW_ALL)?;
-    assembled(alloc, GATE, text.as_str())
+    text.push_str(ALLOW_ALL).expect(rt, "no fault");
+    assembled(rt, alloc, GATE, text.as_str())
 }
 
 #[test]
-fn more_paths_than_can_be_counted(rt: HostRuntime) -> Result<(), Fail> {
-    let profile = profile_of(rt.alloc(), "", DEFAULT_ALLOW)?;
-    let numbers = tests_of_numbers(rt.alloc())?;
-    assert_eq!(rt; effort(&numbers, &profile), u64::MAX);
-    let verdict = compare::<WordSets>(rt.alloc(), &numbers, &profile, 1_000_000)?;
+fn more_paths_than_can_be_counted(rt: HostRuntime) {
+    let profile = profile_of(&rt, rt.alloc(), "", DEFAULT_ALLOW);
+    let numbers = tests_of_numbers(&rt, rt.alloc());
+    assert!(rt; effort(&numbers, &profile) == u64::MAX);
+    let verdict = compare::<WordSets>(rt.alloc(), &numbers, &profile, 1_000_000).expect(
+        &rt, "no fault",
+    );
     assert!(rt; matches!(verdict, Verdict::Same { .. }), "{verdict:?}");
-    let bits = tests_of_bits(rt.alloc())?;
-    assert_eq!(rt; effort(&bits, &profile), u64::MAX);
-    let verdict = compare::<WordSets>(rt.alloc(), &bits, &profile, 1000)?;
+    let bits = tests_of_bits(&rt, rt.alloc());
+    assert!(rt; effort(&bits, &profile) == u64::MAX);
+    let verdict = compare::<WordSets>(rt.alloc(), &bits, &profile, 1000).expect(&rt, "no fault");
     assert!(rt;
         matches!(verdict, Verdict::Same { .. } | Verdict::Unfinished),
         "{verdict:?}"
     );
-    Ok(())
 }
 
 #[test]
-fn effort_of_the_longest_filter(rt: HostRuntime) -> Result<(), Fail> {
-    let profile = profile_of(rt.alloc(), "", DEFAULT_ALLOW)?;
-    let loads = "ld #0;".repeat(rt.alloc(), 4095)?;
-    let program = assembled(rt.alloc(), loads.as_str(), ALLOW_ALL)?;
-    assert_eq!(rt; effort(&program, &profile), 32768);
-    Ok(())
+fn effort_of_the_longest_filter(rt: HostRuntime) {
+    let profile = profile_of(&rt, rt.alloc(), "", DEFAULT_ALLOW);
+    let loads = "ld #0;".repeat(rt.alloc(), 4095).expect(&rt, "no fault");
+    let program = assembled(&rt, rt.alloc(), loads.as_str(), ALLOW_ALL);
+    assert!(rt; effort(&program, &profile) == 32768);
 }
 
 #[test]
-fn overlapping_masks(rt: HostRuntime) -> Result<(), Fail> {
-    let profile = profile_of(rt.alloc(), "", DEFAULT_ALLOW)?;
-    let program = assembled(rt.alloc(), GATE, OVERLAPPING_MASKS)?;
-    assert_eq!(rt; effort(&program, &profile), 96);
-    let verdict = compare::<WordSets>(rt.alloc(), &program, &profile, 96)?;
+fn overlapping_masks(rt: HostRuntime) {
+    let profile = profile_of(&rt, rt.alloc(), "", DEFAULT_ALLOW);
+    let program = assembled(&rt, rt.alloc(), GATE, OVERLAPPING_MASKS);
+    assert!(rt; effort(&program, &profile) == 96);
+    let verdict = compare::<WordSets>(rt.alloc(), &program, &profile, 96).expect(&rt, "no fault");
     assert!(rt; matches!(verdict, Verdict::Same { .. }), "{verdict:?}");
-    Ok(())
 }
 
 /// Which of two stores of facts is asked.
@@ -316,15 +311,10 @@ fn is_wanted(
     is_kind && is_true(verdict, program, profile, wanted != Wanted::Same)
 }
 
-fn compare_pair<F: WordFacts>(
-    rt: &impl Abort,
-    alloc: Global,
-    pair: &Pair,
-    store: Store,
-) -> Result<(), Fail> {
-    let (program, profile) = made(alloc, pair)?;
+fn compare_pair<F: WordFacts>(rt: &impl Abort, alloc: Global, pair: &Pair, store: Store) {
+    let (program, profile) = made(rt, alloc, pair);
     for limit in [pair.effort, pair.effort.wrapping_add(1), u64::MAX] {
-        let verdict = compare::<F>(alloc, &program, &profile, limit)?;
+        let verdict = compare::<F>(alloc, &program, &profile, limit).expect(rt, "no fault");
         assert!(rt;
             is_wanted(verdict, &program, &profile, pair.wanted, store),
             "{} {}: {verdict:?}",
@@ -332,16 +322,14 @@ fn compare_pair<F: WordFacts>(
             pair.text
         );
     }
-    Ok(())
 }
 
 #[test]
-fn verdicts(rt: HostRuntime) -> Result<(), Fail> {
+fn verdicts(rt: HostRuntime) {
     for pair in pairs() {
-        compare_pair::<AtomList>(&rt, rt.alloc(), pair, Store::Atoms)?;
-        compare_pair::<WordSets>(&rt, rt.alloc(), pair, Store::Sets)?;
+        compare_pair::<AtomList>(&rt, rt.alloc(), pair, Store::Atoms);
+        compare_pair::<WordSets>(&rt, rt.alloc(), pair, Store::Sets);
     }
-    Ok(())
 }
 
 /// Whether a verdict is `Same` within a limit, or the limit is below the effort and was reached.
@@ -353,64 +341,68 @@ fn is_within(verdict: Verdict, limit: u64, effort: u64) -> bool {
     }
 }
 
-fn limit_pair<F: WordFacts>(rt: &impl Abort, alloc: Global, pair: &Pair) -> Result<(), Fail> {
-    let (program, profile) = made(alloc, pair)?;
-    let none = compare::<F>(alloc, &program, &profile, 0)?;
-    assert_eq!(rt; none, Verdict::Unfinished);
+fn limit_pair<F: WordFacts>(rt: &impl Abort, alloc: Global, pair: &Pair) {
+    let (program, profile) = made(rt, alloc, pair);
+    let none = compare::<F>(alloc, &program, &profile, 0).expect(rt, "no fault");
+    assert!(rt; none == Verdict::Unfinished);
     for limit in 1..=pair.effort {
-        let verdict = compare::<F>(alloc, &program, &profile, limit)?;
+        let verdict = compare::<F>(alloc, &program, &profile, limit).expect(rt, "no fault");
         assert!(rt;
             is_within(verdict, limit, pair.effort),
             "{} {limit}: {verdict:?}",
             pair.rest
         );
     }
-    Ok(())
 }
 
 #[test]
-fn limits(rt: HostRuntime) -> Result<(), Fail> {
+fn limits(rt: HostRuntime) {
     for pair in pairs() {
         if pair.wanted == Wanted::Same {
-            limit_pair::<AtomList>(&rt, rt.alloc(), pair)?;
-            limit_pair::<WordSets>(&rt, rt.alloc(), pair)?;
+            limit_pair::<AtomList>(&rt, rt.alloc(), pair);
+            limit_pair::<WordSets>(&rt, rt.alloc(), pair);
         }
     }
-    Ok(())
 }
 
 /// The call that is shown of a filter behind the gate and a profile.
 fn shown<F: WordFacts>(
+    rt: &impl Abort,
     alloc: Global,
     rest: &str,
     table: &str,
     text: &str,
-) -> Result<CallRecord, Fail> {
-    let program = assembled(alloc, GATE, rest)?;
-    let profile = profile_of(alloc, table, text)?;
-    match compare::<F>(alloc, &program, &profile, u64::MAX)? {
-        Verdict::Differs { call, .. } => Ok(call),
-        _ => Err(Fail::new("no call is shown")),
-    }
+) -> CallRecord {
+    let program = assembled(rt, alloc, GATE, rest);
+    let profile = profile_of(rt, alloc, table, text);
+    let shown = match compare::<F>(alloc, &program, &profile, u64::MAX).expect(rt, "no fault") {
+        Verdict::Differs { call, .. } => Some(call),
+        _ => None,
+    };
+    shown.expect(rt, "a call that is shown")
 }
 
-fn show_division<F: WordFacts>(rt: &impl Abort, alloc: Global) -> Result<(), Fail> {
-    let call = shown::<F>(alloc, DIVISION, "", DEFAULT_ALLOW)?;
+fn show_division<F: WordFacts>(rt: &impl Abort, alloc: Global) {
+    let call = shown::<F>(rt, alloc, DIVISION, "", DEFAULT_ALLOW);
     let [argument, ..] = call.args;
     assert!(rt; call.arch == X86_64 && low_half(argument) == 0, "{call:?}");
-    Ok(())
 }
 
 #[test]
-fn shown_calls(rt: HostRuntime) -> Result<(), Fail> {
-    show_division::<AtomList>(&rt, rt.alloc())?;
-    show_division::<WordSets>(&rt, rt.alloc())?;
+fn shown_calls(rt: HostRuntime) {
+    show_division::<AtomList>(&rt, rt.alloc());
+    show_division::<WordSets>(&rt, rt.alloc());
     // The one bit that the filter doesn't test is set, and none that it tests.
-    let call = shown::<WordSets>(rt.alloc(), CLONE_BY_FEWER_BITS, CLONE_TABLE, CLONE_MASK)?;
+    let call = shown::<WordSets>(
+        &rt,
+        rt.alloc(),
+        CLONE_BY_FEWER_BITS,
+        CLONE_TABLE,
+        CLONE_MASK,
+    );
     let [argument, ..] = call.args;
     assert!(rt; call.nr == 56 && call.arch == X86_64, "{call:?}");
     assert!(rt; low_half(argument) & 0x7e02_0000 == 0x0200_0000, "{call:?}");
-    Ok(())
 }
 
 /// Filters, and whether they are plain.
@@ -433,10 +425,9 @@ const FILTERS: [(&str, bool); 12] = [
 ];
 
 #[test]
-fn plain_filters(rt: HostRuntime) -> Result<(), Fail> {
+fn plain_filters(rt: HostRuntime) {
     for (text, expected) in FILTERS {
-        let program = assembled(rt.alloc(), "", text)?;
-        assert_eq!(rt; is_plain(&program), expected, "{text}");
+        let program = assembled(&rt, rt.alloc(), "", text);
+        assert!(rt; is_plain(&program) == expected, "{text}");
     }
-    Ok(())
 }

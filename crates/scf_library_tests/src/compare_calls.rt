@@ -11,7 +11,6 @@ use scf_test_fixtures::kernel::{ALLOW, ERRNO_1, KILL_PROCESS, X86_64};
 use scf_test_fixtures::profiles::{
     ALL_BUT_TWO, DEFAULT_ALLOW, ONE_CALL, READ_TABLE, READ_WRITE_TABLE, SOCKET_NOT_40, SOCKET_TABLE,
 };
-use std::test::Fail;
 
 /// What the comparison over the calls of a number comes to.
 #[derive(Clone, Copy, Debug, PartialEq, Eq)]
@@ -208,39 +207,47 @@ fn is_wanted(
 }
 
 #[test]
-fn calls_of_one_number(rt: HostRuntime) -> Result<(), Fail> {
+fn calls_of_one_number(rt: HostRuntime) {
     for row in rows() {
-        let stack = stack_of(rt.alloc(), row.filters)?;
-        let profile = profile_of(rt.alloc(), row.table, row.text)?;
+        let stack = stack_of(&rt, rt.alloc(), row.filters);
+        let profile = profile_of(&rt, rt.alloc(), row.table, row.text);
         let effort = effort_stack(&stack, &profile);
         for (number, wanted) in row.calls {
             let scope = Scope::Call(*number);
-            let verdict = compare_stack::<WordSets>(rt.alloc(), &stack, &profile, scope, effort)?;
+            let verdict = compare_stack::<WordSets>(
+                rt.alloc(),
+                &stack,
+                &profile,
+                scope,
+                effort,
+            ).expect(&rt, "no fault");
             assert!(rt;
                 is_wanted(verdict, &stack, &profile, *number, *wanted),
                 "{} {scope:?}: {verdict:?}",
                 row.text
             );
-            let none = compare_stack::<WordSets>(rt.alloc(), &stack, &profile, scope, 0)?;
-            assert_eq!(rt; none, Verdict::Unfinished, "{} {scope:?}", row.text);
+            let none = compare_stack::<WordSets>(rt.alloc(), &stack, &profile, scope, 0).expect(
+                &rt, "no fault",
+            );
+            assert!(rt; none == Verdict::Unfinished, "{} {scope:?}", row.text);
         }
     }
-    Ok(())
 }
 
 /// The argument that makes the difference is shown.
 #[test]
-fn shown_arguments(rt: HostRuntime) -> Result<(), Fail> {
+fn shown_arguments(rt: HostRuntime) {
     let filters = [(GATE, "jeq #41, 0, 1; ret #0x7fff0000; ret #0x50001")];
-    let stack = stack_of(rt.alloc(), &filters)?;
-    let profile = profile_of(rt.alloc(), SOCKET_TABLE, SOCKET_NOT_40)?;
+    let stack = stack_of(&rt, rt.alloc(), &filters);
+    let profile = profile_of(&rt, rt.alloc(), SOCKET_TABLE, SOCKET_NOT_40);
     let effort = effort_stack(&stack, &profile);
     let scope = Scope::Call(41);
-    let verdict = compare_stack::<WordSets>(rt.alloc(), &stack, &profile, scope, effort)?;
+    let verdict = compare_stack::<WordSets>(rt.alloc(), &stack, &profile, scope, effort).expect(
+        &rt, "no fault",
+    );
     let shown = match verdict {
         Verdict::Differs { call, .. } => Some((call.nr, call.arch, call.args[0])),
         _ => None,
     };
-    assert_eq!(rt; shown, Some((41, X86_64, 40)), "{verdict:?}");
-    Ok(())
+    assert!(rt; shown == Some((41, X86_64, 40)), "{verdict:?}");
 }

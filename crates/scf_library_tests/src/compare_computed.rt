@@ -11,7 +11,6 @@ use scf_test_fixtures::profiles::{
 };
 use std::alloc::Global;
 use std::process::Abort;
-use std::test::Fail;
 
 /// What a comparison comes to.
 #[derive(Clone, Copy, Debug, PartialEq, Eq)]
@@ -45,7 +44,8 @@ const CLONES: &[(&str, Wanted)] = &[
     ),
     // flipped, and tested
     (
-        "jeq #56, 0, 4; ld [16]; xor #0x7e020000; and #0x7e020000; jeq #0x7e020000, 1, 0; ret #0x50001; ret #0x7fff0000",
+        "jeq #56, 0, 4; ld [16]; xor #0x7e020000; and #0x7e020000; jeq #0x7e020000, 1, 0; ret #0x50001; \
+            ret #0x7fff0000",
         Same,
     ),
     (
@@ -320,17 +320,10 @@ const READS: &[(&str, Wanted)] = &[
     ("jeq #0, 0, 2; ld #0x7fff0000; ret a; ret #0x50001", Same),
 ];
 
-fn check_row(
-    rt: &impl Abort,
-    alloc: Global,
-    rest: &str,
-    table: &str,
-    text: &str,
-    wanted: Wanted,
-) -> Result<(), Fail> {
-    let program = assembled(alloc, GATE, rest)?;
-    let profile = profile_of(alloc, table, text)?;
-    let verdict = compare::<WordSets>(alloc, &program, &profile, u64::MAX)?;
+fn check_row(rt: &impl Abort, alloc: Global, rest: &str, table: &str, text: &str, wanted: Wanted) {
+    let program = assembled(rt, alloc, GATE, rest);
+    let profile = profile_of(rt, alloc, table, text);
+    let verdict = compare::<WordSets>(alloc, &program, &profile, u64::MAX).expect(rt, "no fault");
     let is_kind = match verdict {
         Verdict::Same { .. } => wanted == Same,
         Verdict::Differs { .. } => wanted == Differs,
@@ -338,7 +331,6 @@ fn check_row(
     };
     let is_wanted = is_kind && is_true(verdict, &program, &profile, wanted == Differs);
     assert!(rt; is_wanted, "{rest}: {verdict:?}");
-    Ok(())
 }
 
 fn clones() -> &'static [(&'static str, Wanted)] {
@@ -350,19 +342,17 @@ fn reads() -> &'static [(&'static str, Wanted)] {
 }
 
 #[test]
-fn computed_from_an_argument(rt: HostRuntime) -> Result<(), Fail> {
+fn computed_from_an_argument(rt: HostRuntime) {
     for (rest, wanted) in clones() {
-        check_row(&rt, rt.alloc(), rest, CLONE_TABLE, CLONE_MASK, *wanted)?;
+        check_row(&rt, rt.alloc(), rest, CLONE_TABLE, CLONE_MASK, *wanted);
     }
-    Ok(())
 }
 
 #[test]
-fn computed_from_the_number(rt: HostRuntime) -> Result<(), Fail> {
+fn computed_from_the_number(rt: HostRuntime) {
     for (rest, wanted) in reads() {
-        check_row(&rt, rt.alloc(), rest, READ_TABLE, ONE_CALL, *wanted)?;
+        check_row(&rt, rt.alloc(), rest, READ_TABLE, ONE_CALL, *wanted);
     }
-    Ok(())
 }
 
 /// Allows, but by what is computed from two words, which isn't known.
@@ -370,22 +360,28 @@ const UNKNOWN: &str = "ld [16]; tax; ld [24]; add x; mul #0; add #0x7fff0000; re
 
 /// Each row: a stack, and the place that `Undecided` names of it.
 #[test]
-fn the_filter_whose_answer_is_unknown(rt: HostRuntime) -> Result<(), Fail> {
-    let profile = profile_of(rt.alloc(), "", DEFAULT_ALLOW)?;
+fn the_filter_whose_answer_is_unknown(rt: HostRuntime) {
+    let profile = profile_of(&rt, rt.alloc(), "", DEFAULT_ALLOW);
     // The gate has six instructions.
-    let alone = stack_of(rt.alloc(), &[(GATE, UNKNOWN)])?;
-    let newest = stack_of(rt.alloc(), &[("", ALLOW_ALL), (GATE, UNKNOWN)])?;
-    let oldest = stack_of(rt.alloc(), &[(GATE, UNKNOWN), ("", ALLOW_ALL)])?;
+    let alone = stack_of(&rt, rt.alloc(), &[(GATE, UNKNOWN)]);
+    let newest = stack_of(&rt, rt.alloc(), &[("", ALLOW_ALL), (GATE, UNKNOWN)]);
+    let oldest = stack_of(&rt, rt.alloc(), &[(GATE, UNKNOWN), ("", ALLOW_ALL)]);
     let between = stack_of(
+        &rt,
         rt.alloc(),
         &[("", ALLOW_ALL), (GATE, UNKNOWN), ("", ALLOW_ALL)],
-    )?;
+    );
     for stack in [alone, newest, oldest, between] {
         let scope = Scope::Native;
-        let verdict = compare_stack::<WordSets>(rt.alloc(), &stack, &profile, scope, u64::MAX)?;
-        assert_eq!(rt; verdict, Verdict::Undecided { at: 12 });
+        let verdict = compare_stack::<WordSets>(
+            rt.alloc(),
+            &stack,
+            &profile,
+            scope,
+            u64::MAX,
+        ).expect(&rt, "no fault");
+        assert!(rt; verdict == Verdict::Undecided { at: 12 });
     }
-    Ok(())
 }
 
 /// Allows each call but `write`, whose answer is ERRNO 1 by what is computed from two words.
@@ -393,20 +389,37 @@ const UNKNOWN_WRITE: &str =
     "jeq #1, 1, 0; ret #0x7fff0000; ld [16]; tax; ld [24]; add x; mul #0; add #0x50001; ret a";
 
 #[test]
-fn a_difference_behind_an_unknown_answer(rt: HostRuntime) -> Result<(), Fail> {
+fn a_difference_behind_an_unknown_answer(rt: HostRuntime) {
     // The profile refuses `read`, too.
-    let profile = profile_of(rt.alloc(), READ_WRITE_TABLE, ALL_BUT_TWO)?;
-    let stack = stack_of(rt.alloc(), &[(GATE, UNKNOWN_WRITE)])?;
-    let verdict = compare_stack::<WordSets>(rt.alloc(), &stack, &profile, Scope::All, u64::MAX)?;
+    let profile = profile_of(&rt, rt.alloc(), READ_WRITE_TABLE, ALL_BUT_TWO);
+    let stack = stack_of(&rt, rt.alloc(), &[(GATE, UNKNOWN_WRITE)]);
+    let verdict = compare_stack::<WordSets>(
+        rt.alloc(),
+        &stack,
+        &profile,
+        Scope::All,
+        u64::MAX,
+    ).expect(&rt, "no fault");
     let is_shown = match verdict {
         Verdict::Differs { call, filter, .. } => call.nr == 0 && filter == Answer(ALLOW),
         _ => false,
     };
     assert!(rt; is_shown, "{verdict:?}");
-    let both = stack_of(rt.alloc(), &[(GATE, WITHOUT_READ), (GATE, UNKNOWN_WRITE)])?;
-    let verdict = compare_stack::<WordSets>(rt.alloc(), &both, &profile, Scope::All, u64::MAX)?;
-    assert_eq!(rt; verdict, Verdict::Undecided { at: 14 });
-    let none = compare_stack::<WordSets>(rt.alloc(), &both, &profile, Scope::All, 0)?;
-    assert_eq!(rt; none, Verdict::Unfinished);
-    Ok(())
+    let both = stack_of(
+        &rt,
+        rt.alloc(),
+        &[(GATE, WITHOUT_READ), (GATE, UNKNOWN_WRITE)],
+    );
+    let verdict = compare_stack::<WordSets>(
+        rt.alloc(),
+        &both,
+        &profile,
+        Scope::All,
+        u64::MAX,
+    ).expect(&rt, "no fault");
+    assert!(rt; verdict == Verdict::Undecided { at: 14 });
+    let none = compare_stack::<WordSets>(rt.alloc(), &both, &profile, Scope::All, 0).expect(
+        &rt, "no fault",
+    );
+    assert!(rt; none == Verdict::Unfinished);
 }

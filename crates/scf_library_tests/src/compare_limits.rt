@@ -14,7 +14,6 @@ use scf_test_fixtures::profiles::{
 };
 use std::alloc::Global;
 use std::process::Abort;
-use std::test::Fail;
 
 /// What the command takes where it is given no limit.
 const DEFAULT_LIMIT: u64 = 1_000_000;
@@ -70,98 +69,102 @@ fn steps_of(verdict: Verdict) -> Option<u64> {
 }
 
 /// Whether just as many steps are needed as `Same` says.
-fn spends<F: WordFacts>(alloc: Global, program: &Program, profile: &Profile) -> Result<bool, Fail> {
-    let ample = compare::<F>(alloc, program, profile, u64::MAX)?;
-    let steps = steps_of(ample).ok_or(ample)?;
-    let enough = compare::<F>(alloc, program, profile, steps)?;
-    let too_few = compare::<F>(alloc, program, profile, steps.saturating_sub(1))?;
-    Ok(steps > 0 && enough == ample && too_few == Verdict::Unfinished)
+fn spends<F: WordFacts>(
+    rt: &impl Abort,
+    alloc: Global,
+    program: &Program,
+    profile: &Profile,
+) -> bool {
+    let ample = compare::<F>(alloc, program, profile, u64::MAX).expect(rt, "no fault");
+    let steps = steps_of(ample).expect(rt, "the same");
+    let enough = compare::<F>(alloc, program, profile, steps).expect(rt, "no fault");
+    let too_few = compare::<F>(alloc, program, profile, steps.saturating_sub(1)).expect(
+        rt, "no fault",
+    );
+    steps > 0 && enough == ample && too_few == Verdict::Unfinished
 }
 
 #[test]
-fn limits_are_spent_on_own_filters(rt: HostRuntime) -> Result<(), Fail> {
+fn limits_are_spent_on_own_filters(rt: HostRuntime) {
     for (table, text) in profiles() {
-        let profile = profile_of(rt.alloc(), table, text)?;
-        let program = compile(rt.alloc(), &profile)?;
+        let profile = profile_of(&rt, rt.alloc(), table, text);
+        let program = compile(rt.alloc(), &profile).expect(&rt, "no fault");
         assert!(rt;
-            spends::<WordSets>(rt.alloc(), &program, &profile)?,
+            spends::<WordSets>(&rt, rt.alloc(), &program, &profile),
             "{text}"
         );
     }
-    Ok(())
 }
 
 #[test]
-fn limits_are_spent_on_other_filters(rt: HostRuntime) -> Result<(), Fail> {
+fn limits_are_spent_on_other_filters(rt: HostRuntime) {
     for (rest, table, text) in filters() {
-        let profile = profile_of(rt.alloc(), table, text)?;
-        let program = assembled(rt.alloc(), GATE, rest)?;
+        let profile = profile_of(&rt, rt.alloc(), table, text);
+        let program = assembled(&rt, rt.alloc(), GATE, rest);
         assert!(rt;
-            spends::<AtomList>(rt.alloc(), &program, &profile)?,
+            spends::<AtomList>(&rt, rt.alloc(), &program, &profile),
             "{rest}"
         );
         assert!(rt;
-            spends::<WordSets>(rt.alloc(), &program, &profile)?,
+            spends::<WordSets>(&rt, rt.alloc(), &program, &profile),
             "{rest}"
         );
     }
-    Ok(())
 }
 
 /// A filter of so many tests behind the gate, each of which goes both ways to the next one.
-fn tests(alloc: Global, count: usize) -> Result<Program, Fail> {
-    let mut text = String::from_str(alloc, "ld [16];")?;
+fn tests(rt: &impl Abort, alloc: Global, count: usize) -> Program {
+    let mut text = String::from_str(alloc, "ld [16];").expect(rt, "no fault");
     for n in 0..count {
-        let one = format!(in alloc; "jge #{n}, 1, 0; ja 0;")?;
-        text.push_str(one.as_str())?;
+        let one = format!(in alloc; "jge #{n}, 1, 0; ja 0;").expect(rt, "no fault");
+        text.push_str(one.as_str()).expect(rt, "no fault");
     }
-    text.push_str(ALLOW_ALL)?;
-    assembled(alloc, GATE, text.as_str())
+    text.push_str(ALLOW_ALL).expect(rt, "no fault");
+    assembled(rt, alloc, GATE, text.as_str())
 }
 
 #[test]
-fn many_tests_at_the_default_limit(rt: HostRuntime) -> Result<(), Fail> {
-    let profile = profile_of(rt.alloc(), "", DEFAULT_ALLOW)?;
+fn many_tests_at_the_default_limit(rt: HostRuntime) {
+    let profile = profile_of(&rt, rt.alloc(), "", DEFAULT_ALLOW);
     for count in [20, 60, 120] {
-        let program = tests(rt.alloc(), count)?;
+        let program = tests(&rt, rt.alloc(), count);
         assert!(rt; effort(&program, &profile) > DEFAULT_LIMIT, "{count}");
-        let verdict = compare::<WordSets>(rt.alloc(), &program, &profile, DEFAULT_LIMIT)?;
+        let verdict = compare::<WordSets>(rt.alloc(), &program, &profile, DEFAULT_LIMIT).expect(
+            &rt, "no fault",
+        );
         assert!(rt; steps_of(verdict).is_some(), "{count}: {verdict:?}");
     }
-    Ok(())
 }
 
 /// A filter that isn't plain: it keeps the number in a scratch word, and then tests it against 0, 1 and so on, each of
 /// which it allows.
-fn scratched(alloc: Global, count: usize) -> Result<Program, Fail> {
-    let mut text = String::from_str(alloc, "st M[1]; ld #7; ld M[1];")?;
+fn scratched(rt: &impl Abort, alloc: Global, count: usize) -> Program {
+    let mut text = String::from_str(alloc, "st M[1]; ld #7; ld M[1];").expect(rt, "no fault");
     for n in 0..count {
-        let one = format!(in alloc; "jeq #{n}, 0, 1; ret #0x7fff0000;")?;
-        text.push_str(one.as_str())?;
+        let one = format!(in alloc; "jeq #{n}, 0, 1; ret #0x7fff0000;").expect(rt, "no fault");
+        text.push_str(one.as_str()).expect(rt, "no fault");
     }
-    text.push_str("ret #0x50001")?;
-    assembled(alloc, GATE, text.as_str())
+    text.push_str("ret #0x50001").expect(rt, "no fault");
+    assembled(rt, alloc, GATE, text.as_str())
 }
 
-fn decide_long_pair<F: WordFacts>(rt: &impl Abort, alloc: Global) -> Result<(), Fail> {
-    let profile = allowing(alloc, 150)?;
-    let same = scratched(alloc, 150)?;
+fn decide_long_pair<F: WordFacts>(rt: &impl Abort, alloc: Global) {
+    let profile = allowing(rt, alloc, 150);
+    let same = scratched(rt, alloc, 150);
     assert!(rt; !is_plain(&same));
-    let verdict = compare::<F>(alloc, &same, &profile, DEFAULT_LIMIT)?;
+    let verdict = compare::<F>(alloc, &same, &profile, DEFAULT_LIMIT).expect(rt, "no fault");
     assert!(rt; steps_of(verdict).is_some(), "{verdict:?}");
-    let fewer = scratched(alloc, 149)?;
-    let verdict = compare::<F>(alloc, &fewer, &profile, DEFAULT_LIMIT)?;
+    let fewer = scratched(rt, alloc, 149);
+    let verdict = compare::<F>(alloc, &fewer, &profile, DEFAULT_LIMIT).expect(rt, "no fault");
     let shown = match verdict {
         Verdict::Differs { call, .. } => Some((call.nr, call.arch)),
         _ => None,
     };
-    assert_eq!(rt; shown, Some((149, X86_64)), "{verdict:?}");
-    Ok(())
+    assert!(rt; shown == Some((149, X86_64)), "{verdict:?}");
 }
 
 #[test]
-fn long_pairs_that_are_not_plain(rt: HostRuntime) -> Result<(), Fail> {
-    decide_long_pair::<AtomList>(&rt, rt.alloc())?;
-    decide_long_pair::<WordSets>(&rt, rt.alloc())?;
-    Ok(())
+fn long_pairs_that_are_not_plain(rt: HostRuntime) {
+    decide_long_pair::<AtomList>(&rt, rt.alloc());
+    decide_long_pair::<WordSets>(&rt, rt.alloc());
 }

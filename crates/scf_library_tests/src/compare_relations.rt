@@ -13,7 +13,6 @@ use scf_test_fixtures::profiles::{
 };
 use std::alloc::Global;
 use std::process::Abort;
-use std::test::Fail;
 
 const RELATIONS: [Relation; 3] = [Relation::Same, Relation::NoMore, Relation::NoLess];
 
@@ -86,20 +85,25 @@ fn compare_answers<F: WordFacts>(
     filter: (u32, u8),
     action: &str,
     stated: (u32, u8),
-) -> Result<(), Fail> {
+) {
     let (answer, _) = filter;
     let (stated_answer, _) = stated;
-    let text = format!(in alloc; "ret #{answer}")?;
+    let text = format!(in alloc; "ret #{answer}").expect(rt, "no fault");
     let mut stack = FilterStack::new(alloc);
     crate::fixtures::push(
+        rt,
         &mut stack,
-        crate::fixtures::assembled(alloc, "", text.as_str())?,
-    )?;
-    let profile_text = format!(in alloc; "{{\"defaultAction\":\"{action}\"}}")?;
-    let profile = profile_of(alloc, "", profile_text.as_str())?;
+        crate::fixtures::assembled(rt, alloc, "", text.as_str()),
+    );
+    let profile_text = format!(in alloc; "{{\"defaultAction\":\"{action}\"}}").expect(
+        rt, "no fault",
+    );
+    let profile = profile_of(rt, alloc, "", profile_text.as_str());
     for relation in RELATIONS {
         let scope = Scope::Native;
-        let verdict = compare_by::<F>(alloc, &stack, &profile, scope, relation, 8)?;
+        let verdict = compare_by::<F>(alloc, &stack, &profile, scope, relation, 8).expect(
+            rt, "no fault",
+        );
         let wanted = holds(relation, filter, stated);
         let is_wanted = match verdict {
             Verdict::Same { .. } => wanted,
@@ -112,21 +116,19 @@ fn compare_answers<F: WordFacts>(
         };
         assert!(rt; is_wanted, "{answer:#x} {action} {relation:?}: {verdict:?}");
         let asked = relation.holds(Answer(answer), Answer(stated_answer));
-        assert_eq!(rt; asked, wanted, "{answer:#x} {action} {relation:?}");
+        assert!(rt; asked == wanted, "{answer:#x} {action} {relation:?}");
     }
-    Ok(())
 }
 
 #[test]
-fn each_answer_by_each_relation(rt: HostRuntime) -> Result<(), Fail> {
+fn each_answer_by_each_relation(rt: HostRuntime) {
     for filter in ANSWERS {
         for (action, answer, fate) in ACTIONS {
             let stated = (answer, fate);
-            compare_answers::<WordSets>(&rt, rt.alloc(), filter, action, stated)?;
-            compare_answers::<AtomList>(&rt, rt.alloc(), filter, action, stated)?;
+            compare_answers::<WordSets>(&rt, rt.alloc(), filter, action, stated);
+            compare_answers::<AtomList>(&rt, rt.alloc(), filter, action, stated);
         }
     }
-    Ok(())
 }
 
 /// Kills the thread on calls that aren't native, where a profile says that the process is killed.
@@ -340,10 +342,10 @@ fn is_wanted(
 }
 
 #[test]
-fn stacks_by_each_relation(rt: HostRuntime) -> Result<(), Fail> {
+fn stacks_by_each_relation(rt: HostRuntime) {
     for row in rows() {
-        let stack = stack_of(rt.alloc(), row.filters)?;
-        let profile = profile_of(rt.alloc(), row.table, row.text)?;
+        let stack = stack_of(&rt, rt.alloc(), row.filters);
+        let profile = profile_of(&rt, rt.alloc(), row.table, row.text);
         let limit = effort_stack(&stack, &profile);
         let scope = row.scope;
         for (relation, wanted) in RELATIONS.into_iter().zip(row.wanted) {
@@ -354,14 +356,16 @@ fn stacks_by_each_relation(rt: HostRuntime) -> Result<(), Fail> {
                 scope,
                 relation,
                 limit,
-            )?;
+            ).expect(&rt, "no fault");
             assert!(rt;
                 is_wanted(verdict, &stack, &profile, scope, wanted),
                 "{} {scope:?} {relation:?}: {verdict:?}",
                 row.text
             );
         }
-        let same = compare_stack::<WordSets>(rt.alloc(), &stack, &profile, scope, limit)?;
+        let same = compare_stack::<WordSets>(rt.alloc(), &stack, &profile, scope, limit).expect(
+            &rt, "no fault",
+        );
         let by_same = compare_by::<WordSets>(
             rt.alloc(),
             &stack,
@@ -369,16 +373,15 @@ fn stacks_by_each_relation(rt: HostRuntime) -> Result<(), Fail> {
             scope,
             Relation::Same,
             limit,
-        )?;
-        assert_eq!(rt; by_same, same, "{} {scope:?}", row.text);
+        ).expect(&rt, "no fault");
+        assert!(rt; by_same == same, "{} {scope:?}", row.text);
     }
-    Ok(())
 }
 
 #[test]
-fn no_steps_by_any_relation(rt: HostRuntime) -> Result<(), Fail> {
-    let stack = stack_of(rt.alloc(), &[(GATE, ALLOW_ALL)])?;
-    let profile = profile_of(rt.alloc(), "", DEFAULT_ALLOW)?;
+fn no_steps_by_any_relation(rt: HostRuntime) {
+    let stack = stack_of(&rt, rt.alloc(), &[(GATE, ALLOW_ALL)]);
+    let profile = profile_of(&rt, rt.alloc(), "", DEFAULT_ALLOW);
     for relation in RELATIONS {
         let verdict = compare_by::<WordSets>(
             rt.alloc(),
@@ -387,8 +390,7 @@ fn no_steps_by_any_relation(rt: HostRuntime) -> Result<(), Fail> {
             Scope::All,
             relation,
             0,
-        )?;
-        assert_eq!(rt; verdict, Verdict::Unfinished, "{relation:?}");
+        ).expect(&rt, "no fault");
+        assert!(rt; verdict == Verdict::Unfinished, "{relation:?}");
     }
-    Ok(())
 }

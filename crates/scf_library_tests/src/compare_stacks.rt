@@ -14,7 +14,7 @@ use scf_test_fixtures::profiles::{
     READ_WRITE_TABLE, SOCKET_NOT_40, SOCKET_TABLE,
 };
 use std::alloc::Global;
-use std::test::Fail;
+use std::process::Abort;
 
 const LOGGED_READ: &str = "ld [0]; jeq #0, 0, 1; ret #0x7ffc0000; ret #0x7fff0000";
 
@@ -167,18 +167,28 @@ fn is_wanted(
 }
 
 #[test]
-fn stacks_in_each_scope(rt: HostRuntime) -> Result<(), Fail> {
+fn stacks_in_each_scope(rt: HostRuntime) {
     for row in rows() {
-        let stack = stack_of(rt.alloc(), row.filters)?;
-        let profile = profile_of(rt.alloc(), row.table, row.text)?;
-        assert_eq!(rt; effort_stack(&stack, &profile), row.effort, "{}", row.text);
+        let stack = stack_of(&rt, rt.alloc(), row.filters);
+        let profile = profile_of(&rt, rt.alloc(), row.table, row.text);
+        assert!(rt;
+            effort_stack(&stack, &profile) == row.effort,
+            "{}",
+            row.text
+        );
         for (scope, wanted) in [
             (Scope::All, row.all),
             (Scope::Native, row.native),
             (Scope::Call(1), row.of_1),
         ] {
             let limit = row.effort;
-            let verdict = compare_stack::<WordSets>(rt.alloc(), &stack, &profile, scope, limit)?;
+            let verdict = compare_stack::<WordSets>(
+                rt.alloc(),
+                &stack,
+                &profile,
+                scope,
+                limit,
+            ).expect(&rt, "no fault");
             assert!(rt;
                 is_wanted(verdict, &stack, &profile, scope, wanted),
                 "{} {scope:?}: {verdict:?}",
@@ -186,7 +196,6 @@ fn stacks_in_each_scope(rt: HostRuntime) -> Result<(), Fail> {
             );
         }
     }
-    Ok(())
 }
 
 /// Tables and profiles.
@@ -204,26 +213,26 @@ fn profiles() -> &'static [(&'static str, &'static str)] {
 }
 
 /// A stack of the filter of a profile and of one that allows all calls.
-fn own_stack(alloc: Global, profile: &Profile, own_first: bool) -> Result<FilterStack, Fail> {
+fn own_stack(rt: &impl Abort, alloc: Global, profile: &Profile, own_first: bool) -> FilterStack {
     let mut stack = FilterStack::new(alloc);
-    let own = compile(alloc, profile)?;
-    let allowing = assembled(alloc, "", ALLOW_ALL)?;
+    let own = compile(alloc, profile).expect(rt, "no fault");
+    let allowing = assembled(rt, alloc, "", ALLOW_ALL);
     if own_first {
-        push(&mut stack, own)?;
-        push(&mut stack, allowing)?;
+        push(rt, &mut stack, own);
+        push(rt, &mut stack, allowing);
     } else {
-        push(&mut stack, allowing)?;
-        push(&mut stack, own)?;
+        push(rt, &mut stack, allowing);
+        push(rt, &mut stack, own);
     }
-    Ok(stack)
+    stack
 }
 
 #[test]
-fn own_filters_beside_one_that_allows(rt: HostRuntime) -> Result<(), Fail> {
+fn own_filters_beside_one_that_allows(rt: HostRuntime) {
     for (table, text) in profiles() {
-        let profile = profile_of(rt.alloc(), table, text)?;
+        let profile = profile_of(&rt, rt.alloc(), table, text);
         for own_first in [true, false] {
-            let stack = own_stack(rt.alloc(), &profile, own_first)?;
+            let stack = own_stack(&rt, rt.alloc(), &profile, own_first);
             let limit = effort_stack(&stack, &profile);
             for scope in [Scope::All, Scope::Native, Scope::Call(0), Scope::Call(56)] {
                 let verdict = compare_stack::<WordSets>(
@@ -232,11 +241,10 @@ fn own_filters_beside_one_that_allows(rt: HostRuntime) -> Result<(), Fail> {
                     &profile,
                     scope,
                     limit,
-                )?;
+                ).expect(&rt, "no fault");
                 let is_same = matches!(verdict, Verdict::Same { .. });
                 assert!(rt; is_same, "{text} {own_first} {scope:?}: {verdict:?}");
             }
         }
     }
-    Ok(())
 }

@@ -13,7 +13,7 @@ use scf_test_fixtures::profiles::SOCKET_TABLE;
 use scf_test_fixtures::rules::Operator::{AtLeast, AtMost, Equal, Greater, Less, Masked, NotEqual};
 use scf_test_fixtures::rules::{BIT_32, Operator, condition_text};
 use std::alloc::{AllocError, Global};
-use std::test::Fail;
+use std::process::Abort;
 
 const MAX: u64 = u64::MAX;
 
@@ -43,17 +43,18 @@ fn with_entries(alloc: Global, entries: &str) -> Result<String, AllocError> {
 
 /// The fault of a profile whose call 7 has two rules, ALLOW and then ERRNO.
 fn fault_of(
+    rt: &impl Abort,
     alloc: Global,
     first: (usize, Option<Asked>),
     second: (usize, Option<Asked>),
-) -> Result<Option<LoadFault>, Fail> {
+) -> Option<LoadFault> {
     let (index, asked) = first;
-    let allowed = entry(alloc, "ALLOW", index, asked)?;
+    let allowed = entry(alloc, "ALLOW", index, asked).expect(rt, "no fault");
     let (index, asked) = second;
-    let refused = entry(alloc, "ERRNO", index, asked)?;
-    let entries = format!(in alloc; "{allowed},{refused}")?;
-    let text = with_entries(alloc, entries.as_str())?;
-    Ok(loaded(alloc, "a 7", text.as_bytes())?.err())
+    let refused = entry(alloc, "ERRNO", index, asked).expect(rt, "no fault");
+    let entries = format!(in alloc; "{allowed},{refused}").expect(rt, "no fault");
+    let text = with_entries(alloc, entries.as_str()).expect(rt, "no fault");
+    loaded(rt, alloc, "a 7", text.as_bytes()).err()
 }
 
 /// What `load` says of two rules that conflict, or don't.
@@ -107,28 +108,26 @@ fn pairs() -> &'static [(Option<Asked>, Option<Asked>, bool)] {
 }
 
 #[test]
-fn two_rules(rt: HostRuntime) -> Result<(), Fail> {
+fn two_rules(rt: HostRuntime) {
     for (first, second, conflict) in pairs() {
         for index in [0, 5] {
-            let found = fault_of(rt.alloc(), (index, *first), (index, *second))?;
-            assert_eq!(rt; found, expected(*conflict), "{first:?} {second:?}");
-            let found = fault_of(rt.alloc(), (index, *second), (index, *first))?;
-            assert_eq!(rt; found, expected(*conflict), "{second:?} {first:?}");
+            let found = fault_of(&rt, rt.alloc(), (index, *first), (index, *second));
+            assert!(rt; found == expected(*conflict), "{first:?} {second:?}");
+            let found = fault_of(&rt, rt.alloc(), (index, *second), (index, *first));
+            assert!(rt; found == expected(*conflict), "{second:?} {first:?}");
         }
     }
-    Ok(())
 }
 
 #[test]
-fn other_arguments(rt: HostRuntime) -> Result<(), Fail> {
+fn other_arguments(rt: HostRuntime) {
     let one = Some((Equal, 1));
     for (first, second) in [(0, 1), (1, 0), (0, 5), (5, 0)] {
-        let found = fault_of(rt.alloc(), (first, one), (second, one))?;
-        assert_eq!(rt; found, expected(true), "{first} {second}");
-        let found = fault_of(rt.alloc(), (first, one), (second, Some((Less, 0))))?;
-        assert_eq!(rt; found, expected(false), "{first} {second}");
+        let found = fault_of(&rt, rt.alloc(), (first, one), (second, one));
+        assert!(rt; found == expected(true), "{first} {second}");
+        let found = fault_of(&rt, rt.alloc(), (first, one), (second, Some((Less, 0))));
+        assert!(rt; found == expected(false), "{first} {second}");
     }
-    Ok(())
 }
 
 /// Values whose bits are the lowest two, one in the middle, the highest, or all.
@@ -188,19 +187,17 @@ fn meet(first: Asked, second: Asked) -> bool {
 }
 
 #[test]
-fn each_pair_of_operators(rt: HostRuntime) -> Result<(), Fail> {
-    let all = conditions(rt.alloc())?;
+fn each_pair_of_operators(rt: HostRuntime) {
+    let all = conditions(rt.alloc()).expect(&rt, "no fault");
     for first in &all {
         for second in &all {
-            let found = fault_of(rt.alloc(), (2, Some(*first)), (2, Some(*second)))?;
-            assert_eq!(rt;
-                found,
-                expected(meet(*first, *second)),
+            let found = fault_of(&rt, rt.alloc(), (2, Some(*first)), (2, Some(*second)));
+            assert!(rt;
+                found == expected(meet(*first, *second)),
                 "{first:?} {second:?}"
             );
         }
     }
-    Ok(())
 }
 
 /// Entries, and the conflict that is named: the least second entry, then the least first one, then the least number.
@@ -231,18 +228,17 @@ fn least_conflicts() -> &'static [(&'static str, Option<(u32, u32, u32)>)] {
 }
 
 #[test]
-fn least_entries(rt: HostRuntime) -> Result<(), Fail> {
+fn least_entries(rt: HostRuntime) {
     for (entries, least) in least_conflicts() {
-        let text = with_entries(rt.alloc(), entries)?;
+        let text = with_entries(rt.alloc(), entries).expect(&rt, "no fault");
         let fault = least.map(|(number, first, second)| LoadFault::Conflict {
             number,
             first,
             second,
         });
-        let found = loaded(rt.alloc(), "a 7\nb 3", text.as_bytes())?;
-        assert_eq!(rt; found.err(), fault, "{entries}");
+        let found = loaded(&rt, rt.alloc(), "a 7\nb 3", text.as_bytes());
+        assert!(rt; found.err() == fault, "{entries}");
     }
-    Ok(())
 }
 
 /// Two rules of one call that no call meets both, though they answer differently.
@@ -252,27 +248,26 @@ const SOCKET_RULES: &str = r#"{"defaultAction":"SCMP_ACT_ERRNO","syscalls":[
     {"names":["socket"],"action":"SCMP_ACT_ALLOW","args":[{"index":2,"value":9,"op":"SCMP_CMP_NE"}]}]}"#;
 
 #[test]
-fn overlapping_socket_rules(rt: HostRuntime) -> Result<(), Fail> {
-    let profile = profile_of(rt.alloc(), SOCKET_TABLE, SOCKET_RULES)?;
+fn overlapping_socket_rules(rt: HostRuntime) {
+    let profile = profile_of(&rt, rt.alloc(), SOCKET_TABLE, SOCKET_RULES);
     for (args, answer) in [
         ([16, 0, 9, 0, 0, 0], 0x0005_0016),
         ([16, 0, 1, 0, 0, 0], ALLOW),
         ([2, 0, 9, 0, 0, 0], ERRNO_1),
     ] {
-        assert_eq!(rt; profile.answer(&call(41, X86_64, args)), Answer(answer));
+        assert!(rt; profile.answer(&call(41, X86_64, args)) == Answer(answer));
     }
-    assert_eq!(rt; size_bound(&profile), 40);
-    let allow_all = assembled(rt.alloc(), "", ALLOW_ALL)?;
-    assert_eq!(rt; effort(&allow_all, &profile), 64);
-    let filter = compile(rt.alloc(), &profile)?;
+    assert!(rt; size_bound(&profile) == 40);
+    let allow_all = assembled(&rt, rt.alloc(), "", ALLOW_ALL);
+    assert!(rt; effort(&allow_all, &profile) == 64);
+    let filter = compile(rt.alloc(), &profile).expect(&rt, "no fault");
     for args in [[16, 0, 9, 0, 0, 0], [16, 0, 1, 0, 0, 0], [2, 0, 9, 0, 0, 0]] {
         let ran = run(&filter, &call(41, X86_64, args));
         assert!(rt; ran.steps <= 38, "{} steps", ran.steps);
     }
     let limit = effort(&filter, &profile);
-    let verdict = compare::<WordSets>(rt.alloc(), &filter, &profile, limit)?;
+    let verdict = compare::<WordSets>(rt.alloc(), &filter, &profile, limit).expect(&rt, "no fault");
     assert!(rt; matches!(verdict, Verdict::Same { .. }), "{verdict:?}");
-    Ok(())
 }
 
 /// The rules that a container engine's default has for one call.
@@ -288,9 +283,9 @@ const ENGINE_RULES: &str = r#"{"defaultAction":"SCMP_ACT_ERRNO","defaultErrnoRet
     "args":[{"index":2,"value":9,"valueTwo":0,"op":"SCMP_CMP_NE"}]}]}"#;
 
 #[test]
-fn rules_of_an_engine(rt: HostRuntime) -> Result<(), Fail> {
-    let profile = profile_of(rt.alloc(), SOCKET_TABLE, ENGINE_RULES)?;
-    assert_eq!(rt; profile.rules().len(), 4);
+fn rules_of_an_engine(rt: HostRuntime) {
+    let profile = profile_of(&rt, rt.alloc(), SOCKET_TABLE, ENGINE_RULES);
+    assert!(rt; profile.rules().len() == 4);
     for (args, answer) in [
         ([16, 3, 9, 0, 0, 0], 0x0005_0016),
         ([16, 3, 0, 0, 0, 0], ALLOW),
@@ -298,9 +293,8 @@ fn rules_of_an_engine(rt: HostRuntime) -> Result<(), Fail> {
         ([2, 1, 6, 0, 0, 0], ALLOW),
         ([0x1_0000_0010, 3, 9, 0, 0, 0], ALLOW),
     ] {
-        assert_eq!(rt; profile.answer(&call(41, X86_64, args)), Answer(answer));
+        assert!(rt; profile.answer(&call(41, X86_64, args)) == Answer(answer));
     }
-    Ok(())
 }
 
 /// A profile of 4096 entries for the call `a`, whose answers alternate and whose conditions exclude each other.
@@ -318,11 +312,10 @@ fn many_rules(alloc: Global) -> Result<String, AllocError> {
 }
 
 #[test]
-fn many_rules_of_one_call(rt: HostRuntime) -> Result<(), Fail> {
-    let text = many_rules(rt.alloc())?;
-    let profile = profile_of(rt.alloc(), "a 7", text.as_str())?;
-    assert_eq!(rt; profile.rules().len(), 4096);
+fn many_rules_of_one_call(rt: HostRuntime) {
+    let text = many_rules(rt.alloc()).expect(&rt, "no fault");
+    let profile = profile_of(&rt, rt.alloc(), "a 7", text.as_str());
+    assert!(rt; profile.rules().len() == 4096);
     let answer = profile.answer(&call(7, X86_64, [4094, 0, 0, 0, 0, 0]));
-    assert_eq!(rt; answer, Answer(ALLOW));
-    Ok(())
+    assert!(rt; answer == Answer(ALLOW));
 }

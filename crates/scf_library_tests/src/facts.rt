@@ -1,7 +1,6 @@
 //! What facts as a list of atoms tell and pick.
 
 use scf_facts::{Atom, AtomList, Tell, WordFacts};
-use std::test::Fail;
 
 const ALL_BITS: u32 = u32::MAX;
 
@@ -40,8 +39,8 @@ fn told() -> [(Atom, Tell); 14] {
 }
 
 #[test]
-fn tells_of_what_was_learned(rt: HostRuntime) -> Result<(), Fail> {
-    let mut facts = AtomList::all(rt.alloc())?;
+fn tells_of_what_was_learned(rt: HostRuntime) {
+    let mut facts = AtomList::all(rt.alloc()).expect(&rt, "no fault");
     assert!(rt; learn(&mut facts, eq(4, ALL_BITS, 7), true));
     assert!(rt; learn(&mut facts, eq(5, 0xff, 1), false));
     assert!(rt; learn(&mut facts, Atom::Ge { word: 6, value: 9 }, true));
@@ -49,19 +48,17 @@ fn tells_of_what_was_learned(rt: HostRuntime) -> Result<(), Fail> {
         assert!(rt; tells(&facts, atom, expected), "{atom:?}");
     }
     assert!(rt; !facts.is_empty());
-    Ok(())
 }
 
 #[test]
-fn picks_words_that_agree(rt: HostRuntime) -> Result<(), Fail> {
-    let mut facts = AtomList::all(rt.alloc())?;
-    assert_eq!(rt; facts.pick(), Some([0; 16]));
+fn picks_words_that_agree(rt: HostRuntime) {
+    let mut facts = AtomList::all(rt.alloc()).expect(&rt, "no fault");
+    assert!(rt; facts.pick() == Some([0; 16]));
     assert!(rt; learn(&mut facts, eq(1, ALL_BITS, 0xc000_003e), true));
     assert!(rt; learn(&mut facts, Atom::Gt { word: 0, value: 5 }, false));
     let mut words = [0; 16];
     words[1] = 0xc000_003e;
-    assert_eq!(rt; facts.pick(), Some(words));
+    assert!(rt; facts.pick() == Some(words));
     assert!(rt; learn(&mut facts, Atom::Ge { word: 2, value: 1 }, true));
-    assert_eq!(rt; facts.pick(), None);
-    Ok(())
+    assert!(rt; facts.pick().is_none());
 }

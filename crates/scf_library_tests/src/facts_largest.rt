@@ -1,28 +1,12 @@
 //! Facts of 5,000 learned answers, in each store: what they tell and pick behind each of them.
 
+use crate::word_4::{ALL_BITS, above, equal, learn, words_with};
 use scf_facts::{Atom, AtomList, Tell, WordFacts, WordSets};
 use std::alloc::Global;
 use std::process::Abort;
-use std::test::Fail;
 
 /// How many answers are learned.
 const COUNT: u32 = 5000;
-
-const ALL_BITS: u32 = u32::MAX;
-
-/// An `Eq` on word 3.
-fn equal(mask: u32, value: u32) -> Atom {
-    Atom::Eq {
-        word: 3,
-        mask,
-        value,
-    }
-}
-
-/// A `Gt` on word 3.
-fn above(value: u32) -> Atom {
-    Atom::Gt { word: 3, value }
-}
 
 /// An `Eq` on a word of which nothing is learned, so that its answer isn't known.
 const UNKNOWN: Atom = Atom::Eq {
@@ -31,103 +15,81 @@ const UNKNOWN: Atom = Atom::Eq {
     value: 3,
 };
 
-/// The words that are 0 save word 3.
-fn words_with(value: u32) -> Option<[u32; 16]> {
-    let mut words = [0; 16];
-    words[3] = value;
-    Some(words)
-}
-
-/// Learns an answer of an atom on one of the sixteen words.
-fn learn<F: WordFacts>(
-    rt: &impl Abort,
-    facts: &mut F,
-    atom: Atom,
-    holds: bool,
-) -> Result<(), Fail> {
-    assert!(rt; atom.word() < 16);
-    facts.learn(atom, holds)?;
-    Ok(())
-}
-
 /// That this is told of an atom on one of the sixteen words.
 fn is_told<F: WordFacts>(rt: &impl Abort, facts: &F, atom: Atom, wanted: Tell) {
     assert!(rt; atom.word() < 16);
-    assert_eq!(rt; facts.tell(atom), wanted, "{atom:?}");
+    assert!(rt; facts.tell(atom) == wanted, "{atom:?}");
 }
 
 /// Bounds that fall, so that 0 is always allowed.
-fn falling_bounds<F: WordFacts>(rt: &impl Abort, alloc: Global) -> Result<(), Fail> {
-    let mut facts = F::all(alloc)?;
+fn falling_bounds<F: WordFacts>(rt: &impl Abort, alloc: Global) {
+    let mut facts = F::all(alloc).expect(rt, "no fault");
     for learned in 0..COUNT {
         let bound = COUNT.saturating_sub(learned);
-        learn(rt, &mut facts, above(bound), false)?;
+        learn(rt, &mut facts, above(bound), false);
         is_told(rt, &facts, above(bound), Tell::Never);
-        assert_eq!(rt; facts.pick(), words_with(0), "{bound}");
+        assert!(rt; facts.pick() == words_with(0), "{bound}");
     }
     is_told(rt, &facts, above(COUNT), Tell::Never);
     is_told(rt, &facts, above(0), Tell::Maybe);
     is_told(rt, &facts, UNKNOWN, Tell::Maybe);
     assert!(rt; !facts.is_empty());
-    Ok(())
 }
 
 #[test]
-fn falling_bounds_in_each_store(rt: HostRuntime) -> Result<(), Fail> {
-    falling_bounds::<AtomList>(&rt, rt.alloc())?;
-    falling_bounds::<WordSets>(&rt, rt.alloc())
+fn falling_bounds_in_each_store(rt: HostRuntime) {
+    falling_bounds::<AtomList>(&rt, rt.alloc());
+    falling_bounds::<WordSets>(&rt, rt.alloc());
 }
 
 /// The same bounds, each behind a mark of its own, and back to all of the marks.
-fn marked_bounds<F: WordFacts>(rt: &impl Abort, alloc: Global) -> Result<(), Fail> {
-    let mut facts = F::all(alloc)?;
+fn marked_bounds<F: WordFacts>(rt: &impl Abort, alloc: Global) {
+    let mut facts = F::all(alloc).expect(rt, "no fault");
     for learned in 0..COUNT {
-        facts.mark()?;
-        learn(rt, &mut facts, above(COUNT.saturating_sub(learned)), false)?;
+        facts.mark().expect(rt, "no fault");
+        learn(rt, &mut facts, above(COUNT.saturating_sub(learned)), false);
     }
     for bound in 1..=COUNT {
         is_told(rt, &facts, above(bound), Tell::Never);
         assert!(rt; facts.open_marks() > 0);
         facts.undo();
         is_told(rt, &facts, above(bound), Tell::Maybe);
-        assert_eq!(rt; facts.open_marks(), COUNT.saturating_sub(bound) as usize);
+        assert!(rt; facts.open_marks() == COUNT.saturating_sub(bound) as usize);
     }
-    assert_eq!(rt; facts.pick(), words_with(0));
-    Ok(())
+    assert!(rt; facts.pick() == words_with(0));
 }
 
 #[test]
-fn marked_bounds_in_each_store(rt: HostRuntime) -> Result<(), Fail> {
-    marked_bounds::<AtomList>(&rt, rt.alloc())?;
-    marked_bounds::<WordSets>(&rt, rt.alloc())
+fn marked_bounds_in_each_store(rt: HostRuntime) {
+    marked_bounds::<AtomList>(&rt, rt.alloc());
+    marked_bounds::<WordSets>(&rt, rt.alloc());
 }
 
 /// What a list picks stands in its first answer, whatever else was learned.
 #[test]
-fn a_list_picks_what_is_fixed(rt: HostRuntime) -> Result<(), Fail> {
-    let mut facts = AtomList::all(rt.alloc())?;
-    learn(&rt, &mut facts, equal(ALL_BITS, COUNT), true)?;
+fn a_list_picks_what_is_fixed(rt: HostRuntime) {
+    let mut facts = AtomList::all(rt.alloc()).expect(&rt, "no fault");
+    learn(&rt, &mut facts, equal(ALL_BITS, COUNT), true);
     for value in 1..COUNT {
-        learn(&rt, &mut facts, equal(ALL_BITS, value), false)?;
+        learn(&rt, &mut facts, equal(ALL_BITS, value), false);
         is_told(&rt, &facts, equal(ALL_BITS, value), Tell::Never);
-        assert_eq!(rt; facts.pick(), words_with(COUNT), "{value}");
+        assert!(rt; facts.pick() == words_with(COUNT), "{value}");
     }
     is_told(&rt, &facts, equal(ALL_BITS, COUNT), Tell::Always);
     is_told(&rt, &facts, UNKNOWN, Tell::Maybe);
-    Ok(())
 }
 
 /// Numbers that are left out by turns: the least that is left, and one of every two from 10,001 on, so that there are
 /// thousands of intervals.
 #[test]
-fn sets_of_many_intervals(rt: HostRuntime) -> Result<(), Fail> {
-    let mut facts = WordSets::all(rt.alloc())?;
+fn sets_of_many_intervals(rt: HostRuntime) {
+    let mut facts = WordSets::all(rt.alloc()).expect(&rt, "no fault");
     for least in 0..COUNT / 2 {
         for number in [10_001 + 2 * least, least] {
-            learn(&rt, &mut facts, equal(ALL_BITS, number), false)?;
+            learn(&rt, &mut facts, equal(ALL_BITS, number), false);
             is_told(&rt, &facts, equal(ALL_BITS, number), Tell::Never);
         }
-        assert_eq!(rt; facts.pick(), words_with(least + 1));
+        assert!(rt; facts.pick() == words_with(least + 1));
     }
     for (atom, wanted) in [
         (equal(ALL_BITS, 0), Tell::Never),
@@ -142,22 +104,20 @@ fn sets_of_many_intervals(rt: HostRuntime) -> Result<(), Fail> {
         is_told(&rt, &facts, atom, wanted);
     }
     assert!(rt; !facts.is_empty());
-    Ok(())
 }
 
 /// Refuted values of the low half, which leave no intervals: a number is allowed where its low half isn't one of them.
 #[test]
-fn sets_of_many_refuted_masks(rt: HostRuntime) -> Result<(), Fail> {
+fn sets_of_many_refuted_masks(rt: HostRuntime) {
     let low_half = 0xffff;
-    let mut facts = WordSets::all(rt.alloc())?;
+    let mut facts = WordSets::all(rt.alloc()).expect(&rt, "no fault");
     for value in 0..COUNT {
-        learn(&rt, &mut facts, equal(low_half, value), false)?;
+        learn(&rt, &mut facts, equal(low_half, value), false);
         is_told(&rt, &facts, equal(low_half, value), Tell::Never);
-        let picked = facts.pick().map(|words| words[3] & low_half);
+        let picked = facts.pick().map(|words| words[4] & low_half);
         assert!(rt; picked.is_some_and(|low| low > value), "{value}");
     }
     is_told(&rt, &facts, equal(low_half, 0), Tell::Never);
     is_told(&rt, &facts, equal(low_half, COUNT), Tell::Maybe);
     assert!(rt; !facts.is_empty());
-    Ok(())
 }

@@ -5,7 +5,6 @@ ghost use Rattle.std.specs.Prelude.{◌<◌};
 use scf_facts::{Atom, AtomList, Tell, WordFacts, WordSets};
 use std::alloc::Global;
 use std::process::Abort;
-use std::test::Fail;
 
 const ALL_BITS: u32 = u32::MAX;
 
@@ -174,7 +173,7 @@ impl Plain {
 
 /// Checks what a store answers against what was learned.
 fn check<F: WordFacts>(rt: &impl Abort, facts: &F, plain: &Plain, is_exact: bool) {
-    assert_eq!(rt; facts.open_marks(), plain.marks.len());
+    assert!(rt; facts.open_marks() == plain.marks.len());
     let is_empty = plain.is_empty();
     let is_exact = is_exact && plain.keeps_exact();
     let answers = answers_of(rt, facts);
@@ -184,7 +183,7 @@ fn check<F: WordFacts>(rt: &impl Abort, facts: &F, plain: &Plain, is_exact: bool
         None => assert!(rt; !is_exact || is_empty),
     }
     if is_exact {
-        assert_eq!(rt; answers.is_empty, is_empty);
+        assert!(rt; answers.is_empty == is_empty);
     }
     let mut draw = Draw { state: 0 };
     for told in answers.told {
@@ -209,21 +208,19 @@ fn learn<F: WordFacts>(
     facts: &mut F,
     plain: &mut Plain,
     (atom, holds): (Atom, bool),
-) -> Result<(), Fail> {
+) {
     assert!(rt; atom.word() < 16);
-    facts.learn(atom, holds)?;
-    plain.learned.push((atom, holds))?;
-    Ok(())
+    facts.learn(atom, holds).expect(rt, "no fault");
+    plain.learned.push((atom, holds)).expect(rt, "no fault");
 }
 
 /// Opens a mark in both stores.
-fn mark<F: WordFacts>(rt: &impl Abort, facts: &mut F, plain: &mut Plain) -> Result<(), Fail> {
+fn mark<F: WordFacts>(rt: &impl Abort, facts: &mut F, plain: &mut Plain) {
     let before = answers_of(rt, facts);
-    facts.mark()?;
+    facts.mark().expect(rt, "no fault");
     assert!(rt; answers_of(rt, facts) == before);
     let count = plain.learned.len();
-    plain.marks.push((count, before))?;
-    Ok(())
+    plain.marks.push((count, before)).expect(rt, "no fault");
 }
 
 /// Goes back to the newest mark in both stores, if there is one.
@@ -237,14 +234,9 @@ fn undo<F: WordFacts>(rt: &impl Abort, facts: &mut F, plain: &mut Plain) {
 }
 
 /// One walk. What is learned leaves some number to each word, save right before a way back.
-fn walk<F: WordFacts>(
-    rt: &impl Abort,
-    alloc: Global,
-    start: u32,
-    is_exact: bool,
-) -> Result<(), Fail> {
+fn walk<F: WordFacts>(rt: &impl Abort, alloc: Global, start: u32, is_exact: bool) {
     let mut draw = Draw { state: start };
-    let mut facts: F = F::all(alloc)?;
+    let mut facts: F = F::all(alloc).expect(rt, "no fault");
     let mut plain = Plain::new(alloc);
     for word in WORDS {
         let atom = Atom::Eq {
@@ -252,68 +244,64 @@ fn walk<F: WordFacts>(
             mask: ALL_BITS ^ FOUR_BITS,
             value: 0,
         };
-        learn(rt, &mut facts, &mut plain, (atom, true))?;
+        learn(rt, &mut facts, &mut plain, (atom, true));
     }
     for _ in 0..STEPS {
         if plain.is_empty() {
             undo(rt, &mut facts, &mut plain);
         }
         match draw.below(3) {
-            0 => mark(rt, &mut facts, &mut plain)?,
+            0 => mark(rt, &mut facts, &mut plain),
             1 => {
                 let answered = draw.atom();
                 if facts.open_marks() > 0 || draw.below(8) == 0 {
-                    learn(rt, &mut facts, &mut plain, answered)?;
+                    learn(rt, &mut facts, &mut plain, answered);
                 }
             }
             _ => undo(rt, &mut facts, &mut plain),
         }
         check(rt, &facts, &plain, is_exact);
     }
-    Ok(())
 }
 
 #[test]
-fn lists_of_atoms_walk_with_the_plain_store(rt: HostRuntime) -> Result<(), Fail> {
+fn lists_of_atoms_walk_with_the_plain_store(rt: HostRuntime) {
     for start in 0..WALKS {
-        walk::<AtomList>(&rt, rt.alloc(), start, false)?;
+        walk::<AtomList>(&rt, rt.alloc(), start, false);
     }
-    Ok(())
 }
 
 #[test]
-fn word_sets_walk_with_the_plain_store(rt: HostRuntime) -> Result<(), Fail> {
+fn word_sets_walk_with_the_plain_store(rt: HostRuntime) {
     for start in 0..WALKS {
-        walk::<WordSets>(&rt, rt.alloc(), start, true)?;
+        walk::<WordSets>(&rt, rt.alloc(), start, true);
     }
-    Ok(())
 }
 
 /// Checks that a store goes back to a mark.
-fn goes_back<F: WordFacts>(rt: &impl Abort, alloc: Global) -> Result<(), Fail> {
+fn goes_back<F: WordFacts>(rt: &impl Abort, alloc: Global) {
     let at_least_5 = Atom::Ge { word: 0, value: 5 };
     let is_7 = Atom::Eq {
         word: 0,
         mask: ALL_BITS,
         value: 7,
     };
-    let mut facts: F = F::all(alloc)?;
+    let mut facts: F = F::all(alloc).expect(rt, "no fault");
     let mut plain = Plain::new(alloc);
-    assert_eq!(rt; facts.open_marks(), 0);
-    learn(rt, &mut facts, &mut plain, (at_least_5, true))?;
-    mark(rt, &mut facts, &mut plain)?;
-    assert_eq!(rt; facts.open_marks(), 1);
-    learn(rt, &mut facts, &mut plain, (is_7, true))?;
-    assert_eq!(rt; facts.tell(is_7), Tell::Always);
+    assert!(rt; facts.open_marks() == 0);
+    learn(rt, &mut facts, &mut plain, (at_least_5, true));
+    mark(rt, &mut facts, &mut plain);
+    assert!(rt; facts.open_marks() == 1);
+    learn(rt, &mut facts, &mut plain, (is_7, true));
+    assert!(rt; facts.tell(is_7) == Tell::Always);
     undo(rt, &mut facts, &mut plain);
-    assert_eq!(rt; facts.open_marks(), 0);
-    assert_eq!(rt; facts.tell(is_7), Tell::Maybe);
-    assert_eq!(rt; facts.tell(at_least_5), Tell::Always);
-    Ok(())
+    assert!(rt; facts.open_marks() == 0);
+    assert!(rt; facts.tell(is_7) == Tell::Maybe);
+    assert!(rt; facts.tell(at_least_5) == Tell::Always);
 }
 
 #[test]
-fn both_stores_go_back(rt: HostRuntime) -> Result<(), Fail> {
-    goes_back::<AtomList>(&rt, rt.alloc())?;
-    goes_back::<WordSets>(&rt, rt.alloc())
+fn both_stores_go_back(rt: HostRuntime) {
+    goes_back::<AtomList>(&rt, rt.alloc());
+    goes_back::<WordSets>(&rt, rt.alloc());
 }

@@ -11,7 +11,7 @@ use scf_test_fixtures::kernel::{ALLOW, ERRNO, ERRNO_1, X86_64};
 use scf_test_fixtures::profiles::DEFAULT_ALLOW;
 use scf_text::{assemble, disassemble, tokens};
 use std::alloc::{AllocError, Global};
-use std::test::Fail;
+use std::process::Abort;
 
 /// An instruction of any code for each place, and its bytes (filter.h: code, jt, jf, k, little-endian).
 fn at_place(place: u32) -> (Insn, [u8; 8]) {
@@ -38,52 +38,51 @@ fn places(alloc: Global, count: u32) -> Result<(Vec<Insn>, Vec<u8>), AllocError>
 }
 
 #[test]
-fn filters_byte_by_byte(rt: HostRuntime) -> Result<(), Fail> {
-    let (insns, bytes) = places(rt.alloc(), 4096)?;
-    assert_eq!(rt; bytes.len(), 32768);
+fn filters_byte_by_byte(rt: HostRuntime) {
+    let (insns, bytes) = places(rt.alloc(), 4096).expect(&rt, "no fault");
+    assert!(rt; bytes.len() == 32768);
     let mut source = Reader::new(&bytes, 1, Failing::Never);
-    let found = read_program(rt.alloc(), &mut source)?;
+    let found = read_program(rt.alloc(), &mut source).expect(&rt, "no fault");
     assert!(rt; found.as_slice() == insns.as_slice() && source.asks() == 32769);
     let mut sink = Writer::new(rt.alloc(), 1, Failing::Never);
-    write_program(&insns, &mut sink)?;
+    write_program(&insns, &mut sink).expect(&rt, "no fault");
     assert!(rt; sink.taken() == bytes.as_slice() && sink.asks() == 32768);
-    let (_insns, longer) = places(rt.alloc(), 4097)?;
+    let (_insns, longer) = places(rt.alloc(), 4097).expect(&rt, "no fault");
     let mut source = Reader::new(&longer, 1, Failing::Never);
     let refused = read_program(rt.alloc(), &mut source);
     assert!(rt; refused.err() == Some(ReadFault::TooLong) && source.asks() == 32769);
-    Ok(())
 }
 
 #[test]
-fn inputs_byte_by_byte(rt: HostRuntime) -> Result<(), Fail> {
-    let (_insns, bytes) = places(rt.alloc(), 4096)?;
+fn inputs_byte_by_byte(rt: HostRuntime) {
+    let (_insns, bytes) = places(rt.alloc(), 4096).expect(&rt, "no fault");
     let mut source = Reader::new(&bytes, 1, Failing::Never);
-    let found = read_input(rt.alloc(), &mut source, 32768)?;
+    let found = read_input(rt.alloc(), &mut source, 32768).expect(&rt, "no fault");
     assert!(rt; found.as_slice() == bytes.as_slice() && source.asks() == 32769);
     let mut source = Reader::new(&bytes, 1, Failing::Never);
     let refused = read_input(rt.alloc(), &mut source, 32767);
     assert!(rt; refused.err() == Some(InputFault::TooLong) && source.asks() == 32768);
-    Ok(())
 }
 
 /// The longest lines: 4096 of 33 bytes.
 #[test]
-fn listing_of_the_longest_lines(rt: HostRuntime) -> Result<(), Fail> {
+fn listing_of_the_longest_lines(rt: HostRuntime) {
     let one = insn(0xffff, 255, 255, u32::MAX);
-    let insns = vec![in rt.alloc(); one; 4096]?;
-    let listing = "raw 0xffff, 255, 255, 0xffffffff\n".repeat(rt.alloc(), 4096)?;
+    let insns = vec![in rt.alloc(); one; 4096].expect(&rt, "no fault");
+    let listing = "raw 0xffff, 255, 255, 0xffffffff\n"
+        .repeat(rt.alloc(), 4096)
+        .expect(&rt, "no fault");
     let mut sink = Writer::new(rt.alloc(), 7, Failing::Never);
-    disassemble(&insns, &mut sink)?;
+    disassemble(&insns, &mut sink).expect(&rt, "no fault");
     assert!(rt; sink.taken() == listing.as_bytes());
-    let found = assemble(rt.alloc(), listing.as_bytes())?;
+    let found = assemble(rt.alloc(), listing.as_bytes()).expect(&rt, "no fault");
     assert!(rt; found.as_slice() == insns.as_slice());
-    Ok(())
 }
 
 /// Each line has a label and a jump in 8 tokens, 192 empty statements and a comment.
 #[test]
-fn text_of_4096_lines_of_200_tokens(rt: HostRuntime) -> Result<(), Fail> {
-    let empty = " ;".repeat(rt.alloc(), 192)?;
+fn text_of_4096_lines_of_200_tokens(rt: HostRuntime) {
+    let empty = " ;".repeat(rt.alloc(), 192).expect(&rt, "no fault");
     let empty = empty.as_str();
     let mut text = String::new(rt.alloc());
     let mut insns = Vec::new(rt.alloc());
@@ -91,58 +90,61 @@ fn text_of_4096_lines_of_200_tokens(rt: HostRuntime) -> Result<(), Fail> {
         let line = format!(in rt.alloc();
             "L{place}: jgt #{place}, L{}, 0{empty} // ret a; jgt #1, 2, 3\n",
             place + 1
-        )?;
-        text.push_str(line.as_str())?;
-        insns.push(insn(0x25, 0, 0, place))?;
+        )
+        .expect(&rt, "no fault");
+        text.push_str(line.as_str()).expect(&rt, "no fault");
+        insns.push(insn(0x25, 0, 0, place)).expect(&rt, "no fault");
     }
-    text.push_str("L4095: ret #0x7fff0000")?;
-    insns.push(insn(0x06, 0, 0, ALLOW))?;
-    let found = assemble(rt.alloc(), text.as_bytes())?;
+    text.push_str("L4095: ret #0x7fff0000")
+        .expect(&rt, "no fault");
+    insns.push(insn(0x06, 0, 0, ALLOW)).expect(&rt, "no fault");
+    let found = assemble(rt.alloc(), text.as_bytes()).expect(&rt, "no fault");
     assert!(rt; found.as_slice() == insns.as_slice());
-    let pieces = tokens(rt.alloc(), text.as_bytes())?;
+    let pieces = tokens(rt.alloc(), text.as_bytes()).expect(&rt, "no fault");
     // of the last line `L4095`, `:`, `ret`, `#` and a number
-    assert_eq!(rt; pieces.len(), 4095 * 201 + 5);
-    Ok(())
+    assert!(rt; pieces.len() == 4095 * 201 + 5);
 }
 
 /// A filter that gives this answer.
-fn push_answer(alloc: Global, stack: &mut FilterStack, answer: u32) -> Result<(), Fail> {
+fn push_answer(rt: &impl Abort, alloc: Global, stack: &mut FilterStack, answer: u32) {
     let mut insns = Vec::new(alloc);
-    insns.push(insn(0x06, 0, 0, answer))?;
-    push(stack, check(alloc, insns)?)
+    insns.push(insn(0x06, 0, 0, answer)).expect(rt, "no fault");
+    push(rt, stack, check(alloc, insns).expect(rt, "no fault"))
 }
 
 /// A stack of as many filters as it takes, whose second oldest gives this answer: each counts its one instruction, and
 /// four more where another is pushed upon it (kernel/seccomp.c), so that 6554 filters are 32766.
-fn full_stack(alloc: Global, second: u32) -> Result<FilterStack, Fail> {
+fn full_stack(rt: &impl Abort, alloc: Global, second: u32) -> FilterStack {
     let mut stack = FilterStack::new(alloc);
-    push_answer(alloc, &mut stack, ALLOW)?;
-    push_answer(alloc, &mut stack, second)?;
+    push_answer(rt, alloc, &mut stack, ALLOW);
+    push_answer(rt, alloc, &mut stack, second);
     for _ in 2..6554 {
-        push_answer(alloc, &mut stack, ALLOW)?;
+        push_answer(rt, alloc, &mut stack, ALLOW);
     }
-    Ok(stack)
+    stack
 }
 
 #[test]
-fn as_many_filters_as_a_stack_takes(rt: HostRuntime) -> Result<(), Fail> {
-    let mut stack = full_stack(rt.alloc(), ERRNO | 9)?;
+fn as_many_filters_as_a_stack_takes(rt: HostRuntime) {
+    let mut stack = full_stack(&rt, rt.alloc(), ERRNO | 9);
     let native = call(0, X86_64, [0; 6]);
     assert!(rt; stack.len() == 6554 && stack.decide(&native) == Answer(ERRNO | 9));
-    let more = vec![in rt.alloc(); insn(0x06, 0, 0, ALLOW); 1]?;
-    let refused = stack.push(check(rt.alloc(), more)?).err();
+    let more = vec![in rt.alloc(); insn(0x06, 0, 0, ALLOW); 1].expect(&rt, "no fault");
+    let refused = stack
+        .push(check(rt.alloc(), more).expect(&rt, "no fault"))
+        .err();
     let fault = refused.map(|(fault, _)| fault);
     assert!(rt; fault == Some(PushFault::TooMany { total: 32771 }) && stack.len() == 6554);
-    let profile = profile_of(rt.alloc(), "", DEFAULT_ALLOW)?;
+    let profile = profile_of(&rt, rt.alloc(), "", DEFAULT_ALLOW);
     // each filter has one path, and the profile a default answer alone
-    assert_eq!(rt; effort_stack(&stack, &profile), 8);
+    assert!(rt; effort_stack(&stack, &profile) == 8);
     let verdict = compare_stack::<WordSets>(
         rt.alloc(),
         &stack,
         &profile,
         Scope::Native,
         1_000_000,
-    )?;
+    ).expect(&rt, "no fault");
     let is_shown = match verdict {
         Verdict::Differs {
             call,
@@ -152,10 +154,15 @@ fn as_many_filters_as_a_stack_takes(rt: HostRuntime) -> Result<(), Fail> {
         _ => false,
     };
     assert!(rt; is_shown, "{verdict:?}");
-    let same = full_stack(rt.alloc(), ALLOW)?;
-    let verdict = compare_stack::<WordSets>(rt.alloc(), &same, &profile, Scope::Native, 1_000_000)?;
+    let same = full_stack(&rt, rt.alloc(), ALLOW);
+    let verdict = compare_stack::<WordSets>(
+        rt.alloc(),
+        &same,
+        &profile,
+        Scope::Native,
+        1_000_000,
+    ).expect(&rt, "no fault");
     assert!(rt; matches!(verdict, Verdict::Same { .. }), "{verdict:?}");
-    Ok(())
 }
 
 /// What the names of a number begin with. With the number behind each, they are in the order of their bytes.
@@ -203,21 +210,22 @@ fn are_names(
 }
 
 #[test]
-fn table_of_5000_numbers_of_8_names(rt: HostRuntime) -> Result<(), Fail> {
-    let text = names_of_5000(rt.alloc())?;
-    let names = table(rt.alloc(), text.as_str())?;
-    let numbers = numbers_of_5000(rt.alloc())?;
-    let calls = names.calls(rt.alloc())?;
+fn table_of_5000_numbers_of_8_names(rt: HostRuntime) {
+    let text = names_of_5000(rt.alloc()).expect(&rt, "no fault");
+    let names = table(rt.alloc(), text.as_str()).expect(&rt, "no fault");
+    let numbers = numbers_of_5000(rt.alloc()).expect(&rt, "no fault");
+    let calls = names.calls(rt.alloc()).expect(&rt, "no fault");
     assert!(rt; calls.len() == 5000 && numbers.len() == 5000);
     for (call, number) in calls.iter().zip(&numbers) {
-        assert_eq!(rt; call.number, *number);
-        let has_names = are_names(rt.alloc(), &names, call.names.as_slice(), *number)?;
+        assert!(rt; call.number == *number);
+        let has_names = are_names(rt.alloc(), &names, call.names.as_slice(), *number).expect(
+            &rt, "no fault",
+        );
         assert!(rt; has_names, "{number}");
     }
     for lacked in ["a3774", "a6261", "a12522"] {
-        assert_eq!(rt; names.number_of(lacked), None, "{lacked}");
+        assert!(rt; names.number_of(lacked).is_none(), "{lacked}");
     }
-    Ok(())
 }
 
 /// A table of the numbers from 7 to 4102, and the text of a profile whose one entry allows them, the last one first.
@@ -241,27 +249,26 @@ fn falling_numbers(alloc: Global) -> Result<(String, String), AllocError> {
 }
 
 #[test]
-fn profile_of_4096_numbers(rt: HostRuntime) -> Result<(), Fail> {
-    let (names, text) = falling_numbers(rt.alloc())?;
-    let profile = profile_of(rt.alloc(), names.as_str(), text.as_str())?;
+fn profile_of_4096_numbers(rt: HostRuntime) {
+    let (names, text) = falling_numbers(rt.alloc()).expect(&rt, "no fault");
+    let profile = profile_of(&rt, rt.alloc(), names.as_str(), text.as_str());
     assert!(rt;
         profile
             .rules()
             .first()
             .is_some_and(|rule| rule.number == 4102)
     );
-    let sorted = rules_by_number(rt.alloc(), profile.rules())?;
-    assert_eq!(rt; sorted.len(), 4096);
+    let sorted = rules_by_number(rt.alloc(), profile.rules()).expect(&rt, "no fault");
+    assert!(rt; sorted.len() == 4096);
     for (rule, number) in sorted.iter().zip(7u32..) {
-        assert_eq!(rt; rule.number, number);
+        assert!(rt; rule.number == number);
         let one = call(number, X86_64, [0; 6]);
-        assert_eq!(rt; profile.answer(&one), Answer(ALLOW), "{number}");
-        assert_eq!(rt; profile.reason(&one), Reason::Entry(0), "{number}");
+        assert!(rt; profile.answer(&one) == Answer(ALLOW), "{number}");
+        assert!(rt; profile.reason(&one) == Reason::Entry(0), "{number}");
     }
     for number in [6, 4103] {
         let one = call(number, X86_64, [0; 6]);
-        assert_eq!(rt; profile.answer(&one), Answer(ERRNO_1), "{number}");
-        assert_eq!(rt; profile.reason(&one), Reason::Default, "{number}");
+        assert!(rt; profile.answer(&one) == Answer(ERRNO_1), "{number}");
+        assert!(rt; profile.reason(&one) == Reason::Default, "{number}");
     }
-    Ok(())
 }

@@ -1,7 +1,9 @@
 //! Tests of the libraries' public calls. They stand apart from the libraries, since the gate proves a crate that has
 //! tests twice.
 //!
-//! A large table stands behind a call here: a proof looks into a constant, and not into what a call gives.
+//! A large table stands behind a call here: a proof looks into a constant, and not into what a call gives. Equality is
+//! asserted by `assert!`, and a result is taken by `expect`: `assert_eq!` and `?` take twice the proof, the one for what
+//! it prints, the other since all that is owned is dropped on one way more.
 #![tactic(auto)]
 
 #[cfg(test)]
@@ -52,6 +54,8 @@ mod searches;
 mod streams;
 #[cfg(test)]
 mod text;
+#[cfg(test)]
+mod word_4;
 #[cfg(test)]
 mod word_sets;
 #[cfg(test)]

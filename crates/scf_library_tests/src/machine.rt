@@ -7,7 +7,7 @@ use scf_test_fixtures::filters::{ALLOW_ALL, DIVIDED_BY_0, STORED_BOTH_WAYS, STOR
 use scf_test_fixtures::kernel::ALLOW;
 use scf_text::assemble;
 use std::alloc::Global;
-use std::test::Fail;
+use std::process::Abort;
 
 /// Its word at byte 4i is i + 1.
 const CALL: CallRecord = CallRecord {
@@ -30,25 +30,23 @@ fn plain(code: u16, k: u32) -> Insn {
 }
 
 /// Whether the list is accepted, and its run answers this in so many steps.
-fn answers(alloc: Global, insns: &[Insn], answer: u32, steps: u32) -> Result<bool, Fail> {
-    let program = check(alloc, insns.to_vec(alloc)?)?;
+fn answers(rt: &impl Abort, alloc: Global, insns: &[Insn], answer: u32, steps: u32) -> bool {
+    let program = check(alloc, insns.to_vec(alloc).expect(rt, "no fault")).expect(rt, "no fault");
     let ran = run(&program, &CALL);
-    Ok(
-        ran.answer == Answer(answer)
-            && ran.steps == steps
-            && program.len() == insns.len()
-            && !program.is_empty()
-            && program.insns() == insns
-            && program.into_insns().as_slice() == insns,
-    )
+    ran.answer == Answer(answer)
+        && ran.steps == steps
+        && program.len() == insns.len()
+        && !program.is_empty()
+        && program.insns() == insns
+        && program.into_insns().as_slice() == insns
 }
 
 /// Whether the list is refused by this fault, and handed back.
-fn refuses(alloc: Global, insns: &[Insn], fault: CheckFault) -> Result<bool, Fail> {
-    let copy = insns.to_vec(alloc)?;
+fn refuses(rt: &impl Abort, alloc: Global, insns: &[Insn], fault: CheckFault) -> bool {
+    let copy = insns.to_vec(alloc).expect(rt, "no fault");
     match check(alloc, copy) {
-        Ok(_) => Ok(false),
-        Err((found, back)) => Ok(found == fault && back.as_slice() == insns),
+        Ok(_) => false,
+        Err((found, back)) => found == fault && back.as_slice() == insns,
     }
 }
 
@@ -92,7 +90,7 @@ fn all_computations() -> &'static [(u32, u32, u16, u32, u32)] {
 }
 
 #[test]
-fn computations(rt: HostRuntime) -> Result<(), Fail> {
+fn computations(rt: HostRuntime) {
     for (a, x, code, k, after) in all_computations() {
         let list = [
             plain(0x00, *a),
@@ -101,15 +99,14 @@ fn computations(rt: HostRuntime) -> Result<(), Fail> {
             plain(0x16, 0),
         ];
         assert!(rt;
-            answers(rt.alloc(), &list, *after, 4)?,
+            answers(&rt, rt.alloc(), &list, *after, 4),
             "code {code} of {a} and {x}"
         );
     }
-    Ok(())
 }
 
 #[test]
-fn registers_and_scratch_words(rt: HostRuntime) -> Result<(), Fail> {
+fn registers_and_scratch_words(rt: HostRuntime) {
     // The index register after.
     for (code, k, after) in [(0x81, 0, 64), (0x01, 5, 5), (0x07, 0, 9)] {
         let list = [
@@ -118,17 +115,16 @@ fn registers_and_scratch_words(rt: HostRuntime) -> Result<(), Fail> {
             plain(0x87, 0),
             plain(0x16, 0),
         ];
-        assert!(rt; answers(rt.alloc(), &list, after, 4)?, "code {code}");
+        assert!(rt; answers(&rt, rt.alloc(), &list, after, 4), "code {code}");
     }
     for (text, answer, steps) in [
         (DIVIDED_BY_0, 0, 3),
         ("ld #7; st M[15]; ld #0; ld M[15]; ret a", 7, 5),
         ("ldx #8; stx M[0]; ldx M[0]; txa; ret a", 8, 5),
     ] {
-        let list = assemble(rt.alloc(), text.as_bytes())?;
-        assert!(rt; answers(rt.alloc(), &list, answer, steps)?, "{text}");
+        let list = assemble(rt.alloc(), text.as_bytes()).expect(&rt, "no fault");
+        assert!(rt; answers(&rt, rt.alloc(), &list, answer, steps), "{text}");
     }
-    Ok(())
 }
 
 /// The accumulator and the index register, code and constant, and whether the test holds.
@@ -156,7 +152,7 @@ fn all_tests() -> &'static [(u32, u32, u16, u32, bool)] {
 }
 
 #[test]
-fn jumps(rt: HostRuntime) -> Result<(), Fail> {
+fn jumps(rt: HostRuntime) {
     for (a, x, code, k, holds) in all_tests() {
         let list = [
             plain(0x00, *a),
@@ -167,19 +163,18 @@ fn jumps(rt: HostRuntime) -> Result<(), Fail> {
         ];
         let answer = if *holds { 1 } else { 0 };
         assert!(rt;
-            answers(rt.alloc(), &list, answer, 4)?,
+            answers(&rt, rt.alloc(), &list, answer, 4),
             "code {code} of {a} and {x}"
         );
     }
     for (text, answer, steps) in [("ja 1; ret #0; ret #0x7fff0000", ALLOW, 2), ("ret a", 0, 1)] {
-        let list = assemble(rt.alloc(), text.as_bytes())?;
-        assert!(rt; answers(rt.alloc(), &list, answer, steps)?, "{text}");
+        let list = assemble(rt.alloc(), text.as_bytes()).expect(&rt, "no fault");
+        assert!(rt; answers(&rt, rt.alloc(), &list, answer, steps), "{text}");
     }
-    let text = "ld #0;".repeat(rt.alloc(), 4095)?;
-    let text = format!(in rt.alloc(); "{text}{ALLOW_ALL}")?;
-    let longest = assemble(rt.alloc(), text.as_bytes())?;
-    assert!(rt; answers(rt.alloc(), &longest, ALLOW, 4096)?);
-    Ok(())
+    let text = "ld #0;".repeat(rt.alloc(), 4095).expect(&rt, "no fault");
+    let text = format!(in rt.alloc(); "{text}{ALLOW_ALL}").expect(&rt, "no fault");
+    let longest = assemble(rt.alloc(), text.as_bytes()).expect(&rt, "no fault");
+    assert!(rt; answers(&rt, rt.alloc(), &longest, ALLOW, 4096));
 }
 
 /// A first instruction that is refused before a return, and the fault.
@@ -203,23 +198,22 @@ fn refused_first() -> &'static [(u16, u8, u8, u32, CheckFault)] {
 }
 
 #[test]
-fn faults(rt: HostRuntime) -> Result<(), Fail> {
+fn faults(rt: HostRuntime) {
     let last = plain(0x16, 0);
-    assert!(rt; refuses(rt.alloc(), &[], CheckFault::Empty)?);
-    assert!(rt; refuses(rt.alloc(), &[last; 4097], CheckFault::TooLong)?);
+    assert!(rt; refuses(&rt, rt.alloc(), &[], CheckFault::Empty));
+    assert!(rt; refuses(&rt, rt.alloc(), &[last; 4097], CheckFault::TooLong));
     for (text, fault) in [
         ("ld #0", CheckFault::LastNotReturn),
         ("ld M[0]; ld #0", CheckFault::LastNotReturn),
         ("div #0; ld [62]", CheckFault::Divisor { at: 0 }),
     ] {
-        let list = assemble(rt.alloc(), text.as_bytes())?;
-        assert!(rt; refuses(rt.alloc(), &list, fault)?, "{text}");
+        let list = assemble(rt.alloc(), text.as_bytes()).expect(&rt, "no fault");
+        assert!(rt; refuses(&rt, rt.alloc(), &list, fault), "{text}");
     }
     for (code, jt, jf, k, fault) in refused_first() {
         let list = [insn(*code, *jt, *jf, *k), last];
-        assert!(rt; refuses(rt.alloc(), &list, *fault)?, "{fault}");
+        assert!(rt; refuses(&rt, rt.alloc(), &list, *fault), "{fault}");
     }
-    Ok(())
 }
 
 /// Filters in which a scratch word may be loaded that isn't set, and where. A return counts as going on, so the load of
@@ -238,35 +232,34 @@ fn unset() -> &'static [(&'static str, usize, u8)] {
 }
 
 #[test]
-fn unset_scratch_words(rt: HostRuntime) -> Result<(), Fail> {
+fn unset_scratch_words(rt: HostRuntime) {
     for (text, at, word) in unset() {
-        let list = assemble(rt.alloc(), text.as_bytes())?;
+        let list = assemble(rt.alloc(), text.as_bytes()).expect(&rt, "no fault");
         let fault = CheckFault::Unset {
             at: *at,
             word: *word,
         };
-        assert!(rt; refuses(rt.alloc(), &list, fault)?, "{text}");
+        assert!(rt; refuses(&rt, rt.alloc(), &list, fault), "{text}");
     }
     for (text, answer, steps) in [(STORED_BOTH_WAYS, 1, 6), ("ja 1; ld M[0]; ret a", 0, 2)] {
-        let list = assemble(rt.alloc(), text.as_bytes())?;
-        assert!(rt; answers(rt.alloc(), &list, answer, steps)?, "{text}");
+        let list = assemble(rt.alloc(), text.as_bytes()).expect(&rt, "no fault");
+        assert!(rt; answers(&rt, rt.alloc(), &list, answer, steps), "{text}");
     }
-    Ok(())
 }
 
 /// A filter of so many instructions that answers one thing to each call.
-fn answering(alloc: Global, answer: u32, len: usize) -> Result<Program, Fail> {
-    let list = vec![in alloc; plain(0x06, answer); len]?;
-    Ok(check(alloc, list)?)
+fn answering(rt: &impl Abort, alloc: Global, answer: u32, len: usize) -> Program {
+    let list = vec![in alloc; plain(0x06, answer); len].expect(rt, "no fault");
+    check(alloc, list).expect(rt, "no fault")
 }
 
 /// A stack of filters of one instruction, the oldest first.
-fn stack_of(alloc: Global, answers: &[u32]) -> Result<FilterStack, Fail> {
+fn stack_of(rt: &impl Abort, alloc: Global, answers: &[u32]) -> FilterStack {
     let mut stack = FilterStack::new(alloc);
     for answer in answers {
-        push(&mut stack, answering(alloc, *answer, 1)?)?;
+        push(rt, &mut stack, answering(rt, alloc, *answer, 1));
     }
-    Ok(stack)
+    stack
 }
 
 /// An older answer, a newer one, and which decides: the lesser high half as a signed number, and of two equal ones the
@@ -291,20 +284,16 @@ fn all_pairs() -> &'static [(u32, u32, u32)] {
 }
 
 #[test]
-fn precedence(rt: HostRuntime) -> Result<(), Fail> {
+fn precedence(rt: HostRuntime) {
     for (older, newest, wanted) in all_pairs() {
-        assert_eq!(rt;
-            with_newest(Answer(*older), Answer(*newest)),
-            Answer(*wanted)
-        );
-        let found = stack_of(rt.alloc(), &[*older, *newest])?.decide(&CALL);
-        assert_eq!(rt; found, Answer(*wanted), "{older} and {newest}");
+        assert!(rt; with_newest(Answer(*older), Answer(*newest)) == Answer(*wanted));
+        let found = stack_of(&rt, rt.alloc(), &[*older, *newest]).decide(&CALL);
+        assert!(rt; found == Answer(*wanted), "{older} and {newest}");
     }
-    Ok(())
 }
 
 #[test]
-fn stacks(rt: HostRuntime) -> Result<(), Fail> {
+fn stacks(rt: HostRuntime) {
     let seven = [
         0x7ffc_0000,
         ALLOW,
@@ -326,17 +315,16 @@ fn stacks(rt: HostRuntime) -> Result<(), Fail> {
         (&seven, 0x0005_0002),
     ];
     for (answers, wanted) in all {
-        let stack = stack_of(rt.alloc(), answers)?;
-        assert_eq!(rt; stack.len(), answers.len());
-        assert_eq!(rt; stack.is_empty(), answers.is_empty());
-        assert_eq!(rt; stack.decide(&CALL), Answer(wanted));
+        let stack = stack_of(&rt, rt.alloc(), answers);
+        assert!(rt; stack.len() == answers.len());
+        assert!(rt; stack.is_empty() == answers.is_empty());
+        assert!(rt; stack.decide(&CALL) == Answer(wanted));
         for i in 0..answers.len() {
             let found = stack.get(i).map(|filter| run(filter, &CALL).answer);
-            assert_eq!(rt; found, Some(Answer(answers[i])));
+            assert!(rt; found == Some(Answer(answers[i])));
         }
         assert!(rt; stack.get(answers.len()).is_none());
     }
-    Ok(())
 }
 
 /// Whether a push of so many instructions is refused with this total, the filter handed back and the stack as before.
@@ -352,20 +340,19 @@ fn overflows(stack: &mut FilterStack, filter: Program, total: usize) -> bool {
 }
 
 #[test]
-fn full_stack(rt: HostRuntime) -> Result<(), Fail> {
+fn full_stack(rt: HostRuntime) {
     let mut stack = FilterStack::new(rt.alloc());
     for len in 0..7 {
-        assert_eq!(rt; stack.len(), len);
-        push(&mut stack, answering(rt.alloc(), ALLOW, 4096)?)?;
+        assert!(rt; stack.len() == len);
+        push(&rt, &mut stack, answering(&rt, rt.alloc(), ALLOW, 4096));
     }
     for (len, total) in [(4096, 32796), (4069, 32769)] {
-        let filter = answering(rt.alloc(), ALLOW, len)?;
+        let filter = answering(&rt, rt.alloc(), ALLOW, len);
         assert!(rt; overflows(&mut stack, filter, total), "a filter of {len}");
     }
-    push(&mut stack, answering(rt.alloc(), 0, 4068)?)?;
-    assert_eq!(rt; stack.len(), 8);
+    push(&rt, &mut stack, answering(&rt, rt.alloc(), 0, 4068));
+    assert!(rt; stack.len() == 8);
     assert!(rt; stack.get(7).is_some_and(|filter| filter.len() == 4068));
     assert!(rt; stack.get(8).is_none());
-    assert_eq!(rt; stack.decide(&CALL), Answer(0));
-    Ok(())
+    assert!(rt; stack.decide(&CALL) == Answer(0));
 }

@@ -2,7 +2,6 @@
 
 use crate::fixtures::table;
 use crate::x86_64_table::x86_64_table;
-use std::test::Fail;
 
 /// A number, and its names.
 type Call = (u32, &'static [&'static str]);
@@ -47,29 +46,28 @@ fn tables() -> &'static [(&'static str, &'static [Call])] {
 }
 
 #[test]
-fn calls_by_number(rt: HostRuntime) -> Result<(), Fail> {
+fn calls_by_number(rt: HostRuntime) {
     for (text, wanted) in tables() {
-        let names = table(rt.alloc(), text)?;
-        let calls = names.calls(rt.alloc())?;
-        assert_eq!(rt; calls.len(), wanted.len(), "{text}");
+        let names = table(rt.alloc(), text).expect(&rt, "no fault");
+        let calls = names.calls(rt.alloc()).expect(&rt, "no fault");
+        assert!(rt; calls.len() == wanted.len(), "{text}");
         for (call, (number, names)) in calls.iter().zip(*wanted) {
-            assert_eq!(rt; call.number, *number, "{text}");
-            assert_eq!(rt; call.names.as_slice(), *names, "{text}");
+            assert!(rt; call.number == *number, "{text}");
+            assert!(rt; call.names.as_slice() == *names, "{text}");
         }
     }
-    Ok(())
 }
 
 /// The kernel's numbers have one name each, and rise from line to line.
 #[test]
-fn calls_of_x86_64(rt: HostRuntime) -> Result<(), Fail> {
-    let names = table(rt.alloc(), x86_64_table())?;
-    let calls = names.calls(rt.alloc())?;
-    assert_eq!(rt; calls.len(), 362);
+fn calls_of_x86_64(rt: HostRuntime) {
+    let names = table(rt.alloc(), x86_64_table()).expect(&rt, "no fault");
+    let calls = names.calls(rt.alloc()).expect(&rt, "no fault");
+    assert!(rt; calls.len() == 362);
     for (call, line) in calls.iter().zip(x86_64_table().lines()) {
         let (name, number) = line.split_once(' ').expect(&rt, "a name and a number");
-        assert_eq!(rt; number.parse::<u32>().ok(), Some(call.number), "{line}");
-        assert_eq!(rt; call.names.as_slice(), [name].as_slice(), "{line}");
+        assert!(rt; number.parse::<u32>().ok() == Some(call.number), "{line}");
+        assert!(rt; call.names.as_slice() == [name].as_slice(), "{line}");
     }
     let first = calls.first().expect(&rt, "a first call");
     let last = calls.last().expect(&rt, "a last call");
@@ -77,5 +75,4 @@ fn calls_of_x86_64(rt: HostRuntime) -> Result<(), Fail> {
     assert!(rt;
         last.number == 450 && last.names.as_slice() == ["set_mempolicy_home_node"].as_slice()
     );
-    Ok(())
 }

@@ -6,24 +6,23 @@ use scf_machine::{Program, check, run, trace};
 use scf_test_fixtures::filters::{ALLOW_ALL, DIVIDED_BY_0, GATE, STORED_BOTH_WAYS};
 use scf_test_fixtures::kernel::{ALLOW, ERRNO_1, I386, KILL_PROCESS, X32, X86_64};
 use std::alloc::Global;
-use std::test::Fail;
+use std::process::Abort;
 
 /// Whether a run answers this at the end of this path, and `run` says so too.
 fn takes(
+    rt: &impl Abort,
     alloc: Global,
     program: &Program,
     call: &CallRecord,
     answer: u32,
     places: &[usize],
-) -> Result<bool, Fail> {
-    let path = trace(alloc, program, call)?;
+) -> bool {
+    let path = trace(alloc, program, call).expect(rt, "no fault");
     let ran = run(program, call);
-    Ok(
-        path.answer == Answer(answer)
-            && path.places.as_slice() == places
-            && ran.answer == path.answer
-            && ran.steps as usize == places.len(),
-    )
+    path.answer == Answer(answer)
+        && path.places.as_slice() == places
+        && ran.answer == path.answer
+        && ran.steps as usize == places.len()
 }
 
 /// Behind the gate, which has six instructions: `write` is refused, and every other native call allowed.
@@ -44,16 +43,15 @@ fn gated() -> &'static [(u32, u32, u32, &'static [usize])] {
 }
 
 #[test]
-fn paths_behind_a_gate(rt: HostRuntime) -> Result<(), Fail> {
-    let program = assembled(rt.alloc(), GATE, ALL_BUT_WRITE)?;
+fn paths_behind_a_gate(rt: HostRuntime) {
+    let program = assembled(&rt, rt.alloc(), GATE, ALL_BUT_WRITE);
     for (arch, nr, answer, places) in gated() {
         let call = call(*nr, *arch, [0; 6]);
         assert!(rt;
-            takes(rt.alloc(), &program, &call, *answer, places)?,
+            takes(&rt, rt.alloc(), &program, &call, *answer, places),
             "{nr} of {arch}"
         );
     }
-    Ok(())
 }
 
 /// A filter, and its answer and path where the number of the call is 0.
@@ -76,34 +74,35 @@ fn paths() -> &'static [(&'static str, u32, &'static [usize])] {
 }
 
 #[test]
-fn paths_of_jumps_and_ends(rt: HostRuntime) -> Result<(), Fail> {
+fn paths_of_jumps_and_ends(rt: HostRuntime) {
     let call = call(0, X86_64, [0; 6]);
     for (text, answer, places) in paths() {
-        let program = assembled(rt.alloc(), text, "")?;
+        let program = assembled(&rt, rt.alloc(), text, "");
         assert!(rt;
-            takes(rt.alloc(), &program, &call, *answer, places)?,
+            takes(&rt, rt.alloc(), &program, &call, *answer, places),
             "{text}"
         );
     }
-    Ok(())
 }
 
 /// A longest filter: 4095 times this instruction and this one by turns, and a return of its answer.
-fn longest(alloc: Global, even: Insn, odd: Insn, answer: u32) -> Result<Program, Fail> {
+fn longest(rt: &impl Abort, alloc: Global, even: Insn, odd: Insn, answer: u32) -> Program {
     let mut insns = Vec::new(alloc);
     for at in 0..4095u32 {
-        insns.push(if at % 2 == 0 { even } else { odd })?;
+        insns
+            .push(if at % 2 == 0 { even } else { odd })
+            .expect(rt, "no fault");
     }
-    insns.push(insn(0x06, 0, 0, answer))?;
-    Ok(check(alloc, insns)?)
+    insns.push(insn(0x06, 0, 0, answer)).expect(rt, "no fault");
+    check(alloc, insns).expect(rt, "no fault")
 }
 
 #[test]
-fn longest_paths(rt: HostRuntime) -> Result<(), Fail> {
+fn longest_paths(rt: HostRuntime) {
     let call = call(0, X86_64, [0; 6]);
     let (load, jump_on) = (insn(0x00, 0, 0, 9), insn(0x05, 0, 0, 0));
-    let each = longest(rt.alloc(), load, jump_on, ALLOW)?;
-    let path = trace(rt.alloc(), &each, &call)?;
+    let each = longest(&rt, rt.alloc(), load, jump_on, ALLOW);
+    let path = trace(rt.alloc(), &each, &call).expect(&rt, "no fault");
     assert!(rt; path.answer == Answer(ALLOW) && path.places.len() == 4096);
     assert!(rt;
         path.places
@@ -115,15 +114,18 @@ fn longest_paths(rt: HostRuntime) -> Result<(), Fail> {
     let (over, returned) = (insn(0x15, 1, 1, 0), insn(0x06, 0, 0, 0));
     let mut insns = Vec::new(rt.alloc());
     for at in 0..4094u32 {
-        insns.push(if at % 2 == 0 { over } else { returned })?;
+        insns
+            .push(if at % 2 == 0 { over } else { returned })
+            .expect(&rt, "no fault");
     }
-    insns.push(load)?;
-    insns.push(insn(0x06, 0, 0, ERRNO_1))?;
-    let every_second = check(rt.alloc(), insns)?;
-    let path = trace(rt.alloc(), &every_second, &call)?;
+    insns.push(load).expect(&rt, "no fault");
+    insns
+        .push(insn(0x06, 0, 0, ERRNO_1))
+        .expect(&rt, "no fault");
+    let every_second = check(rt.alloc(), insns).expect(&rt, "no fault");
+    let path = trace(rt.alloc(), &every_second, &call).expect(&rt, "no fault");
     assert!(rt; path.answer == Answer(ERRNO_1) && path.places.len() == 2049);
     let mut jumps = path.places.iter().take(2048).enumerate();
     assert!(rt; jumps.all(|(steps, place)| place / 2 == steps && place % 2 == 0));
-    assert_eq!(rt; path.places.last().copied(), Some(4095));
-    Ok(())
+    assert!(rt; path.places.last().copied() == Some(4095));
 }

@@ -8,10 +8,10 @@ use scf_test_fixtures::kernel::{ALLOW, X86_64};
 use scf_test_fixtures::profiles::{ONE_CALL, READ_TABLE, READ_WRITE_TABLE, WHOLE_CONFIG};
 use scf_test_fixtures::texts::are;
 use std::alloc::{AllocError, Global};
-use std::test::Fail;
+use std::process::Abort;
 
-fn fault_of(alloc: Global, names: &str, text: &str) -> Result<Option<LoadFault>, Fail> {
-    Ok(loaded(alloc, names, text.as_bytes())?.err())
+fn fault_of(rt: &impl Abort, alloc: Global, names: &str, text: &str) -> Option<LoadFault> {
+    loaded(rt, alloc, names, text.as_bytes()).err()
 }
 
 /// The answer to a call of x86-64 with these first three arguments.
@@ -49,20 +49,19 @@ fn texts_of_tables() -> &'static [(&'static str, Option<TableFault>)] {
 }
 
 #[test]
-fn tables(rt: HostRuntime) -> Result<(), Fail> {
+fn tables(rt: HostRuntime) {
     for (text, fault) in texts_of_tables() {
-        assert_eq!(rt; table(rt.alloc(), text).err(), *fault, "{text}");
+        assert!(rt; table(rt.alloc(), text).err() == *fault, "{text}");
     }
-    let names = table(rt.alloc(), "# x\n\na 5\nb 5\n_1 1073741823")?;
+    let names = table(rt.alloc(), "# x\n\na 5\nb 5\n_1 1073741823").expect(&rt, "no fault");
     assert!(rt; names.number_of("a") == Some(5) && names.number_of("b") == Some(5));
     assert!(rt; names.number_of("_1") == Some(0x3fff_ffff) && names.number_of("A").is_none());
-    Ok(())
 }
 
 #[test]
-fn calls_of_x86_64(rt: HostRuntime) -> Result<(), Fail> {
+fn calls_of_x86_64(rt: HostRuntime) {
     let text = x86_64_table();
-    let names = table(rt.alloc(), text)?;
+    let names = table(rt.alloc(), text).expect(&rt, "no fault");
     let mut lines = 0u32;
     for line in text.lines() {
         let (name, number) = line.split_once(' ').expect(&rt, "a name and a number");
@@ -73,11 +72,10 @@ fn calls_of_x86_64(rt: HostRuntime) -> Result<(), Fail> {
         );
         lines = lines.wrapping_add(1);
     }
-    assert_eq!(rt; lines, 362);
+    assert!(rt; lines == 362);
     for name in ["", "READ", "Read", "rea", "read0", "no_such_call", "read 0"] {
-        assert_eq!(rt; names.number_of(name), None, "{name}");
+        assert!(rt; names.number_of(name).is_none(), "{name}");
     }
-    Ok(())
 }
 
 /// Calls of x86-64, and a name that stands in the header of another architecture alone.
@@ -97,14 +95,15 @@ fn have_numbers(rules: &[Rule], numbers: &[u32]) -> bool {
 }
 
 #[test]
-fn rules_of_real_names(rt: HostRuntime) -> Result<(), Fail> {
+fn rules_of_real_names(rt: HostRuntime) {
     let numbers = [
         0, 1, 257, 435, 9, 41, 56, 59, 231, 166, 318, 321, 317, 425, 437, 439, 449, 450, 15, 155,
     ];
-    let found = loaded(rt.alloc(), x86_64_table(), REAL_NAMES.as_bytes())??;
+    let found = loaded(&rt, rt.alloc(), x86_64_table(), REAL_NAMES.as_bytes()).expect(
+        &rt, "no fault",
+    );
     assert!(rt; are(found.skipped.as_slice(), &["arm_fadvise64_64"]));
     assert!(rt; have_numbers(found.profile.rules(), &numbers));
-    Ok(())
 }
 
 /// Texts of profiles, and their faults.
@@ -176,15 +175,16 @@ fn texts_of_profiles() -> &'static [(&'static str, LoadFault)] {
 }
 
 #[test]
-fn refusals(rt: HostRuntime) -> Result<(), Fail> {
+fn refusals(rt: HostRuntime) {
     for (text, fault) in texts_of_profiles() {
-        assert_eq!(rt; fault_of(rt.alloc(), "", text)?, Some(*fault), "{text}");
+        assert!(rt;
+            fault_of(&rt, rt.alloc(), "", text) == Some(*fault),
+            "{text}"
+        );
     }
-    assert_eq!(rt;
-        loaded(rt.alloc(), "", b"{\"defaultAction\":\"\xff\"}")?.err(),
-        Some(LoadFault::Json)
+    assert!(rt;
+        loaded(&rt, rt.alloc(), "", b"{\"defaultAction\":\"\xff\"}").err() == Some(LoadFault::Json)
     );
-    Ok(())
 }
 
 /// The text of a profile with default LOG and these entries of `syscalls`.
@@ -267,13 +267,12 @@ fn texts_of_entries() -> &'static [(&'static str, LoadFault)] {
 }
 
 #[test]
-fn refused_entries(rt: HostRuntime) -> Result<(), Fail> {
+fn refused_entries(rt: HostRuntime) {
     for (text, fault) in texts_of_entries() {
-        let whole = with_entries(rt.alloc(), text)?;
-        let found = fault_of(rt.alloc(), "a 1\nb 2\nc 3\nd 5\ne 5", whole.as_str())?;
-        assert_eq!(rt; found, Some(*fault), "{text}");
+        let whole = with_entries(rt.alloc(), text).expect(&rt, "no fault");
+        let found = fault_of(&rt, rt.alloc(), "a 1\nb 2\nc 3\nd 5\ne 5", whole.as_str());
+        assert!(rt; found == Some(*fault), "{text}");
     }
-    Ok(())
 }
 
 /// The text of an entry of `a` with these members of `args`.
@@ -337,13 +336,12 @@ fn texts_of_args() -> &'static [(&'static str, LoadFault)] {
 }
 
 #[test]
-fn refused_args(rt: HostRuntime) -> Result<(), Fail> {
+fn refused_args(rt: HostRuntime) {
     for (text, fault) in texts_of_args() {
-        let whole = with_args(rt.alloc(), text)?;
-        let found = fault_of(rt.alloc(), "a 1", whole.as_str())?;
-        assert_eq!(rt; found, Some(*fault), "{text}");
+        let whole = with_args(rt.alloc(), text).expect(&rt, "no fault");
+        let found = fault_of(&rt, rt.alloc(), "a 1", whole.as_str());
+        assert!(rt; found == Some(*fault), "{text}");
     }
-    Ok(())
 }
 
 /// The text of a profile with one entry that has the name `a` so many times, and then this text.
@@ -357,10 +355,10 @@ fn with_names(alloc: Global, count: usize, rest: &str) -> Result<String, AllocEr
 }
 
 #[test]
-fn limits(rt: HostRuntime) -> Result<(), Fail> {
-    let text = with_names(rt.alloc(), 4096, "")?;
-    let profile = profile_of(rt.alloc(), "a 1", text.as_str())?;
-    assert_eq!(rt; profile.rules().len(), 4096);
+fn limits(rt: HostRuntime) {
+    let text = with_names(rt.alloc(), 4096, "").expect(&rt, "no fault");
+    let profile = profile_of(&rt, rt.alloc(), "a 1", text.as_str());
+    assert!(rt; profile.rules().len() == 4096);
     for (count, rest, fault) in [
         (4097, "", LoadFault::TooMany),
         (4097, ",3", LoadFault::Kind { entry: Some(1) }),
@@ -379,26 +377,26 @@ fn limits(rt: HostRuntime) -> Result<(), Fail> {
             },
         ),
     ] {
-        let text = with_names(rt.alloc(), count, rest)?;
-        let found = fault_of(rt.alloc(), "a 1", text.as_str())?;
-        assert_eq!(rt; found, Some(fault), "{rest}");
+        let text = with_names(rt.alloc(), count, rest).expect(&rt, "no fault");
+        let found = fault_of(&rt, rt.alloc(), "a 1", text.as_str());
+        assert!(rt; found == Some(fault), "{rest}");
     }
-    Ok(())
 }
 
 #[test]
-fn longest_text(rt: HostRuntime) -> Result<(), Fail> {
-    let blanks = vec![in rt.alloc(); b' '; 4_194_305]?;
-    let longer = loaded(rt.alloc(), "", &blanks)?;
-    assert_eq!(rt; longer.err(), Some(LoadFault::TooMany));
-    let longest = loaded(rt.alloc(), "", &blanks[1..])?;
-    assert_eq!(rt; longest.err(), Some(LoadFault::Json));
-    Ok(())
+fn longest_text(rt: HostRuntime) {
+    let blanks = vec![in rt.alloc(); b' '; 4_194_305].expect(&rt, "no fault");
+    let longer = loaded(&rt, rt.alloc(), "", &blanks);
+    assert!(rt; longer.err() == Some(LoadFault::TooMany));
+    let longest = loaded(&rt, rt.alloc(), "", &blanks[1..]);
+    assert!(rt; longest.err() == Some(LoadFault::Json));
 }
 
 #[test]
-fn whole_config(rt: HostRuntime) -> Result<(), Fail> {
-    let found = loaded(rt.alloc(), READ_TABLE, WHOLE_CONFIG.as_bytes())??;
+fn whole_config(rt: HostRuntime) {
+    let found = loaded(&rt, rt.alloc(), READ_TABLE, WHOLE_CONFIG.as_bytes()).expect(
+        &rt, "no fault",
+    );
     assert!(rt; are(found.skipped.as_slice(), &["arm_sync_file_range"]));
     assert!(rt;
         are(
@@ -407,28 +405,28 @@ fn whole_config(rt: HostRuntime) -> Result<(), Fail> {
         )
     );
     let profile = &found.profile;
-    assert_eq!(rt; profile.default_answer(), Answer(0x0005_0026));
+    assert!(rt; profile.default_answer() == Answer(0x0005_0026));
     assert!(rt; have_numbers(profile.rules(), &[0]));
     assert!(rt; answer(profile, 0, [0; 3]) == ALLOW && answer(profile, 1, [0; 3]) == 0x0005_0026);
     let Loaded { skipped, .. } = found;
     let names = skipped.into_vec();
     assert!(rt; are(&names, &["arm_sync_file_range"]));
-    Ok(())
 }
 
 #[test]
-fn lists_of_conditions(rt: HostRuntime) -> Result<(), Fail> {
+fn lists_of_conditions(rt: HostRuntime) {
     let condition = Condition {
         index: 5,
         op: Operator::Less,
         value: 7,
         value_two: 0,
     };
-    let conditions = Conditions::from_vec(vec![in rt.alloc(); condition; 1]?);
+    let conditions = Conditions::from_vec(vec![in rt.alloc(); condition; 1].expect(
+        &rt, "no fault",
+    ));
     assert!(rt; conditions.as_slice() == [condition].as_slice());
     let list = conditions.into_vec();
     assert!(rt; list.as_slice() == [condition].as_slice());
-    Ok(())
 }
 
 const ESCAPED_NAMES: &str = "{\"defaultAction\":\"SCMP_ACT_TRACE\",\"syscalls\":[\
@@ -437,22 +435,23 @@ const ESCAPED_NAMES: &str = "{\"defaultAction\":\"SCMP_ACT_TRACE\",\"syscalls\":
     {\"names\":[\"write\",\"read\"],\"action\":\"SCMP_ACT_NOTIFY\"}]}";
 
 #[test]
-fn names_of_entries(rt: HostRuntime) -> Result<(), Fail> {
-    let found = loaded(rt.alloc(), READ_WRITE_TABLE, ESCAPED_NAMES.as_bytes())??;
+fn names_of_entries(rt: HostRuntime) {
+    let found = loaded(&rt, rt.alloc(), READ_WRITE_TABLE, ESCAPED_NAMES.as_bytes()).expect(
+        &rt, "no fault",
+    );
     assert!(rt; are(found.skipped.as_slice(), &["\u{e9}", "\u{e9}", "x"]));
-    assert_eq!(rt; found.profile.default_answer(), Answer(0x7ff0_0001));
+    assert!(rt; found.profile.default_answer() == Answer(0x7ff0_0001));
     let rules = found.profile.rules();
     assert!(rt; have_numbers(rules, &[0, 1, 0]));
     for (rule, entry) in rules.iter().zip([0, 2, 2]) {
         assert!(rt; rule.entry == entry && rule.answer == Answer(0x7fc0_0000));
         assert!(rt; rule.conditions.as_slice().is_empty());
     }
-    Ok(())
 }
 
 #[test]
-fn one_call(rt: HostRuntime) -> Result<(), Fail> {
-    let profile = profile_of(rt.alloc(), READ_TABLE, ONE_CALL)?;
+fn one_call(rt: HostRuntime) {
+    let profile = profile_of(&rt, rt.alloc(), READ_TABLE, ONE_CALL);
     for (nr, arch, expected) in [
         (0, X86_64, ALLOW),
         (1, X86_64, 0x0005_0001),
@@ -462,9 +461,8 @@ fn one_call(rt: HostRuntime) -> Result<(), Fail> {
         (0, 0x4000_0003, 0x8000_0000),
     ] {
         let found = profile.answer(&call(nr, arch, [0; 6]));
-        assert_eq!(rt; found, Answer(expected), "{nr}");
+        assert!(rt; found == Answer(expected), "{nr}");
     }
-    Ok(())
 }
 
 const CONDITIONS: &str = r#"{"defaultAction":"SCMP_ACT_ERRNO","syscalls":[
@@ -477,9 +475,9 @@ const CONDITIONS: &str = r#"{"defaultAction":"SCMP_ACT_ERRNO","syscalls":[
         {"index":2,"value":7,"op":"SCMP_CMP_EQ"}]}]}"#;
 
 #[test]
-fn answers_by_conditions(rt: HostRuntime) -> Result<(), Fail> {
+fn answers_by_conditions(rt: HostRuntime) {
     let names = "read 0\nwrite 1\nsocket 41\nclone 56";
-    let profile = profile_of(rt.alloc(), names, CONDITIONS)?;
+    let profile = profile_of(&rt, rt.alloc(), names, CONDITIONS);
     for (nr, args, expected) in [
         (0, [0, 0, 0], 0x0005_0001),
         (0, [u64::MAX, 0, 0], 0x0005_0001),
@@ -492,37 +490,43 @@ fn answers_by_conditions(rt: HostRuntime) -> Result<(), Fail> {
         (56, [510, 0, 7], 0x0005_0001),
         (56, [255, 7, 0], 0x0005_0001),
     ] {
-        assert_eq!(rt; answer(&profile, nr, args), expected, "{nr}");
+        assert!(rt; answer(&profile, nr, args) == expected, "{nr}");
     }
-    Ok(())
 }
 
 /// The profile that allows the call 1 where its first argument compares so.
-fn comparing(alloc: Global, operator: &str, value: u64, value_two: u64) -> Result<Profile, Fail> {
+fn comparing(
+    rt: &impl Abort,
+    alloc: Global,
+    operator: &str,
+    value: u64,
+    value_two: u64,
+) -> Profile {
     let args = format!(in alloc;
         r#"{{"index":0,"op":"SCMP_CMP_{operator}","value":{value},"valueTwo":{value_two}}}"#
-    )?;
-    let text = with_args(alloc, args.as_str())?;
-    profile_of(alloc, "a 1", text.as_str())
+    ).expect(rt, "no fault");
+    let text = with_args(alloc, args.as_str()).expect(rt, "no fault");
+    profile_of(rt, alloc, "a 1", text.as_str())
 }
 
 /// Whether a comparison holds of the first arguments and of none of the second.
 fn divides(
+    rt: &impl Abort,
     alloc: Global,
     operator: &str,
     values: (u64, u64),
     holds: &[u64],
     fails: &[u64],
-) -> Result<bool, Fail> {
+) -> bool {
     let (value, value_two) = values;
-    let profile = comparing(alloc, operator, value, value_two)?;
+    let profile = comparing(rt, alloc, operator, value, value_two);
     let allowed = holds
         .iter()
         .all(|a| answer(&profile, 1, [*a, 0, 0]) == ALLOW);
     let allowed_too = fails
         .iter()
         .any(|a| answer(&profile, 1, [*a, 0, 0]) == ALLOW);
-    Ok(allowed && !allowed_too)
+    allowed && !allowed_too
 }
 
 const MAX: u64 = u64::MAX;
@@ -578,18 +582,17 @@ fn comparisons() -> &'static [Dividing] {
 }
 
 #[test]
-fn operators(rt: HostRuntime) -> Result<(), Fail> {
+fn operators(rt: HostRuntime) {
     for (operator, values, holds, fails) in comparisons() {
         assert!(rt;
-            divides(rt.alloc(), operator, *values, holds, fails)?,
+            divides(&rt, rt.alloc(), operator, *values, holds, fails),
             "{operator} {values:?}"
         );
     }
-    Ok(())
 }
 
 #[test]
-fn plain_profiles(rt: HostRuntime) -> Result<(), Fail> {
+fn plain_profiles(rt: HostRuntime) {
     for (args, plain) in [
         (r#"{"index":0,"op":"SCMP_CMP_MASKED_EQ","value":0}"#, true),
         (
@@ -603,9 +606,8 @@ fn plain_profiles(rt: HostRuntime) -> Result<(), Fail> {
         ),
         (r#"{"index":0,"op":"SCMP_CMP_EQ","value":3}"#, true),
     ] {
-        let text = with_args(rt.alloc(), args)?;
-        let profile = profile_of(rt.alloc(), "a 1", text.as_str())?;
-        assert_eq!(rt; profile.is_plain(), plain, "{args}");
+        let text = with_args(rt.alloc(), args).expect(&rt, "no fault");
+        let profile = profile_of(&rt, rt.alloc(), "a 1", text.as_str());
+        assert!(rt; profile.is_plain() == plain, "{args}");
     }
-    Ok(())
 }

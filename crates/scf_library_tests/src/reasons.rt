@@ -5,7 +5,6 @@ use scf_insn::Answer;
 use scf_profile::Reason;
 use scf_test_fixtures::kernel::{ALLOW, ERRNO, ERRNO_1, I386, KILL_PROCESS, X32, X86_64};
 use scf_test_fixtures::profiles::DEFAULT_ALLOW;
-use std::test::Fail;
 
 /// Two names have one number, and one the last below x32's.
 const TABLE: &str = "read 0\nwrite 1\nsend 1\nlast 1073741823\n";
@@ -57,33 +56,26 @@ fn reasons() -> &'static [(u32, u32, u64, u64, Reason, u32)] {
 }
 
 #[test]
-fn reasons_of_several_entries(rt: HostRuntime) -> Result<(), Fail> {
-    let profile = profile_of(rt.alloc(), TABLE, ENTRIES)?;
+fn reasons_of_several_entries(rt: HostRuntime) {
+    let profile = profile_of(&rt, rt.alloc(), TABLE, ENTRIES);
     for (arch, nr, first, second, reason, answer) in reasons() {
         let call = call(*nr, *arch, [*first, *second, 0, 0, 0, 0]);
-        assert_eq!(rt;
-            profile.reason(&call),
-            *reason,
+        assert!(rt;
+            profile.reason(&call) == *reason,
             "{nr} of {arch} on {first}, {second}"
         );
-        assert_eq!(rt;
-            profile.answer(&call),
-            Answer(*answer),
+        assert!(rt;
+            profile.answer(&call) == Answer(*answer),
             "{nr} of {arch} on {first}, {second}"
         );
     }
-    Ok(())
 }
 
 #[test]
-fn reasons_without_entries(rt: HostRuntime) -> Result<(), Fail> {
-    let profile = profile_of(rt.alloc(), "", DEFAULT_ALLOW)?;
-    assert_eq!(rt; profile.reason(&call(0, X86_64, [0; 6])), Reason::Default);
-    assert_eq!(rt;
-        profile.reason(&call(0x3fff_ffff, X86_64, [0; 6])),
-        Reason::Default
-    );
-    assert_eq!(rt; profile.reason(&call(X32, X86_64, [0; 6])), Reason::Foreign);
-    assert_eq!(rt; profile.reason(&call(0, I386, [0; 6])), Reason::Foreign);
-    Ok(())
+fn reasons_without_entries(rt: HostRuntime) {
+    let profile = profile_of(&rt, rt.alloc(), "", DEFAULT_ALLOW);
+    assert!(rt; profile.reason(&call(0, X86_64, [0; 6])) == Reason::Default);
+    assert!(rt; profile.reason(&call(0x3fff_ffff, X86_64, [0; 6])) == Reason::Default);
+    assert!(rt; profile.reason(&call(X32, X86_64, [0; 6])) == Reason::Foreign);
+    assert!(rt; profile.reason(&call(0, I386, [0; 6])) == Reason::Foreign);
 }

@@ -14,7 +14,6 @@ use scf_test_fixtures::rules::{
 };
 use std::alloc::Global;
 use std::process::Abort;
-use std::test::Fail;
 
 /// A filter that was compiled, and the profile that it is of, with what that states.
 #[derive(Clone, Copy)]
@@ -30,8 +29,8 @@ fn is_answered(rt: &impl Abort, compiled: &Compiled<'_>, record: &CallRecord) {
     let stated = compiled.stated;
     let wanted = Answer(answer(stated, *arch, *nr, args));
     let found = run(compiled.program, record);
-    assert_eq!(rt; found.answer, wanted, "{nr}");
-    assert_eq!(rt; compiled.profile.answer(record), wanted, "{nr}");
+    assert!(rt; found.answer == wanted, "{nr}");
+    assert!(rt; compiled.profile.answer(record) == wanted, "{nr}");
     let steps = found.steps;
     assert!(rt;
         u64::from(steps) <= search_bound(stated.stretches),
@@ -60,19 +59,14 @@ fn are_answered(rt: &impl Abort, compiled: &Compiled<'_>, args: [u64; 6]) {
 }
 
 /// That numbers of this pattern are found, with each of the arguments, and that the comparer says so at its effort.
-fn are_found(
-    rt: &impl Abort,
-    alloc: Global,
-    pattern: Pattern,
-    arguments: &[[u64; 6]],
-) -> Result<(), Fail> {
-    let stretches = stretches_of(alloc, &[pattern])?;
+fn are_found(rt: &impl Abort, alloc: Global, pattern: Pattern, arguments: &[[u64; 6]]) {
+    let stretches = stretches_of(alloc, &[pattern]).expect(rt, "no fault");
     let stated = Stated {
         default: ERRNO_1,
         stretches: &stretches,
     };
-    let profile = stating(alloc, &stated)?;
-    let program = compile(alloc, &profile)?;
+    let profile = stating(rt, alloc, &stated);
+    let program = compile(alloc, &profile).expect(rt, "no fault");
     let compiled = Compiled {
         stated: &stated,
         profile: &profile,
@@ -82,13 +76,12 @@ fn are_found(
         are_answered(rt, &compiled, *args);
     }
     let limit = effort(&program, &profile);
-    let verdict = compare::<WordSets>(alloc, &program, &profile, limit)?;
+    let verdict = compare::<WordSets>(alloc, &program, &profile, limit).expect(rt, "no fault");
     let (first, length, count, ..) = pattern;
     assert!(rt;
         matches!(verdict, Verdict::Same { .. }),
         "{count} stretches of {length} numbers from {first}: {verdict:?}"
     );
-    Ok(())
 }
 
 /// How many numbers have a rule.
@@ -99,39 +92,39 @@ fn counts() -> &'static [u32] {
 }
 
 #[test]
-fn dense_numbers(rt: HostRuntime) -> Result<(), Fail> {
+fn dense_numbers(rt: HostRuntime) {
     for count in counts() {
-        are_found(&rt, rt.alloc(), dense(0, *count, EACH_ALLOWED), &[[0; 6]])?;
+        are_found(&rt, rt.alloc(), dense(0, *count, EACH_ALLOWED), &[[0; 6]]);
     }
-    Ok(())
 }
 
 #[test]
-fn every_second_number(rt: HostRuntime) -> Result<(), Fail> {
+fn every_second_number(rt: HostRuntime) {
     for count in counts() {
         are_found(
             &rt,
             rt.alloc(),
             every_second(1, *count, EACH_ALLOWED),
             &[[0; 6]],
-        )?;
+        );
     }
-    Ok(())
 }
 
 /// The most instructions that a conditional jump passes.
 const FARTHEST: usize = 255;
 
 #[test]
-fn shared_answers(rt: HostRuntime) -> Result<(), Fail> {
+fn shared_answers(rt: HostRuntime) {
     for count in counts() {
-        let stretches = stretches_of(rt.alloc(), &[every_second(1, *count, EACH_ALLOWED)])?;
+        let stretches = stretches_of(rt.alloc(), &[every_second(1, *count, EACH_ALLOWED)]).expect(
+            &rt, "no fault",
+        );
         let stated = Stated {
             default: ERRNO_1,
             stretches: &stretches,
         };
-        let profile = stating(rt.alloc(), &stated)?;
-        let program = compile(rt.alloc(), &profile)?;
+        let profile = stating(&rt, rt.alloc(), &stated);
+        let program = compile(rt.alloc(), &profile).expect(&rt, "no fault");
         let insns = program.insns();
         for place in 0..insns.len() {
             if let [insn, behind @ ..] = &insns[place..] {
@@ -144,11 +137,10 @@ fn shared_answers(rt: HostRuntime) -> Result<(), Fail> {
             }
         }
     }
-    Ok(())
 }
 
 #[test]
-fn numbers_at_the_upper_end(rt: HostRuntime) -> Result<(), Fail> {
+fn numbers_at_the_upper_end(rt: HostRuntime) {
     for count in counts() {
         let first = X32.saturating_sub(*count);
         are_found(
@@ -156,13 +148,12 @@ fn numbers_at_the_upper_end(rt: HostRuntime) -> Result<(), Fail> {
             rt.alloc(),
             dense(first, *count, EACH_ALLOWED),
             &[[0; 6]],
-        )?;
+        );
     }
-    Ok(())
 }
 
 #[test]
-fn six_conditions_each(rt: HostRuntime) -> Result<(), Fail> {
+fn six_conditions_each(rt: HostRuntime) {
     // Ten numbers with their rules are more than 255 instructions, so each half of twenty is passed by a jump alone.
     are_found(
         &rt,

@@ -7,7 +7,6 @@ use scf_insn::{
     mask_kind, read_input, read_program, write_numeral, write_program,
 };
 use std::alloc::Global;
-use std::test::Fail;
 
 /// Three instructions, and their bytes (filter.h: code, jt, jf, k, little-endian).
 const LIST: [Insn; 3] = [
@@ -109,15 +108,16 @@ fn is_input_fault(alloc: Global, limit: usize, failing: Failing, wanted: InputFa
 }
 
 #[test]
-fn limits_of_inputs(rt: HostRuntime) -> Result<(), Fail> {
-    let bytes = read_input(rt.alloc(), &mut Reader::new(BYTES, 5, Failing::Never), 24)?;
+fn limits_of_inputs(rt: HostRuntime) {
+    let bytes = read_input(rt.alloc(), &mut Reader::new(BYTES, 5, Failing::Never), 24).expect(
+        &rt, "no fault",
+    );
     assert!(rt; bytes.as_slice() == BYTES.as_slice());
     assert!(rt; is_input_fault(rt.alloc(), 23, Failing::Never, InputFault::TooLong));
     assert!(rt; is_input_fault(rt.alloc(), 0, Failing::Never, InputFault::TooLong));
     // what comes first is answered: a byte past the limit, or the failure in front of it
     assert!(rt; is_input_fault(rt.alloc(), 9, Failing::After(10), InputFault::TooLong));
     assert!(rt; is_input_fault(rt.alloc(), 9, Failing::After(9), InputFault::Read));
-    Ok(())
 }
 
 #[test]
@@ -148,7 +148,7 @@ fn stops_behind(alloc: Global, count: usize, failing: Failing) -> bool {
 }
 
 #[test]
-fn writers_that_fail(rt: HostRuntime) -> Result<(), Fail> {
+fn writers_that_fail(rt: HostRuntime) {
     for count in 0..BYTES.len() {
         assert!(rt;
             stops_behind(rt.alloc(), count, Failing::After(count)),
@@ -161,13 +161,12 @@ fn writers_that_fail(rt: HostRuntime) -> Result<(), Fail> {
     }
     for step in [1, 5, 8, 100] {
         let mut sink = Writer::new(rt.alloc(), step, Failing::After(24));
-        write_program(&LIST, &mut sink)?;
+        write_program(&LIST, &mut sink).expect(&rt, "no fault");
         assert!(rt;
             sink.taken() == BYTES.as_slice() && sink.failures() == 0,
             "{step}"
         );
     }
-    Ok(())
 }
 
 #[test]

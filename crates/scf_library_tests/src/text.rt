@@ -6,7 +6,6 @@ use scf_insn::{Insn, WriteFault};
 use scf_test_fixtures::filters::LABELLED;
 use scf_text::{TextFault, assemble, disassemble, tokens};
 use std::alloc::{AllocError, Global};
-use std::test::Fail;
 
 /// Whether the text spells these instructions.
 fn spells(alloc: Global, text: &[u8], wanted: &[Insn]) -> bool {
@@ -216,19 +215,20 @@ fn repeated(
 }
 
 #[test]
-fn limits(rt: HostRuntime) -> Result<(), Fail> {
+fn limits(rt: HostRuntime) {
     let jump = b"jeq #1, far, 0\n";
-    let reached = repeated(rt.alloc(), jump, b"ld #0\n", 255, b"far: ret a")?;
-    let insns = assemble(rt.alloc(), &reached)?;
+    let reached = repeated(rt.alloc(), jump, b"ld #0\n", 255, b"far: ret a").expect(
+        &rt, "no fault",
+    );
+    let insns = assemble(rt.alloc(), &reached).expect(&rt, "no fault");
     assert!(rt; insns.first() == Some(&insn(0x15, 255, 0, 1)));
-    let far = repeated(rt.alloc(), jump, b"ld #0\n", 256, b"far: ret a")?;
+    let far = repeated(rt.alloc(), jump, b"ld #0\n", 256, b"far: ret a").expect(&rt, "no fault");
     assert!(rt; fails(rt.alloc(), &far, TextFault::JumpTooFar { line: 1 }));
-    let most = repeated(rt.alloc(), b"", b"ret a\n", 4096, b"end:")?;
-    let insns = assemble(rt.alloc(), &most)?;
+    let most = repeated(rt.alloc(), b"", b"ret a\n", 4096, b"end:").expect(&rt, "no fault");
+    let insns = assemble(rt.alloc(), &most).expect(&rt, "no fault");
     assert!(rt; insns.len() == 4096);
-    let more = repeated(rt.alloc(), b"", b"ret a\n", 4097, b"end:")?;
+    let more = repeated(rt.alloc(), b"", b"ret a\n", 4097, b"end:").expect(&rt, "no fault");
     assert!(rt; fails(rt.alloc(), &more, TextFault::TooLong { line: 4097 }));
-    Ok(())
 }
 
 /// Whether the tokens of a text are these, with their starts.
@@ -298,16 +298,15 @@ fn any_insn(state: &mut u64) -> Insn {
 }
 
 #[test]
-fn listing_of_4096_is_read_back(rt: HostRuntime) -> Result<(), Fail> {
+fn listing_of_4096_is_read_back(rt: HostRuntime) {
     let mut insns = Vec::new(rt.alloc());
     let mut state = 20;
     for _ in 0..4096 {
-        insns.push(any_insn(&mut state))?;
+        insns.push(any_insn(&mut state)).expect(&rt, "no fault");
     }
     let mut sink = Writer::new(rt.alloc(), usize::MAX, Failing::Never);
-    disassemble(&insns, &mut sink)?;
+    disassemble(&insns, &mut sink).expect(&rt, "no fault");
     assert!(rt; spells(rt.alloc(), sink.taken(), &insns));
-    Ok(())
 }
 
 /// Four instructions, and their lines.
@@ -351,7 +350,7 @@ fn stops_behind(alloc: Global, count: usize, failing: Failing) -> bool {
 }
 
 #[test]
-fn writers_that_fail(rt: HostRuntime) -> Result<(), Fail> {
+fn writers_that_fail(rt: HostRuntime) {
     for count in 0..LISTING.len() {
         assert!(rt;
             stops_behind(rt.alloc(), count, Failing::After(count)),
@@ -363,7 +362,6 @@ fn writers_that_fail(rt: HostRuntime) -> Result<(), Fail> {
         );
     }
     let mut sink = Writer::new(rt.alloc(), 1, Failing::After(LISTING.len()));
-    disassemble(&LISTED, &mut sink)?;
+    disassemble(&LISTED, &mut sink).expect(&rt, "no fault");
     assert!(rt; sink.taken() == LISTING.as_bytes() && sink.failures() == 0);
-    Ok(())
 }

@@ -1,57 +1,16 @@
 //! What sets of numbers for each word tell, see and pick.
 
+use crate::word_4::{ALL_BITS, above, at_least, equal, learn, tell, words_with};
 use Asked::{Above, AtLeast, Equal};
 use Tell::{Always, Maybe, Never};
 use scf_facts::{Atom, Tell, WordFacts, WordSets};
 use std::alloc::Global;
 use std::process::Abort;
-use std::test::Fail;
-
-const ALL_BITS: u32 = u32::MAX;
-
-/// An `Eq` on word 4.
-fn equal(mask: u32, value: u32) -> Atom {
-    Atom::Eq {
-        word: 4,
-        mask,
-        value,
-    }
-}
-
-/// A `Gt` on word 4.
-fn above(value: u32) -> Atom {
-    Atom::Gt { word: 4, value }
-}
-
-/// A `Ge` on word 4.
-fn at_least(value: u32) -> Atom {
-    Atom::Ge { word: 4, value }
-}
-
-/// Learns an answer of an atom on one of the sixteen words.
-fn learn(rt: &impl Abort, facts: &mut WordSets, atom: Atom, holds: bool) -> Result<(), Fail> {
-    assert!(rt; atom.word() < 16);
-    facts.learn(atom, holds)?;
-    Ok(())
-}
-
-/// What is told of an atom on one of the sixteen words.
-fn tell(rt: &impl Abort, facts: &WordSets, atom: Atom) -> Tell {
-    assert!(rt; atom.word() < 16);
-    facts.tell(atom)
-}
 
 /// Goes back to the newest mark.
 fn undo(rt: &impl Abort, facts: &mut WordSets) {
     assert!(rt; facts.open_marks() > 0);
     facts.undo();
-}
-
-/// The words that are 0 save word 4.
-fn words_with(value: u32) -> Option<[u32; 16]> {
-    let mut words = [0; 16];
-    words[4] = value;
-    Some(words)
 }
 
 /// An atom on word 4.
@@ -81,36 +40,33 @@ struct Row {
 }
 
 /// Checks what is told after a row's answers, and that nothing is known of them before a mark.
-fn check_row(rt: &impl Abort, alloc: Global, row: &Row) -> Result<(), Fail> {
-    let mut facts = WordSets::all(alloc)?;
-    facts.mark()?;
+fn check_row(rt: &impl Abort, alloc: Global, row: &Row) {
+    let mut facts = WordSets::all(alloc).expect(rt, "no fault");
+    facts.mark().expect(rt, "no fault");
     for (asked, holds) in row.learned {
-        learn(rt, &mut facts, asked.atom(), *holds)?;
+        learn(rt, &mut facts, asked.atom(), *holds);
     }
     for (asked, expected) in row.tells {
-        assert_eq!(rt;
-            tell(rt, &facts, asked.atom()),
-            *expected,
+        assert!(rt;
+            tell(rt, &facts, asked.atom()) == *expected,
             "{asked:?} after {:?}",
             row.learned
         );
     }
-    assert_eq!(rt; facts.is_empty(), false, "after {:?}", row.learned);
-    assert_eq!(rt;
-        facts.pick(),
-        words_with(row.pick),
+    assert!(rt; !facts.is_empty(), "after {:?}", row.learned);
+    assert!(rt;
+        facts.pick() == words_with(row.pick),
         "after {:?}",
         row.learned
     );
     undo(rt, &mut facts);
-    let nothing_learned = WordSets::all(alloc)?;
+    let nothing_learned = WordSets::all(alloc).expect(rt, "no fault");
     for (asked, _) in row.tells {
         let atom = asked.atom();
-        assert_eq!(rt; tell(rt, &facts, atom), tell(rt, &nothing_learned, atom));
+        assert!(rt; tell(rt, &facts, atom) == tell(rt, &nothing_learned, atom));
     }
-    assert_eq!(rt; facts.is_empty(), false);
-    assert_eq!(rt; facts.pick(), Some([0; 16]));
-    Ok(())
+    assert!(rt; !facts.is_empty());
+    assert!(rt; facts.pick() == Some([0; 16]));
 }
 
 /// Answers that end in intervals.
@@ -286,13 +242,12 @@ fn rows() -> [&'static [Row]; 3] {
 }
 
 #[test]
-fn tells_and_picks(rt: HostRuntime) -> Result<(), Fail> {
+fn tells_and_picks(rt: HostRuntime) {
     for table in rows() {
         for row in table {
-            check_row(&rt, rt.alloc(), row)?;
+            check_row(&rt, rt.alloc(), row);
         }
     }
-    Ok(())
 }
 
 /// Answers that no number gives.
@@ -316,21 +271,20 @@ fn contradictions() -> &'static [[(Asked, bool); 2]] {
 }
 
 #[test]
-fn sees_where_nothing_is_left(rt: HostRuntime) -> Result<(), Fail> {
+fn sees_where_nothing_is_left(rt: HostRuntime) {
     for learned in contradictions() {
-        let mut facts = WordSets::all(rt.alloc())?;
+        let mut facts = WordSets::all(rt.alloc()).expect(&rt, "no fault");
         for (asked, holds) in learned {
-            learn(&rt, &mut facts, asked.atom(), *holds)?;
+            learn(&rt, &mut facts, asked.atom(), *holds);
         }
-        assert_eq!(rt; facts.is_empty(), true, "after {learned:?}");
-        assert_eq!(rt; facts.pick(), None, "after {learned:?}");
+        assert!(rt; facts.is_empty(), "after {learned:?}");
+        assert!(rt; facts.pick().is_none(), "after {learned:?}");
     }
-    Ok(())
 }
 
 #[test]
-fn finds_the_open_bit_behind_refuted_masks(rt: HostRuntime) -> Result<(), Fail> {
-    let mut facts = WordSets::all(rt.alloc())?;
+fn finds_the_open_bit_behind_refuted_masks(rt: HostRuntime) {
+    let mut facts = WordSets::all(rt.alloc()).expect(&rt, "no fault");
     let learned = [
         (equal(0x10, 0x10), true),
         (above(0xffff_fffc), false),
@@ -338,38 +292,42 @@ fn finds_the_open_bit_behind_refuted_masks(rt: HostRuntime) -> Result<(), Fail> 
         (equal(0x13, 0x12), false),
     ];
     for (atom, holds) in learned {
-        learn(&rt, &mut facts, atom, holds)?;
+        learn(&rt, &mut facts, atom, holds);
     }
-    assert_eq!(rt; facts.pick(), words_with(0x11));
-    Ok(())
+    assert!(rt; facts.pick() == words_with(0x11));
 }
 
 #[test]
-fn keeps_words_apart(rt: HostRuntime) -> Result<(), Fail> {
-    let mut facts = WordSets::all(rt.alloc())?;
-    assert_eq!(rt; facts.pick(), Some([0; 16]));
-    assert_eq!(rt; facts.is_empty(), false);
-    facts.learn(Atom::Ge { word: 0, value: 9 }, true)?;
-    facts.mark()?;
-    facts.learn(Atom::Gt { word: 15, value: 6 }, true)?;
+fn keeps_words_apart(rt: HostRuntime) {
+    let mut facts = WordSets::all(rt.alloc()).expect(&rt, "no fault");
+    assert!(rt; facts.pick() == Some([0; 16]));
+    assert!(rt; !facts.is_empty());
+    facts
+        .learn(Atom::Ge { word: 0, value: 9 }, true)
+        .expect(&rt, "no fault");
+    facts.mark().expect(&rt, "no fault");
+    facts
+        .learn(Atom::Gt { word: 15, value: 6 }, true)
+        .expect(&rt, "no fault");
     let mut words = [0; 16];
     words[0] = 9;
     words[15] = 7;
-    assert_eq!(rt; facts.pick(), Some(words));
+    assert!(rt; facts.pick() == Some(words));
     for word in 1..15u8 {
         let atom = Atom::Ge { word, value: 1 };
-        assert_eq!(rt; facts.tell(atom), Tell::Maybe);
+        assert!(rt; facts.tell(atom) == Tell::Maybe);
     }
     let atom = Atom::Gt { word: 15, value: 6 };
-    assert_eq!(rt; facts.tell(atom), Tell::Always);
-    facts.learn(Atom::Ge { word: 0, value: 9 }, false)?;
-    assert_eq!(rt; facts.is_empty(), true);
+    assert!(rt; facts.tell(atom) == Tell::Always);
+    facts
+        .learn(Atom::Ge { word: 0, value: 9 }, false)
+        .expect(&rt, "no fault");
+    assert!(rt; facts.is_empty());
     undo(&rt, &mut facts);
     words[15] = 0;
-    assert_eq!(rt; facts.is_empty(), false);
-    assert_eq!(rt; facts.tell(atom), Tell::Maybe);
-    assert_eq!(rt; facts.pick(), Some(words));
-    Ok(())
+    assert!(rt; !facts.is_empty());
+    assert!(rt; facts.tell(atom) == Tell::Maybe);
+    assert!(rt; facts.pick() == Some(words));
 }
 
 /// How many atoms there are about numbers below 16.
@@ -397,20 +355,13 @@ fn keeps_exact(atom: Atom, holds: bool) -> bool {
 }
 
 /// The facts that a number below 16 is left, and the numbers that are, as bits.
-fn learn_both(
-    rt: &impl Abort,
-    facts: &mut WordSets,
-    left: &mut u32,
-    atom: Atom,
-    holds: bool,
-) -> Result<(), Fail> {
-    learn(rt, facts, atom, holds)?;
+fn learn_both(rt: &impl Abort, facts: &mut WordSets, left: &mut u32, atom: Atom, holds: bool) {
+    learn(rt, facts, atom, holds);
     for x in 0..16u32 {
         if atom.answer(x) != holds {
             *left &= u32::MAX ^ (1 << x);
         }
     }
-    Ok(())
 }
 
 /// Checks what is told of an atom against the numbers that are left.
@@ -439,7 +390,7 @@ fn check_tell(rt: &impl Abort, facts: &WordSets, left: u32, exact: bool, atom: A
 /// Checks whether the facts see that they are empty, and what they pick.
 fn check_numbers(rt: &impl Abort, facts: &WordSets, left: u32, exact: bool) {
     if facts.is_empty() {
-        assert_eq!(rt; left, 0);
+        assert!(rt; left == 0);
     } else {
         assert!(rt; left != 0 || !exact);
     }
@@ -453,15 +404,15 @@ fn check_numbers(rt: &impl Abort, facts: &WordSets, left: u32, exact: bool) {
 }
 
 #[test]
-fn agrees_with_each_small_number(rt: HostRuntime) -> Result<(), Fail> {
-    let mut facts = WordSets::all(rt.alloc())?;
-    learn(&rt, &mut facts, at_least(16), false)?;
+fn agrees_with_each_small_number(rt: HostRuntime) {
+    let mut facts = WordSets::all(rt.alloc()).expect(&rt, "no fault");
+    learn(&rt, &mut facts, at_least(16), false);
     for first in 0..2 * SMALL_ATOMS {
-        facts.mark()?;
+        facts.mark().expect(&rt, "no fault");
         let mut left = 0xffff;
         let atom = small_atom(first / 2);
         let holds = first % 2 == 0;
-        learn_both(&rt, &mut facts, &mut left, atom, holds)?;
+        learn_both(&rt, &mut facts, &mut left, atom, holds);
         let exact = keeps_exact(atom, holds);
         check_numbers(&rt, &facts, left, exact);
         for other in 0..SMALL_ATOMS {
@@ -469,11 +420,11 @@ fn agrees_with_each_small_number(rt: HostRuntime) -> Result<(), Fail> {
         }
         for step in 0..2 * SMALL_ATOMS / 11 {
             let second = first % 11 + 11 * step;
-            facts.mark()?;
+            facts.mark().expect(&rt, "no fault");
             let mut left = left;
             let atom = small_atom(second / 2);
             let holds = second % 2 == 0;
-            learn_both(&rt, &mut facts, &mut left, atom, holds)?;
+            learn_both(&rt, &mut facts, &mut left, atom, holds);
             let exact = exact && keeps_exact(atom, holds);
             check_numbers(&rt, &facts, left, exact);
             for other in [first, second, first + second] {
@@ -483,5 +434,4 @@ fn agrees_with_each_small_number(rt: HostRuntime) -> Result<(), Fail> {
         }
         undo(&rt, &mut facts);
     }
-    Ok(())
 }
