@@ -1,8 +1,10 @@
 //! Bundles.
 
-use crate::parts::{add, long_filter};
-use crate::runs::{Case, pass, run};
-use std::test::Fail;
+use crate::parts::{add, filter_of, long_filter};
+use crate::runs::{Case, pass, run, run_with};
+use scf_test_fixtures::filters::ALLOW_ALL;
+use scf_test_fixtures::profiles::DEFAULT_ALLOW;
+use scf_tool::{Part, PartKind, split};
 
 /// Bundles as their bytes. The filters in them are `ret #0` and `ret #0x7fff0000`, of eight bytes each.
 const BUNDLES: &[Case] = &[
@@ -110,11 +112,11 @@ fn cut_bundles(rt: HostRuntime) {
 
 /// Seven filters of 4096 instructions fit in a stack, and an eighth doesn't: each counts four more than it has.
 #[test]
-fn full_stack(rt: HostRuntime) -> Result<(), Fail> {
-    let filter = long_filter(rt.alloc(), 4095)?;
+fn full_stack(rt: HostRuntime) {
+    let filter = long_filter(&rt, rt.alloc(), 4095);
     let mut bundle = Vec::new(rt.alloc());
     for count in 1..=8 {
-        add(rt.alloc(), &mut bundle, "filter", &filter)?;
+        add(&rt, rt.alloc(), &mut bundle, "filter", &filter);
         let ended = run(rt.alloc(), &["scf", "decide"], &bundle, usize::MAX);
         let (text, status) = match count {
             8 => ("fault stack TooMany total 32796\n", 1),
@@ -125,5 +127,46 @@ fn full_stack(rt: HostRuntime) -> Result<(), Fail> {
             "{count} filters: {ended:?}"
         );
     }
-    Ok(())
+}
+
+/// 62 filters, a profile and a table: where each of them stands, and that all are compared.
+#[test]
+fn bundle_of_64_parts(rt: HostRuntime) {
+    let filter = filter_of(&rt, rt.alloc(), ALLOW_ALL);
+    let mut input = Vec::new(rt.alloc());
+    let mut wanted = Vec::new(rt.alloc());
+    // A header of 9 bytes, and one instruction.
+    for place in 0..62usize {
+        add(&rt, rt.alloc(), &mut input, "filter", &filter);
+        let start = 17 * place + 9;
+        wanted
+            .push(part(PartKind::Filter, start, 8))
+            .expect(&rt, "no fault");
+    }
+    // Headers of 11 bytes and of 8 behind 62 times 17 bytes.
+    add(
+        &rt,
+        rt.alloc(),
+        &mut input,
+        "profile",
+        DEFAULT_ALLOW.as_bytes(),
+    );
+    add(&rt, rt.alloc(), &mut input, "table", b"");
+    let of_both = [
+        part(PartKind::Profile, 1065, 34),
+        part(PartKind::Table, 1107, 0),
+    ];
+    wanted.extend_from_slice(&of_both).expect(&rt, "no fault");
+    let parts = split(rt.alloc(), &input).expect(&rt, "parts");
+    assert!(rt; parts.as_slice() == wanted.as_slice(), "{parts:?}");
+    let ended = run_with(&rt, rt.alloc(), "compare", "--native", &input);
+    assert!(rt; ended.is(b"same\n", 0, 0), "{ended:?}");
+}
+
+fn part(kind: PartKind, start: usize, length: usize) -> Part {
+    Part {
+        kind,
+        start,
+        length,
+    }
 }

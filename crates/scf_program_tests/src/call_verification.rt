@@ -14,7 +14,6 @@ use scf_test_fixtures::texts::are;
 use scf_tool::{CallVerdict, CallsOutcome, VerifyFault, verify_calls, verify_stack};
 use std::alloc::Global;
 use std::process::Abort;
-use std::test::Fail;
 
 /// What is wanted of a call.
 #[derive(Clone, Copy, Debug)]
@@ -102,23 +101,22 @@ fn verified(alloc: Global, given: &[&[u8]; 4], limit: u64) -> Result<CallsOutcom
 }
 
 #[test]
-fn verdict_of_each_call(rt: HostRuntime) -> Result<(), Fail> {
-    let older = filter_of(rt.alloc(), MIXED_TEXT)?;
-    let newer = filter_of(rt.alloc(), NEWER)?;
+fn verdict_of_each_call(rt: HostRuntime) {
+    let older = filter_of(&rt, rt.alloc(), MIXED_TEXT);
+    let newer = filter_of(&rt, rt.alloc(), NEWER);
     let given = given(&older, &newer, TABLE, PROFILE);
     for (limit, is_ample) in [(1_000_000, true), (64, false)] {
-        let outcome = verified(rt.alloc(), &given, limit)?;
-        assert_eq!(rt; outcome.calls.len(), CALLS.len());
+        let outcome = verified(rt.alloc(), &given, limit).expect(&rt, "no fault");
+        assert!(rt; outcome.calls.len() == CALLS.len());
         for (told, (number, names, ample, few)) in outcome.calls.iter().zip(CALLS) {
             let wanted = if is_ample { *ample } else { *few };
-            assert_eq!(rt; told.number, *number);
+            assert!(rt; told.number == *number);
             assert!(rt; are(told.names.as_slice(), names), "{number}");
             assert!(rt; is_wanted(told, wanted), "{told:?} within {limit}");
         }
         assert!(rt; are(outcome.skipped.as_slice(), &["gone"]));
         assert!(rt; are(outcome.other_architectures.as_slice(), &["SCMP_ARCH_X86"]));
     }
-    Ok(())
 }
 
 /// The fault of a comparison by calls, or of the whole stack, and how often each reader was asked: those of an older
@@ -159,10 +157,10 @@ fn is_fault(
     wanted: VerifyFault,
 ) -> [u64; 4] {
     let (fault, asks) = fault_of(alloc, given, failing, true);
-    assert_eq!(rt; fault, Some(wanted));
+    assert!(rt; fault == Some(wanted));
     let (fault, asks_of_stack) = fault_of(alloc, given, failing, false);
-    assert_eq!(rt; fault, Some(wanted));
-    assert_eq!(rt; asks_of_stack, asks, "{wanted:?}");
+    assert!(rt; fault == Some(wanted));
+    assert!(rt; asks_of_stack == asks, "{wanted:?}");
     asks
 }
 
@@ -242,26 +240,27 @@ fn is_refused(rt: &impl Abort, alloc: Global, filter: &[u8], refused: &Refused) 
     let given = given(older, newer, refused.table, refused.profile);
     let asks = is_fault(rt, alloc, &given, &[Failing::Never; 4], refused.fault);
     let read = asks.iter().filter(|count| **count > 0).count();
-    assert_eq!(rt; read, refused.read, "{:?}", refused.fault);
+    assert!(rt; read == refused.read, "{:?}", refused.fault);
 }
 
 #[test]
-fn faults_of_stacks_in_order(rt: HostRuntime) -> Result<(), Fail> {
-    let filter = filter_of(rt.alloc(), "ld #0; ret a")?;
+fn faults_of_stacks_in_order(rt: HostRuntime) {
+    let filter = filter_of(&rt, rt.alloc(), "ld #0; ret a");
     for refused in REFUSED {
         is_refused(&rt, rt.alloc(), &filter, refused);
     }
-    Ok(())
 }
 
 /// The eighth of these filters isn't pushed: seven of 4096 instructions are there, each of which counts four more. The
 /// ninth isn't read then, nor are the table and the profile.
 #[test]
-fn full_stack(rt: HostRuntime) -> Result<(), Fail> {
-    let filter = long_filter(rt.alloc(), 4095)?;
+fn full_stack(rt: HostRuntime) {
+    let filter = long_filter(&rt, rt.alloc(), 4095);
     let mut filters = Vec::new(rt.alloc());
     for _ in 0..9 {
-        filters.push(Reader::new(&filter, usize::MAX, Failing::Never))?;
+        filters
+            .push(Reader::new(&filter, usize::MAX, Failing::Never))
+            .expect(&rt, "no fault");
     }
     let mut table = Reader::new(b"read", 1, Failing::Never);
     let mut profile = Reader::new(b"[", 1, Failing::Never);
@@ -275,15 +274,14 @@ fn full_stack(rt: HostRuntime) -> Result<(), Fail> {
     let wanted = VerifyFault::Stack(PushFault::TooMany { total: 32796 });
     assert!(rt; answer.err() == Some(wanted));
     let unread = filters.iter().filter(|reader| reader.asks() == 0).count();
-    assert_eq!(rt; (unread, table.asks(), profile.asks()), (1, 0, 0));
-    Ok(())
+    assert!(rt; (unread, table.asks(), profile.asks()) == (1, 0, 0));
 }
 
 /// Each reader fails after each count of bytes. It isn't asked again then, those before it were read to their ends, and
 /// none behind it is asked.
 #[test]
-fn failing_readers_of_stacks(rt: HostRuntime) -> Result<(), Fail> {
-    let filter = filter_of(rt.alloc(), "ret a")?;
+fn failing_readers_of_stacks(rt: HostRuntime) {
+    let filter = filter_of(&rt, rt.alloc(), "ret a");
     let given = given(&filter, &filter, READ_TABLE, DEFAULT_ALLOW);
     let faults = [
         VerifyFault::FilterRead(ReadFault::Read),
@@ -309,9 +307,8 @@ fn failing_readers_of_stacks(rt: HostRuntime) -> Result<(), Fail> {
                 } else {
                     0
                 };
-                assert_eq!(rt; *count, wanted_asks, "{wanted:?} after {share}: {other}");
+                assert!(rt; *count == wanted_asks, "{wanted:?} after {share}: {other}");
             }
         }
     }
-    Ok(())
 }

@@ -1,13 +1,13 @@
 //! `compare --calls`: each call that a table names, compared by itself.
 
 use crate::parts::{ALL, ALLOW, NATIVE, NO_TABLE, Part, add, bundle};
-use crate::runs::{Case, Ended, pass, run, run_with, shown_call};
+use crate::runs::{Ended, run, run_with, shown_call};
 use scf_insn::faults::{Failing, Reader, Writer};
 use scf_test_fixtures::profiles::{ONE_CALL, READ_WRITE_TABLE};
 use scf_tool::run_command;
-use std::alloc::{AllocError, Global};
+use std::alloc::Global;
+use std::process::Abort;
 use std::str;
-use std::test::Fail;
 
 /// An errno for each of three calls.
 const ERRNOS: Part = Part::Profile(
@@ -260,22 +260,21 @@ fn without_arguments(alloc: Global, printed: &str) -> Option<String> {
 }
 
 /// Compares these parts call by call.
-fn compared(alloc: Global, options: &str, input: &[u8]) -> Result<Ended, AllocError> {
-    let options = format!(in alloc; "--calls {options}")?;
-    run_with(alloc, "compare", options.as_str(), input)
+fn compared(rt: &impl Abort, alloc: Global, options: &str, input: &[u8]) -> Ended {
+    let options = format!(in alloc; "--calls {options}").expect(rt, "no fault");
+    run_with(rt, alloc, "compare", options.as_str(), input)
 }
 
 #[test]
-fn calls(rt: HostRuntime) -> Result<(), Fail> {
+fn calls(rt: HostRuntime) {
     for row in ROWS {
-        let input = bundle(rt.alloc(), row.parts)?;
-        let ended = compared(rt.alloc(), row.options, &input)?;
-        let printed = str::from_utf8(ended.text())?;
+        let input = bundle(&rt, rt.alloc(), row.parts);
+        let ended = compared(&rt, rt.alloc(), row.options, &input);
+        let printed = str::from_utf8(ended.text()).expect(&rt, "no fault");
         let text = without_arguments(rt.alloc(), printed).expect(&rt, "lines of calls");
-        assert_eq!(rt; text.as_str(), row.text, "{}", row.options);
-        assert_eq!(rt; ended.status, row.status, "{printed}");
+        assert!(rt; text.as_str() == row.text, "{}", row.options);
+        assert!(rt; ended.status == row.status, "{printed}");
     }
-    Ok(())
 }
 
 /// Differences that one record of a call shows, so that all that is printed is known.
@@ -286,13 +285,12 @@ const RECORDS: &[(&[Part], &str)] = &[(
 )];
 
 #[test]
-fn one_record(rt: HostRuntime) -> Result<(), Fail> {
+fn one_record(rt: HostRuntime) {
     for (parts, text) in RECORDS {
-        let input = bundle(rt.alloc(), parts)?;
-        let ended = compared(rt.alloc(), "", &input)?;
+        let input = bundle(&rt, rt.alloc(), parts);
+        let ended = compared(&rt, rt.alloc(), "", &input);
         assert!(rt; ended.is(text.as_bytes(), 1, 0), "{ended:?}");
     }
-    Ok(())
 }
 
 /// Answers ERRNO 38 to each number above the newest that is known.
@@ -306,31 +304,32 @@ const READ: Part = Part::Profile(ONE_CALL);
 const KNOWN: Part = Part::Table("read 0\nwrite 1\nlast 450\n");
 
 /// The bundle of a profile's own filter with the stub as the newest, the profile and its table.
-fn with_stub(alloc: Global) -> Result<Vec<u8>, Fail> {
-    let parts = bundle(alloc, &[READ, KNOWN])?;
+fn with_stub(rt: &impl Abort, alloc: Global) -> Vec<u8> {
+    let parts = bundle(rt, alloc, &[READ, KNOWN]);
     let own = run(alloc, &["scf", "compile"], &parts, usize::MAX);
     let mut input = Vec::new(alloc);
-    add(alloc, &mut input, "filter", own.text())?;
-    input.extend_from_slice(&bundle(alloc, &[STUB, READ, KNOWN])?)?;
-    Ok(input)
+    add(rt, alloc, &mut input, "filter", own.text());
+    input
+        .extend_from_slice(&bundle(rt, alloc, &[STUB, READ, KNOWN]))
+        .expect(rt, "no fault");
+    input
 }
 
 /// A stub makes a difference to the native calls, and none to those of the table.
 #[test]
-fn stubs(rt: HostRuntime) -> Result<(), Fail> {
-    let input = with_stub(rt.alloc())?;
-    let ended = run_with(rt.alloc(), "compare", "--native", &input)?;
-    let text = str::from_utf8(ended.text())?;
-    let call = shown_call(rt.alloc(), text)?;
+fn stubs(rt: HostRuntime) {
+    let input = with_stub(&rt, rt.alloc());
+    let ended = run_with(&rt, rt.alloc(), "compare", "--native", &input);
+    let text = str::from_utf8(ended.text()).expect(&rt, "no fault");
+    let call = shown_call(rt.alloc(), text).expect(&rt, "no fault");
     let is_unknown = call.is_some_and(|call| call.is_native() && 451 <= call.number);
     assert!(rt; is_unknown && ended.status == 1, "{text}");
     assert!(rt;
         text.ends_with("\nfilter ERRNO 38\nprofile ERRNO 1\n"),
         "{text}"
     );
-    let ended = compared(rt.alloc(), "", &input)?;
+    let ended = compared(&rt, rt.alloc(), "", &input);
     assert!(rt; ended.is(b"same\n", 0, 0), "{ended:?}");
-    Ok(())
 }
 
 /// Parts that are refused, and what is printed of them, call by call as at once.
@@ -367,18 +366,17 @@ const REFUSED: &[(&[Part], &str, u8)] = &[
 ];
 
 #[test]
-fn refusals(rt: HostRuntime) -> Result<(), Fail> {
+fn refusals(rt: HostRuntime) {
     for (parts, text, status) in REFUSED {
-        let input = bundle(rt.alloc(), parts)?;
+        let input = bundle(&rt, rt.alloc(), parts);
         for options in ["", "--calls", "--calls --limit 0"] {
-            let ended = run_with(rt.alloc(), "compare", options, &input)?;
+            let ended = run_with(&rt, rt.alloc(), "compare", options, &input);
             assert!(rt;
                 ended.is(text.as_bytes(), *status, 0),
                 "{options}: {ended:?}"
             );
         }
     }
-    Ok(())
 }
 
 /// Words that are refused, and what is printed of them.
@@ -398,39 +396,17 @@ const WRONG: &[(&[&str], &str)] = &[
 
 /// No input is read then.
 #[test]
-fn wrong_words(rt: HostRuntime) -> Result<(), Fail> {
+fn wrong_words(rt: HostRuntime) {
     for (options, text) in WRONG {
         let mut words = Vec::new(rt.alloc());
-        words.extend_from_slice(&["scf", "compare"])?;
-        words.extend_from_slice(options)?;
+        words
+            .extend_from_slice(&["scf", "compare"])
+            .expect(&rt, "no fault");
+        words.extend_from_slice(options).expect(&rt, "no fault");
         let mut input = Reader::new(b"", 1, Failing::After(0));
         let mut out = Writer::new(rt.alloc(), usize::MAX, Failing::Never);
         let status = run_command(rt.alloc(), &words, &mut input, &mut out);
-        assert_eq!(rt; out.taken(), text.as_bytes(), "{words:?}");
-        assert_eq!(rt; (status, input.asks()), (2, 0), "{words:?}");
+        assert!(rt; out.taken() == text.as_bytes(), "{words:?}");
+        assert!(rt; (status, input.asks()) == (2, 0), "{words:?}");
     }
-    Ok(())
-}
-
-/// The flag given twice, and with a text, as clap refuses them.
-const WORDS: &[Case] = &[
-    Case {
-        words: &["scf", "compare", "--calls", "--calls"],
-        input: b"",
-        output: "error: the argument '--calls' cannot be used multiple times\n\n\
-            Usage: scf compare [OPTIONS]\n\nFor more information, try '--help'.\n",
-        status: 2,
-    },
-    Case {
-        words: &["scf", "compare", "--calls=1"],
-        input: b"",
-        output: "error: unexpected value '1' for '--calls' found; no more were expected\n\n\
-            Usage: scf compare --calls\n\nFor more information, try '--help'.\n",
-        status: 2,
-    },
-];
-
-#[test]
-fn words(rt: HostRuntime) {
-    pass(&rt, rt.alloc(), WORDS);
 }

@@ -135,6 +135,35 @@ const WORDS: &[Case] = &[
             For more information, try '--help'.\n",
         status: 2,
     },
+    // A flag given twice, and with a text.
+    Case {
+        words: &["scf", "compare", "--native", "--native"],
+        input: b"",
+        output: "error: the argument '--native' cannot be used multiple times\n\n\
+            Usage: scf compare [OPTIONS]\n\nFor more information, try '--help'.\n",
+        status: 2,
+    },
+    Case {
+        words: &["scf", "compare", "--native=1"],
+        input: b"",
+        output: "error: unexpected value '1' for '--native' found; no more were expected\n\n\
+            Usage: scf compare --native\n\nFor more information, try '--help'.\n",
+        status: 2,
+    },
+    Case {
+        words: &["scf", "compare", "--calls", "--calls"],
+        input: b"",
+        output: "error: the argument '--calls' cannot be used multiple times\n\n\
+            Usage: scf compare [OPTIONS]\n\nFor more information, try '--help'.\n",
+        status: 2,
+    },
+    Case {
+        words: &["scf", "compare", "--calls=1"],
+        input: b"",
+        output: "error: unexpected value '1' for '--calls' found; no more were expected\n\n\
+            Usage: scf compare --calls\n\nFor more information, try '--help'.\n",
+        status: 2,
+    },
 ];
 
 #[test]
@@ -169,10 +198,10 @@ fn refused_words(rt: HostRuntime) {
     for (kind, text, status) in cases {
         let error = io::Error::from(kind);
         let mut out = Writer::new(rt.alloc(), usize::MAX, Failing::Never);
-        assert_eq!(rt; refuse_words(&error, &mut out), status);
-        assert_eq!(rt; out.taken(), text.as_bytes());
+        assert!(rt; refuse_words(&error, &mut out) == status);
+        assert!(rt; out.taken() == text.as_bytes());
         let mut out = Writer::new(rt.alloc(), 1, Failing::After(5));
-        assert_eq!(rt; refuse_words(&error, &mut out), 3);
-        assert_eq!(rt; out.taken(), &text.as_bytes()[..5]);
+        assert!(rt; refuse_words(&error, &mut out) == 3);
+        assert!(rt; out.taken() == &text.as_bytes()[..5]);
     }
 }

@@ -8,7 +8,6 @@ use scf_test_fixtures::filters::ARCH_GATE;
 use scf_tool::run_command;
 use std::alloc::Global;
 use std::process::Abort;
-use std::test::Fail;
 
 /// What a command reads.
 #[derive(Clone, Copy)]
@@ -19,11 +18,11 @@ enum Input {
     Bundle(&'static [Part]),
 }
 
-fn bytes_of(alloc: Global, input: Input) -> Result<Vec<u8>, Fail> {
+fn bytes_of(rt: &impl Abort, alloc: Global, input: Input) -> Vec<u8> {
     match input {
-        Input::Filter(text) => filter_of(alloc, text),
-        Input::Text(text) => Ok(text.as_bytes().to_vec(alloc)?),
-        Input::Bundle(parts) => bundle(alloc, parts),
+        Input::Filter(text) => filter_of(rt, alloc, text),
+        Input::Text(text) => text.as_bytes().to_vec(alloc).expect(rt, "no fault"),
+        Input::Bundle(parts) => bundle(rt, alloc, parts),
     }
 }
 
@@ -64,9 +63,9 @@ const READS: &[(&[&str], Input, &str)] = &[
 
 /// A reader that fails after each count of bytes, and one that fails only past the end.
 #[test]
-fn failing_readers(rt: HostRuntime) -> Result<(), Fail> {
+fn failing_readers(rt: HostRuntime) {
     for (words, input, fault) in READS {
-        let input = bytes_of(rt.alloc(), *input)?;
+        let input = bytes_of(&rt, rt.alloc(), *input);
         let on = |share| {
             let reader = Reader::new(&input, 1, Failing::After(share));
             run_on(
@@ -90,43 +89,42 @@ fn failing_readers(rt: HostRuntime) -> Result<(), Fail> {
             "{words:?}: {ended:?}"
         );
     }
-    Ok(())
 }
 
 /// A reader of std that is interrupted after each count of bytes: that is a failure, and isn't tried again.
 #[test]
-fn interrupted_readers(rt: HostRuntime) -> Result<(), Fail> {
+fn interrupted_readers(rt: HostRuntime) {
     for (words, input, fault) in READS {
-        let input = bytes_of(rt.alloc(), *input)?;
+        let input = bytes_of(&rt, rt.alloc(), *input);
         for share in 0..=input.len() {
             let mut inner = Reader::new(&input, 1, Failing::OnceAfter(share));
             let mut source = Counted::new(&mut inner);
             let mut out = Writer::new(rt.alloc(), usize::MAX, Failing::Never);
             let status = run_command(rt.alloc(), words, &mut source, &mut out);
-            assert_eq!(rt;
-                (status, source.failures()),
-                (3, 1),
+            assert!(rt;
+                (status, source.failures()) == (3, 1),
                 "{words:?} after {share}"
             );
-            assert_eq!(rt; out.taken(), fault.as_bytes(), "{words:?} after {share}");
-            assert_eq!(rt; inner.asks(), (share as u64).saturating_add(1), "{words:?}");
+            assert!(rt; out.taken() == fault.as_bytes(), "{words:?} after {share}");
+            assert!(rt;
+                inner.asks() == ((share as u64).saturating_add(1)),
+                "{words:?}"
+            );
         }
     }
-    Ok(())
 }
 
 /// A reader isn't asked again once it has ended.
 #[test]
-fn ended_readers(rt: HostRuntime) -> Result<(), Fail> {
+fn ended_readers(rt: HostRuntime) {
     for (words, input, _) in READS {
-        let input = bytes_of(rt.alloc(), *input)?;
+        let input = bytes_of(&rt, rt.alloc(), *input);
         let mut source = Reader::new(&input, 1, Failing::Never);
         let mut out = Writer::new(rt.alloc(), usize::MAX, Failing::Never);
         let _status = run_command(rt.alloc(), words, &mut source, &mut out);
         let reads = (input.len() as u64).saturating_add(1);
-        assert_eq!(rt; source.asks(), reads, "{words:?}");
+        assert!(rt; source.asks() == reads, "{words:?}");
     }
-    Ok(())
 }
 
 /// A writer that fails at each write in turn, and one that fails only past the end.
@@ -157,17 +155,23 @@ fn take_nothing_once(rt: &impl Abort, alloc: Global, words: &[&str], input: &[u8
         let mut out = Counted::new(&mut inner);
         let mut source = Reader::new(input, 1, Failing::Never);
         let status = run_command(alloc, words, &mut source, &mut out);
-        assert_eq!(rt; (status, out.failures()), (3, 1), "{words:?} after {share}");
-        assert_eq!(rt; inner.taken(), &text[..share], "{words:?}");
-        assert_eq!(rt; inner.asks(), (share as u64).saturating_add(1), "{words:?}");
+        assert!(rt;
+            (status, out.failures()) == (3, 1),
+            "{words:?} after {share}"
+        );
+        assert!(rt; inner.taken() == &text[..share], "{words:?}");
+        assert!(rt;
+            inner.asks() == ((share as u64).saturating_add(1)),
+            "{words:?}"
+        );
     }
 }
 
 /// What went out is a beginning of the text.
 #[test]
-fn failing_writers(rt: HostRuntime) -> Result<(), Fail> {
+fn failing_writers(rt: HostRuntime) {
     for (words, input, _) in READS {
-        let input = bytes_of(rt.alloc(), *input)?;
+        let input = bytes_of(&rt, rt.alloc(), *input);
         fail_each_write(&rt, rt.alloc(), words, &input);
         take_nothing_once(&rt, rt.alloc(), words, &input);
     }
@@ -175,7 +179,6 @@ fn failing_writers(rt: HostRuntime) -> Result<(), Fail> {
         fail_each_write(&rt, rt.alloc(), words, b"");
         take_nothing_once(&rt, rt.alloc(), words, b"");
     }
-    Ok(())
 }
 
 /// Commands, inputs and what is printed of them.
@@ -193,27 +196,28 @@ const ANSWERS: &[(&[&str], Input, &[u8])] = &[
 
 /// Each is answered, with status 0.
 #[test]
-fn answers(rt: HostRuntime) -> Result<(), Fail> {
+fn answers(rt: HostRuntime) {
     for (words, input, answer) in ANSWERS {
-        let input = bytes_of(rt.alloc(), *input)?;
+        let input = bytes_of(&rt, rt.alloc(), *input);
         let ended = run(rt.alloc(), words, &input, usize::MAX);
         assert!(rt; ended.is(answer, 0, 0), "{words:?}: {ended:?}");
     }
-    Ok(())
 }
 
 /// A writer isn't asked again once it has failed.
 #[test]
-fn writers_that_fail_once(rt: HostRuntime) -> Result<(), Fail> {
+fn writers_that_fail_once(rt: HostRuntime) {
     for (words, input, answer) in ANSWERS {
-        let input = bytes_of(rt.alloc(), *input)?;
+        let input = bytes_of(&rt, rt.alloc(), *input);
         for share in 0..answer.len() {
             let mut source = Reader::new(&input, 1, Failing::Never);
             let mut out = Writer::new(rt.alloc(), 1, Failing::OnceAfter(share));
             let status = run_command(rt.alloc(), words, &mut source, &mut out);
-            assert_eq!(rt; (status, out.failures()), (3, 1), "{words:?} after {share}");
-            assert_eq!(rt; out.taken(), &answer[..share], "{words:?}");
+            assert!(rt;
+                (status, out.failures()) == (3, 1),
+                "{words:?} after {share}"
+            );
+            assert!(rt; out.taken() == &answer[..share], "{words:?}");
         }
     }
-    Ok(())
 }

@@ -5,7 +5,6 @@ use crate::runs::{Case, pass};
 use scf_test_fixtures::filters::{
     ALLOW_ALL, ARCH_GATE, DIVIDED_BY_0, STORED_BOTH_WAYS, STORED_ONE_WAY,
 };
-use std::test::Fail;
 
 /// The bytes of `ARCH_GATE` (Linux uapi filter.h: code, jt, jf and k, each from its low byte on).
 pub(crate) const GATE: &[u8] = b"\x20\0\0\0\x04\0\0\0\
@@ -197,9 +196,9 @@ const CHECKS: &[OnText] = &[
 ];
 
 #[test]
-fn texts(rt: HostRuntime) -> Result<(), Fail> {
+fn texts(rt: HostRuntime) {
     for (words, text, output, status) in RUNS.iter().chain(CHECKS) {
-        let input = filter_of(rt.alloc(), text)?;
+        let input = filter_of(&rt, rt.alloc(), text);
         let case = Case {
             words,
             input: &input,
@@ -208,5 +207,4 @@ fn texts(rt: HostRuntime) -> Result<(), Fail> {
         };
         pass(&rt, rt.alloc(), &[case]);
     }
-    Ok(())
 }

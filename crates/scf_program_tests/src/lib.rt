@@ -1,4 +1,6 @@
 //! Tests of the program as a whole: its words, its input, its output and its exit status.
+//!
+//! What is equal is asserted by `assert!`, and a result taken by `expect`, as in the tests of the libraries.
 #![tactic(auto)]
 
 #[cfg(test)]

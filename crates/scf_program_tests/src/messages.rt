@@ -4,7 +4,6 @@ use scf_insn::{InputFault, ReadFault};
 use scf_machine::{CheckFault, PushFault};
 use scf_profile::{LoadFault, TableFault};
 use scf_tool::{BundleFault, NumberFault, VerifyFault};
-use std::test::Fail;
 
 /// Faults of bundles, and what they print.
 const BUNDLES: &[(BundleFault, &str)] = &[
@@ -20,24 +19,22 @@ const BUNDLES: &[(BundleFault, &str)] = &[
 ];
 
 #[test]
-fn bundles(rt: HostRuntime) -> Result<(), Fail> {
+fn bundles(rt: HostRuntime) {
     for (fault, wanted) in BUNDLES {
-        let shown = format!(in rt.alloc(); "{fault}")?;
-        assert_eq!(rt; shown.as_str(), *wanted);
+        let shown = format!(in rt.alloc(); "{fault}").expect(&rt, "no fault");
+        assert!(rt; shown.as_str() == *wanted);
     }
-    Ok(())
 }
 
 #[test]
-fn options(rt: HostRuntime) -> Result<(), Fail> {
+fn options(rt: HostRuntime) {
     for (name, wanted) in [
         ("nr", "the option nr is no number in its range"),
         ("limit", "the option limit is no number in its range"),
     ] {
-        let shown = format!(in rt.alloc(); "{}", NumberFault { name })?;
-        assert_eq!(rt; shown.as_str(), wanted);
+        let shown = format!(in rt.alloc(); "{}", NumberFault { name }).expect(&rt, "no fault");
+        assert!(rt; shown.as_str() == wanted);
     }
-    Ok(())
 }
 
 /// Faults of a comparison from its readers, and what they print: what was read, and that fault's message.
@@ -74,10 +71,9 @@ const COMPARISONS: &[(VerifyFault, &str)] = &[
 ];
 
 #[test]
-fn comparisons(rt: HostRuntime) -> Result<(), Fail> {
+fn comparisons(rt: HostRuntime) {
     for (fault, wanted) in COMPARISONS {
-        let shown = format!(in rt.alloc(); "{fault}")?;
-        assert_eq!(rt; shown.as_str(), *wanted);
+        let shown = format!(in rt.alloc(); "{fault}").expect(&rt, "no fault");
+        assert!(rt; shown.as_str() == *wanted);
     }
-    Ok(())
 }

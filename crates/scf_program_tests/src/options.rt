@@ -4,7 +4,6 @@ use crate::parts::{Part, bundle};
 use crate::runs::{answer_line, run};
 use std::alloc::Global;
 use std::process::Abort;
-use std::test::Fail;
 
 /// An option, and where its words stand in the record of a call (Linux uapi seccomp.h, struct seccomp_data).
 struct CallOption {
@@ -99,22 +98,15 @@ fn word_with(option: &CallOption, place: usize) -> u32 {
 }
 
 /// `decide` on a filter that answers a word of the record.
-fn asks(
-    rt: &impl Abort,
-    alloc: Global,
-    words: &[&str],
-    load: Part,
-    wanted: u32,
-) -> Result<(), Fail> {
-    let input = bundle(alloc, &[load])?;
+fn asks(rt: &impl Abort, alloc: Global, words: &[&str], load: Part, wanted: u32) {
+    let input = bundle(rt, alloc, &[load]);
     let ended = run(alloc, words, &input, usize::MAX);
-    let text = answer_line(alloc, wanted)?;
+    let text = answer_line(alloc, wanted).expect(rt, "no fault");
     assert!(rt; ended.is(text.as_bytes(), 0, 0), "{words:?}: {ended:?}");
-    Ok(())
 }
 
 #[test]
-fn defaults(rt: HostRuntime) -> Result<(), Fail> {
+fn defaults(rt: HostRuntime) {
     for (place, load) in LOADS {
         asks(
             &rt,
@@ -122,13 +114,12 @@ fn defaults(rt: HostRuntime) -> Result<(), Fail> {
             &["scf", "decide"],
             load,
             default_word(place),
-        )?;
+        );
     }
-    Ok(())
 }
 
 #[test]
-fn each_option_alone(rt: HostRuntime) -> Result<(), Fail> {
+fn each_option_alone(rt: HostRuntime) {
     for option in &OPTIONS {
         let value = match option.high {
             Some(_) => "0x1122334455667788",
@@ -136,22 +127,21 @@ fn each_option_alone(rt: HostRuntime) -> Result<(), Fail> {
         };
         for (place, load) in LOADS {
             let words = ["scf", "decide", option.word, value];
-            asks(&rt, rt.alloc(), &words, load, word_with(option, place))?;
+            asks(&rt, rt.alloc(), &words, load, word_with(option, place));
         }
     }
-    Ok(())
 }
 
 /// Each option is refused by its name where its text is no number in its range, and before any input is read.
 #[test]
-fn wrong_numbers(rt: HostRuntime) -> Result<(), Fail> {
+fn wrong_numbers(rt: HostRuntime) {
     for option in &OPTIONS {
         let too_large = match option.high {
             Some(_) => "0x10000000000000000",
             None => "0x100000000",
         };
         let name = &option.word[2..];
-        let text = format!(in rt.alloc(); "fault number {name}\n")?;
+        let text = format!(in rt.alloc(); "fault number {name}\n").expect(&rt, "no fault");
         for command in ["run", "decide"] {
             for value in [too_large, "0x", ""] {
                 let words = ["scf", command, option.word, value];
@@ -160,5 +150,4 @@ fn wrong_numbers(rt: HostRuntime) -> Result<(), Fail> {
             }
         }
     }
-    Ok(())
 }

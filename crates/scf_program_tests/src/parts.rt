@@ -2,8 +2,8 @@
 
 use scf_test_fixtures::{filters, profiles};
 use scf_text::assemble;
-use std::alloc::{AllocError, Global};
-use std::test::Fail;
+use std::alloc::Global;
+use std::process::Abort;
 
 /// A part of a bundle, with what it holds as text.
 #[derive(Clone, Copy)]
@@ -40,73 +40,81 @@ pub(crate) const NATIVE: Part = Part::Native(filters::ALLOW_ALL);
 pub(crate) const WITHOUT_WRITE: Part = Part::Filter(filters::WITHOUT_WRITE);
 
 /// The text so many times. It has no contract, so that no proof writes a text of millions out.
-pub(crate) fn repeated(alloc: Global, text: &str, count: usize) -> Result<String, AllocError> {
-    text.repeat(alloc, count)
+pub(crate) fn repeated(rt: &impl Abort, alloc: Global, text: &str, count: usize) -> String {
+    text.repeat(alloc, count).expect(rt, "no fault")
 }
 
 /// The bytes of the filter that a text spells.
-pub(crate) fn filter_of(alloc: Global, text: &str) -> Result<Vec<u8>, Fail> {
-    let insns = assemble(alloc, text.as_bytes())?;
+pub(crate) fn filter_of(rt: &impl Abort, alloc: Global, text: &str) -> Vec<u8> {
+    let insns = assemble(alloc, text.as_bytes()).expect(rt, "no fault");
     let mut bytes = Vec::new(alloc);
     for insn in &insns {
-        bytes.extend_from_slice(&insn.to_bytes())?;
+        bytes
+            .extend_from_slice(&insn.to_bytes())
+            .expect(rt, "no fault");
     }
-    Ok(bytes)
+    bytes
 }
 
 /// `ld #0` so many times, and then an instruction that answers ALLOW.
-pub(crate) fn long_filter(alloc: Global, loads: usize) -> Result<Vec<u8>, Fail> {
-    let load = filter_of(alloc, "ld #0")?;
+pub(crate) fn long_filter(rt: &impl Abort, alloc: Global, loads: usize) -> Vec<u8> {
+    let load = filter_of(rt, alloc, "ld #0");
     let mut filter = Vec::new(alloc);
     for _ in 0..loads {
-        filter.extend_from_slice(&load)?;
+        filter.extend_from_slice(&load).expect(rt, "no fault");
     }
-    filter.extend_from_slice(&filter_of(alloc, filters::ALLOW_ALL)?)?;
-    Ok(filter)
+    filter
+        .extend_from_slice(&filter_of(rt, alloc, filters::ALLOW_ALL))
+        .expect(rt, "no fault");
+    filter
 }
 
 /// Adds a part: its header and its bytes.
-pub(crate) fn add(
-    alloc: Global,
-    bundle: &mut Vec<u8>,
-    word: &str,
-    bytes: &[u8],
-) -> Result<(), AllocError> {
-    let header = format!(in alloc; "{word} {}\n", bytes.len())?;
-    bundle.extend_from_slice(header.as_bytes())?;
-    bundle.extend_from_slice(bytes)
+pub(crate) fn add(rt: &impl Abort, alloc: Global, bundle: &mut Vec<u8>, word: &str, bytes: &[u8]) {
+    let header = format!(in alloc; "{word} {}\n", bytes.len()).expect(rt, "no fault");
+    bundle
+        .extend_from_slice(header.as_bytes())
+        .expect(rt, "no fault");
+    bundle.extend_from_slice(bytes).expect(rt, "no fault");
 }
 
 /// The bundle of these parts.
-pub(crate) fn bundle(alloc: Global, parts: &[Part]) -> Result<Vec<u8>, Fail> {
+pub(crate) fn bundle(rt: &impl Abort, alloc: Global, parts: &[Part]) -> Vec<u8> {
     let mut bundle = Vec::new(alloc);
     for part in parts {
         match part {
-            Part::Filter(text) => add(alloc, &mut bundle, "filter", &filter_of(alloc, text)?)?,
+            Part::Filter(text) => add(
+                rt,
+                alloc,
+                &mut bundle,
+                "filter",
+                &filter_of(rt, alloc, text),
+            ),
             Part::Native(rest) => {
-                let text = format!(in alloc; "{}{rest}", filters::GATE)?;
-                let filter = filter_of(alloc, text.as_str())?;
-                add(alloc, &mut bundle, "filter", &filter)?;
+                let text = format!(in alloc; "{}{rest}", filters::GATE).expect(rt, "no fault");
+                let filter = filter_of(rt, alloc, text.as_str());
+                add(rt, alloc, &mut bundle, "filter", &filter);
             }
-            Part::Profile(text) => add(alloc, &mut bundle, "profile", text.as_bytes())?,
-            Part::Table(text) => add(alloc, &mut bundle, "table", text.as_bytes())?,
+            Part::Profile(text) => add(rt, alloc, &mut bundle, "profile", text.as_bytes()),
+            Part::Table(text) => add(rt, alloc, &mut bundle, "table", text.as_bytes()),
         }
     }
-    Ok(bundle)
+    bundle
 }
 
 /// The bundle of a filter, a profile and a table, each where it is given.
 pub(crate) fn bundle_of(
+    rt: &impl Abort,
     alloc: Global,
     filter: Option<&[u8]>,
     profile: &[u8],
     table: &[u8],
-) -> Result<Vec<u8>, AllocError> {
+) -> Vec<u8> {
     let mut bundle = Vec::new(alloc);
     if let Some(filter) = filter {
-        add(alloc, &mut bundle, "filter", filter)?;
+        add(rt, alloc, &mut bundle, "filter", filter);
     }
-    add(alloc, &mut bundle, "profile", profile)?;
-    add(alloc, &mut bundle, "table", table)?;
-    Ok(bundle)
+    add(rt, alloc, &mut bundle, "profile", profile);
+    add(rt, alloc, &mut bundle, "table", table);
+    bundle
 }

@@ -5,7 +5,6 @@ use crate::runs::{Ended, run, run_with};
 use scf_test_fixtures::filters::ARCH_GATE;
 use std::alloc::Global;
 use std::process::Abort;
-use std::test::Fail;
 
 /// A filter, options of a call, and what is printed.
 const PATHS: &[(&str, &str, &str)] = &[
@@ -38,48 +37,50 @@ fn is_printed(rt: &impl Abort, ended: &Ended, text: &str, status: u8, about: &st
 }
 
 #[test]
-fn paths(rt: HostRuntime) -> Result<(), Fail> {
+fn paths(rt: HostRuntime) {
     for (text, options, printed) in PATHS {
-        let filter = filter_of(rt.alloc(), text)?;
-        let words = format!(in rt.alloc(); "--path {options}")?;
-        let ended = run_with(rt.alloc(), "run", words.as_str(), &filter)?;
+        let filter = filter_of(&rt, rt.alloc(), text);
+        let words = format!(in rt.alloc(); "--path {options}").expect(&rt, "no fault");
+        let ended = run_with(&rt, rt.alloc(), "run", words.as_str(), &filter);
         is_printed(&rt, &ended, printed, 0, options);
         // Without the flag the first line stands alone.
-        let ended = run_with(rt.alloc(), "run", options, &filter)?;
+        let ended = run_with(&rt, rt.alloc(), "run", options, &filter);
         let line = printed.split('\n').next().unwrap_or("");
-        let line = format!(in rt.alloc(); "{line}\n")?;
+        let line = format!(in rt.alloc(); "{line}\n").expect(&rt, "no fault");
         is_printed(&rt, &ended, line.as_str(), 0, options);
     }
-    Ok(())
 }
 
 /// The longest filter, whose places all stand on the way.
 #[test]
-fn longest_path(rt: HostRuntime) -> Result<(), Fail> {
-    let filter = long_filter(rt.alloc(), 4095)?;
-    let ended = run_with(rt.alloc(), "run", "--path", &filter)?;
-    let mut text = String::from_str(rt.alloc(), "ALLOW 0 steps 4096\npath")?;
+fn longest_path(rt: HostRuntime) {
+    let filter = long_filter(&rt, rt.alloc(), 4095);
+    let ended = run_with(&rt, rt.alloc(), "run", "--path", &filter);
+    let mut text = String::from_str(rt.alloc(), "ALLOW 0 steps 4096\npath").expect(&rt, "no fault");
     for place in 0..4096 {
-        text.push_str(format!(in rt.alloc(); " {place}")?.as_str())?;
+        text.push_str(
+            format!(in rt.alloc(); " {place}")
+                .expect(&rt, "no fault")
+                .as_str(),
+        )
+        .expect(&rt, "no fault");
     }
-    text.push_str("\n")?;
+    text.push_str("\n").expect(&rt, "no fault");
     is_printed(&rt, &ended, text.as_str(), 0, "the longest filter");
-    Ok(())
 }
 
 /// What is refused is refused with the flag, too.
 #[test]
-fn refused_paths(rt: HostRuntime) -> Result<(), Fail> {
-    let filter = filter_of(rt.alloc(), "ld [0]")?;
-    let ended = run_with(rt.alloc(), "run", "--path", &filter)?;
+fn refused_paths(rt: HostRuntime) {
+    let filter = filter_of(&rt, rt.alloc(), "ld [0]");
+    let ended = run_with(&rt, rt.alloc(), "run", "--path", &filter);
     is_printed(&rt, &ended, "fault filter LastNotReturn\n", 1, "no return");
-    let ended = run_with(rt.alloc(), "run", "--path", b"cut")?;
+    let ended = run_with(&rt, rt.alloc(), "run", "--path", b"cut");
     is_printed(&rt, &ended, "fault filter Truncated offset 0\n", 3, "cut");
     let ended = run(rt.alloc(), &["scf", "run", "--path", "--ip", "-"], b"", 1);
     is_printed(&rt, &ended, "fault number ip\n", 2, "a wrong number");
     let ended = run(rt.alloc(), &["scf", "decide", "--path"], b"", 1);
     assert!(rt; ended.status == 2, "{ended:?}");
-    Ok(())
 }
 
 /// The first entry has no name that the table has, two entries allow `read`, and one answers `write` by an argument.
@@ -109,15 +110,14 @@ const REASONS: &[(&str, &str)] = &[
 ];
 
 #[test]
-fn reasons(rt: HostRuntime) -> Result<(), Fail> {
+fn reasons(rt: HostRuntime) {
     for parts in [[ENTRIES, TABLE], [TABLE, ENTRIES]] {
-        let input = bundle(rt.alloc(), &parts)?;
+        let input = bundle(&rt, rt.alloc(), &parts);
         for (options, printed) in REASONS {
-            let ended = run_with(rt.alloc(), "ask", options, &input)?;
+            let ended = run_with(&rt, rt.alloc(), "ask", options, &input);
             is_printed(&rt, &ended, printed, 0, options);
         }
     }
-    Ok(())
 }
 
 /// Parts, what is printed of them, and the status.
@@ -146,9 +146,9 @@ fn ask(alloc: Global, words: &[&str], input: &[u8]) -> Ended {
 }
 
 #[test]
-fn refused_questions(rt: HostRuntime) -> Result<(), Fail> {
+fn refused_questions(rt: HostRuntime) {
     for (parts, printed, status) in REFUSED {
-        let input = bundle(rt.alloc(), parts)?;
+        let input = bundle(&rt, rt.alloc(), parts);
         let ended = ask(rt.alloc(), &["scf", "ask"], &input);
         is_printed(&rt, &ended, printed, *status, printed);
     }
@@ -156,5 +156,4 @@ fn refused_questions(rt: HostRuntime) -> Result<(), Fail> {
     is_printed(&rt, &ended, "fault bundle Short offset 0\n", 3, "cut");
     let ended = ask(rt.alloc(), &["scf", "ask", "--a5", "0x"], b"");
     is_printed(&rt, &ended, "fault number a5\n", 2, "a wrong number");
-    Ok(())
 }

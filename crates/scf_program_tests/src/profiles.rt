@@ -7,7 +7,6 @@ use crate::runs::{Case, pass, run, shown_call};
 use scf_test_fixtures::filters::{ARCH_GATE, CLONE_BY_FEWER_BITS, DIVISION};
 use std::alloc::{AllocError, Global};
 use std::str;
-use std::test::Fail;
 
 /// A command on a bundle of these parts, what it prints and its status.
 struct OnBundle {
@@ -85,9 +84,9 @@ const PROFILES: &[OnBundle] = &[
 ];
 
 #[test]
-fn profiles(rt: HostRuntime) -> Result<(), Fail> {
+fn profiles(rt: HostRuntime) {
     for wanted in PROFILES {
-        let input = bundle(rt.alloc(), wanted.parts)?;
+        let input = bundle(&rt, rt.alloc(), wanted.parts);
         let case = Case {
             words: wanted.words,
             input: &input,
@@ -96,7 +95,6 @@ fn profiles(rt: HostRuntime) -> Result<(), Fail> {
         };
         pass(&rt, rt.alloc(), &[case]);
     }
-    Ok(())
 }
 
 /// Profiles and tables that are refused, and what is printed of each kind of fault. The table is looked at first.
@@ -166,10 +164,10 @@ const REFUSED: &[(&str, &str, &str)] = &[
 ];
 
 #[test]
-fn refusals(rt: HostRuntime) -> Result<(), Fail> {
+fn refusals(rt: HostRuntime) {
     for (profile, table, output) in REFUSED {
         let parts = [Part::Profile(profile), Part::Table(table)];
-        let input = bundle(rt.alloc(), &parts)?;
+        let input = bundle(&rt, rt.alloc(), &parts);
         let case = Case {
             words: &["scf", "compile"],
             input: &input,
@@ -178,7 +176,6 @@ fn refusals(rt: HostRuntime) -> Result<(), Fail> {
         };
         pass(&rt, rt.alloc(), &[case]);
     }
-    Ok(())
 }
 
 /// A filter that answers otherwise than a profile, and what is said of a call that shows it.
@@ -235,13 +232,12 @@ fn shows(alloc: Global, text: &str, difference: &Difference) -> Result<bool, All
 }
 
 #[test]
-fn differences(rt: HostRuntime) -> Result<(), Fail> {
+fn differences(rt: HostRuntime) {
     for difference in DIFFERENCES {
-        let input = bundle(rt.alloc(), difference.parts)?;
+        let input = bundle(&rt, rt.alloc(), difference.parts);
         let ended = run(rt.alloc(), &["scf", "compare"], &input, usize::MAX);
-        let text = str::from_utf8(ended.text())?;
-        let is_shown = shows(rt.alloc(), text, difference)?;
+        let text = str::from_utf8(ended.text()).expect(&rt, "no fault");
+        let is_shown = shows(rt.alloc(), text, difference).expect(&rt, "no fault");
         assert!(rt; is_shown && ended.status == 1, "{text}");
     }
-    Ok(())
 }

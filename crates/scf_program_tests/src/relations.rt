@@ -6,7 +6,6 @@ use crate::runs::{Case, pass, run_with};
 use scf_insn::faults::{Failing, Reader, Writer};
 use scf_tool::run_command;
 use std::str;
-use std::test::Fail;
 
 /// Allows `read`, and answers ERRNO 1 to all other calls.
 const READ: Part = Part::Profile(
@@ -230,10 +229,10 @@ const ROWS: &[Row] = &[
 ];
 
 #[test]
-fn relations(rt: HostRuntime) -> Result<(), Fail> {
+fn relations(rt: HostRuntime) {
     for (options, parts, first, rest, status) in ROWS {
-        let input = bundle(rt.alloc(), parts)?;
-        let ended = run_with(rt.alloc(), "compare", options, &input)?;
+        let input = bundle(&rt, rt.alloc(), parts);
+        let ended = run_with(&rt, rt.alloc(), "compare", options, &input);
         let text = str::from_utf8(ended.text()).unwrap_or("");
         let shown = first.ends_with(' ') || first.ends_with("0x") || rest.starts_with('\n');
         let whole = first.len().saturating_add(rest.len());
@@ -243,7 +242,6 @@ fn relations(rt: HostRuntime) -> Result<(), Fail> {
         );
         assert!(rt; shown || text.len() == whole, "{options:?}: {text}");
     }
-    Ok(())
 }
 
 /// The two flags exclude each other, and so do two of which one says over which calls.
@@ -290,6 +288,6 @@ fn excluded_flags(rt: HostRuntime) {
         let mut input = Reader::new(b"filter", 1, Failing::Never);
         let mut out = Writer::new(rt.alloc(), usize::MAX, Failing::Never);
         let status = run_command(rt.alloc(), case.words, &mut input, &mut out);
-        assert_eq!(rt; (status, input.asks()), (2, 0), "{:?}", case.words);
+        assert!(rt; (status, input.asks()) == (2, 0), "{:?}", case.words);
     }
 }

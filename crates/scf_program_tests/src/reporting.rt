@@ -5,7 +5,6 @@ use scf_insn::{Answer, CallRecord};
 use scf_profile::Texts;
 use scf_tool::{CallVerdict, CallsOutcome, Outcome, report, report_calls};
 use std::alloc::{AllocError, Global};
-use std::test::Fail;
 
 fn texts_of(alloc: Global, words: &[&'static str]) -> Result<Texts, AllocError> {
     let mut texts = Vec::new(alloc);
@@ -84,14 +83,13 @@ fn outcomes(alloc: Global) -> [(Result<Outcome, AllocError>, &'static str); 5] {
 }
 
 #[test]
-fn reported_lines(rt: HostRuntime) -> Result<(), Fail> {
+fn reported_lines(rt: HostRuntime) {
     for (outcome, wanted) in outcomes(rt.alloc()) {
-        match report(rt.alloc(), &outcome?) {
-            Ok(text) => assert_eq!(rt; text.as_slice(), wanted.as_bytes()),
+        match report(rt.alloc(), &outcome.expect(&rt, "no fault")) {
+            Ok(text) => assert!(rt; text.as_slice() == wanted.as_bytes()),
             Err(_) => assert!(rt; false, "no report of {wanted}"),
         }
     }
-    Ok(())
 }
 
 /// A number, its names and its verdict.
@@ -159,13 +157,15 @@ fn told_of(alloc: Global, told: &[Told]) -> Result<CallsOutcome, AllocError> {
 }
 
 #[test]
-fn reported_calls(rt: HostRuntime) -> Result<(), Fail> {
+fn reported_calls(rt: HostRuntime) {
     for (told, wanted) in CALLS {
-        let wanted = format!(in rt.alloc(); "{wanted}{LEFT_OUT}")?;
-        match report_calls(rt.alloc(), &told_of(rt.alloc(), told)?) {
-            Ok(text) => assert_eq!(rt; text.as_slice(), wanted.as_bytes()),
+        let wanted = format!(in rt.alloc(); "{wanted}{LEFT_OUT}").expect(&rt, "no fault");
+        match report_calls(
+            rt.alloc(),
+            &told_of(rt.alloc(), told).expect(&rt, "no fault"),
+        ) {
+            Ok(text) => assert!(rt; text.as_slice() == wanted.as_bytes()),
             Err(_) => assert!(rt; false, "no report of {wanted}"),
         }
     }
-    Ok(())
 }

@@ -77,17 +77,20 @@ pub(crate) fn run(alloc: Global, words: &[&str], input: &[u8], step: usize) -> E
 
 /// Runs a command with these options, each word of them behind a space.
 pub(crate) fn run_with(
+    rt: &impl Abort,
     alloc: Global,
     command: &str,
     options: &str,
     input: &[u8],
-) -> Result<Ended, AllocError> {
+) -> Ended {
     let mut words = Vec::new(alloc);
-    words.extend_from_slice(&["scf", command])?;
+    words
+        .extend_from_slice(&["scf", command])
+        .expect(rt, "no fault");
     for word in options.split_whitespace() {
-        words.push(word)?;
+        words.push(word).expect(rt, "no fault");
     }
-    Ok(run(alloc, &words, input, usize::MAX))
+    run(alloc, &words, input, usize::MAX)
 }
 
 /// What is printed of an answer: its action and its data (Linux uapi seccomp.h).

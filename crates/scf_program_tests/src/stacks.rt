@@ -4,12 +4,11 @@ use crate::parts::{
     ALL, ALLOW, CLONE, CLONE_BY_AND, CLONE_TABLE, NATIVE, NO_TABLE, Part, WITHOUT_WRITE, add,
     bundle, filter_of, long_filter,
 };
-use crate::runs::{Case, Ended, pass, run_with, shown_call};
+use crate::runs::{Ended, run_with, shown_call};
 use scf_insn::parse_number;
 use std::alloc::{AllocError, Global};
 use std::process::Abort;
 use std::str;
-use std::test::Fail;
 
 /// Parts by their names.
 const NAMED: &[(&str, Part)] = &[
@@ -87,14 +86,14 @@ const NAMED: &[(&str, Part)] = &[
 ];
 
 /// The bundle of the parts of these names.
-fn named(rt: &impl Abort, alloc: Global, names: &str) -> Result<Vec<u8>, Fail> {
+fn named(rt: &impl Abort, alloc: Global, names: &str) -> Vec<u8> {
     let mut parts = Vec::new(alloc);
     for name in names.split_whitespace() {
         let found = NAMED.iter().find(|(known, _)| *known == name);
         let (_, part) = found.expect(rt, "a part of this name");
-        parts.push(*part)?;
+        parts.push(*part).expect(rt, "no fault");
     }
-    bundle(alloc, &parts)
+    bundle(rt, alloc, &parts)
 }
 
 /// Options and parts that come to `same`. No limit is below the effort, and the filters stand oldest first.
@@ -161,18 +160,17 @@ const PRINTED: &[(&[(&str, &str)], &str, u8)] = &[
 ];
 
 #[test]
-fn printed(rt: HostRuntime) -> Result<(), Fail> {
+fn printed(rt: HostRuntime) {
     for (rows, text, status) in PRINTED {
         for (options, parts) in *rows {
-            let input = named(&rt, rt.alloc(), parts)?;
-            let ended = run_with(rt.alloc(), "compare", options, &input)?;
+            let input = named(&rt, rt.alloc(), parts);
+            let ended = run_with(&rt, rt.alloc(), "compare", options, &input);
             assert!(rt;
                 ended.is(text.as_bytes(), *status, 0),
                 "{options} {parts}: {ended:?}"
             );
         }
     }
-    Ok(())
 }
 
 /// Options and parts that differ, with a call (the scope of it, or its number) and the answers of stack and profile.
@@ -244,37 +242,34 @@ fn is_of_call(alloc: Global, text: &str, wanted: &str) -> Result<bool, AllocErro
 }
 
 #[test]
-fn differences(rt: HostRuntime) -> Result<(), Fail> {
+fn differences(rt: HostRuntime) {
     for [options, parts, call, filter, profile] in DIFFERENCES {
-        let input = named(&rt, rt.alloc(), parts)?;
-        let ended = run_with(rt.alloc(), "compare", options, &input)?;
-        let text = str::from_utf8(ended.text())?;
-        let end = format!(in rt.alloc(); "\nfilter {filter}\nprofile {profile}\n")?;
-        let is_shown = is_of_call(rt.alloc(), text, call)? && text.ends_with(end.as_str());
+        let input = named(&rt, rt.alloc(), parts);
+        let ended = run_with(&rt, rt.alloc(), "compare", options, &input);
+        let text = str::from_utf8(ended.text()).expect(&rt, "no fault");
+        let end = format!(in rt.alloc(); "\nfilter {filter}\nprofile {profile}\n").expect(
+            &rt, "no fault",
+        );
+        let is_shown = is_of_call(rt.alloc(), text, call).expect(&rt, "no fault")
+            && text.ends_with(end.as_str());
         assert!(rt; is_shown && ended.status == 1, "{options} {parts}: {text}");
     }
-    Ok(())
 }
 
 /// What is printed of a filter behind older ones, before newer ones that are cut, and a profile and a table that are
 /// refused too.
-fn among(
-    alloc: Global,
-    older: &[Vec<u8>],
-    filter: &[u8],
-    newer: usize,
-) -> Result<Ended, AllocError> {
+fn among(rt: &impl Abort, alloc: Global, older: &[Vec<u8>], filter: &[u8], newer: usize) -> Ended {
     let mut input = Vec::new(alloc);
     for bytes in older {
-        add(alloc, &mut input, "filter", bytes)?;
+        add(rt, alloc, &mut input, "filter", bytes);
     }
-    add(alloc, &mut input, "filter", filter)?;
+    add(rt, alloc, &mut input, "filter", filter);
     for _ in 0..newer {
-        add(alloc, &mut input, "filter", b"cut")?;
+        add(rt, alloc, &mut input, "filter", b"cut");
     }
-    add(alloc, &mut input, "profile", b"{}")?;
-    add(alloc, &mut input, "table", b"9p 1")?;
-    run_with(alloc, "compare", "", &input)
+    add(rt, alloc, &mut input, "profile", b"{}");
+    add(rt, alloc, &mut input, "table", b"9p 1");
+    run_with(rt, alloc, "compare", "", &input)
 }
 
 /// Filters that are refused, how many of their bytes are given, what is printed of each, and the status.
@@ -287,21 +282,22 @@ const REFUSED: &[(&str, usize, &str, u8)] = &[
 
 /// The oldest filter that is refused is named, at each place of three.
 #[test]
-fn refused_filters(rt: HostRuntime) -> Result<(), Fail> {
+fn refused_filters(rt: HostRuntime) {
     let mut older = Vec::new(rt.alloc());
     for place in 0..3 {
         for (filter, given, text, status) in REFUSED {
-            let filter = filter_of(rt.alloc(), filter)?;
+            let filter = filter_of(&rt, rt.alloc(), filter);
             let given = filter.get(..*given).expect(&rt, "so many bytes");
-            let ended = among(rt.alloc(), &older, given, 2 - place)?;
+            let ended = among(&rt, rt.alloc(), &older, given, 2 - place);
             assert!(rt;
                 ended.is(text.as_bytes(), *status, 0),
                 "{text} at {place}: {ended:?}"
             );
         }
-        older.push(long_filter(rt.alloc(), 0)?)?;
+        older
+            .push(long_filter(&rt, rt.alloc(), 0))
+            .expect(&rt, "no fault");
     }
-    Ok(())
 }
 
 /// How many instructions stand before the return of an eighth filter, behind seven of 4096, and what is printed.
@@ -313,38 +309,16 @@ const EIGHTH: &[(usize, &str, u8)] = &[
 ];
 
 #[test]
-fn full_stack(rt: HostRuntime) -> Result<(), Fail> {
+fn full_stack(rt: HostRuntime) {
     let mut older = Vec::new(rt.alloc());
     for _ in 0..7 {
-        older.push(long_filter(rt.alloc(), 4095)?)?;
+        older
+            .push(long_filter(&rt, rt.alloc(), 4095))
+            .expect(&rt, "no fault");
     }
     for (loads, text, status) in EIGHTH {
-        let eighth = long_filter(rt.alloc(), *loads)?;
-        let ended = among(rt.alloc(), &older, &eighth, 1)?;
+        let eighth = long_filter(&rt, rt.alloc(), *loads);
+        let ended = among(&rt, rt.alloc(), &older, &eighth, 1);
         assert!(rt; ended.is(text.as_bytes(), *status, 0), "{loads}: {ended:?}");
     }
-    Ok(())
-}
-
-/// The flag given twice, and with a text, as clap refuses them.
-const WORDS: &[Case] = &[
-    Case {
-        words: &["scf", "compare", "--native", "--native"],
-        input: b"",
-        output: "error: the argument '--native' cannot be used multiple times\n\n\
-            Usage: scf compare [OPTIONS]\n\nFor more information, try '--help'.\n",
-        status: 2,
-    },
-    Case {
-        words: &["scf", "compare", "--native=1"],
-        input: b"",
-        output: "error: unexpected value '1' for '--native' found; no more were expected\n\n\
-            Usage: scf compare --native\n\nFor more information, try '--help'.\n",
-        status: 2,
-    },
-];
-
-#[test]
-fn words(rt: HostRuntime) {
-    pass(&rt, rt.alloc(), WORDS);
 }

@@ -12,7 +12,6 @@ use scf_test_fixtures::rules::{
 use std::alloc::Global;
 use std::process::Abort;
 use std::str;
-use std::test::Fail;
 
 /// Rules without conditions. The default of most profiles here is ERRNO 1, as that of the last.
 const LOGGED: &[Rule] = &[(LOG, &[])];
@@ -276,38 +275,31 @@ fn steps_of(text: &str, answer: &str) -> Option<u64> {
 }
 
 /// That a call with each of the arguments is answered by the rules, and within the search bound.
-fn is_answered(
-    rt: &impl Abort,
-    alloc: Global,
-    compiled: &Compiled<'_>,
-    arch: u32,
-    nr: u32,
-) -> Result<(), Fail> {
+fn is_answered(rt: &impl Abort, alloc: Global, compiled: &Compiled<'_>, arch: u32, nr: u32) {
     let stated = compiled.stated;
     let bound = search_bound(stated.stretches);
     for arguments in compiled.arguments {
         let [a0, a1, a2, a3, a4, a5] = arguments;
         let options = format!(in alloc;
             "--arch {arch} --nr {nr} --a0 {a0} --a1 {a1} --a2 {a2} --a3 {a3} --a4 {a4} --a5 {a5}"
-        )?;
-        let ended = run_with(alloc, "run", options.as_str(), compiled.filter)?;
-        let text = str::from_utf8(ended.text())?;
-        let wanted = answer_text(alloc, answer(stated, arch, nr, arguments))?;
+        ).expect(rt, "no fault");
+        let ended = run_with(rt, alloc, "run", options.as_str(), compiled.filter);
+        let text = str::from_utf8(ended.text()).expect(rt, "no fault");
+        let wanted = answer_text(alloc, answer(stated, arch, nr, arguments)).expect(rt, "no fault");
         let steps = steps_of(text, wanted.as_str());
         assert!(rt;
             ended.status == 0 && steps.is_some_and(|steps| steps <= bound),
             "{options}: {text}, not {wanted} within {bound}"
         );
     }
-    Ok(())
 }
 
 /// That each number of the stretches, their neighbours and the ends are answered so.
-fn are_answered(rt: &impl Abort, alloc: Global, compiled: &Compiled<'_>) -> Result<(), Fail> {
+fn are_answered(rt: &impl Abort, alloc: Global, compiled: &Compiled<'_>) {
     for stretch in compiled.stated.stretches {
         let end = stretch.first.saturating_add(stretch.count);
         for nr in stretch.first.saturating_sub(1)..=end {
-            is_answered(rt, alloc, compiled, X86_64, nr)?;
+            is_answered(rt, alloc, compiled, X86_64, nr);
         }
     }
     for (arch, nr) in [
@@ -318,9 +310,8 @@ fn are_answered(rt: &impl Abort, alloc: Global, compiled: &Compiled<'_>) -> Resu
         (I386, 0),
         (I386, LAST),
     ] {
-        is_answered(rt, alloc, compiled, arch, nr)?;
+        is_answered(rt, alloc, compiled, arch, nr);
     }
-    Ok(())
 }
 
 /// That a profile is compiled, answered and compared as it should be.
@@ -329,60 +320,58 @@ fn is_compiled(
     alloc: Global,
     stated: &Stated<'_>,
     arguments: &'static [[u64; 6]],
-) -> Result<(), Fail> {
-    let text = profile_text(alloc, stated)?;
-    let table = table_text(alloc, stated.stretches)?;
-    let input = bundle_of(alloc, None, text.as_bytes(), table.as_bytes())?;
+) {
+    let text = profile_text(alloc, stated).expect(rt, "no fault");
+    let table = table_text(alloc, stated.stretches).expect(rt, "no fault");
+    let input = bundle_of(rt, alloc, None, text.as_bytes(), table.as_bytes());
     let ended = run(alloc, &["scf", "compile"], &input, usize::MAX);
-    assert_eq!(rt; ended.status, 0, "{text}");
+    assert!(rt; ended.status == 0, "{text}");
     let filter = ended.text();
     let compiled = Compiled {
         filter,
         stated,
         arguments,
     };
-    are_answered(rt, alloc, &compiled)?;
-    let input = bundle_of(alloc, Some(filter), text.as_bytes(), table.as_bytes())?;
-    let effort = effort(alloc, filter, stated.stretches)?;
-    let limit = format!(in alloc; "--limit {effort}")?;
-    let ended = run_with(alloc, "compare", limit.as_str(), &input)?;
+    are_answered(rt, alloc, &compiled);
+    let input = bundle_of(rt, alloc, Some(filter), text.as_bytes(), table.as_bytes());
+    let effort = effort(alloc, filter, stated.stretches).expect(rt, "no fault");
+    let limit = format!(in alloc; "--limit {effort}").expect(rt, "no fault");
+    let ended = run_with(rt, alloc, "compare", limit.as_str(), &input);
     assert!(rt; ended.is(b"same\n", 0, 0), "{text}: {ended:?}");
-    Ok(())
 }
 
-fn are_compiled(rt: &impl Abort, alloc: Global, subjects: &[Subject]) -> Result<(), Fail> {
+fn are_compiled(rt: &impl Abort, alloc: Global, subjects: &[Subject]) {
     for (default, patterns, arguments) in subjects {
-        let stretches = stretches_of(alloc, patterns)?;
+        let stretches = stretches_of(alloc, patterns).expect(rt, "no fault");
         let stated = Stated {
             default: *default,
             stretches: &stretches,
         };
-        is_compiled(rt, alloc, &stated, arguments)?;
+        is_compiled(rt, alloc, &stated, arguments);
     }
-    Ok(())
 }
 
 #[test]
-fn dense_numbers(rt: HostRuntime) -> Result<(), Fail> {
+fn dense_numbers(rt: HostRuntime) {
     are_compiled(&rt, rt.alloc(), DENSE)
 }
 
 #[test]
-fn sparse_numbers(rt: HostRuntime) -> Result<(), Fail> {
+fn sparse_numbers(rt: HostRuntime) {
     are_compiled(&rt, rt.alloc(), SPARSE)
 }
 
 #[test]
-fn mixed_numbers(rt: HostRuntime) -> Result<(), Fail> {
+fn mixed_numbers(rt: HostRuntime) {
     are_compiled(&rt, rt.alloc(), MIXED)
 }
 
 #[test]
-fn rules_with_conditions(rt: HostRuntime) -> Result<(), Fail> {
+fn rules_with_conditions(rt: HostRuntime) {
     are_compiled(&rt, rt.alloc(), CONDITIONS)
 }
 
 #[test]
-fn long_rules(rt: HostRuntime) -> Result<(), Fail> {
+fn long_rules(rt: HostRuntime) {
     are_compiled(&rt, rt.alloc(), LONG)
 }

@@ -9,7 +9,6 @@ use scf_test_fixtures::filters::ALLOW_ALL;
 use scf_test_fixtures::profiles::{DEFAULT_ALLOW, READ_TABLE};
 use scf_tool::{Outcome, VerifyFault, verify};
 use std::alloc::Global;
-use std::test::Fail;
 
 /// What a filter, a table and a profile come to.
 fn verified(
@@ -58,20 +57,19 @@ const FAULTS: &[(usize, &str, &str, VerifyFault)] = &[
 ];
 
 #[test]
-fn faults_in_order(rt: HostRuntime) -> Result<(), Fail> {
-    let filter = filter_of(rt.alloc(), ALLOW_ALL)?;
+fn faults_in_order(rt: HostRuntime) {
+    let filter = filter_of(&rt, rt.alloc(), ALLOW_ALL);
     for (given, table, profile, wanted) in FAULTS {
         let given = filter.get(..*given).expect(&rt, "so many bytes");
         let answer = verified(rt.alloc(), given, table, profile);
         assert!(rt; is_fault(answer, *wanted), "{wanted:?}");
     }
-    Ok(())
 }
 
 /// Each reader fails after each count of bytes.
 #[test]
-fn failing_readers(rt: HostRuntime) -> Result<(), Fail> {
-    let filter = filter_of(rt.alloc(), ALLOW_ALL)?;
+fn failing_readers(rt: HostRuntime) {
+    let filter = filter_of(&rt, rt.alloc(), ALLOW_ALL);
     let (table, profile) = (READ_TABLE.as_bytes(), DEFAULT_ALLOW.as_bytes());
     let reads = [
         (filter.as_slice(), VerifyFault::FilterRead(ReadFault::Read)),
@@ -94,5 +92,4 @@ fn failing_readers(rt: HostRuntime) -> Result<(), Fail> {
             assert!(rt; is_fault(answer, *wanted), "{wanted:?} after {share}");
         }
     }
-    Ok(())
 }

@@ -6,7 +6,6 @@ use scf_test_fixtures::profiles::{EXTREMES, READ_TABLE, READ_WRITE_TABLE};
 use std::alloc::Global;
 use std::process::Abort;
 use std::str;
-use std::test::Fail;
 
 /// A profile and its table, with calls and the answers to them.
 struct Worked {
@@ -62,44 +61,35 @@ const WORKED: &[Worked] = &[
     },
 ];
 
-fn ask(rt: &impl Abort, alloc: Global, worked: &Worked) -> Result<(), Fail> {
-    let input = bundle(alloc, &[worked.profile, worked.table])?;
+fn ask(rt: &impl Abort, alloc: Global, worked: &Worked) {
+    let input = bundle(rt, alloc, &[worked.profile, worked.table]);
     let filter = run(alloc, &["scf", "compile"], &input, usize::MAX);
-    assert_eq!(rt; filter.status, 0);
+    assert!(rt; filter.status == 0);
     let mut stack = Vec::new(alloc);
-    add(alloc, &mut stack, "filter", filter.text())?;
+    add(rt, alloc, &mut stack, "filter", filter.text());
     for (options, answer) in worked.calls {
-        let ended = run_with(alloc, "decide", options, &stack)?;
+        let ended = run_with(rt, alloc, "decide", options, &stack);
         assert!(rt; ended.is(answer.as_bytes(), 0, 0), "{options}: {ended:?}");
     }
-    Ok(())
 }
 
 #[test]
-fn compiled_profiles(rt: HostRuntime) -> Result<(), Fail> {
+fn compiled_profiles(rt: HostRuntime) {
     for worked in WORKED {
-        ask(&rt, rt.alloc(), worked)?;
+        ask(&rt, rt.alloc(), worked);
     }
-    Ok(())
 }
 
 /// Compares these parts.
-fn compared(
-    rt: &impl Abort,
-    alloc: Global,
-    parts: &[Part],
-    text: &str,
-    status: u8,
-) -> Result<(), Fail> {
-    let input = bundle(alloc, parts)?;
+fn compared(rt: &impl Abort, alloc: Global, parts: &[Part], text: &str, status: u8) {
+    let input = bundle(rt, alloc, parts);
     let ended = run(alloc, &["scf", "compare"], &input, usize::MAX);
     assert!(rt; ended.is(text.as_bytes(), status, 0), "{ended:?}");
-    Ok(())
 }
 
 /// Four architectures, of which three are left out, and a name that the table lacks.
 #[test]
-fn left_out(rt: HostRuntime) -> Result<(), Fail> {
+fn left_out(rt: HostRuntime) {
     let parts = [
         NATIVE,
         Part::Profile(
@@ -116,7 +106,7 @@ fn left_out(rt: HostRuntime) -> Result<(), Fail> {
 /// A filter that multiplies an argument needn't be decided. Where it isn't, a place of the filter is named, with
 /// status 4.
 #[test]
-fn undecided(rt: HostRuntime) -> Result<(), Fail> {
+fn undecided(rt: HostRuntime) {
     let parts = [
         Part::Native(
             "ld [16]; mul #0x9e3779b1; xor #0x12345678; mul #0x85ebca6b
@@ -125,13 +115,12 @@ fn undecided(rt: HostRuntime) -> Result<(), Fail> {
         ALL,
         NO_TABLE,
     ];
-    let input = bundle(rt.alloc(), &parts)?;
+    let input = bundle(&rt, rt.alloc(), &parts);
     let ended = run(rt.alloc(), &["scf", "compare"], &input, usize::MAX);
-    let text = str::from_utf8(ended.text())?;
+    let text = str::from_utf8(ended.text()).expect(&rt, "no fault");
     let place = match text.strip_prefix("undecided at ") {
         Some(rest) => rest.trim_end().parse::<usize>().unwrap_or(usize::MAX),
         None => usize::MAX,
     };
     assert!(rt; place < 13 && ended.is(text.as_bytes(), 4, 0), "{text}");
-    Ok(())
 }

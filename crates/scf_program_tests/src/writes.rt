@@ -7,7 +7,6 @@ use scf_tool::{refuse_words, run_command};
 use std::alloc::Global;
 use std::io;
 use std::process::Abort;
-use std::test::Fail;
 
 /// Words, and what is asked with the filter that the assembler makes of the text.
 const ON_FILTERS: &[(&[&str], &str)] = &[
@@ -62,31 +61,29 @@ fn is_one_write(rt: &impl Abort, alloc: Global, words: &[&str], input: &[u8]) {
     let mut reader = Reader::new(input, usize::MAX, Failing::Never);
     let mut out = Writer::new(alloc, usize::MAX, Failing::After(0));
     let status = run_command(alloc, words, &mut reader, &mut out);
-    assert_eq!(rt;
-        (status, out.asks(), out.taken().len()),
-        (3, 1, 0),
+    assert!(rt;
+        (status, out.asks(), out.taken().len()) == (3, 1, 0),
         "{words:?}"
     );
 }
 
 #[test]
-fn one_write(rt: HostRuntime) -> Result<(), Fail> {
+fn one_write(rt: HostRuntime) {
     for (words, text) in ON_FILTERS {
-        is_one_write(&rt, rt.alloc(), words, &filter_of(rt.alloc(), text)?);
+        is_one_write(&rt, rt.alloc(), words, &filter_of(&rt, rt.alloc(), text));
     }
     for (words, parts) in ON_BUNDLES {
-        is_one_write(&rt, rt.alloc(), words, &bundle(rt.alloc(), parts)?);
+        is_one_write(&rt, rt.alloc(), words, &bundle(&rt, rt.alloc(), parts));
     }
     for words in ALONE {
         is_one_write(&rt, rt.alloc(), words, b"");
     }
-    let longest = long_filter(rt.alloc(), 4095)?;
+    let longest = long_filter(&rt, rt.alloc(), 4095);
     for words in [["scf", "dis"].as_slice(), &["scf", "run", "--path"]] {
         is_one_write(&rt, rt.alloc(), words, &longest);
     }
     is_one_write(&rt, rt.alloc(), &["scf", "asm"], b"ld [0]; ret a");
     is_one_write(&rt, rt.alloc(), &["scf", "asm"], b"ld [0]; ret b");
-    Ok(())
 }
 
 /// So it is where the words can't be had.
@@ -95,6 +92,6 @@ fn one_write_of_refused_words(rt: HostRuntime) {
     for kind in [io::ErrorKind::InvalidData, io::ErrorKind::OutOfMemory] {
         let mut out = Writer::new(rt.alloc(), usize::MAX, Failing::Never);
         refuse_words(&io::Error::from(kind), &mut out);
-        assert_eq!(rt; out.asks(), 1);
+        assert!(rt; out.asks() == 1);
     }
 }
