@@ -1,6 +1,6 @@
 //! Filters against profiles by each of the three relations, in each scope.
 
-use crate::fixtures::{profile_of, stack_of};
+use crate::fixtures::{assembled, profile_of, push, stack_of};
 use scf_compare::{Relation, Scope, Verdict, compare_by, compare_stack, effort_stack};
 use scf_facts::{AtomList, WordFacts, WordSets};
 use scf_insn::Answer;
@@ -78,6 +78,28 @@ fn holds(relation: Relation, filter: (u32, u8), profile: (u32, u8)) -> bool {
     }
 }
 
+/// A stack of one filter that answers each call so.
+fn answering(rt: &impl Abort, alloc: Global, answer: u32) -> FilterStack {
+    let text = format!(in alloc; "ret #{answer}").expect(rt, "no fault");
+    let mut stack = FilterStack::new(alloc);
+    push(rt, &mut stack, assembled(rt, alloc, "", text.as_str()));
+    stack
+}
+
+/// Whether a verdict says that a relation holds of the answers of a filter and a profile to each call, or shows them
+/// where it doesn't.
+fn says(verdict: Verdict, answers: (Answer, Answer), holds: bool) -> bool {
+    match verdict {
+        Verdict::Same { .. } => holds,
+        Verdict::Differs {
+            filter,
+            profile,
+            ..
+        } => !holds && (filter, profile) == answers,
+        _ => false,
+    }
+}
+
 /// Compares a filter that answers each call so with a profile that does, and asks both relations of two answers.
 fn compare_answers<F: WordFacts>(
     rt: &impl Abort,
@@ -86,37 +108,18 @@ fn compare_answers<F: WordFacts>(
     action: &str,
     stated: (u32, u8),
 ) {
-    let (answer, _) = filter;
-    let (stated_answer, _) = stated;
-    let text = format!(in alloc; "ret #{answer}").expect(rt, "no fault");
-    let mut stack = FilterStack::new(alloc);
-    crate::fixtures::push(
-        rt,
-        &mut stack,
-        crate::fixtures::assembled(rt, alloc, "", text.as_str()),
-    );
-    let profile_text = format!(in alloc; "{{\"defaultAction\":\"{action}\"}}").expect(
-        rt, "no fault",
-    );
-    let profile = profile_of(rt, alloc, "", profile_text.as_str());
+    let stack = answering(rt, alloc, filter.0);
+    let text = format!(in alloc; "{{\"defaultAction\":\"{action}\"}}").expect(rt, "no fault");
+    let profile = profile_of(rt, alloc, "", text.as_str());
+    let answers = (Answer(filter.0), Answer(stated.0));
     for relation in RELATIONS {
         let scope = Scope::Native;
-        let verdict = compare_by::<F>(alloc, &stack, &profile, scope, relation, 8).expect(
-            rt, "no fault",
-        );
+        let verdict = compare_by::<F>(alloc, &stack, &profile, scope, relation, 8);
+        let verdict = verdict.expect(rt, "no fault");
         let wanted = holds(relation, filter, stated);
-        let is_wanted = match verdict {
-            Verdict::Same { .. } => wanted,
-            Verdict::Differs {
-                filter,
-                profile,
-                ..
-            } => !wanted && filter == Answer(answer) && profile == Answer(stated_answer),
-            _ => false,
-        };
-        assert!(rt; is_wanted, "{answer:#x} {action} {relation:?}: {verdict:?}");
-        let asked = relation.holds(Answer(answer), Answer(stated_answer));
-        assert!(rt; asked == wanted, "{answer:#x} {action} {relation:?}");
+        let are_so = says(verdict, answers, wanted)
+            && relation.holds(answers.0, answers.1) == wanted;
+        assert!(rt; are_so, "{answers:?} {relation:?}: {verdict:?}");
     }
 }
 

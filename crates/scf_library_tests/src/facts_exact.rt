@@ -1,6 +1,6 @@
 //! What sets of numbers tell of wide masks, and what they find where several masks are refuted.
 
-use crate::word_4::{ALL_BITS, above, at_least, equal, learn, tell, words_with};
+use crate::word_4::{ALL_BITS, above, are_told, at_least, equal, learn, words_with};
 use scf_facts::{Atom, Tell, WordFacts, WordSets};
 use std::process::Abort;
 
@@ -110,18 +110,27 @@ fn a_narrow_range_is_refuted(rt: HostRuntime) {
 fn wide_masks_are_told(rt: HostRuntime) {
     let mut facts = WordSets::all(rt.alloc()).expect(&rt, "no fault");
     learn(&rt, &mut facts, above(0xff), false);
-    assert!(rt; tell(&rt, &facts, equal(0xffff_ff00, 0)) == Tell::Always);
-    assert!(rt; tell(&rt, &facts, equal(0xffff_fe00, 0)) == Tell::Always);
-    assert!(rt; tell(&rt, &facts, equal(0x8000_0100, 0)) == Tell::Always);
-    assert!(rt; tell(&rt, &facts, equal(0x8000_0100, 0x100)) == Tell::Never);
-    assert!(rt; tell(&rt, &facts, equal(0xffff_ff80, 0)) == Tell::Maybe);
-    assert!(rt; tell(&rt, &facts, equal(0x8000_0080, 0)) == Tell::Maybe);
+    let told = [
+        (equal(0xffff_ff00, 0), Tell::Always),
+        (equal(0xffff_fe00, 0), Tell::Always),
+        (equal(0x8000_0100, 0), Tell::Always),
+        (equal(0x8000_0100, 0x100), Tell::Never),
+        (equal(0xffff_ff80, 0), Tell::Maybe),
+        (equal(0x8000_0080, 0), Tell::Maybe),
+    ];
+    are_told(&rt, &facts, &told);
     learn(&rt, &mut facts, at_least(0xf0), true);
-    assert!(rt; tell(&rt, &facts, equal(0xf0, 0xf0)) == Tell::Always);
-    assert!(rt; tell(&rt, &facts, equal(0x18f0, 0xf0)) == Tell::Always);
-    assert!(rt; tell(&rt, &facts, equal(0xf8, 0xf0)) == Tell::Maybe);
+    let told = [
+        (equal(0xf0, 0xf0), Tell::Always),
+        (equal(0x18f0, 0xf0), Tell::Always),
+        (equal(0xf8, 0xf0), Tell::Maybe),
+    ];
+    are_told(&rt, &facts, &told);
     learn(&rt, &mut facts, equal(8, 0), true);
-    assert!(rt; tell(&rt, &facts, equal(0xf8, 0xf0)) == Tell::Always);
-    assert!(rt; tell(&rt, &facts, equal(0xf8, 0xf8)) == Tell::Never);
-    assert!(rt; tell(&rt, &facts, equal(6, 6)) == Tell::Maybe);
+    let told = [
+        (equal(0xf8, 0xf0), Tell::Always),
+        (equal(0xf8, 0xf8), Tell::Never),
+        (equal(6, 6), Tell::Maybe),
+    ];
+    are_told(&rt, &facts, &told);
 }

@@ -1,6 +1,6 @@
 //! Facts of 5,000 learned answers, in each store: what they tell and pick behind each of them.
 
-use crate::word_4::{ALL_BITS, above, equal, learn, words_with};
+use crate::word_4::{ALL_BITS, above, are_told, equal, is_told, learn, words_with};
 use scf_facts::{Atom, AtomList, Tell, WordFacts, WordSets};
 use std::alloc::Global;
 use std::process::Abort;
@@ -14,12 +14,6 @@ const UNKNOWN: Atom = Atom::Eq {
     mask: ALL_BITS,
     value: 3,
 };
-
-/// That this is told of an atom on one of the sixteen words.
-fn is_told<F: WordFacts>(rt: &impl Abort, facts: &F, atom: Atom, wanted: Tell) {
-    assert!(rt; atom.word() < 16);
-    assert!(rt; facts.tell(atom) == wanted, "{atom:?}");
-}
 
 /// Bounds that fall, so that 0 is always allowed.
 fn falling_bounds<F: WordFacts>(rt: &impl Abort, alloc: Global) {
@@ -91,7 +85,7 @@ fn sets_of_many_intervals(rt: HostRuntime) {
         }
         assert!(rt; facts.pick() == words_with(least + 1));
     }
-    for (atom, wanted) in [
+    let told = [
         (equal(ALL_BITS, 0), Tell::Never),
         (equal(ALL_BITS, 10_001), Tell::Never),
         (equal(ALL_BITS, 10_002), Tell::Maybe),
@@ -100,9 +94,8 @@ fn sets_of_many_intervals(rt: HostRuntime) {
         (above(2499), Tell::Always),
         (above(2500), Tell::Maybe),
         (UNKNOWN, Tell::Maybe),
-    ] {
-        is_told(&rt, &facts, atom, wanted);
-    }
+    ];
+    are_told(&rt, &facts, &told);
     assert!(rt; !facts.is_empty());
 }
 

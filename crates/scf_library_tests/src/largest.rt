@@ -38,19 +38,24 @@ fn places(alloc: Global, count: u32) -> Result<(Vec<Insn>, Vec<u8>), AllocError>
 }
 
 #[test]
-fn filters_byte_by_byte(rt: HostRuntime) {
+fn filters_read_byte_by_byte(rt: HostRuntime) {
     let (insns, bytes) = places(rt.alloc(), 4096).expect(&rt, "no fault");
     assert!(rt; bytes.len() == 32768);
     let mut source = Reader::new(&bytes, 1, Failing::Never);
     let found = read_program(rt.alloc(), &mut source).expect(&rt, "no fault");
     assert!(rt; found.as_slice() == insns.as_slice() && source.asks() == 32769);
-    let mut sink = Writer::new(rt.alloc(), 1, Failing::Never);
-    write_program(&insns, &mut sink).expect(&rt, "no fault");
-    assert!(rt; sink.taken() == bytes.as_slice() && sink.asks() == 32768);
     let (_insns, longer) = places(rt.alloc(), 4097).expect(&rt, "no fault");
     let mut source = Reader::new(&longer, 1, Failing::Never);
     let refused = read_program(rt.alloc(), &mut source);
     assert!(rt; refused.err() == Some(ReadFault::TooLong) && source.asks() == 32769);
+}
+
+#[test]
+fn filters_written_byte_by_byte(rt: HostRuntime) {
+    let (insns, bytes) = places(rt.alloc(), 4096).expect(&rt, "no fault");
+    let mut sink = Writer::new(rt.alloc(), 1, Failing::Never);
+    write_program(&insns, &mut sink).expect(&rt, "no fault");
+    assert!(rt; sink.taken() == bytes.as_slice() && sink.asks() == 32768);
 }
 
 #[test]
@@ -130,21 +135,24 @@ fn as_many_filters_as_a_stack_takes(rt: HostRuntime) {
     let native = call(0, X86_64, [0; 6]);
     assert!(rt; stack.len() == 6554 && stack.decide(&native) == Answer(ERRNO | 9));
     let more = vec![in rt.alloc(); insn(0x06, 0, 0, ALLOW); 1].expect(&rt, "no fault");
-    let refused = stack
-        .push(check(rt.alloc(), more).expect(&rt, "no fault"))
-        .err();
-    let fault = refused.map(|(fault, _)| fault);
+    let more = check(rt.alloc(), more).expect(&rt, "no fault");
+    let fault = stack.push(more).err().map(|(fault, _)| fault);
     assert!(rt; fault == Some(PushFault::TooMany { total: 32771 }) && stack.len() == 6554);
-    let profile = profile_of(&rt, rt.alloc(), "", DEFAULT_ALLOW);
+}
+
+/// What the comparison of such a stack with a profile that allows all says of the native calls.
+fn compared(rt: &impl Abort, alloc: Global, second: u32) -> Verdict {
+    let stack = full_stack(rt, alloc, second);
+    let profile = profile_of(rt, alloc, "", DEFAULT_ALLOW);
     // each filter has one path, and the profile a default answer alone
     assert!(rt; effort_stack(&stack, &profile) == 8);
-    let verdict = compare_stack::<WordSets>(
-        rt.alloc(),
-        &stack,
-        &profile,
-        Scope::Native,
-        1_000_000,
-    ).expect(&rt, "no fault");
+    let verdict = compare_stack::<WordSets>(alloc, &stack, &profile, Scope::Native, 8);
+    verdict.expect(rt, "no fault")
+}
+
+#[test]
+fn full_stacks_beside_a_profile(rt: HostRuntime) {
+    let verdict = compared(&rt, rt.alloc(), ERRNO | 9);
     let is_shown = match verdict {
         Verdict::Differs {
             call,
@@ -154,14 +162,7 @@ fn as_many_filters_as_a_stack_takes(rt: HostRuntime) {
         _ => false,
     };
     assert!(rt; is_shown, "{verdict:?}");
-    let same = full_stack(&rt, rt.alloc(), ALLOW);
-    let verdict = compare_stack::<WordSets>(
-        rt.alloc(),
-        &same,
-        &profile,
-        Scope::Native,
-        1_000_000,
-    ).expect(&rt, "no fault");
+    let verdict = compared(&rt, rt.alloc(), ALLOW);
     assert!(rt; matches!(verdict, Verdict::Same { .. }), "{verdict:?}");
 }
 

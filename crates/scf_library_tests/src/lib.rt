@@ -1,9 +1,9 @@
 //! Tests of the libraries' public calls. They stand apart from the libraries, since the gate proves a crate that has
 //! tests twice.
 //!
-//! A large table stands behind a call here: a proof looks into a constant, and not into what a call gives. Equality is
-//! asserted by `assert!`, and a result is taken by `expect`: `assert_eq!` and `?` take twice the proof, the one for what
-//! it prints, the other since all that is owned is dropped on one way more.
+//! A large table stands behind a call here: a proof looks into a constant, and not into what a call gives. What is
+//! equal is asserted by `assert!`, and a result taken by `expect`: `assert_eq!` and `?` take twice the proof, the one
+//! for what it prints, the other since what is owned is dropped on one way more.
 #![tactic(auto)]
 
 #[cfg(test)]

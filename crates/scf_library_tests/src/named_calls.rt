@@ -2,6 +2,7 @@
 
 use crate::fixtures::table;
 use crate::x86_64_table::x86_64_table;
+use scf_profile::NamedCall;
 
 /// A number, and its names.
 type Call = (u32, &'static [&'static str]);
@@ -45,6 +46,11 @@ fn tables() -> &'static [(&'static str, &'static [Call])] {
     TABLES
 }
 
+/// Whether a call has this number and these names.
+fn is_call(call: &NamedCall<'_>, number: u32, names: &[&str]) -> bool {
+    call.number == number && call.names.as_slice() == names
+}
+
 #[test]
 fn calls_by_number(rt: HostRuntime) {
     for (text, wanted) in tables() {
@@ -52,8 +58,7 @@ fn calls_by_number(rt: HostRuntime) {
         let calls = names.calls(rt.alloc()).expect(&rt, "no fault");
         assert!(rt; calls.len() == wanted.len(), "{text}");
         for (call, (number, names)) in calls.iter().zip(*wanted) {
-            assert!(rt; call.number == *number, "{text}");
-            assert!(rt; call.names.as_slice() == *names, "{text}");
+            assert!(rt; is_call(call, *number, *names), "{text}");
         }
     }
 }
@@ -66,13 +71,13 @@ fn calls_of_x86_64(rt: HostRuntime) {
     assert!(rt; calls.len() == 362);
     for (call, line) in calls.iter().zip(x86_64_table().lines()) {
         let (name, number) = line.split_once(' ').expect(&rt, "a name and a number");
-        assert!(rt; number.parse::<u32>().ok() == Some(call.number), "{line}");
-        assert!(rt; call.names.as_slice() == [name].as_slice(), "{line}");
+        let number = number.parse::<u32>().expect(&rt, "a number");
+        assert!(rt; is_call(call, number, &[name]), "{line}");
     }
-    let first = calls.first().expect(&rt, "a first call");
-    let last = calls.last().expect(&rt, "a last call");
-    assert!(rt; first.number == 0 && first.names.as_slice() == ["read"].as_slice());
-    assert!(rt;
-        last.number == 450 && last.names.as_slice() == ["set_mempolicy_home_node"].as_slice()
-    );
+    let first = calls
+        .first()
+        .is_some_and(|call| is_call(call, 0, &["read"]));
+    let end = ["set_mempolicy_home_node"];
+    let last = calls.last().is_some_and(|call| is_call(call, 450, &end));
+    assert!(rt; first && last);
 }

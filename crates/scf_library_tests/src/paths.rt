@@ -104,26 +104,27 @@ fn longest_paths(rt: HostRuntime) {
     let each = longest(&rt, rt.alloc(), load, jump_on, ALLOW);
     let path = trace(rt.alloc(), &each, &call).expect(&rt, "no fault");
     assert!(rt; path.answer == Answer(ALLOW) && path.places.len() == 4096);
-    assert!(rt;
-        path.places
-            .iter()
-            .enumerate()
-            .all(|(steps, place)| *place == steps)
-    );
-    // Each second place is jumped over, but for the last: from 4094 on a test goes to the next.
+    let mut places = path.places.iter().enumerate();
+    assert!(rt; places.all(|(steps, place)| *place == steps));
+}
+
+/// Jumps over each second place, but for the last: from 4094 on a test goes to the next.
+fn over_each_second(rt: &impl Abort, alloc: Global) -> Program {
     let (over, returned) = (insn(0x15, 1, 1, 0), insn(0x06, 0, 0, 0));
-    let mut insns = Vec::new(rt.alloc());
+    let mut insns = Vec::new(alloc);
     for at in 0..4094u32 {
-        insns
-            .push(if at % 2 == 0 { over } else { returned })
-            .expect(&rt, "no fault");
+        let one = if at % 2 == 0 { over } else { returned };
+        insns.push(one).expect(rt, "no fault");
     }
-    insns.push(load).expect(&rt, "no fault");
-    insns
-        .push(insn(0x06, 0, 0, ERRNO_1))
-        .expect(&rt, "no fault");
-    let every_second = check(rt.alloc(), insns).expect(&rt, "no fault");
-    let path = trace(rt.alloc(), &every_second, &call).expect(&rt, "no fault");
+    let end = [insn(0x00, 0, 0, 9), insn(0x06, 0, 0, ERRNO_1)];
+    insns.extend_from_slice(&end).expect(rt, "no fault");
+    check(alloc, insns).expect(rt, "no fault")
+}
+
+#[test]
+fn paths_over_each_second_place(rt: HostRuntime) {
+    let program = over_each_second(&rt, rt.alloc());
+    let path = trace(rt.alloc(), &program, &call(0, X86_64, [0; 6])).expect(&rt, "no fault");
     assert!(rt; path.answer == Answer(ERRNO_1) && path.places.len() == 2049);
     let mut jumps = path.places.iter().take(2048).enumerate();
     assert!(rt; jumps.all(|(steps, place)| place / 2 == steps && place % 2 == 0));

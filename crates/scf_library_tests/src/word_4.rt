@@ -36,6 +36,18 @@ pub(crate) fn tell<F: WordFacts>(rt: &impl Abort, facts: &F, atom: Atom) -> Tell
     facts.tell(atom)
 }
 
+/// That this is told of an atom on one of the sixteen words.
+pub(crate) fn is_told<F: WordFacts>(rt: &impl Abort, facts: &F, atom: Atom, wanted: Tell) {
+    assert!(rt; tell(rt, facts, atom) == wanted, "{atom:?}");
+}
+
+/// The same of each of these.
+pub(crate) fn are_told<F: WordFacts>(rt: &impl Abort, facts: &F, told: &[(Atom, Tell)]) {
+    for (atom, wanted) in told {
+        is_told(rt, facts, *atom, *wanted);
+    }
+}
+
 /// The words that are 0 save word 4.
 pub(crate) fn words_with(value: u32) -> Option<[u32; 16]> {
     let mut words = [0; 16];

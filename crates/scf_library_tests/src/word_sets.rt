@@ -1,6 +1,6 @@
 //! What sets of numbers for each word tell, see and pick.
 
-use crate::word_4::{ALL_BITS, above, at_least, equal, learn, tell, words_with};
+use crate::word_4::{ALL_BITS, above, at_least, equal, is_told, learn, tell, words_with};
 use Asked::{Above, AtLeast, Equal};
 use Tell::{Always, Maybe, Never};
 use scf_facts::{Atom, Tell, WordFacts, WordSets};
@@ -39,6 +39,15 @@ struct Row {
     pick: u32,
 }
 
+/// Checks what is told and picked after a row's answers.
+fn check_learned(rt: &impl Abort, facts: &WordSets, row: &Row) {
+    for (asked, expected) in row.tells {
+        is_told(rt, facts, asked.atom(), *expected);
+    }
+    let is_picked = !facts.is_empty() && facts.pick() == words_with(row.pick);
+    assert!(rt; is_picked, "after {:?}", row.learned);
+}
+
 /// Checks what is told after a row's answers, and that nothing is known of them before a mark.
 fn check_row(rt: &impl Abort, alloc: Global, row: &Row) {
     let mut facts = WordSets::all(alloc).expect(rt, "no fault");
@@ -46,27 +55,18 @@ fn check_row(rt: &impl Abort, alloc: Global, row: &Row) {
     for (asked, holds) in row.learned {
         learn(rt, &mut facts, asked.atom(), *holds);
     }
-    for (asked, expected) in row.tells {
-        assert!(rt;
-            tell(rt, &facts, asked.atom()) == *expected,
-            "{asked:?} after {:?}",
-            row.learned
-        );
-    }
-    assert!(rt; !facts.is_empty(), "after {:?}", row.learned);
-    assert!(rt;
-        facts.pick() == words_with(row.pick),
-        "after {:?}",
-        row.learned
-    );
+    check_learned(rt, &facts, row);
     undo(rt, &mut facts);
     let nothing_learned = WordSets::all(alloc).expect(rt, "no fault");
     for (asked, _) in row.tells {
-        let atom = asked.atom();
-        assert!(rt; tell(rt, &facts, atom) == tell(rt, &nothing_learned, atom));
+        is_told(
+            rt,
+            &facts,
+            asked.atom(),
+            tell(rt, &nothing_learned, asked.atom()),
+        );
     }
-    assert!(rt; !facts.is_empty());
-    assert!(rt; facts.pick() == Some([0; 16]));
+    assert!(rt; !facts.is_empty() && facts.pick() == Some([0; 16]));
 }
 
 /// Answers that end in intervals.
