@@ -236,6 +236,7 @@ impl Image {
             holds: true,
         }
     }
+
     /// Whether it is on the arc from one number up to another, as an atom about its word, where it is the whole word.
     pub(crate) fn is_on_arc(self, first: u32, last: u32) -> Decision
         requires { IsImage self }

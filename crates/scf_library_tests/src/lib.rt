@@ -27,6 +27,8 @@ mod conflicts;
 #[cfg(test)]
 mod facts;
 #[cfg(test)]
+mod facts_arcs;
+#[cfg(test)]
 mod facts_exact;
 #[cfg(test)]
 mod facts_largest;

@@ -24,6 +24,15 @@ pub(crate) fn at_least(value: u32) -> Atom {
     Atom::Ge { word: 4, value }
 }
 
+/// An `Arc` of word 4.
+pub(crate) fn arc(first: u32, last: u32) -> Atom {
+    Atom::Arc {
+        word: 4,
+        first,
+        last,
+    }
+}
+
 /// Learns an answer of an atom on one of the sixteen words.
 pub(crate) fn learn<F: WordFacts>(rt: &impl Abort, facts: &mut F, atom: Atom, holds: bool) {
     assert!(rt; atom.word() < 16);
