@@ -8,7 +8,6 @@ use Rattle.std.proofs.lemmas.Bool.{eq-eqb, eqb-true}
 use Rattle.std.proofs.lemmas.Bool.Decides.{nat_tests}
 use Rattle.std.proofs.lemmas.Nat.{and_assoc, and_le_r, or_block, or_lt, or_shr, xor_lt, xor_shr, le_or_l, le_or_r, pow_pos}
 use Rattle.std.proofs.lemmas.Nat.Bits.{bit_at_and, bit_at_or, bit_at_xor, bit_at-lt, same_from_bits}
-use Rattle.scf_compare.proofs.Bits.{whole_word}
 use Rattle.scf_compare.specs.declared.image.Image.{Image}
 use Rattle.scf_compare.specs.internal.Images.{AreShiftedAlike, shifted_word}
 use Rattle.scf_compare.proofs.Images.{mask_within, xor_scaled}
@@ -177,12 +176,6 @@ never_zero a w isnt = (
 
 pub above_zero : (x : ℕ) → not (eqb x 0) ≡ nat_lt 0 x
 above_zero x = grind (arith, nat_tests)
-
-pub at_least_one : (x : ℕ) → not (eqb x 0) ≡ not (nat_lt x 1)
-at_least_one x = grind (arith, nat_tests)
-
-pub any_bit : (x : ℕ) → x < 2 ^ 32 → not (eqb x 0) ≡ not (eqb (bit_and x 4294967295) 0)
-any_bit x fits = ap (λ n. not (eqb n 0)) (whole_word x fits)
 
 or_zero : (a b : ℕ) → (bit_or a b ≡ 0) ↔ ((a ≡ 0) × (b ≡ 0))
 or_zero a b = (
