@@ -5,7 +5,6 @@ mod JointLemmas
 pub mod HeaderLemmas
 mod OptionLemmas
 mod PartyLemmas
-mod ReadLemmas
 pub mod StackLemmas
 mod CommandLineLemmas
 pub mod Refusals

@@ -2,12 +2,14 @@
 use Rattle.std.proofs.Common.{refl}
 use Rattle.std.specs.Prelude.{ℕ, List, Option}
 use Rattle.scf_insn.specs.declared.insn.Insn.{Insn}
-use Rattle.scf_profile.specs.Profile.{Profile}
+use Rattle.scf_profile.specs.Profile.{Profile as Answering}
 use Rattle.scf_profile.specs.Table.{Names}
 use Rattle.scf_tool.specs.declared.parties.Parties.{Parties}
-use Rattle.scf_tool.specs.declared.verification.VerifyFault.TheVariants.{Memory}
-use Rattle.scf_tool.specs.VerifyingStacks.{AreComparedParties, IsRefusedStack}
-use Rattle.scf_tool.specs.internal.Verification.{AreParties}
+use Rattle.scf_tool.specs.declared.verification.VerifyFault.{VerifyFault}
+use Rattle.scf_tool.specs.declared.verification.VerifyFault.TheVariants.{FilterRead, Check, Stack, TableRead, Table}
+use Rattle.scf_tool.specs.declared.verification.VerifyFault.TheVariants.{ProfileRead, Profile, Memory}
+use Rattle.scf_tool.specs.VerifyingStacks.{AreComparedParties, HasSomeStack, IsRefusedStack}
+use Rattle.scf_tool.specs.internal.Verification.{AreParties, IsUnstated}
 
 module _ (filters : List (Option (List ℕ))) (table profile : Option (List ℕ)) where
   -- once they are read, only memory can be refused
@@ -19,7 +21,7 @@ module _ (filters : List (Option (List ℕ))) (table profile : Option (List ℕ)
   )
 
   -- and what holds of them is said of their bytes
-  pub parties_are_compared : (parties : Parties) (holds : List (List Insn) → Names → Profile → Type 0)
+  pub parties_are_compared : (parties : Parties) (holds : List (List Insn) → Names → Answering → Type 0)
       → AreParties filters table profile parties → holds parties.stack parties.names parties.loaded.profile
       → AreComparedParties filters table profile parties.loaded.skipped parties.loaded.other_architectures holds
   parties_are_compared parties holds read compared = record {
@@ -34,10 +36,14 @@ module _ (filters : List (Option (List ℕ))) (table profile : Option (List ℕ)
     compared = compared;
   }
 
-  -- where they are compared, only the memory of the report can be refused
-  pub compared_are_read : (left_out others : List (List ℕ)) (holds : List (List Insn) → Names → Profile → Type 0)
-      → AreComparedParties filters table profile left_out others holds → IsRefusedStack filters table profile Memory
-  compared_are_read left_out others holds compared = (
-    (compared.stack, compared.has_stack),
-    (compared.names, compared.is_table, compared.loaded, compared.is_loaded),
-  )
+  -- a stack whose table or profile states nothing
+  pub unstated : (fault : VerifyFault) → HasSomeStack filters → IsUnstated table profile fault
+      → IsRefusedStack filters table profile fault
+  unstated (TableRead why) has h = (has, h)
+  unstated (Table why) has h = (has, h)
+  unstated (ProfileRead why) has h = (has, h.0, h.1)
+  unstated (Profile why) has h = (has, h)
+  unstated (FilterRead why) has h = absurd h
+  unstated (Check why) has h = absurd h
+  unstated (Stack why) has h = absurd h
+  unstated Memory has h = absurd h

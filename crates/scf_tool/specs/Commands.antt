@@ -142,10 +142,16 @@ pub record IsDecided (call : CallRecord) (told : Option (List ℕ)) (answer : �
 abbrev pub IsNoStack : Option (List ℕ) → VerifyFault → Type 0
 IsNoStack told fault = (filters : List (List ℕ)) × HoldsBundle told filters [] [] × HasNoStack (map Some filters) fault
 
+-- No read of a filter, a table or a profile failed: they are parts of a bundle that was read before.
+pub record NoReadFailed (fault : VerifyFault) : Type 0 where
+  pub of_filter : fault ≢ verifies.FilterRead reads.Read
+  pub of_table : fault ≢ verifies.TableRead inputs.Read
+  pub of_profile : fault ≢ verifies.ProfileRead inputs.Read
+
 -- `decide`: the answer of the stack to the call
 abbrev pub Decides : CallRecord → Option (List ℕ) → Result Reply Fault → Type 0
 Decides call told (Ok (Decided answer)) = IsDecided call told answer.0
-Decides call told (Err (faults.Verify fault)) = (fault ≢ verifies.FilterRead reads.Read) × IsNoStack told fault
+Decides call told (Err (faults.Verify fault)) = NoReadFailed fault × IsNoStack told fault
 Decides call told (Err fault) = IsNoBundle told AreFiltersAlone fault
 Decides call told ending = ⊥
 
@@ -251,12 +257,6 @@ abbrev pub IsReported : Scopes → Relation → List (List ℕ) → List ℕ →
 IsReported All = IsReportedIn scopes.All
 IsReported Native = IsReportedIn scopes.Native
 IsReported EachCall = IsReportedByCall
-
--- No read of a filter, a table or a profile failed: they are parts of a bundle that was read before.
-pub record NoReadFailed (fault : VerifyFault) : Type 0 where
-  pub of_filter : fault ≢ verifies.FilterRead reads.Read
-  pub of_table : fault ≢ verifies.TableRead inputs.Read
-  pub of_profile : fault ≢ verifies.ProfileRead inputs.Read
 
 -- filters, a profile and a table come to a report, or are refused
 abbrev pub ComesTo : (List ℕ → Status → Type 0) → List (List ℕ) → List ℕ → List ℕ → Result Reply VerifyFault → Type 0

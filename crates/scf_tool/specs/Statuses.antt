@@ -36,7 +36,7 @@ LeavesFilter {T} remaining failures old (Err (Verify fault)) new =
     LeavesFilterReader {T = T} remaining failures old (Err fault) new
 LeavesFilter remaining failures old ending new = HasEnded remaining failures old new
 
--- And that is read whole: it came to its end, and failed only where that is the fault.
+-- And one that is read whole: it came to its end, and failed only where that is the fault.
 abbrev pub LeavesWhole : {R T : Type 0} → (R → Option (List ℕ)) → (R → ℕ) → R → Result T Fault → R → Type 0
 LeavesWhole remaining failures old (Err (Input fault)) new = HasFailedWhere (fault ≡ inputs.Read) failures old new
 LeavesWhole remaining failures old ending new = HasEnded remaining failures old new

@@ -4,4 +4,5 @@ pub mod Gathering
 pub mod Parsing
 pub mod Pieces
 pub mod Pushing
+pub mod Reporting
 pub mod Verification

@@ -1,10 +1,11 @@
 //! The comparison of a stack of filters with a profile, call by call, from their bytes.
 
-ghost use Rattle.std.specs.Prelude.{◌≡◌, IfOk, map};
+ghost use Rattle.std.specs.Prelude.{◌≡◌, ℕ, List, Option, IfOk, map};
 ghost use Rattle.scf_profile.specs.References.{texts_at};
 ghost use Rattle.scf_tool.specs.Verifying.{LeavesProfileReader, LeavesTableReader};
 ghost use Rattle.scf_tool.specs.VerifyingCalls.{
   AreComparedCalls,
+  AreVerifiedCalls,
   IsVerdictOnCall,
   VerifiesCalls,
   VerifiesCallsBy,
@@ -12,8 +13,9 @@ ghost use Rattle.scf_tool.specs.VerifyingCalls.{
   told_of,
 };
 ghost use Rattle.scf_tool.specs.VerifyingStacks.{LeavesFilterReaders};
+ghost use Rattle.scf_tool.specs.internal.Verification.{AreParties};
 
-use crate::parties::read_parties;
+use crate::parties::{Parties, read_parties};
 use crate::verification::VerifyFault;
 use scf_compare::{Relation, Scope, Verdict, compare_by};
 use scf_facts::WordSets;
@@ -101,6 +103,33 @@ fn compare_calls(
     Ok(verdicts)
 }
 
+/// Compares a stack of filters with a profile, call by call of the table and by a relation.
+pub(crate) fn compare_named_calls(
+    alloc: Global,
+    parties: Parties,
+    relation: Relation,
+    limit: u64,
+) -> Result<CallsOutcome, Memory>
+    ensures { IfOk result (λ outcome. (filters : List (Option (List ℕ))) (table profile : Option (List ℕ))
+        → AreParties filters table profile parties
+        → AreVerifiedCalls relation filters table profile limit outcome) }
+{
+    let loaded = parties.loaded;
+    let calls = compare_calls(
+        alloc,
+        &parties.stack,
+        &loaded.profile,
+        &parties.names,
+        relation,
+        limit,
+    )?;
+    Ok(CallsOutcome {
+        calls,
+        skipped: loaded.skipped,
+        other_architectures: loaded.other_architectures,
+    })
+}
+
 /// Compares the stack of filters with the profile that readers have, call by call: each call that the table names, by
 /// itself and in at most `limit` steps. The profile's names get their numbers from the same table.
 ///
@@ -149,18 +178,5 @@ pub fn verify_calls_by<F: Source, P: Source, T: Source>(
     ensures profile_reader { LeavesProfileReader P.remaining P.failures profile_reader.old result profile_reader.new }
 {
     let parties = read_parties(alloc, filter_readers, profile_reader, table_reader)?;
-    let loaded = parties.loaded;
-    let calls = compare_calls(
-        alloc,
-        &parties.stack,
-        &loaded.profile,
-        &parties.names,
-        relation,
-        limit,
-    )?;
-    Ok(CallsOutcome {
-        calls,
-        skipped: loaded.skipped,
-        other_architectures: loaded.other_architectures,
-    })
+    Ok(compare_named_calls(alloc, parties, relation, limit)?)
 }

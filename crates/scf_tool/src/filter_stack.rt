@@ -1,10 +1,13 @@
 //! Stacks of filters that readers have.
 
-ghost use Rattle.std.specs.Prelude.{◌≡◌, map, IfOk, IfErr, OnOk};
+ghost use Rattle.std.specs.Prelude.{◌≡◌, map, Some, IfOk, IfErr, OnOk};
+ghost use Rattle.scf_tool.specs.Commands.{NoReadFailed};
 ghost use Rattle.scf_tool.specs.FilterStacks.{HasStack, HasNoStack, IsNotPushed, LeavesReaders};
 ghost use Rattle.scf_tool.specs.Verifying.{HasEnded, LeavesFilterReader};
+ghost use Rattle.scf_tool.specs.internal.Contents.{rest_of};
 ghost use Rattle.scf_tool.specs.internal.Pushing.{PushesFilter};
 
+use crate::contents::PartReader;
 use crate::filter::read_filter;
 use crate::verification::VerifyFault;
 use scf_insn::Source;
@@ -43,4 +46,16 @@ pub(crate) fn read_stack<R: Source>(
         push_filter(alloc, &mut stack, reader)?;
     }
     Ok(stack)
+}
+
+/// The stack of the filters of a bundle.
+pub(crate) fn stack_of(
+    alloc: Global,
+    filters: &mut [PartReader<'_>],
+) -> Result<FilterStack, VerifyFault>
+    ensures stack { IfOk result (HasStack (map Some (map rest_of filters.old))) }
+    ensures fault { IfErr result (HasNoStack (map Some (map rest_of filters.old))) }
+    ensures read { IfErr result NoReadFailed }
+{
+    read_stack(alloc, filters)
 }

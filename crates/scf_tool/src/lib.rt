@@ -20,6 +20,7 @@ mod reply;
 mod reporting;
 mod request;
 mod stack_verification;
+mod stated;
 mod status;
 mod verification;
 

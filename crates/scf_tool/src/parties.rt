@@ -1,15 +1,19 @@
 //! The parties of a comparison, from their bytes.
 
-ghost use Rattle.std.specs.Prelude.{map, IfOk, IfErr};
+ghost use Rattle.std.specs.Prelude.{map, Some, IfOk, IfErr};
+ghost use Rattle.scf_tool.specs.Commands.{NoReadFailed};
 ghost use Rattle.scf_tool.specs.Verifying.{LeavesProfileReader, LeavesTableReader};
 ghost use Rattle.scf_tool.specs.VerifyingStacks.{IsRefusedStack, LeavesFilterReaders};
+ghost use Rattle.scf_tool.specs.internal.Contents.{rest_of};
 ghost use Rattle.scf_tool.specs.internal.Verification.{AreParties};
 
-use crate::filter_stack::read_stack;
+use crate::contents::PartReader;
+use crate::filter_stack::{read_stack, stack_of};
+use crate::stated::stated_by;
 use crate::verification::{VerifyFault, read_profile, read_table};
 use scf_insn::Source;
 use scf_machine::FilterStack;
-use scf_profile::{CallTable, Loaded};
+use scf_profile::{CallTable, Loaded, MAX_TEXT_LEN};
 use std::alloc::Global;
 
 /// What is compared: a stack of filters and a profile, with the table that names the calls.
@@ -42,5 +46,27 @@ pub(crate) fn read_parties<F: Source, P: Source, T: Source>(
         stack,
         names,
         loaded,
+    })
+}
+
+/// The stack, the call table and the profile that the parts of a bundle hold, each no longer than a reader may have it.
+pub(crate) fn parties_in(
+    alloc: Global,
+    filters: &mut [PartReader<'_>],
+    profile: &[u8],
+    table: &[u8],
+) -> Result<Parties, VerifyFault>
+    ensures parties { IfOk result (AreParties (map Some (map rest_of filters.old))
+        (Some table.now) (Some profile.now)) }
+    ensures refused { IfErr result (IsRefusedStack (map Some (map rest_of filters.old))
+        (Some table.now) (Some profile.now)) }
+    ensures read { IfErr result NoReadFailed }
+{
+    let stack = stack_of(alloc, filters)?;
+    let said = stated_by(alloc, profile, table, MAX_TEXT_LEN)?;
+    Ok(Parties {
+        stack,
+        names: said.names,
+        loaded: said.loaded,
     })
 }

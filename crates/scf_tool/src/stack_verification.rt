@@ -1,15 +1,44 @@
 //! The comparison of a stack of filters with a profile, from their bytes.
 
-ghost use Rattle.std.specs.Prelude.{map};
+ghost use Rattle.std.specs.Prelude.{List, Option, ℕ, IfOk, map};
 ghost use Rattle.scf_tool.specs.Verifying.{LeavesProfileReader, LeavesTableReader};
-ghost use Rattle.scf_tool.specs.VerifyingStacks.{LeavesFilterReaders, VerifiesBy, VerifiesStack};
+ghost use Rattle.scf_tool.specs.VerifyingStacks.{IsVerifiedBy, LeavesFilterReaders, VerifiesBy, VerifiesStack};
+ghost use Rattle.scf_tool.specs.internal.Verification.{AreParties};
 
-use crate::parties::read_parties;
+use crate::parties::{Parties, read_parties};
 use crate::verification::{Outcome, VerifyFault};
 use scf_compare::{Relation, Scope, compare_by};
 use scf_facts::WordSets;
-use scf_insn::Source;
+use scf_insn::{Memory, Source};
 use std::alloc::Global;
+
+/// Compares a stack of filters with a profile over the calls of a scope and by a relation.
+pub(crate) fn compare_parties(
+    alloc: Global,
+    parties: Parties,
+    scope: Scope,
+    relation: Relation,
+    limit: u64,
+) -> Result<Outcome, Memory>
+    ensures { IfOk result (λ outcome. (filters : List (Option (List ℕ))) (table profile : Option (List ℕ))
+        → AreParties filters table profile parties
+        → IsVerifiedBy relation filters table profile scope limit outcome) }
+{
+    let loaded = parties.loaded;
+    let verdict = compare_by::<WordSets>(
+        alloc,
+        &parties.stack,
+        &loaded.profile,
+        scope,
+        relation,
+        limit,
+    )?;
+    Ok(Outcome {
+        verdict,
+        skipped: loaded.skipped,
+        other_architectures: loaded.other_architectures,
+    })
+}
 
 /// Compares the stack of filters with the profile that readers have, over the calls of a scope, in at most `limit`
 /// steps. The profile's names get their numbers from the call table.
@@ -67,18 +96,5 @@ pub fn verify_by<F: Source, P: Source, T: Source>(
     ensures profile_reader { LeavesProfileReader P.remaining P.failures profile_reader.old result profile_reader.new }
 {
     let parties = read_parties(alloc, filter_readers, profile_reader, table_reader)?;
-    let loaded = parties.loaded;
-    let verdict = compare_by::<WordSets>(
-        alloc,
-        &parties.stack,
-        &loaded.profile,
-        scope,
-        relation,
-        limit,
-    )?;
-    Ok(Outcome {
-        verdict,
-        skipped: loaded.skipped,
-        other_architectures: loaded.other_architectures,
-    })
+    Ok(compare_parties(alloc, parties, scope, relation, limit)?)
 }

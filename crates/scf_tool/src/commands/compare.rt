@@ -1,23 +1,25 @@
 //! The comparison of a stack of filters with a profile.
 
-ghost use Rattle.std.specs.Prelude.{◌≡◌, map};
-ghost use Rattle.scf_tool.specs.Commands.{ComesTo, Compares, ComparesParts, IsReportedByCall, IsReportedIn};
+ghost use Rattle.std.specs.Prelude.{◌≡◌, map, IfOk};
+ghost use Rattle.scf_tool.specs.Commands.{Compares, ComparesParts, IsReported, IsReportedByCall, IsReportedIn};
 ghost use Rattle.scf_tool.specs.Statuses.{LeavesWhole, joint_status, verdict_status};
 ghost use Rattle.scf_tool.specs.internal.Contents.{rest_of};
+ghost use Rattle.scf_tool.specs.internal.Reporting.{IsReportOn};
 
 use crate::call_reporting::{joint_verdict, report_calls_by};
-use crate::call_verification::verify_calls_by;
+use crate::call_verification::compare_named_calls;
 use crate::commands::MAX_INPUT;
 use crate::contents::{Contents, PartReader, only};
 use crate::fault::Fault;
+use crate::parties::{Parties, parties_in};
 use crate::reply::Reply;
 use crate::reporting::report_by;
 use crate::request::Scopes;
-use crate::stack_verification::verify_by;
+use crate::stack_verification::compare_parties;
 use crate::status::Status;
 use crate::verification::VerifyFault;
 use scf_compare::{Relation, Scope, Verdict};
-use scf_insn::{Source, read_input};
+use scf_insn::{Memory, Source, read_input};
 use std::alloc::Global;
 
 /// The exit status that goes with a verdict.
@@ -41,43 +43,52 @@ fn status_of_joint(joint: Option<Verdict>) -> Status
     }
 }
 
-/// What filters, a profile and a table come to over the calls of a scope and by a relation.
-fn compare_in(
+/// The report on parties over the calls of a scope and by a relation.
+fn report_in(
     alloc: Global,
     scope: Scope,
     relation: Relation,
-    filters: &mut [PartReader<'_>],
-    profile: &mut PartReader<'_>,
-    table: &mut PartReader<'_>,
+    parties: Parties,
     limit: u64,
-) -> Result<Reply, VerifyFault>
-    ensures { ComesTo
-        (IsReportedIn scope relation (map rest_of filters.old) (rest_of profile.old) (rest_of table.old) limit)
-        (map rest_of filters.old) (rest_of profile.old) (rest_of table.old) result }
+) -> Result<Reply, Memory>
+    ensures { IfOk result (IsReportOn (IsReportedIn scope relation) limit parties) }
 {
-    let outcome = verify_by(alloc, filters, profile, table, scope, relation, limit)?;
+    let outcome = compare_parties(alloc, parties, scope, relation, limit)?;
     let status = status_of_verdict(&outcome.verdict);
     let text = report_by(alloc, relation, &outcome)?;
     Ok(Reply::Compared { text, status })
 }
 
-/// What filters, a profile and a table come to, call by call and by a relation.
-fn compare_each(
+/// The report on parties, call by call and by a relation.
+fn report_each(
     alloc: Global,
     relation: Relation,
-    filters: &mut [PartReader<'_>],
-    profile: &mut PartReader<'_>,
-    table: &mut PartReader<'_>,
+    parties: Parties,
     limit: u64,
-) -> Result<Reply, VerifyFault>
-    ensures { ComesTo
-        (IsReportedByCall relation (map rest_of filters.old) (rest_of profile.old) (rest_of table.old) limit)
-        (map rest_of filters.old) (rest_of profile.old) (rest_of table.old) result }
+) -> Result<Reply, Memory>
+    ensures { IfOk result (IsReportOn (IsReportedByCall relation) limit parties) }
 {
-    let outcome = verify_calls_by(alloc, filters, profile, table, relation, limit)?;
+    let outcome = compare_named_calls(alloc, parties, relation, limit)?;
     let status = status_of_joint(joint_verdict(&outcome.calls));
     let text = report_calls_by(alloc, relation, &outcome)?;
     Ok(Reply::Compared { text, status })
+}
+
+/// The report on parties over the calls that are asked for.
+fn report_on(
+    alloc: Global,
+    scopes: Scopes,
+    relation: Relation,
+    parties: Parties,
+    limit: u64,
+) -> Result<Reply, Memory>
+    ensures { IfOk result (IsReportOn (IsReported scopes relation) limit parties) }
+{
+    match scopes {
+        Scopes::All => report_in(alloc, Scope::All, relation, parties, limit),
+        Scopes::Native => report_in(alloc, Scope::Native, relation, parties, limit),
+        Scopes::EachCall => report_each(alloc, relation, parties, limit),
+    }
 }
 
 /// What filters, a profile and a table come to.
@@ -92,21 +103,8 @@ fn compare_parts(
 ) -> Result<Reply, VerifyFault>
     ensures { ComparesParts (map rest_of filters.old) profile.now table.now scopes relation limit result }
 {
-    let profile = &mut PartReader::new(profile);
-    let table = &mut PartReader::new(table);
-    match scopes {
-        Scopes::All => compare_in(alloc, Scope::All, relation, filters, profile, table, limit),
-        Scopes::Native => compare_in(
-            alloc,
-            Scope::Native,
-            relation,
-            filters,
-            profile,
-            table,
-            limit,
-        ),
-        Scopes::EachCall => compare_each(alloc, relation, filters, profile, table, limit),
-    }
+    let parties = parties_in(alloc, filters, profile, table)?;
+    Ok(report_on(alloc, scopes, relation, parties, limit)?)
 }
 
 /// `compare`: whether a stack of filters answers as a profile does, or lets through no more or no less.

@@ -9,19 +9,21 @@ use crate::contents::{Contents, only};
 use crate::fault::Fault;
 use crate::gathered::encoding_of;
 use crate::reply::Reply;
+use crate::stated::stated_by;
 use crate::verification::VerifyFault;
 use scf_compile::{CompileFault, compile};
 use scf_insn::{CallRecord, Source, read_input};
-use scf_profile::{CallTable, Loaded, load};
+use scf_profile::Loaded;
 use std::alloc::Global;
 
-/// What a profile and a table state.
-fn stated(alloc: Global, profile: &[u8], table: &[u8]) -> Result<Loaded, VerifyFault>
+/// What a profile and a table state, however long they are.
+fn loaded(alloc: Global, profile: &[u8], table: &[u8]) -> Result<Loaded, VerifyFault>
     ensures stated { IfOk result (IsStated profile.now table.now) }
     ensures fault { IfErr result (CantLoad profile.now table.now) }
 {
-    let table = CallTable::read(alloc, table)?;
-    Ok(load(alloc, profile, &table)?)
+    let most = profile.len().max(table.len());
+    let said = stated_by(alloc, profile, table, most)?;
+    Ok(said.loaded)
 }
 
 /// The bytes of the filter of a profile and a table.
@@ -29,7 +31,7 @@ fn filter_bytes(alloc: Global, profile: &[u8], table: &[u8]) -> Result<Vec<u8>, 
     ensures filter { IfOk result (λ bytes. IsFilterOf profile.now table.now bytes.items) }
     ensures fault { IfErr result (CantCompile profile.now table.now) }
 {
-    let loaded = stated(alloc, profile, table)?;
+    let loaded = loaded(alloc, profile, table)?;
     let program = compile(alloc, &loaded.profile)?;
     match encoding_of(alloc, program.insns()) {
         Ok(bytes) => Ok(bytes),
@@ -71,7 +73,7 @@ pub(super) fn ask_profile<R: Source>(
     ) else {
         return Err(Fault::Parts);
     };
-    let loaded = stated(alloc, profile, table)?;
+    let loaded = loaded(alloc, profile, table)?;
     Ok(Reply::Asked {
         answer: loaded.profile.answer(call),
         reason: loaded.profile.reason(call),
