@@ -7,12 +7,12 @@ use Rattle.scf_tool.specs.declared.bundle.Part.{Part}
 use Rattle.scf_tool.specs.declared.bundle.PartKind.{PartKind}
 use Rattle.scf_tool.specs.declared.bundle.BundleFault.{BundleFault}
 use Rattle.scf_tool.specs.declared.bundle.BundleFault.TheVariants.{Header, Short, Memory}
-use Rattle.scf_tool.specs.Bundle.{IsHeader, IsPart, SpellsFrom, Spells, LacksHeader, IsShort, IsFaultAt, BreaksAt, IsBundleFault}
+use Rattle.scf_tool.specs.Bundle.{IsHeader, IsBundlePart, SpellsFrom, SpellsBundle, LacksHeader, IsShort, IsFaultAt, BreaksAt, IsBundleFault}
 use Rattle.scf_tool.proofs.HeaderLemmas.{same_header, header_some}
 
 -- ---- one part
 
-pub part_some : (o : ℕ) (p : Part) (a : List ℕ) → IsPart o p a → 0 < length a
+pub part_some : (o : ℕ) (p : Part) (a : List ℕ) → IsBundlePart o p a → 0 < length a
 part_some o p a h = let some = header_some h.header p.kind (length h.content) h.is_header in rw
     (h.whole, length-append) (omega (arith, some))
 
@@ -31,7 +31,7 @@ pub record SamePart (p q : Part) (a b r s : List ℕ) : Type 0 where
   pub bytes : a ≡ b
   pub rest : r ≡ s
 
-pub same_part : (o : ℕ) (p q : Part) (a b r s : List ℕ) → IsPart o p a → IsPart o q b → a ++ r ≡ b ++ s
+pub same_part : (o : ℕ) (p q : Part) (a b r s : List ℕ) → IsBundlePart o p a → IsBundlePart o q b → a ++ r ≡ b ++ s
     → SamePart p q a b r s
 same_part o p q a b r s h g e =
     let left : a ++ r ≡ h.header ++ (h.content ++ r) =
@@ -53,7 +53,7 @@ same_part o p q a b r s h g e =
 
 -- ---- lists of parts
 
-nothing_more : (o : ℕ) (p : Part) (a r : List ℕ) → IsPart o p a → a ++ r ≡ [] → ⊥
+nothing_more : (o : ℕ) (p : Part) (a r : List ℕ) → IsBundlePart o p a → a ++ r ≡ [] → ⊥
 nothing_more o p a r h e =
     let none : length (a ++ r) ≡ 0 = ap (λ (xs : List ℕ). length xs) e in
     let some = part_some o p a h in
@@ -71,10 +71,10 @@ one_spelling o bs (p ∷ ps) (q ∷ qs) h g =
 
 -- one more part behind the others
 pub one_more : (o : ℕ) (bs own : List ℕ) (ps : List Part) (p : Part) → SpellsFrom o bs ps
-    → IsPart (o + length bs) p own → SpellsFrom o (bs ++ own) (ps ++ p ∷ [])
+    → IsBundlePart (o + length bs) p own → SpellsFrom o (bs ++ own) (ps ++ p ∷ [])
 one_more o bs own [] p h part =
     let place : o + length bs ≡ o = rw h (omega arith) in
-    let here : IsPart o p own = rw place at part in
+    let here : IsBundlePart o p own = rw place at part in
     (own, [], rw h (sym (append-nil own)), here, refl)
 one_more o bs own (q ∷ ps) p h part =
     let place : o + length bs ≡ (o + length h.0) + length h.1 = rw (h.2, length-append h.0 h.1) (omega arith) in (
@@ -141,15 +141,15 @@ broken_no_parts o at bs ps (Header offset) here h = no_header_no_parts o bs ps h
 broken_no_parts o at bs ps (Short offset) here h = short_no_parts o bs ps here.1 h
 broken_no_parts o at bs ps Memory here h = here
 
-breaks_no_parts : (bs : List ℕ) (fault : BundleFault) (ps : List Part) → BreaksAt bs fault → Spells bs ps → ⊥
+breaks_no_parts : (bs : List ℕ) (fault : BundleFault) (ps : List Part) → BreaksAt bs fault → SpellsBundle bs ps → ⊥
 breaks_no_parts bs fault ps breaks h =
-    let whole : Spells (take breaks.offset bs ++ drop breaks.offset bs) ps = rw take-append-drop h in
+    let whole : SpellsBundle (take breaks.offset bs ++ drop breaks.offset bs) ps = rw take-append-drop h in
     let rest = rest_is_spelled 0 (take breaks.offset bs) (drop breaks.offset bs) breaks.parts ps breaks.before whole in
     broken_no_parts (0 + length (take breaks.offset bs)) breaks.offset (drop breaks.offset bs) rest.0 fault breaks.here
     rest.1
 
 pub fault_no_parts : (bs : List ℕ) (fault : BundleFault) → IsBundleFault bs fault → fault ≢ Memory → (ps : List Part)
-    → Spells bs ps → ⊥
+    → SpellsBundle bs ps → ⊥
 fault_no_parts bs (Header offset) h other ps g = breaks_no_parts bs (Header offset) ps h g
 fault_no_parts bs (Short offset) h other ps g = breaks_no_parts bs (Short offset) ps h g
 fault_no_parts bs Memory h other ps g = other refl
@@ -157,7 +157,7 @@ fault_no_parts bs Memory h other ps g = other refl
 -- ---- the part that a header in front begins
 
 pub part_in_front : (o : ℕ) (bs : List ℕ) (p : Part) (n : ℕ) → n ≤ length bs → p.length ≤ length bs - n
-    → IsHeader (take n bs) p.kind p.length → p.start ≡ o + n → IsPart o p (take (n + p.length) bs)
+    → IsHeader (take n bs) p.kind p.length → p.start ≡ o + n → IsBundlePart o p (take (n + p.length) bs)
 part_in_front o bs p n inside fits header start =
     let long : length (take n bs) ≡ n = length-take-le n bs inside in
     let size : length (take p.length (drop n bs)) ≡ p.length =
@@ -181,15 +181,15 @@ some_left o bs lt e =
     absurd (omega (arith, none, length-drop o bs))
 
 -- whole parts, and what stands behind them, are why bytes are refused
-pub breaks : (bs : List ℕ) (o : ℕ) (ps : List Part) (fault : BundleFault) → Spells (take o bs) ps
+pub breaks : (bs : List ℕ) (o : ℕ) (ps : List Part) (fault : BundleFault) → SpellsBundle (take o bs) ps
     → IsFaultAt (drop o bs) o fault → IsBundleFault bs fault
 breaks bs o ps (Header offset) before here = record { offset = o; parts = ps; before = before; here = here }
 breaks bs o ps (Short offset) before here = record { offset = o; parts = ps; before = before; here = here }
 breaks bs o ps Memory before here = tt
 
 -- the next part
-pub next_part : (bs : List ℕ) (o n : ℕ) (ps : List Part) (p : Part) → o ≤ length bs → o ≤ n → Spells (take o bs) ps
-    → IsPart o p (take (n - o) (drop o bs)) → Spells (take n bs) (ps ++ p ∷ [])
+pub next_part : (bs : List ℕ) (o n : ℕ) (ps : List Part) (p : Part) → o ≤ length bs → o ≤ n → SpellsBundle (take o bs) ps
+    → IsBundlePart o p (take (n - o) (drop o bs)) → SpellsBundle (take n bs) (ps ++ p ∷ [])
 next_part bs o n ps p inside further before part =
     let long : length (take o bs) ≡ o = length-take-le o bs inside in
     let place : 0 + length (take o bs) ≡ o = omega (arith, long) in
@@ -219,7 +219,7 @@ tail o bs = take_all (length bs - o) (drop o bs) (omega (arith, length-drop o bs
 
 -- ---- bytes that begin with no whole part
 
-whole_in_front : (bs own rest : List ℕ) (p : Part) (fault : BundleFault) → bs ≡ own ++ rest → IsPart 0 p own
+whole_in_front : (bs own rest : List ℕ) (p : Part) (fault : BundleFault) → bs ≡ own ++ rest → IsBundlePart 0 p own
     → IsFaultAt bs 0 fault → ⊥
 whole_in_front bs own rest p (Header offset) whole part here =
     here.1.none p.kind (length part.content) (record {
@@ -240,7 +240,7 @@ whole_in_front bs own rest p (Short offset) whole part here =
 whole_in_front bs own rest p Memory whole part here = here
 
 none_before : (bs : List ℕ) (o : ℕ) (ps : List Part) (fault : BundleFault) → IsFaultAt bs 0 fault
-    → Spells (take o bs) ps → ps ≡ []
+    → SpellsBundle (take o bs) ps → ps ≡ []
 none_before bs o [] fault here spelled = refl
 none_before bs o (p ∷ ps) fault here spelled =
     absurd (whole_in_front bs spelled.0 (spelled.1 ++ drop o bs) p fault
@@ -249,7 +249,7 @@ none_before bs o (p ∷ ps) fault here spelled =
 
 -- no part is found behind a bad one
 pub no_part_behind : (bs : List ℕ) (n : ℕ) (ps : List Part) (p : Part) (fault : BundleFault) → IsFaultAt bs 0 fault
-    → Spells (take n bs) (ps ++ p ∷ []) → ⊥
+    → SpellsBundle (take n bs) (ps ++ p ∷ []) → ⊥
 no_part_behind bs n ps p fault here spelled =
     let none : length (ps ++ p ∷ []) ≡ 0 =
     ap (λ (qs : List Part). length qs) (none_before bs n (ps ++ p ∷ []) fault here spelled) in
@@ -266,10 +266,10 @@ one_fault bs Memory other h g = absurd h
 
 -- a fault behind whole parts is that of the front, where there is one
 pub first_fault : (bs : List ℕ) (o : ℕ) (ps : List Part) (fault first : BundleFault) → o < length bs
-    → Spells (take o bs) ps → IsFaultAt (drop o bs) o fault → IsFaultAt bs 0 first → fault ≡ first
+    → SpellsBundle (take o bs) ps → IsFaultAt (drop o bs) o fault → IsFaultAt bs 0 first → fault ≡ first
 first_fault bs zero ps fault first lt before here bad = one_fault bs fault first here bad
 first_fault bs (suc o) ps fault first lt before here bad =
-    let none : take (suc o) bs ≡ [] = subst (λ (qs : List Part). Spells (take (suc o) bs) qs)
+    let none : take (suc o) bs ≡ [] = subst (λ (qs : List Part). SpellsBundle (take (suc o) bs) qs)
     (none_before bs (suc o) ps first bad before) before in
     let long : length (take (suc o) bs) ≡ suc o = length-take-le (suc o) bs (omega arith) in
     let empty : length (take (suc o) bs) ≡ 0 = ap (λ (xs : List ℕ). length xs) none in

@@ -10,7 +10,7 @@ use Rattle.clap.specs.Walk.{Names, Rule, Text, Walk, answers_to, finished, idle,
 use Rattle.clap.specs.Words.{AddsSubcommand, App, Shape, app_of, is_simple_and_free, new_app, with_subcommand}
 use Rattle.clap.specs.declared.builder.command.Command.{Command}
 use Rattle.clap.proofs.OnLiterals.{clap_on_literals}
-use Rattle.scf_tool.specs.Requests.{Command as Asked, word_of}
+use Rattle.scf_tool.specs.Requests.{Command as Asked, command_word}
 use Rattle.scf_tool.specs.Requests.Command.{Ask, Asm, Check, Compare, Compile, Decide, Dis, Run}
 use Rattle.scf_tool.specs.Runs.{scf, scf_shape, shape_for}
 use Rattle.scf_tool.specs.internal.Parsing.{ReadsAsProgram, scf_with}
@@ -113,7 +113,7 @@ reads_whole words = record { is_free = scf_is_free; asked = refl; faults = refl 
 abbrev leaf_of : Asked → Shape
 leaf_of command = built_leaf (inherited (with_leaf_noted (marked_built scf_shape)) (shape_for command))
 
-enters_scf : (command : Asked) → Enters (built scf) (word_of command) (leaf_of command)
+enters_scf : (command : Asked) → Enters (built scf) (command_word command) (leaf_of command)
 unfolding clap_on_literals
 enters_scf Ask = record { step = refl; fault = refl; found = refl }
 enters_scf Asm = record { step = refl; fault = refl; found = refl }
@@ -124,7 +124,7 @@ enters_scf Decide = record { step = refl; fault = refl; found = refl }
 enters_scf Dis = record { step = refl; fault = refl; found = refl }
 enters_scf Run = record { step = refl; fault = refl; found = refl }
 
-enters_alone : (command : Asked) → Enters (built (scf_with command)) (word_of command) (leaf_of command)
+enters_alone : (command : Asked) → Enters (built (scf_with command)) (command_word command) (leaf_of command)
 unfolding clap_on_literals
 enters_alone Ask = record { step = refl; fault = refl; found = refl }
 enters_alone Asm = record { step = refl; fault = refl; found = refl }
@@ -148,13 +148,13 @@ with_is_free Run = refl
 
 -- words that begin with a command's come to the same by the definition that has that command alone
 pub reads_with : (command : Asked) (name : Text) (words : List Text)
-    → ReadsAsProgram (scf_with command) (name ∷ word_of command ∷ words)
+    → ReadsAsProgram (scf_with command) (name ∷ command_word command ∷ words)
 reads_with command name words = record {
   is_free = with_is_free command;
-  asked = entered_rows (built (scf_with command)) (word_of command) (leaf_of command) words (enters_alone command)
-      ∙ sym (entered_rows (built scf) (word_of command) (leaf_of command) words (enters_scf command));
-  faults = entered_faults (built (scf_with command)) (word_of command) (leaf_of command) words (enters_alone command)
-      ∙ sym (entered_faults (built scf) (word_of command) (leaf_of command) words (enters_scf command));
+  asked = entered_rows (built (scf_with command)) (command_word command) (leaf_of command) words (enters_alone command)
+      ∙ sym (entered_rows (built scf) (command_word command) (leaf_of command) words (enters_scf command));
+  faults = entered_faults (built (scf_with command)) (command_word command) (leaf_of command) words (enters_alone command)
+      ∙ sym (entered_faults (built scf) (command_word command) (leaf_of command) words (enters_scf command));
 }
 
 -- the word behind the first

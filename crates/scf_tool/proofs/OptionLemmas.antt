@@ -8,7 +8,7 @@ use Rattle.clap.specs.declared.parser.matches.Found.{Found}
 use Rattle.clap.proofs.WalkLemmas.{first_value-rows}
 use Rattle.scf_tool.specs.declared.options.NumberOption.{NumberOption as Kept}
 use Rattle.scf_tool.specs.Options.{NumberOption, choice_in, first_wrong, given_of, if_given, is_given, number_by, number_in, one_of}
-use Rattle.scf_tool.specs.Runs.{rule_for, shape_with}
+use Rattle.scf_tool.specs.Runs.{option_rule, shape_with}
 use Rattle.scf_tool.specs.internal.Parsing.{flags_in, option_of, options_of}
 
 pub by_value : (f : Found) (o : NumberOption) → number_in (rows_of f) o ≡ number_by o (first_value f o.name)
@@ -27,12 +27,12 @@ leaf name options = record { top = shape_with name (options_of options); subs = 
 -- one more option
 pub leaf_more : (name : List ℕ) (options : List Kept) (i : ℕ) (d : Kept) → i < length options
     → leaf name (take (i + 1) options) ≡ with_rule (leaf name (take i options))
-    (rule_for (option_of (get_or options i d)))
+    (option_rule (option_of (get_or options i d)))
 leaf_more name options i d lt =
-    let rules : map rule_for (options_of (take (i + 1) options)) ≡ map rule_for (options_of (take i options))
-    ++ rule_for (option_of (get_or options i d)) ∷ [] =
-    ap (map rule_for) (map_more option_of options i d lt)
-    ∙ map_push rule_for (options_of (take i options)) (option_of (get_or options i d)) in
+    let rules : map option_rule (options_of (take (i + 1) options)) ≡ map option_rule (options_of (take i options))
+    ++ option_rule (option_of (get_or options i d)) ∷ [] =
+    ap (map option_rule) (map_more option_of options i d lt)
+    ∙ map_push option_rule (options_of (take i options)) (option_of (get_or options i d)) in
     ap (λ (rs : List Rule). let moved : App =
     record { top = record (shape_with name []) { rules = rs }; subs = [] } in moved) rules
 

@@ -15,7 +15,7 @@ use Rattle.scf_tool.specs.declared.request.Scopes.{Scopes}
 use Rattle.scf_tool.specs.declared.verification.VerifyFault.{VerifyFault}
 use Rattle.scf_tool.specs.declared.verification.VerifyFault.TheVariants.{FilterRead}
 use Rattle.scf_tool.specs.Bundle.{IsBundle}
-use Rattle.scf_tool.specs.Commands.{IsRead, IsCompared, ComparesParts}
+use Rattle.scf_tool.specs.Commands.{IsInputRead, IsCompared, ComparesParts}
 use Rattle.scf_profile.specs.References.{texts_at}
 use Rattle.scf_tool.specs.internal.Contents.{rest_of}
 use Rattle.scf_tool.specs.internal.Pushing.{PushesFilter}
@@ -150,7 +150,7 @@ never_fails {R} remaining fault olds news stopped is =
 -- a bundle of filters, a profile and a table that come to this
 pub bundle_compared : (told : Option (List ℕ)) (bytes : List ℕ) (over : Scopes) (relation : Relation) (limit : ℕ)
     (ending : Result Reply VerifyFault) (readers : List PartReader) (profiles tables : List (Bor (List ℕ)))
-    (profile table : List ℕ) → IsRead told bytes
+    (profile table : List ℕ) → IsInputRead told bytes
     → IsBundle bytes (map rest_of readers) (texts_at profiles) (texts_at tables)
     → texts_at profiles ≡ profile ∷ [] → texts_at tables ≡ table ∷ [] → 1 ≤ length readers
     → ComparesParts (map rest_of readers) profile table over relation limit ending

@@ -30,7 +30,7 @@ pub record HasHeader (bytes : List ℕ) (kind : PartKind) (count : ℕ) : Type 0
   pub whole : bytes ≡ header ++ rest
 
 -- Bytes are a part of a bundle, from an offset on: a header, and as many bytes as it says.
-pub record IsPart (offset : ℕ) (part : Part) (bytes : List ℕ) : Type 0 where
+pub record IsBundlePart (offset : ℕ) (part : Part) (bytes : List ℕ) : Type 0 where
   pub header : List ℕ
   pub content : List ℕ
   pub whole : bytes ≡ header ++ content
@@ -42,12 +42,12 @@ pub record IsPart (offset : ℕ) (part : Part) (bytes : List ℕ) : Type 0 where
 abbrev pub SpellsFrom : ℕ → List ℕ → List Part → Type 0
 SpellsFrom offset bytes [] = bytes ≡ []
 SpellsFrom offset bytes (part ∷ parts) =
-    (own : List ℕ) × (rest : List ℕ) × (bytes ≡ own ++ rest) × IsPart offset part own
+    (own : List ℕ) × (rest : List ℕ) × (bytes ≡ own ++ rest) × IsBundlePart offset part own
     × SpellsFrom (offset + length own) rest parts
 
 -- the bytes of a bundle spell its parts
-abbrev pub Spells : List ℕ → List Part → Type 0
-Spells bytes parts = SpellsFrom 0 bytes parts
+abbrev pub SpellsBundle : List ℕ → List Part → Type 0
+SpellsBundle bytes parts = SpellsFrom 0 bytes parts
 
 -- No header stands in front, and this isn't the end.
 pub record LacksHeader (bytes : List ℕ) : Type 0 where
@@ -71,7 +71,7 @@ IsFaultAt bytes at Memory = ⊥
 pub record BreaksAt (bytes : List ℕ) (fault : BundleFault) : Type 0 where
   pub offset : ℕ
   pub parts : List Part
-  pub before : Spells (take offset bytes) parts
+  pub before : SpellsBundle (take offset bytes) parts
   pub here : IsFaultAt (drop offset bytes) offset fault
 
 -- why bytes are refused
@@ -100,7 +100,7 @@ held_by kind bytes (part ∷ parts) =
 -- Bytes are a bundle whose parts hold these filters, these profiles and these tables, those of each kind in order.
 pub record IsBundle (bytes : List ℕ) (filters profiles tables : List (List ℕ)) : Type 0 where
   pub parts : List Part
-  pub spelled : Spells bytes parts
+  pub spelled : SpellsBundle bytes parts
   pub filters_held : filters ≡ held_by Filter bytes parts
   pub profiles_held : profiles ≡ held_by Profile bytes parts
   pub tables_held : tables ≡ held_by Table bytes parts

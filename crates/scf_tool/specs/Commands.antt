@@ -58,8 +58,8 @@ abbrev pub max_input_len : ℕ
 max_input_len = 16777216
 
 -- these are the bytes of the input, few enough
-abbrev pub IsRead : Option (List ℕ) → List ℕ → Type 0
-IsRead told bytes = IfSome told (λ all. (all ≡ bytes) × (length all ≤ max_input_len))
+abbrev pub IsInputRead : Option (List ℕ) → List ℕ → Type 0
+IsInputRead told bytes = IfSome told (λ all. (all ≡ bytes) × (length all ≤ max_input_len))
 
 -- why the input isn't read
 abbrev pub IsUnreadInput : Option (List ℕ) → InputFault → Type 0
@@ -67,7 +67,7 @@ IsUnreadInput told fault = IfSome told (λ all. IsInput (λ (read : List ℕ). r
 
 -- The input is a bundle whose parts hold these filters, these profiles and these tables.
 abbrev pub HoldsBundle : Option (List ℕ) → List (List ℕ) → List (List ℕ) → List (List ℕ) → Type 0
-HoldsBundle told filters profiles tables = (bytes : List ℕ) × IsRead told bytes × IsBundle bytes filters profiles tables
+HoldsBundle told filters profiles tables = (bytes : List ℕ) × IsInputRead told bytes × IsBundle bytes filters profiles tables
 
 -- The input is a bundle, but the counts of its filters, profiles and tables aren't such.
 abbrev pub HoldsOthers : Option (List ℕ) → (ℕ → ℕ → ℕ → Type 0) → Type 0
@@ -78,7 +78,7 @@ HoldsOthers told counts =
 -- why the input is no bundle of parts that a command takes, by their counts
 abbrev pub IsNoBundle : Option (List ℕ) → (ℕ → ℕ → ℕ → Type 0) → Fault → Type 0
 IsNoBundle told counts (faults.Input fault) = IsUnreadInput told fault
-IsNoBundle told counts (faults.Bundle fault) = (bytes : List ℕ) × IsRead told bytes × IsBundleFault bytes fault
+IsNoBundle told counts (faults.Bundle fault) = (bytes : List ℕ) × IsInputRead told bytes × IsBundleFault bytes fault
 IsNoBundle told counts faults.Parts = HoldsOthers told counts
 IsNoBundle told counts fault = ⊥
 
@@ -119,10 +119,10 @@ Lists told ending = ⊥
 -- `asm`: the bytes of the instructions that the input spells
 abbrev pub Assembles : Option (List ℕ) → Result Reply Fault → Type 0
 Assembles told (Ok (Bytes bytes)) =
-    (text : List ℕ) × IsRead told text × (insns : List Insn)
+    (text : List ℕ) × IsInputRead told text × (insns : List Insn)
     × spelling.Spells text insns × (bytes.items ≡ program_bytes insns)
 Assembles told (Err (faults.Input fault)) = IsUnreadInput told fault
-Assembles told (Err (faults.Text fault)) = (text : List ℕ) × IsRead told text × IsFault fault (fault_of text)
+Assembles told (Err (faults.Text fault)) = (text : List ℕ) × IsInputRead told text × IsFault fault (fault_of text)
 Assembles told ending = ⊥
 
 -- ---- a stack of filters
@@ -131,7 +131,7 @@ abbrev pub AreFiltersAlone : ℕ → ℕ → ℕ → Type 0
 AreFiltersAlone filters profiles tables = (profiles ≡ 0) × (tables ≡ 0)
 
 -- The input is a bundle of filters, which are a stack that answers the call so.
-pub record IsDecided (call : CallRecord) (told : Option (List ℕ)) (answer : ℕ) : Type 0 where
+pub record IsStackAnswer (call : CallRecord) (told : Option (List ℕ)) (answer : ℕ) : Type 0 where
   pub filters : List (List ℕ)
   pub bundle : HoldsBundle told filters [] []
   pub stack : List (List Insn)
@@ -150,7 +150,7 @@ pub record NoReadFailed (fault : VerifyFault) : Type 0 where
 
 -- `decide`: the answer of the stack to the call
 abbrev pub Decides : CallRecord → Option (List ℕ) → Result Reply Fault → Type 0
-Decides call told (Ok (Decided answer)) = IsDecided call told answer.0
+Decides call told (Ok (Decided answer)) = IsStackAnswer call told answer.0
 Decides call told (Err (faults.Verify fault)) = NoReadFailed fault × IsNoStack told fault
 Decides call told (Err fault) = IsNoBundle told AreFiltersAlone fault
 Decides call told ending = ⊥
@@ -175,7 +175,7 @@ CantLoad profile table fault = ⊥
 
 -- The table and the profile are read, and these bytes are an accepted filter that answers every call record as the
 -- profile does.
-pub record IsFilterOf (profile table bytes : List ℕ) : Type 0 where
+pub record IsFilterOfProfile (profile table bytes : List ℕ) : Type 0 where
   pub loaded : Loaded
   pub stated : IsStated profile table loaded
   pub insns : List Insn
@@ -185,7 +185,7 @@ pub record IsFilterOf (profile table bytes : List ℕ) : Type 0 where
 -- the input is a bundle of a profile and a table, and these bytes are a filter of theirs
 abbrev pub IsCompiled : Option (List ℕ) → List ℕ → Type 0
 IsCompiled told bytes =
-    (profile table : List ℕ) × HoldsBundle told [] (profile ∷ []) (table ∷ []) × IsFilterOf profile table bytes
+    (profile table : List ℕ) × HoldsBundle told [] (profile ∷ []) (table ∷ []) × IsFilterOfProfile profile table bytes
 
 -- The input is a bundle of a profile and a table, and the profile answers the call so, for this reason.
 pub record IsAsked (call : CallRecord) (told : Option (List ℕ)) (answer : ℕ) (reason : Reason) : Type 0 where
@@ -259,16 +259,16 @@ IsReported Native = IsReportedIn scopes.Native
 IsReported EachCall = IsReportedByCall
 
 -- filters, a profile and a table come to a report, or are refused
-abbrev pub ComesTo : (List ℕ → Status → Type 0) → List (List ℕ) → List ℕ → List ℕ → Result Reply VerifyFault → Type 0
-ComesTo reported filters profile table (Ok (Compared text status)) = reported text.items status
-ComesTo reported filters profile table (Err fault) =
+abbrev pub EndsInReport : (List ℕ → Status → Type 0) → List (List ℕ) → List ℕ → List ℕ → Result Reply VerifyFault → Type 0
+EndsInReport reported filters profile table (Ok (Compared text status)) = reported text.items status
+EndsInReport reported filters profile table (Err fault) =
     NoReadFailed fault × IsRefusedStack (map Some filters) (Some table) (Some profile) fault
-ComesTo reported filters profile table reply = ⊥
+EndsInReport reported filters profile table reply = ⊥
 
 -- what filters, a profile and a table come to
 abbrev pub ComparesParts : List (List ℕ) → List ℕ → List ℕ → Scopes → Relation → ℕ → Result Reply VerifyFault → Type 0
 ComparesParts filters profile table over relation limit ending =
-    ComesTo (IsReported over relation filters profile table limit) filters profile table ending
+    EndsInReport (IsReported over relation filters profile table limit) filters profile table ending
 
 -- the input is a bundle of one filter or more, a profile and a table, which come to this
 abbrev pub IsCompared : Scopes → Relation → ℕ → Option (List ℕ) → Result Reply VerifyFault → Type 0
@@ -286,13 +286,13 @@ Compares over relation limit told (Err fault) = IsNoBundle told AreCompared faul
 -- ---- all commands
 
 -- what a request ends with is true of the input
-abbrev pub IsTrueOf : Request → Option (List ℕ) → Result Reply Fault → Type 0
-IsTrueOf (requests.Ask call) told ending = GivesReason call told ending
-IsTrueOf requests.Assemble told ending = Assembles told ending
-IsTrueOf requests.Check told ending = Checks told ending
-IsTrueOf (requests.Compare limit over relation) told ending = Compares over relation limit told ending
-IsTrueOf requests.Compile told ending = Compiles told ending
-IsTrueOf (requests.Decide call) told ending = Decides call told ending
-IsTrueOf requests.List told ending = Lists told ending
-IsTrueOf (requests.Run call) told ending = Runs call told ending
-IsTrueOf (requests.Trace call) told ending = Traces call told ending
+abbrev pub IsTrueReply : Request → Option (List ℕ) → Result Reply Fault → Type 0
+IsTrueReply (requests.Ask call) told ending = GivesReason call told ending
+IsTrueReply requests.Assemble told ending = Assembles told ending
+IsTrueReply requests.Check told ending = Checks told ending
+IsTrueReply (requests.Compare limit over relation) told ending = Compares over relation limit told ending
+IsTrueReply requests.Compile told ending = Compiles told ending
+IsTrueReply (requests.Decide call) told ending = Decides call told ending
+IsTrueReply requests.List told ending = Lists told ending
+IsTrueReply (requests.Run call) told ending = Runs call told ending
+IsTrueReply (requests.Trace call) told ending = Traces call told ending

@@ -195,15 +195,15 @@ source_of (faults.Verify fault) = verify_source fault
 
 -- ---- the line
 
-abbrev pub number_text : Number → List ℕ
-number_text number = codes " " ++ number.name ++ codes " " ++ decimal number.value
+abbrev pub fault_number_text : Number → List ℕ
+fault_number_text number = codes " " ++ number.name ++ codes " " ++ decimal number.value
 
-abbrev pub line_of : List ℕ → Kind → List ℕ
-line_of source kind =
-    (codes "fault " ++ source ++ codes " " ++ kind.name) ++ (flat_map number_text kind.numbers ++ codes "\n")
+abbrev pub line_of_fault : List ℕ → Kind → List ℕ
+line_of_fault source kind =
+    (codes "fault " ++ source ++ codes " " ++ kind.name) ++ (flat_map fault_number_text kind.numbers ++ codes "\n")
 
 abbrev pub fault_line : Fault → List ℕ
-fault_line fault = line_of (source_of fault) (kind_of_fault fault)
+fault_line fault = line_of_fault (source_of fault) (kind_of_fault fault)
 
 abbrev pub fault_status : Fault → Status
 fault_status fault = (kind_of_fault fault).status

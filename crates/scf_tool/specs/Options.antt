@@ -53,8 +53,8 @@ abbrev pub limit_option : NumberOption
 limit_option = long_option (codes "limit") 1000000
 
 -- the numbers of a record, in the order of its fields
-abbrev pub numbers_of : CallRecord → List ℕ
-numbers_of call = call.nr ∷ call.arch ∷ call.ip ∷ call.args
+abbrev pub numbers_of_record : CallRecord → List ℕ
+numbers_of_record call = call.nr ∷ call.arch ∷ call.ip ∷ call.args
 
 -- the name of the first of some options whose text is no number in its range
 abbrev pub first_wrong : List NumberOption → List Row → Option (List ℕ)
@@ -66,7 +66,7 @@ AreSpelled options rows numbers = map Some numbers ≡ map (number_in rows) opti
 
 -- What the options of a call record spell: the record of their numbers, or the first that spells none.
 abbrev pub SpellsCall : List Row → Result CallRecord NumberFault → Type 0
-SpellsCall rows (Ok call) = AreSpelled call_options rows (numbers_of call)
+SpellsCall rows (Ok call) = AreSpelled call_options rows (numbers_of_record call)
 SpellsCall rows (Err fault) = first_wrong call_options rows ≡ Some fault.name.now
 
 -- A flag is given where its name has the text `true`.

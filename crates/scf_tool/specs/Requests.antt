@@ -9,7 +9,7 @@ use Rattle.scf_tool.specs.declared.request.Scopes.{Scopes}
 use Rattle.scf_tool.specs.declared.request.Scopes.TheVariants.{All}
 use Rattle.scf_compare.specs.declared.relation.Relation.{Relation}
 use Rattle.scf_compare.specs.declared.relation.Relation.TheVariants.{Same}
-use Rattle.scf_tool.specs.Options.{NumberOption, AreSpelled, call_options, choice_in, first_wrong, is_given, limit_option, flag_names, numbers_of, path_flag, relation_flags, scope_flags}
+use Rattle.scf_tool.specs.Options.{NumberOption, AreSpelled, call_options, choice_in, first_wrong, is_given, limit_option, flag_names, numbers_of_record, path_flag, relation_flags, scope_flags}
 
 pub data Command : Type 0 where
   Ask : Command
@@ -22,15 +22,15 @@ pub data Command : Type 0 where
   Run : Command
 
 -- the word that names a command
-abbrev pub word_of : Command → List ℕ
-word_of Ask = codes "ask"
-word_of Asm = codes "asm"
-word_of Check = codes "check"
-word_of Compare = codes "compare"
-word_of Compile = codes "compile"
-word_of Decide = codes "decide"
-word_of Dis = codes "dis"
-word_of Run = codes "run"
+abbrev pub command_word : Command → List ℕ
+command_word Ask = codes "ask"
+command_word Asm = codes "asm"
+command_word Check = codes "check"
+command_word Compare = codes "compare"
+command_word Compile = codes "compile"
+command_word Decide = codes "decide"
+command_word Dis = codes "dis"
+command_word Run = codes "run"
 
 -- the options that a command takes, each with a number
 abbrev pub options_of : Command → List NumberOption
@@ -58,13 +58,13 @@ command_of requests.List = Dis
 command_of (requests.Run call) = Run
 command_of (requests.Trace call) = Run
 
-abbrev pub numbers_in : Request → List ℕ
-numbers_in (requests.Ask call) = numbers_of call
-numbers_in (requests.Compare limit scopes relation) = limit ∷ []
-numbers_in (requests.Decide call) = numbers_of call
-numbers_in (requests.Run call) = numbers_of call
-numbers_in (requests.Trace call) = numbers_of call
-numbers_in request = []
+abbrev pub numbers_of_request : Request → List ℕ
+numbers_of_request (requests.Ask call) = numbers_of_record call
+numbers_of_request (requests.Compare limit scopes relation) = limit ∷ []
+numbers_of_request (requests.Decide call) = numbers_of_record call
+numbers_of_request (requests.Run call) = numbers_of_record call
+numbers_of_request (requests.Trace call) = numbers_of_record call
+numbers_of_request request = []
 
 -- what the flags of a comparison come to
 abbrev pub scopes_in : List Row → Option Scopes
@@ -84,32 +84,32 @@ HasFlags rows request = Unit {0}
 -- A word and the values of options spell a request: they name its command, spell its numbers and give its flags.
 pub record IsRequest (asked : Option (List ℕ × List Row)) (request : Request) : Type 0 where
   pub rows : List Row
-  pub command : asked ≡ Some (word_of (command_of request), rows)
-  pub numbers : AreSpelled (options_of (command_of request)) rows (numbers_in request)
+  pub command : asked ≡ Some (command_word (command_of request), rows)
+  pub numbers : AreSpelled (options_of (command_of request)) rows (numbers_of_request request)
   pub flags : HasFlags rows request
 
 -- A command is named, and this is the first of its options whose text is no number in its range.
 pub record IsWrongNumber (asked : Option (List ℕ × List Row)) (name : List ℕ) : Type 0 where
   pub command : Command
   pub rows : List Row
-  pub named : asked ≡ Some (word_of command, rows)
+  pub named : asked ≡ Some (command_word command, rows)
   pub wrong : first_wrong (options_of command) rows ≡ Some name
 
 -- A comparison is named with two flags that exclude each other, and its numbers are in their ranges.
 pub record HasOtherFlags (asked : Option (List ℕ × List Row)) : Type 0 where
   pub rows : List Row
-  pub named : asked ≡ Some (word_of Compare, rows)
+  pub named : asked ≡ Some (command_word Compare, rows)
   pub numbers : first_wrong (options_of Compare) rows ≡ None
   pub flags : (scopes_in rows ≡ None) ⊎ (relation_in rows ≡ None)
 
 -- no command is named
 abbrev pub NamesNoCommand : Option (List ℕ × List Row) → Type 0
-NamesNoCommand asked = (command : Command) (rows : List Row) → asked ≡ Some (word_of command, rows) → ⊥
+NamesNoCommand asked = (command : Command) (rows : List Row) → asked ≡ Some (command_word command, rows) → ⊥
 
 -- What a command's word and the values of its options ask for, or why they don't.
-abbrev pub Asks : Option (List ℕ × List Row) → Result Request Fault → Type 0
-Asks asked (Ok request) = IsRequest asked request
-Asks asked (Err (Number fault)) = IsWrongNumber asked fault.name.now
-Asks asked (Err Flags) = HasOtherFlags asked
-Asks asked (Err NoCommand) = NamesNoCommand asked
-Asks asked (Err fault) = ⊥
+abbrev pub AsksFor : Option (List ℕ × List Row) → Result Request Fault → Type 0
+AsksFor asked (Ok request) = IsRequest asked request
+AsksFor asked (Err (Number fault)) = IsWrongNumber asked fault.name.now
+AsksFor asked (Err Flags) = HasOtherFlags asked
+AsksFor asked (Err NoCommand) = NamesNoCommand asked
+AsksFor asked (Err fault) = ⊥

@@ -12,30 +12,30 @@ use Rattle.scf_tool.specs.declared.reply.Reply.TheVariants as replies
 use Rattle.scf_tool.specs.declared.request.Request.{Request}
 use Rattle.scf_tool.specs.declared.status.Status.{Status}
 use Rattle.scf_tool.specs.declared.status.Status.TheVariants.{Well, CommandLine}
-use Rattle.scf_tool.specs.Commands.{IsTrueOf}
+use Rattle.scf_tool.specs.Commands.{IsTrueReply}
 use Rattle.scf_tool.specs.Options.{NumberOption}
 use Rattle.scf_tool.specs.Replies.{ending_status, ending_text}
-use Rattle.scf_tool.specs.Requests.{Asks, Command, IsRequest, flags_of, options_of, word_of}
+use Rattle.scf_tool.specs.Requests.{AsksFor, Command, IsRequest, flags_of, options_of, command_word}
 use Rattle.scf_tool.specs.Requests.Command.{Ask, Asm, Check, Compare, Compile, Decide, Dis, Run}
 use Rattle.scf_tool.specs.Statuses.{LeavesInput, status_code}
 
 -- ---- the command line, as its reader sees it
 
 -- an option takes one value, behind its name and two dashes
-abbrev pub rule_for : NumberOption → Rule
-rule_for o = record (new_rule o.name) { long = Some o.name; value_names = 1 }
+abbrev pub option_rule : NumberOption → Rule
+option_rule o = record (new_rule o.name) { long = Some o.name; value_names = 1 }
 
 -- a flag takes none
 abbrev pub flag_rule : List ℕ → Rule
 flag_rule name = record (new_rule name) { long = Some name; action = Some SetTrue }
 
 abbrev pub shape_with : List ℕ → List NumberOption → Shape
-shape_with name options = record (new_app name).top { rules = map rule_for options }
+shape_with name options = record (new_app name).top { rules = map option_rule options }
 
 abbrev pub shape_for : Command → Shape
 shape_for command =
-    record (new_app (word_of command)).top {
-      rules = map rule_for (options_of command) ++ map flag_rule (flags_of command);
+    record (new_app (command_word command)).top {
+      rules = map option_rule (options_of command) ++ map flag_rule (flags_of command);
     }
 
 -- a command is named, and there is `--version`
@@ -62,7 +62,7 @@ abbrev pub SpeaksOfWords : List Text → Result Reply Fault → Type 0
 SpeaksOfWords words (Ok (replies.CommandLine text status)) = IsExplained words status
 SpeaksOfWords words (Ok reply) = ⊥
 SpeaksOfWords words (Err faults.CommandLine) = Unit {0}
-SpeaksOfWords words (Err fault) = (fault_of scf words ≡ []) × Asks (subcommand_of scf words) (Err fault)
+SpeaksOfWords words (Err fault) = (fault_of scf words ≡ []) × AsksFor (subcommand_of scf words) (Err fault)
 
 -- The words ask for this, and what the run ends with is true of standard input.
 pub record IsAnswered {R : Type 0} (words : List Text) (remaining : R → Option (List ℕ)) (failures : R → ℕ)
@@ -70,7 +70,7 @@ pub record IsAnswered {R : Type 0} (words : List Text) (remaining : R → Option
   pub taken : fault_of scf words ≡ []
   pub request : Request
   pub asked : IsRequest (subcommand_of scf words) request
-  pub answered : IsTrueOf request (remaining old) ending
+  pub answered : IsTrueReply request (remaining old) ending
   pub left : LeavesInput request remaining failures old ending new
 
 -- How a run ends: it speaks of its words, before it reads any input, or answers what they ask for.

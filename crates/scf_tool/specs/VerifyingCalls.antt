@@ -16,8 +16,8 @@ use Rattle.scf_tool.specs.declared.verification.VerifyFault.{VerifyFault}
 use Rattle.scf_tool.specs.VerifyingStacks.{AreComparedParties, IsComparison, IsRefusedStack}
 
 -- a call by its number and its names, as a table has it
-abbrev pub named : NamedCall → ℕ × List (List ℕ)
-named call = (call.number, texts_at call.names.items)
+abbrev pub call_with_names : NamedCall → ℕ × List (List ℕ)
+call_with_names call = (call.number, texts_at call.names.items)
 
 -- and as the outcome tells it
 abbrev pub told_of : CallVerdict → ℕ × List (List ℕ)
@@ -32,7 +32,7 @@ pub record AreComparedCalls (relation : Relation) (stack : List (List Insn)) (na
     (calls : List CallVerdict) : Type 0 where
   pub of_table : List NamedCall
   pub are_calls : AreCallsOf names of_table
-  pub told : map told_of calls ≡ map named of_table
+  pub told : map told_of calls ≡ map call_with_names of_table
   pub compared : All (IsVerdictOnCall relation stack p limit) calls
 
 -- The bytes are a stack of filters, a call table and a profile, and the calls are those of that table, compared with

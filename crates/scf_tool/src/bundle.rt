@@ -3,7 +3,7 @@
 ghost use Rattle.std.specs.Prelude.{◌≡◌, ◌≢◌, ◌+◌, ◌-◌, ◌<◌, ◌≤◌, ◌++◌, ◌∷◌, [], ℕ, List, codes, length, take, drop};
 ghost use Rattle.std.specs.Prelude.{slice_index, MatchOption, IfSome, IfNone, IfOk, IfErr};
 ghost use Rattle.scf_tool.specs.Bundle as spec;
-ghost use Rattle.scf_tool.specs.Bundle.{kind_word, IsCount, IsHeader, HasHeader, IsPart, IsFaultAt, Spells};
+ghost use Rattle.scf_tool.specs.Bundle.{kind_word, IsCount, IsHeader, HasHeader, IsBundlePart, IsFaultAt, SpellsBundle};
 ghost use Rattle.scf_tool.specs.Bundle.{IsBundleFault};
 
 use scf_insn::parse_numeral;
@@ -155,7 +155,7 @@ fn part_at(bytes: &[u8], offset: usize) -> Result<Part, BundleFault>
     requires { offset < length bytes.now }
     ensures inside { IfOk result (λ part. (offset < part.start + part.length)
         × (part.start + part.length ≤ length bytes.now)) }
-    ensures part { IfOk result (λ part. IsPart offset part
+    ensures part { IfOk result (λ part. IsBundlePart offset part
         (take (part.start + part.length - offset) (drop offset bytes.now))) }
     ensures fault { IfErr result (IsFaultAt (drop offset bytes.now) offset) }
 {
@@ -188,12 +188,12 @@ pub(crate) fn held<'a>(bytes: &'a [u8], part: Part) -> &'a [u8]
 /// give the count of bytes that follow. `Header` has the first offset behind whole parts at which no header stands,
 /// though the bytes go on, and `Short` the first whose header says more bytes than follow.
 pub fn split(alloc: Global, bytes: &[u8]) -> Result<Vec<Part>, BundleFault>
-    ensures parts { IfOk result (λ parts. Spells bytes.now parts.items) }
+    ensures parts { IfOk result (λ parts. SpellsBundle bytes.now parts.items) }
     // No other list of parts is spelled.
-    ensures only { IfOk result (λ parts. (others : List Part) → Spells bytes.now others → others ≡ parts.items) }
+    ensures only { IfOk result (λ parts. (others : List Part) → SpellsBundle bytes.now others → others ≡ parts.items) }
     ensures fault { IfErr result (IsBundleFault bytes.now) }
     ensures none { IfErr result (λ fault. fault ≢ BundleFault.Memory
-        → (parts : List Part) → Spells bytes.now parts → ⊥) }
+        → (parts : List Part) → SpellsBundle bytes.now parts → ⊥) }
     // Where no whole part stands in front, no memory is wanted.
     ensures first { (fault : BundleFault) → IsFaultAt bytes.now 0 fault → result ≡ Err fault }
 {

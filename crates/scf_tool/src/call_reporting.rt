@@ -22,7 +22,7 @@ ghost use Rattle.scf_tool.specs.CallReports.{
 use crate::call_verification::{CallVerdict, CallsOutcome};
 use crate::gathered::Gathered;
 use crate::lines::write_answer;
-use crate::pieces::{Piece, write_pieces};
+use crate::pieces::{LinePiece, write_pieces};
 use crate::reporting::{
     failing, holding, write_answer_line, write_arguments, write_left_out, write_verdict, write_word,
 };
@@ -86,7 +86,10 @@ fn write_joint<S: Sink>(
 fn write_other<'a, S: Sink>(sink: &mut S, text: &'a String) -> Result<(), WriteFault>
     ensures { Writes S.contents S.failures sink.old (codes "," ++ string_bytes text.now) result sink.new }
 {
-    write_pieces(sink, &[Piece::Text(","), Piece::Text(text.as_str())])
+    write_pieces(
+        sink,
+        &[LinePiece::Text(","), LinePiece::Text(text.as_str())],
+    )
 }
 
 /// Writes texts, each behind a comma.
@@ -122,7 +125,10 @@ fn write_call_names<S: Sink>(sink: &mut S, names: &Texts) -> Result<(), WriteFau
 fn write_number<S: Sink>(sink: &mut S, number: u32) -> Result<(), WriteFault>
     ensures { Writes S.contents S.failures sink.old (decimal number ++ codes " ") result sink.new }
 {
-    write_pieces(sink, &[Piece::Decimal(u64::from(number)), Piece::Text(" ")])
+    write_pieces(
+        sink,
+        &[LinePiece::Decimal(u64::from(number)), LinePiece::Text(" ")],
+    )
 }
 
 /// Writes the number and the names of a call.
@@ -140,7 +146,7 @@ fn write_failing<S: Sink>(sink: &mut S, relation: Relation) -> Result<(), WriteF
 {
     write_pieces(
         sink,
-        &[Piece::Text(failing(relation)), Piece::Text(" args")],
+        &[LinePiece::Text(failing(relation)), LinePiece::Text(" args")],
     )
 }
 

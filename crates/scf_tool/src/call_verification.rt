@@ -9,7 +9,7 @@ ghost use Rattle.scf_tool.specs.VerifyingCalls.{
   IsVerdictOnCall,
   VerifiesCalls,
   VerifiesCallsBy,
-  named,
+  call_with_names,
   told_of,
 };
 ghost use Rattle.scf_tool.specs.VerifyingStacks.{LeavesFilterReaders};
@@ -65,7 +65,7 @@ fn compare_call(
     relation: Relation,
     limit: u64,
 ) -> Result<CallVerdict, Memory>
-    ensures call { IfOk result (λ own. told_of own ≡ named call.now) }
+    ensures call { IfOk result (λ own. told_of own ≡ call_with_names call.now) }
     ensures compared { IfOk result (IsVerdictOnCall relation stack.now profile.now limit) }
 {
     let verdict = compare_by::<WordSets>(

@@ -6,7 +6,7 @@ ghost use Rattle.clap.specs.Words.{FailsBy, app_of, fault_of, kind_of, new_app, 
 ghost use Rattle.scf_tool.specs.Requests.Command.{Ask, Asm, Check, Compare, Compile, Decide, Dis, Run};
 ghost use Rattle.scf_tool.specs.Faults.{fault_line};
 ghost use Rattle.scf_tool.specs.declared.fault.Fault.TheVariants as faults;
-ghost use Rattle.scf_tool.specs.Runs.{PrintsText, flag_rule, not_utf8_text, rule_for, scf, shape_with};
+ghost use Rattle.scf_tool.specs.Runs.{PrintsText, flag_rule, not_utf8_text, option_rule, scf, shape_with};
 ghost use Rattle.scf_tool.specs.internal.Parsing.{Explains, IsNamed, ReadsAsProgram, definition_of, option_of, options_of};
 
 use crate::fault::Fault;
@@ -39,7 +39,7 @@ const ABOUT: &str =
 
 /// An option, as the reader of the command line takes it.
 fn argument_of<'a>(alloc: Global, option: NumberOption) -> Arg<'a>
-    ensures rule { rule_of result ≡ rule_for (option_of option) }
+    ensures rule { rule_of result ≡ option_rule (option_of option) }
     ensures local { result.global ≡ false }
 {
     Arg::new(alloc, option.name)

@@ -1,7 +1,7 @@
 //! The program's commands.
 
 ghost use Rattle.std.specs.Prelude.{map};
-ghost use Rattle.scf_tool.specs.Commands.{IsTrueOf};
+ghost use Rattle.scf_tool.specs.Commands.{IsTrueReply};
 ghost use Rattle.scf_tool.specs.Runs.{Ends, IsRunOfProgram};
 ghost use Rattle.scf_tool.specs.Statuses.{LeavesInput};
 
@@ -31,7 +31,7 @@ const MAX_INPUT: usize = 16_777_216;
 
 /// What a request ends with.
 fn answer<R: Source>(alloc: Global, request: &Request, input: &mut R) -> Result<Reply, Fault>
-    ensures answer { IsTrueOf request.now (R.remaining input.old) result }
+    ensures answer { IsTrueReply request.now (R.remaining input.old) result }
     ensures left { LeavesInput request.now R.remaining R.failures input.old result input.new }
 {
     match request {

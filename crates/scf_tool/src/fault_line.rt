@@ -4,11 +4,11 @@ ghost use Rattle.std.specs.Prelude.{◌≡◌, ◌++◌, codes};
 ghost use Rattle.std.specs.List.{flat_map};
 ghost use Rattle.scf_insn.specs.Streams.{Writes};
 ghost use Rattle.scf_tool.specs.Faults as table;
-ghost use Rattle.scf_tool.specs.internal.Fields.{field_text, kind_of, numbers_of};
+ghost use Rattle.scf_tool.specs.internal.Fields.{field_text, kind_of, numbers_of_field};
 
 use crate::bundle::BundleFault;
 use crate::fault::Fault;
-use crate::pieces::{Piece, write_pieces};
+use crate::pieces::{LinePiece, write_pieces};
 use crate::status::Status;
 use crate::verification::VerifyFault;
 use scf_compile::CompileFault;
@@ -19,7 +19,7 @@ use scf_text::TextFault;
 
 /// A number that a fault names.
 #[derive(Clone, Copy)]
-pub(crate) struct Field {
+pub(crate) struct FaultField {
     pub name: &'static str,
     pub number: u64,
 }
@@ -29,16 +29,16 @@ pub(crate) struct Field {
 pub(crate) struct FaultKind {
     pub status: Status,
     pub name: &'static str,
-    pub fields: [Option<Field>; 3],
+    pub fields: [Option<FaultField>; 3],
 }
 
 /// No numbers.
-const NONE: [Option<Field>; 3] = [None, None, None];
+const NONE: [Option<FaultField>; 3] = [None, None, None];
 
-fn named(name: &'static str, number: usize) -> Option<Field>
-    ensures { numbers_of result ≡ table.one name.now number }
+fn named(name: &'static str, number: usize) -> Option<FaultField>
+    ensures { numbers_of_field result ≡ table.one name.now number }
 {
-    Some(Field {
+    Some(FaultField {
         name,
         number: number as u64,
     })
@@ -319,17 +319,17 @@ impl Fault {
     }
 }
 
-fn write_field<S: Sink>(sink: &mut S, field: Option<Field>) -> Result<(), WriteFault>
+fn write_field<S: Sink>(sink: &mut S, field: Option<FaultField>) -> Result<(), WriteFault>
     ensures { Writes S.contents S.failures sink.old (field_text field) result sink.new }
 {
     match field {
         Some(field) => write_pieces(
             sink,
             &[
-                Piece::Text(" "),
-                Piece::Text(field.name),
-                Piece::Text(" "),
-                Piece::Decimal(field.number),
+                LinePiece::Text(" "),
+                LinePiece::Text(field.name),
+                LinePiece::Text(" "),
+                LinePiece::Decimal(field.number),
             ],
         ),
         None => Ok(()),
@@ -337,7 +337,7 @@ fn write_field<S: Sink>(sink: &mut S, field: Option<Field>) -> Result<(), WriteF
 }
 
 /// Writes the numbers of a fault.
-fn write_fields<S: Sink>(sink: &mut S, fields: &[Option<Field>]) -> Result<(), WriteFault>
+fn write_fields<S: Sink>(sink: &mut S, fields: &[Option<FaultField>]) -> Result<(), WriteFault>
     ensures { Writes S.contents S.failures sink.old (flat_map field_text fields.now) result sink.new }
 {
     for field in fields {
@@ -354,10 +354,10 @@ fn write_kind<'a, S: Sink>(sink: &mut S, source: &'a str, kind: &'a str) -> Resu
     write_pieces(
         sink,
         &[
-            Piece::Text("fault "),
-            Piece::Text(source),
-            Piece::Text(" "),
-            Piece::Text(kind),
+            LinePiece::Text("fault "),
+            LinePiece::Text(source),
+            LinePiece::Text(" "),
+            LinePiece::Text(kind),
         ],
     )
 }

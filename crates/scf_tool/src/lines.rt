@@ -6,7 +6,7 @@ ghost use Rattle.scf_insn.specs.Streams.{Writes};
 ghost use Rattle.std.specs.List.{flat_map};
 ghost use Rattle.scf_tool.specs.Lines.{answer_text, path_text, place_text, reason_text, steps_text, text_by, traced_text};
 
-use crate::pieces::{Piece, write_pieces};
+use crate::pieces::{LinePiece, write_pieces};
 use scf_insn::{Action, Answer, Sink, WriteFault, write_whole};
 use scf_machine::Trace;
 use scf_profile::Reason;
@@ -18,9 +18,9 @@ fn write_named<S: Sink>(sink: &mut S, name: &str, detail: u16) -> Result<(), Wri
     write_pieces(
         sink,
         &[
-            Piece::Text(name),
-            Piece::Text(" "),
-            Piece::Decimal(u64::from(detail)),
+            LinePiece::Text(name),
+            LinePiece::Text(" "),
+            LinePiece::Decimal(u64::from(detail)),
         ],
     )
 }
@@ -40,7 +40,10 @@ fn write_action<S: Sink>(sink: &mut S, action: Action, answer: Answer) -> Result
         Action::Allow => write_named(sink, "ALLOW", detail),
         Action::Other(_) => write_pieces(
             sink,
-            &[Piece::Text("UNNAMED 0x"), Piece::EightDigits(answer.0)],
+            &[
+                LinePiece::Text("UNNAMED 0x"),
+                LinePiece::EightDigits(answer.0),
+            ],
         ),
     }
 }
@@ -59,9 +62,9 @@ pub(crate) fn write_steps<S: Sink>(sink: &mut S, steps: u32) -> Result<(), Write
     write_pieces(
         sink,
         &[
-            Piece::Text(" steps "),
-            Piece::Decimal(u64::from(steps)),
-            Piece::Text("\n"),
+            LinePiece::Text(" steps "),
+            LinePiece::Decimal(u64::from(steps)),
+            LinePiece::Text("\n"),
         ],
     )
 }
@@ -69,7 +72,10 @@ pub(crate) fn write_steps<S: Sink>(sink: &mut S, steps: u32) -> Result<(), Write
 fn write_place<S: Sink>(sink: &mut S, place: usize) -> Result<(), WriteFault>
     ensures { Writes S.contents S.failures sink.old (place_text place) result sink.new }
 {
-    write_pieces(sink, &[Piece::Text(" "), Piece::Decimal(place as u64)])
+    write_pieces(
+        sink,
+        &[LinePiece::Text(" "), LinePiece::Decimal(place as u64)],
+    )
 }
 
 fn write_places<S: Sink>(sink: &mut S, places: &[usize]) -> Result<(), WriteFault>
@@ -97,9 +103,9 @@ fn write_count<S: Sink>(sink: &mut S, places: &[usize]) -> Result<(), WriteFault
     write_pieces(
         sink,
         &[
-            Piece::Text(" steps "),
-            Piece::Decimal(places.len() as u64),
-            Piece::Text("\n"),
+            LinePiece::Text(" steps "),
+            LinePiece::Decimal(places.len() as u64),
+            LinePiece::Text("\n"),
         ],
     )
 }
@@ -130,9 +136,9 @@ pub(crate) fn write_reason<S: Sink>(sink: &mut S, reason: Reason) -> Result<(), 
         Reason::Entry(place) => write_pieces(
             sink,
             &[
-                Piece::Text(" entry "),
-                Piece::Decimal(u64::from(place)),
-                Piece::Text("\n"),
+                LinePiece::Text(" entry "),
+                LinePiece::Decimal(u64::from(place)),
+                LinePiece::Text("\n"),
             ],
         ),
         Reason::Default => write_whole(sink, b" default\n"),

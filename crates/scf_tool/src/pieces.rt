@@ -4,13 +4,13 @@ ghost use Rattle.std.specs.Prelude.{◌≡◌};
 ghost use Rattle.std.specs.List.{flat_map};
 ghost use Rattle.scf_insn.specs.Streams.{Writes};
 ghost use Rattle.scf_tool.specs.Numerals.{eight_digits};
-ghost use Rattle.scf_tool.specs.internal.Pieces.{piece_text};
+ghost use Rattle.scf_tool.specs.internal.Pieces.{line_piece_text};
 
 use scf_insn::{Sink, WriteFault, digit_byte, write_numeral, write_whole};
 
 /// A piece of a line.
 #[derive(Clone, Copy)]
-pub(crate) enum Piece<'a> {
+pub(crate) enum LinePiece<'a> {
     Text(&'a str),
     /// A number in decimal, without leading zeros.
     Decimal(u64),
@@ -35,20 +35,23 @@ fn eight_digits_of(number: u32) -> [u8; 8]
     ]
 }
 
-fn write_piece<S: Sink>(sink: &mut S, piece: Piece<'_>) -> Result<(), WriteFault>
-    ensures { Writes S.contents S.failures sink.old (piece_text piece.entry) result sink.new }
+fn write_piece<S: Sink>(sink: &mut S, piece: LinePiece<'_>) -> Result<(), WriteFault>
+    ensures { Writes S.contents S.failures sink.old (line_piece_text piece.entry) result sink.new }
 {
     match piece {
-        Piece::Text(text) => write_whole(sink, text.as_bytes()),
-        Piece::Decimal(number) => write_numeral(sink, number, 10),
-        Piece::Hexadecimal(number) => write_numeral(sink, number, 16),
-        Piece::EightDigits(number) => write_whole(sink, &eight_digits_of(number)),
+        LinePiece::Text(text) => write_whole(sink, text.as_bytes()),
+        LinePiece::Decimal(number) => write_numeral(sink, number, 10),
+        LinePiece::Hexadecimal(number) => write_numeral(sink, number, 16),
+        LinePiece::EightDigits(number) => write_whole(sink, &eight_digits_of(number)),
     }
 }
 
 /// Writes the pieces one after another, or fails after a beginning of their text.
-pub(crate) fn write_pieces<S: Sink>(sink: &mut S, pieces: &[Piece<'_>]) -> Result<(), WriteFault>
-    ensures { Writes S.contents S.failures sink.old (flat_map piece_text pieces.now) result sink.new }
+pub(crate) fn write_pieces<S: Sink>(
+    sink: &mut S,
+    pieces: &[LinePiece<'_>],
+) -> Result<(), WriteFault>
+    ensures { Writes S.contents S.failures sink.old (flat_map line_piece_text pieces.now) result sink.new }
 {
     for piece in pieces {
         write_piece(sink, *piece)?;

@@ -11,7 +11,7 @@ use crate::fault::Fault;
 use crate::fault_line::write_fault;
 use crate::gathered::Gathered;
 use crate::lines::{write_answer, write_reason, write_steps};
-use crate::pieces::{Piece, write_pieces};
+use crate::pieces::{LinePiece, write_pieces};
 use crate::status::Status;
 use scf_insn::{Answer, Sink, WriteFault, write_whole};
 use scf_machine::Ran;
@@ -53,9 +53,9 @@ fn write_accepted<S: Sink>(sink: &mut S, count: usize) -> Result<(), WriteFault>
     write_pieces(
         sink,
         &[
-            Piece::Text("accepted "),
-            Piece::Decimal(count as u64),
-            Piece::Text("\n"),
+            LinePiece::Text("accepted "),
+            LinePiece::Decimal(count as u64),
+            LinePiece::Text("\n"),
         ],
     )
 }

@@ -18,7 +18,7 @@ ghost use Rattle.scf_tool.specs.Reports.{
 
 use crate::gathered::Gathered;
 use crate::lines::write_answer;
-use crate::pieces::{Piece, write_pieces};
+use crate::pieces::{LinePiece, write_pieces};
 use crate::verification::Outcome;
 use scf_compare::{Relation, Verdict};
 use scf_insn::{Answer, CallRecord, Memory, Sink, WriteFault, write_whole};
@@ -35,13 +35,13 @@ fn write_call_front<S: Sink>(sink: &mut S, call: &CallRecord) -> Result<(), Writ
     write_pieces(
         sink,
         &[
-            Piece::Text("call nr "),
-            Piece::Decimal(u64::from(call.nr)),
-            Piece::Text(" arch 0x"),
-            Piece::Hexadecimal(u64::from(call.arch)),
-            Piece::Text(" ip 0x"),
-            Piece::Hexadecimal(call.ip),
-            Piece::Text(" args"),
+            LinePiece::Text("call nr "),
+            LinePiece::Decimal(u64::from(call.nr)),
+            LinePiece::Text(" arch 0x"),
+            LinePiece::Hexadecimal(u64::from(call.arch)),
+            LinePiece::Text(" ip 0x"),
+            LinePiece::Hexadecimal(call.ip),
+            LinePiece::Text(" args"),
         ],
     )
 }
@@ -49,7 +49,10 @@ fn write_call_front<S: Sink>(sink: &mut S, call: &CallRecord) -> Result<(), Writ
 fn write_argument<S: Sink>(sink: &mut S, argument: u64) -> Result<(), WriteFault>
     ensures { Writes S.contents S.failures sink.old (argument_text argument) result sink.new }
 {
-    write_pieces(sink, &[Piece::Text(" 0x"), Piece::Hexadecimal(argument)])
+    write_pieces(
+        sink,
+        &[LinePiece::Text(" 0x"), LinePiece::Hexadecimal(argument)],
+    )
 }
 
 pub(crate) fn write_arguments<S: Sink>(sink: &mut S, arguments: &[u64]) -> Result<(), WriteFault>
@@ -72,7 +75,7 @@ fn write_call<S: Sink>(sink: &mut S, call: &CallRecord) -> Result<(), WriteFault
 fn write_who<S: Sink>(sink: &mut S, who: &str) -> Result<(), WriteFault>
     ensures { Writes S.contents S.failures sink.old (who.now ++ codes " ") result sink.new }
 {
-    write_pieces(sink, &[Piece::Text(who), Piece::Text(" ")])
+    write_pieces(sink, &[LinePiece::Text(who), LinePiece::Text(" ")])
 }
 
 pub(crate) fn write_answer_line<S: Sink>(
@@ -113,7 +116,7 @@ pub(crate) fn failing(relation: Relation) -> &'static str
 pub(crate) fn write_word<S: Sink>(sink: &mut S, word: &str) -> Result<(), WriteFault>
     ensures { Writes S.contents S.failures sink.old (words.word_line word.now) result sink.new }
 {
-    write_pieces(sink, &[Piece::Text(word), Piece::Text("\n")])
+    write_pieces(sink, &[LinePiece::Text(word), LinePiece::Text("\n")])
 }
 
 /// Writes a call and its two answers.
@@ -139,9 +142,9 @@ fn write_undecided<S: Sink>(sink: &mut S, at: usize) -> Result<(), WriteFault>
     write_pieces(
         sink,
         &[
-            Piece::Text("undecided at "),
-            Piece::Decimal(at as u64),
-            Piece::Text("\n"),
+            LinePiece::Text("undecided at "),
+            LinePiece::Decimal(at as u64),
+            LinePiece::Text("\n"),
         ],
     )
 }
@@ -188,10 +191,10 @@ fn write_name<'a, S: Sink>(sink: &mut S, word: &'a str, name: &'a String) -> Res
     write_pieces(
         sink,
         &[
-            Piece::Text(word),
-            Piece::Text(" "),
-            Piece::Text(name.as_str()),
-            Piece::Text("\n"),
+            LinePiece::Text(word),
+            LinePiece::Text(" "),
+            LinePiece::Text(name.as_str()),
+            LinePiece::Text("\n"),
         ],
     )
 }

@@ -2,7 +2,7 @@
 
 ghost use Rattle.std.specs.Prelude.{Some, codes};
 ghost use Rattle.clap.specs.Words.{found_of, rows_of, subcommand_rows_of};
-ghost use Rattle.scf_tool.specs.Requests.{Asks};
+ghost use Rattle.scf_tool.specs.Requests.{AsksFor};
 
 use crate::fault::Fault;
 use crate::options::{
@@ -44,7 +44,7 @@ pub(crate) enum Request {
 
 /// The comparison that these options ask for.
 fn comparison_in(options: &ArgMatches<'_>) -> Result<Request, Fault>
-    ensures { Asks (Some (codes "compare", rows_of (found_of options.now))) result }
+    ensures { AsksFor (Some (codes "compare", rows_of (found_of options.now))) result }
 {
     let limit = limit_option().number_in(options)?;
     let scopes = chosen(options, &SCOPE_FLAGS, Scopes::All)?;
@@ -58,7 +58,7 @@ fn comparison_in(options: &ArgMatches<'_>) -> Result<Request, Fault>
 
 /// The run that these options ask for.
 fn run_in(options: &ArgMatches<'_>) -> Result<Request, Fault>
-    ensures { Asks (Some (codes "run", rows_of (found_of options.now))) result }
+    ensures { AsksFor (Some (codes "run", rows_of (found_of options.now))) result }
 {
     let call = record_of(options)?;
     if is_given(options, PATH_FLAG) {
@@ -70,7 +70,7 @@ fn run_in(options: &ArgMatches<'_>) -> Result<Request, Fault>
 
 /// What the matches of the words ask for.
 pub(crate) fn request_of(matches: &ArgMatches<'_>) -> Result<Request, Fault>
-    ensures { Asks (subcommand_rows_of matches.now) result }
+    ensures { AsksFor (subcommand_rows_of matches.now) result }
 {
     match matches.subcommand() {
         Some(("ask", options)) => Ok(Request::Ask(record_of(options)?)),

@@ -10,7 +10,7 @@ use Rattle.scf_tool.specs.declared.options.NumberOption.{NumberOption as Kept}
 use Rattle.scf_tool.specs.declared.reply.Reply.{Reply}
 use Rattle.scf_tool.specs.declared.reply.Reply.TheVariants as replies
 use Rattle.scf_tool.specs.Options.{NumberOption}
-use Rattle.scf_tool.specs.Requests.{Command, word_of}
+use Rattle.scf_tool.specs.Requests.{Command, command_word}
 use Rattle.scf_tool.specs.Runs.{kind_status, scf, scf_shape, shape_for}
 
 abbrev pub option_of : Kept → NumberOption
@@ -33,7 +33,7 @@ scf_with command = record { top = scf_shape; subs = shape_for command ∷ [] }
 
 -- the word names a command, and this is it
 abbrev pub IsNamed : Text → App → Type 0
-IsNamed word app = (command : Command) × (word ≡ word_of command) × (app ≡ definition_of command)
+IsNamed word app = (command : Command) × (word ≡ command_word command) × (app ≡ definition_of command)
 
 -- The words come to the same by this definition as by the program's.
 pub record ReadsAsProgram (app : App) (words : List Text) : Type 0 where

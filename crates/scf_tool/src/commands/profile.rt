@@ -1,7 +1,7 @@
 //! Commands on a profile and its call table.
 
 ghost use Rattle.std.specs.Prelude.{IfOk, IfErr};
-ghost use Rattle.scf_tool.specs.Commands.{CantCompile, CantLoad, Compiles, GivesReason, IsFilterOf, IsStated};
+ghost use Rattle.scf_tool.specs.Commands.{CantCompile, CantLoad, Compiles, GivesReason, IsFilterOfProfile, IsStated};
 ghost use Rattle.scf_tool.specs.Statuses.{LeavesWhole};
 
 use crate::commands::MAX_INPUT;
@@ -28,7 +28,7 @@ fn loaded(alloc: Global, profile: &[u8], table: &[u8]) -> Result<Loaded, VerifyF
 
 /// The bytes of the filter of a profile and a table.
 fn filter_bytes(alloc: Global, profile: &[u8], table: &[u8]) -> Result<Vec<u8>, Fault>
-    ensures filter { IfOk result (λ bytes. IsFilterOf profile.now table.now bytes.items) }
+    ensures filter { IfOk result (λ bytes. IsFilterOfProfile profile.now table.now bytes.items) }
     ensures fault { IfErr result (CantCompile profile.now table.now) }
 {
     let loaded = loaded(alloc, profile, table)?;

@@ -1,11 +1,11 @@
 use Rattle.std.proofs.Common.{◌-◌, ◌≤◌, length, take}
-use Rattle.scf_tool.specs.Bundle.{Spells}
+use Rattle.scf_tool.specs.Bundle.{SpellsBundle}
 use Rattle.scf_tool.proofs.bundle.split.Given as goal
 
 abbrev pub invariant-loop-offset : goal.invariant-loop-offset
 invariant-loop-offset l = record {
   inside : l.offset ≤ length l.bytes;
-  spelled : Spells (take l.offset l.bytes) l.parts.items;
+  spelled : SpellsBundle (take l.offset l.bytes) l.parts.items;
 }
 
 abbrev pub decreases-loop-offset : goal.decreases-loop-offset

@@ -3,7 +3,7 @@ use Rattle.std.specs.Prelude.{IfSome}
 use Rattle.std.proofs.lemmas.Result.{IfOk-weaker}
 use Rattle.clap.specs.Words.{App, Text, app_of}
 use Rattle.clap.specs.declared.builder.command.Command.{Command}
-use Rattle.scf_tool.specs.Requests.{word_of}
+use Rattle.scf_tool.specs.Requests.{command_word}
 use Rattle.scf_tool.specs.Runs.{shape_for}
 use Rattle.scf_tool.specs.internal.Parsing.{IsNamed, ReadsAsProgram, scf_with}
 use Rattle.scf_tool.proofs.CommandLineLemmas.{bare, behind_first, one_more_command, reads_whole, reads_with}
@@ -17,7 +17,7 @@ returns-in-Some-2 g c =
     c.in-Some-2.is c.in_ok-command.ensures in
     let parts = behind_first g.T.AsStr.text c.args.words.now c.in-Some.word.now
     c.in-Some.ensures.lookup.3.0 c.in-Some.ensures.lookup.1 in
-    let is_words : words ≡ parts.0 ∷ word_of named.0 ∷ parts.1 =
+    let is_words : words ≡ parts.0 ∷ command_word named.0 ∷ parts.1 =
     parts.2 ∙ ap (λ (word : Text). parts.0 ∷ word ∷ parts.1) (sym c.as_str.ensures ∙ named.1) in
     IfOk-weaker c.subcommand.result _ _
     (λ command added.

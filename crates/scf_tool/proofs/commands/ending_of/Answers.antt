@@ -7,12 +7,12 @@ use Rattle.scf_tool.specs.declared.fault.Fault.{Fault}
 use Rattle.scf_tool.specs.declared.fault.Fault.TheVariants as faults
 use Rattle.scf_tool.specs.declared.reply.Reply.{Reply}
 use Rattle.scf_tool.specs.declared.reply.Reply.TheVariants.{CommandLine}
-use Rattle.scf_tool.specs.Requests.{Asks}
+use Rattle.scf_tool.specs.Requests.{AsksFor}
 use Rattle.scf_tool.specs.Runs.{SpeaksOfWords, scf}
 use Rattle.scf_tool.specs.internal.Parsing.{Explains}
 use Rattle.scf_tool.proofs.commands.ending_of.Goals as goal
 
-refused : (words : List Text) (fault : Fault) → fault_of scf words ≡ [] → Asks (subcommand_of scf words) (Err fault)
+refused : (words : List Text) (fault : Fault) → fault_of scf words ≡ [] → AsksFor (subcommand_of scf words) (Err fault)
     → SpeaksOfWords words (Err fault)
 refused words faults.CommandLine taken asks = tt
 refused words fault taken asks = (taken, asks)
@@ -28,7 +28,7 @@ pub returns-in_err-request_of-in-Ok : goal.returns-in_err-request_of-in-Ok
 returns-in_err-request_of-in-Ok g c =
     let words = map g.T.AsStr.text c.args.words.now in
     let p = err_from_is_err_and c.from_residual.result c.from_residual.ensures.1 in
-    let asks = subst (λ (asked : Option (List ℕ × List Row)). Asks asked (Err c.in_err-request_of-in-Ok.field-0.0))
+    let asks = subst (λ (asked : Option (List ℕ × List Row)). AsksFor asked (Err c.in_err-request_of-in-Ok.field-0.0))
     c.in-Ok.ensures.matches c.in_err-request_of-in-Ok.ensures in
     rw (p.1, p.2) (inl (refused words c.in_err-request_of-in-Ok.field-0.0 c.in-Ok.ensures.kinds asks, refl))
 

@@ -1,7 +1,7 @@
 use Rattle.std.proofs.Common.{rules, ◌≤◌, length, Ok, Err, arith}
 use Rattle.std.proofs.lemmas.Result.{err_from_is_err_and}
 use Rattle.std.proofs.lemmas.Bool.Decides.{nat_tests}
-use Rattle.scf_tool.specs.Commands.{IsRead}
+use Rattle.scf_tool.specs.Commands.{IsInputRead}
 use Rattle.scf_tool.proofs.StackLemmas.{bundle_compared}
 use Rattle.scf_tool.proofs.commands.compare.compare_bundle.Goals as goal
 
@@ -9,7 +9,7 @@ pub returns-in_err-compare_parts-clause-answer : goal.returns-in_err-compare_par
 returns-in_err-compare_parts-clause-answer g c =
     let p = err_from_is_err_and c.from_residual-in_err-compare_parts.result
     c.from_residual-in_err-compare_parts.ensures.1 in
-    let read : IsRead (g.R.Source.remaining c.args.input.now) c.deref.result.now = search rules in
+    let read : IsInputRead (g.R.Source.remaining c.args.input.now) c.deref.result.now = search rules in
     let profile = rw c.in-Some-Some-false.is-0 at c.only-profile.ensures in
     let table = rw c.in-Some-Some-false.is-1 at c.only-table.ensures in
     let some : 1 ≤ length c.deref_mut.result.now =
@@ -21,7 +21,7 @@ returns-in_err-compare_parts-clause-answer g c =
 
 pub returns-clause-answer : goal.returns-clause-answer
 returns-clause-answer g c =
-    let read : IsRead (g.R.Source.remaining c.args.input.now) c.deref.result.now = search rules in
+    let read : IsInputRead (g.R.Source.remaining c.args.input.now) c.deref.result.now = search rules in
     let profile = rw c.in-Some-Some-false.is-0 at c.only-profile.ensures in
     let table = rw c.in-Some-Some-false.is-1 at c.only-table.ensures in
     let some : 1 ≤ length c.deref_mut.result.now =

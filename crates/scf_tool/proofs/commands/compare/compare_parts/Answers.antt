@@ -4,7 +4,7 @@ use Rattle.scf_tool.specs.declared.parties.Parties.{Parties}
 use Rattle.scf_tool.specs.declared.reply.Reply.{Reply}
 use Rattle.scf_tool.specs.declared.reply.Reply.TheVariants.{CommandLine, Accepted, Ran, Decided, Asked, Bytes, Compared}
 use Rattle.scf_tool.specs.declared.status.Status.{Status}
-use Rattle.scf_tool.specs.Commands.{ComesTo, IsReported}
+use Rattle.scf_tool.specs.Commands.{EndsInReport, IsReported}
 use Rattle.scf_tool.specs.internal.Reporting.{IsReportOn}
 use Rattle.scf_tool.specs.internal.Verification.{AreParties}
 use Rattle.scf_tool.proofs.PartyLemmas.{parties_are_read}
@@ -13,7 +13,7 @@ use Rattle.scf_tool.proofs.commands.compare.compare_parts.Goals as goal
 reported_parties : (reported : List (List ℕ) → List ℕ → List ℕ → ℕ → List ℕ → Status → Type 0) (limit : ℕ)
     (parties : Parties) (filters : List (List ℕ)) (profile table : List ℕ) (reply : Reply)
     → AreParties (map Some filters) (Some table) (Some profile) parties → IsReportOn reported limit parties reply
-    → ComesTo (reported filters profile table limit) filters profile table (Ok reply)
+    → EndsInReport (reported filters profile table limit) filters profile table (Ok reply)
 reported_parties reported limit parties filters profile table (Compared text status) read h =
     h filters profile table read
 reported_parties reported limit parties filters profile table (CommandLine text status) read h = absurd h

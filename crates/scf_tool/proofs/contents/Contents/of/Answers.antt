@@ -1,7 +1,7 @@
 use Rattle.std.proofs.Common.{List, arith, subst, sym}
 use Rattle.scf_tool.specs.declared.bundle.Part.{Part}
 use Rattle.scf_tool.specs.declared.bundle.PartKind.TheVariants.{Filter, Profile, Table}
-use Rattle.scf_tool.specs.Bundle.{Spells}
+use Rattle.scf_tool.specs.Bundle.{SpellsBundle}
 use Rattle.scf_tool.proofs.BundleLemmas.{part_inside}
 use Rattle.scf_tool.proofs.ContentLemmas.{next_held}
 use Rattle.scf_tool.proofs.contents.Contents.of.Goals as goal
@@ -9,7 +9,7 @@ use Rattle.scf_tool.proofs.contents.Contents.of.Goals as goal
 pub held-requires : goal.held-requires
 held-requires c =
     let none : Part = record { kind = Filter; start = 0; length = 0 } in
-    let spelled = subst (λ (parts : List Part). Spells c.args.bytes.now parts) (sym c.deref-part-items.ensures.value)
+    let spelled = subst (λ (parts : List Part). SpellsBundle c.args.bytes.now parts) (sym c.deref-part-items.ensures.value)
     c.in_ok-parts.ensures.parts in
     omega (
       arith,
