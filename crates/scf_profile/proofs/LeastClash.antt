@@ -8,7 +8,7 @@ use Rattle.std.proofs.lemmas.List.{get_or-map, length-map, take_all, take_more}
 use Rattle.std.proofs.lemmas.List.Elements.{All-contains, All-contains_itself, All-filter, All-same, Contains-push_cases}
 use Rattle.scf_profile.specs.declared.conflict.Clash.{Clash}
 use Rattle.scf_profile.specs.declared.rule.Rule.{Rule}
-use Rattle.scf_profile.specs.internal.Clashes.{IsAtMost, IsBoundedBy, IsClash, IsClashAmong}
+use Rattle.scf_profile.specs.internal.Clashes.{IsBoundedBy, IsClash, IsClashAmong}
 use Rattle.scf_profile.specs.ByNumber.{rules_at}
 use Rattle.scf_profile.specs.Loading.{EntriesConflict, IsLeastConflict}
 use Rattle.scf_profile.specs.Rule.{Conflicts, IsRule}
@@ -143,24 +143,16 @@ bounded rules least all first second number e =
       order_of : (h : EntriesConflict rules first second number) → h.rule.entry < h.later.entry
       order_of h = let lt : first < second = h.order in let l = h.entry in let m = h.later_entry in omega arith
 
-pub least_conflict_from : (rules : List Rule) (c : Clash) → EntriesConflict rules c.first c.second c.number
-    → AreBounded rules (Some c)
-    → IsLeastConflict rules c.number c.first c.second
-least_conflict_from rules c conflict all = record {
-  conflict = conflict;
-  least_second = λ f s n e. (at f s n e).second;
-  least_first = λ f n e. (at f c.second n e).first refl;
-  least_number = λ n e. (at c.first c.second n e).number refl refl;
-} where
-  at : (f s n : ℕ) → EntriesConflict rules f s n → IsAtMost c (clash_for f s n)
-  at f s n e = bounded rules (Some c) all f s n e
-
 pub least_found : (rules : List Rule) (least : Option Clash)
-    → IfSome least (λ c. EntriesConflict rules c.first c.second c.number)
-    → AreBounded rules least
+    → IfSome least (λ c. EntriesConflict rules c.first c.second c.number) → AreBounded rules least
     → IfSome least (λ c. IsLeastConflict rules c.number c.first c.second)
 least_found rules None found all = tt
-least_found rules (Some c) found all = least_conflict_from rules c found all
+least_found rules (Some c) found all = record {
+  conflict = found;
+  least_second = λ f s n e. (bounded rules (Some c) all f s n e).second;
+  least_first = λ f n e. (bounded rules (Some c) all f c.second n e).first refl;
+  least_number = λ n e. (bounded rules (Some c) all c.first c.second n e).number refl refl;
+}
 
 pub none_found : (rules : List Rule) (least : Option Clash)
     → AreBounded rules least

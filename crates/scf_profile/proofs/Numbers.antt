@@ -4,7 +4,7 @@ use Rattle.std.proofs.Common.{◌⊎◌, List, [], ◌∷◌, refl, sym, ap, ◌
 use Rattle.std.specs.Prelude.{Contains}
 use Rattle.std.specs.List.{filter, list_any}
 use Rattle.std.proofs.lemmas.Bool.{cases_eq, cases_Bool, eq-eqb, ne_eqb, cond-true, not_from_false, or_right}
-use Rattle.std.proofs.lemmas.List.Elements.{filter-append}
+use Rattle.std.proofs.lemmas.List.Elements.{Contains-append_right, filter-append}
 use Rattle.scf_profile.specs.declared.rule.Rule.{Rule}
 use Rattle.scf_profile.specs.RulesByNumber.{numbers_of}
 
@@ -34,9 +34,6 @@ numbers_of-push (x ∷ xs) r =
     ∙ ap (λ (ns : List ℕ). x.number ∷ filter (λ number. not (eqb number x.number)) (numbers_of xs) ++ ns)
     (last_kept x.number r.number (has_number r.number xs))
 
-contains_cons : {A : Type 0} (y : A) (ys : List A) (x : A) → Contains ys x → Contains (y ∷ ys) x
-contains_cons y ys x (k, lt, e) = (suc k, omega arith, e)
-
 contains_cons_cases : {A : Type 0} (y : A) (ys : List A) (x : A) → Contains (y ∷ ys) x → (y ≡ x) ⊎ Contains ys x
 contains_cons_cases y ys x (zero, lt, e) = inl e
 contains_cons_cases y ys x (suc k, lt, e) = inr (k, omega arith, e)
@@ -49,7 +46,7 @@ contains_filtered p (y ∷ ys) x passes h =
     elim (contains_cons_cases y ys x h) [
       | inl e ↦ let here : p y ≡ true = ap p e ∙ passes in rw here (0, omega arith, e)
       | inr later ↦ elim (cases_Bool (p y)) [
-        | inl kept ↦ rw kept (contains_cons y (filter p ys) x (contains_filtered p ys x passes later))
+        | inl kept ↦ rw kept (Contains-append_right (y ∷ []) (filter p ys) x (contains_filtered p ys x passes later))
         | inr dropped ↦ rw dropped (contains_filtered p ys x passes later)
       ]
     ]
@@ -62,7 +59,7 @@ numbers_of-contains (x ∷ xs) r h =
       | inl e ↦ (0, omega arith, ap (λ (s : Rule). s.number) e)
       | inr later ↦ elim (cases_eq r.number x.number) [
         | inl same ↦ (0, omega arith, sym same)
-        | inr apart ↦ contains_cons x.number _ r.number
+        | inr apart ↦ Contains-append_right (x.number ∷ []) _ r.number
             (contains_filtered (λ number. not (eqb number x.number)) (numbers_of xs) r.number
             (not_from_false _ (ne_eqb r.number x.number apart)) (numbers_of-contains xs r later))
       ]

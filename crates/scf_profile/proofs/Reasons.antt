@@ -11,8 +11,7 @@ use Rattle.scf_profile.specs.declared.reason.Reason.{Reason}
 use Rattle.scf_profile.specs.declared.reason.Reason.TheVariants.{Foreign, Entry, Default}
 use Rattle.scf_profile.specs.declared.rule.Rule.{Rule}
 use Rattle.scf_profile.specs.Rule.{meets}
-use Rattle.scf_insn.specs.Kernel.{seccomp_ret_kill_process}
-use Rattle.scf_profile.specs.Profile.{Profile, HaveNoConflict, IsNative}
+use Rattle.scf_profile.specs.Profile.{Profile, HaveNoConflict}
 use Rattle.scf_profile.specs.ProfileAnswers.{ProfileAnswers, foreign, by_rule, by_default}
 use Rattle.scf_profile.specs.Reasons.{entries_met, IsReason, IsAnswerOf}
 use Rattle.scf_profile.proofs.Answering.{same_answer}
@@ -66,33 +65,18 @@ unmet (r ∷ rules) call none =
     let first = unmet_first r rules call (meets r call) refl none in
     All-cons (λ s. meets s call ≡ false) r rules first.0 (unmet rules call first.1)
 
-answer_of_entry : (p : Profile) (call : CallRecord) (answer : ℕ) → HaveNoConflict p.rules → IsRecord call
-    → IsNative call → ProfileAnswers p call answer
-    → (r : Rule) → Contains p.rules r → meets r call ≡ true → answer ≡ r.answer.0
-answer_of_entry p call answer none fits native (foreign h) r has met = absurd (h native)
-answer_of_entry p call answer none fits native (by_rule s also has_too met_too) r has met =
-    same_answer s r call (none s r has_too has) fits met_too met
-answer_of_entry p call answer none fits native (by_default also unmet) r has met =
-    absurd (both_ways _ (unmet r has) met)
-
-answer_by_default : (p : Profile) (call : CallRecord) (answer : ℕ) → IsNative call → entries_met p.rules call ≡ []
-    → ProfileAnswers p call answer → answer ≡ p.default_answer.0
-answer_by_default p call answer native none (foreign h) = absurd (h native)
-answer_by_default p call answer native none (by_rule s also has met) =
-    absurd (both_ways _ (All-contains (λ r. meets r call ≡ false) p.rules s (unmet p.rules call none) has) met)
-answer_by_default p call answer native none (by_default also no_rule) = refl
-
-answer_to_foreign : (p : Profile) (call : CallRecord) (answer : ℕ) → (IsNative call → ⊥)
-    → ProfileAnswers p call answer → answer ≡ seccomp_ret_kill_process
-answer_to_foreign p call answer not_native (foreign h) = refl
-answer_to_foreign p call answer not_native (by_rule s native has met) = absurd (not_native native)
-answer_to_foreign p call answer not_native (by_default native no_rule) = absurd (not_native native)
-
 -- the answer is that of its reason
 pub answer_of_reason : (p : Profile) (call : CallRecord) (reason : Reason) (answer : ℕ) → HaveNoConflict p.rules
     → IsRecord call → IsReason p call reason → ProfileAnswers p call answer → IsAnswerOf p call reason answer
-answer_of_reason p call Foreign answer none fits reason answers = answer_to_foreign p call answer reason answers
-answer_of_reason p call (Entry place) answer none fits reason answers = λ r has stated met.
-    answer_of_entry p call answer none fits reason.0 answers r has met
-answer_of_reason p call Default answer none fits reason answers =
-    answer_by_default p call answer reason.0 reason.1 answers
+answer_of_reason p call Foreign answer none fits reason (foreign h) = refl
+answer_of_reason p call Foreign answer none fits reason (by_rule s native has met) = absurd (reason native)
+answer_of_reason p call Foreign answer none fits reason (by_default native no_rule) = absurd (reason native)
+answer_of_reason p call (Entry place) answer none fits reason (foreign h) = absurd (h reason.0)
+answer_of_reason p call (Entry place) answer none fits reason (by_rule s native has_too met_too) =
+    λ r has stated met. same_answer s r call (none s r has_too has) fits met_too met
+answer_of_reason p call (Entry place) answer none fits reason (by_default native no_rule) =
+    λ r has stated met. absurd (both_ways _ (no_rule r has) met)
+answer_of_reason p call Default answer none fits reason (foreign h) = absurd (h reason.0)
+answer_of_reason p call Default answer none fits reason (by_rule s native has met) =
+    absurd (both_ways _ (All-contains (λ r. meets r call ≡ false) p.rules s (unmet p.rules call reason.1) has) met)
+answer_of_reason p call Default answer none fits reason (by_default native no_rule) = refl

@@ -5,7 +5,6 @@ use Rattle.std.specs.Prelude.{IfErr}
 use Rattle.std.proofs.lemmas.Result.{IfErr-at_err}
 use Rattle.scf_insn.specs.declared.answer.Action.{Action}
 use Rattle.serde_json.specs.Data.{Data, Items, no_items, item}
-use Rattle.scf_profile.specs.declared.condition.Condition.{Condition}
 use Rattle.scf_profile.specs.declared.load_fault.LoadFault.{LoadFault}
 use Rattle.scf_profile.specs.declared.load_fault.LoadFault.TheVariants as faults
 use Rattle.scf_profile.specs.declared.loaded.Loaded.{Loaded}
@@ -76,22 +75,9 @@ module _ (entry : Option ℕ) where
   number_test None = ok_test _
   number_test (Some d) = search tests
 
-  action_test : (name : List ℕ) (d : Data) → IsTest (action_in entry name d)
-  unfolding action_in
-  action_test name d = search tests depth 12
-
-  condition_test : (earlier : List Condition) (d : Data) → IsTest (condition_of entry earlier d)
-  unfolding condition_of index_in operator_in value_in value_two_in
-  condition_test earlier d = search (tests, number_test) depth 30
-
-  names_test : (d : Data) → IsTest (names_in entry d)
-  unfolding names_in
-  names_test d = search tests depth 16
-
 entry_test : (place : ℕ) (d : Data) → IsTest (entry_of place d)
-unfolding entry_of no_engine_form answer_in conditions_in
-entry_test place d =
-    search (tests, empty_test, names_test, action_test, errno_test, items_test, condition_test) depth 30
+unfolding entry_of no_engine_form names_in action_in answer_in conditions_in condition_of index_in operator_in value_in value_two_in
+entry_test place d = search (tests, empty_test, errno_test, items_test, number_test) depth 40 fits 4000
 
 root_test : (root : Data) (action linux : Option Data) → IsTest (root_or_linux root action linux)
 unfolding seccomp_in
@@ -99,13 +85,10 @@ root_test root (Some action) linux = ok_test _
 root_test root None None = ok_test _
 root_test root None (Some linux) = search tests depth 16
 
-object_test : (table : Names) (d : Data) → IsTest (object_states table d)
-unfolding object_states answer_in architectures_in no_engine_form entries_in rules_in
-object_test table d = search (tests, action_test, errno_test, items_test, empty_test, entry_test) depth 30
-
 profile_test : (table : Names) (root : Data) → IsTest (profile_of table root)
-unfolding profile_of seccomp_of
-profile_test table root = search (tests, root_test, object_test) depth 12
+unfolding profile_of seccomp_of object_states action_in answer_in architectures_in no_engine_form entries_in rules_in
+profile_test table root =
+    search (tests, root_test, errno_test, items_test, empty_test, entry_test) depth 40 fits 4000
 
 -- what the value of a text fails first, or want of memory
 pub refuses_of_fault : (text : List ℕ) (table : Names) (d : Data) (e : LoadFault) → IsText text d

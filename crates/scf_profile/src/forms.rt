@@ -49,6 +49,7 @@ fn text_of(entry: Option<u32>, value: &Value) -> Result<&str, LoadFault>
 }
 
 /// The texts of an array.
+#[tactic(auto, using(crate::proofs::Loops::items_left), unfolding(crate::specs::JsonMembers::each))]
 pub(crate) fn texts_of<'v>(
     alloc: Global,
     entry: Option<u32>,
