@@ -67,7 +67,8 @@ IsUnreadInput told fault = IfSome told (λ all. IsInput (λ (read : List ℕ). r
 
 -- The input is a bundle whose parts hold these filters, these profiles and these tables.
 abbrev pub HoldsBundle : Option (List ℕ) → List (List ℕ) → List (List ℕ) → List (List ℕ) → Type 0
-HoldsBundle told filters profiles tables = (bytes : List ℕ) × IsInputRead told bytes × IsBundle bytes filters profiles tables
+HoldsBundle told filters profiles tables =
+    (bytes : List ℕ) × IsInputRead told bytes × IsBundle bytes filters profiles tables
 
 -- The input is a bundle, but the counts of its filters, profiles and tables aren't such.
 abbrev pub HoldsOthers : Option (List ℕ) → (ℕ → ℕ → ℕ → Type 0) → Type 0
@@ -259,7 +260,8 @@ IsReported Native = IsReportedIn scopes.Native
 IsReported EachCall = IsReportedByCall
 
 -- filters, a profile and a table come to a report, or are refused
-abbrev pub EndsInReport : (List ℕ → Status → Type 0) → List (List ℕ) → List ℕ → List ℕ → Result Reply VerifyFault → Type 0
+abbrev pub EndsInReport : (List ℕ → Status → Type 0) → List (List ℕ) → List ℕ → List ℕ
+    → Result Reply VerifyFault → Type 0
 EndsInReport reported filters profile table (Ok (Compared text status)) = reported text.items status
 EndsInReport reported filters profile table (Err fault) =
     NoReadFailed fault × IsRefusedStack (map Some filters) (Some table) (Some profile) fault
