@@ -29,7 +29,7 @@ use Rattle.scf_profile.specs.NamedCalls.{numbers_in, HasNumber, HasItsNames, Are
 use Rattle.scf_profile.specs.Names.{named, names_of}
 use Rattle.scf_profile.specs.References.{texts_at}
 use Rattle.scf_profile.specs.Table.{Names}
-use Rattle.scf_profile.specs.internal.NamesByNumber.{Named, call_of, names_under, names_with, AreByNumber}
+use Rattle.scf_profile.specs.internal.NamesByNumber.{Named, named_call, names_under, names_with, AreByNumber}
 use Rattle.scf_profile.proofs.NamesOf.{get_named}
 
 -- keys are in order where the elements are in the order of their keys
@@ -147,7 +147,7 @@ module _ (numbers : BTreeMap (String Global) ℕ) (ordered : IsOrdered string_cm
 
 -- ---- names under numbers as calls
 
-numbers_told : (es : List (ℕ × Vec (Bor (List ℕ)) Global)) → numbers_in (map call_of es) ≡ keys_of es
+numbers_told : (es : List (ℕ × Vec (Bor (List ℕ)) Global)) → numbers_in (map named_call es) ≡ keys_of es
 numbers_told [] = refl
 numbers_told (e ∷ es) = ap (λ (ns : List ℕ). e.0 ∷ ns) (numbers_told es)
 
@@ -157,7 +157,7 @@ module _ (numbers : BTreeMap (String Global) ℕ) (under : Named) (by_number : A
   table = names_of numbers.entries
 
   its_names : (e : ℕ × Vec (Bor (List ℕ)) Global) → tree.get nat_cmp under e.0 ≡ Some e.1
-      → HasItsNames table (call_of e)
+      → HasItsNames table (named_call e)
   its_names e found =
       let there : names_under under e.0 ≡ texts_at e.1.items = rw found refl in
       let same : texts_at e.1.items ≡ names_with e.0 numbers.entries = sym there ∙ by_number.names e.0 in
@@ -167,7 +167,7 @@ module _ (numbers : BTreeMap (String Global) ℕ) (under : Named) (by_number : A
         exact = λ q. subst (Exact q) (sym same) (names_exact numbers by_number.ordered e.0 q);
       }
 
-  numbers_exact : (n : ℕ) → Contains (numbers_in (map call_of under.entries)) n ↔ HasNumber table n
+  numbers_exact : (n : ℕ) → Contains (numbers_in (map named_call under.entries)) n ↔ HasNumber table n
   numbers_exact n =
       let key = btree_map_contains_key_iff nat_cmp_total exact_unsigned under n in
       let has : List ℕ → Type 0 = λ ns. Contains ns n in (
@@ -180,11 +180,11 @@ module _ (numbers : BTreeMap (String Global) ℕ) (under : Named) (by_number : A
       )
 
   -- the numbers of names, each over its names, are the calls of the table
-  pub are_calls : AreCallsOf table (map call_of under.entries)
+  pub are_calls : AreCallsOf table (map named_call under.entries)
   are_calls = record {
     rising = subst IsStrictlyIncreasing (sym (numbers_told under.entries)) (IsStrictlyIncreasing-from_sorted _ rising);
     exact = numbers_exact;
     names =
-        All-map (HasItsNames table) call_of under.entries
+        All-map (HasItsNames table) named_call under.entries
         (λ k d lt. its_names (get_or under.entries k d) (All-found nat_cmp_total under rising k d lt));
   }

@@ -91,12 +91,12 @@ absent_or_empty entry (Some d) = refused_if (not (is_empty d)) (faults.EngineFor
 unfoldable pub no_engine_form : Option ℕ → List ℕ → Data → Result ⊤ LoadFault
 no_engine_form entry name d = absent_or_empty entry (member name d)
 
-abbrev pub text_of : Option ℕ → Data → Result (List ℕ) LoadFault
-text_of entry d = some_or (as_str d) (faults.Kind entry)
+abbrev pub string_of : Option ℕ → Data → Result (List ℕ) LoadFault
+string_of entry d = some_or (as_str d) (faults.Kind entry)
 
--- the texts of an array
-abbrev pub texts_of : Option ℕ → Items → Result (List (List ℕ)) LoadFault
-texts_of entry items = each (λ before. text_of entry) [] items
+-- the strings of an array
+abbrev pub strings_of : Option ℕ → Items → Result (List (List ℕ)) LoadFault
+strings_of entry items = each (λ before. string_of entry) [] items
 
 -- the items of an array that may be absent
 abbrev pub items_or_none : Option ℕ → Option Data → Result Items LoadFault
@@ -170,7 +170,7 @@ names_in entry d = do
   found ← some_or (member (codes "names") d) (faults.Missing entry)
   items ← some_or (as_array found) (faults.Kind entry)
   _ ← refused_if (not (has_items items)) (faults.EmptyNames entry)
-  texts_of entry items
+  strings_of entry items
 
 unfoldable pub entry_of : ℕ → Data → Result Entry LoadFault
 entry_of place d = do
@@ -208,7 +208,7 @@ is_other_architecture name = not (bytes_eq x86_64 name)
 unfoldable pub architectures_in : Data → Result (List (List ℕ)) LoadFault
 architectures_in d = do
   items ← items_or_none None (member (codes "architectures") d)
-  names ← texts_of None items
+  names ← strings_of None items
   _ ← refused_if (lacks_x86_64 names) (faults.NoX8664 None)
   Ok names
 

@@ -3,8 +3,8 @@
 ghost use Rattle.std.specs.Prelude.{◌≡◌};
 ghost use Rattle.serde_json.specs.View.{view, items_view};
 ghost use Rattle.scf_profile.specs.declared.load_fault.LoadFault.TheVariants.{Memory};
-ghost use Rattle.scf_profile.specs.StatedProfile.{is_empty as empty_value, no_engine_form, text_of as text_stated};
-ghost use Rattle.scf_profile.specs.StatedProfile.{texts_of as texts_stated, names_in};
+ghost use Rattle.scf_profile.specs.StatedProfile.{is_empty as empty_value, no_engine_form, string_of as string_stated};
+ghost use Rattle.scf_profile.specs.StatedProfile.{strings_of as strings_stated, names_in};
 ghost use Rattle.scf_profile.specs.Steps.{Gives};
 ghost use Rattle.scf_profile.specs.internal.Results.{result_map};
 
@@ -42,24 +42,24 @@ pub(crate) fn check_no_engine_form(
     }
 }
 
-fn text_of(entry: Option<u32>, value: &Value) -> Result<&str, LoadFault>
-    ensures { result_map (λ s. s.now) result ≡ text_stated entry (view value.now) }
+fn string_of(entry: Option<u32>, value: &Value) -> Result<&str, LoadFault>
+    ensures { result_map (λ s. s.now) result ≡ string_stated entry (view value.now) }
 {
     value.as_str().ok_or(LoadFault::Kind { entry })
 }
 
-/// The texts of an array.
+/// The strings of an array.
 #[tactic(auto, using(crate::proofs::Loops::items_left), unfolding(crate::specs::JsonMembers::each))]
-pub(crate) fn texts_of<'v>(
+pub(crate) fn strings_of<'v>(
     alloc: Global,
     entry: Option<u32>,
     items: &'v [Value],
 ) -> Result<BorrowedTexts<'v>, LoadFault>
-    ensures { Gives Memory result (texts_stated entry (items_view items.now)) }
+    ensures { Gives Memory result (strings_stated entry (items_view items.now)) }
 {
     let mut texts = BorrowedTexts::new(alloc);
     for item in items {
-        let text = text_of(entry, item)?;
+        let text = string_of(entry, item)?;
         texts.push(text)?;
     }
     Ok(texts)
@@ -79,5 +79,5 @@ pub(crate) fn find_names<'v>(
     if !has_items(names) {
         return Err(LoadFault::EmptyNames { entry });
     }
-    texts_of(alloc, entry, names)
+    strings_of(alloc, entry, names)
 }

@@ -5,7 +5,7 @@ ghost use Rattle.std.specs.BTreeMap.{get, IsOrdered};
 ghost use Rattle.std.specs.Ordering.{nat_cmp};
 ghost use Rattle.scf_profile.specs.NamedCalls.{AreCallsOf};
 ghost use Rattle.scf_profile.specs.Names.{names_of};
-ghost use Rattle.scf_profile.specs.internal.NamesByNumber.{AreByNumber, call_of, names_under};
+ghost use Rattle.scf_profile.specs.internal.NamesByNumber.{AreByNumber, named_call, names_under};
 
 use std::alloc::{AllocError, Global};
 use std::collections::BTreeMap;
@@ -51,7 +51,7 @@ fn calls_of(
     alloc: Global,
     named: BTreeMap<u32, Vec<&str>>,
 ) -> Result<Vec<NamedCall<'_>>, AllocError>
-    ensures calls { IfOk result (λ calls. calls.items ≡ map call_of named.entry.entries) }
+    ensures calls { IfOk result (λ calls. calls.items ≡ map named_call named.entry.entries) }
     ensures ordered { IsOrdered nat_cmp named.entry }
 {
     named

@@ -14,7 +14,7 @@ ghost use Rattle.scf_profile.specs.Steps.{Gives};
 ghost use Rattle.scf_profile.specs.internal.Results.{result_map};
 
 use crate::entry::Entry;
-use crate::forms::texts_of;
+use crate::forms::strings_of;
 use crate::json_members::member_of;
 use crate::load_fault::LoadFault;
 use crate::texts::BorrowedTexts;
@@ -85,7 +85,7 @@ pub(crate) fn find_architectures(
         return Ok(BorrowedTexts::new(alloc));
     };
     let items = found.as_array().ok_or(LoadFault::Kind { entry })?;
-    let architectures = texts_of(alloc, entry, items)?;
+    let architectures = strings_of(alloc, entry, items)?;
     let names = architectures.as_slice();
     if names.len() > 0 && !has_x86_64(names) {
         return Err(LoadFault::NoX8664 { entry });

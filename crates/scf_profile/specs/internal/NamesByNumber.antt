@@ -16,8 +16,8 @@ abbrev pub Named : Type 0
 Named = BTreeMap ℕ (Vec (Bor (List ℕ)) Global)
 
 -- a number and its names as a call
-abbrev pub call_of : ℕ × Vec (Bor (List ℕ)) Global → NamedCall
-call_of e = record { number = e.0; names = e.1 }
+abbrev pub named_call : ℕ × Vec (Bor (List ℕ)) Global → NamedCall
+named_call e = record { number = e.0; names = e.1 }
 
 -- the names under a number
 abbrev pub names_under : Named → ℕ → List (List ℕ)
