@@ -10,11 +10,12 @@ use Rattle.scf_machine.specs.Precedence.{StackAnswers}
 use Rattle.scf_machine.proofs.Stacks.{stack_answer_once}
 use Rattle.scf_profile.specs.Profile.{Profile, HaveNoConflict}
 use Rattle.scf_profile.specs.ProfileAnswers.{ProfileAnswers}
+use Rattle.scf_profile.specs.SameAnswers.{AnswersRelated}
 use Rattle.scf_profile.proofs.Answering.{one_answer}
 use Rattle.scf_compare.specs.declared.relation.Relation.{Relation}
 use Rattle.scf_compare.specs.declared.relation.Relation.TheVariants.{Same, NoMore, NoLess}
 use Rattle.scf_compare.specs.declared.scope.Scope.{Scope}
-use Rattle.scf_compare.specs.Relation.{AnswersRelated, IsRelated}
+use Rattle.scf_compare.specs.Relation.{IsRelated}
 use Rattle.scf_compare.specs.Scope.{IsInScope, RelatedAnswersIn}
 
 no_more_than_itself : (answer : ℕ) → LetsThroughNoMore answer answer
@@ -37,7 +38,7 @@ all_related relation filters p scope same = λ call is_record in_scope.
       profile = both.profile;
       of_words = both.of_words;
       of_profile = both.of_profile;
-      related = same_related relation both.filter both.profile both.related;
+      are_related = same_related relation both.filter both.profile both.are_related;
     }
 
 -- two fates of which each is at most the other are one
@@ -55,13 +56,13 @@ one_fate Made Made most least = refl
 -- the relation holds of the two answers to a call, of which there are no others
 pub related_here : (relation : Relation) (filters : List (List Insn)) (p : Profile) (call : CallRecord) (filter profile : ℕ)
     → HaveNoConflict p.rules → IsRecord call
-    → AnswersRelated relation (StackAnswers filters) p call
+    → AnswersRelated (IsRelated relation) (StackAnswers filters) p call
     → StackAnswers filters (words_of call) filter → ProfileAnswers p call profile → IsRelated relation filter profile
 related_here relation filters p call filter profile none is_record both of_words of_profile =
     subst (λ answer. IsRelated relation answer profile)
     (stack_answer_once filters (words_of call) both.filter filter both.of_words of_words)
     (subst (IsRelated relation both.filter)
-    (one_answer p call none is_record both.of_profile of_profile) both.related)
+    (one_answer p call none is_record both.of_profile of_profile) both.are_related)
 
 pub same_fate : (filters : List (List Insn)) (p : Profile) (scope : Scope) (call : CallRecord) (filter profile : ℕ)
     → HaveNoConflict p.rules

@@ -1,5 +1,5 @@
 -- A verdict on words is one on call records.
-use Rattle.std.proofs.Common.{◌≡◌, ℕ, List, [], ◌∷◌, refl, sym, ap, ◌∙◌, subst}
+use Rattle.std.proofs.Common.{◌≡◌, ℕ, List, [], ◌∷◌, sym, ap, ◌∙◌, subst}
 use Rattle.std.specs.Prelude.{Option}
 use Rattle.scf_insn.specs.declared.answer.Answer.{Answer}
 use Rattle.scf_insn.specs.declared.insn.Insn.{Insn}
@@ -19,6 +19,7 @@ use Rattle.scf_compare.specs.declared.scope.Scope.{Scope}
 use Rattle.scf_compare.specs.declared.scope.Scope.TheVariants.{All}
 use Rattle.scf_compare.specs.declared.verdict.Verdict.{Verdict}
 use Rattle.scf_compare.specs.declared.verdict.Verdict.TheVariants.{Same, Differs, Undecided, Unfinished}
+use Rattle.scf_compare.specs.Relation.{IsRelated}
 use Rattle.scf_compare.specs.Scope.{IsInScope, RelatedAnswersIn, SameAnswersIn}
 use Rattle.scf_compare.specs.Verdicts.{CanEnd, IsEndPlace, IsStackEndPlace, IsTrueBy, IsDecided}
 use Rattle.scf_compare.specs.internal.Compared.{AllRelated, IsTrueVerdict}
@@ -52,7 +53,7 @@ module _ (relation : Relation) (scope : Scope) (is_place : ℕ → Type 0) (answ
         profile = related.1;
         of_words = related.2;
         of_profile = subst (λ (record_of : CallRecord). ProfileAnswers p record_of related.1) same related.3;
-        related = related.4;
+        are_related = related.4;
       }
 
   -- and where those to the records are, those to their words are
@@ -64,7 +65,7 @@ module _ (relation : Relation) (scope : Scope) (is_place : ℕ → Type 0) (answ
         both.profile,
         subst (λ (ws : List ℕ). answers ws both.filter) (words_of-call_of words within.0) both.of_words,
         both.of_profile,
-        both.related,
+        both.are_related,
       )
 
   -- a verdict that decides the one decides the other
@@ -75,7 +76,7 @@ module _ (relation : Relation) (scope : Scope) (is_place : ℕ → Type 0) (answ
 
   -- a verdict that is true of the words is true of the records
   pub true_by : (verdict : Verdict) → IsTrueVerdict (compared_in relation scope is_place answers p) verdict
-      → IsTrueBy relation scope is_place answers p verdict
+      → IsTrueBy (IsRelated relation) (IsInScope scope) is_place answers p verdict
   true_by (Same steps) h = related_of h
   true_by (Differs call filter profile) h =
       let same = call_of-words_of call h.0 in (
@@ -90,33 +91,19 @@ module _ (relation : Relation) (scope : Scope) (is_place : ℕ → Type 0) (answ
 
 -- all call records are answered alike where they are in the scope of all
 pub same_of_all : (answers : List ℕ → ℕ → Type 0) (p : Profile) → SameAnswersIn All answers p → SameAnswers answers p
-same_of_all answers p same = λ call is_record.
-    let both = same call is_record tt in
-    record {
-      answer = both.filter;
-      of_words = both.of_words;
-      of_profile = subst (ProfileAnswers p call) (let equal : both.profile ≡ both.filter = cc in equal) both.of_profile;
-    }
+same_of_all answers p same = λ call is_record. same call is_record tt
 
 pub all_of_same : (answers : List ℕ → ℕ → Type 0) (p : Profile) → SameAnswers answers p → SameAnswersIn All answers p
-all_of_same answers p same = λ call is_record in_scope.
-    let both = same call is_record in
-    record {
-      filter = both.answer;
-      profile = both.answer;
-      of_words = both.of_words;
-      of_profile = both.of_profile;
-      related = refl;
-    }
+all_of_same answers p same = λ call is_record in_scope. same call is_record
 
 -- a verdict that is true with some places is true with all among which they are
-pub placed : (relation : Relation) (scope : Scope) (is_place other : ℕ → Type 0) (answers : List ℕ → ℕ → Type 0)
-    (p : Profile) (verdict : Verdict) → ((at : ℕ) → is_place at → other at)
-    → IsTrueBy relation scope is_place answers p verdict → IsTrueBy relation scope other answers p verdict
-placed relation scope is_place other answers p (Same steps) at h = h
-placed relation scope is_place other answers p (Differs call filter profile) at h = h
-placed relation scope is_place other answers p (Undecided place) at h = at place h
-placed relation scope is_place other answers p Unfinished at h = h
+pub placed : (related : ℕ → ℕ → Type 0) (in_scope : CallRecord → Type 0) (is_place other : ℕ → Type 0)
+    (answers : List ℕ → ℕ → Type 0) (p : Profile) (verdict : Verdict) → ((at : ℕ) → is_place at → other at)
+    → IsTrueBy related in_scope is_place answers p verdict → IsTrueBy related in_scope other answers p verdict
+placed related in_scope is_place other answers p (Same steps) at h = h
+placed related in_scope is_place other answers p (Differs call filter profile) at h = h
+placed related in_scope is_place other answers p (Undecided place) at h = at place h
+placed related in_scope is_place other answers p Unfinished at h = h
 
 ending : (operation : Operation) (i : Insn) (at : ℕ) (answer : Option Answer)
     → EndsWith (flow_at operation i at) i answer → CanEnd operation

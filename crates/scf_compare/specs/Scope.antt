@@ -4,11 +4,11 @@ use Rattle.scf_insn.specs.declared.record.CallRecord.{CallRecord}
 use Rattle.scf_insn.specs.Kernel.{audit_arch_x86_64}
 use Rattle.scf_insn.specs.Words.{IsRecord}
 use Rattle.scf_profile.specs.Profile.{Profile, IsNative}
+use Rattle.scf_profile.specs.SameAnswers.{AnswersRelated, AreSame}
 use Rattle.scf_compare.specs.declared.relation.Relation.{Relation}
-use Rattle.scf_compare.specs.declared.relation.Relation.TheVariants.{Same}
 use Rattle.scf_compare.specs.declared.scope.Scope.{Scope}
 use Rattle.scf_compare.specs.declared.scope.Scope.TheVariants.{All, Native, Call}
-use Rattle.scf_compare.specs.Relation.{AnswersRelated}
+use Rattle.scf_compare.specs.Relation.{IsRelated}
 
 -- a call of x86-64 (AUDIT_ARCH_X86_64) with this number
 pub record IsCallOf (number : ℕ) (call : CallRecord) : Type 0 where
@@ -22,10 +22,13 @@ IsInScope Native call = IsNative call
 IsInScope (Call number) call = IsCallOf number call
 
 -- a relation holds of the answers to every call record of the scope
+abbrev pub AllAreRelated : (ℕ → ℕ → Type 0) → (CallRecord → Type 0) → (List ℕ → ℕ → Type 0) → Profile → Type 0
+AllAreRelated related in_scope answers p =
+    (call : CallRecord) → IsRecord call → in_scope call → AnswersRelated related answers p call
+
 abbrev pub RelatedAnswersIn : Relation → Scope → (List ℕ → ℕ → Type 0) → Profile → Type 0
-RelatedAnswersIn relation scope answers p =
-    (call : CallRecord) → IsRecord call → IsInScope scope call → AnswersRelated relation answers p call
+RelatedAnswersIn relation scope answers p = AllAreRelated (IsRelated relation) (IsInScope scope) answers p
 
 -- every call record of the scope is answered alike
 abbrev pub SameAnswersIn : Scope → (List ℕ → ℕ → Type 0) → Profile → Type 0
-SameAnswersIn scope answers p = RelatedAnswersIn Same scope answers p
+SameAnswersIn scope answers p = AllAreRelated AreSame (IsInScope scope) answers p

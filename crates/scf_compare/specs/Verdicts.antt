@@ -5,31 +5,32 @@ use Rattle.scf_insn.specs.declared.operation.Arithmetic.TheVariants.{Div}
 use Rattle.scf_insn.specs.declared.operation.Operand.TheVariants.{Index}
 use Rattle.scf_insn.specs.declared.operation.Operation.{Operation}
 use Rattle.scf_insn.specs.declared.operation.Operation.TheVariants.{Compute, ReturnConstant, ReturnAccumulator}
+use Rattle.scf_insn.specs.declared.record.CallRecord.{CallRecord}
 use Rattle.scf_insn.specs.Words.{words_of, IsRecord}
 use Rattle.scf_machine.specs.Machine.{RunAnswers}
 use Rattle.scf_machine.specs.Precedence.{StackAnswers}
 use Rattle.scf_machine.specs.Rules.{Stands}
 use Rattle.scf_profile.specs.Profile.{Profile}
 use Rattle.scf_profile.specs.ProfileAnswers.{ProfileAnswers}
+use Rattle.scf_profile.specs.SameAnswers.{AreSame}
 use Rattle.scf_compare.specs.declared.relation.Relation.{Relation}
-use Rattle.scf_compare.specs.declared.relation.Relation.TheVariants as relations
 use Rattle.scf_compare.specs.declared.scope.Scope.{Scope}
-use Rattle.scf_compare.specs.declared.scope.Scope.TheVariants.{All}
 use Rattle.scf_compare.specs.declared.verdict.Verdict.{Verdict}
 use Rattle.scf_compare.specs.declared.verdict.Verdict.TheVariants.{Same, Differs, Undecided, Unfinished}
 use Rattle.scf_compare.specs.Relation.{IsRelated}
-use Rattle.scf_compare.specs.Scope.{IsInScope, RelatedAnswersIn}
+use Rattle.scf_compare.specs.Scope.{AllAreRelated, IsInScope}
 
 -- What a verdict on a filter and a profile claims: that the relation holds of the answers to every call record of the
 -- scope; that this record is of the scope, and that they answer it so and so, of which the relation doesn't hold; and
 -- that a run of the filter can end at this place.
-abbrev pub IsTrueBy : Relation → Scope → (ℕ → Type 0) → (List ℕ → ℕ → Type 0) → Profile → Verdict → Type 0
-IsTrueBy relation scope is_place answers p (Same steps) = RelatedAnswersIn relation scope answers p
-IsTrueBy relation scope is_place answers p (Differs call filter profile) =
-    IsRecord call × IsInScope scope call × answers (words_of call) filter.0 × ProfileAnswers p call profile.0
-    × (IsRelated relation filter.0 profile.0 → ⊥)
-IsTrueBy relation scope is_place answers p (Undecided at) = is_place at
-IsTrueBy relation scope is_place answers p Unfinished = Unit {0}
+abbrev pub IsTrueBy : (ℕ → ℕ → Type 0) → (CallRecord → Type 0) → (ℕ → Type 0) → (List ℕ → ℕ → Type 0) → Profile
+    → Verdict → Type 0
+IsTrueBy related in_scope is_place answers p (Same steps) = AllAreRelated related in_scope answers p
+IsTrueBy related in_scope is_place answers p (Differs call filter profile) =
+    IsRecord call × in_scope call × answers (words_of call) filter.0 × ProfileAnswers p call profile.0
+    × (related filter.0 profile.0 → ⊥)
+IsTrueBy related in_scope is_place answers p (Undecided at) = is_place at
+IsTrueBy related in_scope is_place answers p Unfinished = Unit {0}
 
 -- what ends a run: a return, or a division by the index register, where that is 0
 abbrev pub CanEnd : Operation → Type 0
@@ -47,7 +48,7 @@ pub record IsEndPlace (insns : List Insn) (at : ℕ) : Type 0 where
 
 -- on a program and a profile, of all call records and the same answers
 abbrev pub IsTrueOf : List Insn → Profile → Verdict → Type 0
-IsTrueOf insns p verdict = IsTrueBy relations.Same All (IsEndPlace insns) (RunAnswers insns) p verdict
+IsTrueOf insns p verdict = IsTrueBy AreSame (λ call. Unit {0}) (IsEndPlace insns) (RunAnswers insns) p verdict
 
 -- a run of one of the filters can end at this place, which is 0 where there is no filter
 abbrev pub IsStackEndPlace : List (List Insn) → ℕ → Type 0
@@ -57,11 +58,12 @@ IsStackEndPlace (filter ∷ filters) at = (one : List Insn) × Contains (filter 
 -- on a stack and a profile
 abbrev pub IsTrueOfStackBy : Relation → List (List Insn) → Profile → Scope → Verdict → Type 0
 IsTrueOfStackBy relation filters p scope verdict =
-    IsTrueBy relation scope (IsStackEndPlace filters) (StackAnswers filters) p verdict
+    IsTrueBy (IsRelated relation) (IsInScope scope) (IsStackEndPlace filters) (StackAnswers filters) p verdict
 
 -- of the same answers
 abbrev pub IsTrueOfStack : List (List Insn) → Profile → Scope → Verdict → Type 0
-IsTrueOfStack filters p scope verdict = IsTrueOfStackBy relations.Same filters p scope verdict
+IsTrueOfStack filters p scope verdict =
+    IsTrueBy AreSame (IsInScope scope) (IsStackEndPlace filters) (StackAnswers filters) p verdict
 
 -- The steps of Same are within the limit and the effort, Undecided comes only after a step, and a comparison stays
 -- unfinished only where the limit is below the effort.

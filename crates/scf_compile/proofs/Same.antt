@@ -181,7 +181,13 @@ module _ (p : Profile) (plan : Plan) (code : List Insn) (most : ℕ) (filter : I
   pub filter_is_same : SameAnswers (RunAnswers code) p
   filter_is_same call fits =
       let found = every_answered call fits in
-      record { answer = found.answer; of_words = (found.of_words.0, found.of_words.1); of_profile = found.of_profile }
+      record {
+        filter = found.answer;
+        profile = found.answer;
+        of_words = (found.of_words.0, found.of_words.1);
+        of_profile = found.of_profile;
+        are_related = refl;
+      }
 
   -- And it does so within as many steps as the plan takes with the call's number, and five more.
   pub filter_is_quick : AnswersWithin code most

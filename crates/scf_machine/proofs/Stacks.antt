@@ -9,9 +9,8 @@ use Rattle.std.proofs.lemmas.Int.{ints}
 use Rattle.std.proofs.lemmas.List.{take_more, take_all, reverse-append, length-reverse, get_or-reverse}
 use Rattle.std.specs.Prelude.{Contains, ◌-◌}
 use Rattle.scf_insn.specs.declared.insn.Insn.{Insn}
-use Rattle.scf_insn.specs.Answers.{action_half, answer_of, rank_of, degree_of, LetsThroughNoMore}
-use Rattle.scf_insn.specs.Kernel.{seccomp_ret_errno, seccomp_ret_log}
-use Rattle.scf_insn.specs.declared.answer.Action.TheVariants.{Allow}
+use Rattle.scf_insn.specs.Answers.{action_half, rank_of, degree_of, LetsThroughNoMore}
+use Rattle.scf_insn.specs.Kernel.{seccomp_ret_allow, seccomp_ret_errno, seccomp_ret_log}
 use Rattle.scf_insn.specs.declared.answer.Fate.TheVariants.{Refused, Referred, Made}
 use Rattle.scf_machine.specs.Machine.{RunAnswers}
 use Rattle.scf_machine.specs.Rules.{IsFilter}
@@ -99,7 +98,7 @@ newest_decides newest older (a ∷ answers) old le = wins newest older (a ∷ an
 pub older_decides : (newest older : ℕ) (answers : List ℕ)
     → IsDecision answers older → rank_of older <ℤ rank_of newest → IsDecision (newest ∷ answers) older
 older_decides newest older [] old lt =
-    let allows : rank_of (answer_of Allow 0) <ℤ rank_of newest =
+    let allows : rank_of (seccomp_ret_allow) <ℤ rank_of newest =
     subst (λ (n : ℕ). rank_of n <ℤ rank_of newest) old lt in
     absurd (ranks_apart (rank_of newest) (pos 32767) (rank_at_most (action_half newest)) allows)
 older_decides newest older (a ∷ answers) old lt = stays newest older (a ∷ answers) old lt
@@ -114,7 +113,7 @@ decision_with_newest answers older newest old = by_test (int_lt (rank_of older) 
     by_test false e = newest_decides newest older answers old (int_lt_false _ _ e)
 
 pub decision_is : (answers : List ℕ) → (decision : ℕ) × IsDecision answers decision
-decision_is [] = (answer_of Allow 0, refl)
+decision_is [] = (seccomp_ret_allow, refl)
 decision_is (newest ∷ older) =
     let before = decision_is older in (with_newest before.0 newest, decision_with_newest older before.0 newest before.1)
 
@@ -145,7 +144,7 @@ pub stack_answer_once : (filters : List (List Insn)) (words : List ℕ) (m n : �
     → StackAnswers filters words m → StackAnswers filters words n → m ≡ n
 stack_answer_once filters words m n a b = alike_answers filters filters words words a.answers m n a.are a.are a b
 
-pub empty_allows : (words : List ℕ) → StackAnswers [] words (answer_of Allow 0)
+pub empty_allows : (words : List ℕ) → StackAnswers [] words (seccomp_ret_allow)
 empty_allows words = record { answers = []; are = tt; decides = refl }
 
 answered_by_one : (filter : List Insn) (words answers : List ℕ) (answer : ℕ)
@@ -183,7 +182,7 @@ one_more filters i d words older newest inside old run =
 
 answer_below : (filters : List (List Insn)) (words : List ℕ)
     → All IsFilter filters → (i : ℕ) → i ≤ length filters → (answer : ℕ) × StackAnswers (take i filters) words answer
-answer_below filters words each zero le = (answer_of Allow 0, empty_allows words)
+answer_below filters words each zero le = (seccomp_ret_allow, empty_allows words)
 answer_below filters words each (suc i) le =
     let before = answer_below filters words each i (omega arith) in
     let filter = each i [] (omega arith) in

@@ -1,8 +1,8 @@
 -- Which answer of a stack decides (seccomp(2)).
 use Rattle.std.specs.Prelude.{◌≡◌, ℕ, ◌<◌, ◌≤ℤ◌, ◌<ℤ◌, int_lt, if◌then◌else◌, List, [], ◌∷◌, Some, slice_get, reverse}
 use Rattle.scf_insn.specs.declared.insn.Insn.{Insn}
-use Rattle.scf_insn.specs.declared.answer.Action.TheVariants.{Allow}
-use Rattle.scf_insn.specs.Answers.{answer_of, rank_of}
+use Rattle.scf_insn.specs.Answers.{rank_of}
+use Rattle.scf_insn.specs.Kernel.{seccomp_ret_allow}
 use Rattle.scf_machine.specs.Machine.{RunAnswers}
 
 -- The answer at the first position of least rank.
@@ -14,7 +14,7 @@ pub record IsFirstLeast (answers : List ℕ) (answer : ℕ) : Type 0 where
 
 -- what answers decide, the newest first: no answer allows
 abbrev pub IsDecision : List ℕ → ℕ → Type 0
-IsDecision [] decision = decision ≡ answer_of Allow 0
+IsDecision [] decision = decision ≡ seccomp_ret_allow
 IsDecision (newest ∷ older) decision = IsFirstLeast (newest ∷ older) decision
 
 -- what decides once a newer answer comes to what the older ones decide: the newer one, unless it has the greater rank

@@ -2,9 +2,9 @@
 //! nothing: what it ensures is the law, for all lists of instructions, accepted or not.
 
 ghost use Rattle.std.specs.Prelude.{◌≡◌, ◌↔◌, ◌+◌, ◌++◌, [], ◌∷◌, ℕ, All, Contains, List, length, map, reverse};
-ghost use Rattle.scf_insn.specs.Answers.{LetsThroughNoMore, answer_of};
-ghost use Rattle.scf_insn.specs.declared.answer.Action.TheVariants.{Allow};
 ghost use Rattle.scf_insn.specs.declared.insn.Insn.{Insn};
+ghost use Rattle.scf_insn.specs.Answers.{LetsThroughNoMore};
+ghost use Rattle.scf_insn.specs.Kernel.{seccomp_ret_allow};
 ghost use Rattle.scf_machine.specs.Machine.{State, IsChain, IsRun, IsRunFrom, RunAnswers, step, Goes, Ends};
 ghost use Rattle.scf_machine.specs.Parts.{IsPart, moved};
 ghost use Rattle.scf_machine.specs.Precedence.{AreAnswers, IsDecision, StackAnswers, with_newest};
@@ -48,7 +48,7 @@ pub fn answers_decide()
 /// filters allows, and one filter answers as its run does. One filter more, the newest, changes the answer as
 /// `with_newest` says.
 pub fn stack_answers()
-    ensures empty { (words : List ℕ) → StackAnswers [] words (answer_of Allow 0) }
+    ensures empty { (words : List ℕ) → StackAnswers [] words seccomp_ret_allow }
     ensures one { (filter : List Insn) (words : List ℕ) (answer : ℕ)
         → RunAnswers filter words answer ↔ StackAnswers (filter ∷ []) words answer }
     ensures some { (filters : List (List Insn)) (words : List ℕ) → All IsFilter filters

@@ -1,8 +1,7 @@
 -- A stack of filters as a tree of questions: the filters are asked one after another, the oldest first.
 use Rattle.std.specs.Prelude.{◌≡◌, ◌+◌, ◌*◌, ◌<◌, ℕ, List, [], ◌∷◌, Option, Some, None, All, Contains, IfSome, length, take, drop, slice_index_or}
-use Rattle.scf_insn.specs.declared.answer.Action.TheVariants.{Allow}
 use Rattle.scf_insn.specs.declared.insn.Insn.{Insn}
-use Rattle.scf_insn.specs.Answers.{answer_of}
+use Rattle.scf_insn.specs.Kernel.{seccomp_ret_allow}
 use Rattle.scf_machine.specs.Plain.{IsPlainProgram}
 use Rattle.scf_machine.specs.Precedence.{StackAnswers}
 use Rattle.scf_compare.specs.declared.comparison.FilterEnd.{FilterEnd}
@@ -20,7 +19,7 @@ filter_at filters place = slice_index_or filters place []
 
 -- An end of one of the filters, or of none, which allow.
 abbrev pub IsStackEnd : List (List Insn) → FilterEnd → Type 0
-IsStackEnd [] end = end ≡ record { answer = Some (record { 0 = answer_of Allow 0 }); at = 0 }
+IsStackEnd [] end = end ≡ record { answer = Some (record { 0 = seccomp_ret_allow }); at = 0 }
 IsStackEnd (filter ∷ filters) end = (one : List Insn) × Contains (filter ∷ filters) one × IsFilterEnd one end
 
 -- what the filters before a place decide, from the second one on

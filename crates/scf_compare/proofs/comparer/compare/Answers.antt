@@ -2,6 +2,8 @@ use Rattle.std.proofs.lemmas.Result.{IfOk-weaker}
 use Rattle.scf_machine.specs.Machine.{RunAnswers}
 use Rattle.scf_compare.specs.declared.relation.Relation.TheVariants as relations
 use Rattle.scf_compare.specs.declared.scope.Scope.TheVariants.{All}
+use Rattle.scf_compare.specs.Relation.{IsRelated}
+use Rattle.scf_compare.specs.Scope.{IsInScope}
 use Rattle.scf_compare.specs.Verdicts.{IsEndPlace}
 use Rattle.scf_compare.specs.internal.Ends.{IsPlaceOf}
 use Rattle.scf_compare.specs.internal.Filters.{IsFilterEnd}
@@ -15,7 +17,7 @@ returns-clause-holds g c =
     let place = IsPlaceOf (IsFilterEnd insns) in
     IfOk-weaker c.compare_party.result _ _
     (λ verdict h.
-    placed relations.Same All place (IsEndPlace insns) (RunAnswers insns) p verdict (end_place insns)
+    placed (IsRelated relations.Same) (IsInScope All) place (IsEndPlace insns) (RunAnswers insns) p verdict (end_place insns)
     (true_by relations.Same All place (RunAnswers insns) p verdict h))
     c.compare_party.ensures.holds
 

@@ -1,5 +1,7 @@
 use Rattle.std.proofs.lemmas.Result.{IfOk-weaker}
 use Rattle.scf_machine.specs.Precedence.{StackAnswers}
+use Rattle.scf_compare.specs.Relation.{IsRelated}
+use Rattle.scf_compare.specs.Scope.{IsInScope}
 use Rattle.scf_compare.specs.Verdicts.{IsStackEndPlace}
 use Rattle.scf_compare.specs.internal.Ends.{IsPlaceOf}
 use Rattle.scf_compare.specs.internal.Stacks.{IsStackEnd}
@@ -13,7 +15,7 @@ returns-clause-holds g c =
     let place = IsPlaceOf (IsStackEnd filters) in
     IfOk-weaker c.compare_party.result _ _
     (λ verdict h.
-    placed c.args.relation c.args.scope place (IsStackEndPlace filters) (StackAnswers filters) p verdict
+    placed (IsRelated c.args.relation) (IsInScope c.args.scope) place (IsStackEndPlace filters) (StackAnswers filters) p verdict
     (stack_end_place filters) (true_by c.args.relation c.args.scope place (StackAnswers filters) p verdict h))
     c.compare_party.ensures.holds
 
