@@ -3,6 +3,7 @@ use Rattle.std.proofs.Common.{◌≡◌, ℕ, ◌+◌, ◌*◌, ◌<◌, ◌^◌
 use Rattle.std.specs.Prelude.{slice_index}
 use Rattle.std.specs.List.{flat_map, AllByRecursion}
 use Rattle.scf_insn.specs.declared.record.CallRecord.{CallRecord}
+use Rattle.scf_insn.specs.Kernel.{seccomp_data_args}
 use Rattle.scf_insn.specs.Words.{IsRecord, IsWords, low, high, halves, words_of, number_at, call_of}
 
 low_joined : (a b : ℕ) → a < 2 ^ 32 → low (a + 2 ^ 32 * b) ≡ a
@@ -40,14 +41,14 @@ words_of-call_of (w0 ∷ w1 ∷ w2 ∷ w3 ∷ w4 ∷ w5 ∷ w6 ∷ w7 ∷ w8 ∷
     ) refl
 words_of-call_of words h = absurd (let count = h.count in omega arith)
 
-whole_call : (nr arch ip : ℕ) (args : List ℕ) → length args ≡ 6
+whole_call : (nr arch ip : ℕ) (args : List ℕ) → length args ≡ seccomp_data_args
     → let call : CallRecord = record { nr = nr; arch = arch; ip = ip; args = args } in call_of (words_of call) ≡ call
 whole_call nr arch ip (a0 ∷ a1 ∷ a2 ∷ a3 ∷ a4 ∷ a5 ∷ []) six =
     rw (joined ip, joined a0, joined a1, joined a2, joined a3, joined a4, joined a5) refl
 whole_call nr arch ip args six = absurd (omega arith)
 
 -- the words of six arguments
-pub halves_of_six : (args : List ℕ) → length args ≡ 6 → flat_map halves args
+pub halves_of_six : (args : List ℕ) → length args ≡ seccomp_data_args → flat_map halves args
     ≡ halves (slice_index args 0) ++ halves (slice_index args 1) ++ halves (slice_index args 2)
     ++ halves (slice_index args 3) ++ halves (slice_index args 4) ++ halves (slice_index args 5)
 halves_of_six (a0 ∷ a1 ∷ a2 ∷ a3 ∷ a4 ∷ a5 ∷ []) six = refl
@@ -74,7 +75,7 @@ each_from_places bound (x ∷ xs) h = (h 0, each_from_places bound xs (λ i. h (
 pub words_by_place : (words : List ℕ) → length words ≡ 16 → ((i : ℕ) → slice_index words i < 2 ^ 32) → IsWords words
 words_by_place words count below = record { count = count; each = each_from_places (2 ^ 32) words below }
 
-pub length-words_of : (call : CallRecord) → length call.args ≡ 6 → length (words_of call) ≡ 16
+pub length-words_of : (call : CallRecord) → length call.args ≡ seccomp_data_args → length (words_of call) ≡ 16
 length-words_of call six = let more = length-halves call.args in omega arith
 
 -- the words of a record are sixteen numbers below 2^32

@@ -50,6 +50,10 @@ sock_filter_len = 8
 abbrev pub seccomp_data_len : ℕ
 seccomp_data_len = 64
 
+-- the length of args of struct seccomp_data (linux/seccomp.h): the arguments of a call
+abbrev pub seccomp_data_args : ℕ
+seccomp_data_args = 6
+
 -- MAX_INSNS_PER_PATH (kernel/seccomp.c): the most that the filters of a stack may cost together
 abbrev pub max_insns_per_path : ℕ
 max_insns_per_path = 32768

@@ -3,13 +3,14 @@ use Rattle.std.specs.Prelude.{◌≡◌, ℕ, ◌+◌, ◌*◌, ◌/◌, ◌%◌
 use Rattle.std.specs.List.{flat_map, AllByRecursion}
 use Rattle.std.specs.Int.{w32, to_le_bytes}
 use Rattle.scf_insn.specs.declared.record.CallRecord.{CallRecord}
+use Rattle.scf_insn.specs.Kernel.{seccomp_data_args}
 
 -- each field of the record fits its width, and there are six arguments
 pub record IsRecord (call : CallRecord) : Type 0 where
   pub nr : call.nr < 2 ^ 32
   pub arch : call.arch < 2 ^ 32
   pub ip : call.ip < 2 ^ 64
-  pub count : length call.args ≡ 6
+  pub count : length call.args ≡ seccomp_data_args
   pub args : (i : ℕ) → slice_index call.args i < 2 ^ 64
 
 -- the low and the high 32 bits of a 64-bit number

@@ -42,6 +42,9 @@ pub const SOCK_FILTER_LEN: usize = 8;
 /// `sizeof(struct seccomp_data)` of linux/seccomp.h: the bytes of a call record.
 pub const SECCOMP_DATA_LEN: usize = 64;
 
+/// The length of `args` of struct seccomp_data of linux/seccomp.h: the arguments of a call.
+pub const SECCOMP_DATA_ARGS: usize = 6;
+
 /// `MAX_INSNS_PER_PATH` of kernel/seccomp.c: the most that the filters of a stack may cost together.
 pub const MAX_INSNS_PER_PATH: usize = 32768;
 

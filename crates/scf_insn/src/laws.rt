@@ -7,16 +7,17 @@ ghost use Rattle.scf_insn.specs.declared.operation.Operation.{Operation};
 ghost use Rattle.scf_insn.specs.Codes.{code_of, operation_of};
 ghost use Rattle.scf_insn.specs.Insn.{IsInsn, program_bytes};
 ghost use Rattle.scf_insn.specs.Kernel.{audit_arch_x86_64, x32_syscall_bit, bpf_maxinsns, bpf_memwords};
-ghost use Rattle.scf_insn.specs.Kernel.{sock_filter_len, seccomp_data_len, max_insns_per_path, max_filter_len};
+ghost use Rattle.scf_insn.specs.Kernel.{sock_filter_len, seccomp_data_len, seccomp_data_args};
+ghost use Rattle.scf_insn.specs.Kernel.{max_insns_per_path, max_filter_len};
 ghost use Rattle.scf_insn.specs.Kernel.{seccomp_ret_kill_process, seccomp_ret_kill_thread, seccomp_ret_trap};
 ghost use Rattle.scf_insn.specs.Kernel.{seccomp_ret_errno, seccomp_ret_user_notif, seccomp_ret_trace};
 ghost use Rattle.scf_insn.specs.Kernel.{seccomp_ret_log, seccomp_ret_allow};
 
 use crate::kernel::{
     AUDIT_ARCH_X86_64, BPF_MAXINSNS, BPF_MEMWORDS, MAX_FILTER_LEN, MAX_INSNS_PER_PATH,
-    SECCOMP_DATA_LEN, SECCOMP_RET_ALLOW, SECCOMP_RET_ERRNO, SECCOMP_RET_KILL_PROCESS,
-    SECCOMP_RET_KILL_THREAD, SECCOMP_RET_LOG, SECCOMP_RET_TRACE, SECCOMP_RET_TRAP,
-    SECCOMP_RET_USER_NOTIF, SOCK_FILTER_LEN, X32_SYSCALL_BIT,
+    SECCOMP_DATA_ARGS, SECCOMP_DATA_LEN, SECCOMP_RET_ALLOW, SECCOMP_RET_ERRNO,
+    SECCOMP_RET_KILL_PROCESS, SECCOMP_RET_KILL_THREAD, SECCOMP_RET_LOG, SECCOMP_RET_TRACE,
+    SECCOMP_RET_TRAP, SECCOMP_RET_USER_NOTIF, SOCK_FILTER_LEN, X32_SYSCALL_BIT,
 };
 
 /// Bytes and lists of instructions are a bijection at multiples of 8: a list has 8 bytes for each instruction, two
@@ -52,6 +53,7 @@ pub fn kernel_constants()
     ensures scratch { BPF_MEMWORDS ≡ bpf_memwords }
     ensures insn { SOCK_FILTER_LEN ≡ sock_filter_len }
     ensures call { SECCOMP_DATA_LEN ≡ seccomp_data_len }
+    ensures arguments { SECCOMP_DATA_ARGS ≡ seccomp_data_args }
     ensures stack { MAX_INSNS_PER_PATH ≡ max_insns_per_path }
     ensures file { MAX_FILTER_LEN ≡ max_filter_len }
 {}

@@ -4,7 +4,7 @@ ghost use Rattle.std.specs.Prelude.{◌≡◌, ◌+◌, ◌<◌, ◌≤◌, ◌*
 ghost use Rattle.std.specs.Int.{w32, to_le_bytes};
 ghost use Rattle.scf_insn.specs.Words.{low, high, words_of, record_bytes, call_of, IsRecord};
 
-use crate::kernel::SECCOMP_DATA_LEN;
+use crate::kernel::{SECCOMP_DATA_ARGS, SECCOMP_DATA_LEN};
 
 /// What a filter sees of a call: its number, the architecture, the instruction pointer and six arguments.
 #[derive(Clone, Copy, Debug, PartialEq, Eq)]
@@ -12,7 +12,7 @@ pub struct CallRecord {
     pub nr: u32,
     pub arch: u32,
     pub ip: u64,
-    pub args: [u64; 6],
+    pub args: [u64; SECCOMP_DATA_ARGS],
 }
 
 /// The low 32 bits of a number.

@@ -1,10 +1,11 @@
 use Rattle.std.proofs.Common.{◌≡◌, length, rules, refl}
+use Rattle.scf_insn.specs.Kernel.{seccomp_data_args}
 use Rattle.scf_insn.proofs.CallWords.{halves_of_six}
 use Rattle.scf_insn.proofs.record.CallRecord.words.Goals as goal
 
 pub returns : goal.returns
 returns c =
-    let six : length c.args.self.now.args ≡ 6 = search rules in
+    let six : length c.args.self.now.args ≡ seccomp_data_args = search rules in
     rw (
       halves_of_six c.args.self.now.args six,
       c.low_half.ensures,
