@@ -6,6 +6,7 @@ pub mod IntervalLaws
 pub mod LeastNumber
 pub mod MaskLaws
 pub mod OpenBits
+pub mod PairLaws
 pub mod SetLaws
 pub mod SplitLaws
 pub mod StoreLaws

@@ -33,11 +33,11 @@ get-replicate zero x y k e = cc
 get-replicate (suc n) x y zero e = cc
 get-replicate (suc n) x y (suc k) e = get-replicate n x y k e
 
-both_true : (a b : Bool) → IsTrue (a && b) → IsTrue a × IsTrue b
+pub both_true : (a b : Bool) → IsTrue (a && b) → IsTrue a × IsTrue b
 both_true true b h = (refl, h)
 both_true false b h = cc
 
-and_true : (a b : Bool) → IsTrue a → IsTrue b → IsTrue (a && b)
+pub and_true : (a b : Bool) → IsTrue a → IsTrue b → IsTrue (a && b)
 and_true true b p q = q
 and_true false b p q = cc
 
@@ -218,7 +218,7 @@ module _ (sets : List NumberFacts) (place : ℕ) (s : NumberFacts) (at : slice_g
     room words h = omega (arith, h.count, lt)
 
     -- an allowed list with another number of one word
-    allows_other : (words : List ℕ) (x : ℕ)
+    pub allows_other : (words : List ℕ) (x : ℕ)
         → AllowsWords sets words → x < 2 ^ 32 → AllowsNumber s x → AllowsWords sets (slice_set words place x)
     allows_other words x h fits allowed = record {
       sixteen = record {

@@ -1,90 +1,138 @@
--- What was known of the words at a level, as more is learned and marks are opened and closed.
+-- What was known at a level, as more is learned and marks are opened and closed.
 use Rattle.std.proofs.Common.{◌≡◌, ◌^◌, ℕ, ◌≤◌, ◌<◌, ◌↔◌, List, [], ◌∷◌, ◌++◌, length, take, drop, refl, sym, ◌∙◌, ap}
-use Rattle.std.proofs.Common.{subst, arith}
-use Rattle.std.specs.Prelude.{All, Bool, IsTrue, true, false, Some, slice_get, slice_set, slice_index, slice_index_or}
-use Rattle.std.specs.Prelude.{if◌then◌else◌}
+use Rattle.std.proofs.Common.{subst, arith, length-append, ◌-◌}
+use Rattle.std.specs.Prelude.{Bool, IsTrue, Some, slice_get, slice_set, slice_index, slice_index_or}
+use Rattle.std.specs.Prelude.{◌==◌}
 use Rattle.std.specs.List.{list_all}
 use Rattle.std.proofs.lemmas.List.{set-set, set-get_or, get_or-set_same, drop-append-le, take-append-drop}
 use Rattle.std.proofs.lemmas.List.{length-take-le}
-use Rattle.std.proofs.lemmas.List.Elements.{All-push, All-pop, All-take}
-use Rattle.std.proofs.Math.Seq.{drop-length}
+use Rattle.std.proofs.lemmas.List.Elements.{All-push, All-pop}
+use Rattle.std.proofs.Math.Seq.{drop-length, take-append_seam}
 use Rattle.scf_facts.specs.declared.atom.Atom.{Atom}
+use Rattle.scf_facts.specs.declared.atom_pair.AtomPair.{AtomPair}
 use Rattle.scf_facts.specs.declared.trail.Change.{Change}
-use Rattle.scf_facts.specs.declared.trail.Former.{Former}
+use Rattle.scf_facts.specs.declared.trail.Change.TheVariants.{OfWord, Refuted}
+use Rattle.scf_facts.specs.declared.trail.WordChange.{WordChange}
 use Rattle.scf_facts.specs.Atoms.{answer_at, atom_answer, word_of}
 use Rattle.scf_facts.specs.internal.Counts.{count_at, AreRising}
-use Rattle.scf_facts.specs.internal.Trail.{facts_before, sets_before, restored, sets_at}
+use Rattle.scf_facts.specs.internal.Trail.{facts_before, known_before, restored, known_at}
 use Rattle.scf_facts.specs.internal.WordSets.{NumberFacts, AllowsNumber, AllowsWords, is_exact_set, no_facts}
-use Rattle.scf_facts.proofs.StoreLaws.{allows_set, list_all-get, list_all-set}
+use Rattle.scf_facts.specs.internal.WordSets.{AllFacts, AllowsList, is_exact_known, known_of}
+use Rattle.scf_facts.specs.internal.AtomPairs.{NotBothTrue}
+use Rattle.scf_facts.proofs.StoreLaws.{allows_set, list_all-get, list_all-set, both_true, and_true}
 use Rattle.scf_facts.proofs.CountLaws.{count-now, count-marked, count-opened, count-closed, count-within, count-newest}
 use Rattle.scf_facts.proofs.CountLaws.{rising-closed}
 
 -- the same facts allow the same lists, and are as exact
-pub same-sets : (old new : List NumberFacts)
-    → new ≡ old → ((words : List ℕ) → AllowsWords new words ↔ AllowsWords old words)
-    × (list_all is_exact_set new ≡ list_all is_exact_set old)
-same-sets old new e = (
-  λ words. (subst (λ sets. AllowsWords sets words) e, subst (λ sets. AllowsWords sets words) (sym e)),
-  ap (list_all is_exact_set) e,
+abbrev pub IsSameKnown : AllFacts → AllFacts → Type 0
+IsSameKnown old new =
+    ((words : List ℕ) → AllowsList new words ↔ AllowsList old words) × (is_exact_known new ≡ is_exact_known old)
+
+pub same-known : (old new : AllFacts) → new ≡ old → IsSameKnown old new
+same-known old new e = (
+  λ words. (subst (λ known. AllowsList known words) e, subst (λ known. AllowsList known words) (sym e)),
+  ap is_exact_known e,
 )
 
 -- the later changes are put back first
-pub restored-append : (sets : List NumberFacts) (earlier later : List Change)
-    → restored sets (earlier ++ later) ≡ restored (restored sets later) earlier
-restored-append sets [] later = refl
-restored-append sets (change ∷ earlier) later = ap (sets_before change) (restored-append sets earlier later)
+pub restored-append : (known : AllFacts) (earlier later : List Change)
+    → restored known (earlier ++ later) ≡ restored (restored known later) earlier
+restored-append known [] later = refl
+restored-append known (change ∷ earlier) later = ap (known_before change) (restored-append known earlier later)
 
--- a change is taken back
-pub before-changed : (sets : List NumberFacts) (word : ℕ) (former : Former) (old new : NumberFacts)
-    → word < length sets → slice_index_or sets word old ≡ old → facts_before former new ≡ old
-    → sets_before (record { word = word; former = former }) (slice_set sets word new) ≡ sets
-before-changed sets word former old new within at same =
-    ap (slice_set (slice_set sets word new) word)
-    (ap (facts_before former) (get_or-set_same sets word new no_facts within) ∙ same)
+-- a change of a word is taken back
+pub before-changed : (sets : List NumberFacts) (pairs : List AtomPair) (change : WordChange) (old new : NumberFacts)
+    → change.word < length sets → slice_index_or sets change.word old ≡ old → facts_before change.former new ≡ old
+    → known_before (OfWord change) (known_of (slice_set sets change.word new) pairs) ≡ known_of sets pairs
+before-changed sets pairs change old new within at same =
+    let word = change.word in
+    ap (λ (s : List NumberFacts). known_of s pairs)
+    (ap (slice_set (slice_set sets word new) word)
+    (ap (facts_before change.former) (get_or-set_same sets word new no_facts within) ∙ same)
     ∙ set-set sets word new old
     ∙ ap (slice_set sets word) (sym at)
-    ∙ set-get_or sets word old
+    ∙ set-get_or sets word old)
+
+-- a pair that was learned is taken back
+pub before-refuted : (sets : List NumberFacts) (pairs : List AtomPair) (pair : AtomPair)
+    → known_before Refuted (known_of sets (pairs ++ pair ∷ [])) ≡ known_of sets pairs
+before-refuted sets pairs pair =
+    let count : length (pairs ++ pair ∷ []) - 1 ≡ length pairs = omega (arith, length-append pairs (pair ∷ [])) in
+    ap (known_of sets) (ap (λ n. take n (pairs ++ pair ∷ [])) count ∙ take-append_seam pairs (pair ∷ []))
 
 -- past the last mark nothing is taken back
-pub sets-past : (sets : List NumberFacts) (trail : List Change) (marks : List ℕ) (level : ℕ)
-    → length marks ≤ level → sets_at sets trail marks level ≡ sets
-sets-past sets trail marks level past = ap (λ n. restored sets (drop n trail))
-    (count-now marks (length trail) level past) ∙ ap (restored sets) (drop-length trail)
+pub known-past : (known : AllFacts) (trail : List Change) (marks : List ℕ) (level : ℕ)
+    → length marks ≤ level → known_at known trail marks level ≡ known
+known-past known trail marks level past = ap (λ n. restored known (drop n trail))
+    (count-now marks (length trail) level past) ∙ ap (restored known) (drop-length trail)
 
-pub sets-now : (sets : List NumberFacts) (trail : List Change) (marks : List ℕ)
-    → sets_at sets trail marks (length marks) ≡ sets
-sets-now sets trail marks = sets-past sets trail marks (length marks) (omega arith)
+pub known-now : (known : AllFacts) (trail : List Change) (marks : List ℕ)
+    → known_at known trail marks (length marks) ≡ known
+known-now known trail marks = known-past known trail marks (length marks) (omega arith)
+
+-- so what is said of the facts holds of those at the level past the last mark
+pub said-now : (P : AllFacts → Type 0) (known : AllFacts) (trail : List Change) (marks : List ℕ)
+    → P known → P (known_at known trail marks (length marks))
+said-now P known trail marks h = subst P (sym (known-now known trail marks)) h
 
 -- what is learned of a word is known now, whatever is put on the trail
-pub allows-learned : (sets : List NumberFacts) (trail more : List Change) (marks : List ℕ) (word : ℕ)
-    (old new : NumberFacts) (atom : Atom) (holds : Bool) → word ≡ word_of atom → slice_get sets word ≡ Some old
+pub allows-learned : (sets : List NumberFacts) (pairs : List AtomPair) (trail more : List Change) (marks : List ℕ)
+    (word : ℕ) (old new : NumberFacts) (atom : Atom) (holds : Bool)
+    → word ≡ word_of atom → slice_get sets word ≡ Some old
     → ((x : ℕ) → x < 2 ^ 32 → AllowsNumber new x ↔ (AllowsNumber old x × (answer_at atom x ≡ holds)))
-    → (words : List ℕ) → AllowsWords (sets_at (slice_set sets word new) more marks (length marks)) words
-    ↔ (AllowsWords (sets_at sets trail marks (length marks)) words × (atom_answer atom words ≡ holds))
-allows-learned sets trail more marks word old new atom holds asked at learned words =
-    subst (λ s. AllowsWords s words
-    ↔ (AllowsWords (sets_at sets trail marks (length marks)) words × (atom_answer atom words ≡ holds)))
-    (sym (sets-now (slice_set sets word new) more marks))
-    (subst (λ s. AllowsWords (slice_set sets word new) words ↔ (AllowsWords s words × (atom_answer atom words ≡ holds)))
-    (sym (sets-now sets trail marks))
-    (subst (λ k. AllowsWords (slice_set sets word new) words
-    ↔ (AllowsWords sets words × (answer_at atom (slice_index words k) ≡ holds))) asked
-    (allows_set sets word old new (λ x. answer_at atom x ≡ holds) at learned words)))
+    → (words : List ℕ)
+    → AllowsList (known_at (known_of (slice_set sets word new) pairs) more marks (length marks)) words
+    ↔ (AllowsList (known_at (known_of sets pairs) trail marks (length marks)) words × (atom_answer atom words ≡ holds))
+allows-learned sets pairs trail more marks word old new atom holds asked at learned words =
+    let after = known_of (slice_set sets word new) pairs in
+    let answered = atom_answer atom words ≡ holds in
+    said-now (λ known. AllowsList known words
+    ↔ (AllowsList (known_at (known_of sets pairs) trail marks (length marks)) words × answered)) after more marks
+    (said-now (λ known. AllowsList after words ↔ (AllowsList known words × answered)) (known_of sets pairs) trail marks
+    (λ h. let r = same.0 h.0 in ((r.0, h.1), r.1), λ h. (same.1 (h.0.0, h.1), h.0.1)))
+  where
+    same : AllowsWords (slice_set sets word new) words ↔ (AllowsWords sets words × (atom_answer atom words ≡ holds))
+    same = subst (λ k. AllowsWords (slice_set sets word new) words
+        ↔ (AllowsWords sets words × (answer_at atom (slice_index words k) ≡ holds))) asked
+        (allows_set sets word old new (λ x. answer_at atom x ≡ holds) at learned words)
 
-pub exact-learned : (sets : List NumberFacts) (trail more : List Change) (marks : List ℕ) (word : ℕ)
-    (old new : NumberFacts) → slice_get sets word ≡ Some old → (IsTrue (is_exact_set old) → IsTrue (is_exact_set new))
-    → IsTrue (list_all is_exact_set (sets_at sets trail marks (length marks)))
-    → IsTrue (list_all is_exact_set (sets_at (slice_set sets word new) more marks (length marks)))
-exact-learned sets trail more marks word old new at exact all =
-    let before = subst (λ s. IsTrue (list_all is_exact_set s)) (sets-now sets trail marks) all in
-    subst (λ s. IsTrue (list_all is_exact_set s)) (sym (sets-now (slice_set sets word new) more marks))
-    (list_all-set is_exact_set sets word new before (exact (list_all-get is_exact_set sets word old before at)))
+pub exact-learned : (sets : List NumberFacts) (pairs : List AtomPair) (trail more : List Change) (marks : List ℕ)
+    (word : ℕ) (old new : NumberFacts)
+    → slice_get sets word ≡ Some old → (IsTrue (is_exact_set old) → IsTrue (is_exact_set new))
+    → IsTrue (is_exact_known (known_at (known_of sets pairs) trail marks (length marks)))
+    → IsTrue (is_exact_known (known_at (known_of (slice_set sets word new) pairs) more marks (length marks)))
+exact-learned sets pairs trail more marks word old new at exact all =
+    let before = subst (λ known. IsTrue (is_exact_known known)) (known-now (known_of sets pairs) trail marks) all in
+    let parts = both_true (list_all is_exact_set sets) (length pairs == 0) before in
+    said-now (λ known. IsTrue (is_exact_known known)) (known_of (slice_set sets word new) pairs) more marks
+    (and_true (list_all is_exact_set (slice_set sets word new)) (length pairs == 0)
+    (list_all-set is_exact_set sets word new parts.0 (exact (list_all-get is_exact_set sets word old parts.0 at)))
+    parts.1)
+
+-- a pair that is learned is known now
+pub allows-refuted : (sets : List NumberFacts) (pairs more_pairs : List AtomPair) (pair : AtomPair)
+    (trail more : List Change) (marks : List ℕ) → more_pairs ≡ pairs ++ pair ∷ [] → (words : List ℕ)
+    → AllowsList (known_at (known_of sets more_pairs) more marks (length marks)) words
+    ↔ (AllowsList (known_at (known_of sets pairs) trail marks (length marks)) words
+    × NotBothTrue pair.first pair.second words)
+allows-refuted sets pairs more_pairs pair trail more marks items words =
+    let after = known_of sets (pairs ++ pair ∷ []) in
+    let Q : AtomPair → Type 0 = λ other. NotBothTrue other.first other.second words in
+    subst (λ (known : AllFacts). AllowsList (known_at known more marks (length marks)) words
+    ↔ (AllowsList (known_at (known_of sets pairs) trail marks (length marks)) words × Q pair))
+    (ap (known_of sets) (sym items))
+    (said-now (λ known. AllowsList known words
+    ↔ (AllowsList (known_at (known_of sets pairs) trail marks (length marks)) words × Q pair)) after more marks
+    (said-now (λ known. AllowsList after words ↔ (AllowsList known words × Q pair)) (known_of sets pairs) trail marks (
+      λ h. let both = All-pop Q (pairs ++ pair ∷ []) pairs (Some pair) refl h.1 in ((h.0, both.0), both.1),
+      λ h. (h.0.0, All-push Q pairs pair h.0.1 h.1),
+    )))
 
 -- a change that is put on the trail leaves the open marks
-pub sets-changed : (sets changed : List NumberFacts) (trail : List Change) (change : Change) (marks : List ℕ)
-    → AreRising marks (length trail) → sets_before change changed ≡ sets → (place : ℕ)
-    → place < length marks → sets_at changed (trail ++ change ∷ []) marks place ≡ sets_at sets trail marks place
-sets-changed sets changed trail change marks rising same place lt =
+pub known-changed : (known changed : AllFacts) (trail : List Change) (change : Change) (marks : List ℕ)
+    → AreRising marks (length trail) → known_before change changed ≡ known → (place : ℕ)
+    → place < length marks → known_at changed (trail ++ change ∷ []) marks place ≡ known_at known trail marks place
+known-changed known changed trail change marks rising same place lt =
     let n = count_at marks (length trail) place in
     ap (λ k. restored changed (drop k (trail ++ change ∷ [])))
     (count-marked marks (length trail) (length (trail ++ change ∷ [])) place lt)
@@ -92,48 +140,59 @@ sets-changed sets changed trail change marks rising same place lt =
     ∙ restored-append changed (drop n trail) (change ∷ [])
     ∙ ap (λ s. restored s (drop n trail)) same
 
+-- so do what is learned of a word, and a pair that is learned
+pub at-learned : (sets : List NumberFacts) (pairs : List AtomPair) (trail room more : List Change)
+    (change : WordChange) (marks : List ℕ) (old new : NumberFacts)
+    → AreRising marks (length trail) → room ≡ trail → more ≡ room ++ OfWord change ∷ []
+    → change.word < length sets → slice_index_or sets change.word old ≡ old → facts_before change.former new ≡ old
+    → (place : ℕ) → place < length marks → IsSameKnown (known_at (known_of sets pairs) trail marks place)
+    (known_at (known_of (slice_set sets change.word new) pairs) more marks place)
+at-learned sets pairs trail room more change marks old new rising same pushed within at before place lt =
+    let after = known_of (slice_set sets change.word new) pairs in
+    same-known _ _ (ap (λ t. known_at after t marks place) (pushed ∙ ap (λ t. t ++ OfWord change ∷ []) same)
+    ∙ known-changed (known_of sets pairs) after trail (OfWord change) marks rising
+    (before-changed sets pairs change old new within at before) place lt)
+
+pub at-refuted : (sets : List NumberFacts) (pairs more_pairs : List AtomPair) (pair : AtomPair)
+    (trail room more : List Change) (marks : List ℕ)
+    → AreRising marks (length trail) → room ≡ trail → more ≡ room ++ Refuted ∷ []
+    → more_pairs ≡ pairs ++ pair ∷ [] → (place : ℕ) → place < length marks → IsSameKnown
+    (known_at (known_of sets pairs) trail marks place) (known_at (known_of sets more_pairs) more marks place)
+at-refuted sets pairs more_pairs pair trail room more marks rising same pushed items place lt =
+    let after = known_of sets (pairs ++ pair ∷ []) in
+    same-known _ _ (ap (λ k. known_at (known_of sets k) more marks place) items
+    ∙ ap (λ t. known_at after t marks place) (pushed ∙ ap (λ t. t ++ Refuted ∷ []) same)
+    ∙ known-changed (known_of sets pairs) after trail Refuted marks rising (before-refuted sets pairs pair) place lt)
+
 -- a mark that is opened leaves the levels up to it, and stands at what is known now
-pub sets-opened : (sets : List NumberFacts) (trail : List Change) (marks : List ℕ) (count : ℕ) → count ≡ length trail
-    → (place : ℕ) → sets_at sets trail (marks ++ count ∷ []) place ≡ sets_at sets trail marks place
-sets-opened sets trail marks count e place =
-    ap (λ n. restored sets (drop n trail))
+pub known-opened : (known : AllFacts) (trail : List Change) (marks : List ℕ) (count : ℕ) → count ≡ length trail
+    → (place : ℕ) → known_at known trail (marks ++ count ∷ []) place ≡ known_at known trail marks place
+known-opened known trail marks count e place =
+    ap (λ n. restored known (drop n trail))
     (ap (λ n. count_at (marks ++ n ∷ []) (length trail) place) e ∙ count-opened marks (length trail) place)
 
 -- the newest mark is closed, and what was changed after it put back
-pub sets-closed : (sets : List NumberFacts) (trail : List Change) (marks : List ℕ) (count : ℕ)
-    → AreRising (marks ++ count ∷ []) (length trail) → (place : ℕ) → place ≤ length marks → sets_at
-    (restored sets (drop count trail)) (take count trail) marks place ≡ sets_at sets trail (marks ++ count ∷ []) place
-sets-closed sets trail marks count rising place le =
+pub known-closed : (known : AllFacts) (trail : List Change) (marks : List ℕ) (count : ℕ)
+    → AreRising (marks ++ count ∷ []) (length trail) → (place : ℕ) → place ≤ length marks → known_at
+    (restored known (drop count trail)) (take count trail) marks place ≡ known_at known trail (marks ++ count ∷ []) place
+known-closed known trail marks count rising place le =
     let left : length (take count trail) ≡ count =
     length-take-le count trail (count-newest marks count (length trail) rising) in
     let n = count_at marks count place in
     let early : n ≤ length (take count trail) =
     omega (arith, left, count-within marks count place (rising-closed marks count (length trail) rising)) in
-    ap (λ k. restored (restored sets (drop count trail)) (drop (count_at marks k place) (take count trail))) left
-    ∙ sym (restored-append sets (drop n (take count trail)) (drop count trail))
-    ∙ ap (restored sets) (sym (drop-append-le n (take count trail) (drop count trail) early)
+    ap (λ k. restored (restored known (drop count trail)) (drop (count_at marks k place) (take count trail))) left
+    ∙ sym (restored-append known (drop n (take count trail)) (drop count trail))
+    ∙ ap (restored known) (sym (drop-append-le n (take count trail) (drop count trail) early)
     ∙ ap (drop n) (take-append-drop count trail))
-    ∙ ap (λ k. restored sets (drop k trail)) (count-closed marks count (length trail) place le)
+    ∙ ap (λ k. restored known (drop k trail)) (count-closed marks count (length trail) place le)
 
 -- ---- the walk back
 
 -- one change less on the trail, and one more taken back
-pub taken-before : (sets : List NumberFacts) (trail rest : List Change) (change : Change) (count : ℕ)
+pub taken-before : (known : AllFacts) (trail rest : List Change) (change : Change) (count : ℕ)
     → trail ≡ rest ++ change ∷ [] → count ≤ length rest
-    → restored (sets_before change sets) (drop count rest) ≡ restored sets (drop count trail)
-taken-before sets trail rest change count e le =
-    sym (restored-append sets (drop count rest) (change ∷ []))
-    ∙ ap (restored sets) (sym (drop-append-le count rest (change ∷ []) le) ∙ ap (drop count) (sym e))
-
--- ---- the words of the changes
-
-pub words-pushed : (pushed : Bool) (trail : List Change) (change : Change) → All (λ c. c.word < 16) trail
-    → change.word < 16 → All (λ c. c.word < 16) (if pushed then trail ++ change ∷ [] else trail)
-words-pushed true trail change all one = All-push (λ c. c.word < 16) trail change all one
-words-pushed false trail change all one = all
-
--- the last change of a part of the trail
-pub word-popped : (trail rest : List Change) (change : Change) (count : ℕ)
-    → take count trail ≡ rest ++ change ∷ [] → All (λ c. c.word < 16) trail → change.word < 16
-word-popped trail rest change count e all =
-    (All-pop (λ c. c.word < 16) (take count trail) rest (Some change) e (All-take (λ c. c.word < 16) count trail all)).1
+    → restored (known_before change known) (drop count rest) ≡ restored known (drop count trail)
+taken-before known trail rest change count e le =
+    sym (restored-append known (drop count rest) (change ∷ []))
+    ∙ ap (restored known) (sym (drop-append-le count rest (change ∷ []) le) ∙ ap (drop count) (sym e))

@@ -1,4 +1,5 @@
 pub mod Asked
+pub mod AtomPairs
 pub mod Bits
 pub mod Counts
 pub mod Intervals

@@ -1,7 +1,7 @@
 //! What is asked of one word, and what can be told of that.
 
-ghost use Rattle.std.specs.Prelude.{◌≡◌};
-ghost use Rattle.scf_facts.specs.Atoms.{answer_at, word_of};
+ghost use Rattle.std.specs.Prelude.{◌≡◌, ◌<◌};
+ghost use Rattle.scf_facts.specs.Atoms.{answer_at, atom_answer, word_of};
 
 /// What is asked of one of the sixteen words of a call record, by its number from 0 to 15: an answer is true or false.
 #[derive(Clone, Copy, Debug, PartialEq, Eq)]
@@ -40,6 +40,14 @@ impl Atom {
             Atom::Ge { value, .. } => number >= value,
             Atom::Arc { first, last, .. } => number.wrapping_sub(first) <= last.wrapping_sub(first),
         }
+    }
+
+    /// Whether it is true of the words.
+    pub(crate) fn is_true_of(self, words: &[u32; 16]) -> bool
+        requires { word_of self < 16 }
+        ensures { result ≡ atom_answer self words.now }
+    {
+        self.answer(words[self.word() as usize])
     }
 }
 

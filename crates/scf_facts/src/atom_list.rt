@@ -1,33 +1,35 @@
 //! Facts as the list of what was learned.
 
-ghost use Rattle.std.specs.Prelude.{◌≡◌, ◌<◌, ◌↔◌, ℕ, List, All, IfOk, IsOk, IsTrue, false, length};
+ghost use Rattle.std.specs.Prelude.{◌≡◌, ◌↔◌, ℕ, List, IfOk, IsOk, IsTrue, false, length};
 ghost use Rattle.scf_insn.specs.Words.{IsWords};
-ghost use Rattle.scf_facts.specs.Atoms.{word_of};
 ghost use Rattle.scf_facts.specs.internal.Counts.{AreRising};
-ghost use Rattle.scf_facts.specs.internal.Learned.{AllGive, AllowsByAtoms};
+ghost use Rattle.scf_facts.specs.internal.Learned.{AllHold, AllowsByFacts};
 
 use crate::atom::{Atom, Tell};
+use crate::atom_pair::AtomPair;
+use crate::fact::Fact;
 use crate::learned::Learned;
 use crate::word_facts::WordFacts;
 use scf_insn::Memory;
 use std::alloc::Global;
 
-/// The learned atoms with their answers, in order, and how many there were at each open mark.
+/// The learned atoms with their answers, and pairs of atoms that aren't both true, in order, and how many of these there
+/// were at each open mark.
 ///
 /// It tells of an atom that was learned itself, of an `Eq` with mask 0, and of any atom on a word that a true `Eq` with
-/// all bits in its mask has fixed. It picks the words that are 0 save those so fixed, where every learned atom agrees.
+/// all bits in its mask has fixed; pairs tell nothing. It picks the words that are 0 save those so fixed, where every
+/// learned atom and pair agrees.
 #[derive(Drop)]
 pub struct AtomList {
-    learned: Vec<Learned>,
+    learned: Vec<Fact>,
     marks: Vec<usize>,
-    ghost about_words: { All (λ known. word_of known.atom < 16) learned.items },
     ghost rising: { AreRising marks.items (length learned.items) },
 }
 
 impl WordFacts for AtomList {
     ghost level = { λ facts. length facts.marks.items };
 
-    ghost allows = { λ facts. AllowsByAtoms facts.learned.items facts.marks.items };
+    ghost allows = { λ facts. AllowsByFacts facts.learned.items facts.marks.items };
 
     ghost is_exact = { λ _ _. false };
 
@@ -47,7 +49,13 @@ impl WordFacts for AtomList {
     }
 
     fn learn(&mut self, atom: Atom, holds: bool) -> Result<(), Memory> {
-        self.learned.push(Learned { atom, holds })?;
+        self.learned.push(Fact::Answer(Learned { atom, holds }))?;
+        Ok(())
+    }
+
+    fn learn_not_both(&mut self, first: Atom, second: Atom) -> Result<(), Memory> {
+        self.learned
+            .push(Fact::NotBoth(AtomPair { first, second }))?;
         Ok(())
     }
 
@@ -103,10 +111,9 @@ impl WordFacts for AtomList {
     }
 }
 
-/// Whether each atom has its answer of the words.
-fn all_agree(learned: &[Learned], words: &[u32; 16]) -> bool
-    requires { All (λ known. word_of known.atom < 16) learned.now }
-    ensures { IsTrue result ↔ AllGive learned.now words.now }
+/// Whether each of the facts holds of the words.
+fn all_agree(learned: &[Fact], words: &[u32; 16]) -> bool
+    ensures { IsTrue result ↔ AllHold learned.now words.now }
 {
     learned.iter().all(|known| known.agrees(words))
 }

@@ -11,6 +11,7 @@ use crate::atom::{Atom, Tell};
 pub(crate) struct Learned {
     pub(crate) atom: Atom,
     pub(crate) holds: bool,
+    ghost about_word: { word_of atom < 16 },
 }
 
 impl Learned {
@@ -33,7 +34,6 @@ impl Learned {
 
     /// What this alone tells of another atom.
     pub(crate) fn tells(&self, atom: Atom) -> Tell
-        requires { word_of self.now.atom < 16 }
         ensures always { result ≡ Tell.Always
             → (words : List ℕ) → IsWords words
             → atom_answer self.now.atom words ≡ self.now.holds
@@ -64,9 +64,8 @@ impl Learned {
 
     /// Whether the atom has this answer of the words.
     pub(crate) fn agrees(&self, words: &[u32; 16]) -> bool
-        requires { word_of self.now.atom < 16 }
         ensures { IsTrue result ↔ (atom_answer self.now.atom words.now ≡ self.now.holds) }
     {
-        self.atom.answer(words[self.atom.word() as usize]) == self.holds
+        self.atom.is_true_of(words) == self.holds
     }
 }

@@ -1,4 +1,6 @@
-//! Changes of what is known of words, and how to take them back.
+//! Changes of what is known, with what was known before.
+
+ghost use Rattle.std.specs.Prelude.{◌<◌};
 
 use crate::bits::Bits;
 use crate::intervals::Intervals;
@@ -18,9 +20,19 @@ pub(crate) enum Former {
 
 /// A change of the facts of a word.
 #[derive(Drop)]
-pub(crate) struct Change {
+pub(crate) struct WordChange {
     /// The word's number, below 16.
     pub(crate) word: u8,
     /// The word's facts before.
     pub(crate) former: Former,
+    ghost about_word: { word < 16 },
+}
+
+/// A change of what is known.
+#[derive(Drop)]
+pub(crate) enum Change {
+    /// The facts of a word are others.
+    OfWord(WordChange),
+    /// There is a pair more: the last one.
+    Refuted,
 }

@@ -51,6 +51,20 @@ pub trait WordFacts: Sized + Drop {
         ensures refused { OnErr result (
             IsSameLevel allows is_exact self.old (level self.old) self.new (level self.old)) };
 
+    /// Keeps of the allowed lists those of which not both atoms are true. The marks stay as they are. Where memory is
+    /// refused, all lists stay. Nothing is promised of exactness: a store that holds a pair isn't exact.
+    fn learn_not_both(&mut self, first: Atom, second: Atom) -> Result<(), Memory>
+        requires first_word { word_of first < 16 }
+        requires second_word { word_of second < 16 }
+        ensures marks { level self.new ≡ level self.old }
+        ensures at_marks { (place : ℕ) → place < level self.old
+            → IsSameLevel allows is_exact self.old place self.new place }
+        ensures law_not_both { OnOk result ((words : List ℕ) → allows self.new (level self.old) words
+            ↔ (allows self.old (level self.old) words
+            × (atom_answer first words ≡ true → atom_answer second words ≡ false))) }
+        ensures refused { OnErr result (
+            IsSameLevel allows is_exact self.old (level self.old) self.new (level self.old)) };
+
     /// Opens a mark at what is known now. Where memory is refused, none is opened.
     fn mark(&mut self) -> Result<(), Memory>
         ensures opened { OnOk result (level self.new ≡ level self.old + 1) }

@@ -323,6 +323,64 @@ impl WordSet {
         }
     }
 
+    /// One of the numbers of which the atom is false, if one is found: the first one beside what the atom asks for.
+    pub(crate) fn pick_without(&self, atom: Atom) -> Option<u32>
+        ensures allowed { IfSome result (λ x. AllowsNumber self.now x) }
+        ensures refuted { IfSome result (λ x. answer_at atom x ≡ false) }
+    {
+        let number = match Asked::of(atom) {
+            Asked::Within {
+                range,
+                answer: true,
+            } => self.first_outside(range),
+            Asked::Within {
+                range,
+                answer: false,
+            } => self.first_in(range, self.known),
+            Asked::Masked(bits) => self.first_without(bits),
+        }?;
+        if self.allows(number) && !atom.answer(number) {
+            Some(number)
+        } else {
+            None
+        }
+    }
+
+    /// The first number in the range that has the bits, whatever is refuted.
+    fn first_in(&self, range: Interval, bits: Bits) -> Option<u32>
+        ensures { IfSome result (λ x. LiesInOne self.now.intervals x × LiesIn range x × HasBits bits x) }
+    {
+        first_number(self.intervals.as_slice(), range, bits)
+    }
+
+    /// The first number outside the range, whatever is refuted.
+    fn first_outside(&self, range: Interval) -> Option<u32>
+        ensures { IfSome result (λ x. LiesInOne self.now.intervals x × LiesOutside range x) }
+    {
+        if let Some(below) = Interval::ALL.part_below(range.low) {
+            if let Some(number) = self.first_in(below, self.known) {
+                return Some(number);
+            }
+        }
+        self.first_in(Interval::ALL.part_above(range.high)?, self.known)
+    }
+
+    /// The first number that lacks one of the bits, the lowest for which there is one, whatever is refuted.
+    fn first_without(&self, bits: Bits) -> Option<u32>
+        ensures { IfSome result (λ x. LiesInOne self.now.intervals x × HasBits self.now.known x) }
+    {
+        let mut open = bits.beyond(self.known);
+        while let Some(bit) = open.lowest() {
+            if let Some(joined) = self.known.join(bit.flipped()) {
+                if let Some(number) = self.first_in(Interval::ALL, joined) {
+                    return Some(number);
+                }
+            }
+            open = open.beyond(bit);
+        }
+        None
+    }
+
     /// An end of an interval that is one of the numbers.
     fn pick_end(&self) -> Option<u32>
         ensures allowed { IfSome result (λ x. AllowsNumber self.now x) }

@@ -1,45 +1,53 @@
-//! Facts as a set of numbers for each word.
+//! Facts as a set of numbers for each word, and pairs of atoms.
 
-ghost use Rattle.std.specs.Prelude.{◌≡◌, ◌<◌, ◌≤◌, All, length, take, drop, true};
-ghost use Rattle.std.specs.List.{list_all};
+ghost use Rattle.std.specs.Prelude.{◌≡◌, length, true};
 ghost use Rattle.scf_facts.specs.internal.Counts.{AreRising};
-ghost use Rattle.scf_facts.specs.internal.Trail.{restored, sets_at};
-ghost use Rattle.scf_facts.specs.internal.WordSets.{AllowsWords, is_exact_set};
+ghost use Rattle.scf_facts.specs.internal.Trail.{known_at};
+ghost use Rattle.scf_facts.specs.internal.WordSets.{AllowsList, is_exact_known, known_of};
 
 use crate::atom::{Atom, Tell};
-use crate::trail::Change;
+use crate::atom_pair::AtomPair;
+use crate::by_word::{has_empty_word, pick_by_word, tell_by_word};
+use crate::pairs::{all_agree, has_told_pair, part_pairs, tell_by_pairs};
+use crate::trail::{Change, WordChange};
+use crate::undo::take_back;
 use crate::word_facts::WordFacts;
 use crate::word_set::WordSet;
 use scf_insn::Memory;
 use std::alloc::Global;
 
-/// For each word the numbers that it may be: sorted intervals, known bits, and refuted bits under masks.
+/// For each word the numbers that it may be: sorted intervals, known bits, and refuted bits under masks. Beside them
+/// pairs of atoms that aren't both true.
 ///
-/// What is learned ends in intervals or known bits, save an `Eq` that fails under a mask of several bits. Where there
-/// is none of these, the facts are exact. Beside them it tells of what was learned itself and of an `Eq` under known
-/// bits. It picks the least number, an end of an interval, the known value or that with one bit more; where each of
-/// these is refuted, a number is looked for bit by bit, until one is found, there is none, or no try is left.
+/// What is learned ends in intervals or known bits, save an `Eq` that fails under a mask of several bits, and a pair.
+/// Where there is none of these, the facts are exact. Beside them it tells of what was learned itself, of an `Eq` under
+/// known bits, and of an atom in a pair whose other atom is told to be true. It picks the least number, an end of an
+/// interval, the known value or that with one bit more; where each of these is refuted, a number is looked for bit by
+/// bit, until one is found, there is none, or no try is left. Where both atoms of a pair are true of the words, another
+/// number of one of its words is tried.
 ///
-/// Where a mark is open, a trail has what each `learn` changed, in order, and a mark how long it was then. `learn`
-/// makes room in it first, so that nothing has changed where memory is refused.
+/// Where a mark is open, a trail has what was changed, in order, and a mark how long it was then. What learns makes
+/// room in it first, so that nothing has changed where memory is refused.
 #[derive(Drop)]
 pub struct WordSets {
     alloc: Global,
     sets: Vec<WordSet>,
+    pairs: Vec<AtomPair>,
     trail: Vec<Change>,
     marks: Vec<usize>,
     ghost sixteen: { length sets.items ≡ 16 },
-    ghost about_words: { All (λ change. change.word < 16) trail.items },
     ghost rising: { AreRising marks.items (length trail.items) },
 }
 
 impl WordFacts for WordSets {
     ghost level = { λ facts. length facts.marks.items };
 
-    ghost allows = { λ facts level. AllowsWords (sets_at facts.sets.items facts.trail.items facts.marks.items level) };
+    ghost allows = { λ facts level. AllowsList
+        (known_at (known_of facts.sets.items facts.pairs.items) facts.trail.items facts.marks.items level) };
 
-    ghost is_exact = { λ facts level.
-        list_all is_exact_set (sets_at facts.sets.items facts.trail.items facts.marks.items level) };
+    // Where a pair is held, they aren't exact.
+    ghost is_exact = { λ facts level. is_exact_known
+        (known_at (known_of facts.sets.items facts.pairs.items) facts.trail.items facts.marks.items level) };
 
     ghost starts_exact = { true };
 
@@ -51,6 +59,7 @@ impl WordFacts for WordSets {
         Ok(WordSets {
             alloc,
             sets,
+            pairs: Vec::new(alloc),
             trail: Vec::new(alloc),
             marks: Vec::new(alloc),
         })
@@ -64,7 +73,20 @@ impl WordFacts for WordSets {
         }
         self.trail.reserve(1)?;
         let former = self.sets[word as usize].learn(self.alloc, atom, holds)?;
-        self.trail.push(Change { word, former })?;
+        let change = Change::OfWord(WordChange { word, former });
+        self.trail.push(change)?;
+        Ok(())
+    }
+
+    fn learn_not_both(&mut self, first: Atom, second: Atom) -> Result<(), Memory> {
+        let pair = AtomPair { first, second };
+        if !self.marks.is_empty() {
+            self.trail.reserve(1)?;
+            self.pairs.push(pair)?;
+            self.trail.push(Change::Refuted)?;
+            return Ok(());
+        }
+        self.pairs.push(pair)?;
         Ok(())
     }
 
@@ -76,7 +98,7 @@ impl WordFacts for WordSets {
 
     fn undo(&mut self) {
         if let Some(count) = self.marks.pop() {
-            take_back(&mut self.sets, &mut self.trail, count);
+            take_back(&mut self.sets, &mut self.pairs, &mut self.trail, count);
         }
     }
 
@@ -85,38 +107,23 @@ impl WordFacts for WordSets {
     }
 
     fn tell(&self, atom: Atom) -> Tell {
-        self.sets[atom.word() as usize].tell(atom)
+        match tell_by_word(&self.sets, atom) {
+            Tell::Maybe => tell_by_pairs(&self.sets, &self.pairs, atom),
+            told => told,
+        }
     }
 
     fn is_empty(&self) -> bool {
-        for set in &self.sets {
-            if set.is_empty() {
-                return true;
-            }
-        }
-        false
+        has_empty_word(&self.sets) || has_told_pair(&self.sets, &self.pairs)
     }
 
     fn pick(&self) -> Option<[u32; 16]> {
-        let mut words = [0; 16];
-        for (place, set) in self.sets.iter().enumerate() {
-            words[place] = set.pick()?;
-        }
-        Some(words)
-    }
-}
-
-/// Takes back the changes past a count of them, the last one first.
-fn take_back(sets: &mut [WordSet], trail: &mut Vec<Change>, count: usize)
-    requires sixteen { length sets.old ≡ 16 }
-    requires about_words { All (λ change. change.word < 16) trail.old.items }
-    requires within { count ≤ length trail.old.items }
-    ensures sets { sets.new ≡ restored sets.old (drop count trail.old.items) }
-    ensures trail { trail.new.items ≡ take count trail.old.items }
-{
-    while trail.len() > count {
-        if let Some(change) = trail.pop() {
-            sets[change.word as usize].take_back(change.former);
+        let mut words = pick_by_word(&self.sets)?;
+        part_pairs(&self.sets, &self.pairs, &mut words);
+        if all_agree(&self.pairs, &words) {
+            Some(words)
+        } else {
+            None
         }
     }
 }

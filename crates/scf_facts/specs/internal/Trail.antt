@@ -1,10 +1,11 @@
--- Changes of what is known of the words, and what was known before them.
+-- Changes of what is known, and what was known before them.
 use Rattle.std.specs.Prelude.{◌-◌, ℕ, List, [], ◌∷◌, length, take, drop, slice_set, slice_index_or}
 use Rattle.scf_facts.specs.declared.trail.Change.{Change}
+use Rattle.scf_facts.specs.declared.trail.Change.TheVariants.{OfWord, Refuted}
 use Rattle.scf_facts.specs.declared.trail.Former.{Former}
 use Rattle.scf_facts.specs.declared.trail.Former.TheVariants.{Same, Intervals, Known, Unrefuted}
 use Rattle.scf_facts.specs.internal.Counts.{count_at}
-use Rattle.scf_facts.specs.internal.WordSets.{NumberFacts, no_facts}
+use Rattle.scf_facts.specs.internal.WordSets.{NumberFacts, AllFacts, no_facts}
 
 -- what was known of a word before a change of its facts
 abbrev pub facts_before : Former → NumberFacts → NumberFacts
@@ -13,16 +14,19 @@ facts_before (Intervals intervals) facts = record facts { intervals = intervals 
 facts_before (Known known) facts = record facts { known = known }
 facts_before Unrefuted facts = record facts { refuted = take (length facts.refuted - 1) facts.refuted }
 
--- what was known of the words before a change of one of them
-abbrev pub sets_before : Change → List NumberFacts → List NumberFacts
-sets_before change sets =
-    slice_set sets change.word (facts_before change.former (slice_index_or sets change.word no_facts))
+-- what was known before a change: of a word other facts, or one pair less
+abbrev pub known_before : Change → AllFacts → AllFacts
+known_before (OfWord change) known = record known {
+  sets = slice_set known.sets change.word
+      (facts_before change.former (slice_index_or known.sets change.word no_facts));
+}
+known_before Refuted known = record known { pairs = take (length known.pairs - 1) known.pairs }
 
--- what was known of the words before some changes, of which the first is the oldest
-abbrev pub restored : List NumberFacts → List Change → List NumberFacts
-restored sets [] = sets
-restored sets (change ∷ later) = sets_before change (restored sets later)
+-- what was known before some changes, of which the first is the oldest
+abbrev pub restored : AllFacts → List Change → AllFacts
+restored known [] = known
+restored known (change ∷ later) = known_before change (restored known later)
 
--- what was known of the words at a level
-abbrev pub sets_at : List NumberFacts → List Change → List ℕ → ℕ → List NumberFacts
-sets_at sets trail marks level = restored sets (drop (count_at marks (length trail) level) trail)
+-- what was known at a level
+abbrev pub known_at : AllFacts → List Change → List ℕ → ℕ → AllFacts
+known_at known trail marks level = restored known (drop (count_at marks (length trail) level) trail)

@@ -1,8 +1,11 @@
--- What is known of each word, and which lists of words that allows.
-use Rattle.std.specs.Prelude.{◌≡◌, ◌==◌, ◌<◌, ◌^◌, ℕ, List, [], Bool, All, Some, length, slice_get, slice_index}
+-- What is known of each word and of pairs of atoms, and which lists of words that allows.
+use Rattle.std.specs.Prelude.{◌≡◌, ◌==◌, ◌&&◌, ◌<◌, ◌^◌, ℕ, List, [], Bool, All, Some, length, slice_get, slice_index}
+use Rattle.std.specs.List.{list_all}
 use Rattle.scf_insn.specs.Words.{IsWords}
+use Rattle.scf_facts.specs.declared.atom_pair.AtomPair.{AtomPair}
 use Rattle.scf_facts.specs.declared.bits.Bits.{Bits}
 use Rattle.scf_facts.specs.declared.interval.Interval.{Interval}
+use Rattle.scf_facts.specs.internal.AtomPairs.{NotBothTrue}
 use Rattle.scf_facts.specs.internal.Bits.{HasBits, LacksBits}
 use Rattle.scf_facts.specs.internal.Intervals.{LiesInOne, all_intervals}
 
@@ -39,3 +42,19 @@ pub record AllowsWords (sets : List NumberFacts) (words : List ℕ) : Type 0 whe
   pub sixteen : IsWords words
   pub each : (place : ℕ) (facts : NumberFacts)
       → slice_get sets place ≡ Some facts → AllowsNumber facts (slice_index words place)
+
+-- what is known: the facts of each word, and pairs of atoms that aren't both true
+pub record AllFacts : Type 0 where
+  pub sets : List NumberFacts
+  pub pairs : List AtomPair
+
+abbrev pub known_of : List NumberFacts → List AtomPair → AllFacts
+known_of sets pairs = record { sets = sets; pairs = pairs }
+
+-- the lists of words that are allowed, where of no pair both atoms are true
+abbrev pub AllowsList : AllFacts → List ℕ → Type 0
+AllowsList known words = AllowsWords known.sets words × All (λ pair. NotBothTrue pair.first pair.second words) known.pairs
+
+-- what is known is in intervals and known bits: there is no pair
+abbrev pub is_exact_known : AllFacts → Bool
+is_exact_known known = list_all is_exact_set known.sets && (length known.pairs == 0)

@@ -9,7 +9,6 @@ invariant_of-self c =
     let facts = c.args.self.now in
     let all : c.len-count.result ≡ length facts.learned.items = c.len-count.ensures ∙ facts.learned.ok.0 in
     record {
-      about_words = facts.about_words;
       rising = subst (λ (marks : List ℕ). AreRising marks (length facts.learned.items)) (sym c.push.ensures.items)
           (rising-pushed _ facts.marks.items c.len-count.result (length facts.learned.items) all facts.rising);
     }

@@ -1,33 +1,26 @@
-use Rattle.std.proofs.Common.{◌≡◌, ◌<◌, ◌^◌, ℕ, List, arith, length, get_or, subst}
-use Rattle.std.specs.Prelude.{IsTrue}
-use Rattle.std.proofs.lemmas.Option.{slice_get_within}
-use Rattle.scf_facts.specs.internal.WordSets.{NumberFacts, AllowsNumber, is_exact_set}
-use Rattle.scf_facts.proofs.StoreLaws.{none_allowed, more_facts, allows_some, list_all-get}
-use Rattle.scf_facts.proofs.TrailLaws.{sets-now}
+use Rattle.std.proofs.Common.{sym, subst}
+use Rattle.std.specs.Prelude.{All, IsTrue}
+use Rattle.std.specs.List.{list_all}
+use Rattle.scf_facts.specs.internal.AtomPairs.{NotBothTrue}
+use Rattle.scf_facts.specs.internal.WordSets.{AllowsWords, is_exact_set}
+use Rattle.scf_facts.proofs.PairLaws.{allowed-now, allowed-alone, exact-now}
 use Rattle.scf_facts.proofs.word_sets.WordSetsWordFacts.is_empty.Goals as goal
 
-pub returns-then-is_empty-clause-law_empty : goal.returns-then-is_empty-clause-law_empty
-returns-then-is_empty-clause-law_empty c =
-    rw (sets-now c.args.self.now.sets.items c.args.self.now.trail.items c.args.self.now.marks.items) (λ _. none_allowed
-    c.args.self.now.sets.items c.loop-set.set-index c.set-item.result (omega (arith, c.loop-set-test.true))
-    (subst (λ (sets : List NumberFacts). c.set-item.result ≡ get_or sets c.loop-set.set-index c.set-item.result)
-    c.deref-set-items.ensures.value c.set-item.is) (c.is_empty.ensures.empty c.if-is_empty.true))
+pub returns-else-has_empty_word-clause-law_empty : goal.returns-else-has_empty_word-clause-law_empty
+returns-else-has_empty_word-clause-law_empty c = λ told words h.
+    let facts = c.args.self.now in
+    let now = allowed-now facts.sets.items facts.pairs.items facts.trail.items facts.marks.items words h in
+    c.has_told_pair.ensures told words
+    (subst (λ s. AllowsWords s words) (sym c.deref-else-has_empty_word.ensures.value) now.0)
+    (subst (All (λ pair. NotBothTrue pair.first pair.second words))
+    (sym c.deref-else-has_empty_word-2.ensures.value) now.1)
 
-pub loop-set-preserved : goal.loop-set-preserved
-loop-set-preserved c =
-    more_facts c.args.self.now.sets.items c.loop-set.set-index c.set-item.result (λ facts. IsTrue (is_exact_set facts)
-    → (x : ℕ) × (x < 2 ^ 32) × AllowsNumber facts x) (omega (arith, c.loop-set-test.true))
-    (subst (λ (sets : List NumberFacts). c.set-item.result ≡ get_or sets c.loop-set.set-index c.set-item.result)
-    c.deref-set-items.ensures.value c.set-item.is) c.loop-set.invariant
-    (λ exact. c.is_empty.ensures.some exact c.if-is_empty.false)
-
-pub returns-clause-seen : goal.returns-clause-seen
-returns-clause-seen c =
-    rw (sets-now c.args.self.now.sets.items c.args.self.now.trail.items c.args.self.now.marks.items)
-    (λ exact none.
-    let sets = c.args.self.now.sets.items in
-    let found = allows_some sets c.args.self.now.sixteen (λ place facts e.
-    let within : place < length sets = slice_get_within sets place facts e in
-    c.loop-set.invariant place facts
-    (omega (arith, c.loop-set-test.false)) e (list_all-get is_exact_set sets place facts exact e)) in
-    absurd (none found.0 found.1))
+pub returns-else-has_empty_word-clause-seen : goal.returns-else-has_empty_word-clause-seen
+returns-else-has_empty_word-clause-seen c = λ exact none.
+    let facts = c.args.self.now in
+    let now = exact-now facts.sets.items facts.pairs.items facts.trail.items facts.marks.items exact in
+    let alone = allowed-alone facts.sets.items facts.pairs.items facts.trail.items facts.marks.items now.1 in
+    let seen = c.if-has_empty_word.ensures.seen
+    (subst (λ s. IsTrue (list_all is_exact_set s)) (sym c.deref.ensures.value) now.0)
+    (λ words h. none words (alone words (subst (λ s. AllowsWords s words) c.deref.ensures.value h))) in
+    cc

@@ -1,7 +1,8 @@
 use Rattle.std.proofs.Common.{◌≡◌, ◌+◌, ◌∷◌, ◌++◌, [], ℕ, List, length, length-append, arith, ◌∙◌, sym, subst}
 use Rattle.scf_facts.specs.internal.Counts.{AreRising}
+use Rattle.scf_facts.specs.internal.WordSets.{known_of}
 use Rattle.scf_facts.proofs.CountLaws.{rising-pushed}
-use Rattle.scf_facts.proofs.TrailLaws.{same-sets, sets-now, sets-past, sets-opened}
+use Rattle.scf_facts.proofs.TrailLaws.{same-known, known-now, known-past, known-opened}
 use Rattle.scf_facts.proofs.word_sets.WordSetsWordFacts.mark.Goals as goal
 
 pub invariant_of-self : goal.invariant_of-self
@@ -10,7 +11,6 @@ invariant_of-self c =
     let all : c.len-count.result ≡ length facts.trail.items = c.len-count.ensures ∙ facts.trail.ok.0 in
     record {
       sixteen = facts.sixteen;
-      about_words = facts.about_words;
       rising = subst (λ (marks : List ℕ). AreRising marks (length facts.trail.items)) (sym c.push.ensures.items)
           (rising-pushed _ facts.marks.items c.len-count.result (length facts.trail.items) all facts.rising);
     }
@@ -19,14 +19,14 @@ pub returns-clause-known : goal.returns-clause-known
 returns-clause-known c =
     let facts = c.args.self.now in
     let marks = facts.marks.items in
-    rw c.in_ok-push.ensures.items (same-sets _ _ (
-    sets-past facts.sets.items facts.trail.items
+    rw c.in_ok-push.ensures.items (same-known _ _ (
+    known-past (known_of facts.sets.items facts.pairs.items) facts.trail.items
     (marks ++ c.len-count.result ∷ []) (length marks + 1) (simp length-append (omega arith))
-    ∙ sym (sets-now facts.sets.items facts.trail.items marks)))
+    ∙ sym (known-now (known_of facts.sets.items facts.pairs.items) facts.trail.items marks)))
 
 pub returns-clause-at_marks : goal.returns-clause-at_marks
 returns-clause-at_marks c =
     let facts = c.args.self.now in
     let all : c.len-count.result ≡ length facts.trail.items = c.len-count.ensures ∙ facts.trail.ok.0 in
-    rw c.in_ok-push.ensures.items (λ place le. same-sets _ _
-    (sets-opened facts.sets.items facts.trail.items facts.marks.items c.len-count.result all place))
+    rw c.in_ok-push.ensures.items (λ place le. same-known _ _
+    (known-opened (known_of facts.sets.items facts.pairs.items) facts.trail.items facts.marks.items c.len-count.result all place))

@@ -1,36 +1,47 @@
-use Rattle.std.proofs.Common.{◌≡◌, ◌<◌, arith, length, refl, subst, sym}
-use Rattle.std.specs.Prelude.{slice_index, true, false}
-use Rattle.std.proofs.lemmas.Option.{slice_get_read}
-use Rattle.scf_facts.specs.Atoms.{answer_at}
-use Rattle.scf_facts.specs.internal.WordSets.{is_exact_set}
-use Rattle.scf_facts.proofs.StoreLaws.{word_fits, list_all-get, always_told, never_told, each_of_all}
-use Rattle.scf_facts.proofs.TrailLaws.{sets-now}
+use Rattle.std.proofs.Common.{◌≡◌, sym, subst}
+use Rattle.std.specs.Prelude.{All, true, false}
+use Rattle.scf_facts.specs.declared.atom.Tell.TheVariants.{Always, Never}
+use Rattle.scf_facts.specs.internal.AtomPairs.{NotBothTrue}
+use Rattle.scf_facts.specs.internal.WordSets.{AllowsWords}
+use Rattle.scf_facts.proofs.PairLaws.{allowed-now, told-exactly}
 use Rattle.scf_facts.proofs.word_sets.WordSetsWordFacts.tell.Goals as goal
 
-pub returns : goal.returns
-returns c =
+pub returns-in-Maybe-clause-law_never : goal.returns-in-Maybe-clause-law_never
+returns-in-Maybe-clause-law_never c = λ told words h.
     let facts = c.args.self.now in
-    let sets = facts.sets.items in
-    let word = c.word.result in
-    let within : word < length sets = omega (arith, c.word.ensures, c.requires.word, facts.sixteen) in
-    let below : word < 16 = omega (arith, within, facts.sixteen) in
-    let s = c.index.result.now in
-    let at = slice_get_read sets (length sets) word s refl within c.index.ensures in
-    let f = answer_at c.args.atom in
-    let tells = c.tell.ensures in
-    rw (sets-now sets facts.trail.items facts.marks.items) (record {
-      law_always = λ told words h. subst (λ k. f (slice_index words k) ≡ true) c.word.ensures
-          (tells.always told (slice_index words word) (word_fits words word h.sixteen) (h.each word s at));
-      law_never = λ told words h. subst (λ k. f (slice_index words k) ≡ false) c.word.ensures
-          (tells.never told (slice_index words word) (word_fits words word h.sixteen) (h.each word s at));
-      told_always = λ exact some h agree. always_told s f (slice_index some word) (word_fits some word h.sixteen)
-          (h.each word s at) c.tell.result tells.never
-          (λ maybe. tells.both maybe (list_all-get is_exact_set sets word s exact at))
-          (each_of_all sets word s at below f true some h
-          (λ words allowed. subst (λ k. f (slice_index words k) ≡ true) (sym c.word.ensures) (agree words allowed)));
-      told_never = λ exact some h agree. never_told s f (slice_index some word) (word_fits some word h.sixteen)
-          (h.each word s at) c.tell.result tells.always
-          (λ maybe. tells.both maybe (list_all-get is_exact_set sets word s exact at))
-          (each_of_all sets word s at below f false some h
-          (λ words allowed. subst (λ k. f (slice_index words k) ≡ false) (sym c.word.ensures) (agree words allowed)));
-    })
+    let now = allowed-now facts.sets.items facts.pairs.items facts.trail.items facts.marks.items words h in
+    c.tell_by_pairs.ensures.never told words
+    (subst (λ s. AllowsWords s words) (sym c.deref-in-Maybe.ensures.value) now.0)
+    (subst (All (λ pair. NotBothTrue pair.first pair.second words)) (sym c.deref-in-Maybe-2.ensures.value) now.1)
+
+pub returns-in-Maybe-clause-told_always : goal.returns-in-Maybe-clause-told_always
+returns-in-Maybe-clause-told_always c = λ exact some h agree.
+    let facts = c.args.self.now in
+    let told : c.tell_by_word.result ≡ Always =
+    told-exactly facts.sets.items facts.pairs.items facts.trail.items facts.marks.items c.deref.result.now c.args.atom
+    true c.tell_by_word.result Always c.deref.ensures.value c.tell_by_word.ensures.told_always exact some h agree in
+    cc (c.in-Maybe.is)
+
+pub returns-in-Maybe-clause-told_never : goal.returns-in-Maybe-clause-told_never
+returns-in-Maybe-clause-told_never c = λ exact some h agree.
+    let facts = c.args.self.now in
+    let told : c.tell_by_word.result ≡ Never =
+    told-exactly facts.sets.items facts.pairs.items facts.trail.items facts.marks.items c.deref.result.now c.args.atom
+    false c.tell_by_word.result Never c.deref.ensures.value c.tell_by_word.ensures.told_never exact some h agree in
+    cc (c.in-Maybe.is)
+
+pub returns-in_default-clause-told_always : goal.returns-in_default-clause-told_always
+returns-in_default-clause-told_always c = λ exact some h agree.
+    let facts = c.args.self.now in
+    let told : c.tell_by_word.result ≡ Always =
+    told-exactly facts.sets.items facts.pairs.items facts.trail.items facts.marks.items c.deref.result.now c.args.atom
+    true c.tell_by_word.result Always c.deref.ensures.value c.tell_by_word.ensures.told_always exact some h agree in
+    told
+
+pub returns-in_default-clause-told_never : goal.returns-in_default-clause-told_never
+returns-in_default-clause-told_never c = λ exact some h agree.
+    let facts = c.args.self.now in
+    let told : c.tell_by_word.result ≡ Never =
+    told-exactly facts.sets.items facts.pairs.items facts.trail.items facts.marks.items c.deref.result.now c.args.atom
+    false c.tell_by_word.result Never c.deref.ensures.value c.tell_by_word.ensures.told_never exact some h agree in
+    told

@@ -1,6 +1,7 @@
 use Rattle.std.proofs.Common.{◌≡◌, ◌≤◌, length, take, drop}
 use Rattle.scf_facts.specs.internal.Trail.{restored}
-use Rattle.scf_facts.proofs.word_sets.take_back.Given as goal
+use Rattle.scf_facts.specs.internal.WordSets.{known_of}
+use Rattle.scf_facts.proofs.undo.take_back.Given as goal
 
 -- what is left of the trail takes back the rest
 abbrev pub invariant-loop-trail : goal.invariant-loop-trail
@@ -8,7 +9,8 @@ invariant-loop-trail l = record {
   sixteen : length l.sets ≡ 16;
   within : l.count ≤ length l.trail.items;
   older : take (length l.trail.items) l.initial.trail.items ≡ l.trail.items;
-  rest : restored l.sets (drop l.count l.trail.items) ≡ restored l.initial.sets (drop l.count l.initial.trail.items);
+  rest : restored (known_of l.sets l.pairs.items) (drop l.count l.trail.items)
+      ≡ restored (known_of l.initial.sets l.initial.pairs.items) (drop l.count l.initial.trail.items);
 }
 
 abbrev pub decreases-loop-trail : goal.decreases-loop-trail

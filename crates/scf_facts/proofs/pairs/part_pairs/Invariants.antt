@@ -1,0 +1,6 @@
+use Rattle.scf_facts.specs.internal.WordSets.{AllowsWords}
+use Rattle.scf_facts.proofs.pairs.part_pairs.Given as goal
+
+-- the words are still allowed
+abbrev pub invariant-loop-pair : goal.invariant-loop-pair
+invariant-loop-pair l = AllowsWords l.sets l.initial.words → AllowsWords l.sets l.words

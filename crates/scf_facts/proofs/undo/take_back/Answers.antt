@@ -1,0 +1,27 @@
+use Rattle.std.proofs.Common.{◌≡◌, ◌+◌, ◌∷◌, [], length, length-append, take, drop, arith, sym, ap, ◌∙◌}
+use Rattle.std.proofs.Math.Seq.{take-append_seam}
+use Rattle.std.proofs.lemmas.List.{take-take}
+use Rattle.scf_facts.specs.internal.Trail.{restored, known_before}
+use Rattle.scf_facts.specs.internal.WordSets.{AllFacts, known_of}
+use Rattle.scf_facts.proofs.TrailLaws.{taken-before}
+use Rattle.scf_facts.proofs.undo.take_back.Goals as goal
+
+pub loop-trail-preserved-in-Some : goal.loop-trail-preserved-in-Some
+loop-trail-preserved-in-Some c =
+    let inv = c.loop-trail.invariant in
+    let known = known_of c.loop-trail.sets c.loop-trail.pairs.items in
+    let trail = c.loop-trail.trail.items in
+    let rest = c.pop.new.self.items in
+    let change = c.in-Some.change in
+    let items = c.in-Some.ensures.items in
+    let counted : length trail ≡ length rest + 1 = ap length items ∙ length-append rest (change ∷ []) in
+    let before : restored (known_before change known) (drop c.args.count rest) ≡ restored known (drop c.args.count trail) =
+    taken-before known trail rest change c.args.count items
+    (omega (arith, counted, c.len.ensures, c.loop-trail-test.true)) in
+    record {
+      sixteen = c.take_back.auto.sets ∙ inv.sixteen;
+      within = omega (arith, counted, c.len.ensures, c.loop-trail-test.true);
+      older = sym (take-take (length rest) (length trail) c.args.trail.now.items (omega (arith, counted)))
+          ∙ ap (take (length rest)) (inv.older ∙ items) ∙ take-append_seam rest (change ∷ []);
+      rest = ap (λ (k : AllFacts). restored k (drop c.args.count rest)) c.take_back.ensures ∙ before ∙ inv.rest;
+    }

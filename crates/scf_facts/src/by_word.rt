@@ -1,0 +1,75 @@
+//! What is known of the sixteen words by the numbers of each alone.
+
+ghost use Rattle.std.specs.Prelude.{◌≡◌, ◌<◌, ℕ, List, IsTrue, IsSome, IfSome, length, true, false};
+ghost use Rattle.std.specs.List.{list_all};
+ghost use Rattle.scf_facts.specs.Atoms.{atom_answer, word_of};
+ghost use Rattle.scf_facts.specs.internal.WordSets.{AllowsWords, is_exact_set};
+
+use crate::atom::{Atom, Tell};
+use crate::word_set::WordSet;
+
+/// What the atom answers of every allowed list, where the numbers of its word say that.
+pub(crate) fn tell_by_word(sets: &[WordSet], atom: Atom) -> Tell
+    requires sixteen { length sets.now ≡ 16 }
+    requires word { word_of atom < 16 }
+    ensures always { result ≡ Tell.Always
+        → (words : List ℕ) → AllowsWords sets.now words → atom_answer atom words ≡ true }
+    ensures never { result ≡ Tell.Never
+        → (words : List ℕ) → AllowsWords sets.now words → atom_answer atom words ≡ false }
+    ensures told_always { IsTrue (list_all is_exact_set sets.now)
+        → (some : List ℕ) → AllowsWords sets.now some
+        → ((words : List ℕ) → AllowsWords sets.now words → atom_answer atom words ≡ true)
+        → result ≡ Tell.Always }
+    ensures told_never { IsTrue (list_all is_exact_set sets.now)
+        → (some : List ℕ) → AllowsWords sets.now some
+        → ((words : List ℕ) → AllowsWords sets.now words → atom_answer atom words ≡ false)
+        → result ≡ Tell.Never }
+{
+    sets[atom.word() as usize].tell(atom)
+}
+
+/// Whether it is known of a word that it has no number.
+pub(crate) fn has_empty_word(sets: &[WordSet]) -> bool
+    requires { length sets.now ≡ 16 }
+    ensures empty { IsTrue result → (words : List ℕ) → AllowsWords sets.now words → ⊥ }
+    ensures seen { IsTrue (list_all is_exact_set sets.now)
+        → ((words : List ℕ) → AllowsWords sets.now words → ⊥) → IsTrue result }
+{
+    for set in sets {
+        if set.is_empty() {
+            return true;
+        }
+    }
+    false
+}
+
+/// One of its numbers for each word, if they are found.
+pub(crate) fn pick_by_word(sets: &[WordSet]) -> Option<[u32; 16]>
+    requires { length sets.now ≡ 16 }
+    ensures allowed { IfSome result (λ words. AllowsWords sets.now words) }
+    ensures found { IsTrue (list_all is_exact_set sets.now)
+        → (words : List ℕ) → AllowsWords sets.now words → IsSome result }
+{
+    let mut words = [0; 16];
+    for (place, set) in sets.iter().enumerate() {
+        words[place] = set.pick()?;
+    }
+    Some(words)
+}
+
+/// Gives the atom's word another of its numbers, one of which the atom is false, if it is found.
+pub(crate) fn refute(sets: &[WordSet], atom: Atom, words: &mut [u32; 16]) -> bool
+    requires sixteen { length sets.now ≡ 16 }
+    requires word { word_of atom < 16 }
+    ensures allowed { AllowsWords sets.now words.old → AllowsWords sets.now words.new }
+    ensures refuted { IsTrue result → atom_answer atom words.new ≡ false }
+{
+    let word = atom.word() as usize;
+    match sets[word].pick_without(atom) {
+        Some(number) => {
+            words[word] = number;
+            true
+        }
+        None => false,
+    }
+}
