@@ -7,8 +7,8 @@ ghost use Rattle.scf_facts.specs.internal.WordSets.{AllowsList, is_exact_known, 
 
 use crate::atom::{Atom, Tell};
 use crate::atom_pair::AtomPair;
+use crate::by_pair::{all_agree, has_told_pair, part_pairs, tell_by_pairs};
 use crate::by_word::{has_empty_word, pick_by_word, tell_by_word};
-use crate::pairs::{all_agree, has_told_pair, part_pairs, tell_by_pairs};
 use crate::trail::{Change, WordChange};
 use crate::undo::take_back;
 use crate::word_facts::WordFacts;

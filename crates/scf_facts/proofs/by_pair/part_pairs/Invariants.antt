@@ -1,5 +1,5 @@
 use Rattle.scf_facts.specs.internal.WordSets.{AllowsWords}
-use Rattle.scf_facts.proofs.pairs.part_pairs.Given as goal
+use Rattle.scf_facts.proofs.by_pair.part_pairs.Given as goal
 
 -- the words are still allowed
 abbrev pub invariant-loop-pair : goal.invariant-loop-pair
