@@ -3,7 +3,6 @@ use Rattle.std.proofs.Common.{◌≡◌, ◌≢◌, ℕ, Bool, true, false, List
 use Rattle.std.proofs.Common.{◌++◌, Option, Some, None, Result, Ok, Err, inr}
 use Rattle.std.specs.Prelude.{IfErr}
 use Rattle.std.proofs.lemmas.Result.{IfErr-at_err}
-use Rattle.scf_insn.specs.declared.answer.Action.{Action}
 use Rattle.serde_json.specs.Data.{Data, Items, no_items, item}
 use Rattle.scf_profile.specs.declared.load_fault.LoadFault.{LoadFault}
 use Rattle.scf_profile.specs.declared.load_fault.LoadFault.TheVariants as faults
@@ -14,8 +13,7 @@ use Rattle.scf_profile.specs.Table.{Names}
 use Rattle.scf_profile.specs.Steps.{◌>>=◌, some_or, refused_if}
 use Rattle.scf_profile.specs.JsonMembers.{each}
 use Rattle.scf_profile.specs.StatedProfile.{action_in, errno_of}
-use Rattle.scf_profile.specs.StatedProfile.{errno_or_default, answer_in, absent_or_empty, no_engine_form}
-use Rattle.scf_profile.specs.StatedProfile.{items_or_none, index_in, operator_in, value_in, number_or_zero}
+use Rattle.scf_profile.specs.StatedProfile.{if_there, answer_in, no_engine_form, index_in, operator_in}
 use Rattle.scf_profile.specs.StatedProfile.{value_two_in, condition_of, conditions_in, names_in, entry_of}
 use Rattle.scf_profile.specs.StatedProfile.{entries_in, architectures_in, seccomp_in, root_or_linux, seccomp_of}
 use Rattle.scf_profile.specs.StatedProfile.{rules_in, object_states, profile_of}
@@ -54,30 +52,17 @@ each_test test h before no_items = ok_test _
 each_test test h before (item d ds) =
     then_test (test before d) _ (h before d) (λ x. each_test test h (before ++ x ∷ []) ds)
 
+there_test : {A : Type 0} (x : A) (test : Data → Result A LoadFault) (o : Option Data)
+    → ((d : Data) → IsTest (test d)) → IsTest (if_there x test o)
+there_test x test None h = ok_test x
+there_test x test (Some d) h = h d
+
 -- the tests, each in a chain of them
-ruleset tests = (ok_test, then_test, some_test, refused_test, each_test, tt)
-
-module _ (entry : Option ℕ) where
-  errno_test : (action : Action) (o : Option Data) → IsTest (errno_or_default entry action o)
-  unfolding errno_of
-  errno_test action None = ok_test _
-  errno_test action (Some d) = search tests depth 12
-
-  empty_test : (o : Option Data) → IsTest (absent_or_empty entry o)
-  empty_test None = ok_test _
-  empty_test (Some d) = search tests
-
-  items_test : (o : Option Data) → IsTest (items_or_none entry o)
-  items_test None = ok_test _
-  items_test (Some d) = search tests
-
-  number_test : (o : Option Data) → IsTest (number_or_zero entry o)
-  number_test None = ok_test _
-  number_test (Some d) = search tests
+ruleset tests = (ok_test, then_test, some_test, refused_test, each_test, there_test, tt)
 
 entry_test : (place : ℕ) (d : Data) → IsTest (entry_of place d)
-unfolding entry_of no_engine_form names_in action_in answer_in conditions_in condition_of index_in operator_in value_in value_two_in
-entry_test place d = search (tests, empty_test, errno_test, items_test, number_test) depth 40 fits 4000
+unfolding entry_of no_engine_form names_in action_in answer_in errno_of conditions_in condition_of index_in operator_in value_two_in
+entry_test place d = search tests depth 40 fits 4000
 
 root_test : (root : Data) (action linux : Option Data) → IsTest (root_or_linux root action linux)
 unfolding seccomp_in
@@ -86,9 +71,9 @@ root_test root None None = ok_test _
 root_test root None (Some linux) = search tests depth 16
 
 profile_test : (table : Names) (root : Data) → IsTest (profile_of table root)
-unfolding profile_of seccomp_of object_states action_in answer_in architectures_in no_engine_form entries_in rules_in
+unfolding profile_of seccomp_of object_states action_in answer_in errno_of architectures_in no_engine_form entries_in rules_in
 profile_test table root =
-    search (tests, root_test, errno_test, items_test, empty_test, entry_test) depth 40 fits 4000
+    search (tests, root_test, entry_test) depth 40 fits 4000
 
 -- what the value of a text fails first, or want of memory
 pub refuses_of_fault : (text : List ℕ) (table : Names) (d : Data) (e : LoadFault) → IsText text d

@@ -1,9 +1,10 @@
 -- The limits of texts, of their numbers and of profiles.
 use Rattle.std.specs.Prelude.{ℕ}
+use Rattle.scf_insn.specs.Kernel.{seccomp_data_args}
 
--- how many arguments a call has (linux/seccomp.h, struct seccomp_data)
+-- how many arguments a call has
 abbrev pub arguments : ℕ
-arguments = 6
+arguments = seccomp_data_args
 
 -- the greatest errno: the data of an answer have 16 bits
 abbrev pub max_errno : ℕ

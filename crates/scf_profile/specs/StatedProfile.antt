@@ -26,6 +26,19 @@ use Rattle.scf_profile.specs.JsonMembers.{member, whole_number, unsigned_number,
 use Rattle.scf_profile.specs.Limits.{arguments, max_errno, max_rules}
 use Rattle.scf_profile.specs.Table.{Names}
 
+-- ---- members
+
+-- a member that has to be there, of a kind
+abbrev pub required : {T : Type 0} → Option ℕ → List ℕ → (Data → Option T) → Data → Result T LoadFault
+required entry name kind d = do
+  found ← some_or (member name d) (faults.Missing entry)
+  some_or (kind found) (faults.Kind entry)
+
+-- what a test makes of a member, where it isn't absent
+abbrev pub if_there : {T : Type 0} → T → (Data → Result T LoadFault) → Option Data → Result T LoadFault
+if_there absent test None = Ok absent
+if_there absent test (Some d) = test d
+
 -- ---- an action and its answer
 
 -- the nine names of the eight actions
@@ -44,8 +57,7 @@ action_named name =
 
 unfoldable pub action_in : Option ℕ → List ℕ → Data → Result Action LoadFault
 action_in entry name d = do
-  found ← some_or (member name d) (faults.Missing entry)
-  text ← some_or (as_str found) (faults.Kind entry)
+  text ← required entry name as_str d
   some_or (action_named text) (faults.Action entry)
 
 -- the actions that have an errno as their data
@@ -65,14 +77,10 @@ errno_of entry action d = do
   _ ← refused_if (not (takes_errno action)) (faults.Errno entry)
   some_or (errno_in_range number) (faults.ErrnoRange entry)
 
--- the data of an action: 1 (EPERM) where it takes an errno and has none
-abbrev pub errno_or_default : Option ℕ → Action → Option Data → Result ℕ LoadFault
-errno_or_default entry action None = Ok (if takes_errno action then 1 else 0)
-errno_or_default entry action (Some d) = errno_of entry action d
-
+-- an action with its errno, which is 1 (EPERM) where it takes one and has none
 unfoldable pub answer_in : Option ℕ → Action → List ℕ → Data → Result Answer LoadFault
 answer_in entry action name d = do
-  errno ← errno_or_default entry action (member name d)
+  errno ← if_there (if takes_errno action then 1 else 0) (errno_of entry action) (member name d)
   Ok (record { 0 = answer_of action errno })
 
 -- ---- what depends on an engine, and texts
@@ -83,13 +91,10 @@ is_empty d =
     option_map_or (λ ds. not (has_items ds)) (as_array d)
     (option_map_or (λ ms. not (has_members ms)) (as_object d) false)
 
-abbrev pub absent_or_empty : Option ℕ → Option Data → Result ⊤ LoadFault
-absent_or_empty entry None = Ok tt
-absent_or_empty entry (Some d) = refused_if (not (is_empty d)) (faults.EngineForm entry)
-
 -- the member has to be absent or empty, of whatever kind it is
 unfoldable pub no_engine_form : Option ℕ → List ℕ → Data → Result ⊤ LoadFault
-no_engine_form entry name d = absent_or_empty entry (member name d)
+no_engine_form entry name d =
+    if_there tt (λ found. refused_if (not (is_empty found)) (faults.EngineForm entry)) (member name d)
 
 abbrev pub string_of : Option ℕ → Data → Result (List ℕ) LoadFault
 string_of entry d = some_or (as_str d) (faults.Kind entry)
@@ -99,9 +104,8 @@ abbrev pub strings_of : Option ℕ → Items → Result (List (List ℕ)) LoadFa
 strings_of entry items = each (λ before. string_of entry) [] items
 
 -- the items of an array that may be absent
-abbrev pub items_or_none : Option ℕ → Option Data → Result Items LoadFault
-items_or_none entry None = Ok no_items
-items_or_none entry (Some d) = some_or (as_array d) (faults.Kind entry)
+abbrev pub items_in : Option ℕ → List ℕ → Data → Result Items LoadFault
+items_in entry name d = if_there no_items (λ found. some_or (as_array found) (faults.Kind entry)) (member name d)
 
 -- ---- a member of `args`
 
@@ -124,28 +128,18 @@ argument_index (negsuc n) = None
 
 unfoldable pub index_in : Option ℕ → Data → Result ℕ LoadFault
 index_in entry d = do
-  found ← some_or (member (codes "index") d) (faults.Missing entry)
-  number ← some_or (whole_number found) (faults.Kind entry)
+  number ← required entry (codes "index") whole_number d
   some_or (argument_index number) (faults.Index entry)
 
 unfoldable pub operator_in : Option ℕ → Data → Result Operator LoadFault
 operator_in entry d = do
-  found ← some_or (member (codes "op") d) (faults.Missing entry)
-  name ← some_or (as_str found) (faults.Kind entry)
+  name ← required entry (codes "op") as_str d
   some_or (operator_named name) (faults.Operator entry)
 
-unfoldable pub value_in : Option ℕ → Data → Result ℕ LoadFault
-value_in entry d = do
-  found ← some_or (member (codes "value") d) (faults.Missing entry)
-  some_or (unsigned_number found) (faults.Kind entry)
-
 -- 0 where it is absent
-abbrev pub number_or_zero : Option ℕ → Option Data → Result ℕ LoadFault
-number_or_zero entry None = Ok 0
-number_or_zero entry (Some d) = some_or (unsigned_number d) (faults.Kind entry)
-
 unfoldable pub value_two_in : Option ℕ → Data → Result ℕ LoadFault
-value_two_in entry d = number_or_zero entry (member (codes "valueTwo") d)
+value_two_in entry d =
+    if_there 0 (λ found. some_or (unsigned_number found) (faults.Kind entry)) (member (codes "valueTwo") d)
 
 -- one member, after members that state these conditions
 unfoldable pub condition_of : Option ℕ → List Condition → Data → Result Condition LoadFault
@@ -153,22 +147,21 @@ condition_of entry earlier d = do
   _ ← some_or (as_object d) (faults.Kind entry)
   index ← index_in entry d
   op ← operator_in entry d
-  value ← value_in entry d
+  value ← required entry (codes "value") unsigned_number d
   value_two ← value_two_in entry d
   _ ← refused_if (list_any (λ c. c.index == index) earlier) (faults.RepeatedIndex entry)
   Ok (record { index = index; op = op; value = value; value_two = value_two })
 
 unfoldable pub conditions_in : Option ℕ → Data → Result (List Condition) LoadFault
 conditions_in entry d = do
-  items ← items_or_none entry (member (codes "args") d)
+  items ← items_in entry (codes "args") d
   each (condition_of entry) [] items
 
 -- ---- an entry of `syscalls`
 
 unfoldable pub names_in : Option ℕ → Data → Result (List (List ℕ)) LoadFault
 names_in entry d = do
-  found ← some_or (member (codes "names") d) (faults.Missing entry)
-  items ← some_or (as_array found) (faults.Kind entry)
+  items ← required entry (codes "names") as_array d
   _ ← refused_if (not (has_items items)) (faults.EmptyNames entry)
   strings_of entry items
 
@@ -189,7 +182,7 @@ next_entry before d = entry_of (length before) d
 
 unfoldable pub entries_in : Data → Result (List Entry) LoadFault
 entries_in d = do
-  items ← items_or_none None (member (codes "syscalls") d)
+  items ← items_in None (codes "syscalls") d
   each next_entry [] items
 
 -- ---- the seccomp object
@@ -207,7 +200,7 @@ is_other_architecture name = not (bytes_eq x86_64 name)
 
 unfoldable pub architectures_in : Data → Result (List (List ℕ)) LoadFault
 architectures_in d = do
-  items ← items_or_none None (member (codes "architectures") d)
+  items ← items_in None (codes "architectures") d
   names ← strings_of None items
   _ ← refused_if (lacks_x86_64 names) (faults.NoX8664 None)
   Ok names

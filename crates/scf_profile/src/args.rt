@@ -1,13 +1,13 @@
 //! Conditions from the members of `args`.
 
-ghost use Rattle.std.specs.Prelude.{◌≡◌, ◌<◌, ◌==◌, [], IfOk, false};
+ghost use Rattle.std.specs.Prelude.{◌≡◌, ◌<◌, ◌==◌, [], IfOk, codes, false};
 ghost use Rattle.std.specs.List.{list_any};
 ghost use Rattle.serde_json.specs.View.{view, items_view};
 ghost use Rattle.scf_profile.specs.declared.load_fault.LoadFault.TheVariants.{Memory};
-ghost use Rattle.scf_profile.specs.JsonMembers.{each};
+ghost use Rattle.scf_profile.specs.JsonMembers.{each, unsigned_number};
 ghost use Rattle.scf_profile.specs.Limits.{arguments};
 ghost use Rattle.scf_profile.specs.Rule.{IsCondition, AreConditions};
-ghost use Rattle.scf_profile.specs.StatedProfile.{operator_named, index_in, operator_in, value_in, value_two_in};
+ghost use Rattle.scf_profile.specs.StatedProfile.{required, operator_named, index_in, operator_in, value_two_in};
 ghost use Rattle.scf_profile.specs.StatedProfile.{condition_of as condition_stated, conditions_in};
 ghost use Rattle.scf_profile.specs.Steps.{Gives};
 ghost use Rattle.scf_profile.specs.internal.Results.{result_map};
@@ -62,9 +62,8 @@ fn find_operator(entry: Option<u32>, object: &Value) -> Result<Operator, LoadFau
     operator_of(name).ok_or(LoadFault::Operator { entry })
 }
 
-#[tactic(auto, unfolding(crate::specs::StatedProfile::value_in))]
 fn find_value(entry: Option<u32>, object: &Value) -> Result<u64, LoadFault>
-    ensures { result ≡ value_in entry (view object.now) }
+    ensures { result ≡ required entry (codes "value") unsigned_number (view object.now) }
 {
     let found = member_of(object, "value").ok_or(LoadFault::Missing { entry })?;
     found.as_u64().ok_or(LoadFault::Kind { entry })
