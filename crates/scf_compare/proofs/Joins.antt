@@ -161,12 +161,6 @@ zero_by_test a x v tests = (
   λ same. eqb-true a 0 (tests.1 (eq-eqb x v same)),
 )
 
-pub test_by_zero : (a x v : ℕ) → (a ≡ 0) ↔ (x ≡ v) → (eqb a 0 ≡ true) ↔ (eqb x v ≡ true)
-test_by_zero a x v zero = (
-  λ is. eq-eqb x v (zero.0 (eqb-true a 0 is)),
-  λ is. eq-eqb a 0 (zero.1 (eqb-true x v is)),
-)
-
 -- a number that is never 0
 pub never_zero : (a w : ℕ) → eqb a 0 ≡ false → (a ≡ 0) ↔ (bit_and w 0 ≡ 1)
 never_zero a w isnt = (
@@ -177,7 +171,7 @@ never_zero a w isnt = (
 pub above_zero : (x : ℕ) → not (eqb x 0) ≡ nat_lt 0 x
 above_zero x = grind (arith, nat_tests)
 
-or_zero : (a b : ℕ) → (bit_or a b ≡ 0) ↔ ((a ≡ 0) × (b ≡ 0))
+pub or_zero : (a b : ℕ) → (bit_or a b ≡ 0) ↔ ((a ≡ 0) × (b ≡ 0))
 or_zero a b = (
   λ none. (omega (arith, none, le_or_l a b), omega (arith, none, le_or_r a b)),
   λ both. ap (λ n. bit_or n b) both.0 ∙ ap (bit_or 0) both.1,
@@ -221,27 +215,20 @@ under_second : (w m n b : ℕ) → bit_and w (bit_or m n) ≡ b → bit_and w n 
 under_second w m n b both =
     sym (ap (λ a. bit_and a n) (sym both) ∙ and_assoc n w (bit_or m n) ∙ ap (bit_and w) (second_kept m n))
 
--- numbers are both 0 where their word is both values under both masks
-pub or_is_zero : (a b w m n u v : ℕ) → (a ≡ 0) ↔ (bit_and w m ≡ u) → (b ≡ 0) ↔ (bit_and w n ≡ v)
-    → bit_and (bit_or u v) m ≡ u → bit_and (bit_or u v) n ≡ v
-    → (bit_or a b ≡ 0) ↔ (bit_and w (bit_or m n) ≡ bit_or u v)
-or_is_zero a b w m n u v first second fits suits = (
-  λ none. let both = (or_zero a b).0 none in under_both w m n u v (first.0 both.0) (second.0 both.1),
-  λ both.
-      (or_zero a b).1
-      (first.1 (under_first w m n (bit_or u v) both ∙ fits), second.1 (under_second w m n (bit_or u v) both ∙ suits)),
+-- a word has both values under both masks
+pub under_both_masks : (w m n u v : ℕ) → bit_and (bit_or u v) m ≡ u → bit_and (bit_or u v) n ≡ v
+    → (bit_and w (bit_or m n) ≡ bit_or u v) ↔ ((bit_and w m ≡ u) × (bit_and w n ≡ v))
+under_both_masks w m n u v fits suits = (
+  λ both. (under_first w m n (bit_or u v) both ∙ fits, under_second w m n (bit_or u v) both ∙ suits),
+  λ both. under_both w m n u v both.0 both.1,
 )
 
 -- and never where the values are apart in a bit of both
-pub or_isnt_zero : (a b w m n u v : ℕ) → (a ≡ 0) ↔ (bit_and w m ≡ u) → (b ≡ 0) ↔ (bit_and w n ≡ v)
-    → ((bit_and (bit_or u v) m ≡ u) × (bit_and (bit_or u v) n ≡ v) → ⊥)
-    → (bit_or a b ≡ 0) ↔ (bit_and w 0 ≡ 1)
-or_isnt_zero a b w m n u v first second apart = (
-  λ none.
-      let both = (or_zero a b).0 none in
-      let there = first.0 both.0 in
-      let here = second.0 both.1 in
-      let word = under_both w m n u v there here in
-      absurd (apart (sym (under_first w m n (bit_or u v) word) ∙ there, sym (under_second w m n (bit_or u v) word) ∙ here)),
+pub never_under_both : (w m n u v : ℕ) → ((bit_and (bit_or u v) m ≡ u) × (bit_and (bit_or u v) n ≡ v) → ⊥)
+    → (bit_and w 0 ≡ 1) ↔ ((bit_and w m ≡ u) × (bit_and w n ≡ v))
+never_under_both w m n u v apart = (
   λ is. let contrary : 0 ≡ 1 = sym (and_zero_r w) ∙ is in absurd cc,
+  λ both.
+      let word = under_both w m n u v both.0 both.1 in
+      absurd (apart (sym (under_first w m n (bit_or u v) word) ∙ both.0, sym (under_second w m n (bit_or u v) word) ∙ both.1)),
 )

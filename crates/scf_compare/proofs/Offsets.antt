@@ -13,6 +13,7 @@ use Rattle.scf_facts.specs.Atoms.{steps_from}
 use Rattle.scf_compare.specs.declared.image.Image.{Image}
 use Rattle.scf_compare.specs.internal.Images.{shifted_word, image_number}
 use Rattle.scf_compare.specs.internal.Offsets.{signed_sum}
+use Rattle.scf_compare.proofs.Bits.{whole_word}
 use Rattle.scf_compare.proofs.Images.{flipped_twice, image_fits}
 
 -- ---- sums
@@ -164,6 +165,20 @@ xor_inside a b all =
     ∙ rest_bit (bit_at a i) (bit_at b i) (bit_at-lt a i) (bit_at-lt b i) (bit_of_all a b i all)
     ∙ sym (bit_at-zero i))))
     ∙ flipped_twice b a
+
+signed_fits : (negated : Bool) (n added : ℕ) → signed_sum negated n added < 2 ^ 32
+signed_fits false n added = omega arith
+signed_fits true n added = omega arith
+
+-- XOR 32 ones a number is taken from them
+pub complement : (negated : Bool) (n added : ℕ)
+    → (2 ^ 32 - 1 + 2 ^ 32 - signed_sum negated n added) % 2 ^ 32 ≡ bit_xor (signed_sum negated n added) (2 ^ 32 - 1)
+complement negated n added =
+    let x = signed_sum negated n added in
+    let fits : x < 2 ^ 32 = signed_fits negated n added in
+    let whole = xor_inside x (2 ^ 32 - 1) (sym (whole_word x fits)) in
+    let same : (2 ^ 32 - 1 + 2 ^ 32 - x) % 2 ^ 32 ≡ bit_xor (2 ^ 32 - 1) x = omega (arith, whole, fits) in
+    same ∙ xor_comm (2 ^ 32 - 1) x
 
 pub sum_by_bits : (n added : ℕ) → n < 2 ^ 32 → added < 2 ^ 32 → bit_and n added ≡ 0
     → signed_sum false n added ≡ bit_xor n added

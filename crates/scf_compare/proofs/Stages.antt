@@ -1,16 +1,15 @@
 -- From one stage of an exploration to the next.
-use Rattle.std.proofs.Common.{◌≡◌, ℕ, ◌<◌, ◌≤◌, ◌↔◌, inl, inr, List, true, false, arith}
+use Rattle.std.proofs.Common.{◌≡◌, ◌∙◌, ℕ, ◌≤◌, ◌↔◌, inl, inr, List, true, false, arith}
 use Rattle.std.specs.Prelude.{Option, Some, None, IsTrue}
 use Rattle.std.proofs.lemmas.Bool.{cases_Bool}
-use Rattle.scf_facts.specs.declared.atom.Atom.{Atom}
 use Rattle.scf_facts.specs.declared.word_facts.WordFacts.{Ghosts as Store}
-use Rattle.scf_facts.specs.Atoms.{word_of, atom_answer}
-use Rattle.scf_facts.specs.Exactness.{KeepsExact}
+use Rattle.scf_compare.specs.declared.asking.Atoms.{Atoms}
 use Rattle.scf_compare.specs.declared.comparison.BothEnds.{BothEnds}
 use Rattle.scf_compare.specs.declared.frontier.Branch.{Branch}
 use Rattle.scf_compare.specs.declared.frontier.Frontier.{Frontier}
 use Rattle.scf_compare.specs.declared.turn.Turn.{Turn}
 use Rattle.scf_compare.specs.declared.turn.Turn.TheVariants.{Ask, Fork}
+use Rattle.scf_compare.specs.internal.Asking.{AsksOfWords, atoms_answer, StaysExact, KeepsEither}
 use Rattle.scf_compare.specs.internal.Compared.{Compared}
 use Rattle.scf_compare.specs.internal.Ends.{Tells, KnowsBoth, WereSeen}
 use Rattle.scf_compare.specs.internal.Frontier.{IsFrontier}
@@ -20,40 +19,45 @@ use Rattle.scf_compare.proofs.Branches.{HasOpened, still_in_branch, in_opened, f
 
 module _ {F K N : Type 0} (store : Store F) (compared : Compared) (tree : K → Tree N) (old new : Frontier F K N)
     (f : IsFrontier store tree compared.in_scope old) where
-  -- one way on from an atom is gone, and a branch stands open for the other
-  pub asked : (known : K) (atom : Atom) (if_true if_false : N)
-      → (word_of atom < 16) × (tree known).is_node if_true × (tree known).is_node if_false
-      → HasOpened store old new (record { known = known; node = if_false; learned = Some (atom, false) })
+  -- One way on from atoms is gone, and a branch stands open for the other: those that are left of them were learned.
+  pub asked : (known : K) (whole left : Atoms) (if_true if_false : N)
+      → AsksOfWords whole × (tree known).is_node if_true × (tree known).is_node if_false
+      → AsksOfWords left
+      → ((words : List ℕ) → store.allows old.facts (store.level old.facts) words
+      → atoms_answer whole words ≡ atoms_answer left words)
+      → (KeepsEither whole → KeepsEither left)
+      → HasOpened store old new (record { known = known; node = if_false; learned = Some (left, false) })
       → ((words : List ℕ)
       → store.allows new.facts (store.level new.facts) words
-      ↔ (store.allows old.facts (store.level old.facts) words × (atom_answer atom words ≡ true)))
-      → (KeepsExact atom true → IsTrue (store.is_exact old.facts (store.level old.facts))
+      ↔ (store.allows old.facts (store.level old.facts) words × (atoms_answer left words ≡ true)))
+      → (StaysExact left true → IsTrue (store.is_exact old.facts (store.level old.facts))
       → IsTrue (store.is_exact new.facts (store.level new.facts)))
-      → LeadsTo store compared tree old new (tree known) (Ask atom if_true if_false) if_true
-  asked known atom if_true if_false proper opened learned exact =
-      let other : Branch K N = record { known = known; node = if_false; learned = Some (atom, false) } in
+      → LeadsTo store compared tree old new (tree known) (Ask whole if_true if_false) if_true
+  asked known whole left if_true if_false proper asks same keeps opened learned exact =
+      let other : Branch K N = record { known = known; node = if_false; learned = Some (left, false) } in
       record {
         frontier =
             frontier_opened store tree compared.in_scope old new other f opened
-            (record { node = proper.2; asks = proper.0 });
+            (record { node = proper.2; asks = asks });
         node = proper.1;
         words = λ words ahead. elim ahead [
           | inl inside ↦ inl (still_in_branch store tree compared.in_scope old new other f opened words inside)
-          | inr here ↦ elim (cases_Bool (atom_answer atom words)) [
-            | inl given ↦ inr ((learned words).1 (here.0, given), here.1.0 given)
+          | inr here ↦ elim (cases_Bool (atoms_answer left words)) [
+            | inl given ↦ inr ((learned words).1 (here.0, given), here.1.0 (same words here.0 ∙ given))
             | inr refused ↦
                 inl (in_opened store tree compared.in_scope old new other f opened words here.0 refused
-                (here.1.1 refused))
+                (here.1.1 (same words here.0 ∙ refused)))
           ]
         ];
         size = omega (arith, size_opened store tree compared.in_scope old new other f opened);
-        exact = λ all. record {
+        exact = λ all. let either = keeps all.plain.0 in record {
           branches =
-              exact_opened store tree compared.in_scope old new other f opened all.branches all.facts all.plain.0.1
-              all.plain.2 (λ words allowed refused. (all.reached words allowed).1 refused);
-          facts = exact all.plain.0.0 all.facts;
+              exact_opened store tree compared.in_scope old new other f opened all.branches all.facts either.1
+              all.plain.2 (λ words allowed refused. (all.reached words allowed).1 (same words allowed ∙ refused));
+          facts = exact either.0 all.facts;
           plain = all.plain.1;
-          reached = λ words allowed. let both = (learned words).0 allowed in (all.reached words both.0).0 both.1;
+          reached = λ words allowed.
+              let both = (learned words).0 allowed in (all.reached words both.0).0 (same words both.0 ∙ both.1);
         };
       }
 

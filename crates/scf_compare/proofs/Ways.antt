@@ -74,8 +74,8 @@ pub turn_proper : (tree : Tree FilterNode) (is_end : FilterEnd → Type 0) (deci
     → IsDecision decision → tree.is_node if_true → tree.is_node if_false → IsProper tree is_end turn
 turn_proper tree is_end (Decided true) t f turn e d ht hf = subst (IsProper tree is_end) (sym e) ht
 turn_proper tree is_end (Decided false) t f turn e d ht hf = subst (IsProper tree is_end) (sym e) hf
-turn_proper tree is_end (Asks atom true) t f turn e d ht hf = subst (IsProper tree is_end) (sym e) (d, ht, hf)
-turn_proper tree is_end (Asks atom false) t f turn e d ht hf = subst (IsProper tree is_end) (sym e) (d, hf, ht)
+turn_proper tree is_end (Asks atoms true) t f turn e d ht hf = subst (IsProper tree is_end) (sym e) (d, ht, hf)
+turn_proper tree is_end (Asks atoms false) t f turn e d ht hf = subst (IsProper tree is_end) (sym e) (d, hf, ht)
 turn_proper tree is_end Open t f turn e d ht hf = subst (IsProper tree is_end) (sym e) (ht, hf)
 
 pub turn_costs : (tree : Tree FilterNode) (decision : Decision) (if_true if_false : FilterNode)
@@ -85,8 +85,8 @@ turn_costs tree (Decided true) t f turn n e h =
     subst (λ (u : Turn FilterNode FilterEnd). Costs tree u n) (sym e) (let k : tree.size t + 1 ≤ n = omega arith in k)
 turn_costs tree (Decided false) t f turn n e h =
     subst (λ (u : Turn FilterNode FilterEnd). Costs tree u n) (sym e) (let k : tree.size f + 1 ≤ n = omega arith in k)
-turn_costs tree (Asks atom true) t f turn n e h = subst (λ (u : Turn FilterNode FilterEnd). Costs tree u n) (sym e) h
-turn_costs tree (Asks atom false) t f turn n e h =
+turn_costs tree (Asks atoms true) t f turn n e h = subst (λ (u : Turn FilterNode FilterEnd). Costs tree u n) (sym e) h
+turn_costs tree (Asks atoms false) t f turn n e h =
     subst (λ (u : Turn FilterNode FilterEnd). Costs tree u n) (sym e)
     (let k : tree.size f + tree.size t + 1 ≤ n = omega arith in k)
 turn_costs tree Open t f turn n e h = subst (λ (u : Turn FilterNode FilterEnd). Costs tree u n) (sym e) h
@@ -99,12 +99,12 @@ turn_leads tree tells words (Decided true) t f turn test e d ht hf =
     subst (λ (u : Turn FilterNode FilterEnd). GoesOn tree tells u words) (sym e) (ht d)
 turn_leads tree tells words (Decided false) t f turn test e d ht hf =
     subst (λ (u : Turn FilterNode FilterEnd). GoesOn tree tells u words) (sym e) (hf d)
-turn_leads tree tells words (Asks atom true) t f turn test e d ht hf =
+turn_leads tree tells words (Asks atoms true) t f turn test e d ht hf =
     subst (λ (u : Turn FilterNode FilterEnd). GoesOn tree tells u words) (sym e) (
       λ a. ht (d.1 a),
       λ a. elim (cases_Bool test) [ inl y ↦ absurd (let both : true ≡ false = sym (d.0 y) ∙ a in cc) | inr n ↦ hf n ],
     )
-turn_leads tree tells words (Asks atom false) t f turn test e d ht hf =
+turn_leads tree tells words (Asks atoms false) t f turn test e d ht hf =
     subst (λ (u : Turn FilterNode FilterEnd). GoesOn tree tells u words) (sym e) (
       λ a. elim (cases_Bool test) [ inl y ↦ absurd (let both : false ≡ true = sym (d.0 y) ∙ a in cc) | inr n ↦ hf n ],
       λ a. ht (d.1 a),
@@ -118,6 +118,6 @@ pub turn_plain : (tree : Tree FilterNode) (tells_all : FilterEnd → Type 0) (de
     → IsPlainDecision decision → tree.is_plain if_true → tree.is_plain if_false → StaysPlain tree tells_all turn
 turn_plain tree tells_all (Decided true) t f turn e d ht hf = subst (StaysPlain tree tells_all) (sym e) ht
 turn_plain tree tells_all (Decided false) t f turn e d ht hf = subst (StaysPlain tree tells_all) (sym e) hf
-turn_plain tree tells_all (Asks atom true) t f turn e d ht hf = subst (StaysPlain tree tells_all) (sym e) (d, ht, hf)
-turn_plain tree tells_all (Asks atom false) t f turn e d ht hf = subst (StaysPlain tree tells_all) (sym e) (d, hf, ht)
+turn_plain tree tells_all (Asks atoms true) t f turn e d ht hf = subst (StaysPlain tree tells_all) (sym e) (d, ht, hf)
+turn_plain tree tells_all (Asks atoms false) t f turn e d ht hf = subst (StaysPlain tree tells_all) (sym e) (d, hf, ht)
 turn_plain tree tells_all Open t f turn e d ht hf = absurd d

@@ -1,5 +1,7 @@
+pub mod Asking
 pub mod Compared
 pub mod Conditions
+pub mod Conjunctions
 pub mod Ends
 pub mod Filters
 pub mod Flow

@@ -100,11 +100,11 @@ fn advance<C: Comparison, F: WordFacts>(
     match comparison.turn(&frontier.facts, known, &node) {
         Turn::Go(next) => Ok(Stage::At(next)),
         Turn::Ask {
-            atom,
+            atoms,
             if_true,
             if_false,
         } => {
-            let next = ask(comparison, frontier, known, atom, if_true, if_false)?;
+            let next = ask(comparison, frontier, known, atoms, if_true, if_false)?;
             Ok(Stage::At(next))
         }
         Turn::Fork { if_true, if_false } => {

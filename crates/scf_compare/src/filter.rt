@@ -157,13 +157,16 @@ fn turn_by(
     match decision {
         Decision::Known(true) => Turn::Go(if_true),
         Decision::Known(false) => Turn::Go(if_false),
-        Decision::Asks { atom, holds: true } => Turn::Ask {
-            atom,
+        Decision::Asks { atoms, holds: true } => Turn::Ask {
+            atoms,
             if_true,
             if_false,
         },
-        Decision::Asks { atom, holds: false } => Turn::Ask {
-            atom,
+        Decision::Asks {
+            atoms,
+            holds: false,
+        } => Turn::Ask {
+            atoms,
             if_true: if_false,
             if_false: if_true,
         },

@@ -3,23 +3,23 @@
 ghost use Rattle.std.specs.Prelude.{◌≡◌, ◌+◌, ◌<◌, ◌≤◌, ◌↔◌, ◌++◌, ◌∷◌, [], ℕ, List, IsTrue, OnOk, IfOk, MatchOption};
 ghost use Rattle.scf_facts.specs.Levels.{IsSameLevel};
 ghost use Rattle.scf_compare.specs.internal.Ends.{IsEnd};
-ghost use Rattle.scf_compare.specs.internal.Frontier.{Gives, AsksOfWord, LearnsExactly, IsInBranch, IsFrontier};
+ghost use Rattle.scf_compare.specs.internal.Frontier.{Gives, LearnsOfWords, LearnsExactly, IsInBranch, IsFrontier};
 ghost use Rattle.scf_compare.specs.internal.Stages.{LeadsTo, IsTaken};
 ghost use Rattle.scf_compare.specs.internal.Trees.{IsProper};
 
+use crate::asking::{Atoms, Left};
 use crate::comparison::Comparison;
 use crate::turn::Turn;
-use scf_facts::{Atom, Tell, WordFacts};
+use scf_facts::WordFacts;
 use scf_insn::Memory;
 use std::alloc::Global;
 
-/// A branch that is still to be explored: its node, what is known there, and the answer to an atom that is learned on
-/// the way in.
+/// A branch that is still to be explored: its node, what is known there, and the answer that is learned on the way in.
 #[derive(Drop)]
 pub(crate) struct Branch<K, N> {
     pub(crate) known: K,
     pub(crate) node: N,
-    pub(crate) learned: Option<(Atom, bool)>,
+    pub(crate) learned: Option<(Atoms, bool)>,
 }
 
 /// The facts at the node that is explored, and the open branches, the newest last.
@@ -44,7 +44,12 @@ impl<F: WordFacts, K: Copy, N: Drop> Frontier<F, K, N> {
     }
 
     /// Opens a branch where the exploration stands.
-    fn branch_out(&mut self, known: K, node: N, learned: Option<(Atom, bool)>) -> Result<(), Memory>
+    fn branch_out(
+        &mut self,
+        known: K,
+        node: N,
+        learned: Option<(Atoms, bool)>,
+    ) -> Result<(), Memory>
         ensures branches { OnOk result (
             self.new.branches.items
             ≡ self.old.branches.items ++ record { known = known; node = node; learned = learned } ∷ []) }
@@ -66,8 +71,8 @@ impl<F: WordFacts, K: Copy, N: Drop> Frontier<F, K, N> {
 }
 
 /// Learns an answer, if there is one.
-fn learn_answer<F: WordFacts>(facts: &mut F, learned: Option<(Atom, bool)>) -> Result<(), Memory>
-    requires { AsksOfWord learned }
+fn learn_answer<F: WordFacts>(facts: &mut F, learned: Option<(Atoms, bool)>) -> Result<(), Memory>
+    requires { LearnsOfWords learned }
     ensures marks { F.level facts.new ≡ F.level facts.old }
     ensures at_marks { (place : ℕ) → place < F.level facts.old
         → IsSameLevel F.allows F.is_exact facts.old place facts.new place }
@@ -77,7 +82,7 @@ fn learn_answer<F: WordFacts>(facts: &mut F, learned: Option<(Atom, bool)>) -> R
         → IsTrue (F.is_exact facts.old (F.level facts.old)) → IsTrue (F.is_exact facts.new (F.level facts.old))) }
 {
     match learned {
-        Some((atom, holds)) => facts.learn(atom, holds),
+        Some((atoms, answer)) => atoms.learn(facts, answer),
         None => Ok(()),
     }
 }
@@ -104,31 +109,31 @@ pub(crate) fn take_branch<C: Comparison, F: WordFacts>(
     Ok(Some(branch.node))
 }
 
-/// Goes on from an atom. What the facts tell is followed. Where they tell nothing, a branch is opened for the answer
-/// no.
+/// Goes on from atoms. What the facts tell is followed. Where atoms are left to be asked, a branch is opened for the
+/// answer no.
 pub(crate) fn ask<C: Comparison, F: WordFacts>(
     comparison: &C,
     frontier: &mut Frontier<F, C::Known, C::Node>,
     known: &C::Known,
-    atom: Atom,
+    atoms: Atoms,
     if_true: C::Node,
     if_false: C::Node,
 ) -> Result<C::Node, Memory>
     requires frontier { IsFrontier F.WordFacts (C.tree comparison.now)
         (C.compared comparison.now).in_scope frontier.old }
-    requires proper { let turn = Turn.Ask atom if_true if_false in
+    requires proper { let turn = Turn.Ask atoms if_true if_false in
         IsProper (C.tree comparison.now known.now) (IsEnd (C.compared comparison.now)) turn }
-    ensures { let turn = Turn.Ask atom if_true if_false in
+    ensures { let turn = Turn.Ask atoms if_true if_false in
         IfOk result (LeadsTo F.WordFacts (C.compared comparison.now) (C.tree comparison.now)
         frontier.old frontier.new (C.tree comparison.now known.now) turn) }
 {
     let _ = comparison;
-    match frontier.facts.tell(atom) {
-        Tell::Always => Ok(if_true),
-        Tell::Never => Ok(if_false),
-        Tell::Maybe => {
-            frontier.branch_out(*known, if_false, Some((atom, false)))?;
-            frontier.facts.learn(atom, true)?;
+    match atoms.left(&frontier.facts) {
+        Left::Told(true) => Ok(if_true),
+        Left::Told(false) => Ok(if_false),
+        Left::Still(atoms) => {
+            frontier.branch_out(*known, if_false, Some((atoms, false)))?;
+            atoms.learn(&mut frontier.facts, true)?;
             Ok(if_true)
         }
     }

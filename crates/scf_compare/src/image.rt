@@ -9,6 +9,7 @@ ghost use Rattle.scf_compare.specs.internal.Images.{IsImage, IsWhole, AreShifted
 ghost use Rattle.scf_machine.specs.Machine.{value_computed};
 ghost use Rattle.scf_compare.specs.internal.Values.{IsValue, StandsFor, IsDecision, Decides, IsPlainDecision};
 
+use crate::asking::Atoms;
 use crate::value::{Decision, Value};
 use scf_facts::{Atom, is_high_mask};
 use scf_insn::Arithmetic;
@@ -205,11 +206,11 @@ impl Image {
             return Decision::Known(false);
         }
         Decision::Asks {
-            atom: Atom::Eq {
+            atoms: Atoms::One(Atom::Eq {
                 word: self.word,
                 mask: mask << self.right,
                 value: value << self.right,
-            },
+            }),
             holds: true,
         }
     }
@@ -229,10 +230,10 @@ impl Image {
             return Decision::Known(false);
         }
         Decision::Asks {
-            atom: Atom::Gt {
+            atoms: Atoms::One(Atom::Gt {
                 word: self.word,
                 value: (value << self.right & mask) + !mask,
-            },
+            }),
             holds: true,
         }
     }
@@ -248,11 +249,11 @@ impl Image {
             return Decision::Open;
         }
         Decision::Asks {
-            atom: Atom::Arc {
+            atoms: Atoms::One(Atom::Arc {
                 word: self.word,
                 first,
                 last,
-            },
+            }),
             holds: true,
         }
     }

@@ -1,8 +1,10 @@
 //! Compares a filter with a profile, over every call record.
 #![tactic(auto)]
 
+mod asking;
 mod comparer;
 mod comparison;
+mod conjunction;
 mod explore;
 mod filter;
 mod flow;
@@ -24,7 +26,6 @@ mod tree_sizes;
 mod turn;
 mod value;
 mod verdict;
-mod zeros;
 
 pub use comparer::{compare, compare_by, compare_stack};
 pub use laws::{no_more_and_no_less_is_one_fate, same_is_no_more_and_no_less};

@@ -52,11 +52,11 @@ impl<A: FilterTree, B: ProfileTree> Comparison for Pair<'_, A, B> {
             PairNode::AtFilter(node) => match self.filter.turn(known, node) {
                 Turn::Go(next) => Turn::Go(PairNode::AtFilter(next)),
                 Turn::Ask {
-                    atom,
+                    atoms,
                     if_true,
                     if_false,
                 } => Turn::Ask {
-                    atom,
+                    atoms,
                     if_true: PairNode::AtFilter(if_true),
                     if_false: PairNode::AtFilter(if_false),
                 },
@@ -125,11 +125,11 @@ impl<A: FilterTree, B: ProfileTree> Pair<'_, A, B> {
         match self.profile.turn(facts, node) {
             Turn::Go(next) => Turn::Go(PairNode::AtProfile { end, node: next }),
             Turn::Ask {
-                atom,
+                atoms,
                 if_true,
                 if_false,
             } => Turn::Ask {
-                atom,
+                atoms,
                 if_true: PairNode::AtProfile { end, node: if_true },
                 if_false: PairNode::AtProfile {
                     end,

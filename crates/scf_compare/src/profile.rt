@@ -46,6 +46,7 @@ ghost use Rattle.scf_compare.specs.internal.Profiles.{
 };
 ghost use Rattle.scf_compare.specs.internal.Trees.{IsProper, GoesOn, Costs, StaysPlain};
 
+use crate::asking::Atoms;
 use crate::party::ProfileTree;
 use crate::profile_numbers::{FirstRule, ProfileNumbers};
 use crate::question::{Part, Way, question_of};
@@ -92,19 +93,19 @@ impl ProfileTree for ProfileNumbers<'_> {
         let default_answer = self.profile.default_answer();
         match *node {
             ProfileNode::Architecture => Turn::Ask {
-                atom: Atom::Eq {
+                atoms: Atoms::One(Atom::Eq {
                     word: 1,
                     mask: u32::MAX,
                     value: AUDIT_ARCH_X86_64,
-                },
+                }),
                 if_true: ProfileNode::Range,
                 if_false: ProfileNode::Answer(FOREIGN_ANSWER),
             },
             ProfileNode::Range => Turn::Ask {
-                atom: Atom::Ge {
+                atoms: Atoms::One(Atom::Ge {
                     word: 0,
                     value: X32_SYSCALL_BIT,
-                },
+                }),
                 if_true: ProfileNode::Answer(FOREIGN_ANSWER),
                 if_false: ProfileNode::Number(0),
             },
@@ -166,11 +167,11 @@ fn ask_number<F: WordFacts>(
     }
     let first = firsts[place];
     Turn::Ask {
-        atom: Atom::Eq {
+        atoms: Atoms::One(Atom::Eq {
             word: 0,
             mask: u32::MAX,
             value: first.number,
-        },
+        }),
         if_true: next_rule(default_answer, rules, first.number, first.place),
         if_false: ProfileNode::Number(place + 1),
     }
@@ -298,7 +299,7 @@ fn ask_condition(
 {
     let question = question_of(condition_at(rules, place, index), part);
     Turn::Ask {
-        atom: question.atom,
+        atoms: Atoms::One(question.atom),
         if_true: follow(default_answer, rules, place, index, question.if_true),
         if_false: follow(default_answer, rules, place, index, question.if_false),
     }

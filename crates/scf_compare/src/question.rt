@@ -5,8 +5,9 @@ ghost use Rattle.scf_insn.specs.SimpleMask.{IsSimpleMask};
 ghost use Rattle.scf_insn.specs.Words.{IsWords, argument, call_of};
 ghost use Rattle.scf_facts.specs.Atoms.{atom_answer, word_of};
 ghost use Rattle.scf_profile.specs.PlainProfile.{IsPlainCondition};
+ghost use Rattle.scf_compare.specs.declared.asking.Atoms.TheVariants.{One};
 ghost use Rattle.scf_compare.specs.internal.Conditions.{IsAtPart, Splits, half_of, part_size, way_size};
-ghost use Rattle.scf_compare.specs.internal.Trees.{KeepsEither};
+ghost use Rattle.scf_compare.specs.internal.Asking.{KeepsEither};
 
 use Way::{Fails, Holds, Then};
 use scf_facts::Atom;
@@ -71,7 +72,7 @@ pub(crate) fn question_of(condition: Condition, part: Part) -> Question
     ensures costs { (holds fails : ℕ)
         → way_size result.if_true holds fails + way_size result.if_false holds fails + 1
         ≤ part_size part holds fails }
-    ensures keeps { IsPlainCondition condition → KeepsEither result.atom }
+    ensures keeps { IsPlainCondition condition → KeepsEither (One result.atom) }
 {
     match part {
         Part::High => at_high(condition),
@@ -88,7 +89,7 @@ fn at_high(condition: Condition) -> Question
     ensures costs { (holds fails : ℕ)
         → way_size result.if_true holds fails + way_size result.if_false holds fails + 1
         ≤ part_size Part.High holds fails }
-    ensures keeps { IsPlainCondition condition → KeepsEither result.atom }
+    ensures keeps { IsPlainCondition condition → KeepsEither (One result.atom) }
 {
     match condition.op {
         Operator::MaskedEqual => ask(
@@ -116,7 +117,7 @@ fn at_above(condition: Condition) -> Question
     ensures costs { (holds fails : ℕ)
         → way_size result.if_true holds fails + way_size result.if_false holds fails + 1
         ≤ part_size Part.Above holds fails }
-    ensures keeps { IsPlainCondition condition → KeepsEither result.atom }
+    ensures keeps { IsPlainCondition condition → KeepsEither (One result.atom) }
 {
     match condition.op {
         Operator::Greater | Operator::GreaterOrEqual => ask(
@@ -141,7 +142,7 @@ fn at_low(condition: Condition) -> Question
     ensures costs { (holds fails : ℕ)
         → way_size result.if_true holds fails + way_size result.if_false holds fails + 1
         ≤ part_size Part.Low holds fails }
-    ensures keeps { IsPlainCondition condition → KeepsEither result.atom }
+    ensures keeps { IsPlainCondition condition → KeepsEither (One result.atom) }
 {
     match condition.op {
         Operator::Equal => ask(half_is(Half::Low, condition), Holds, Fails),
@@ -187,7 +188,7 @@ fn half_is(half: Half, condition: Condition) -> Atom
     ensures answers { (words : List ℕ) → IsWords words
         → atom_answer result words
         ≡ (half_of half (argument (call_of words) condition.index) == half_of half condition.value) }
-    ensures keeps { KeepsEither result }
+    ensures keeps { KeepsEither (One result) }
 {
     Atom::Eq {
         word: half.word(condition.index),
@@ -203,7 +204,7 @@ fn half_is_under_mask(half: Half, condition: Condition) -> Atom
         → atom_answer result words
         ≡ (bit_and (half_of half (argument (call_of words) condition.index)) (half_of half condition.value)
         == half_of half (bit_and condition.value_two condition.value)) }
-    ensures keeps { IsSimpleMask (half_of half condition.value) → KeepsEither result }
+    ensures keeps { IsSimpleMask (half_of half condition.value) → KeepsEither (One result) }
 {
     Atom::Eq {
         word: half.word(condition.index),
@@ -218,7 +219,7 @@ fn half_is_above(half: Half, condition: Condition) -> Atom
     ensures answers { (words : List ℕ) → IsWords words
         → atom_answer result words
         ≡ nat_lt (half_of half condition.value) (half_of half (argument (call_of words) condition.index)) }
-    ensures keeps { KeepsEither result }
+    ensures keeps { KeepsEither (One result) }
 {
     Atom::Gt {
         word: half.word(condition.index),
@@ -232,7 +233,7 @@ fn half_is_at_least(half: Half, condition: Condition) -> Atom
     ensures answers { (words : List ℕ) → IsWords words
         → atom_answer result words
         ≡ nat_le (half_of half condition.value) (half_of half (argument (call_of words) condition.index)) }
-    ensures keeps { KeepsEither result }
+    ensures keeps { KeepsEither (One result) }
 {
     Atom::Ge {
         word: half.word(condition.index),

@@ -153,12 +153,12 @@ fn turn_from(
                 });
             }
             Turn::Ask {
-                atom,
+                atoms,
                 if_true,
                 if_false,
             } => {
                 return Turn::Ask {
-                    atom,
+                    atoms,
                     if_true: StackNode::At {
                         place,
                         older,

@@ -9,9 +9,10 @@ ghost use Rattle.scf_compare.specs.internal.Offsets.{offset_number};
 ghost use Rattle.scf_compare.specs.internal.Values.{IsValue, StandsFor, IsPlainValue, IsDecision, Decides};
 ghost use Rattle.scf_compare.specs.internal.Values.{IsPlainDecision};
 
+use crate::asking::Atoms;
+use crate::conjunction::Conjunction;
 use crate::image::Image;
 use crate::offset::Offset;
-use crate::zeros::Zeros;
 use scf_facts::Atom;
 use scf_insn::{Answer, Arithmetic, Test};
 use scf_machine::{compute, holds_of};
@@ -24,8 +25,8 @@ pub(crate) enum Value {
     OfWord(Image),
     /// What is computed from a word of the record bit by bit, and a number added to it or it taken from the number.
     Offset(Offset),
-    /// What is known to be 0 where a word of the record is a value under a mask, and nowhere else.
-    ZeroWhere(Zeros),
+    /// What is known to be 0 where words of the record under masks are values, and nowhere else.
+    ZeroWhere(Conjunction),
     Unknown,
 }
 
@@ -33,8 +34,8 @@ pub(crate) enum Value {
 #[derive(Clone, Copy)]
 pub(crate) enum Decision {
     Known(bool),
-    /// It holds where the atom has this answer.
-    Asks { atom: Atom, holds: bool },
+    /// It holds where the atoms have this answer.
+    Asks { atoms: Atoms, holds: bool },
     /// No atom tells.
     Open,
 }
@@ -92,7 +93,7 @@ impl Value {
         }
     }
 
-    /// What is known of it OR another value: of two of one word, where it is 0.
+    /// What is known of it OR another value: of those of one word or two, where it is 0.
     fn either(self, other: Value) -> Value
         requires first { IsValue self }
         requires second { IsValue other }
@@ -102,9 +103,10 @@ impl Value {
             → StandsFor result words (bit_or a b) }
     {
         match (self.zeros(), other.zeros()) {
-            (Value::ZeroWhere(first), Value::ZeroWhere(second)) if first.word == second.word => {
-                Value::ZeroWhere(first.and(second))
-            }
+            (Value::ZeroWhere(first), Value::ZeroWhere(second)) => match first.and(second) {
+                Some(both) => Value::ZeroWhere(both),
+                None => Value::Unknown,
+            },
             _ => Value::Unknown,
         }
     }
@@ -116,9 +118,9 @@ impl Value {
         ensures stands { (words : List ℕ) (a : ℕ) → StandsFor self words a → StandsFor result words a }
     {
         match self {
-            Value::OfWord(image) => Zeros::by_test(image.word, image.is(0)),
-            Value::Offset(offset) => Zeros::by_test(offset.image.word, offset.is(0)),
-            Value::ZeroWhere(zeros) => Value::ZeroWhere(zeros),
+            Value::OfWord(image) => Conjunction::by_test(image.word, image.is(0)),
+            Value::Offset(offset) => Conjunction::by_test(offset.image.word, offset.is(0)),
+            Value::ZeroWhere(conjunction) => Value::ZeroWhere(conjunction),
             Value::Known(_) | Value::Unknown => Value::Unknown,
         }
     }
@@ -208,7 +210,7 @@ impl Value {
             Value::Known(a) => Decision::Known(holds_of(test, a, v)),
             Value::OfWord(image) => decide_image(image, test, v),
             Value::Offset(offset) => decide_offset(offset, test, v),
-            Value::ZeroWhere(zeros) => zeros.decide(test, v),
+            Value::ZeroWhere(conjunction) => conjunction.decide(test, v),
             Value::Unknown => Decision::Open,
         }
     }
@@ -241,8 +243,8 @@ impl Decision {
     {
         match self {
             Decision::Known(outcome) => Decision::Known(!outcome),
-            Decision::Asks { atom, holds } => Decision::Asks {
-                atom,
+            Decision::Asks { atoms, holds } => Decision::Asks {
+                atoms,
                 holds: !holds,
             },
             Decision::Open => Decision::Open,
@@ -362,11 +364,11 @@ fn decide_image(image: Image, test: Test, v: u32) -> Decision
         Test::Equal => image.is(v),
         Test::CommonBit => image.and(v).is(0).negated(),
         Test::Greater if image.is_whole() => Decision::Asks {
-            atom: Atom::Gt { word, value: v },
+            atoms: Atoms::One(Atom::Gt { word, value: v }),
             holds: true,
         },
         Test::GreaterOrEqual if image.is_whole() => Decision::Asks {
-            atom: Atom::Ge { word, value: v },
+            atoms: Atoms::One(Atom::Ge { word, value: v }),
             holds: true,
         },
         Test::Greater | Test::GreaterOrEqual => decide_offset(Offset::of(image), test, v),

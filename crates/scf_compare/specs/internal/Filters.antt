@@ -73,6 +73,6 @@ filter_tree insns registers = record {
 -- the ways on from a test
 abbrev pub IsTurnOf : Decision → FilterNode → FilterNode → Turn FilterNode FilterEnd → Type 0
 IsTurnOf (Decided outcome) if_true if_false turn = turn ≡ Go (if outcome then if_true else if_false)
-IsTurnOf (Asks atom holds) if_true if_false turn =
-    turn ≡ (if holds then Ask atom if_true if_false else Ask atom if_false if_true)
+IsTurnOf (Asks atoms holds) if_true if_false turn =
+    turn ≡ (if holds then Ask atoms if_true if_false else Ask atoms if_false if_true)
 IsTurnOf Open if_true if_false turn = turn ≡ Fork if_true if_false

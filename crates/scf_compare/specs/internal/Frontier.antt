@@ -1,32 +1,31 @@
 -- The open branches of a tree, and where the words are that are still to be seen.
-use Rattle.std.specs.Prelude.{◌≡◌, ◌<◌, ◌≤◌, ◌⊎◌, ℕ, List, Bool, IsTrue, Option, Some, None, length, slice_get, sum_by}
-use Rattle.scf_facts.specs.declared.atom.Atom.{Atom}
+use Rattle.std.specs.Prelude.{◌≡◌, ◌≤◌, ◌⊎◌, ℕ, List, Bool, IsTrue, Option, Some, None, length, slice_get, sum_by}
 use Rattle.scf_facts.specs.declared.word_facts.WordFacts.{Ghosts as Store}
-use Rattle.scf_facts.specs.Atoms.{atom_answer, word_of}
-use Rattle.scf_facts.specs.Exactness.{KeepsExact}
+use Rattle.scf_compare.specs.declared.asking.Atoms.{Atoms}
 use Rattle.scf_compare.specs.declared.frontier.Branch.{Branch}
 use Rattle.scf_compare.specs.declared.frontier.Frontier.{Frontier}
+use Rattle.scf_compare.specs.internal.Asking.{AsksOfWords, atoms_answer, StaysExact}
 use Rattle.scf_compare.specs.internal.Trees.{Tree}
 
 -- the words give the answer that is learned, if any is
-abbrev pub Gives : Option (Atom × Bool) → List ℕ → Type 0
+abbrev pub Gives : Option (Atoms × Bool) → List ℕ → Type 0
 Gives None words = Unit {0}
-Gives (Some learned) words = atom_answer learned.0 words ≡ learned.1
+Gives (Some learned) words = atoms_answer learned.0 words ≡ learned.1
 
--- what is learned is about one of the sixteen words
-abbrev pub AsksOfWord : Option (Atom × Bool) → Type 0
-AsksOfWord None = Unit {0}
-AsksOfWord (Some learned) = word_of learned.0 < 16
+-- what is learned is about some of the sixteen words
+abbrev pub LearnsOfWords : Option (Atoms × Bool) → Type 0
+LearnsOfWords None = Unit {0}
+LearnsOfWords (Some learned) = AsksOfWords learned.0
 
 -- exact facts stay exact where this is learned
-abbrev pub LearnsExactly : Option (Atom × Bool) → Type 0
+abbrev pub LearnsExactly : Option (Atoms × Bool) → Type 0
 LearnsExactly None = Unit {0}
-LearnsExactly (Some learned) = KeepsExact learned.0 learned.1
+LearnsExactly (Some learned) = StaysExact learned.0 learned.1
 
--- A branch stands at a node of the tree, and what is learned on the way in is about one of the sixteen words.
+-- A branch stands at a node of the tree, and what is learned on the way in is about some of the sixteen words.
 pub record IsBranch {K N : Type 0} (tree : K → Tree N) (branch : Branch K N) : Type 0 where
   pub node : (tree branch.known).is_node branch.node
-  pub asks : AsksOfWord branch.learned
+  pub asks : LearnsOfWords branch.learned
 
 -- the sizes of the open branches together
 abbrev pub open_size : {F K N : Type 0} → (K → Tree N) → Frontier F K N → ℕ

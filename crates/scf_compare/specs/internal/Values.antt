@@ -1,47 +1,47 @@
 -- What is known of the numbers that a filter computes from the words of a record.
-use Rattle.std.specs.Prelude.{◌≡◌, ◌<◌, ◌↔◌, ◌^◌, ℕ, List, Bool, true, Some, All, bit_and, slice_index, slice_index_or}
-use Rattle.scf_facts.specs.Atoms.{atom_answer, word_of}
+use Rattle.std.specs.Prelude.{◌≡◌, ◌<◌, ◌↔◌, ◌^◌, ℕ, List, Bool, true, Some, All, slice_index_or}
 use Rattle.scf_machine.specs.Machine.{State, word_at}
 use Rattle.scf_compare.specs.declared.value.Value.{Value}
 use Rattle.scf_compare.specs.declared.value.Value.TheVariants.{Known, OfWord, Offset, ZeroWhere, Unknown}
 use Rattle.scf_compare.specs.declared.value.Decision.{Decision}
 use Rattle.scf_compare.specs.declared.value.Decision.TheVariants.{Known as Decided, Asks, Open}
 use Rattle.scf_compare.specs.declared.registers.Registers.{Registers}
-use Rattle.scf_compare.specs.declared.zeros.Zeros.{Zeros}
+use Rattle.scf_compare.specs.declared.conjunction.Conjunction.{Conjunction}
+use Rattle.scf_compare.specs.internal.Asking.{AsksOfWords, atoms_answer, KeepsEither}
+use Rattle.scf_compare.specs.internal.Conjunctions.{IsConjunction, ConjunctionHolds}
 use Rattle.scf_compare.specs.internal.Images.{IsImage, IsWhole, image_number}
 use Rattle.scf_compare.specs.internal.Offsets.{offset_number}
-use Rattle.scf_compare.specs.internal.Trees.{KeepsEither}
 
--- a value is of one of the sixteen words
+-- a value is of some of the sixteen words
 abbrev pub IsValue : Value → Type 0
 IsValue (Known value) = Unit {0}
 IsValue (OfWord image) = IsImage image
 IsValue (Offset offset) = IsImage offset.image
-IsValue (ZeroWhere zeros) = zeros.word < 16
+IsValue (ZeroWhere conjunction) = IsConjunction conjunction
 IsValue Unknown = Unit {0}
 
--- a number is 0 where a word under a mask is a value, and nowhere else
-abbrev pub IsZeroWhere : Zeros → List ℕ → ℕ → Type 0
-IsZeroWhere zeros words x = (x ≡ 0) ↔ (bit_and (slice_index words zeros.word) zeros.mask ≡ zeros.value)
+-- a number is 0 where a conjunction holds, and nowhere else
+abbrev pub IsZeroWhere : Conjunction → List ℕ → ℕ → Type 0
+IsZeroWhere conjunction words x = (x ≡ 0) ↔ ConjunctionHolds conjunction words
 
 -- over the words a value stands for a number
 abbrev pub StandsFor : Value → List ℕ → ℕ → Type 0
 StandsFor (Known value) words x = x ≡ value
 StandsFor (OfWord image) words x = x ≡ image_number image words
 StandsFor (Offset offset) words x = x ≡ offset_number offset words
-StandsFor (ZeroWhere zeros) words x = (x < 2 ^ 32) × IsZeroWhere zeros words x
+StandsFor (ZeroWhere conjunction) words x = (x < 2 ^ 32) × IsZeroWhere conjunction words x
 StandsFor Unknown words x = Unit {0}
 
--- a decision asks of one of the sixteen words
+-- a decision asks of some of the sixteen words
 abbrev pub IsDecision : Decision → Type 0
 IsDecision (Decided outcome) = Unit {0}
-IsDecision (Asks atom holds) = word_of atom < 16
+IsDecision (Asks asked holds) = AsksOfWords asked
 IsDecision Open = Unit {0}
 
 -- over the words a decision tells the outcome of a test
 abbrev pub Decides : Decision → List ℕ → Bool → Type 0
 Decides (Decided outcome) words test = test ≡ outcome
-Decides (Asks atom holds) words test = (test ≡ true) ↔ (atom_answer atom words ≡ holds)
+Decides (Asks asked holds) words test = (test ≡ true) ↔ (atoms_answer asked words ≡ holds)
 Decides Open words test = Unit {0}
 
 -- a known number, or a whole word of the record
@@ -49,13 +49,13 @@ abbrev pub IsPlainValue : Value → Type 0
 IsPlainValue (Known value) = Unit {0}
 IsPlainValue (OfWord image) = IsWhole image
 IsPlainValue (Offset offset) = ⊥
-IsPlainValue (ZeroWhere zeros) = ⊥
+IsPlainValue (ZeroWhere conjunction) = ⊥
 IsPlainValue Unknown = ⊥
 
 -- a decision that isn't left open, and that keeps exact facts exact
 abbrev pub IsPlainDecision : Decision → Type 0
 IsPlainDecision (Decided outcome) = Unit {0}
-IsPlainDecision (Asks atom holds) = KeepsEither atom
+IsPlainDecision (Asks asked holds) = KeepsEither asked
 IsPlainDecision Open = ⊥
 
 pub record AreValues (registers : Registers) : Type 0 where

@@ -10,7 +10,7 @@ returns-in-Ask-clause-stage g c =
     let turn = c.in-Ask.ensures in
     led g.F.WordFacts (C.compared comparison) tree c.args.frontier.now c.ask.new.frontier c.requires.frontier
     (tree c.args.known.now) c.args.node (tree c.turn.new.known)
-    (Ask c.in-Ask.atom c.in-Ask.if_true c.in-Ask.if_false) c.in_ok-next-in-Ask.next
+    (Ask c.in-Ask.atoms c.in-Ask.if_true c.in-Ask.if_false) c.in_ok-next-in-Ask.next
     turn.leads turn.costs turn.plain c.in_ok-next-in-Ask.ensures _
 
 pub returns-in-Fork-clause-stage : goal.returns-in-Fork-clause-stage

@@ -1,33 +1,35 @@
 use Rattle.std.proofs.Common.{◌≡◌, ◌+◌, ◌<◌, ◌↔◌, ℕ, List, true, sym, subst, ◌∙◌, arith}
 use Rattle.std.specs.Prelude.{IsTrue}
-use Rattle.scf_facts.specs.Atoms.{atom_answer}
+use Rattle.scf_compare.specs.internal.Asking.{atoms_answer}
 use Rattle.scf_compare.proofs.Branches.{same_then}
 use Rattle.scf_compare.proofs.Stages.{asked}
 use Rattle.scf_compare.proofs.frontier.ask.Goals as goal
 
-pub returns-in_ok-learn-in-Maybe : goal.returns-in_ok-learn-in-Maybe
-returns-in_ok-learn-in-Maybe g c =
+pub returns-in_ok-learn-in-Still : goal.returns-in_ok-learn-in-Still
+returns-in_ok-learn-in-Still g c =
     let store = g.F.WordFacts in
     let old = c.args.frontier.now.facts in
     let mid = c.branch_out.new.self.facts in
-    let new = c.learn.new.self in
-    let ensures = c.in_ok-branch_out-in-Maybe.ensures in
-    let learned = c.in_ok-learn-in-Maybe.ensures in
+    let new = c.learn.new.facts in
+    let left = c.in-Still.atoms in
+    let ensures = c.in_ok-branch_out-in-Still.ensures in
+    let learned = c.in_ok-learn-in-Still.ensures in
     let marks : store.level new ≡ store.level old + 1 = learned.marks ∙ ensures.marks in
     let known : (words : List ℕ)
     → store.allows new (store.level new) words
-    ↔ (store.allows old (store.level old) words × (atom_answer c.args.atom words ≡ true)) = λ words.
+    ↔ (store.allows old (store.level old) words × (atoms_answer left words ≡ true)) = λ words.
     subst (λ n. store.allows new n words
-    ↔ (store.allows old (store.level old) words × (atom_answer c.args.atom words ≡ true))) (sym learned.marks) (
-      λ allowed. let here = (learned.law_learn words).0 allowed in
+    ↔ (store.allows old (store.level old) words × (atoms_answer left words ≡ true))) (sym learned.marks) (
+      λ allowed. let here = (learned.learned words).0 allowed in
           ((ensures.known.0 words).0 (subst (λ n. store.allows mid n words) ensures.marks here.0), here.1),
       λ here.
-          (learned.law_learn words).1
+          (learned.learned words).1
           (subst (λ n. store.allows mid n words) (sym ensures.marks) ((ensures.known.0 words).1 here.0), here.1),
     ) in
     asked store (g.C.Comparison.compared c.args.comparison.now) (g.C.Comparison.tree c.args.comparison.now)
     c.args.frontier.now (record { facts = new; branches = c.branch_out.new.self.branches }) c.requires.frontier
-    c.args.known.now c.args.atom c.args.if_true c.args.if_false c.requires.proper
+    c.args.known.now c.args.atoms left c.args.if_true c.args.if_false c.requires.proper
+    c.in-Still.ensures.asks c.in-Still.ensures.answers c.in-Still.ensures.keeps
     (record {
       branches = ensures.branches;
       marks = marks;

@@ -1,0 +1,13 @@
+use Rattle.std.proofs.Common.{◌∙◌, subst, sym}
+use Rattle.scf_compare.specs.internal.Images.{image_number}
+use Rattle.scf_compare.specs.internal.Values.{StandsFor}
+use Rattle.scf_compare.proofs.Offsets.{complement}
+use Rattle.scf_compare.proofs.value.offset_result.Goals as goal
+
+pub returns-in-Xor-clause-stands : goal.returns-in-Xor-clause-stands
+returns-in-Xor-clause-stands c = let offset = c.args.offset in λ words.
+    rw (c.in-Xor.is, c.if-v-eq4294967295.true)
+    (subst (StandsFor c.value-in-Xor.result words)
+    (sym (c.taken_from.ensures.number words)
+    ∙ rw c.if-v-eq4294967295.true (complement offset.negated (image_number offset.image words) offset.added))
+    (c.value-in-Xor.ensures.stands words))

@@ -1,0 +1,160 @@
+//! Where a number that isn't followed otherwise is 0.
+
+ghost use Rattle.std.specs.Prelude.{◌≡◌, ◌==◌, ◌<◌, ◌↔◌, ◌^◌, ℕ, List, IfSome, true, bit_or};
+ghost use Rattle.scf_facts.specs.Atoms.{atom_answer, word_of};
+ghost use Rattle.scf_machine.specs.Machine.{holds};
+ghost use Rattle.scf_compare.specs.internal.Asking.{AsksOfWords, atoms_answer};
+ghost use Rattle.scf_compare.specs.internal.Conjunctions.{MaskedHolds, IsConjunction, ConjunctionHolds};
+ghost use Rattle.scf_compare.specs.internal.Values.{IsValue, StandsFor, IsDecision, Decides, IsZeroWhere};
+
+use crate::asking::Atoms;
+use crate::value::{Decision, Value};
+use scf_facts::Atom;
+use scf_insn::Test;
+
+/// A word AND a mask is a value.
+#[derive(Clone, Copy)]
+pub(crate) struct MaskedWord {
+    pub(crate) word: u8,
+    pub(crate) mask: u32,
+    pub(crate) value: u32,
+}
+
+/// One word under a mask is a value, or two different words both are.
+#[derive(Clone, Copy)]
+pub(crate) enum Conjunction {
+    One(MaskedWord),
+    Both(MaskedWord, MaskedWord),
+}
+
+impl MaskedWord {
+    /// Both of one word: never where the values are apart in a bit of both masks.
+    #[tactic(auto, using(crate::proofs::Joins::under_both_masks, crate::proofs::Joins::never_under_both))]
+    fn and(self, other: MaskedWord) -> MaskedWord
+        requires { self.word ≡ other.word }
+        ensures word { result.word ≡ self.word }
+        ensures both { (words : List ℕ)
+            → MaskedHolds result words ↔ (MaskedHolds self words × MaskedHolds other words) }
+    {
+        let value = self.value | other.value;
+        if value & self.mask != self.value || value & other.mask != other.value {
+            return MaskedWord {
+                word: self.word,
+                mask: 0,
+                value: 1,
+            };
+        }
+        MaskedWord {
+            word: self.word,
+            mask: self.mask | other.mask,
+            value,
+        }
+    }
+
+    /// It as an atom.
+    fn atom(self) -> Atom
+        requires { self.word < 16 }
+        ensures word { word_of result < 16 }
+        ensures answers { (words : List ℕ) → (atom_answer result words ≡ true) ↔ MaskedHolds self words }
+    {
+        Atom::Eq {
+            word: self.word,
+            mask: self.mask,
+            value: self.value,
+        }
+    }
+}
+
+impl Conjunction {
+    /// Where a number computed from a word is 0, by how its test for 0 comes out.
+    #[tactic(auto, using(crate::proofs::Joins::zero_by_test, crate::proofs::Joins::never_zero))]
+    pub(crate) fn by_test(word: u8, is_zero: Decision) -> Value
+        requires word { word < 16 }
+        requires asks { IsDecision is_zero }
+        ensures value { IsValue result }
+        ensures stands { (words : List ℕ) (a : ℕ) → a < 2 ^ 32 → Decides is_zero words (a == 0)
+            → StandsFor result words a }
+    {
+        match is_zero {
+            Decision::Known(false) => Value::ZeroWhere(Conjunction::One(MaskedWord {
+                word,
+                mask: 0,
+                value: 1,
+            })),
+            Decision::Asks {
+                atoms: Atoms::One(Atom::Eq { word, mask, value }),
+                holds: true,
+            } => Value::ZeroWhere(Conjunction::One(MaskedWord { word, mask, value })),
+            _ => Value::Unknown,
+        }
+    }
+
+    /// It and another, unless they are of more than two words.
+    pub(crate) fn and(self, other: Conjunction) -> Option<Conjunction>
+        requires first { IsConjunction self }
+        requires second { IsConjunction other }
+        ensures conjunction { IfSome result IsConjunction }
+        ensures both { IfSome result (λ both. (words : List ℕ)
+            → ConjunctionHolds both words ↔ (ConjunctionHolds self words × ConjunctionHolds other words)) }
+    {
+        match other {
+            Conjunction::One(masked) => self.and_masked(masked),
+            Conjunction::Both(first, second) => self.and_masked(first)?.and_masked(second),
+        }
+    }
+
+    /// It and a word under a mask, unless they are of more than two words.
+    fn and_masked(self, masked: MaskedWord) -> Option<Conjunction>
+        requires conjunction { IsConjunction self }
+        requires word { masked.word < 16 }
+        ensures conjunction { IfSome result IsConjunction }
+        ensures both { IfSome result (λ both. (words : List ℕ)
+            → ConjunctionHolds both words ↔ (ConjunctionHolds self words × MaskedHolds masked words)) }
+    {
+        match self {
+            Conjunction::One(first) if first.word == masked.word => {
+                Some(Conjunction::One(first.and(masked)))
+            }
+            Conjunction::One(first) => Some(Conjunction::Both(first, masked)),
+            Conjunction::Both(first, second) if first.word == masked.word => {
+                Some(Conjunction::Both(first.and(masked), second))
+            }
+            Conjunction::Both(first, second) if second.word == masked.word => {
+                Some(Conjunction::Both(first, second.and(masked)))
+            }
+            Conjunction::Both(..) => None,
+        }
+    }
+
+    /// It as atoms.
+    fn atoms(self) -> Atoms
+        requires { IsConjunction self }
+        ensures words { AsksOfWords result }
+        ensures answers { (words : List ℕ) → (atoms_answer result words ≡ true) ↔ ConjunctionHolds self words }
+    {
+        match self {
+            Conjunction::One(masked) => Atoms::One(masked.atom()),
+            Conjunction::Both(first, second) => Atoms::Both(first.atom(), second.atom()),
+        }
+    }
+
+    /// How a test of the number against another comes out: only whether it is 0 is asked.
+    pub(crate) fn decide(self, test: Test, v: u32) -> Decision
+        requires { IsConjunction self }
+        ensures asks { IsDecision result }
+        ensures decides { (words : List ℕ) (a : ℕ) → a < 2 ^ 32 → IsZeroWhere self words a
+            → Decides result words (holds test a v) }
+    {
+        let is_zero = Decision::Asks {
+            atoms: self.atoms(),
+            holds: true,
+        };
+        match test {
+            Test::Equal if v == 0 => is_zero,
+            Test::Greater if v == 0 => is_zero.negated(),
+            Test::GreaterOrEqual if v == 1 => is_zero.negated(),
+            Test::CommonBit if v == u32::MAX => is_zero.negated(),
+            _ => Decision::Open,
+        }
+    }
+}
