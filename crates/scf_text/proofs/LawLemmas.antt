@@ -20,7 +20,6 @@ use Rattle.scf_text.specs.Statements.{Statement, Labels, Places, place_of, instr
 use Rattle.scf_text.specs.Statements.{instruction_in, label_at, place_after, labels_from, drafts_by, drafts_in}
 use Rattle.scf_text.specs.Statements.{IsRead, statements_of, labels_of, drafts_of}
 use Rattle.scf_text.specs.Spelling.{Says, SaysInsn, SaysEach, AreNew, Spells}
-use Rattle.scf_text.specs.internal.Reading.{one_behind, behind}
 use Rattle.scf_text.proofs.ReadLemmas.{count_more, labels_more}
 use Rattle.scf_text.specs.Faults.{ascii_fault, label_fault, draft_fault, instruction_fault, statement_fault}
 use Rattle.scf_text.specs.Faults.{statements_fault, fault_in, target_fault, targets_fault, all_targets_fault}
@@ -103,29 +102,27 @@ instruction_from at line (t ∷ ts) le h =
     (mnemonic_from (list_any (has_mnemonic t) forms) line (draft_fault at line (draft_of t ts)) h) in
     (rw d.1 refl, rw d.1 refl, omega (arith, d.2))
 
-pub behind_is : (before ss : List Statement)
-    → statements_fault before ss ≡ behind (labels_from 0 before) (instruction_count before) ss
-behind_is before [] = refl
-behind_is before (s ∷ ss) =
-    ap (option_or (statement_fault before s))
-    (behind_is (before ++ s ∷ []) ss
-    ∙ rw (labels_more 0 before s, count_more before s, zero-add (instruction_count before)) refl)
+later_labels : (before : List Statement) (s : Statement) (earlier : Labels) (at : ℕ) → earlier ≡ labels_from 0 before
+    → at ≡ instruction_count before
+    → earlier ++ label_at at (label_in s.tokens) ≡ labels_from 0 (before ++ s ∷ [])
+later_labels before s earlier at e n = rw (e, n, labels_more 0 before s, zero-add (instruction_count before)) refl
 
 -- no fault of a statement: the names are new, and each instruction is read, at most 4096 in all
-pub statements_from_none : (ss : List Statement) (earlier : Labels) (at : ℕ) → at ≤ bpf_maxinsns
-    → behind earlier at ss ≡ None
+statements_from_none : (ss before : List Statement) (earlier : Labels) (at : ℕ) → earlier ≡ labels_from 0 before
+    → at ≡ instruction_count before → at ≤ bpf_maxinsns → statements_fault before ss ≡ None
     → AreNew earlier (labels_from at ss) × AllByRecursion (λ (s : Statement). IsRead (instruction_in s.tokens)) ss
     × (at + length (flat_map drafts_in ss) ≤ bpf_maxinsns)
-statements_from_none [] earlier at le h = (tt, tt, omega arith)
-statements_from_none (s ∷ ss) earlier at le h =
+statements_from_none [] before earlier at e n le h = (tt, tt, omega arith)
+statements_from_none (s ∷ ss) before earlier at e n le h =
     let next = place_after at (instruction_in s.tokens) in
     let later : Labels = earlier ++ label_at at (label_in s.tokens) in
-    let one = both_none (one_behind earlier at s) (behind later next ss) h in
+    let one = both_none (statement_fault before s) (statements_fault (before ++ s ∷ []) ss) h in
     let parts =
     both_none (label_fault (place_of earlier) s.line (label_in s.tokens))
-    (instruction_fault at s.line (instruction_in s.tokens)) one.0 in
+    (instruction_fault at s.line (instruction_in s.tokens)) (rw (e, n) one.0) in
     let read = instruction_from at s.line (instruction_in s.tokens) le parts.1 in
-    let rest = statements_from_none ss later next read.2 one.1 in (
+    let rest = statements_from_none ss (before ++ s ∷ []) later next (later_labels before s earlier at e n)
+    (rw n (sym (count_more before s))) read.2 one.1 in (
       new_from earlier at s.line (label_in s.tokens) (labels_from next ss) parts.0 rest.0,
       (read.0, rest.1),
       omega (
@@ -183,11 +180,12 @@ instruction_to at line (t ∷ ts) read range few =
     let d = the_some (draft_of t ts) read in
     instruction_one at line t ts d.0 d.1 range few
 
-pub statements_to_none : (ss : List Statement) (earlier : Labels) (at : ℕ) → AreNew earlier (labels_from at ss)
+statements_to_none : (ss before : List Statement) (earlier : Labels) (at : ℕ) → earlier ≡ labels_from 0 before
+    → at ≡ instruction_count before → AreNew earlier (labels_from at ss)
     → AllByRecursion (λ (s : Statement). IsRead (instruction_in s.tokens)) ss → InRange (flat_map drafts_in ss)
-    → at + length (flat_map drafts_in ss) ≤ bpf_maxinsns → behind earlier at ss ≡ None
-statements_to_none [] earlier at new read range few = refl
-statements_to_none (s ∷ ss) earlier at new read range few =
+    → at + length (flat_map drafts_in ss) ≤ bpf_maxinsns → statements_fault before ss ≡ None
+statements_to_none [] before earlier at e n new read range few = refl
+statements_to_none (s ∷ ss) before earlier at e n new read range few =
     let body = instruction_in s.tokens in
     let next = place_after at body in
     let later : Labels = earlier ++ label_at at (label_in s.tokens) in
@@ -198,8 +196,9 @@ statements_to_none (s ∷ ss) earlier at new read range few =
     let here =
     none_both (label_fault (place_of earlier) s.line (label_in s.tokens)) (instruction_fault at s.line body)
     label.0 one.0 in
-    none_both (one_behind earlier at s) (behind later next ss) here
-    (statements_to_none ss later next label.1 read.1 parts.1 (omega (arith, count, one.1)))
+    none_both (statement_fault before s) (statements_fault (before ++ s ∷ []) ss) (rw (e, n) at here)
+    (statements_to_none ss (before ++ s ∷ []) later next (later_labels before s earlier at e n)
+    (rw n (sym (count_more before s))) label.1 read.1 parts.1 (omega (arith, count, one.1)))
 
 -- what is said
 
@@ -237,8 +236,8 @@ pub no_fault : (text : List ℕ) (is : List Insn) → Spells text is → fault_o
 unfolding fault_of fault_in
 no_fault text is s =
     let said = says_each (place_of (labels_of text)) 0 (drafts_of text) is s.each s.fields in
-    let read = behind_is [] (statements_of text)
-    ∙ statements_to_none (statements_of text) [] 0 s.distinct s.read said.0 (omega (arith, said.2, s.few)) in
+    let read = statements_to_none (statements_of text) [] [] 0 refl refl s.distinct s.read said.0
+    (omega (arith, said.2, s.few)) in
     none_both (ascii_fault 1 text)
     (option_or (statements_fault [] (statements_of text))
     (all_targets_fault (place_of (labels_of text)) 0 (drafts_of text))) (ascii_to text 1 s.ascii)
@@ -258,8 +257,7 @@ spelled text is none says fits =
     both_none (statements_fault [] (statements_of text))
     (all_targets_fault (place_of (labels_of text)) 0 (drafts_of text)) outer.1 in
     let read =
-    statements_from_none (statements_of text) [] 0 (omega arith)
-    (sym (behind_is [] (statements_of text)) ∙ inner.0) in
+    statements_from_none (statements_of text) [] [] 0 refl refl (omega arith) inner.0 in
     let said = says_each (place_of (labels_of text)) 0 (drafts_of text) is says fits in
     record {
       ascii = ascii_from text 1 outer.0;

@@ -1,13 +1,9 @@
 pub mod TokenLemmas
 pub mod WriteLemmas
 pub mod FormLemmas
-pub mod DraftLemmas
-pub mod CappedLemmas
-pub mod StatementLemmas
-pub mod KeptLemmas
 pub mod ReadLemmas
 pub mod LawLemmas
 pub mod TextLemmas
+pub mod WantedLemmas
 pub mod ListingLemmas
 pub mod RoundTrip
-pub mod WantedLemmas

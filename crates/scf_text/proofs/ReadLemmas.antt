@@ -1,35 +1,33 @@
 -- Reading one statement after another.
-use Rattle.std.proofs.Common.{◌≡◌, ◌≢◌, ℕ, suc, ◌+◌, Bool, List, [], ◌∷◌, ◌++◌, length, map, Option, Some, None, Result, Ok}
-use Rattle.std.proofs.Common.{Err, refl, sym, ap, subst, ◌∙◌, append_assoc, append-nil, arith, inl, inr}
+use Rattle.std.proofs.Common.{◌≡◌, ◌≢◌, ℕ, suc, ◌+◌, Bool, List, [], ◌∷◌, ◌++◌, length, Option, Some, None, Result, Ok}
+use Rattle.std.proofs.Common.{Err, refl, sym, ap, ◌∙◌, append_assoc, append-nil, arith, inl, inr, zero-add}
 use Rattle.std.proofs.Math.Path.{fun_ext}
 use Rattle.std.specs.List.{flat_map}
 use Rattle.std.specs.Map.{lookup}
-use Rattle.std.specs.Option.{is_some, option_or}
+use Rattle.std.specs.Option.{is_some, option_or, IsSome, option_map}
 use Rattle.std.specs.Str.{bytes_eq}
-use Rattle.std.specs.Prelude.{MatchOption, OnErr, cond, true, false}
+use Rattle.std.specs.Prelude.{OnErr, cond, true, false}
 use Rattle.std.specs.Borrow.{Bor}
 use Rattle.std.specs.BTreeMap.{BTreeMap, UpdatesBy}
 use Rattle.std.specs.Cmp.Lexicographic.{slice_cmp}
 use Rattle.std.specs.Ordering.{nat_cmp}
 use Rattle.std.proofs.lemmas.Map.Text.{btree_map_updates_str}
 use Rattle.std.proofs.lemmas.Bool.{cases_Bool}
-use Rattle.std.proofs.lemmas.Simd.{map-map}
 use Rattle.std.proofs.lemmas.Slice.Eq.{bytes_eq-Decides}
+use Rattle.std.proofs.lemmas.List.Concat.{flat_map-append}
 use Rattle.scf_text.specs.declared.numbered_draft.NumberedDraft.{NumberedDraft}
 use Rattle.scf_text.specs.declared.fault.TextFault.{TextFault}
 use Rattle.scf_text.specs.declared.fault.TextFault.TheVariants as fault
-use Rattle.scf_text.specs.Characters.{semicolon}
 use Rattle.scf_text.specs.Tokens.{before_comment, lines_of}
 use Rattle.scf_text.specs.Drafts as drafts
-use Rattle.scf_text.specs.Statements.{Statement, Labels, Places, place_of, label_in}
-use Rattle.scf_text.specs.Statements.{instruction_in, instruction_count, label_at, place_after, labels_from}
-use Rattle.scf_text.specs.Statements.{drafts_by, drafts_in, statements_from}
-use Rattle.scf_text.specs.Faults.{IsFault, label_fault, instruction_fault}
-use Rattle.scf_text.specs.internal.Parts.{parts_of, words_of_part}
+use Rattle.scf_text.specs.Statements.{Statement, Labels, Places, place_of, label_in, instruction_in}
+use Rattle.scf_text.specs.Statements.{instruction_count, label_at, place_after, labels_from, drafts_in}
+use Rattle.scf_text.specs.Statements.{statements_from}
+use Rattle.scf_text.specs.Faults.{IsFault, label_fault, instruction_fault, statement_fault, statements_fault}
 use Rattle.scf_text.specs.internal.Results.{AddsInstruction}
 use Rattle.scf_text.specs.internal.Reading.{places_view, drafts_view, with_label, IsLeft, Leaves, HaveTokens}
-use Rattle.scf_text.specs.internal.Reading.{one_behind, behind, statement_of, line_statements}
-use Rattle.scf_text.proofs.TokenLemmas.{words_of_parts}
+use Rattle.scf_text.specs.internal.Reading.{line_statements}
+use Rattle.scf_text.proofs.TokenLemmas.{statements_are}
 
 pub fault_first : (e : TextFault) (a b : Option TextFault) → IsFault e a → IsFault e (option_or a b)
 fault_first fault.Memory a b h = tt
@@ -38,52 +36,34 @@ fault_first e a b h = rw h refl
 pub fault_then : (e : TextFault) (a b : Option TextFault) → a ≡ None → IsFault e b → IsFault e (option_or a b)
 fault_then e a b none h = rw none h
 
-neither : {A : Type 0} (a b c : Option A) → a ≡ None → b ≡ None → option_or (option_or a b) c ≡ c
-neither a b c h k = rw (h, k) refl
-
-pub none_in_front : {A : Type 0} (xs ys : List A) → xs ++ ys ≡ [] → xs ≡ []
-none_in_front [] ys e = refl
+pub none_in_front : {A : Type 0} (xs ys : List A) → xs ++ ys ≡ [] → (xs ≡ []) × (ys ≡ [])
+none_in_front [] ys e = (refl, e)
 none_in_front (x ∷ xs) ys e = absurd cc
 
-pub none_behind : {A : Type 0} (xs ys : List A) → xs ++ ys ≡ [] → ys ≡ []
-none_behind [] ys e = e
-none_behind (x ∷ xs) ys e = absurd cc
-
-or_none : {A : Type 0} (a : Option A) → option_or a None ≡ a
-or_none None = refl
-or_none (Some x) = refl
+-- a list that stands between others isn't all of nothing
+pub some_between : {A : Type 0} (a b c : List A) → b ≢ [] → a ++ (b ++ c) ≢ []
+some_between a b c some none = some (none_in_front b c (none_in_front a (b ++ c) none).1).0
 
 -- one statement behind others
 
 place_twice : (n : ℕ) (a b : List (List ℕ)) → place_after (place_after n a) b ≡ place_after (place_after n b) a
-place_twice n [] b = refl
-place_twice n (t ∷ ts) [] = refl
-place_twice n (t ∷ ts) (u ∷ us) = refl
+place_twice n a b = grind arith
 
 pub count_more : (before : List Statement) (s : Statement)
     → instruction_count (before ++ s ∷ []) ≡ place_after (instruction_count before) (instruction_in s.tokens)
 count_more [] s = refl
-count_more (b ∷ before) s = ap (λ n. place_after n (instruction_in b.tokens)) (count_more before s)
-    ∙ place_twice (instruction_count before) (instruction_in s.tokens) (instruction_in b.tokens)
-
-place_plus : (n m : ℕ) (a : List (List ℕ)) → place_after n a + m ≡ n + place_after m a
-place_plus n m [] = refl
-place_plus n m (t ∷ ts) = omega arith
+count_more (b ∷ before) s = grind (arith, count_more before s, place_twice)
 
 pub labels_more : (at : ℕ) (before : List Statement) (s : Statement)
     → labels_from at (before ++ s ∷ []) ≡ labels_from at before
     ++ label_at (at + instruction_count before) (label_in s.tokens)
-labels_more at [] s = let place : at + 0 ≡ at = omega arith in rw place (append-nil (label_at at (label_in s.tokens)))
+labels_more at [] s = grind (arith, append-nil)
 labels_more at (b ∷ before) s =
-    let place : place_after at (instruction_in b.tokens) + instruction_count before ≡ at + place_after
-    (instruction_count before) (instruction_in b.tokens) =
-    place_plus at (instruction_count before) (instruction_in b.tokens) in
-    ap (λ (ls : Labels). label_at at (label_in b.tokens) ++ ls)
-    (labels_more (place_after at (instruction_in b.tokens)) before s)
-    ∙ rw place
-    (sym (append_assoc (label_at at (label_in b.tokens))
-    (labels_from (place_after at (instruction_in b.tokens)) before)
-    (label_at (at + place_after (instruction_count before) (instruction_in b.tokens)) (label_in s.tokens))))
+    grind (arith, labels_more (place_after at (instruction_in b.tokens)) before s, append_assoc)
+
+or_none : {A : Type 0} (a : Option A) → option_or a None ≡ a
+or_none None = refl
+or_none (Some x) = refl
 
 lookup_push : (p : List ℕ → Bool) (ls : Labels) (l : List ℕ × ℕ)
     → lookup p (ls ++ l ∷ []) ≡ option_or (lookup p ls) (cond (p l.0) (Some l.1) None)
@@ -110,43 +90,35 @@ bytes_eq_sym a b =
     ]
 
 -- a label that is new
-pub label_kept : (places : Places) (ls : Labels) (at line : ℕ) (o : Option (List ℕ)) → places ≡ place_of ls
-    → label_fault places line o ≡ None → with_label places at o ≡ place_of (ls ++ label_at at o)
-label_kept places ls at line None e new = e ∙ ap place_of (sym (append-nil ls))
-label_kept places ls at line (Some name) e new = fun_ext λ q.
-    let here : places name ≡ None = none (places name) new in
-    let push = lookup_push (bytes_eq q) ls (name, at) in
-    let found : places q ≡ lookup (bytes_eq q) ls = ap (λ (f : Places). f q) e in
-    one_more (places q) (Some at) (bytes_eq name q) (bytes_eq q name) (bytes_eq_sym name q)
-    (λ same. ap places (sym ((bytes_eq-Decides name q).0 same)) ∙ here)
-    ∙ ap (λ o. option_or o (cond (bytes_eq q name) (Some at) None)) found ∙ sym push
+label_kept : (ls : Labels) (at line : ℕ) (o : Option (List ℕ)) → label_fault (place_of ls) line o ≡ None
+    → with_label (place_of ls) at o ≡ place_of (ls ++ label_at at o)
+label_kept ls at line None new = ap place_of (sym (append-nil ls))
+label_kept ls at line (Some name) new = fun_ext λ q.
+    one_more (place_of ls q) (Some at) (bytes_eq name q) (bytes_eq q name) (bytes_eq_sym name q)
+    (λ same. ap (place_of ls) (sym ((bytes_eq-Decides name q).0 same)) ∙ none (place_of ls name) new)
+    ∙ sym (lookup_push (bytes_eq q) ls (name, at))
   where
     none : (o : Option ℕ) → label_fault (λ n. o) line (Some name) ≡ None → o ≡ None
     none None h = refl
     none (Some x) h = absurd cc
 
 -- a statement is read
-pub statement_read : (s : Statement) (all rest : List Statement) (p q : Places) (ds es : List (ℕ × drafts.Draft))
+statement_read : (s : Statement) (all rest : List Statement) (p q : Places) (ds es : List (ℕ × drafts.Draft))
     → IsLeft all (s ∷ rest) p ds → label_fault p s.line (label_in s.tokens) ≡ None
     → instruction_fault (length ds) s.line (instruction_in s.tokens) ≡ None
-    → q ≡ with_label p (length ds) (label_in s.tokens) → es ≡ ds ++ drafts_by s.line (instruction_in s.tokens)
+    → q ≡ with_label p (length ds) (label_in s.tokens) → es ≡ ds ++ drafts_in s
     → length es ≡ place_after (length ds) (instruction_in s.tokens) → IsLeft all rest q es
 statement_read s all rest p q ds es h new none e f n =
-    let next = place_after (length ds) (instruction_in s.tokens) in
-    let later : Labels = h.labels ++ label_at (length ds) (label_in s.tokens) in
-    let label : label_fault (place_of h.labels) s.line (label_in s.tokens) ≡ None =
-    ap (λ (r : Places). label_fault r s.line (label_in s.tokens)) (sym h.places) ∙ new in
+    let label = rw h.places at new in
+    let instruction = rw h.count at none in
     record {
-      labels = later;
-      places = e ∙ label_kept p h.labels (length ds) s.line (label_in s.tokens) h.places new;
-      fault = h.fault ∙ neither (label_fault (place_of h.labels) s.line (label_in s.tokens))
-          (instruction_fault (length ds) s.line (instruction_in s.tokens)) (behind later next rest) label none
-          ∙ ap (λ m. behind later m rest) (sym n);
-      names = h.names ∙ sym (append_assoc h.labels (label_at (length ds) (label_in s.tokens)) (labels_from next rest))
-          ∙ ap (λ m. later ++ labels_from m rest) (sym n);
-      drafts = h.drafts ∙ sym (append_assoc ds (drafts_in s) (flat_map drafts_in rest))
-          ∙ ap (λ xs. xs ++ flat_map drafts_in rest) (sym f);
-      tokens = λ some. h.tokens (λ none. some (none_behind s.tokens (flat_map (λ (t : Statement). t.tokens) rest) none));
+      before = h.before ++ s ∷ [];
+      whole = h.whole ∙ sym (append_assoc h.before (s ∷ []) rest);
+      places = e ∙ rw (h.places, h.count, labels_more 0 h.before s, zero-add (instruction_count h.before))
+          (label_kept (labels_from 0 h.before) (instruction_count h.before) s.line (label_in s.tokens) label);
+      drafts = f ∙ rw (h.drafts, flat_map-append, append-nil) refl;
+      count = n ∙ rw h.count (sym (count_more h.before s));
+      fault = h.fault ∙ rw (label, instruction) refl;
     }
 
 -- a statement is refused, for its own first fault
@@ -154,24 +126,26 @@ pub statement_refused : (e : TextFault) (s : Statement) (all rest : List Stateme
     (ds : List (ℕ × drafts.Draft)) → IsLeft all (s ∷ rest) p ds → s.tokens ≢ []
     → IsFault e (option_or (label_fault p s.line (label_in s.tokens))
     (instruction_fault (length ds) s.line (instruction_in s.tokens)))
-    → IsFault e (behind [] 0 all) × HaveTokens all
-statement_refused e s all rest p ds h some refused =
-    let first = subst (λ (r : Places). IsFault e (option_or (label_fault r s.line (label_in s.tokens))
-    (instruction_fault (length ds) s.line (instruction_in s.tokens)))) h.places refused in (
-      subst (IsFault e) (sym h.fault)
-          (fault_first e (one_behind h.labels (length ds) s)
-          (behind (h.labels ++ label_at (length ds) (label_in s.tokens))
-          (place_after (length ds) (instruction_in s.tokens)) rest) first),
-      h.tokens (λ none. some (none_in_front s.tokens (flat_map (λ (t : Statement). t.tokens) rest) none)),
-    )
+    → IsFault e (statements_fault [] all) × HaveTokens all
+statement_refused e s all rest p ds h some refused = (
+  rw h.fault
+      (fault_first e (statement_fault h.before s) (statements_fault (h.before ++ s ∷ []) rest)
+      (rw (h.places, h.count) at refused)),
+  rw (h.whole, flat_map-append)
+      (some_between (flat_map (λ (t : Statement). t.tokens) h.before) s.tokens
+      (flat_map (λ (t : Statement). t.tokens) rest) some),
+)
 
-pub label_refused : (e : TextFault) (s : Statement) (all rest : List Statement) (p : Places)
-    (ds : List (ℕ × drafts.Draft)) → IsLeft all (s ∷ rest) p ds → s.tokens ≢ []
-    → IsFault e (label_fault p s.line (label_in s.tokens)) → IsFault e (behind [] 0 all) × HaveTokens all
-label_refused e s all rest p ds h some refused =
-    statement_refused e s all rest p ds h some
-    (fault_first e (label_fault p s.line (label_in s.tokens))
-    (instruction_fault (length ds) s.line (instruction_in s.tokens)) refused)
+pub statement_leaves : {T : Type 0} (r : Result T TextFault) (s : Statement) (all rest : List Statement) (p q : Places)
+    (ds es : List (ℕ × drafts.Draft)) → IsLeft all (s ∷ rest) p ds → label_fault p s.line (label_in s.tokens) ≡ None
+    → q ≡ with_label p (length ds) (label_in s.tokens)
+    → AddsInstruction ds s.line (instruction_in s.tokens) r es → OnErr r (s.tokens ≢ []) → Leaves r all rest q es
+statement_leaves (Ok x) s all rest p q ds es left new e h some =
+    statement_read s all rest p q ds es left new h.0 e h.1 h.2
+statement_leaves (Err e) s all rest p q ds es left new kept h some =
+    statement_refused e s all rest p ds left some
+    (fault_then e (label_fault p s.line (label_in s.tokens))
+    (instruction_fault (length ds) s.line (instruction_in s.tokens)) new h)
 
 pub drafts_length : (kept : List NumberedDraft) → length (drafts_view kept) ≡ length kept
 drafts_length [] = refl
@@ -187,40 +161,26 @@ label_added m n name at line old e none updates =
     let new : is_some (places_view m name) ≡ false = ap is_some (sym e) ∙ none in
     (rw new refl, fun_ext λ q. btree_map_updates_str name m n (Some at) updates q)
 
-pub statement_leaves : {T : Type 0} (r : Result T TextFault) (s : Statement) (all rest : List Statement) (p q : Places)
-    (ds es : List (ℕ × drafts.Draft)) → IsLeft all (s ∷ rest) p ds → label_fault p s.line (label_in s.tokens) ≡ None
-    → q ≡ with_label p (length ds) (label_in s.tokens)
-    → AddsInstruction ds s.line (instruction_in s.tokens) r es → OnErr r (s.tokens ≢ []) → Leaves r all rest q es
-statement_leaves (Ok x) s all rest p q ds es left new e h some =
-    statement_read s all rest p q ds es left new h.0 e h.1 h.2
-statement_leaves (Err e) s all rest p q ds es left new kept h some =
-    statement_refused e s all rest p ds left some
-    (fault_then e (label_fault p s.line (label_in s.tokens))
-    (instruction_fault (length ds) s.line (instruction_in s.tokens)) new h)
+pub some_mapped : (o : Option (Bor (List ℕ))) (p : Option (List ℕ)) → option_map (λ name. name.now) o ≡ p → IsSome o
+    → IsSome p
+some_mapped None p e some = absurd cc
+some_mapped (Some x) p e some = rw (← e) refl
 
--- the statements of a line
+pub label_refused : (e : TextFault) (s : Statement) (all rest : List Statement) (p : Places)
+    (ds : List (ℕ × drafts.Draft)) → IsLeft all (s ∷ rest) p ds → IsSome (label_in s.tokens)
+    → IsFault e (label_fault p s.line (label_in s.tokens)) → IsFault e (statements_fault [] all) × HaveTokens all
+label_refused e s all rest p ds h some refused =
+    statement_refused e s all rest p ds h (λ none. let other = rw none at some in cc)
+    (fault_first e (label_fault p s.line (label_in s.tokens))
+    (instruction_fault (length ds) s.line (instruction_in s.tokens)) refused)
 
-pub some_parts : (end : ℕ) (o : Option (Bor (List ℕ))) (bytes part : List ℕ)
-    → MatchOption o (parts_of end bytes ≡ part ∷ []) (λ rest. parts_of end bytes ≡ part ∷ parts_of end rest.now)
-    → (parts : List (List ℕ)) × (parts_of end bytes ≡ part ∷ parts)
-some_parts end None bytes part h = ([], h)
-some_parts end (Some rest) bytes part h = (parts_of end rest.now, h)
+pub some_refused : {T E : Type 0} (r : Result T E) (ts us : List (List ℕ)) → us ≡ instruction_in ts → OnErr r (us ≢ [])
+    → OnErr r (ts ≢ [])
+some_refused (Ok x) ts us e some = tt
+some_refused (Err x) ts us e some = λ none. some (e ∙ rw none refl)
 
-pub next_statement : (line : ℕ) (bytes part : List ℕ) (parts : List (List ℕ)) → parts_of semicolon bytes ≡ part ∷ parts
-    → line_statements line bytes ≡ statement_of line part ∷ map (statement_of line) parts
-next_statement line bytes part parts e = ap (map (statement_of line)) e
-
-statements_of_line : (n : ℕ) (line : List ℕ) (lines : List (List ℕ))
-    → statements_from n (line ∷ lines) ≡ line_statements n (before_comment line) ++ statements_from (n + 1) lines
-statements_of_line n line lines =
-    let statement : List (List ℕ) → Statement = λ ts. record { line = n; tokens = ts } in
-    ap (λ ss. ss ++ statements_from (n + 1) lines)
-    (ap (map statement) (words_of_parts (before_comment line))
-    ∙ map-map statement words_of_part (parts_of semicolon (before_comment line)))
-
+-- a line is read before the lines behind it
 pub next_line : (n : ℕ) (text line bytes : List ℕ) (lines : List (List ℕ)) → lines_of text ≡ line ∷ lines
     → bytes ≡ before_comment line
     → statements_from n (lines_of text) ≡ line_statements n bytes ++ statements_from (n + 1) lines
-next_line n text line bytes lines e shown =
-    ap (statements_from n) e ∙ statements_of_line n line lines
-    ∙ ap (λ bs. line_statements n bs ++ statements_from (n + 1) lines) (sym shown)
+next_line n text line bytes lines e shown = rw (e, shown, statements_are) refl

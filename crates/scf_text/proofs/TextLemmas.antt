@@ -1,5 +1,5 @@
 -- What reading a text gives.
-use Rattle.std.proofs.Common.{◌≡◌, ◌≢◌, ℕ, List, [], Option, Some, None, Result, Ok, Err, refl, sym, ap, subst, ◌∙◌}
+use Rattle.std.proofs.Common.{◌≡◌, ◌≢◌, ℕ, List, [], Option, Some, None, Result, Ok, Err, refl, sym, ap, ◌∙◌}
 use Rattle.std.proofs.Common.{append-nil}
 use Rattle.std.specs.List.{flat_map}
 use Rattle.std.specs.Prelude.{IfOk, IfErr}
@@ -14,26 +14,25 @@ use Rattle.scf_insn.specs.declared.insn.Insn.{Insn}
 use Rattle.scf_text.specs.declared.fault.TextFault.{TextFault}
 use Rattle.scf_text.specs.declared.fault.TextFault.TheVariants as fault
 use Rattle.scf_text.specs.Drafts as drafts
-use Rattle.scf_text.specs.Statements.{Statement, Places, place_of, statements_of, labels_of, drafts_in, drafts_of}
+use Rattle.scf_text.specs.Statements.{Statement, Places, place_of, places_in, statements_of, labels_of, drafts_in, drafts_of}
 use Rattle.scf_text.specs.Spelling.{Spells}
 use Rattle.scf_text.specs.Faults.{ascii_fault, statements_fault, all_targets_fault, fault_in, fault_of, IsFault}
 use Rattle.scf_text.specs.declared.numbered_draft.NumberedDraft.{NumberedDraft}
 use Rattle.scf_text.specs.internal.Results.{TellsInsns, TellsText}
-use Rattle.scf_text.specs.internal.Reading.{places_view, drafts_view, behind, IsLeft}
+use Rattle.scf_text.specs.internal.Reading.{places_view, drafts_view, IsLeft}
 use Rattle.scf_text.proofs.ReadLemmas.{fault_first, fault_then}
-use Rattle.scf_text.proofs.LawLemmas.{behind_is, no_fault, spelled}
+use Rattle.scf_text.proofs.LawLemmas.{no_fault, spelled}
 
 pub is_fault : (e : TextFault) (o : Option TextFault) → o ≡ Some e → IsFault e o
 is_fault fault.Memory o h = tt
 is_fault e o h = h
 
-pub statements_fail : (x : TextFault) (text : List ℕ) → IsFault x (behind [] 0 (statements_of text))
+pub statements_fail : (x : TextFault) (text : List ℕ) → IsFault x (statements_fault [] (statements_of text))
     → IsFault x (fault_in text)
 unfolding fault_in
 statements_fail x text h =
     fault_first x (statements_fault [] (statements_of text))
-    (all_targets_fault (place_of (labels_of text)) 0 (drafts_of text))
-    (subst (IsFault x) (sym (behind_is [] (statements_of text))) h)
+    (all_targets_fault (place_of (labels_of text)) 0 (drafts_of text)) h
 
 targets_tell : (text : List ℕ) (r : Result (Vec Insn) TextFault) → statements_fault [] (statements_of text) ≡ None
     → TellsInsns (place_of (labels_of text)) (drafts_of text) r
@@ -48,25 +47,25 @@ targets_tell text (Err e) none h =
 pub nothing_read : (all : List Statement) (kept : BTreeMap (Bor (List ℕ)) ℕ) (lines : List NumberedDraft)
     → IsEmpty kept → lines ≡ [] → IsLeft all all (places_view kept) (drafts_view lines)
 nothing_read all kept lines empty none = record {
-  labels = [];
+  before = [];
+  whole = refl;
   places = fun_ext λ name. ap (lookup (is_at (λ key. slice_cmp nat_cmp name key.now))) empty;
-  fault = rw none refl;
-  names = rw none refl;
   drafts = rw none refl;
-  tokens = λ some. some;
+  count = rw none refl;
+  fault = refl;
 }
 
 -- behind the last statement
 pub drafts_read : (all : List Statement) (places : Places) (ds : List (ℕ × drafts.Draft)) → IsLeft all [] places ds
     → ds ≡ flat_map drafts_in all
-drafts_read all places ds left = sym (left.drafts ∙ append-nil ds)
+drafts_read all places ds left = left.drafts ∙ rw (left.whole, append-nil) refl
 
 pub text_tells : (text : List ℕ) (places : Places) (ds : List (ℕ × drafts.Draft)) (r : Result (Vec Insn) TextFault)
     → IsLeft (statements_of text) [] places ds → TellsInsns places ds r → TellsText (fault_in text) text r
 text_tells text places ds r left h =
     let named : places ≡ place_of (labels_of text) =
-    left.places ∙ ap place_of (sym (left.names ∙ append-nil left.labels)) in
-    targets_tell text r (behind_is [] (statements_of text) ∙ left.fault)
+    left.places ∙ ap places_in (sym (left.whole ∙ append-nil left.before)) in
+    targets_tell text r left.fault
     (rw (named, drafts_read (statements_of text) places ds left) at h)
 
 pub ascii_fails : (e : TextFault) (text : List ℕ) → ascii_fault 1 text ≡ Some e → IsFault e (fault_of text)

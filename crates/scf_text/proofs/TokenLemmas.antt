@@ -1,21 +1,21 @@
 -- The tokens of a text: reading them from the front, their slices, and the parts of a line between them.
-use Rattle.std.proofs.Common.{◌≡◌, ◌≢◌, length-append, ℕ, suc, ◌+◌, ◌-◌, ◌<◌, ◌≤◌, ◌^◌, Bool, true, false, ◌&&◌, eqb}
+use Rattle.std.proofs.Common.{◌≡◌, ℕ, suc, ◌+◌, ◌-◌, ◌<◌, ◌≤◌, Bool, true, false, ◌&&◌, eqb}
 use Rattle.std.proofs.Common.{List, [], ◌∷◌, ◌++◌, length, get_or, take, drop, refl, sym, ap, subst, ◌∙◌, append_assoc}
-use Rattle.std.proofs.Common.{append-nil, arith, inl, inr, max, map}
-use Rattle.std.specs.List.{prefix_len, position_or_len, onto_first, list_all, All, AllByRecursion, flat_map}
-use Rattle.std.specs.List.{join_with_byte, slice_split}
-use Rattle.std.proofs.lemmas.Bool.{cases_Bool, and_left, and_right, eqb-true, and_parts}
+use Rattle.std.proofs.Common.{append-nil, arith, inl, inr, max, map, not}
+use Rattle.std.specs.List.{prefix_len, position_or_len, list_all, All, AllByRecursion, flat_map}
+use Rattle.std.specs.List.{join_with_byte}
+use Rattle.std.proofs.lemmas.Bool.{cases_Bool, and_left, and_right, and_parts}
 use Rattle.std.proofs.lemmas.Bool.Decides.{nat_tests}
-use Rattle.std.proofs.lemmas.List.{drop_more, drop_all, take_more, take_rest, length-map, drop-drop, map-append}
-use Rattle.std.proofs.lemmas.List.Splits.{slice_split_first, slice_split-cons_no, join_with_byte-slice_split}
-use Rattle.scf_text.specs.declared.token.Token.{Token}
-use Rattle.scf_text.specs.Characters.{is_blank, is_word_byte, semicolon}
-use Rattle.scf_text.specs.Tokens.{Lexeme, begins_comment, before_comment, begins_in_word, joined, lexemes_from, lexeme}
-use Rattle.scf_text.specs.Tokens.{lexemes, IsSliceOf, lines_of, lexemes_of_lines, tokens_of, words_of_line}
-use Rattle.scf_text.specs.internal.Parts.{parts_of, AreFirst, words_of_part}
-use Rattle.scf_text.specs.internal.Views.{HeadIsBlank}
-use Rattle.std.proofs.lemmas.List.Elements.{All-from_recursion}
+use Rattle.std.proofs.lemmas.List.{drop_more, drop_all, take_more, take_rest, drop-drop, map-append}
+use Rattle.std.proofs.lemmas.List.Sums.{prefix_len_stops}
+use Rattle.std.proofs.lemmas.List.Splits.{slice_split_first, length-slice_split, join_with_byte-slice_split}
 use Rattle.scf_text.specs.Statements.{is_semicolon}
+use Rattle.scf_text.specs.declared.token.Token.{Token}
+use Rattle.scf_text.specs.Characters.{is_blank, is_word_byte}
+use Rattle.scf_text.specs.Tokens.{Lexeme, begins_comment, before_comment, begins_in_word, joined, lexemes_from}
+use Rattle.scf_text.specs.Tokens.{lexemes, IsSliceOf, lines_of, lexemes_of_lines, tokens_of, words_of_line}
+use Rattle.scf_text.specs.internal.Parts.{words_of_part, words_in, others_in, statements_in, first_of}
+use Rattle.std.proofs.lemmas.List.Elements.{All-from_recursion}
 
 pub word_not_blank : (b : ℕ) → is_word_byte b ≡ true → is_blank b ≡ false
 word_not_blank b h = grind (arith, nat_tests)
@@ -58,11 +58,10 @@ word_in_front at b (c ∷ cs) h =
           (and_right (is_word_byte b) (is_word_byte c) other) ∙ rw other refl
     ]
 
-pub token_in_front : (at n : ℕ) (bs : List ℕ) → 0 < length bs → HeadIsBlank bs false
-    → n ≡ max (prefix_len is_word_byte bs) 1
-    → lexemes_from at bs ≡ (record { start = at; text = take n bs }) ∷ lexemes_from (at + n) (drop n bs)
-token_in_front at n [] some h e = absurd (omega arith)
-token_in_front at n (b ∷ bs) some h e =
+token_in_front : (at n b : ℕ) (bs : List ℕ) → is_blank b ≡ false → n ≡ max (prefix_len is_word_byte (b ∷ bs)) 1
+    → lexemes_from at (b ∷ bs) ≡ (record { start = at; text = take n (b ∷ bs) })
+    ∷ lexemes_from (at + n) (drop n (b ∷ bs))
+token_in_front at n b bs h e =
     elim (cases_Bool (is_word_byte b)) [
       | inl word ↦
           let m : n ≡ suc (prefix_len is_word_byte bs) = omega (arith, prefix_more is_word_byte b bs word) in
@@ -82,28 +81,35 @@ no_comment_here xs i lt h =
     ∙ rw (let k : begins_comment (get_or xs i 0 ∷ drop (i + 1) xs) ≡ false =
     subst (λ (ys : List ℕ). begins_comment ys ≡ false) e h in k) refl
 
--- a part that ends
-pub part_ends : (end : ℕ) (bytes : List ℕ) (n : ℕ) → n ≡ position_or_len (λ b. eqb b end) bytes → n < length bytes
-    → parts_of end bytes ≡ take n bytes ∷ parts_of end (take (length bytes - (n + 1)) (drop (n + 1) bytes))
-part_ends end bytes n e lt =
-    let short : position_or_len (λ b. eqb b end) bytes < length bytes = omega arith in
-    rw (take_rest bytes (n + 1), e) (slice_split_first (λ b. eqb b end) bytes 0 short)
-
--- the last part
-pub part_lasts : (end : ℕ) (bytes : List ℕ) (n : ℕ) → n ≡ position_or_len (λ b. eqb b end) bytes → length bytes ≤ n
-    → parts_of end bytes ≡ bytes ∷ []
-part_lasts end [] n e le = refl
-part_lasts end (b ∷ bs) n e le =
-    elim (cases_Bool (eqb b end)) [
-      | inl here ↦
-          let zero_is : position_or_len (λ b. eqb b end) (b ∷ bs) ≡ 0 = rw here refl in
-          absurd (omega arith)
-      | inr other ↦
-          let more : position_or_len (λ b. eqb b end) (b ∷ bs) ≡ 1 + position_or_len (λ b. eqb b end) bs =
-          rw other refl in
-          slice_split-cons_no (λ b. eqb b end) b bs other
-          ∙ ap (onto_first b) (part_lasts end bs (n - 1) (omega arith) (omega arith))
+place_of_end : (text : List ℕ)
+    → prefix_len (λ b. not (eqb b 10)) text ≡ position_or_len (λ b. eqb b 10) text
+place_of_end [] = refl
+place_of_end (b ∷ bs) =
+    elim (cases_Bool (eqb b 10)) [
+      | inl here ↦ rw here refl
+      | inr other ↦ rw other (omega (arith, place_of_end bs))
     ]
+
+-- a line that ends
+pub line_ends : (text : List ℕ) (n : ℕ) → n ≡ prefix_len (λ b. not (eqb b 10)) text → n < length text
+    → lines_of text ≡ take n text ∷ lines_of (take (length text - (n + 1)) (drop (n + 1) text))
+line_ends text n e lt =
+    let place : n ≡ position_or_len (λ b. eqb b 10) text = e ∙ place_of_end text in
+    let short : position_or_len (λ b. eqb b 10) text < length text = omega arith in
+    rw (take_rest text (n + 1), place) (slice_split_first (λ b. eqb b 10) text 0 short)
+
+last_line : (text : List ℕ) → length text ≤ prefix_len (λ b. not (eqb b 10)) text → lines_of text ≡ text ∷ []
+last_line [] le = refl
+last_line (b ∷ bs) le =
+    elim (cases_Bool (eqb b 10)) [
+      | inl here ↦ let none = rw here at le in absurd (omega arith)
+      | inr other ↦ let more = rw other at le in rw (other, last_line bs (omega arith)) refl
+    ]
+
+-- the last line
+pub line_lasts : (text : List ℕ) (n : ℕ) → n ≡ prefix_len (λ b. not (eqb b 10)) text → length text ≤ n
+    → lines_of text ≡ text ∷ []
+line_lasts text n e le = last_line text (omega arith)
 
 pub comment_step : (xs : List ℕ) (i : ℕ) (total : List ℕ) → i < length xs
     → begins_comment (take (length xs - i) (drop i xs)) ≡ false → take i xs ++ before_comment (drop i xs) ≡ total
@@ -112,47 +118,35 @@ comment_step xs i total lt h so_far =
     let here = no_comment_here xs i lt (rw take_rest at h) in
     rw (take_more xs i 0 lt, append_assoc) (sym (ap (λ (ys : List ℕ). take i xs ++ ys) here) ∙ so_far)
 
-pub blank_at : (start at : ℕ) (xs : List ℕ) → at < length xs → is_blank (get_or xs at 0) ≡ true
-    → lexemes_from (start + (at + 1)) (drop (at + 1) xs) ≡ lexemes_from (start + at) (drop at xs)
-blank_at start at xs lt h =
-    let place : start + (at + 1) ≡ (start + at) + 1 = omega arith in
-    rw place
-    (sym (ap (lexemes_from (start + at)) (drop_more xs at 0 lt)
-    ∙ blank_in_front (start + at) (get_or xs at 0) (drop (at + 1) xs) h))
+-- blanks in front are no token
+skip : (at : ℕ) (bs : List ℕ)
+    → lexemes_from at bs ≡ lexemes_from (at + prefix_len is_blank bs) (drop (prefix_len is_blank bs) bs)
+skip at [] = nothing_left at ∙ sym (nothing_left (at + 0))
+skip at (b ∷ bs) =
+    elim (cases_Bool (is_blank b)) [
+      | inl blank ↦
+          let place : (at + 1) + prefix_len is_blank bs ≡ at + suc (prefix_len is_blank bs) = omega arith in
+          blank_in_front at b bs blank ∙ skip (at + 1) bs ∙ rw (prefix_more is_blank b bs blank, place) refl
+      | inr other ↦
+          let none : prefix_len is_blank (b ∷ bs) ≡ 0 = rw other refl in
+          let place : at + 0 ≡ at = omega arith in
+          rw (none, place) refl
+    ]
 
-pub nothing_after : (start at : ℕ) (xs : List ℕ) → length xs ≤ at → lexemes_from (start + at) (drop at xs) ≡ []
-nothing_after start at xs le = rw (drop_all at xs le) (nothing_left (start + at))
+pub none_is : (at n : ℕ) (bs : List ℕ) → n ≡ prefix_len is_blank bs → length bs ≤ n → lexemes_from at bs ≡ []
+none_is at n bs e le = skip at bs ∙ rw (← e, drop_all n bs le) (nothing_left (at + n))
 
--- behind no fewer tokens than there were one more stands: some were still to come
-pub some_tokens : (old found front back more : List Lexeme) (one : Lexeme) → length old ≤ length found
-    → front ≡ one ∷ more
-    → found ++ front ≡ old ++ back → back ≢ []
-some_tokens old found front back more one le e told none =
-    let long : length found + length front ≡ length old + length back =
-    omega (arith, ap length told, length-append found front, length-append old back) in
-    let here : length front ≡ suc (length more) = ap length e in
-    let nothing : length back ≡ 0 = ap length none in
-    omega arith
-
--- a list that stands between others isn't all of nothing
-pub some_between : {A : Type 0} (a b c : List A) → b ≢ [] → a ++ (b ++ c) ≢ []
-some_between [] [] c some e = some refl
-some_between [] (x ∷ b) c some e = cc
-some_between (x ∷ a) b c some e = cc
-
--- all of some elements, of which there are fewer than are wanted
-pub all_of_first : {A : Type 0} (wanted : ℕ) (all kept : List A) → AreFirst wanted all kept → length kept < wanted
-    → all ≡ kept
-all_of_first wanted all kept first lt =
-    first.whole ∙ ap (λ xs. kept ++ xs) (first.few lt) ∙ append-nil kept
-
-pub all_found : (found more : List Token) (start : ℕ) (line part : List ℕ)
-    → AreFirst (2 ^ 64 - 1) (lexemes found ++ lexemes_from start part) (lexemes more) → part ≡ before_comment line
-    → length more < 2 ^ 63 → lexemes more ≡ lexemes found ++ lexemes_from start (before_comment line)
-all_found found more start line part first shown few =
-    sym (all_of_first (2 ^ 64 - 1) (lexemes found ++ lexemes_from start part) (lexemes more) first
-    (omega (arith, length-map more lexeme)))
-    ∙ ap (λ bs. lexemes found ++ lexemes_from start bs) shown
+pub token_is : (at n m : ℕ) (bs : List ℕ) → n ≡ prefix_len is_blank bs → n < length bs
+    → m ≡ max (prefix_len is_word_byte (drop n bs)) 1
+    → lexemes_from at bs ≡ (record { start = at + n; text = take m (drop n bs) })
+    ∷ lexemes_from (at + (n + m)) (drop (n + m) bs)
+token_is at n m bs e lt k =
+    let front = drop_more bs n 0 lt in
+    let shown : is_blank (get_or bs n 0) ≡ false = rw e (prefix_len_stops is_blank bs 0 (omega arith)) in
+    let place : (at + n) + m ≡ at + (n + m) = omega arith in
+    skip at bs ∙ rw (← e) (ap (lexemes_from (at + n)) front)
+    ∙ token_in_front (at + n) m (get_or bs n 0) (drop (n + 1) bs) shown (rw front at k)
+    ∙ rw (← front, place, drop-drop m n bs) refl
 
 -- tokens without their places
 abbrev pub words_from : ℕ → List ℕ → List (List ℕ)
@@ -357,132 +351,32 @@ pub words_are_tokens : (text : List ℕ)
 unfolding tokens_of
 words_are_tokens text = words_of_lines 0 (lines_of text)
 
--- the first part, and those behind it
-record Cut (bytes : List ℕ) : Type 0 where
-  pub first : List ℕ
-  pub others : List (List ℕ)
-  pub parts : parts_of semicolon bytes ≡ first ∷ others
-  pub front : begins_in_word first ≡ begins_in_word bytes
+-- the first token of a part, and its words
+pub words_front : (part rest t : List ℕ) (s n : ℕ)
+    → ((at : ℕ) → lexemes_from at part ≡ (record { start = at + s; text = t }) ∷ lexemes_from (at + n) rest)
+    → words_of_part part ≡ t ∷ words_of_part rest
+words_front part rest t s n h =
+    ap (map (λ (l : Lexeme). l.text)) (h 0) ∙ ap (λ (ws : List (List ℕ)). t ∷ ws) (words_at (0 + n) 0 rest)
 
-cut : (bytes : List ℕ) → Cut bytes
-cut [] = record { first = []; others = []; parts = refl; front = refl }
-cut (b ∷ bs) =
-    elim (cases_Bool (eqb b semicolon)) [
-      | inl end ↦ record {
-        first = [];
-        others = parts_of semicolon bs;
-        parts = rw end refl;
-        front = sym (ap is_word_byte (eqb-true b semicolon end));
-      }
-      | inr other ↦
-          let rest = cut bs in
-          record {
-            first = b ∷ rest.first;
-            others = rest.others;
-            parts = slice_split-cons_no (λ c. eqb c semicolon) b bs other ∙ ap (onto_first b) rest.parts;
-            front = refl;
-          }
-    ]
+some_statement : (ss : List (List (List ℕ))) → 0 < length ss → ss ≡ first_of ss ∷ drop 1 ss
+some_statement [] some = absurd (omega arith)
+some_statement (s ∷ ss) some = refl
 
-onto_both : (b : ℕ) (w : List ℕ) (parts : List (List (List ℕ))) (first : List (List ℕ))
-    (others : List (List (List ℕ)))
-    → onto_first w parts ≡ first ∷ others → onto_first (b ∷ w) parts ≡ onto_word b first ∷ others
-unfolding onto_word
-onto_both b w [] first others h =
-    let a : first ≡ w ∷ [] = cc in
-    let c : others ≡ [] = cc in
-    rw (a, c) refl
-onto_both b w (part ∷ parts) first others h =
-    let a : first ≡ w ∷ part = cc in
-    let c : others ≡ parts = cc in
-    rw (a, c) refl
+pub statements_are : (part : List ℕ) → statements_in part ≡ words_in part ∷ others_in part
+unfolding words_in others_in
+statements_are part =
+    some_statement (statements_in part) (omega (arith, length-slice_split is_semicolon (words_of_part part)))
 
-not_semicolon : (b : ℕ) → is_word_byte b ≡ true → eqb b semicolon ≡ false
-not_semicolon b h = grind (arith, nat_tests)
+pub no_token : (part : List ℕ) → ((at : ℕ) → lexemes_from at part ≡ []) → (words_in part ≡ []) × (others_in part ≡ [])
+unfolding words_in others_in
+no_token part h = rw (h 0) (refl, refl)
 
-word_not_semicolon : (b : ℕ) (w : List ℕ) → is_word_byte b ≡ true → is_semicolon (b ∷ w) ≡ false
-word_not_semicolon b w h = rw (not_semicolon b h) refl
+pub statement_ends : (t part rest : List ℕ) → is_semicolon t ≡ true → words_of_part part ≡ t ∷ words_of_part rest
+    → (words_in part ≡ []) × (others_in part ≡ words_in rest ∷ others_in rest)
+unfolding words_in others_in
+statement_ends t part rest end e = rw (e, end) (refl, statements_are rest)
 
--- the tokens of a part that begins in a word
-record InWord (b : ℕ) (bs : List ℕ) : Type 0 where
-  pub word : List ℕ
-  pub others : List (List ℕ)
-  pub whole : words_of_part (b ∷ bs) ≡ (b ∷ word) ∷ others
-
-in_word : (b : ℕ) (bs : List ℕ) → is_word_byte b ≡ true → InWord b bs
-in_word b bs h = record {
-  word = take (prefix_len is_word_byte bs) bs;
-  others = words_from (0 + suc (prefix_len is_word_byte bs)) (drop (prefix_len is_word_byte bs) bs);
-  whole = ap (map (λ (l : Lexeme). l.text)) (word_in_front 0 b bs h);
-}
-
--- what is cut is cut where more of a word stands in front of it
-word_more : (b : ℕ) (bs first : List ℕ) (others : List (List ℕ)) → is_word_byte b ≡ true
-    → begins_in_word bs ≡ true → begins_in_word first ≡ true
-    → slice_split is_semicolon (words_of_part bs) ≡ words_of_part first ∷ map words_of_part others
-    → slice_split is_semicolon (words_of_part (b ∷ bs)) ≡ words_of_part (b ∷ first) ∷ map words_of_part others
-unfolding onto_word
-word_more b [] first others h k front rest = absurd cc
-word_more b (c ∷ cs) [] others h k front rest = absurd cc
-word_more b (c ∷ cs) (d ∷ ds) others h k front rest =
-    let back = in_word c cs k in
-    let cut_behind : onto_first (c ∷ back.word) (slice_split is_semicolon back.others)
-    ≡ words_of_part (d ∷ ds) ∷ map words_of_part others =
-    sym (slice_split-cons_no is_semicolon (c ∷ back.word) back.others (word_not_semicolon c back.word k))
-    ∙ ap (slice_split is_semicolon) (sym back.whole) ∙ rest in
-    let longer : words_of_part (b ∷ c ∷ cs) ≡ (b ∷ c ∷ back.word) ∷ back.others =
-    words_more b c cs h k ∙ ap (onto_word b) back.whole in
-    ap (slice_split is_semicolon) longer
-    ∙ slice_split-cons_no is_semicolon (b ∷ c ∷ back.word) back.others (word_not_semicolon b (c ∷ back.word) h)
-    ∙ onto_both b (c ∷ back.word) (slice_split is_semicolon back.others) (words_of_part (d ∷ ds))
-    (map words_of_part others) cut_behind
-    ∙ ap (λ ws. ws ∷ map words_of_part others) (sym (words_more b d ds h front))
-
--- and where any other byte does that is no `;`
-byte_more : (b : ℕ) (bs first : List ℕ) (others : List (List ℕ)) → eqb b semicolon ≡ false
-    → begins_in_word first ≡ begins_in_word bs
-    → slice_split is_semicolon (words_of_part bs) ≡ words_of_part first ∷ map words_of_part others
-    → slice_split is_semicolon (words_of_part (b ∷ bs)) ≡ words_of_part (b ∷ first) ∷ map words_of_part others
-byte_more b bs first others other front rest =
-    elim (cases_Bool (is_blank b)) [
-      | inl blank ↦ rw (words_blank b bs blank, words_blank b first blank) rest
-      | inr shown ↦
-          elim (cases_Bool (is_word_byte b && begins_in_word bs)) [
-            | inl more ↦
-                let both = and_parts (is_word_byte b) (begins_in_word bs) more in
-                word_more b bs first others both.0 both.1 (front ∙ both.1) rest
-            | inr end ↦
-                let end_first : (is_word_byte b && begins_in_word first) ≡ false =
-                ap (λ t. is_word_byte b && t) front ∙ end in
-                let no : is_semicolon (b ∷ []) ≡ false = rw other refl in
-                ap (slice_split is_semicolon) (words_one b bs shown end)
-                ∙ slice_split-cons_no is_semicolon (b ∷ []) (words_of_part bs) no
-                ∙ ap (onto_first (b ∷ [])) rest
-                ∙ ap (λ ws. ws ∷ map words_of_part others) (sym (words_one b first shown end_first))
-          ]
-    ]
-
-semicolon_more : (bs : List ℕ)
-    → slice_split is_semicolon (words_of_part bs) ≡ map words_of_part (parts_of semicolon bs)
-    → slice_split is_semicolon (words_of_part (semicolon ∷ bs)) ≡ map words_of_part (parts_of semicolon (semicolon ∷ bs))
-semicolon_more bs rest =
-    ap (slice_split is_semicolon) (words_mark semicolon bs refl refl)
-    ∙ ap (λ (ws : List (List (List ℕ))). [] ∷ ws) rest
-    ∙ ap (λ (w : List (List ℕ)). w ∷ map words_of_part (parts_of semicolon bs)) (sym words_nil)
-
--- the tokens between the tokens `;` are those of the parts between the bytes `;`
-pub words_of_parts : (bs : List ℕ)
-    → slice_split is_semicolon (words_of_part bs) ≡ map words_of_part (parts_of semicolon bs)
-words_of_parts [] = rw words_nil refl
-words_of_parts (b ∷ bs) =
-    elim (cases_Bool (eqb b semicolon)) [
-      | inl end ↦
-          subst (λ c. slice_split is_semicolon (words_of_part (c ∷ bs)) ≡ map words_of_part (parts_of semicolon (c ∷ bs)))
-          (sym (eqb-true b semicolon end)) (semicolon_more bs (words_of_parts bs))
-      | inr other ↦
-          let rest = cut bs in
-          byte_more b bs rest.first rest.others other rest.front
-          (words_of_parts bs ∙ ap (map words_of_part) rest.parts)
-          ∙ sym (ap (map words_of_part)
-          (slice_split-cons_no (λ c. eqb c semicolon) b bs other ∙ ap (onto_first b) rest.parts))
-    ]
+pub token_next : (t part rest : List ℕ) → is_semicolon t ≡ false → words_of_part part ≡ t ∷ words_of_part rest
+    → (words_in part ≡ t ∷ words_in rest) × (others_in part ≡ others_in rest)
+unfolding words_in others_in
+token_next t part rest other e = rw (e, other, statements_are rest) (refl, refl)

@@ -1,44 +1,25 @@
 -- Which texts have a token, so that memory may be wanted for them.
-use Rattle.std.proofs.Common.{◌≡◌, ◌≢◌, ℕ, ◌+◌, ◌<◌, ◌≤◌, List, [], ◌∷◌, ◌++◌, length, map, Result, Ok, Err, refl, sym, ap}
+use Rattle.std.proofs.Common.{◌≡◌, ◌≢◌, ℕ, ◌+◌, ◌<◌, List, [], ◌∷◌, length, map, Result, Ok, Err, refl, sym, ap}
 use Rattle.std.proofs.Common.{◌∙◌}
 use Rattle.std.proofs.Common.{arith}
 use Rattle.std.specs.Prelude.{OnErr}
 use Rattle.std.specs.List.{flat_map}
-use Rattle.scf_text.specs.declared.token.Token.{Token}
 use Rattle.scf_text.specs.declared.numbered_draft.NumberedDraft.{NumberedDraft}
-use Rattle.scf_text.specs.Tokens.{Lexeme, lexemes_from, lines_of, words_of_line, tokens_of}
+use Rattle.scf_text.specs.Tokens.{Lexeme, lines_of, words_of_line, tokens_of}
 use Rattle.scf_text.specs.Statements.{Statement, statements_of, statements_from, drafts_in}
-use Rattle.scf_text.specs.internal.Parts.{words_of_part, AreFirst}
 use Rattle.scf_text.specs.internal.Reading.{HaveTokens, drafts_view}
-use Rattle.scf_text.specs.internal.Views.{texts}
 use Rattle.scf_text.proofs.TokenLemmas.{words_are_tokens}
-use Rattle.scf_text.proofs.ReadLemmas.{none_in_front, none_behind}
+use Rattle.scf_text.proofs.ReadLemmas.{none_in_front}
 
 none_mapped : {A B : Type 0} (f : A → B) (xs : List A) → map f xs ≡ [] → xs ≡ []
 none_mapped f [] e = refl
 none_mapped f (x ∷ xs) e = absurd cc
 
--- a part has tokens, and so has it without their places
-pub some_texts : (part : List ℕ) → lexemes_from 0 part ≢ [] → words_of_part part ≢ []
-some_texts part some none = some (none_mapped (λ (t : Lexeme). t.text) (lexemes_from 0 part) none)
-
--- some of them were kept
-pub some_kept : (all : List (List ℕ)) (ts : List Token) → AreFirst 11 all (texts ts) → 0 < length ts → all ≢ []
-some_kept all ts first some none =
-    let no_tokens = none_mapped _ ts (none_in_front (texts ts) first.others (sym first.whole ∙ none)) in
-    omega (arith, ap length no_tokens, some)
-
--- the instruction behind the label, which is refused, has tokens
-pub some_refused : {T E : Type 0} (all : List (List ℕ)) (ts us : List Token) (r : Result T E)
-    → AreFirst 11 all (texts ts) → length us ≤ length ts → OnErr r (0 < length us) → OnErr r (all ≢ [])
-some_refused all ts us (Ok x) first le some = tt
-some_refused all ts us (Err e) first le some = some_kept all ts first (omega (arith, le, some))
-
 no_drafts : (ss : List Statement) → flat_map (λ (s : Statement). s.tokens) ss ≡ [] → flat_map drafts_in ss ≡ []
 no_drafts [] none = refl
 no_drafts (s ∷ ss) none =
-    let here : s.tokens ≡ [] = none_in_front s.tokens (flat_map (λ (t : Statement). t.tokens) ss) none in
-    rw here (no_drafts ss (none_behind s.tokens (flat_map (λ (t : Statement). t.tokens) ss) none))
+    let here : s.tokens ≡ [] = (none_in_front s.tokens (flat_map (λ (t : Statement). t.tokens) ss) none).0 in
+    rw here (no_drafts ss (none_in_front s.tokens (flat_map (λ (t : Statement). t.tokens) ss) none).1)
 
 -- some instruction was read where one of them is refused
 pub drafts_words : {T E : Type 0} (ss : List Statement) (lines kept : List NumberedDraft) (r : Result T E) → kept ≡ lines
@@ -52,9 +33,8 @@ no_tokens : (n : ℕ) (lines : List (List ℕ)) → flat_map words_of_line lines
     → flat_map (λ (s : Statement). s.tokens) (statements_from n lines) ≡ []
 no_tokens n [] none = refl
 no_tokens n (line ∷ lines) none =
-    let here : words_of_line line ≡ [] = none_in_front (words_of_line line) (flat_map words_of_line lines) none in
-    let later = none_behind (words_of_line line) (flat_map words_of_line lines) none in
-    rw here (no_tokens (n + 1) lines later)
+    let both = none_in_front (words_of_line line) (flat_map words_of_line lines) none in
+    rw both.0 (no_tokens (n + 1) lines both.1)
 
 -- then the text has a token
 pub words_tokens : (text : List ℕ) → HaveTokens (statements_of text) → tokens_of text ≢ []

@@ -15,7 +15,7 @@ use crate::draft::{Draft, Written};
 use crate::fault::TextFault;
 use crate::numbered_draft::NumberedDraft;
 use crate::statement::{Places, add_line, find_place};
-use crate::token::{first_part, without_comment};
+use crate::token::{first_line, without_comment};
 use scf_insn::Insn;
 use std::alloc::Global;
 use std::collections::BTreeMap;
@@ -39,7 +39,6 @@ fn check_ascii(text: &[u8]) -> Result<(), TextFault>
 
 /// Adds the statements of a text.
 fn read_text<'a>(
-    alloc: Global,
     places: &mut Places<'a>,
     drafts: &mut Vec<NumberedDraft<'a>>,
     text: &'a [u8],
@@ -48,12 +47,11 @@ fn read_text<'a>(
         → IsLeft all (statements_of text.now) (places_view places.old) (drafts_view drafts.old.items)
         → Leaves result all [] (places_view places.new) (drafts_view drafts.new.items) }
 {
-    let mut tokens = Vec::new(alloc);
     let mut rest = text;
     let mut number = 1;
     'lines: loop {
-        let (line, after) = first_part(rest, b'\n');
-        add_line(places, drafts, &mut tokens, without_comment(line), number)?;
+        let (line, after) = first_line(rest);
+        add_line(places, drafts, without_comment(line), number)?;
         match after {
             None => return Ok(()),
             Some(next) => {
@@ -76,7 +74,7 @@ fn value_of<'a>(
     ensures { TellsTarget (places_view places.now) at line limit (written_view written.entry) result }
 {
     match written {
-        Written::Number(number) => Ok(number),
+        Written::Number(number) => number.below(limit).ok_or(TextFault::NumberRange { line }),
         Written::Label(name) => {
             let Some(place) = find_place(places, name) else {
                 return Err(TextFault::Label { line });
@@ -103,11 +101,12 @@ fn resolve<'a>(
 {
     let line = written.line;
     let draft = written.draft;
+    let code = value_of(places, Written::Number(draft.code), at, 1 << 16, line)?;
     let jt = value_of(places, draft.jt, at, 1 << 8, line)?;
     let jf = value_of(places, draft.jf, at, 1 << 8, line)?;
     let k = value_of(places, draft.k, at, 1 << 32, line)?;
     Ok(Insn {
-        code: draft.code as u16,
+        code: code as u16,
         jt: jt as u8,
         jf: jf as u8,
         k: k as u32,
@@ -137,7 +136,7 @@ fn read_all(alloc: Global, text: &[u8]) -> Result<Vec<Insn>, TextFault>
 {
     let mut places = BTreeMap::new(alloc);
     let mut drafts = Vec::new(alloc);
-    read_text(alloc, &mut places, &mut drafts, text)?;
+    read_text(&mut places, &mut drafts, text)?;
     resolve_all(alloc, &places, &drafts)
 }
 

@@ -1,43 +1,65 @@
 //! Instructions as they are written.
-ghost use Rattle.std.specs.Prelude.{◌≡◌};
+ghost use Rattle.std.specs.Prelude.{◌≡◌, IfSome, Some, None, if◌then◌else◌, nat_lt};
 ghost use Rattle.std.specs.Option.{option_map};
 ghost use Rattle.std.specs.List.{list_any};
 ghost use Rattle.std.specs.Str.{bytes_eq};
+ghost use Rattle.scf_insn.specs.Numbers.{number_of};
 ghost use Rattle.scf_text.specs.Forms.{forms};
 ghost use Rattle.scf_text.specs.Drafts.{is_name, with_field, spellings, put_by, fill_by, blank, has_mnemonic};
 ghost use Rattle.scf_text.specs.Drafts.{read_by, is_below, is_in_range};
+ghost use Rattle.scf_text.specs.internal.Parts.{words_in, StopsAt};
 ghost use Rattle.scf_text.specs.internal.Results.{Reads};
-ghost use Rattle.scf_text.specs.internal.Views.{written_view, draft_view, capped_number};
-ghost use Rattle.scf_text.specs.internal.Views.{texts};
+ghost use Rattle.scf_text.specs.internal.Views.{number_view, written_view, draft_view};
 
 use crate::form::{Field, Form, Piece};
-use crate::token::Token;
+use crate::part::{Next, front};
 use scf_insn::{NumeralFault, parse_number};
 
-/// What stands for a field: a number, where `u64::MAX` stands for each larger one too, or the name of a place.
+/// A number that is written.
+#[derive(Clone, Copy)]
+pub(crate) enum Number<'a> {
+    Given(u64),
+    /// The token, whose number is past 2^64-1.
+    Large(&'a [u8]),
+}
+
+/// What stands for a field: a number, or the name of a place.
 #[derive(Clone, Copy)]
 pub(crate) enum Written<'a> {
-    Number(u64),
+    Number(Number<'a>),
     Label(&'a [u8]),
 }
 
 /// An instruction as it is written.
 #[derive(Clone, Copy)]
 pub(crate) struct Draft<'a> {
-    pub code: u64,
+    pub code: Number<'a>,
     pub jt: Written<'a>,
     pub jf: Written<'a>,
     pub k: Written<'a>,
 }
 
-/// The number that a token is, where `u64::MAX` stands for each larger number too.
-fn token_number(token: &[u8]) -> Option<u64>
-    ensures { result ≡ capped_number token.now }
-{
-    match parse_number(token) {
-        Ok(number) => Some(number),
-        Err(NumeralFault::TooLarge) => Some(u64::MAX),
-        Err(NumeralFault::Malformed) => None,
+impl<'a> Number<'a> {
+    /// The number that a token is.
+    fn of_token(token: &'a [u8]) -> Option<Number<'a>>
+        ensures { option_map number_view result ≡ number_of token.now }
+    {
+        match parse_number(token) {
+            Ok(number) => Some(Number::Given(number)),
+            Err(NumeralFault::TooLarge) => Some(Number::Large(token)),
+            Err(NumeralFault::Malformed) => None,
+        }
+    }
+
+    /// The number, where it is below the limit.
+    pub(crate) fn below(self, limit: u64) -> Option<u64>
+        ensures { result ≡ (if nat_lt (number_view self.entry) limit then Some (number_view self.entry) else None) }
+    {
+        let number = match self {
+            Number::Given(number) => number,
+            Number::Large(token) => parse_number(token).ok()?,
+        };
+        if number < limit { Some(number) } else { None }
     }
 }
 
@@ -56,11 +78,12 @@ impl<'a> Draft<'a> {
     fn blank(form: Form) -> Draft<'a>
         ensures { draft_view result ≡ blank form }
     {
+        let zero = Written::Number(Number::Given(0));
         Draft {
-            code: form.code as u64,
-            jt: Written::Number(0),
-            jf: Written::Number(0),
-            k: Written::Number(0),
+            code: Number::Given(form.code as u64),
+            jt: zero,
+            jf: zero,
+            k: zero,
         }
     }
 
@@ -102,18 +125,18 @@ fn is_spelling(piece: Piece, token: &[u8]) -> bool
 
 /// The draft after a token stands for a piece.
 fn put<'a>(piece: Piece, token: &'a [u8], draft: Draft<'a>) -> Option<Draft<'a>>
-    ensures { option_map draft_view result ≡ put_by capped_number piece token.now (draft_view draft.entry) }
+    ensures { option_map draft_view result ≡ put_by number_of piece token.now (draft_view draft.entry) }
 {
     match piece {
         Piece::Number(field, _) => {
-            let number = token_number(token)?;
+            let number = Number::of_token(token)?;
             Some(draft.with_field(field, Written::Number(number)))
         }
         Piece::Target(field) => {
             if is_token_name(token) {
                 return Some(draft.with_field(field, Written::Label(token)));
             }
-            let number = token_number(token)?;
+            let number = Number::of_token(token)?;
             Some(draft.with_field(field, Written::Number(number)))
         }
         Piece::Mark(_) | Piece::Len | Piece::Memory | Piece::Accumulator | Piece::Index => {
@@ -126,21 +149,28 @@ fn put<'a>(piece: Piece, token: &'a [u8], draft: Draft<'a>) -> Option<Draft<'a>>
     }
 }
 
-/// The draft after tokens stand for pieces.
-#[tactic(auto, using(crate::proofs::DraftLemmas::fill_unequal, crate::proofs::DraftLemmas::fill_both_empty))]
-fn fill<'a>(pieces: &[Piece], tokens: &[Token<'a>], draft: Draft<'a>) -> Option<Draft<'a>>
-    ensures { option_map draft_view result
-        ≡ fill_by capped_number pieces.now (texts tokens.now) (draft_view draft.entry) }
+/// The draft after the tokens of a statement stand for pieces, and what follows the statement.
+fn fill<'a>(
+    pieces: &[Piece],
+    part: &'a [u8],
+    draft: Draft<'a>,
+) -> Option<(Draft<'a>, Option<&'a [u8]>)>
+    ensures said { option_map (λ read. draft_view read.0) result
+        ≡ fill_by number_of pieces.now (words_in part.now) (draft_view draft.entry) }
+    ensures stops { IfSome result (λ read. StopsAt part.now read.1) }
 {
-    if pieces.len() != tokens.len() {
-        return None;
-    }
-    match (pieces, tokens) {
-        ([piece, pieces @ ..], [token, tokens @ ..]) => {
-            let draft = put(*piece, token.text, draft)?;
-            fill(pieces, tokens, draft)
+    match pieces {
+        [] => match front(part) {
+            Next::End(after) => Some((draft, after)),
+            Next::Token(..) => None,
+        },
+        [piece, pieces @ ..] => {
+            let Next::Token(token, rest) = front(part) else {
+                return None;
+            };
+            let draft = put(*piece, token, draft)?;
+            fill(pieces, rest, draft)
         }
-        _ => Some(draft),
     }
 }
 
@@ -151,21 +181,22 @@ pub(crate) enum Reading<'a> {
     Unknown,
     /// Nothing, since no form of the mnemonic has the tokens.
     Unfit,
-    Said(Draft<'a>),
+    /// This, and here is what follows the statement.
+    Said(Draft<'a>, Option<&'a [u8]>),
 }
 
 /// What a mnemonic and the tokens behind it say, in the first form of the mnemonic that has the tokens.
-pub(crate) fn read<'a>(mnemonic: &[u8], tokens: &[Token<'a>]) -> Reading<'a>
+pub(crate) fn read<'a>(mnemonic: &[u8], part: &'a [u8]) -> Reading<'a>
     ensures { Reads (list_any (has_mnemonic mnemonic.now) forms)
-        (read_by capped_number forms mnemonic.now (texts tokens.now)) result }
+        (read_by number_of forms mnemonic.now (words_in part.now)) part.now result }
 {
     let mut is_known = false;
     for form in Form::all() {
         if !form.has_mnemonic(mnemonic) {
             continue;
         }
-        if let Some(draft) = fill(form.shape.pieces(), tokens, Draft::blank(*form)) {
-            return Reading::Said(draft);
+        if let Some((draft, after)) = fill(form.shape.pieces(), part, Draft::blank(*form)) {
+            return Reading::Said(draft, after);
         }
         is_known = true;
     }
@@ -181,7 +212,7 @@ fn is_below(operand: Written<'_>, limit: u64) -> bool
     ensures { result ≡ is_below limit (written_view operand.entry) }
 {
     match operand {
-        Written::Number(number) => number < limit,
+        Written::Number(number) => number.below(limit).is_some(),
         Written::Label(_) => true,
     }
 }
@@ -191,7 +222,7 @@ impl<'a> Draft<'a> {
     pub(crate) fn is_in_range(self) -> bool
         ensures { result ≡ is_in_range (draft_view self.entry) }
     {
-        self.code < 1 << 16
+        self.code.below(1 << 16).is_some()
             && is_below(self.jt, 1 << 8)
             && is_below(self.jf, 1 << 8)
             && is_below(self.k, 1 << 32)

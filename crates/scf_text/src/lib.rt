@@ -8,6 +8,7 @@ mod form;
 mod laws;
 mod listing;
 mod numbered_draft;
+mod part;
 mod statement;
 mod token;
 

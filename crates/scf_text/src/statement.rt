@@ -1,42 +1,41 @@
 //! The statements of a text.
-ghost use Rattle.std.specs.Prelude.{◌≡◌, ◌≢◌, ◌<◌, ◌≤◌, ◌∷◌, ◌++◌, [], List, length, OnOk, OnErr, IsSome};
+ghost use Rattle.std.specs.Prelude.{◌≡◌, ◌≢◌, ◌∷◌, ◌++◌, [], List, IfOk, OnErr, IsSome};
 ghost use Rattle.std.specs.Option.{option_map};
 ghost use Rattle.scf_text.specs.Statements.{Statement, label_in, instruction_in};
-ghost use Rattle.scf_text.specs.internal.Parts.{words_of_part, AreFirst};
-ghost use Rattle.scf_text.specs.internal.Reading.{places_view, drafts_view, IsLeft, Leaves};
-ghost use Rattle.scf_text.specs.internal.Reading.{statement_of, line_statements};
+ghost use Rattle.scf_text.specs.internal.Reading.{places_view, drafts_view, IsLeft, Leaves, line_statements};
+ghost use Rattle.scf_text.specs.internal.Parts.{words_in, others_in, StopsAt};
 ghost use Rattle.scf_text.specs.internal.Results.{TellsDraft, AddsLabel, AddsInstruction};
-ghost use Rattle.scf_text.specs.internal.Views.{texts};
 
 use crate::draft::{Draft, Reading, is_token_name, read};
 use crate::fault::TextFault;
 use crate::numbered_draft::NumberedDraft;
-use crate::token::{Token, first_part, push_tokens};
+use crate::part::{Next, front};
 use scf_insn::kernel::BPF_MAXINSNS;
-use std::alloc::AllocError;
 use std::collections::BTreeMap;
 
-/// The instruction that a mnemonic and operands are, in this line and behind as many others.
-#[tactic(auto, using(crate::proofs::StatementLemmas::form_fault))]
+/// The instruction that a mnemonic and what follows it are, in this line and behind as many others, and what follows its
+/// statement.
+#[tactic(auto, unfolding(crate::specs::Drafts::draft_of))]
 fn read_instruction<'a>(
     mnemonic: &[u8],
-    operands: &[Token<'a>],
+    part: &'a [u8],
     at: usize,
     line: usize,
-) -> Result<Draft<'a>, TextFault>
-    ensures { TellsDraft at line mnemonic.now (texts operands.now) result }
+) -> Result<(Draft<'a>, Option<&'a [u8]>), TextFault>
+    ensures tells { TellsDraft at line mnemonic.now (words_in part.now) result }
+    ensures stops { IfOk result (λ read. StopsAt part.now read.1) }
 {
-    let draft = match read(mnemonic, operands) {
+    let (draft, after) = match read(mnemonic, part) {
         Reading::Unknown => return Err(TextFault::Mnemonic { line }),
         Reading::Unfit => return Err(TextFault::Operand { line }),
-        Reading::Said(draft) => draft,
+        Reading::Said(draft, after) => (draft, after),
     };
     if !draft.is_in_range() {
         Err(TextFault::NumberRange { line })
     } else if at >= BPF_MAXINSNS {
         Err(TextFault::TooLong { line })
     } else {
-        Ok(draft)
+        Ok((draft, after))
     }
 }
 
@@ -50,19 +49,20 @@ pub(crate) fn find_place<'a>(places: &Places<'a>, name: &'a [u8]) -> Option<usiz
     places.get(&name).copied()
 }
 
-/// The label in front, and the tokens of the instruction.
-fn split_label<'a, 't>(tokens: &'t [Token<'a>]) -> (Option<&'a [u8]>, &'t [Token<'a>])
-    ensures label { option_map (λ name. name.now) result.0 ≡ label_in (texts tokens.now) }
-    ensures rest { texts result.1.now ≡ instruction_in (texts tokens.now) }
-    ensures some { IsSome result.0 → 0 < length tokens.now }
-    ensures within { length result.1.now ≤ length tokens.now }
+/// The label in front, and what follows it.
+fn split_label<'a>(part: &'a [u8]) -> (Option<&'a [u8]>, &'a [u8])
+    ensures label { option_map (λ name. name.now) result.0 ≡ label_in (words_in part.now) }
+    ensures rest { words_in result.1.now ≡ instruction_in (words_in part.now) }
+    ensures behind { others_in result.1.now ≡ others_in part.now }
 {
-    if let [name, mark, rest @ ..] = tokens {
-        if is_token_name(name.text) && mark.text == b":".as_slice() {
-            return (Some(name.text), rest);
+    if let Next::Token(name, rest) = front(part) {
+        if let Next::Token(mark, rest) = front(rest) {
+            if is_token_name(name) && mark == b":".as_slice() {
+                return (Some(name), rest);
+            }
         }
     }
-    (None, tokens)
+    (None, part)
 }
 
 /// Adds a label, which stands for this place.
@@ -84,51 +84,41 @@ fn add_label<'a>(
     Ok(())
 }
 
-/// Adds an instruction, if there is one.
+/// Adds an instruction, if there is one, and gives what follows its statement.
 fn add_instruction<'a>(
     drafts: &mut Vec<NumberedDraft<'a>>,
-    tokens: &[Token<'a>],
+    part: &'a [u8],
     line: usize,
-) -> Result<(), TextFault>
-    ensures adds { AddsInstruction (drafts_view drafts.old.items) line (texts tokens.now) result
+) -> Result<Option<&'a [u8]>, TextFault>
+    ensures adds { AddsInstruction (drafts_view drafts.old.items) line (words_in part.now) result
         (drafts_view drafts.new.items) }
-    ensures some { OnErr result (0 < length tokens.now) }
+    ensures stops { IfOk result (λ after. StopsAt part.now after) }
+    ensures some { OnErr result (words_in part.now ≢ []) }
 {
-    if let [mnemonic, operands @ ..] = tokens {
-        let draft = read_instruction(mnemonic.text, operands, drafts.len(), line)?;
-        drafts.push(NumberedDraft { line, draft })?;
+    match front(part) {
+        Next::End(after) => Ok(after),
+        Next::Token(mnemonic, operands) => {
+            let (draft, after) = read_instruction(mnemonic, operands, drafts.len(), line)?;
+            drafts.push(NumberedDraft { line, draft })?;
+            Ok(after)
+        }
     }
-    Ok(())
 }
 
-/// The most tokens of a statement that are read: a label and its `:`, `raw` and its seven operands, and one by which a
-/// longer statement is known.
-const MAX_TOKENS: usize = 11;
-
-/// Reads the first tokens of a statement.
-#[tactic(auto, using(crate::proofs::KeptLemmas::first_words, crate::proofs::KeptLemmas::no_words))]
-fn read_tokens<'a>(tokens: &mut Vec<Token<'a>>, statement: &'a [u8]) -> Result<(), AllocError>
-    ensures first { OnOk result (AreFirst MAX_TOKENS (words_of_part statement.now) (texts tokens.new.items)) }
-    ensures some { OnErr result (words_of_part statement.now ≢ []) }
-{
-    tokens.clear();
-    push_tokens(tokens, 0, statement, MAX_TOKENS)
-}
-
-/// Adds the label and the instruction of a statement. Its tokens stand in place of those that there were.
+/// Adds the label and the instruction of a statement, and gives what follows it.
 fn add_statement<'a>(
     places: &mut Places<'a>,
     drafts: &mut Vec<NumberedDraft<'a>>,
-    tokens: &mut Vec<Token<'a>>,
-    statement: &'a [u8],
+    part: &'a [u8],
     line: usize,
-) -> Result<(), TextFault>
-    ensures { (all rest : List Statement)
-        → IsLeft all (statement_of line statement.now ∷ rest) (places_view places.old) (drafts_view drafts.old.items)
+) -> Result<Option<&'a [u8]>, TextFault>
+    ensures leaves { (all rest : List Statement)
+        → IsLeft all ((record { line = line; tokens = words_in part.now }) ∷ rest) (places_view places.old)
+        (drafts_view drafts.old.items)
         → Leaves result all rest (places_view places.new) (drafts_view drafts.new.items) }
+    ensures stops { IfOk result (λ after. StopsAt part.now after) }
 {
-    read_tokens(tokens, statement)?;
-    let (label, instruction) = split_label(tokens.as_slice());
+    let (label, instruction) = split_label(part);
     add_label(places, label, drafts.len(), line)?;
     add_instruction(drafts, instruction, line)
 }
@@ -137,7 +127,6 @@ fn add_statement<'a>(
 pub(crate) fn add_line<'a>(
     places: &mut Places<'a>,
     drafts: &mut Vec<NumberedDraft<'a>>,
-    tokens: &mut Vec<Token<'a>>,
     bytes: &'a [u8],
     line: usize,
 ) -> Result<(), TextFault>
@@ -147,9 +136,7 @@ pub(crate) fn add_line<'a>(
 {
     let mut rest = bytes;
     'statements: loop {
-        let (statement, after) = first_part(rest, b';');
-        add_statement(places, drafts, tokens, statement, line)?;
-        match after {
+        match add_statement(places, drafts, rest, line)? {
             None => return Ok(()),
             Some(next) => rest = next,
         }

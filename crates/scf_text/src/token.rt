@@ -1,12 +1,11 @@
 //! The tokens of a text.
-ghost use Rattle.std.specs.Prelude.{◌≡◌, ◌≢◌, ℕ, ◌+◌, ◌≤◌, ◌<◌, ◌^◌, ◌++◌, ◌∷◌, [], ◌==◌, length, take, drop};
-ghost use Rattle.std.specs.Prelude.{OnOk, OnErr, IfOk, MatchOption, false};
-ghost use Rattle.std.specs.List.{All, position_or_len, prefix_len};
-ghost use Rattle.scf_text.specs.Characters.{is_blank, is_word_byte};
-ghost use Rattle.scf_text.specs.Tokens.{begins_comment, before_comment, lexemes_from, tokens_of};
+ghost use Rattle.std.specs.Prelude.{◌≡◌, ◌≢◌, ℕ, ◌+◌, ◌≤◌, ◌<◌, ◌^◌, ◌++◌, ◌∷◌, [], ◌==◌, not, length, drop};
+ghost use Rattle.std.specs.Prelude.{OnOk, OnErr, IfOk, IfSome, MatchOption};
+ghost use Rattle.std.specs.List.{All, prefix_len};
+ghost use Rattle.scf_text.specs.Characters.{line_feed, is_blank, is_word_byte};
+ghost use Rattle.scf_text.specs.Tokens.{begins_comment, before_comment, lexemes_from, lines_of, tokens_of};
 ghost use Rattle.scf_text.specs.Tokens.{IsSliceOf, lexemes};
-ghost use Rattle.scf_text.specs.internal.Parts.{parts_of, AreFirst};
-ghost use Rattle.scf_text.specs.internal.Views.{HeadIsBlank};
+ghost use Rattle.scf_text.specs.internal.Parts.{lines_after};
 
 use scf_insn::Memory;
 use std::alloc::{AllocError, Global};
@@ -30,45 +29,25 @@ fn is_of_word(byte: u8) -> bool
     byte.is_ascii_alphanumeric() || byte == b'_'
 }
 
-/// How many bytes of a word are in front.
-#[tactic(auto, using(std::proofs::lemmas::List::Sums::prefix_len_is))]
-fn word_len(bytes: &[u8]) -> usize
-    ensures { result ≡ prefix_len is_word_byte bytes.now }
+/// How many bytes are in front of the first line end.
+fn line_len(text: &[u8]) -> usize
+    ensures { result ≡ prefix_len (λ b. not (b == line_feed)) text.now }
 {
-    for (len, byte) in bytes.iter().enumerate() {
-        if !is_of_word(*byte) {
-            return len;
-        }
-    }
-    bytes.len()
+    text.iter().take_while(|byte| **byte != b'\n').count()
 }
 
-/// How many bytes are in front of the first that ends a part.
-#[tactic(auto, using(std::proofs::lemmas::List::Sums::position_or_len_is))]
-fn part_len(bytes: &[u8], end: u8) -> usize
-    ensures { result ≡ position_or_len (λ b. b == end) bytes.now }
+/// The first line, and what follows its end.
+#[tactic(auto, using(crate::proofs::TokenLemmas::line_ends, crate::proofs::TokenLemmas::line_lasts))]
+pub(crate) fn first_line(text: &[u8]) -> (&[u8], Option<&[u8]>)
+    ensures lines { lines_of text.now ≡ result.0.now ∷ lines_after result.1 }
+    ensures len { MatchOption result.1 (result.0.now ≡ text.now)
+        (λ rest. length text.now ≡ length result.0.now + 1 + length rest.now) }
 {
-    for (len, byte) in bytes.iter().enumerate() {
-        if *byte == end {
-            return len;
-        }
-    }
-    bytes.len()
-}
-
-/// The first of the parts that end at this byte, and what follows its end.
-#[tactic(auto, using(crate::proofs::TokenLemmas::part_ends, crate::proofs::TokenLemmas::part_lasts))]
-pub(crate) fn first_part(bytes: &[u8], end: u8) -> (&[u8], Option<&[u8]>)
-    ensures parts { MatchOption result.1 (parts_of end bytes.now ≡ result.0.now ∷ [])
-        (λ rest. parts_of end bytes.now ≡ result.0.now ∷ parts_of end rest.now) }
-    ensures len { MatchOption result.1 (result.0.now ≡ bytes.now)
-        (λ rest. length bytes.now ≡ length result.0.now + 1 + length rest.now) }
-{
-    let len = part_len(bytes, end);
-    if len < bytes.len() {
-        (&bytes[..len], Some(&bytes[len + 1..]))
+    let len = line_len(text);
+    if len < text.len() {
+        (&text[..len], Some(&text[len + 1..]))
     } else {
-        (bytes, None)
+        (text, None)
     }
 }
 
@@ -96,43 +75,66 @@ pub(crate) fn without_comment(line: &[u8]) -> &[u8]
     line
 }
 
-/// How many bytes the token in front has.
-#[tactic(auto, using(crate::proofs::TokenLemmas::token_in_front))]
-fn token_len(bytes: &[u8]) -> usize
-    requires bytes { 0 < length bytes.now }
-    requires shown { HeadIsBlank bytes.now false }
-    ensures some { 0 < result }
+/// How many blanks are in front.
+fn blanks_len(bytes: &[u8]) -> usize
+    ensures value { result ≡ prefix_len is_blank bytes.now }
     ensures within { result ≤ length bytes.now }
-    ensures token { (at : ℕ) → lexemes_from at bytes.now
-        ≡ (record { start = at; text = take result bytes.now }) ∷ lexemes_from (at + result) (drop result bytes.now) }
 {
-    word_len(bytes).max(1)
+    bytes
+        .iter()
+        .take_while(|byte| is_blank_byte(**byte))
+        .count()
 }
 
-/// Adds the tokens of a part of a line, until there are as many as are wanted.
+/// How many bytes of a word are in front.
+fn word_len(bytes: &[u8]) -> usize
+    ensures value { result ≡ prefix_len is_word_byte bytes.now }
+    ensures within { result ≤ length bytes.now }
+{
+    bytes.iter().take_while(|byte| is_of_word(**byte)).count()
+}
+
+/// The first token of a part of a line, whose start counts from that of the part.
+#[tactic(auto, using(crate::proofs::TokenLemmas::token_is, crate::proofs::TokenLemmas::none_is))]
+pub(crate) fn first_token(part: &[u8]) -> Option<Token<'_>>
+    ensures token { MatchOption result ((at : ℕ) → lexemes_from at part.now ≡ []) (λ t. (at : ℕ)
+        → lexemes_from at part.now ≡ (record { start = at + t.start; text = t.text.now })
+        ∷ lexemes_from (at + (t.start + length t.text.now)) (drop (t.start + length t.text.now) part.now)) }
+    ensures some { IfSome result (λ t. 0 < length t.text.now) }
+    ensures within { IfSome result (λ t. t.start + length t.text.now ≤ length part.now) }
+{
+    let start = blanks_len(part);
+    if start == part.len() {
+        return None;
+    }
+    let rest = &part[start..];
+    let len = word_len(rest).max(1);
+    Some(Token {
+        start,
+        text: &rest[..len],
+    })
+}
+
+/// Adds the tokens of a part of a line, which begins at this place.
 pub(crate) fn push_tokens<'a>(
     found: &mut Vec<Token<'a>>,
     start: usize,
     part: &'a [u8],
-    wanted: usize,
 ) -> Result<(), AllocError>
     requires { start + length part.now < 2 ^ 64 }
-    ensures found { OnOk result (AreFirst wanted (lexemes found.old.items ++ lexemes_from start part.now)
-        (lexemes found.new.items)) }
+    ensures found { OnOk result (lexemes found.new.items ≡ lexemes found.old.items ++ lexemes_from start part.now) }
     ensures refused { OnErr result (lexemes_from start part.now ≢ []) }
 {
-    let mut at = 0;
-    while at < part.len() && found.len() < wanted {
-        if is_blank_byte(part[at]) {
-            at += 1;
-        } else {
-            let len = token_len(&part[at..]);
-            found.push(Token {
-                start: start + at,
-                text: &part[at..at + len],
-            })?;
-            at += len;
-        }
+    let mut at = start;
+    let mut rest = part;
+    while let Some(token) = first_token(rest) {
+        let len = token.start + token.text.len();
+        found.push(Token {
+            start: at + token.start,
+            text: token.text,
+        })?;
+        at += len;
+        rest = &rest[len..];
     }
     Ok(())
 }
@@ -142,9 +144,8 @@ pub(crate) fn push_tokens<'a>(
 ///
 /// Each borrows its slice of the text. `Memory` comes where memory was refused, and not where there is no token.
 ///
-/// These are the pieces that `assemble` works on. It looks for a byte that isn't ASCII first, and then takes them
-/// statement by statement. Of each it reads the first eleven at most, since no statement that is longer has a form, and
-/// it keeps them no longer than their statement; this call gives all of them.
+/// These are the pieces that `assemble` works on. It looks for a byte that isn't ASCII first, and then takes them one by
+/// one from the text, and keeps none of them but the names of labels and numbers past 2^64-1.
 #[tactic(auto, unfolding(crate::specs::Tokens::tokens_of))]
 pub fn tokens(alloc: Global, text: &[u8]) -> Result<Vec<Token<'_>>, Memory>
     ensures pieces { IfOk result (λ found. lexemes found.items ≡ tokens_of text.now) }
@@ -155,8 +156,8 @@ pub fn tokens(alloc: Global, text: &[u8]) -> Result<Vec<Token<'_>>, Memory>
     let mut start = 0;
     let mut rest = text;
     'lines: loop {
-        let (line, after) = first_part(rest, b'\n');
-        push_tokens(&mut found, start, without_comment(line), usize::MAX)?;
+        let (line, after) = first_line(rest);
+        push_tokens(&mut found, start, without_comment(line))?;
         match after {
             None => return Ok(found),
             Some(next) => {

@@ -1,18 +1,43 @@
--- Parts of a text.
-use Rattle.std.specs.Prelude.{◌≡◌, ℕ, ◌<◌, ◌==◌, List, [], ◌++◌, length, map}
+-- Parts of a line, which begin in one of its statements.
+use Rattle.std.specs.Prelude.{◌≡◌, ℕ, List, [], ◌∷◌, map, drop, Option, Some, None}
+use Rattle.std.specs.Borrow.{Bor}
 use Rattle.std.specs.List.{slice_split}
-use Rattle.scf_text.specs.Tokens.{Lexeme, lexemes_from}
+use Rattle.scf_text.specs.declared.part.Next.{Next}
+use Rattle.scf_text.specs.declared.part.Next.TheVariants.{Token, End}
+use Rattle.scf_text.specs.Tokens.{Lexeme, lexemes_from, lines_of}
+use Rattle.scf_text.specs.Statements.{is_semicolon}
 
--- the parts that end at this byte, which the last may lack
-abbrev pub parts_of : ℕ → List ℕ → List (List ℕ)
-parts_of end bytes = slice_split (λ b. b == end) bytes
-
--- the texts of the tokens of a part of a line
+-- the texts of the tokens of a part
 abbrev pub words_of_part : List ℕ → List (List ℕ)
 words_of_part part = map (λ (t : Lexeme). t.text) (lexemes_from 0 part)
 
--- What is kept are the first of all, and all of them where they are fewer than the wanted ones.
-pub record AreFirst {A : Type 0} (wanted : ℕ) (all kept : List A) : Type 0 where
-  pub others : List A
-  pub whole : all ≡ kept ++ others
-  pub few : length kept < wanted → others ≡ []
+-- the tokens of the statements, the first of which begins with the part
+abbrev pub statements_in : List ℕ → List (List (List ℕ))
+statements_in part = slice_split is_semicolon (words_of_part part)
+
+abbrev pub first_of : List (List (List ℕ)) → List (List ℕ)
+first_of [] = []
+first_of (s ∷ ss) = s
+
+-- the tokens of the first
+unfoldable pub words_in : List ℕ → List (List ℕ)
+words_in part = first_of (statements_in part)
+
+-- the tokens of the others
+unfoldable pub others_in : List ℕ → List (List (List ℕ))
+others_in part = drop 1 (statements_in part)
+
+-- The first statement is followed by this, or ends the line.
+abbrev pub StopsAt : List ℕ → Option (Bor (List ℕ)) → Type 0
+StopsAt part None = others_in part ≡ []
+StopsAt part (Some rest) = others_in part ≡ words_in rest.now ∷ others_in rest.now
+
+-- A token stands in front and the rest behind it, or the first statement ends.
+abbrev pub IsNext : List ℕ → Next → Type 0
+IsNext part (Token t rest) = (words_in part ≡ t.now ∷ words_in rest.now) × (others_in part ≡ others_in rest.now)
+IsNext part (End rest) = (words_in part ≡ []) × StopsAt part rest
+
+-- the lines behind the first
+abbrev pub lines_after : Option (Bor (List ℕ)) → List (List ℕ)
+lines_after None = []
+lines_after (Some rest) = lines_of rest.now

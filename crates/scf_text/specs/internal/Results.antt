@@ -14,6 +14,7 @@ use Rattle.scf_text.specs.Faults.{IsFault, label_fault, instruction_fault}
 use Rattle.scf_text.specs.Faults.{target_fault, targets_fault, all_targets_fault}
 use Rattle.scf_text.specs.Spelling.{Says, SaysInsn, SaysEach}
 use Rattle.scf_text.specs.Statements.{Places, place_of, labels_of, drafts_of, drafts_by, place_after}
+use Rattle.scf_text.specs.internal.Parts.{StopsAt}
 use Rattle.scf_text.specs.internal.Reading.{with_label}
 use Rattle.scf_text.specs.internal.Views.{draft_view}
 
@@ -44,10 +45,10 @@ TellsText first text (Ok insns) =
 TellsText first text (Err e) = IsFault e first
 
 -- what a mnemonic and its operands say, in a line and behind as many instructions
-abbrev pub TellsDraft : ℕ → ℕ → List ℕ → List (List ℕ) → Result Draft TextFault → Type 0
-TellsDraft at line mnemonic operands (Ok draft) =
-    IsTrue (drafts.is_in_range (draft_view draft)) × (instruction_fault at line (mnemonic ∷ operands) ≡ None)
-    × (drafts.draft_of mnemonic operands ≡ Some (draft_view draft))
+abbrev pub TellsDraft : {T : Type 0} → ℕ → ℕ → List ℕ → List (List ℕ) → Result (Draft × T) TextFault → Type 0
+TellsDraft at line mnemonic operands (Ok read) =
+    IsTrue (drafts.is_in_range (draft_view read.0)) × (instruction_fault at line (mnemonic ∷ operands) ≡ None)
+    × (drafts.draft_of mnemonic operands ≡ Some (draft_view read.0))
 TellsDraft at line mnemonic operands (Err e) = instruction_fault at line (mnemonic ∷ operands) ≡ Some e
 
 -- A label got this place, if there is one.
@@ -64,7 +65,8 @@ AddsInstruction old line tokens (Ok _) new =
 AddsInstruction old line tokens (Err e) new = IsFault e (instruction_fault (length old) line tokens)
 
 -- A mnemonic is known or not, and it says this draft with the tokens behind it, or nothing.
-abbrev pub Reads : Bool → Option drafts.Draft → Reading → Type 0
-Reads known said Unknown = known ≡ false
-Reads known said Unfit = (known ≡ true) × (said ≡ None)
-Reads known said (Said draft) = (known ≡ true) × (said ≡ Some (draft_view draft))
+abbrev pub Reads : Bool → Option drafts.Draft → List ℕ → Reading → Type 0
+Reads known said part Unknown = known ≡ false
+Reads known said part Unfit = (known ≡ true) × (said ≡ None)
+Reads known said part (Said draft after) =
+    (known ≡ true) × (said ≡ Some (draft_view draft)) × StopsAt part after

@@ -1,5 +1,6 @@
 use Rattle.std.proofs.Common.{List, ◌++◌, length}
 use Rattle.scf_text.specs.Statements.{Statement}
+use Rattle.scf_text.specs.internal.Parts.{others_in}
 use Rattle.scf_text.specs.internal.Reading.{IsLeft, line_statements, places_view, drafts_view}
 use Rattle.scf_text.proofs.statement.add_line.Given as goal
 
@@ -9,4 +10,4 @@ invariant-statements l = (all rest : List Statement)
     → IsLeft all (line_statements l.line l.rest ++ rest) (places_view l.places) (drafts_view l.drafts.items)
 
 abbrev pub decreases-statements : goal.decreases-statements
-decreases-statements l = length l.rest
+decreases-statements l = length (others_in l.rest)

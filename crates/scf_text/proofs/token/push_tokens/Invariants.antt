@@ -1,14 +1,13 @@
-use Rattle.std.proofs.Common.{◌≡◌, ◌+◌, ◌-◌, ◌≤◌, ◌++◌, length, drop}
+use Rattle.std.proofs.Common.{◌≡◌, ◌≢◌, ◌+◌, ◌++◌, [], length}
 use Rattle.scf_text.specs.Tokens.{lexemes_from, lexemes}
 use Rattle.scf_text.proofs.token.push_tokens.Given as goal
 
-abbrev pub invariant-loop-at : goal.invariant-loop-at
-invariant-loop-at l = record {
-  more : length l.fn.found.items ≤ length l.found.items;
-  within : l.at ≤ length l.part;
-  rest : lexemes l.found.items ++ lexemes_from (l.start + l.at) (drop l.at l.part) ≡ lexemes l.fn.found.items
-      ++ lexemes_from l.start l.part;
+abbrev pub invariant-loop-token : goal.invariant-loop-token
+invariant-loop-token l = record {
+  place : l.at + length l.rest ≡ l.start + length l.part;
+  told : lexemes l.found.items ++ lexemes_from l.at l.rest ≡ lexemes l.fn.found.items ++ lexemes_from l.start l.part;
+  some : lexemes_from l.at l.rest ≢ [] → lexemes_from l.start l.part ≢ [];
 }
 
-abbrev pub decreases-loop-at : goal.decreases-loop-at
-decreases-loop-at l = length l.part - l.at
+abbrev pub decreases-loop-token : goal.decreases-loop-token
+decreases-loop-token l = length l.rest

@@ -1,30 +1,23 @@
 use Rattle.scf_text.proofs.TokenLemmas.{found_slices, last_tokens, next_tokens}
 use Rattle.std.proofs.Common.{◌∙◌, arith}
 use Rattle.std.proofs.lemmas.Result.{err_from_is_err_and}
-use Rattle.scf_text.specs.Characters.{line_feed}
 use Rattle.scf_text.specs.Tokens.{lexemes}
-use Rattle.scf_text.proofs.ReadLemmas.{some_parts}
-use Rattle.scf_text.proofs.TokenLemmas.{all_found, some_between}
+use Rattle.scf_text.proofs.ReadLemmas.{some_between}
 use Rattle.scf_text.proofs.token.tokens.Goals as goal
 
 pub returns-in_err-push_tokens-clause-refused : goal.returns-in_err-push_tokens-clause-refused
 returns-in_err-push_tokens-clause-refused c =
     let p = err_from_is_err_and c.from_residual.result c.from_residual.ensures.1 in
-    let some =
-    some_parts line_feed c.first_part.result.1 c.lines.rest.now c.first_part.result.0.now c.first_part.ensures.parts in
-    let told = rw some.1 at c.lines.invariant.told in
+    let told = rw c.first_line.ensures.lines at c.lines.invariant.told in
     let refused = rw c.without_comment.ensures.value at c.in_err-push_tokens.ensures.refused in
     rw p.1 (λ none. some_between (lexemes c.lines.found.items) _ _ refused (told ∙ none))
 
 -- the tokens of all lines are found at the last one
 pub returns-in-None-clause-pieces : goal.returns-in-None-clause-pieces
 returns-in-None-clause-pieces c =
-    let line = c.first_part.result.0.now in
-    last_tokens c.args.text.now c.lines.rest.now line c.lines.start c.lines.found.items c.push_tokens.new.found.items
-    c.lines.invariant.told (rw c.in-None.is at c.first_part.ensures.parts)
-    (all_found c.lines.found.items c.push_tokens.new.found.items c.lines.start line c.without_comment.result.now
-    c.in_ok-push_tokens.ensures.found c.without_comment.ensures.value
-    (omega (arith, c.push_tokens.new.found.small, c.push_tokens.new.found.ok)))
+    last_tokens c.args.text.now c.lines.rest.now c.first_line.result.0.now c.lines.start c.lines.found.items
+    c.push_tokens.new.found.items c.lines.invariant.told (rw c.in-None.is at c.first_line.ensures.lines)
+    (rw c.without_comment.ensures.value at c.in_ok-push_tokens.ensures.found)
 
 pub returns-in-None-clause-slices : goal.returns-in-None-clause-slices
 returns-in-None-clause-slices c =
@@ -32,13 +25,11 @@ returns-in-None-clause-slices c =
 
 pub lines-preserved : goal.lines-preserved
 lines-preserved c =
-    let line = c.first_part.result.0.now in
-    let len = rw c.in-Some.is at c.first_part.ensures.len in
+    let len = rw c.in-Some.is at c.first_line.ensures.len in
     record {
       place = omega (arith, len, c.lines.invariant.place);
-      told = next_tokens c.args.text.now c.lines.rest.now line c.in-Some.next.now c.lines.start c.lines.found.items
-          c.push_tokens.new.found.items c.lines.invariant.told (rw c.in-Some.is at c.first_part.ensures.parts)
-          (all_found c.lines.found.items c.push_tokens.new.found.items c.lines.start line c.without_comment.result.now
-          c.in_ok-push_tokens.ensures.found c.without_comment.ensures.value
-          (omega (arith, c.push_tokens.new.found.small, c.push_tokens.new.found.ok)));
+      told = next_tokens c.args.text.now c.lines.rest.now c.first_line.result.0.now c.in-Some.next.now c.lines.start
+          c.lines.found.items c.push_tokens.new.found.items c.lines.invariant.told
+          (rw c.in-Some.is at c.first_line.ensures.lines)
+          (rw c.without_comment.ensures.value at c.in_ok-push_tokens.ensures.found);
     }
