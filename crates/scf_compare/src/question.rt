@@ -1,6 +1,7 @@
 //! Conditions on 64-bit arguments as questions about words.
 
 ghost use Rattle.std.specs.Prelude.{◌≡◌, ◌+◌, ◌*◌, ◌<◌, ◌≤◌, ◌==◌, ℕ, List, bit_and, nat_lt, nat_le, slice_index};
+ghost use Rattle.scf_insn.specs.Kernel.{seccomp_data_args};
 ghost use Rattle.scf_insn.specs.SimpleMask.{IsSimpleMask};
 ghost use Rattle.scf_insn.specs.Words.{IsWords, argument, call_of};
 ghost use Rattle.scf_facts.specs.Atoms.{atom_answer, word_of};
@@ -64,7 +65,7 @@ fn ask(atom: Atom, if_true: Way, if_false: Way) -> Question
 
 /// What a part of a condition asks.
 pub(crate) fn question_of(condition: Condition, part: Part) -> Question
-    requires { condition.index < 6 }
+    requires { condition.index < seccomp_data_args }
     ensures word { word_of result.atom < 16 }
     ensures splits { (words : List ℕ) → IsWords words
         → IsAtPart condition part (argument (call_of words) condition.index)
@@ -82,7 +83,7 @@ pub(crate) fn question_of(condition: Condition, part: Part) -> Question
 }
 
 fn at_high(condition: Condition) -> Question
-    requires { condition.index < 6 }
+    requires { condition.index < seccomp_data_args }
     ensures word { word_of result.atom < 16 }
     ensures splits { (words : List ℕ) → IsWords words
         → Splits condition result words (argument (call_of words) condition.index) }
@@ -109,7 +110,7 @@ fn at_high(condition: Condition) -> Question
 }
 
 fn at_above(condition: Condition) -> Question
-    requires { condition.index < 6 }
+    requires { condition.index < seccomp_data_args }
     ensures word { word_of result.atom < 16 }
     ensures splits { (words : List ℕ) → IsWords words
         → IsAtPart condition Part.Above (argument (call_of words) condition.index)
@@ -134,7 +135,7 @@ fn at_above(condition: Condition) -> Question
 }
 
 fn at_low(condition: Condition) -> Question
-    requires { condition.index < 6 }
+    requires { condition.index < seccomp_data_args }
     ensures word { word_of result.atom < 16 }
     ensures splits { (words : List ℕ) → IsWords words
         → IsAtPart condition Part.Low (argument (call_of words) condition.index)
@@ -169,7 +170,7 @@ impl Half {
     /// The word with this half of an argument.
     #[tactic(auto, using(crate::proofs::Halves::low_of, crate::proofs::Halves::high_of))]
     fn word(self, index: u8) -> u8
-        requires { index < 6 }
+        requires { index < seccomp_data_args }
         ensures word { result < 16 }
         ensures half { (words : List ℕ) → IsWords words
             → slice_index words result ≡ half_of self (argument (call_of words) index) }
@@ -183,7 +184,7 @@ impl Half {
 
 #[tactic(auto, using(crate::proofs::Bits::whole_word, scf_insn::proofs::CallWords::word_below))]
 fn half_is(half: Half, condition: Condition) -> Atom
-    requires { condition.index < 6 }
+    requires { condition.index < seccomp_data_args }
     ensures word { word_of result < 16 }
     ensures answers { (words : List ℕ) → IsWords words
         → atom_answer result words
@@ -198,7 +199,7 @@ fn half_is(half: Half, condition: Condition) -> Atom
 }
 
 fn half_is_under_mask(half: Half, condition: Condition) -> Atom
-    requires { condition.index < 6 }
+    requires { condition.index < seccomp_data_args }
     ensures word { word_of result < 16 }
     ensures answers { (words : List ℕ) → IsWords words
         → atom_answer result words
@@ -214,7 +215,7 @@ fn half_is_under_mask(half: Half, condition: Condition) -> Atom
 }
 
 fn half_is_above(half: Half, condition: Condition) -> Atom
-    requires { condition.index < 6 }
+    requires { condition.index < seccomp_data_args }
     ensures word { word_of result < 16 }
     ensures answers { (words : List ℕ) → IsWords words
         → atom_answer result words
@@ -228,7 +229,7 @@ fn half_is_above(half: Half, condition: Condition) -> Atom
 }
 
 fn half_is_at_least(half: Half, condition: Condition) -> Atom
-    requires { condition.index < 6 }
+    requires { condition.index < seccomp_data_args }
     ensures word { word_of result < 16 }
     ensures answers { (words : List ℕ) → IsWords words
         → atom_answer result words
