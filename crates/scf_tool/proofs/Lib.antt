@@ -7,4 +7,3 @@ mod OptionLemmas
 mod PartyLemmas
 pub mod StackLemmas
 mod CommandLineLemmas
-pub mod Refusals

@@ -9,7 +9,7 @@ use Rattle.clap.proofs.WalkLemmas.{first_value-rows}
 use Rattle.scf_tool.specs.declared.options.NumberOption.{NumberOption as Kept}
 use Rattle.scf_tool.specs.Options.{NumberOption, choice_in, first_wrong, given_of, if_given, is_given, number_by, number_in, one_of}
 use Rattle.scf_tool.specs.Runs.{option_rule, shape_with}
-use Rattle.scf_tool.specs.internal.Parsing.{flags_in, option_of, options_of}
+use Rattle.scf_tool.specs.internal.Parsing.{flags_in, option_of, options_kept}
 
 pub by_value : (f : Found) (o : NumberOption) → number_in (rows_of f) o ≡ number_by o (first_value f o.name)
 by_value f o = ap (number_by o) (sym (first_value-rows f o.name))
@@ -22,17 +22,17 @@ pub none_wrong : (o : NumberOption) (rows : List Row) (n : ℕ) → number_in ro
 none_wrong o rows n some = rw some refl
 
 abbrev pub leaf : List ℕ → List Kept → App
-leaf name options = record { top = shape_with name (options_of options); subs = [] }
+leaf name options = record { top = shape_with name (options_kept options); subs = [] }
 
 -- one more option
 pub leaf_more : (name : List ℕ) (options : List Kept) (i : ℕ) (d : Kept) → i < length options
     → leaf name (take (i + 1) options) ≡ with_rule (leaf name (take i options))
     (option_rule (option_of (get_or options i d)))
 leaf_more name options i d lt =
-    let rules : map option_rule (options_of (take (i + 1) options)) ≡ map option_rule (options_of (take i options))
+    let rules : map option_rule (options_kept (take (i + 1) options)) ≡ map option_rule (options_kept (take i options))
     ++ option_rule (option_of (get_or options i d)) ∷ [] =
     ap (map option_rule) (map_more option_of options i d lt)
-    ∙ map_push option_rule (options_of (take i options)) (option_of (get_or options i d)) in
+    ∙ map_push option_rule (options_kept (take i options)) (option_of (get_or options i d)) in
     ap (λ (rs : List Rule). let moved : App =
     record { top = record (shape_with name []) { rules = rs }; subs = [] } in moved) rules
 

@@ -1,23 +1,22 @@
 -- The parties of a comparison.
-use Rattle.std.proofs.Common.{refl}
+use Rattle.std.proofs.Common.{inr, refl}
 use Rattle.std.specs.Prelude.{ℕ, List, Option}
 use Rattle.scf_insn.specs.declared.insn.Insn.{Insn}
 use Rattle.scf_profile.specs.Profile.{Profile as Answering}
 use Rattle.scf_profile.specs.Table.{Names}
 use Rattle.scf_tool.specs.declared.parties.Parties.{Parties}
-use Rattle.scf_tool.specs.declared.verification.VerifyFault.{VerifyFault}
-use Rattle.scf_tool.specs.declared.verification.VerifyFault.TheVariants.{FilterRead, Check, Stack, TableRead, Table}
-use Rattle.scf_tool.specs.declared.verification.VerifyFault.TheVariants.{ProfileRead, Profile, Memory}
-use Rattle.scf_tool.specs.VerifyingStacks.{AreComparedParties, HasSomeStack, IsRefusedStack}
-use Rattle.scf_tool.specs.internal.Verification.{AreParties, IsUnstated}
+use Rattle.scf_tool.specs.declared.verification.VerifyFault.TheVariants.{Memory}
+use Rattle.scf_tool.specs.VerifyingStacks.{AreComparedParties, IsRefusedStack}
+use Rattle.scf_tool.specs.internal.Verification.{AreParties}
 
 module _ (filters : List (Option (List ℕ))) (table profile : Option (List ℕ)) where
   -- once they are read, only memory can be refused
   pub parties_are_read : (parties : Parties) → AreParties filters table profile parties
       → IsRefusedStack filters table profile Memory
-  parties_are_read parties read = (
-    (parties.stack, read.has_stack),
-    (parties.names, read.is_table, parties.loaded, read.is_loaded),
+  parties_are_read parties read = inr (
+    parties.stack,
+    read.has_stack,
+    inr (parties.names, read.is_table, inr (parties.loaded, read.is_loaded, refl)),
   )
 
   -- and what holds of them is said of their bytes
@@ -35,15 +34,3 @@ module _ (filters : List (Option (List ℕ))) (table profile : Option (List ℕ)
     other_architectures = refl;
     compared = compared;
   }
-
-  -- a stack whose table or profile states nothing
-  pub unstated : (fault : VerifyFault) → HasSomeStack filters → IsUnstated table profile fault
-      → IsRefusedStack filters table profile fault
-  unstated (TableRead why) has h = (has, h)
-  unstated (Table why) has h = (has, h)
-  unstated (ProfileRead why) has h = (has, h.0, h.1)
-  unstated (Profile why) has h = (has, h)
-  unstated (FilterRead why) has h = absurd h
-  unstated (Check why) has h = absurd h
-  unstated (Stack why) has h = absurd h
-  unstated Memory has h = absurd h

@@ -1,24 +1,20 @@
 -- Readers of filters, one after another.
-use Rattle.std.proofs.Common.{◌≡◌, ℕ, ◌+◌, ◌<◌, ◌≤◌, List, [], ◌∷◌, ◌++◌, length, take, drop, set, get_or, map, Option, Some, Result, Err, Bor, refl, subst, sym, ap, ◌∙◌, ◌≢◌, arith, add-one, length-drop}
+use Rattle.std.proofs.Common.{◌≡◌, ℕ, ◌+◌, ◌<◌, ◌≤◌, List, [], ◌∷◌, ◌++◌, length, take, drop, set, get_or, map, Option, Some, Ok, Err, Bor, refl, subst, sym, ap, ◌∙◌, ◌≢◌, arith, add-one, length-drop}
 use Rattle.std.proofs.lemmas.List.{drop_more, take_more, take_more_set, set_split, drop-set-lt, take-append-drop, map-append, length-map}
 use Rattle.std.proofs.lemmas.List.Sums.{sum_by_push}
 use Rattle.scf_insn.specs.declared.insn.Insn.{Insn}
-use Rattle.scf_machine.specs.Stack.{cost_of}
+use Rattle.scf_machine.specs.Stack.{IsPush, cost_of}
 use Rattle.scf_insn.specs.declared.encoding.ReadFault.TheVariants as reads
 use Rattle.scf_insn.specs.Streams.{HasFailed}
 use Rattle.scf_tool.specs.declared.contents.PartReader.{PartReader}
 use Rattle.scf_tool.specs.Verifying.{HasEnded, IsFilter, LeavesFilterReader}
 use Rattle.scf_tool.specs.FilterStacks.{AreFilters, HasStack, HasNoStack, IsNotPushed, HaveEnded, HaveStopped}
-use Rattle.scf_compare.specs.declared.relation.Relation.{Relation}
-use Rattle.scf_tool.specs.declared.reply.Reply.{Reply}
-use Rattle.scf_tool.specs.declared.request.Scopes.{Scopes}
 use Rattle.scf_tool.specs.declared.verification.VerifyFault.{VerifyFault}
 use Rattle.scf_tool.specs.declared.verification.VerifyFault.TheVariants.{FilterRead}
 use Rattle.scf_tool.specs.Bundle.{IsBundle}
-use Rattle.scf_tool.specs.Commands.{IsInputRead, IsCompared, ComparesParts}
+use Rattle.scf_tool.specs.Commands.{HoldsBundle, ReadsInput}
 use Rattle.scf_profile.specs.References.{texts_at}
 use Rattle.scf_tool.specs.internal.Contents.{rest_of}
-use Rattle.scf_tool.specs.internal.Pushing.{PushesFilter}
 
 -- one more filter
 one_more_filter : (filters : List (Option (List ℕ))) (stack : List (List Insn)) (bytes : Option (List ℕ))
@@ -82,17 +78,18 @@ pub record IsStackUpTo {R : Type 0} (remaining : R → Option (List ℕ)) (failu
 -- one more filter is pushed
 pub stack_grows : {R : Type 0} (remaining : R → Option (List ℕ)) (failures : R → ℕ) (i : ℕ) (olds news : List R)
     (old new : R) (stack pushed : List (List Insn)) → SameFrom i olds news old
-    → IsStackUpTo remaining failures i olds news stack → PushesFilter stack (remaining old) pushed
+    → IsStackUpTo remaining failures i olds news stack
+    → ((insns : List Insn) × IsFilter (remaining old) insns × IsPush stack insns (Ok tt) pushed)
     → HasEnded remaining failures old new → IsStackUpTo remaining failures (i + 1) olds (set news i new) pushed
 stack_grows remaining failures i olds news old new stack pushed from upto push end =
-    let accepted = one_more_filter (map remaining (take i olds)) stack (remaining old) push.insns
-    upto.has_stack.accepted push.is_filter in
-    let total : cost_of (stack ++ push.insns ∷ []) ≤ 32768 + 4 =
-    omega (arith, push.total, sum_by_push (λ filter. length filter + 4) stack push.insns) in
+    let accepted = one_more_filter (map remaining (take i olds)) stack (remaining old) push.0
+    upto.has_stack.accepted push.1 in
+    let total : cost_of (stack ++ push.0 ∷ []) ≤ 32768 + 4 =
+    omega (arith, push.2.0, sum_by_push (λ filter. length filter + 4) stack push.0) in
     let told : map remaining (take (i + 1) olds) ≡ map remaining (take i olds) ++ remaining old ∷ [] =
     ap (map remaining) (olds_taken i olds news old from) ∙ map-append remaining (take i olds) (old ∷ []) in
     record {
-      has_stack = rw (told, push.on_top) record { accepted = accepted; total = total };
+      has_stack = rw (told, push.2.1) record { accepted = accepted; total = total };
       ended = rw (olds_taken i olds news old from, take_more_set news i new from.within)
           (one_more_reader remaining failures (take i olds) (take i news) old new upto.ended end);
       same = drop-set-lt (i + 1) news i new (omega arith) ∙ same_behind i olds news old from;
@@ -147,15 +144,16 @@ never_fails {R} remaining fault olds news stopped is =
     let failed : HasFailed 0 0 = leaves.0 refl in
     cc
 
--- a bundle of filters, a profile and a table that come to this
-pub bundle_compared : (told : Option (List ℕ)) (bytes : List ℕ) (over : Scopes) (relation : Relation) (limit : ℕ)
-    (ending : Result Reply VerifyFault) (readers : List PartReader) (profiles tables : List (Bor (List ℕ)))
-    (profile table : List ℕ) → IsInputRead told bytes
+-- a bundle of filters, a profile and a table of which this holds
+pub bundle_compared : (told : Option (List ℕ)) (bytes : List ℕ) (readers : List PartReader)
+    (profiles tables : List (Bor (List ℕ))) (profile table : List ℕ) (holds : List (List ℕ) → List ℕ → List ℕ → Type 0)
+    → ReadsInput told (Ok bytes)
     → IsBundle bytes (map rest_of readers) (texts_at profiles) (texts_at tables)
     → texts_at profiles ≡ profile ∷ [] → texts_at tables ≡ table ∷ [] → 1 ≤ length readers
-    → ComparesParts (map rest_of readers) profile table over relation limit ending
-    → IsCompared over relation limit told ending
-bundle_compared told bytes over relation limit ending readers profiles tables profile table read bundle one other some h = (
+    → holds (map rest_of readers) profile table
+    → (filters : List (List ℕ)) × (one other : List ℕ) × (1 ≤ length filters)
+    × HoldsBundle told filters (one ∷ []) (other ∷ []) × holds filters one other
+bundle_compared told bytes readers profiles tables profile table holds read bundle one other some h = (
   map rest_of readers,
   profile,
   table,

@@ -1,13 +1,12 @@
 -- What is true of standard input where a command ends with a reply or a fault. The bytes of the input count where its
 -- reader tells them.
-use Rattle.std.specs.Prelude.{◌≡◌, ◌≢◌, ◌<◌, ◌≤◌, ℕ, List, [], ◌∷◌, length, map, Option, Some, Result, Ok, Err, IfSome}
+use Rattle.std.specs.Prelude.{◌≡◌, ◌≢◌, ◌<◌, ◌≤◌, ℕ, List, [], ◌∷◌, length, map, Option, Some, Result, Ok, Err}
 use Rattle.scf_insn.specs.declared.encoding.ReadFault.TheVariants as reads
 use Rattle.scf_insn.specs.declared.input.InputFault.{InputFault}
 use Rattle.scf_insn.specs.declared.input.InputFault.TheVariants as inputs
 use Rattle.scf_insn.specs.declared.insn.Insn.{Insn}
 use Rattle.scf_insn.specs.declared.record.CallRecord.{CallRecord}
 use Rattle.scf_insn.specs.Insn.{program_bytes}
-use Rattle.scf_insn.specs.Readings.{IsInput, IsReading}
 use Rattle.scf_insn.specs.Words.{words_of}
 use Rattle.scf_machine.specs.Machine.{IsRun, RunAnswers}
 use Rattle.scf_machine.specs.Path.{IsPathOf}
@@ -18,7 +17,6 @@ use Rattle.scf_text.specs.Spelling as spelling
 use Rattle.scf_profile.specs.declared.loaded.Loaded.{Loaded}
 use Rattle.scf_profile.specs.declared.table_fault.TableFault.TheVariants as tables
 use Rattle.scf_profile.specs.Loading.{Loads, Refuses}
-use Rattle.scf_profile.specs.declared.reason.Reason.{Reason}
 use Rattle.scf_profile.specs.ProfileAnswers.{ProfileAnswers}
 use Rattle.scf_profile.specs.Reasons.{IsReason}
 use Rattle.scf_profile.specs.SameAnswers.{SameAnswers}
@@ -30,14 +28,12 @@ use Rattle.scf_tool.specs.declared.fault.Fault.TheVariants as faults
 use Rattle.scf_compare.specs.declared.relation.Relation.{Relation}
 use Rattle.scf_compare.specs.declared.scope.Scope.{Scope}
 use Rattle.scf_compare.specs.declared.scope.Scope.TheVariants as scopes
-use Rattle.scf_tool.specs.declared.call_verification.CallsOutcome.{CallsOutcome}
 use Rattle.scf_tool.specs.declared.reply.Reply.{Reply}
 use Rattle.scf_tool.specs.declared.reply.Reply.TheVariants.{Accepted, Ran, Decided, Asked, Bytes, Compared}
 use Rattle.scf_tool.specs.declared.request.Request.{Request}
 use Rattle.scf_tool.specs.declared.request.Request.TheVariants as requests
 use Rattle.scf_tool.specs.declared.request.Scopes.{Scopes}
 use Rattle.scf_tool.specs.declared.request.Scopes.TheVariants.{All, Native, EachCall}
-use Rattle.scf_tool.specs.declared.verification.Outcome.{Outcome}
 use Rattle.scf_tool.specs.declared.verification.VerifyFault.{VerifyFault}
 use Rattle.scf_tool.specs.declared.verification.VerifyFault.TheVariants as verifies
 use Rattle.scf_tool.specs.declared.status.Status.{Status}
@@ -47,7 +43,7 @@ use Rattle.scf_tool.specs.Lines.{traced_text}
 use Rattle.scf_tool.specs.FilterStacks.{HasStack, HasNoStack}
 use Rattle.scf_tool.specs.Reports.{report_text}
 use Rattle.scf_tool.specs.Statuses.{joint_status, verdict_status}
-use Rattle.scf_tool.specs.Verifying.{IsFilter, IsNoFilter}
+use Rattle.scf_tool.specs.Verifying.{IsFilter, IsNoFilter, ReadsFilter, ReadsUnder}
 use Rattle.scf_tool.specs.VerifyingCalls.{AreVerifiedCalls}
 use Rattle.scf_tool.specs.VerifyingStacks.{IsRefusedStack, IsVerifiedBy}
 
@@ -57,62 +53,49 @@ use Rattle.scf_tool.specs.VerifyingStacks.{IsRefusedStack, IsVerifiedBy}
 abbrev pub max_input_len : ℕ
 max_input_len = 16777216
 
--- these are the bytes of the input, few enough
-abbrev pub IsInputRead : Option (List ℕ) → List ℕ → Type 0
-IsInputRead told bytes = IfSome told (λ all. (all ≡ bytes) × (length all ≤ max_input_len))
-
--- why the input isn't read
-abbrev pub IsUnreadInput : Option (List ℕ) → InputFault → Type 0
-IsUnreadInput told fault = IfSome told (λ all. IsInput (λ (read : List ℕ). read) max_input_len all (Err fault))
+-- what the input is read as: its bytes, or why they aren't read
+abbrev pub ReadsInput : Option (List ℕ) → Result (List ℕ) InputFault → Type 0
+ReadsInput told result = ReadsUnder max_input_len told result
 
 -- The input is a bundle whose parts hold these filters, these profiles and these tables.
 abbrev pub HoldsBundle : Option (List ℕ) → List (List ℕ) → List (List ℕ) → List (List ℕ) → Type 0
 HoldsBundle told filters profiles tables =
-    (bytes : List ℕ) × IsInputRead told bytes × IsBundle bytes filters profiles tables
+    (bytes : List ℕ) × ReadsInput told (Ok bytes) × IsBundle bytes filters profiles tables
 
--- The input is a bundle, but the counts of its filters, profiles and tables aren't such.
-abbrev pub HoldsOthers : Option (List ℕ) → (ℕ → ℕ → ℕ → Type 0) → Type 0
-HoldsOthers told counts =
+-- What a command ends with that takes a bundle: the input isn't read, it is no bundle, the counts of its filters,
+-- profiles and tables aren't such, or this holds of the end.
+abbrev pub EndsOnBundle : Option (List ℕ) → (ℕ → ℕ → ℕ → Type 0) → (Result Reply Fault → Type 0)
+    → Result Reply Fault → Type 0
+EndsOnBundle told counts holds (Err (faults.Input fault)) = ReadsInput told (Err fault)
+EndsOnBundle told counts holds (Err (faults.Bundle fault)) =
+    (bytes : List ℕ) × ReadsInput told (Ok bytes) × IsBundleFault bytes fault
+EndsOnBundle told counts holds (Err faults.Parts) =
     (filters profiles tables : List (List ℕ)) × HoldsBundle told filters profiles tables
     × (counts (length filters) (length profiles) (length tables) → ⊥)
-
--- why the input is no bundle of parts that a command takes, by their counts
-abbrev pub IsNoBundle : Option (List ℕ) → (ℕ → ℕ → ℕ → Type 0) → Fault → Type 0
-IsNoBundle told counts (faults.Input fault) = IsUnreadInput told fault
-IsNoBundle told counts (faults.Bundle fault) = (bytes : List ℕ) × IsInputRead told bytes × IsBundleFault bytes fault
-IsNoBundle told counts faults.Parts = HoldsOthers told counts
-IsNoBundle told counts fault = ⊥
+EndsOnBundle told counts holds ending = holds ending
 
 -- ---- one filter
 
--- `check`: the input is an accepted filter, of so many instructions
-abbrev pub Checks : Option (List ℕ) → Result Reply Fault → Type 0
-Checks told (Ok (Accepted count)) = (insns : List Insn) × IsFilter told insns × (count ≡ length insns)
-Checks told (Err (faults.Verify fault)) = IsNoFilter told fault
-Checks told ending = ⊥
-
--- `run`: the answer of the accepted filter to the call, and the length of its run
-abbrev pub Runs : CallRecord → Option (List ℕ) → Result Reply Fault → Type 0
-Runs call told (Ok (Ran ran)) =
-    (insns : List Insn) × IsFilter told insns × IsRun insns (words_of call) ran.answer.0 ran.steps
-Runs call told (Err (faults.Verify fault)) = IsNoFilter told fault
-Runs call told ending = ⊥
-
--- `run --path`: the answer and the length of the run, and the places of the instructions on its way
-abbrev pub Traces : CallRecord → Option (List ℕ) → Result Reply Fault → Type 0
-Traces call told (Ok (Bytes bytes)) =
-    (insns : List Insn) × IsFilter told insns × (answer : ℕ) × (places : List ℕ)
+-- What is replied of an accepted filter to `check`, the count of its instructions; to `run`, its answer to the call and
+-- the length of its run; to `run --path`, these and the places of the instructions on its way.
+abbrev pub IsReplyOn : Request → List Insn → Reply → Type 0
+IsReplyOn requests.Check insns (Accepted count) = count ≡ length insns
+IsReplyOn (requests.Run call) insns (Ran ran) = IsRun insns (words_of call) ran.answer.0 ran.steps
+IsReplyOn (requests.Trace call) insns (Bytes bytes) = (answer : ℕ) × (places : List ℕ)
     × IsPathOf insns (words_of call) answer places × (bytes.items ≡ traced_text answer places)
-Traces call told (Err (faults.Verify fault)) = IsNoFilter told fault
-Traces call told ending = ⊥
+IsReplyOn request insns reply = ⊥
+
+-- what these end with: the reply is true of an accepted filter, or it isn't accepted
+abbrev pub EndsOnFilter : Request → Option (List ℕ) → Result Reply Fault → Type 0
+EndsOnFilter request told (Ok reply) = (insns : List Insn) × IsFilter told insns × IsReplyOn request insns reply
+EndsOnFilter request told (Err (faults.Verify fault)) = IsNoFilter told fault
+EndsOnFilter request told (Err fault) = ⊥
 
 -- `dis`: the listing of the instructions whose bytes the input is
 abbrev pub Lists : Option (List ℕ) → Result Reply Fault → Type 0
 Lists told (Ok (Bytes bytes)) =
-    (insns : List Insn) × IfSome told (λ all. IsReading (λ (read : List Insn). read) all (Ok insns))
-    × (bytes.items ≡ text_of insns)
-Lists told (Err (faults.Verify (verifies.FilterRead fault))) =
-    IfSome told (λ all. IsReading (λ (read : List Insn). read) all (Err fault))
+    (insns : List Insn) × ReadsFilter told (Ok insns) × (bytes.items ≡ text_of insns)
+Lists told (Err (faults.Verify (verifies.FilterRead fault))) = ReadsFilter told (Err fault)
 Lists told ending = ⊥
 
 -- ---- a text
@@ -120,28 +103,13 @@ Lists told ending = ⊥
 -- `asm`: the bytes of the instructions that the input spells
 abbrev pub Assembles : Option (List ℕ) → Result Reply Fault → Type 0
 Assembles told (Ok (Bytes bytes)) =
-    (text : List ℕ) × IsInputRead told text × (insns : List Insn)
+    (text : List ℕ) × ReadsInput told (Ok text) × (insns : List Insn)
     × spelling.Spells text insns × (bytes.items ≡ program_bytes insns)
-Assembles told (Err (faults.Input fault)) = IsUnreadInput told fault
-Assembles told (Err (faults.Text fault)) = (text : List ℕ) × IsInputRead told text × IsFault fault (fault_of text)
+Assembles told (Err (faults.Input fault)) = ReadsInput told (Err fault)
+Assembles told (Err (faults.Text fault)) = (text : List ℕ) × ReadsInput told (Ok text) × IsFault fault (fault_of text)
 Assembles told ending = ⊥
 
 -- ---- a stack of filters
-
-abbrev pub AreFiltersAlone : ℕ → ℕ → ℕ → Type 0
-AreFiltersAlone filters profiles tables = (profiles ≡ 0) × (tables ≡ 0)
-
--- The input is a bundle of filters, which are a stack that answers the call so.
-pub record IsStackAnswer (call : CallRecord) (told : Option (List ℕ)) (answer : ℕ) : Type 0 where
-  pub filters : List (List ℕ)
-  pub bundle : HoldsBundle told filters [] []
-  pub stack : List (List Insn)
-  pub has_stack : HasStack (map Some filters) stack
-  pub answers : StackAnswers stack (words_of call) answer
-
--- The input is a bundle of filters, but no stack.
-abbrev pub IsNoStack : Option (List ℕ) → VerifyFault → Type 0
-IsNoStack told fault = (filters : List (List ℕ)) × HoldsBundle told filters [] [] × HasNoStack (map Some filters) fault
 
 -- No read of a filter, a table or a profile failed: they are parts of a bundle that was read before.
 pub record NoReadFailed (fault : VerifyFault) : Type 0 where
@@ -149,17 +117,24 @@ pub record NoReadFailed (fault : VerifyFault) : Type 0 where
   pub of_table : fault ≢ verifies.TableRead inputs.Read
   pub of_profile : fault ≢ verifies.ProfileRead inputs.Read
 
--- `decide`: the answer of the stack to the call
-abbrev pub Decides : CallRecord → Option (List ℕ) → Result Reply Fault → Type 0
-Decides call told (Ok (Decided answer)) = IsStackAnswer call told answer.0
-Decides call told (Err (faults.Verify fault)) = NoReadFailed fault × IsNoStack told fault
-Decides call told (Err fault) = IsNoBundle told AreFiltersAlone fault
-Decides call told ending = ⊥
+-- `decide`: the answer to the call of the stack that the filters are
+abbrev pub DecidesCall : CallRecord → List (List ℕ) → Result Reply Fault → Type 0
+DecidesCall call filters (Ok (Decided answer)) =
+    (stack : List (List Insn)) × HasStack (map Some filters) stack × StackAnswers stack (words_of call) answer.0
+DecidesCall call filters (Err (faults.Verify fault)) = NoReadFailed fault × HasNoStack (map Some filters) fault
+DecidesCall call filters ending = ⊥
+
+-- They are all that the bundle holds.
+abbrev pub EndsOnFilters : Option (List ℕ) → (List (List ℕ) → Result Reply Fault → Type 0) → Result Reply Fault → Type 0
+EndsOnFilters told holds = EndsOnBundle told (λ filters profiles tables. (profiles ≡ 0) × (tables ≡ 0))
+    (λ ending. (filters : List (List ℕ)) × HoldsBundle told filters [] [] × holds filters ending)
 
 -- ---- a profile
 
-abbrev pub IsProfileWithTable : ℕ → ℕ → ℕ → Type 0
-IsProfileWithTable filters profiles tables = (filters ≡ 0) × (profiles ≡ 1) × (tables ≡ 1)
+-- A profile and a table are all that the bundle holds.
+abbrev pub EndsOnProfile : Option (List ℕ) → (List ℕ → List ℕ → Result Reply Fault → Type 0) → Result Reply Fault → Type 0
+EndsOnProfile told holds = EndsOnBundle told (λ filters profiles tables. (filters ≡ 0) × (profiles ≡ 1) × (tables ≡ 1))
+    (λ ending. (profile table : List ℕ) × HoldsBundle told [] (profile ∷ []) (table ∷ []) × holds profile table ending)
 
 -- The table and the profile are read, and state this.
 pub record IsStated (profile table : List ℕ) (loaded : Loaded) : Type 0 where
@@ -183,118 +158,68 @@ pub record IsFilterOfProfile (profile table bytes : List ℕ) : Type 0 where
   pub is_filter : IsFilter (Some bytes) insns
   pub same : SameAnswers (RunAnswers insns) loaded.profile
 
--- the input is a bundle of a profile and a table, and these bytes are a filter of theirs
-abbrev pub IsCompiled : Option (List ℕ) → List ℕ → Type 0
-IsCompiled told bytes =
-    (profile table : List ℕ) × HoldsBundle told [] (profile ∷ []) (table ∷ []) × IsFilterOfProfile profile table bytes
-
--- The input is a bundle of a profile and a table, and the profile answers the call so, for this reason.
-pub record IsAsked (call : CallRecord) (told : Option (List ℕ)) (answer : ℕ) (reason : Reason) : Type 0 where
-  pub profile : List ℕ
-  pub table : List ℕ
-  pub bundle : HoldsBundle told [] (profile ∷ []) (table ∷ [])
-  pub loaded : Loaded
-  pub stated : IsStated profile table loaded
-  pub answers : ProfileAnswers loaded.profile call answer
-  pub has_reason : IsReason loaded.profile call reason
-
--- The input is a bundle of a profile and a table that state nothing.
-abbrev pub IsNotLoaded : Option (List ℕ) → VerifyFault → Type 0
-IsNotLoaded told fault =
-    (profile table : List ℕ) × HoldsBundle told [] (profile ∷ []) (table ∷ []) × CantLoad profile table fault
+-- `compile`: the filter of the profile
+abbrev pub Compiles : List ℕ → List ℕ → Result Reply Fault → Type 0
+Compiles profile table (Ok (Bytes bytes)) = IsFilterOfProfile profile table bytes.items
+Compiles profile table (Err (faults.Verify fault)) = CantLoad profile table fault
+Compiles profile table (Err (faults.Compile fault)) = (loaded : Loaded) × IsStated profile table loaded
+    × (fault ≡ compiles.TooLarge → 4096 < size_bound_of loaded.profile)
+Compiles profile table ending = ⊥
 
 -- `ask`: the answer of the profile to the call, and why
-abbrev pub GivesReason : CallRecord → Option (List ℕ) → Result Reply Fault → Type 0
-GivesReason call told (Ok (Asked answer reason)) = IsAsked call told answer.0 reason
-GivesReason call told (Err (faults.Verify fault)) = IsNotLoaded told fault
-GivesReason call told (Err fault) = IsNoBundle told IsProfileWithTable fault
-GivesReason call told ending = ⊥
-
--- why a profile and a table aren't compiled
-abbrev pub CantCompile : List ℕ → List ℕ → Fault → Type 0
-CantCompile profile table (faults.Verify fault) = CantLoad profile table fault
-CantCompile profile table (faults.Compile fault) =
-    (loaded : Loaded) × IsStated profile table loaded
-    × (fault ≡ compiles.TooLarge → 4096 < size_bound_of loaded.profile)
-CantCompile profile table fault = ⊥
-
--- The input is a bundle of a profile and a table that aren't compiled.
-abbrev pub IsNotCompiled : Option (List ℕ) → Fault → Type 0
-IsNotCompiled told fault =
-    (profile table : List ℕ) × HoldsBundle told [] (profile ∷ []) (table ∷ []) × CantCompile profile table fault
-
--- `compile`: the filter of the profile
-abbrev pub Compiles : Option (List ℕ) → Result Reply Fault → Type 0
-Compiles told (Ok (Bytes bytes)) = IsCompiled told bytes.items
-Compiles told (Err (faults.Verify fault)) = IsNotCompiled told (faults.Verify fault)
-Compiles told (Err (faults.Compile fault)) = IsNotCompiled told (faults.Compile fault)
-Compiles told (Err fault) = IsNoBundle told IsProfileWithTable fault
-Compiles told ending = ⊥
+abbrev pub GivesReason : CallRecord → List ℕ → List ℕ → Result Reply Fault → Type 0
+GivesReason call profile table (Ok (Asked answer reason)) = (loaded : Loaded) × IsStated profile table loaded
+    × ProfileAnswers loaded.profile call answer.0 × IsReason loaded.profile call reason
+GivesReason call profile table (Err (faults.Verify fault)) = CantLoad profile table fault
+GivesReason call profile table ending = ⊥
 
 -- ---- a comparison
 
-abbrev pub AreCompared : ℕ → ℕ → ℕ → Type 0
-AreCompared filters profiles tables = (1 ≤ filters) × (profiles ≡ 1) × (tables ≡ 1)
-
--- The text is the report of the outcome of filters, a profile and a table over the calls of a scope and by a relation,
--- and the status goes with its verdict.
-pub record IsReportedIn (scope : Scope) (relation : Relation) (filters : List (List ℕ)) (profile table : List ℕ)
-    (limit : ℕ) (text : List ℕ) (status : Status) : Type 0 where
-  pub outcome : Outcome
-  pub verified : IsVerifiedBy relation (map Some filters) (Some table) (Some profile) scope limit outcome
-  pub reported : text ≡ report_text relation outcome
-  pub with_verdict : status ≡ verdict_status outcome.verdict
-
--- The text is the report of the outcome of filters, a profile and a table call by call and by a relation, and the
--- status goes with the verdict that speaks for the calls.
-pub record IsReportedByCall (relation : Relation) (filters : List (List ℕ)) (profile table : List ℕ) (limit : ℕ)
+-- The text is the report of an outcome of which this holds, and the status goes with it.
+pub record IsReportOf {O : Type 0} (holds : O → Type 0) (report : O → List ℕ) (status_of : O → Status)
     (text : List ℕ) (status : Status) : Type 0 where
-  pub outcome : CallsOutcome
-  pub verified : AreVerifiedCalls relation (map Some filters) (Some table) (Some profile) limit outcome
-  pub reported : text ≡ calls_text relation outcome
-  pub with_verdict : status ≡ joint_status (joint_of outcome.calls.items)
+  pub outcome : O
+  pub verified : holds outcome
+  pub reported : text ≡ report outcome
+  pub with_verdict : status ≡ status_of outcome
 
+-- over the calls of a scope
+abbrev pub IsReportedIn : Scope → Relation → List (List ℕ) → List ℕ → List ℕ → ℕ → List ℕ → Status → Type 0
+IsReportedIn scope relation filters profile table limit =
+    IsReportOf (IsVerifiedBy relation (map Some filters) (Some table) (Some profile) scope limit) (report_text relation)
+    (λ outcome. verdict_status outcome.verdict)
+
+-- call by call, with the status of the verdict that speaks for the calls
 abbrev pub IsReported : Scopes → Relation → List (List ℕ) → List ℕ → List ℕ → ℕ → List ℕ → Status → Type 0
-IsReported All = IsReportedIn scopes.All
-IsReported Native = IsReportedIn scopes.Native
-IsReported EachCall = IsReportedByCall
+IsReported All relation filters profile table limit = IsReportedIn scopes.All relation filters profile table limit
+IsReported Native relation filters profile table limit = IsReportedIn scopes.Native relation filters profile table limit
+IsReported EachCall relation filters profile table limit =
+    IsReportOf (AreVerifiedCalls relation (map Some filters) (Some table) (Some profile) limit) (calls_text relation)
+    (λ outcome. joint_status (joint_of outcome.calls.items))
 
--- filters, a profile and a table come to a report, or are refused
-abbrev pub EndsInReport : (List ℕ → Status → Type 0) → List (List ℕ) → List ℕ → List ℕ
-    → Result Reply VerifyFault → Type 0
-EndsInReport reported filters profile table (Ok (Compared text status)) = reported text.items status
-EndsInReport reported filters profile table (Err fault) =
+-- what filters, a profile and a table come to: a report, or why they aren't compared
+abbrev pub ComparesParts : Scopes → Relation → ℕ → List (List ℕ) → List ℕ → List ℕ → Result Reply Fault → Type 0
+ComparesParts over relation limit filters profile table (Ok (Compared text status)) =
+    IsReported over relation filters profile table limit text.items status
+ComparesParts over relation limit filters profile table (Err (faults.Verify fault)) =
     NoReadFailed fault × IsRefusedStack (map Some filters) (Some table) (Some profile) fault
-EndsInReport reported filters profile table reply = ⊥
+ComparesParts over relation limit filters profile table ending = ⊥
 
--- what filters, a profile and a table come to
-abbrev pub ComparesParts : List (List ℕ) → List ℕ → List ℕ → Scopes → Relation → ℕ → Result Reply VerifyFault → Type 0
-ComparesParts filters profile table over relation limit ending =
-    EndsInReport (IsReported over relation filters profile table limit) filters profile table ending
-
--- the input is a bundle of one filter or more, a profile and a table, which come to this
-abbrev pub IsCompared : Scopes → Relation → ℕ → Option (List ℕ) → Result Reply VerifyFault → Type 0
-IsCompared over relation limit told ending =
-    (filters : List (List ℕ)) × (profile table : List ℕ) × (1 ≤ length filters)
-    × HoldsBundle told filters (profile ∷ []) (table ∷ [])
-    × ComparesParts filters profile table over relation limit ending
-
--- `compare`: the report of the comparison
+-- `compare`: the report of the comparison, where one filter or more, a profile and a table are all that the bundle holds
 abbrev pub Compares : Scopes → Relation → ℕ → Option (List ℕ) → Result Reply Fault → Type 0
-Compares over relation limit told (Ok reply) = IsCompared over relation limit told (Ok reply)
-Compares over relation limit told (Err (faults.Verify fault)) = IsCompared over relation limit told (Err fault)
-Compares over relation limit told (Err fault) = IsNoBundle told AreCompared fault
+Compares over relation limit told =
+    EndsOnBundle told (λ filters profiles tables. (1 ≤ filters) × (profiles ≡ 1) × (tables ≡ 1))
+    (λ ending. (filters : List (List ℕ)) × (profile table : List ℕ) × (1 ≤ length filters)
+    × HoldsBundle told filters (profile ∷ []) (table ∷ []) × ComparesParts over relation limit filters profile table ending)
 
 -- ---- all commands
 
 -- what a request ends with is true of the input
 abbrev pub IsTrueReply : Request → Option (List ℕ) → Result Reply Fault → Type 0
-IsTrueReply (requests.Ask call) told ending = GivesReason call told ending
-IsTrueReply requests.Assemble told ending = Assembles told ending
-IsTrueReply requests.Check told ending = Checks told ending
-IsTrueReply (requests.Compare limit over relation) told ending = Compares over relation limit told ending
-IsTrueReply requests.Compile told ending = Compiles told ending
-IsTrueReply (requests.Decide call) told ending = Decides call told ending
-IsTrueReply requests.List told ending = Lists told ending
-IsTrueReply (requests.Run call) told ending = Runs call told ending
-IsTrueReply (requests.Trace call) told ending = Traces call told ending
+IsTrueReply (requests.Ask call) told = EndsOnProfile told (GivesReason call)
+IsTrueReply requests.Assemble told = Assembles told
+IsTrueReply (requests.Compare limit over relation) told = Compares over relation limit told
+IsTrueReply requests.Compile told = EndsOnProfile told Compiles
+IsTrueReply (requests.Decide call) told = EndsOnFilters told (DecidesCall call)
+IsTrueReply requests.List told = Lists told
+IsTrueReply request told = EndsOnFilter request told

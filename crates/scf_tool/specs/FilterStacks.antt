@@ -1,5 +1,5 @@
 -- The stacks of filters that readers have, the oldest first. The bytes of each reader count where it tells them.
-use Rattle.std.specs.Prelude.{◌≡◌, ◌≤◌, ◌+◌, ◌++◌, ℕ, List, [], ◌∷◌, Option, Result, Ok, Err}
+use Rattle.std.specs.Prelude.{◌≡◌, ◌≤◌, ◌+◌, ◌++◌, ℕ, List, [], ◌∷◌, Option, Err}
 use Rattle.scf_insn.specs.declared.insn.Insn.{Insn}
 use Rattle.scf_insn.specs.Kernel.{max_insns_per_path}
 use Rattle.scf_machine.specs.Stack.{IsPush, cost_of}
@@ -13,8 +13,7 @@ use Rattle.scf_tool.specs.Verifying.{HasEnded, IsFilter, IsNoFilter, LeavesFilte
 abbrev pub AreFilters : List (Option (List ℕ)) → List (List Insn) → Type 0
 AreFilters [] [] = Unit {0}
 AreFilters (bytes ∷ rest) (insns ∷ others) = IsFilter bytes insns × AreFilters rest others
-AreFilters [] (insns ∷ others) = ⊥
-AreFilters (bytes ∷ rest) [] = ⊥
+AreFilters filters stack = ⊥
 
 -- These are the bytes of accepted filters, few enough for a stack: the 4 of the newest are no part of its total.
 pub record HasStack (filters : List (Option (List ℕ))) (stack : List (List Insn)) : Type 0 where
@@ -39,27 +38,22 @@ pub record HasNoStack (filters : List (Option (List ℕ))) (fault : VerifyFault)
 
 -- ---- the readers
 
-module _ {R : Type 0} (remaining : R → Option (List ℕ)) (failures : R → ℕ) where
-  -- each reader came to its end, and didn't fail
-  abbrev pub HaveEnded : List R → List R → Type 0
-  HaveEnded [] [] = Unit {0}
-  HaveEnded (old ∷ olds) (new ∷ news) = HasEnded remaining failures old new × HaveEnded olds news
-  HaveEnded [] (new ∷ news) = ⊥
-  HaveEnded (old ∷ olds) [] = ⊥
+-- each reader came to its end, and didn't fail
+abbrev pub HaveEnded : {R : Type 0} → (R → Option (List ℕ)) → (R → ℕ) → List R → List R → Type 0
+HaveEnded remaining failures [] [] = Unit {0}
+HaveEnded remaining failures (old ∷ olds) (new ∷ news) =
+    HasEnded remaining failures old new × HaveEnded remaining failures olds news
+HaveEnded remaining failures olds news = ⊥
 
-  -- The readers before one have ended, this one is left so, and those behind it aren't asked.
-  pub record HaveStopped (fault : VerifyFault) (olds news : List R) : Type 0 where
-    pub before : List R
-    pub before_new : List R
-    pub old : R
-    pub new : R
-    pub behind : List R
-    pub olds_are : olds ≡ before ++ old ∷ behind
-    pub news_are : news ≡ before_new ++ new ∷ behind
-    pub ended : HaveEnded before before_new
-    pub left : LeavesFilterReader {T = List Insn} remaining failures old (Err fault) new
-
-  -- how the readers of a stack's filters are left
-  abbrev pub LeavesReaders : {T : Type 0} → List R → Result T VerifyFault → List R → Type 0
-  LeavesReaders olds (Ok stack) news = HaveEnded olds news
-  LeavesReaders olds (Err fault) news = HaveStopped fault olds news
+-- The readers before one have ended, this one is left so, and those behind it aren't asked.
+pub record HaveStopped {R : Type 0} (remaining : R → Option (List ℕ)) (failures : R → ℕ) (fault : VerifyFault)
+    (olds news : List R) : Type 0 where
+  pub before : List R
+  pub before_new : List R
+  pub old : R
+  pub new : R
+  pub behind : List R
+  pub olds_are : olds ≡ before ++ old ∷ behind
+  pub news_are : news ≡ before_new ++ new ∷ behind
+  pub ended : HaveEnded remaining failures before before_new
+  pub left : LeavesFilterReader {T = List Insn} remaining failures old (Err fault) new

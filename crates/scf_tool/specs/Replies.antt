@@ -6,27 +6,16 @@ use Rattle.scf_tool.specs.declared.reply.Reply.{Reply}
 use Rattle.scf_tool.specs.declared.reply.Reply.TheVariants.{CommandLine, Accepted, Ran, Decided, Asked, Bytes, Compared}
 use Rattle.scf_tool.specs.declared.status.Status.{Status}
 use Rattle.scf_tool.specs.declared.status.Status.TheVariants.{Well}
-use Rattle.scf_tool.specs.Faults.{fault_line, fault_status}
+use Rattle.scf_tool.specs.Faults.{printed_fault}
 use Rattle.scf_tool.specs.Lines.{answer_text, reason_text, steps_text}
 
--- the text that a run ends with
-abbrev pub ending_text : Result Reply Fault → List ℕ
-ending_text (Ok (CommandLine text status)) = string_bytes text
-ending_text (Ok (Accepted count)) = codes "accepted " ++ decimal count ++ codes "\n"
-ending_text (Ok (Ran ran)) = answer_text ran.answer.0 ++ steps_text ran.steps
-ending_text (Ok (Decided answer)) = answer_text answer.0 ++ codes "\n"
-ending_text (Ok (Asked answer reason)) = answer_text answer.0 ++ reason_text reason
-ending_text (Ok (Bytes bytes)) = bytes.items
-ending_text (Ok (Compared text status)) = text.items
-ending_text (Err fault) = fault_line fault
-
--- the exit status that goes with it
-abbrev pub ending_status : Result Reply Fault → Status
-ending_status (Ok (CommandLine text status)) = status
-ending_status (Ok (Accepted count)) = Well
-ending_status (Ok (Ran ran)) = Well
-ending_status (Ok (Decided answer)) = Well
-ending_status (Ok (Asked answer reason)) = Well
-ending_status (Ok (Bytes bytes)) = Well
-ending_status (Ok (Compared text status)) = status
-ending_status (Err fault) = fault_status fault
+-- the exit status of a run that ends so, and its text
+abbrev pub printed : Result Reply Fault → Status × List ℕ
+printed (Ok (CommandLine text status)) = (status, string_bytes text)
+printed (Ok (Accepted count)) = (Well, codes "accepted " ++ decimal count ++ codes "\n")
+printed (Ok (Ran ran)) = (Well, answer_text ran.answer.0 ++ steps_text ran.steps)
+printed (Ok (Decided answer)) = (Well, answer_text answer.0 ++ codes "\n")
+printed (Ok (Asked answer reason)) = (Well, answer_text answer.0 ++ reason_text reason)
+printed (Ok (Bytes bytes)) = (Well, bytes.items)
+printed (Ok (Compared text status)) = (status, text.items)
+printed (Err fault) = printed_fault fault

@@ -12,14 +12,7 @@ use Rattle.scf_compare.specs.declared.relation.Relation.TheVariants.{Same}
 use Rattle.scf_tool.specs.Options.{NumberOption, AreSpelled, call_options, choice_in, first_wrong, is_given, limit_option, flag_names, numbers_of_record, path_flag, relation_flags, scope_flags}
 
 pub data Command : Type 0 where
-  Ask : Command
-  Asm : Command
-  Check : Command
-  Compare : Command
-  Compile : Command
-  Decide : Command
-  Dis : Command
-  Run : Command
+  Ask Asm Check Compare Compile Decide Dis Run : Command
 
 -- the word that names a command
 abbrev pub command_word : Command → List ℕ
@@ -47,24 +40,16 @@ flags_of Run = path_flag ∷ []
 flags_of command = []
 
 -- the command of a request, and the numbers of its options
-abbrev pub command_of : Request → Command
-command_of (requests.Ask call) = Ask
-command_of requests.Assemble = Asm
-command_of requests.Check = Check
-command_of (requests.Compare limit scopes relation) = Compare
-command_of requests.Compile = Compile
-command_of (requests.Decide call) = Decide
-command_of requests.List = Dis
-command_of (requests.Run call) = Run
-command_of (requests.Trace call) = Run
-
-abbrev pub numbers_of_request : Request → List ℕ
-numbers_of_request (requests.Ask call) = numbers_of_record call
-numbers_of_request (requests.Compare limit scopes relation) = limit ∷ []
-numbers_of_request (requests.Decide call) = numbers_of_record call
-numbers_of_request (requests.Run call) = numbers_of_record call
-numbers_of_request (requests.Trace call) = numbers_of_record call
-numbers_of_request request = []
+abbrev pub asked_by : Request → Command × List ℕ
+asked_by (requests.Ask call) = (Ask, numbers_of_record call)
+asked_by requests.Assemble = (Asm, [])
+asked_by requests.Check = (Check, [])
+asked_by (requests.Compare limit scopes relation) = (Compare, limit ∷ [])
+asked_by requests.Compile = (Compile, [])
+asked_by (requests.Decide call) = (Decide, numbers_of_record call)
+asked_by requests.List = (Dis, [])
+asked_by (requests.Run call) = (Run, numbers_of_record call)
+asked_by (requests.Trace call) = (Run, numbers_of_record call)
 
 -- what the flags of a comparison come to
 abbrev pub scopes_in : List Row → Option Scopes
@@ -84,32 +69,17 @@ HasFlags rows request = Unit {0}
 -- A word and the values of options spell a request: they name its command, spell its numbers and give its flags.
 pub record IsRequest (asked : Option (List ℕ × List Row)) (request : Request) : Type 0 where
   pub rows : List Row
-  pub command : asked ≡ Some (command_word (command_of request), rows)
-  pub numbers : AreSpelled (options_of (command_of request)) rows (numbers_of_request request)
+  pub command : asked ≡ Some (command_word (asked_by request).0, rows)
+  pub numbers : AreSpelled (options_of (asked_by request).0) rows (asked_by request).1
   pub flags : HasFlags rows request
 
--- A command is named, and this is the first of its options whose text is no number in its range.
-pub record IsWrongNumber (asked : Option (List ℕ × List Row)) (name : List ℕ) : Type 0 where
-  pub command : Command
-  pub rows : List Row
-  pub named : asked ≡ Some (command_word command, rows)
-  pub wrong : first_wrong (options_of command) rows ≡ Some name
-
--- A comparison is named with two flags that exclude each other, and its numbers are in their ranges.
-pub record HasOtherFlags (asked : Option (List ℕ × List Row)) : Type 0 where
-  pub rows : List Row
-  pub named : asked ≡ Some (command_word Compare, rows)
-  pub numbers : first_wrong (options_of Compare) rows ≡ None
-  pub flags : (scopes_in rows ≡ None) ⊎ (relation_in rows ≡ None)
-
--- no command is named
-abbrev pub NamesNoCommand : Option (List ℕ × List Row) → Type 0
-NamesNoCommand asked = (command : Command) (rows : List Row) → asked ≡ Some (command_word command, rows) → ⊥
-
--- What a command's word and the values of its options ask for, or why they don't.
+-- What a command's word and the values of its options ask for, or why they don't: the first option of the command
+-- whose text is no number in its range; where there is none, flags of a comparison that exclude each other; no command.
 abbrev pub AsksFor : Option (List ℕ × List Row) → Result Request Fault → Type 0
 AsksFor asked (Ok request) = IsRequest asked request
-AsksFor asked (Err (Number fault)) = IsWrongNumber asked fault.name.now
-AsksFor asked (Err Flags) = HasOtherFlags asked
-AsksFor asked (Err NoCommand) = NamesNoCommand asked
+AsksFor asked (Err (Number fault)) = (command : Command) × (rows : List Row)
+    × (asked ≡ Some (command_word command, rows)) × (first_wrong (options_of command) rows ≡ Some fault.name.now)
+AsksFor asked (Err Flags) = (rows : List Row) × (asked ≡ Some (command_word Compare, rows))
+    × (first_wrong (options_of Compare) rows ≡ None) × ((scopes_in rows ≡ None) ⊎ (relation_in rows ≡ None))
+AsksFor asked (Err NoCommand) = (command : Command) (rows : List Row) → asked ≡ Some (command_word command, rows) → ⊥
 AsksFor asked (Err fault) = ⊥

@@ -14,7 +14,7 @@ use Rattle.scf_tool.specs.declared.status.Status.{Status}
 use Rattle.scf_tool.specs.declared.status.Status.TheVariants.{Well, CommandLine}
 use Rattle.scf_tool.specs.Commands.{IsTrueReply}
 use Rattle.scf_tool.specs.Options.{NumberOption}
-use Rattle.scf_tool.specs.Replies.{ending_status, ending_text}
+use Rattle.scf_tool.specs.Replies.{printed}
 use Rattle.scf_tool.specs.Requests.{AsksFor, Command, IsRequest, flags_of, options_of, command_word}
 use Rattle.scf_tool.specs.Requests.Command.{Ask, Asm, Check, Compare, Compile, Decide, Dis, Run}
 use Rattle.scf_tool.specs.Statuses.{LeavesInput, status_code}
@@ -79,17 +79,14 @@ Ends words remaining failures old ending new =
     (SpeaksOfWords words ending × (new ≡ old)) ⊎ IsAnswered words remaining failures old ending new
 
 -- The text was written and the status goes with it, or the writer failed after a beginning of the text.
-abbrev pub PrintsText : {W : Type 0} → (W → Option (List ℕ)) → (W → ℕ) → W → List ℕ → Status → ℕ → W → Type 0
-PrintsText contents failures old text with_text status new =
-    (TakesAll (contents old) text (contents new) (failures old) (failures new) × (status ≡ status_code with_text))
-    ⊎ (TakesBeginning (contents old) text (contents new) (failures old) (failures new) × (status ≡ 3))
-
-abbrev pub Prints : {W : Type 0} → (W → Option (List ℕ)) → (W → ℕ) → W → Result Reply Fault → ℕ → W → Type 0
-Prints contents failures old ending = PrintsText contents failures old (ending_text ending) (ending_status ending)
+abbrev pub Prints : {W : Type 0} → (W → Option (List ℕ)) → (W → ℕ) → W → Status × List ℕ → ℕ → W → Type 0
+Prints contents failures old what status new =
+    (TakesAll (contents old) what.1 (contents new) (failures old) (failures new) × (status ≡ status_code what.0))
+    ⊎ (TakesBeginning (contents old) what.1 (contents new) (failures old) (failures new) × (status ≡ 3))
 
 -- what is printed where a word of the program's isn't UTF-8
-abbrev pub not_utf8_text : List ℕ
-not_utf8_text = codes "error: invalid UTF-8 was detected in one or more arguments\n"
+abbrev pub printed_of_no_utf8 : Status × List ℕ
+printed_of_no_utf8 = (CommandLine, codes "error: invalid UTF-8 was detected in one or more arguments\n")
 
 -- A run of the program: there is something that it ends with, which is true of the words and of standard input, and
 -- this is printed.
@@ -99,4 +96,4 @@ pub record IsRunOfProgram {R W : Type 0} (words : List Text)
     (status : ℕ) : Type 0 where
   pub ending : Result Reply Fault
   pub ends : Ends words remaining input_failures input ending input_after
-  pub prints : Prints contents out_failures out ending status out_after
+  pub prints : Prints contents out_failures out (printed ending) status out_after

@@ -1,6 +1,6 @@
 -- What is known of a filter, a call table and a profile once they are read and compared. The bytes of each reader count
 -- where the reader tells them.
-use Rattle.std.specs.Prelude.{◌≡◌, ◌≢◌, ◌≤◌, ℕ, List, length, Option, Result, Ok, Err, IfSome}
+use Rattle.std.specs.Prelude.{◌≡◌, ◌≢◌, ◌≤◌, ◌⊎◌, ℕ, List, length, Option, Result, Ok, Err, IfSome}
 use Rattle.std.specs.List.{AllByRecursion}
 use Rattle.std.specs.Io.KnownBytes.{IsAtEnd}
 use Rattle.scf_insn.specs.declared.encoding.ReadFault.{ReadFault}
@@ -18,8 +18,6 @@ use Rattle.scf_machine.specs.Machine.{RunAnswers}
 use Rattle.scf_machine.specs.Plain.{IsPlainProgram}
 use Rattle.scf_machine.specs.Rules.{IsValidList, KeepsScratchRule}
 use Rattle.scf_profile.specs.declared.loaded.Loaded.{Loaded}
-use Rattle.scf_profile.specs.declared.load_fault.LoadFault.{LoadFault}
-use Rattle.scf_profile.specs.declared.table_fault.TableFault.{TableFault}
 use Rattle.scf_profile.specs.declared.table_fault.TableFault.TheVariants as tables
 use Rattle.scf_profile.specs.Limits.{max_text_len}
 use Rattle.scf_profile.specs.Loading.{Loads, Refuses}
@@ -84,6 +82,14 @@ pub record IsFilter (bytes : Option (List ℕ)) (insns : List Insn) : Type 0 whe
   pub valid : IsValidList insns
   pub stored : KeepsScratchRule insns
 
+-- what is read of a reader's bytes, few enough for a limit
+abbrev pub ReadsUnder : ℕ → Option (List ℕ) → Result (List ℕ) InputFault → Type 0
+ReadsUnder limit bytes result = IfSome bytes (λ told. IsInput (λ (read : List ℕ). read) limit told result)
+
+-- what is read of a filter's bytes
+abbrev pub ReadsFilter : Option (List ℕ) → Result (List Insn) ReadFault → Type 0
+ReadsFilter bytes result = IfSome bytes (λ told. IsReading (λ (insns : List Insn). insns) told result)
+
 -- few enough bytes of a call table or a profile
 abbrev pub IsWithinLimit : List ℕ → Type 0
 IsWithinLimit told = length told ≤ max_text_len
@@ -95,15 +101,6 @@ IsTable bytes names = IfSome bytes (λ told. IsWithinLimit told × (table_of tol
 -- a profile: the JSON value of the bytes and the map state it, with what is left out of it
 abbrev pub IsLoaded : Option (List ℕ) → Names → Loaded → Type 0
 IsLoaded bytes names loaded = IfSome bytes (λ told. Loads told names loaded)
-
-abbrev pub HasFilter : Option (List ℕ) → Type 0
-HasFilter filter = (insns : List Insn) × IsFilter filter insns
-
-abbrev pub HasTable : Option (List ℕ) → Type 0
-HasTable table = (names : Names) × IsTable table names
-
-abbrev pub HasProfile : Option (List ℕ) → Option (List ℕ) → Type 0
-HasProfile table profile = (names : Names) × IsTable table names × (loaded : Loaded) × IsLoaded profile names loaded
 
 -- ---- an outcome
 
@@ -125,14 +122,6 @@ pub record IsVerified (filter table profile : Option (List ℕ)) (limit : ℕ) (
 
 -- ---- a fault
 
--- why a filter isn't read
-abbrev pub IsUnreadFilter : Option (List ℕ) → ReadFault → Type 0
-IsUnreadFilter bytes fault = IfSome bytes (λ told. IsReading (λ (insns : List Insn). insns) told (Err fault))
-
--- why a call table or a profile isn't read
-abbrev pub IsUnread : Option (List ℕ) → InputFault → Type 0
-IsUnread bytes fault = IfSome bytes (λ told. IsInput (λ (read : List ℕ). read) max_text_len told (Err fault))
-
 -- The bytes are those of instructions that aren't accepted, for this fault first.
 pub record IsRefusedFilter (bytes : Option (List ℕ)) (fault : CheckFault) : Type 0 where
   pub insns : List Insn
@@ -142,31 +131,37 @@ pub record IsRefusedFilter (bytes : Option (List ℕ)) (fault : CheckFault) : Ty
 
 -- why a reader has no accepted filter
 abbrev pub IsNoFilter : Option (List ℕ) → VerifyFault → Type 0
-IsNoFilter bytes (FilterRead fault) = IsUnreadFilter bytes fault
+IsNoFilter bytes (FilterRead fault) = ReadsFilter bytes (Err fault)
 IsNoFilter bytes (Check fault) = IsRefusedFilter bytes fault
 IsNoFilter bytes fault = ⊥
 
--- The bytes spell no call table, for this fault first. Want of memory may come in place of it.
-abbrev pub IsRefusedTable : Option (List ℕ) → TableFault → Type 0
-IsRefusedTable bytes fault =
+-- why it has no call table: the bytes spell none, for this fault first. Want of memory may come in place of it.
+abbrev pub IsNoTable : Option (List ℕ) → VerifyFault → Type 0
+IsNoTable bytes (TableRead fault) = ReadsUnder max_text_len bytes (Err fault)
+IsNoTable bytes (Table fault) =
     IfSome bytes (λ told. IsWithinLimit told × (fault ≢ tables.Memory → table_of told ≡ Err fault))
+IsNoTable bytes fault = ⊥
 
--- The bytes and the map of the table state no profile, for this fault first.
-pub record IsRefusedProfile (table profile : Option (List ℕ)) (fault : LoadFault) : Type 0 where
-  pub names : Names
-  pub is_table : IsTable table names
-  pub refused : IfSome profile (λ told. IsWithinLimit told × Refuses told names fault)
+-- why it has no profile: the bytes and the map of the table state none, for this fault first
+abbrev pub IsNoProfile : Names → Option (List ℕ) → VerifyFault → Type 0
+IsNoProfile names bytes (ProfileRead fault) = ReadsUnder max_text_len bytes (Err fault)
+IsNoProfile names bytes (Profile fault) = IfSome bytes (λ told. IsWithinLimit told × Refuses told names fault)
+IsNoProfile names bytes fault = ⊥
 
--- What each fault says: all that is read and looked at before is accepted, and this is why the next isn't.
-abbrev pub IsRefused : Option (List ℕ) → Option (List ℕ) → Option (List ℕ) → VerifyFault → Type 0
-IsRefused filter table profile (TableRead fault) = HasFilter filter × IsUnread table fault
-IsRefused filter table profile (Table fault) = HasFilter filter × IsRefusedTable table fault
-IsRefused filter table profile (ProfileRead fault) = HasFilter filter × HasTable table × IsUnread profile fault
-IsRefused filter table profile (Profile fault) = HasFilter filter × IsRefusedProfile table profile fault
-IsRefused filter table profile Memory = HasFilter filter × HasProfile table profile
-IsRefused filter table profile fault = IsNoFilter filter fault
+-- why a table and a profile state nothing that is compared: the first that isn't read, or want of memory behind both
+abbrev pub IsUnstated : Option (List ℕ) → Option (List ℕ) → VerifyFault → Type 0
+IsUnstated table profile fault =
+    IsNoTable table fault ⊎ ((names : Names) × IsTable table names × (IsNoProfile names profile fault
+    ⊎ ((loaded : Loaded) × IsLoaded profile names loaded × (fault ≡ Memory))))
+
+-- and why filters aren't compared with them: these are why there are none, or what is read first is accepted
+abbrev pub IsRefusedBehind : {F : Type 0} → (VerifyFault → Type 0) → (F → Type 0) → Option (List ℕ) → Option (List ℕ)
+    → VerifyFault → Type 0
+IsRefusedBehind {F} none accepted table profile fault =
+    none fault ⊎ ((filters : F) × accepted filters × IsUnstated table profile fault)
 
 -- What the comparison of a filter with a profile, from the bytes of their readers, answers.
 abbrev pub Verifies : Option (List ℕ) → Option (List ℕ) → Option (List ℕ) → ℕ → Result Outcome VerifyFault → Type 0
 Verifies filter table profile limit (Ok outcome) = IsVerified filter table profile limit outcome
-Verifies filter table profile limit (Err fault) = IsRefused filter table profile fault
+Verifies filter table profile limit (Err fault) =
+    IsRefusedBehind (IsNoFilter filter) (IsFilter filter) table profile fault

@@ -8,7 +8,6 @@ use Rattle.scf_profile.specs.declared.named_call.NamedCall.{NamedCall}
 use Rattle.scf_profile.specs.Profile.{Profile}
 use Rattle.scf_profile.specs.Table.{Names}
 use Rattle.scf_compare.specs.declared.relation.Relation.{Relation}
-use Rattle.scf_compare.specs.declared.relation.Relation.TheVariants.{Same}
 use Rattle.scf_compare.specs.declared.scope.Scope.TheVariants.{Call}
 use Rattle.scf_tool.specs.declared.call_verification.CallVerdict.{CallVerdict}
 use Rattle.scf_tool.specs.declared.call_verification.CallsOutcome.{CallsOutcome}
@@ -50,8 +49,3 @@ abbrev pub VerifiesCallsBy : Relation → List (Option (List ℕ)) → Option (L
 VerifiesCallsBy relation filters table profile limit (Ok outcome) =
     AreVerifiedCalls relation filters table profile limit outcome
 VerifiesCallsBy relation filters table profile limit (Err fault) = IsRefusedStack filters table profile fault
-
--- by the same answers
-abbrev pub VerifiesCalls : List (Option (List ℕ)) → Option (List ℕ) → Option (List ℕ) → ℕ
-    → Result CallsOutcome VerifyFault → Type 0
-VerifiesCalls filters table profile limit result = VerifiesCallsBy Same filters table profile limit result

@@ -9,7 +9,6 @@ use Rattle.scf_profile.specs.Profile.{Profile}
 use Rattle.scf_profile.specs.PlainProfile.{IsPlainProfile}
 use Rattle.scf_profile.specs.Table.{Names}
 use Rattle.scf_compare.specs.declared.relation.Relation.{Relation}
-use Rattle.scf_compare.specs.declared.relation.Relation.TheVariants.{Same}
 use Rattle.scf_compare.specs.declared.scope.Scope.{Scope}
 use Rattle.scf_compare.specs.declared.verdict.Verdict.{Verdict}
 use Rattle.scf_compare.specs.Effort.{effort_of_stack}
@@ -17,10 +16,9 @@ use Rattle.scf_compare.specs.Scope.{RelatedAnswersIn}
 use Rattle.scf_compare.specs.Verdicts.{IsTrueOfStackBy, IsWithin, IsDecided}
 use Rattle.scf_tool.specs.declared.verification.Outcome.{Outcome}
 use Rattle.scf_tool.specs.declared.verification.VerifyFault.{VerifyFault}
-use Rattle.scf_tool.specs.declared.verification.VerifyFault.TheVariants.{FilterRead, Check, Stack, TableRead, Table}
-use Rattle.scf_tool.specs.declared.verification.VerifyFault.TheVariants.{ProfileRead, Profile as RefusedProfile, Memory}
+use Rattle.scf_tool.specs.declared.verification.VerifyFault.TheVariants.{FilterRead, Check, Stack}
 use Rattle.scf_tool.specs.FilterStacks.{HasStack, HasNoStack, HaveEnded, HaveStopped}
-use Rattle.scf_tool.specs.Verifying.{IsTable, IsLoaded, HasTable, HasProfile, IsUnread, IsRefusedTable, IsRefusedProfile}
+use Rattle.scf_tool.specs.Verifying.{IsTable, IsLoaded, IsRefusedBehind}
 
 -- A verdict on a relation is true of a stack and a profile over the calls of a scope, and within the limit and the
 -- effort. It decides between plain filters and a plain profile.
@@ -52,19 +50,10 @@ IsVerifiedBy relation filters table profile scope limit outcome =
     AreComparedParties filters table profile outcome.skipped outcome.other_architectures
     (λ stack names p. IsComparison relation stack p scope limit outcome.verdict)
 
-abbrev pub HasSomeStack : List (Option (List ℕ)) → Type 0
-HasSomeStack filters = (stack : List (List Insn)) × HasStack filters stack
-
--- What each fault says: all that is read and looked at before is accepted, and this is why the next isn't.
+-- Why nothing is compared: all that is read and looked at before is accepted, and this is why the next isn't.
 abbrev pub IsRefusedStack : List (Option (List ℕ)) → Option (List ℕ) → Option (List ℕ) → VerifyFault → Type 0
-IsRefusedStack filters table profile (TableRead fault) = HasSomeStack filters × IsUnread table fault
-IsRefusedStack filters table profile (Table fault) = HasSomeStack filters × IsRefusedTable table fault
-IsRefusedStack filters table profile (ProfileRead fault) =
-    HasSomeStack filters × HasTable table × IsUnread profile fault
-IsRefusedStack filters table profile (RefusedProfile fault) =
-    HasSomeStack filters × IsRefusedProfile table profile fault
-IsRefusedStack filters table profile Memory = HasSomeStack filters × HasProfile table profile
-IsRefusedStack filters table profile fault = HasNoStack filters fault
+IsRefusedStack filters table profile fault =
+    IsRefusedBehind (HasNoStack filters) (HasStack filters) table profile fault
 
 -- What the comparison of a stack with a profile by a relation, from the bytes of their readers, answers.
 abbrev pub VerifiesBy : Relation → List (Option (List ℕ)) → Option (List ℕ) → Option (List ℕ) → Scope → ℕ
@@ -72,11 +61,6 @@ abbrev pub VerifiesBy : Relation → List (Option (List ℕ)) → Option (List �
 VerifiesBy relation filters table profile scope limit (Ok outcome) =
     IsVerifiedBy relation filters table profile scope limit outcome
 VerifiesBy relation filters table profile scope limit (Err fault) = IsRefusedStack filters table profile fault
-
--- by the same answers
-abbrev pub VerifiesStack : List (Option (List ℕ)) → Option (List ℕ) → Option (List ℕ) → Scope → ℕ
-    → Result Outcome VerifyFault → Type 0
-VerifiesStack filters table profile scope limit result = VerifiesBy Same filters table profile scope limit result
 
 -- How the filters' readers are left. They are read first, each after those before it.
 abbrev pub LeavesFilterReaders : {R T : Type 0} → (R → Option (List ℕ)) → (R → ℕ)

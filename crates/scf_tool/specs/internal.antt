@@ -3,6 +3,5 @@ pub mod Fields
 pub mod Gathering
 pub mod Parsing
 pub mod Pieces
-pub mod Pushing
 pub mod Reporting
 pub mod Verification

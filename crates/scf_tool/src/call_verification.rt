@@ -7,7 +7,6 @@ ghost use Rattle.scf_tool.specs.VerifyingCalls.{
   AreComparedCalls,
   AreVerifiedCalls,
   IsVerdictOnCall,
-  VerifiesCalls,
   VerifiesCallsBy,
   call_with_names,
   told_of,
@@ -142,7 +141,7 @@ pub fn verify_calls<F: Source, P: Source, T: Source>(
     table_reader: &mut T,
     limit: u64,
 ) -> Result<CallsOutcome, VerifyFault>
-    ensures answer { VerifiesCalls (map F.remaining filter_readers.old)
+    ensures answer { VerifiesCallsBy Relation.Same (map F.remaining filter_readers.old)
         (T.remaining table_reader.old) (P.remaining profile_reader.old) limit result }
     ensures filter_readers { LeavesFilterReaders F.remaining F.failures filter_readers.old result filter_readers.new }
     ensures table_reader { LeavesTableReader T.remaining T.failures table_reader.old result table_reader.new }

@@ -4,10 +4,10 @@ ghost use Rattle.std.specs.Prelude.{◌≡◌, ◌≢◌, [], codes, false, true
 ghost use Rattle.std.specs.IoError.{error_kind};
 ghost use Rattle.clap.specs.Words.{FailsBy, app_of, fault_of, kind_of, new_app, rule_of, subcommand_of, subcommand_rows_of};
 ghost use Rattle.scf_tool.specs.Requests.Command.{Ask, Asm, Check, Compare, Compile, Decide, Dis, Run};
-ghost use Rattle.scf_tool.specs.Faults.{fault_line};
+ghost use Rattle.scf_tool.specs.Faults.{printed_fault};
 ghost use Rattle.scf_tool.specs.declared.fault.Fault.TheVariants as faults;
-ghost use Rattle.scf_tool.specs.Runs.{PrintsText, flag_rule, not_utf8_text, option_rule, scf, shape_with};
-ghost use Rattle.scf_tool.specs.internal.Parsing.{Explains, IsNamed, ReadsAsProgram, definition_of, option_of, options_of};
+ghost use Rattle.scf_tool.specs.Runs.{Prints, flag_rule, option_rule, printed_of_no_utf8, scf, shape_with};
+ghost use Rattle.scf_tool.specs.internal.Parsing.{Explains, IsNamed, ReadsAsProgram, definition_of, option_of, options_kept};
 
 use crate::fault::Fault;
 use crate::options::{
@@ -56,7 +56,7 @@ fn command_with<'a>(
     options: &[NumberOption],
 ) -> Result<Command<'a>, AllocError>
     ensures { IfOk result (λ command. app_of command
-        ≡ record { top = shape_with name.now (options_of options.now); subs = [] }) }
+        ≡ record { top = shape_with name.now (options_kept options.now); subs = [] }) }
 {
     let mut command = Command::new(alloc, name).about(about);
     for option in options {
@@ -235,7 +235,7 @@ pub(crate) fn explain(alloc: Global, error: &Error) -> Result<Reply, Fault>
 
 /// Says that memory is refused before any input is read. The answer is the exit status.
 pub(crate) fn refuse_memory<W: Sink>(out: &mut W) -> u8
-    ensures { PrintsText W.contents W.failures out.old (fault_line faults.CommandLine) Status.Failed result out.new }
+    ensures { Prints W.contents W.failures out.old (printed_fault faults.CommandLine) result out.new }
 {
     let _written = write_whole(out, NO_MEMORY);
     Status::Failed.code()
@@ -245,9 +245,9 @@ pub(crate) fn refuse_memory<W: Sink>(out: &mut W) -> u8
 /// for the first, and 3 for the second and where the output fails.
 pub fn refuse_words<W: Sink>(error: &io::Error, out: &mut W) -> u8
     ensures not_utf8 { error_kind error.now ≡ IoErrorKind.InvalidData
-        → PrintsText W.contents W.failures out.old not_utf8_text Status.CommandLine result out.new }
+        → Prints W.contents W.failures out.old printed_of_no_utf8 result out.new }
     ensures memory { error_kind error.now ≢ IoErrorKind.InvalidData
-        → PrintsText W.contents W.failures out.old (fault_line faults.CommandLine) Status.Failed result out.new }
+        → Prints W.contents W.failures out.old (printed_fault faults.CommandLine) result out.new }
 {
     match error.kind() {
         IoErrorKind::InvalidData => match write_whole(out, NOT_UTF8) {

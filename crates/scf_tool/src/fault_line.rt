@@ -1,10 +1,10 @@
 //! The line that is printed of a fault.
 
-ghost use Rattle.std.specs.Prelude.{◌≡◌, ◌++◌, codes};
+ghost use Rattle.std.specs.Prelude.{◌≡◌, ◌++◌, [], codes};
 ghost use Rattle.std.specs.List.{flat_map};
 ghost use Rattle.scf_insn.specs.Streams.{Writes};
 ghost use Rattle.scf_tool.specs.Faults as table;
-ghost use Rattle.scf_tool.specs.internal.Fields.{field_text, kind_of, numbers_of_field};
+ghost use Rattle.scf_tool.specs.internal.Fields.{field_text, kind_of, fault_line_of};
 
 use crate::bundle::BundleFault;
 use crate::fault::Fault;
@@ -32,11 +32,18 @@ pub(crate) struct FaultKind {
     pub fields: [Option<FaultField>; 3],
 }
 
+/// What a fault is of, and its kind.
+#[derive(Clone, Copy)]
+pub(crate) struct FaultLine {
+    pub source: &'static str,
+    pub kind: FaultKind,
+}
+
 /// No numbers.
 const NONE: [Option<FaultField>; 3] = [None, None, None];
 
 fn named(name: &'static str, number: usize) -> Option<FaultField>
-    ensures { numbers_of_field result ≡ table.one name.now number }
+    ensures { field_text result ≡ table.number_words (name.now, number) }
 {
     Some(FaultField {
         name,
@@ -46,7 +53,7 @@ fn named(name: &'static str, number: usize) -> Option<FaultField>
 
 /// A kind without numbers that is a failure.
 fn failed(name: &'static str) -> FaultKind
-    ensures { kind_of result ≡ table.failed name.now }
+    ensures { kind_of result ≡ table.failed name.now [] }
 {
     FaultKind {
         status: Status::Failed,
@@ -57,7 +64,7 @@ fn failed(name: &'static str) -> FaultKind
 
 /// A kind with one number that is a failure.
 fn failed_at(name: &'static str, number_name: &'static str, number: usize) -> FaultKind
-    ensures { kind_of result ≡ table.failed_at name.now number_name.now number }
+    ensures { kind_of result ≡ table.failed name.now (table.one number_name.now number) }
 {
     FaultKind {
         status: Status::Failed,
@@ -68,7 +75,7 @@ fn failed_at(name: &'static str, number_name: &'static str, number: usize) -> Fa
 
 /// A kind without numbers that is a refusal.
 fn refused(name: &'static str) -> FaultKind
-    ensures { kind_of result ≡ table.refused name.now }
+    ensures { kind_of result ≡ table.refused name.now [] }
 {
     FaultKind {
         status: Status::Refused,
@@ -90,7 +97,7 @@ fn wrong_words(name: &'static str) -> FaultKind
 
 /// A kind with one number that is a refusal.
 fn refused_at(name: &'static str, number_name: &'static str, number: usize) -> FaultKind
-    ensures { kind_of result ≡ table.refused_at name.now number_name.now number }
+    ensures { kind_of result ≡ table.refused name.now (table.one number_name.now number) }
 {
     FaultKind {
         status: Status::Refused,
@@ -101,7 +108,7 @@ fn refused_at(name: &'static str, number_name: &'static str, number: usize) -> F
 
 /// A kind that is a refusal, in an entry of a profile or outside of them.
 fn refused_in(name: &'static str, entry: Option<u32>) -> FaultKind
-    ensures { kind_of result ≡ table.refused_in name.now entry }
+    ensures { kind_of result ≡ table.refused name.now (table.in_entry entry) }
 {
     match entry {
         Some(place) => refused_at(name, "entry", place as usize),
@@ -191,7 +198,7 @@ fn table_kind(fault: TableFault) -> FaultKind
 
 /// Two entries of a profile conflict on a call.
 fn conflict(number: u32, first: u32, second: u32) -> FaultKind
-    ensures { kind_of result ≡ table.conflict number first second }
+    ensures { kind_of result ≡ table.load_kind (LoadFault.Conflict number first second) }
 {
     let fields = [
         named("number", number as usize),
@@ -249,73 +256,52 @@ fn push_kind(fault: PushFault) -> FaultKind
     }
 }
 
-fn verify_kind(fault: VerifyFault) -> FaultKind
-    ensures { kind_of result ≡ table.verify_kind fault }
+/// A kind, behind the word for what is wrong.
+fn line(source: &'static str, kind: FaultKind) -> FaultLine
+    ensures { fault_line_of result ≡ table.with_source source.now (kind_of kind) }
 {
-    match fault {
-        VerifyFault::FilterRead(fault) => read_kind(fault),
-        VerifyFault::Check(fault) => check_kind(fault),
-        VerifyFault::Stack(fault) => push_kind(fault),
-        VerifyFault::TableRead(fault) => input_kind(fault),
-        VerifyFault::Table(fault) => table_kind(fault),
-        VerifyFault::ProfileRead(fault) => input_kind(fault),
-        VerifyFault::Profile(fault) => load_kind(fault),
-        VerifyFault::Memory => failed("Memory"),
-    }
+    FaultLine { source, kind }
 }
 
-/// What is refused of a filter, a stack, a table and a profile.
-fn verify_source(fault: VerifyFault) -> &'static str
-    ensures { result.now ≡ table.verify_source fault }
+fn verify_line(fault: VerifyFault) -> FaultLine
+    ensures { fault_line_of result ≡ table.verify_kind fault }
 {
     match fault {
-        VerifyFault::FilterRead(_) | VerifyFault::Check(_) => "filter",
-        VerifyFault::Stack(_) => "stack",
-        VerifyFault::TableRead(_) | VerifyFault::Table(_) => "table",
-        VerifyFault::ProfileRead(_) | VerifyFault::Profile(_) => "profile",
-        VerifyFault::Memory => "compare",
+        VerifyFault::FilterRead(fault) => line("filter", read_kind(fault)),
+        VerifyFault::Check(fault) => line("filter", check_kind(fault)),
+        VerifyFault::Stack(fault) => line("stack", push_kind(fault)),
+        VerifyFault::TableRead(fault) => line("table", input_kind(fault)),
+        VerifyFault::Table(fault) => line("table", table_kind(fault)),
+        VerifyFault::ProfileRead(fault) => line("profile", input_kind(fault)),
+        VerifyFault::Profile(fault) => line("profile", load_kind(fault)),
+        VerifyFault::Memory => line("compare", failed("Memory")),
     }
 }
 
 impl Fault {
-    /// The word for what is wrong.
-    fn source(self) -> &'static str
-        ensures { result.now ≡ table.source_of self }
+    /// What the fault is of, its kind, its numbers and its exit status.
+    fn line(self) -> FaultLine
+        ensures { fault_line_of result ≡ table.kind_of_fault self }
     {
         match self {
-            Fault::CommandLine | Fault::NoCommand | Fault::Flags => "command",
-            Fault::Number(_) => "number",
-            Fault::Input(_) => "input",
-            Fault::Bundle(_) | Fault::Parts => "bundle",
-            Fault::Text(_) => "text",
-            Fault::Compile(_) => "compile",
-            Fault::Verify(fault) => verify_source(fault),
-        }
-    }
-
-    /// The kind of the fault, its numbers and its exit status.
-    fn kind(self) -> FaultKind
-        ensures { kind_of result ≡ table.kind_of_fault self }
-    {
-        match self {
-            Fault::CommandLine => failed("Memory"),
-            Fault::NoCommand => wrong_words("NoCommand"),
-            Fault::Number(fault) => wrong_words(fault.name),
-            Fault::Flags => wrong_words("Flags"),
-            Fault::Input(fault) => input_kind(fault),
-            Fault::Bundle(fault) => bundle_kind(fault),
-            Fault::Parts => failed("Parts"),
-            Fault::Text(fault) => text_kind(fault),
-            Fault::Compile(fault) => compile_kind(fault),
-            Fault::Verify(fault) => verify_kind(fault),
+            Fault::CommandLine => line("command", failed("Memory")),
+            Fault::NoCommand => line("command", wrong_words("NoCommand")),
+            Fault::Number(fault) => line("number", wrong_words(fault.name)),
+            Fault::Flags => line("command", wrong_words("Flags")),
+            Fault::Input(fault) => line("input", input_kind(fault)),
+            Fault::Bundle(fault) => line("bundle", bundle_kind(fault)),
+            Fault::Parts => line("bundle", failed("Parts")),
+            Fault::Text(fault) => line("text", text_kind(fault)),
+            Fault::Compile(fault) => line("compile", compile_kind(fault)),
+            Fault::Verify(fault) => verify_line(fault),
         }
     }
 
     /// The exit status that goes with it.
     pub(crate) fn status(self) -> Status
-        ensures { result ≡ table.fault_status self }
+        ensures { result ≡ (table.printed_fault self).0 }
     {
-        self.kind().status
+        self.line().kind.status
     }
 }
 
@@ -364,10 +350,10 @@ fn write_kind<'a, S: Sink>(sink: &mut S, source: &'a str, kind: &'a str) -> Resu
 
 /// Writes the line of a fault, without memory.
 pub(crate) fn write_fault<S: Sink>(sink: &mut S, fault: Fault) -> Result<(), WriteFault>
-    ensures { Writes S.contents S.failures sink.old (table.fault_line fault) result sink.new }
+    ensures { Writes S.contents S.failures sink.old (table.printed_fault fault).1 result sink.new }
 {
-    let kind = fault.kind();
-    write_kind(sink, fault.source(), kind.name)?;
-    write_fields(sink, &kind.fields)?;
+    let line = fault.line();
+    write_kind(sink, line.source, line.kind.name)?;
+    write_fields(sink, &line.kind.fields)?;
     write_whole(sink, b"\n")
 }

@@ -1,11 +1,12 @@
 //! Stacks of filters that readers have.
 
-ghost use Rattle.std.specs.Prelude.{◌≡◌, map, Some, IfOk, IfErr, OnOk};
+ghost use Rattle.std.specs.Prelude.{List, Ok, map, Some, IfOk, IfErr, OnOk};
+ghost use Rattle.scf_insn.specs.declared.insn.Insn.{Insn};
+ghost use Rattle.scf_machine.specs.Stack.{IsPush};
 ghost use Rattle.scf_tool.specs.Commands.{NoReadFailed};
-ghost use Rattle.scf_tool.specs.FilterStacks.{HasStack, HasNoStack, IsNotPushed, LeavesReaders};
-ghost use Rattle.scf_tool.specs.Verifying.{HasEnded, LeavesFilterReader};
+ghost use Rattle.scf_tool.specs.FilterStacks.{HasStack, HasNoStack, HaveEnded, HaveStopped, IsNotPushed};
+ghost use Rattle.scf_tool.specs.Verifying.{HasEnded, IsFilter, LeavesFilterReader};
 ghost use Rattle.scf_tool.specs.internal.Contents.{rest_of};
-ghost use Rattle.scf_tool.specs.internal.Pushing.{PushesFilter};
 
 use crate::contents::PartReader;
 use crate::filter::read_filter;
@@ -20,7 +21,8 @@ fn push_filter<R: Source>(
     stack: &mut FilterStack,
     reader: &mut R,
 ) -> Result<(), VerifyFault>
-    ensures pushed { OnOk result (PushesFilter stack.old (R.remaining reader.old) stack.new) }
+    ensures pushed { OnOk result ((insns : List Insn) × IsFilter (R.remaining reader.old) insns
+        × IsPush stack.old insns (Ok tt) stack.new) }
     ensures ended { OnOk result (HasEnded R.remaining R.failures reader.old reader.new) }
     ensures refused { IfErr result (IsNotPushed stack.old (R.remaining reader.old)) }
     ensures left { LeavesFilterReader R.remaining R.failures reader.old result reader.new }
@@ -39,7 +41,8 @@ pub(crate) fn read_stack<R: Source>(
 ) -> Result<FilterStack, VerifyFault>
     ensures stack { IfOk result (HasStack (map R.remaining readers.old)) }
     ensures refused { IfErr result (HasNoStack (map R.remaining readers.old)) }
-    ensures left { LeavesReaders R.remaining R.failures readers.old result readers.new }
+    ensures ended { OnOk result (HaveEnded R.remaining R.failures readers.old readers.new) }
+    ensures stopped { IfErr result (λ fault. HaveStopped R.remaining R.failures fault readers.old readers.new) }
 {
     let mut stack = FilterStack::new(alloc);
     for reader in readers.iter_mut() {

@@ -3,7 +3,7 @@
 ghost use Rattle.std.specs.Prelude.{◌≡◌, ◌≤◌, Some, None, IfOk, IfErr};
 ghost use Rattle.clap.specs.Words.{found_of, rows_of};
 ghost use Rattle.scf_tool.specs.Options as table;
-ghost use Rattle.scf_tool.specs.internal.Parsing.{flags_in, option_of, options_of};
+ghost use Rattle.scf_tool.specs.internal.Parsing.{flags_in, option_of, options_kept};
 
 use crate::fault::Fault;
 use crate::request::Scopes;
@@ -61,7 +61,7 @@ fn long(name: &'static str, default: u64, help: &'static str) -> NumberOption
 
 /// The options that say what call a filter is asked about.
 pub(crate) fn call_options() -> [NumberOption; 9]
-    ensures { options_of result ≡ table.call_options }
+    ensures { options_kept result ≡ table.call_options }
 {
     let arch = "The architecture [default: 0xc000003e, x86-64]";
     [

@@ -4,7 +4,7 @@ ghost use Rattle.std.specs.Prelude.{◌≡◌, ◌++◌, [], codes};
 ghost use Rattle.std.specs.Fmt.{decimal};
 ghost use Rattle.scf_insn.specs.Streams.{Writes};
 ghost use Rattle.scf_tool.specs.Lines.{answer_text, reason_text, steps_text};
-ghost use Rattle.scf_tool.specs.Replies.{ending_status, ending_text};
+ghost use Rattle.scf_tool.specs.Replies.{printed};
 ghost use Rattle.scf_tool.specs.internal.Gathering.{gathered};
 
 use crate::fault::Fault;
@@ -38,7 +38,7 @@ pub(crate) enum Reply {
 
 /// The exit status that goes with how a command ended.
 pub(crate) fn status_of(ending: &Result<Reply, Fault>) -> Status
-    ensures { result ≡ ending_status ending.now }
+    ensures { result ≡ (printed ending.now).0 }
 {
     match ending {
         Ok(Reply::CommandLine { status, .. } | Reply::Compared { status, .. }) => *status,
@@ -83,7 +83,7 @@ fn write_asked<S: Sink>(sink: &mut S, answer: Answer, reason: Reason) -> Result<
 
 /// Writes what a command ended with, piece by piece.
 fn write_ending<S: Sink>(sink: &mut S, ending: &Result<Reply, Fault>) -> Result<(), WriteFault>
-    ensures { Writes S.contents S.failures sink.old (ending_text ending.now) result sink.new }
+    ensures { Writes S.contents S.failures sink.old (printed ending.now).1 result sink.new }
 {
     match ending {
         Ok(Reply::CommandLine { text, .. }) => write_whole(sink, text.as_bytes()),
@@ -109,7 +109,7 @@ pub(crate) fn print_ending<S: Sink>(
     room: Gathered,
 ) -> Result<(), WriteFault>
     requires { gathered room ≡ [] }
-    ensures { Writes S.contents S.failures sink.old (ending_text ending.now) result sink.new }
+    ensures { Writes S.contents S.failures sink.old (printed ending.now).1 result sink.new }
 {
     match ending {
         Ok(Reply::CommandLine { .. } | Reply::Bytes(_) | Reply::Compared { .. }) => write_ending(

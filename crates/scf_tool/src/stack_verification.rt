@@ -2,7 +2,7 @@
 
 ghost use Rattle.std.specs.Prelude.{List, Option, ℕ, IfOk, map};
 ghost use Rattle.scf_tool.specs.Verifying.{LeavesProfileReader, LeavesTableReader};
-ghost use Rattle.scf_tool.specs.VerifyingStacks.{IsVerifiedBy, LeavesFilterReaders, VerifiesBy, VerifiesStack};
+ghost use Rattle.scf_tool.specs.VerifyingStacks.{IsVerifiedBy, LeavesFilterReaders, VerifiesBy};
 ghost use Rattle.scf_tool.specs.internal.Verification.{AreParties};
 
 use crate::parties::{Parties, read_parties};
@@ -57,7 +57,7 @@ pub fn verify_stack<F: Source, P: Source, T: Source>(
     scope: Scope,
     limit: u64,
 ) -> Result<Outcome, VerifyFault>
-    ensures answer { VerifiesStack (map F.remaining filter_readers.old)
+    ensures answer { VerifiesBy Relation.Same (map F.remaining filter_readers.old)
         (T.remaining table_reader.old) (P.remaining profile_reader.old) scope limit result }
     ensures filter_readers { LeavesFilterReaders F.remaining F.failures filter_readers.old result filter_readers.new }
     ensures table_reader { LeavesTableReader T.remaining T.failures table_reader.old result table_reader.new }

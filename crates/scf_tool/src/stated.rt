@@ -3,7 +3,8 @@
 ghost use Rattle.std.specs.Prelude.{◌≡◌, ◌≤◌, length, Some, IfOk, IfErr};
 ghost use Rattle.scf_profile.specs.Limits.{max_text_len};
 ghost use Rattle.scf_tool.specs.Commands.{CantLoad, NoReadFailed};
-ghost use Rattle.scf_tool.specs.internal.Verification.{IsUnstated, States};
+ghost use Rattle.scf_tool.specs.Verifying.{IsUnstated};
+ghost use Rattle.scf_tool.specs.internal.Verification.{States};
 
 use crate::verification::VerifyFault;
 use scf_insn::InputFault;

@@ -1,15 +1,16 @@
 //! The comparison of a filter with a profile, from their bytes.
 
-ghost use Rattle.std.specs.Prelude.{ℕ, List, Option, IfOk, IfErr};
+ghost use Rattle.std.specs.Prelude.{IfOk, IfErr};
 ghost use Rattle.scf_tool.specs.Verifying.{
   IsLoaded,
+  IsNoProfile,
+  IsNoTable,
   IsTable,
   LeavesFilterReader,
   LeavesProfileReader,
   LeavesTableReader,
   Verifies,
 };
-ghost use Rattle.scf_tool.specs.internal.Verification.{IsNoProfile, IsNoTable};
 
 use crate::filter::read_filter;
 use scf_compare::{Verdict, compare};
@@ -115,8 +116,7 @@ pub(crate) fn read_profile<R: Source>(
     names: &CallTable,
 ) -> Result<Loaded, VerifyFault>
     ensures loaded { IfOk result (IsLoaded (R.remaining reader.old) names.now) }
-    ensures refused { (table : Option (List ℕ)) → IsTable table names.now
-        → IfErr result (IsNoProfile table (R.remaining reader.old)) }
+    ensures refused { IfErr result (IsNoProfile names.now (R.remaining reader.old)) }
     ensures reader { LeavesProfileReader R.remaining R.failures reader.old result reader.new }
 {
     match read_input(alloc, reader, MAX_TEXT_LEN) {

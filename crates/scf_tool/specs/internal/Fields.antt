@@ -1,20 +1,18 @@
--- The numbers of a fault, as the program keeps them.
-use Rattle.std.specs.Prelude.{ℕ, List, [], ◌++◌, codes, Option, Some, None}
+-- What a fault comes to, as the program keeps it.
+use Rattle.std.specs.Prelude.{ℕ, List, [], ◌++◌, Option, Some, None}
 use Rattle.std.specs.List.{flat_map}
-use Rattle.std.specs.Fmt.{decimal}
 use Rattle.scf_tool.specs.declared.fault_line.FaultField.{FaultField}
 use Rattle.scf_tool.specs.declared.fault_line.FaultKind.{FaultKind}
-use Rattle.scf_tool.specs.Faults.{Kind, Number, one}
+use Rattle.scf_tool.specs.declared.fault_line.FaultLine.{FaultLine}
+use Rattle.scf_tool.specs.Faults.{Kind, number_words, with_source}
 
--- a number that may be absent
-abbrev pub numbers_of_field : Option FaultField → List Number
-numbers_of_field None = []
-numbers_of_field (Some field) = one field.name.now field.number
-
-abbrev pub kind_of : FaultKind → Kind
-kind_of kind = record { status = kind.status; name = kind.name.now; numbers = flat_map numbers_of_field kind.fields }
-
--- what is written of one
+-- what is written of a number that may be absent
 abbrev pub field_text : Option FaultField → List ℕ
 field_text None = []
-field_text (Some field) = codes " " ++ field.name.now ++ codes " " ++ decimal field.number
+field_text (Some field) = number_words (field.name.now, field.number)
+
+abbrev pub kind_of : FaultKind → Kind
+kind_of kind = (kind.status, kind.name.now ++ flat_map field_text kind.fields)
+
+abbrev pub fault_line_of : FaultLine → Kind
+fault_line_of line = with_source line.source.now (kind_of line.kind)

@@ -20,8 +20,8 @@ option_of o = record { name = o.name.now; default = o.default; most = o.most }
 abbrev pub flags_in : {A : Type 0} → List (Bor (List ℕ) × A) → List (List ℕ × A)
 flags_in group = map (λ flag. (flag.0.now, flag.1)) group
 
-abbrev pub options_of : List Kept → List NumberOption
-options_of = map option_of
+abbrev pub options_kept : List Kept → List NumberOption
+options_kept = map option_of
 
 -- a command by itself
 abbrev pub definition_of : Command → App

@@ -1,7 +1,7 @@
 //! The comparison of a stack of filters with a profile.
 
-ghost use Rattle.std.specs.Prelude.{◌≡◌, map, IfOk};
-ghost use Rattle.scf_tool.specs.Commands.{Compares, ComparesParts, IsReported, IsReportedByCall, IsReportedIn};
+ghost use Rattle.std.specs.Prelude.{◌≡◌, map, IfOk, IfErr, Ok, Err};
+ghost use Rattle.scf_tool.specs.Commands.{Compares, ComparesParts, IsReported, IsReportedIn};
 ghost use Rattle.scf_tool.specs.Statuses.{LeavesWhole, joint_status, verdict_status};
 ghost use Rattle.scf_tool.specs.internal.Contents.{rest_of};
 ghost use Rattle.scf_tool.specs.internal.Reporting.{IsReportOn};
@@ -66,7 +66,7 @@ fn report_each(
     parties: Parties,
     limit: u64,
 ) -> Result<Reply, Memory>
-    ensures { IfOk result (IsReportOn (IsReportedByCall relation) limit parties) }
+    ensures { IfOk result (IsReportOn (IsReported Scopes.EachCall relation) limit parties) }
 {
     let outcome = compare_named_calls(alloc, parties, relation, limit)?;
     let status = status_of_joint(joint_verdict(&outcome.calls));
@@ -101,7 +101,10 @@ fn compare_parts(
     relation: Relation,
     limit: u64,
 ) -> Result<Reply, VerifyFault>
-    ensures { ComparesParts (map rest_of filters.old) profile.now table.now scopes relation limit result }
+    ensures reply { IfOk result (λ reply.
+        ComparesParts scopes relation limit (map rest_of filters.old) profile.now table.now (Ok reply)) }
+    ensures fault { IfErr result (λ fault.
+        ComparesParts scopes relation limit (map rest_of filters.old) profile.now table.now (Err (Fault.Verify fault))) }
 {
     let parties = parties_in(alloc, filters, profile, table)?;
     Ok(report_on(alloc, scopes, relation, parties, limit)?)

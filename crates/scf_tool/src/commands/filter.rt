@@ -4,7 +4,8 @@ ghost use Rattle.std.specs.Prelude.{◌≡◌, ℕ, List, IfOk};
 ghost use Rattle.scf_insn.specs.Words.{words_of};
 ghost use Rattle.scf_machine.specs.Path.{IsPathOf};
 ghost use Rattle.scf_text.specs.Listing.{text_of};
-ghost use Rattle.scf_tool.specs.Commands.{Checks, Lists, Runs, Traces};
+ghost use Rattle.scf_tool.specs.Commands.{EndsOnFilter, Lists};
+ghost use Rattle.scf_tool.specs.declared.request.Request.TheVariants as requests;
 ghost use Rattle.scf_tool.specs.Lines.{traced_text};
 ghost use Rattle.scf_tool.specs.Statuses.{LeavesFilter};
 
@@ -20,7 +21,7 @@ use std::alloc::Global;
 
 /// `check`: whether a filter is accepted.
 pub(super) fn check_filter<R: Source>(alloc: Global, input: &mut R) -> Result<Reply, Fault>
-    ensures answer { Checks (R.remaining input.old) result }
+    ensures answer { EndsOnFilter requests.Check (R.remaining input.old) result }
     ensures left { LeavesFilter R.remaining R.failures input.old result input.new }
 {
     let program = read_filter(alloc, input)?;
@@ -33,7 +34,7 @@ pub(super) fn run_filter<R: Source>(
     call: &CallRecord,
     input: &mut R,
 ) -> Result<Reply, Fault>
-    ensures answer { Runs call.now (R.remaining input.old) result }
+    ensures answer { EndsOnFilter (requests.Run call.now) (R.remaining input.old) result }
     ensures left { LeavesFilter R.remaining R.failures input.old result input.new }
 {
     let program = read_filter(alloc, input)?;
@@ -66,7 +67,7 @@ pub(super) fn trace_filter<R: Source>(
     call: &CallRecord,
     input: &mut R,
 ) -> Result<Reply, Fault>
-    ensures answer { Traces call.now (R.remaining input.old) result }
+    ensures answer { EndsOnFilter (requests.Trace call.now) (R.remaining input.old) result }
     ensures left { LeavesFilter R.remaining R.failures input.old result input.new }
 {
     let program = read_filter(alloc, input)?;

@@ -1,7 +1,7 @@
 //! Commands on a profile and its call table.
 
-ghost use Rattle.std.specs.Prelude.{IfOk, IfErr};
-ghost use Rattle.scf_tool.specs.Commands.{CantCompile, CantLoad, Compiles, GivesReason, IsFilterOfProfile, IsStated};
+ghost use Rattle.std.specs.Prelude.{IfOk, IfErr, Err};
+ghost use Rattle.scf_tool.specs.Commands.{CantLoad, Compiles, EndsOnProfile, GivesReason, IsFilterOfProfile, IsStated};
 ghost use Rattle.scf_tool.specs.Statuses.{LeavesWhole};
 
 use crate::commands::MAX_INPUT;
@@ -29,7 +29,7 @@ fn loaded(alloc: Global, profile: &[u8], table: &[u8]) -> Result<Loaded, VerifyF
 /// The bytes of the filter of a profile and a table.
 fn filter_bytes(alloc: Global, profile: &[u8], table: &[u8]) -> Result<Vec<u8>, Fault>
     ensures filter { IfOk result (λ bytes. IsFilterOfProfile profile.now table.now bytes.items) }
-    ensures fault { IfErr result (CantCompile profile.now table.now) }
+    ensures fault { IfErr result (λ fault. Compiles profile.now table.now (Err fault)) }
 {
     let loaded = loaded(alloc, profile, table)?;
     let program = compile(alloc, &loaded.profile)?;
@@ -41,7 +41,7 @@ fn filter_bytes(alloc: Global, profile: &[u8], table: &[u8]) -> Result<Vec<u8>, 
 
 /// `compile`: the filter that answers as a profile does.
 pub(super) fn compile_profile<R: Source>(alloc: Global, input: &mut R) -> Result<Reply, Fault>
-    ensures answer { Compiles (R.remaining input.old) result }
+    ensures answer { EndsOnProfile (R.remaining input.old) Compiles result }
     ensures left { LeavesWhole R.remaining R.failures input.old result input.new }
 {
     let bytes = read_input(alloc, input, MAX_INPUT)?;
@@ -60,7 +60,7 @@ pub(super) fn ask_profile<R: Source>(
     call: &CallRecord,
     input: &mut R,
 ) -> Result<Reply, Fault>
-    ensures answer { GivesReason call.now (R.remaining input.old) result }
+    ensures answer { EndsOnProfile (R.remaining input.old) (GivesReason call.now) result }
     ensures left { LeavesWhole R.remaining R.failures input.old result input.new }
 {
     let bytes = read_input(alloc, input, MAX_INPUT)?;

@@ -1,6 +1,6 @@
 //! Commands on a stack of filters.
 
-ghost use Rattle.scf_tool.specs.Commands.{Decides};
+ghost use Rattle.scf_tool.specs.Commands.{DecidesCall, EndsOnFilters};
 ghost use Rattle.scf_tool.specs.Statuses.{LeavesWhole};
 
 use crate::commands::MAX_INPUT;
@@ -17,7 +17,7 @@ pub(super) fn decide_stack<R: Source>(
     call: &CallRecord,
     input: &mut R,
 ) -> Result<Reply, Fault>
-    ensures answer { Decides call.now (R.remaining input.old) result }
+    ensures answer { EndsOnFilters (R.remaining input.old) (DecidesCall call.now) result }
     ensures left { LeavesWhole R.remaining R.failures input.old result input.new }
 {
     let bytes = read_input(alloc, input, MAX_INPUT)?;

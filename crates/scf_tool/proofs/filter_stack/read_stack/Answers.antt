@@ -26,8 +26,8 @@ returns-in_err-push_filter-clause-refused g c =
     rw (p.1, p.2) (no_stack g.R.Source.remaining g.R.Source.failures _ _ _ _ _ c.in_err-push_filter.field-0.0 from
     c.loop-reader.invariant c.in_err-push_filter.ensures.refused)
 
-pub returns-in_err-push_filter-clause-left : goal.returns-in_err-push_filter-clause-left
-returns-in_err-push_filter-clause-left g c =
+pub returns-in_err-push_filter-clause-stopped : goal.returns-in_err-push_filter-clause-stopped
+returns-in_err-push_filter-clause-stopped g c =
     let from : SameFrom c.loop-reader.reader-index c.args.readers.now c.loop-reader.readers
     (get_or c.loop-reader.readers c.loop-reader.reader-index c.reader-item.result) = record {
       within = omega (arith, c.loop-reader-test.true, c.loop-reader.auto.readers);

@@ -2,14 +2,14 @@ use Rattle.std.proofs.Common.{List, Result, Ok, Err, ℕ, subst}
 use Rattle.std.specs.Prelude.{IfErr, Option, Some}
 use Rattle.scf_tool.specs.declared.verification.VerifyFault.{VerifyFault}
 use Rattle.scf_tool.specs.Commands.{NoReadFailed}
-use Rattle.scf_tool.specs.FilterStacks.{HasNoStack, IsNotPushed, LeavesReaders}
+use Rattle.scf_tool.specs.FilterStacks.{HasNoStack, HaveStopped, IsNotPushed}
 use Rattle.scf_tool.specs.internal.Contents.{rest_of}
 use Rattle.scf_tool.proofs.StackLemmas.{told_of_parts, never_fails}
 use Rattle.scf_tool.proofs.filter_stack.stack_of.Goals as goal
 
 read_well : {R T : Type 0} (remaining : R → Option (List ℕ)) (texts : List (Option (List ℕ))) (olds news : List R)
     (result : Result T VerifyFault) → IfErr result (HasNoStack texts)
-    → LeavesReaders remaining (λ _. 0) olds result news → IfErr result NoReadFailed
+    → IfErr result (λ fault. HaveStopped remaining (λ _. 0) fault olds news) → IfErr result NoReadFailed
 read_well remaining texts olds news (Ok stack) none left = tt
 read_well remaining texts olds news (Err fault) none left = record {
   of_filter = never_fails remaining fault olds news left;
@@ -25,4 +25,4 @@ returns-clause-fault c = rw (told_of_parts c.args.filters.now) at c.read_stack.e
 
 pub returns-clause-read : goal.returns-clause-read
 returns-clause-read c =
-    read_well (λ reader. Some (rest_of reader)) _ _ _ _ c.read_stack.ensures.refused c.read_stack.ensures.left
+    read_well (λ reader. Some (rest_of reader)) _ _ _ _ c.read_stack.ensures.refused c.read_stack.ensures.stopped

@@ -1,13 +1,11 @@
-use Rattle.std.proofs.Common.{Some, refl}
+use Rattle.std.proofs.Common.{inr, refl}
 use Rattle.std.proofs.lemmas.Result.{err_from_is_err_and}
-use Rattle.scf_tool.proofs.PartyLemmas.{unstated}
 use Rattle.scf_tool.proofs.parties.parties_in.Goals as goal
 
 pub returns-in_err-said-clause-refused : goal.returns-in_err-said-clause-refused
 returns-in_err-said-clause-refused c =
     let p = err_from_is_err_and c.from_residual-in_err-said.result c.from_residual-in_err-said.ensures.1 in
-    rw (p.1, p.2) (unstated _ (Some c.args.table.now) (Some c.args.profile.now) c.in_err-said.field-0.0
-    (c.in_ok-stack.stack, c.in_ok-stack.ensures.stack) (c.in_err-said.ensures.refused refl))
+    rw (p.1, p.2) (inr (c.in_ok-stack.stack, c.in_ok-stack.ensures.stack, c.in_err-said.ensures.refused refl))
 
 pub returns-clause-parties : goal.returns-clause-parties
 returns-clause-parties c = record {

@@ -13,13 +13,13 @@ returns-in_err-limit c =
     let none = subst (λ (o : NumberOption). number_in rows o ≡ None) c.limit_option.ensures c.in_err-limit.ensures.err in
     let name : c.limit_option.result.name.now ≡ limit_option.name =
     ap (λ (o : NumberOption). o.name) c.limit_option.ensures in
-    rw (p.1, p.2) (record {
-      command = Compare;
-      rows = rows;
-      named = refl;
-      wrong = one_wrong limit_option rows none
-          ∙ ap (λ (name : List ℕ). Some name) (sym (c.in_err-limit.ensures.named ∙ name));
-    })
+    rw (p.1, p.2) (
+      Compare,
+      rows,
+      refl,
+      one_wrong limit_option rows none
+          ∙ ap (λ (name : List ℕ). Some name) (sym (c.in_err-limit.ensures.named ∙ name)),
+    )
 
 pub returns-in_err-scopes : goal.returns-in_err-scopes
 returns-in_err-scopes c =
@@ -27,12 +27,7 @@ returns-in_err-scopes c =
     let rows = rows_of (found_of c.args.options.now) in
     let some = subst (λ (o : NumberOption). number_in rows o ≡ Some c.in_ok-limit.limit) c.limit_option.ensures
     c.in_ok-limit.ensures.ok in
-    rw (p.1, p.2, c.in_err-scopes.ensures.flags) (record {
-      rows = rows;
-      named = refl;
-      numbers = none_wrong limit_option rows _ some;
-      flags = inl c.in_err-scopes.ensures.more;
-    })
+    rw (p.1, p.2, c.in_err-scopes.ensures.flags) (rows, refl, none_wrong limit_option rows _ some, inl c.in_err-scopes.ensures.more)
 
 pub returns-in_err-relation : goal.returns-in_err-relation
 returns-in_err-relation c =
@@ -40,9 +35,4 @@ returns-in_err-relation c =
     let rows = rows_of (found_of c.args.options.now) in
     let some = subst (λ (o : NumberOption). number_in rows o ≡ Some c.in_ok-limit.limit) c.limit_option.ensures
     c.in_ok-limit.ensures.ok in
-    rw (p.1, p.2, c.in_err-relation.ensures.flags) (record {
-      rows = rows;
-      named = refl;
-      numbers = none_wrong limit_option rows _ some;
-      flags = inr c.in_err-relation.ensures.more;
-    })
+    rw (p.1, p.2, c.in_err-relation.ensures.flags) (rows, refl, none_wrong limit_option rows _ some, inr c.in_err-relation.ensures.more)

@@ -7,20 +7,20 @@ use Rattle.scf_tool.proofs.request.request_of.Goals as goal
 pub returns-in_err-record_of-in-Some-ask-default : goal.returns-in_err-record_of-in-Some-ask-default
 returns-in_err-record_of-in-Some-ask-default c =
     let p = err_from_is_err_and c.from_residual.result c.from_residual.ensures.1 in
-    rw (p.1, p.2) (record {
-      command = Ask;
-      rows = rows_of (found_of c.in-Some-ask-default.options.now);
-      named = search rules;
-      wrong = c.in_err-record_of-in-Some-ask-default.ensures;
-    })
+    rw (p.1, p.2) (
+      Ask,
+      rows_of (found_of c.in-Some-ask-default.options.now),
+      search rules,
+      c.in_err-record_of-in-Some-ask-default.ensures,
+    )
 
 pub returns-in_err-record_of-in-Some-decide-default : goal.returns-in_err-record_of-in-Some-decide-default
 returns-in_err-record_of-in-Some-decide-default c =
     let p = err_from_is_err_and c.from_residual-in_err-record_of-in-Some-decide-default.result
     c.from_residual-in_err-record_of-in-Some-decide-default.ensures.1 in
-    rw (p.1, p.2) (record {
-      command = Decide;
-      rows = rows_of (found_of c.in-Some-decide-default.options.now);
-      named = search rules;
-      wrong = c.in_err-record_of-in-Some-decide-default.ensures;
-    })
+    rw (p.1, p.2) (
+      Decide,
+      rows_of (found_of c.in-Some-decide-default.options.now),
+      search rules,
+      c.in_err-record_of-in-Some-decide-default.ensures,
+    )

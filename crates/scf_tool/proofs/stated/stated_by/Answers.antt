@@ -1,14 +1,20 @@
-use Rattle.std.proofs.Common.{arith}
+use Rattle.std.proofs.Common.{arith, inl, inr}
 use Rattle.std.proofs.lemmas.Result.{err_from_is_err_and}
 use Rattle.scf_tool.proofs.stated.stated_by.Goals as goal
 
+pub returns-then-table-most-clause-refused : goal.returns-then-table-most-clause-refused
+returns-then-table-most-clause-refused c = λ is. inl (omega (arith, is, c.if-table-most.true))
+
+pub returns-in_err-names-clause-refused : goal.returns-in_err-names-clause-refused
+returns-in_err-names-clause-refused c = λ is.
+    let p = err_from_is_err_and c.from_residual.result c.from_residual.ensures.1 in
+    rw (p.1, p.2) (inl (omega (arith, is, c.if-table-most.false), c.in_err-names.ensures.table))
+
 pub returns-then-profile-most-clause-refused : goal.returns-then-profile-most-clause-refused
-returns-then-profile-most-clause-refused c = λ is. (
-  (
-    c.in_ok-names.names,
-    (omega (arith, is, c.if-table-most.false), c.in_ok-names.ensures.table),
-  ),
-  omega (arith, is, c.if-profile-most.true),
+returns-then-profile-most-clause-refused c = λ is. inr (
+  c.in_ok-names.names,
+  (omega (arith, is, c.if-table-most.false), c.in_ok-names.ensures.table),
+  inl (omega (arith, is, c.if-profile-most.true)),
 )
 
 pub returns-in_err-loaded-clause-fault : goal.returns-in_err-loaded-clause-fault
@@ -19,8 +25,8 @@ returns-in_err-loaded-clause-fault c = λ table_fits profile_fits.
 pub returns-in_err-loaded-clause-refused : goal.returns-in_err-loaded-clause-refused
 returns-in_err-loaded-clause-refused c = λ is.
     let p = err_from_is_err_and c.from_residual-in_err-loaded.result c.from_residual-in_err-loaded.ensures.1 in
-    rw (p.1, p.2) record {
-      names = c.in_ok-names.names;
-      is_table = (omega (arith, is, c.if-table-most.false), c.in_ok-names.ensures.table);
-      refused = (omega (arith, is, c.if-profile-most.false), c.in_err-loaded.ensures.err);
-    }
+    rw (p.1, p.2) (inr (
+      c.in_ok-names.names,
+      (omega (arith, is, c.if-table-most.false), c.in_ok-names.ensures.table),
+      inl (omega (arith, is, c.if-profile-most.false), c.in_err-loaded.ensures.err),
+    ))

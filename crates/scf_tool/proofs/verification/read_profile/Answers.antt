@@ -15,13 +15,9 @@ refused_text (Some told) text names fault h refused =
     (h.1, subst (λ (t : List ℕ). Refuses t names fault) (sym h.0) refused)
 
 pub returns-in_err-load-in-Ok-clause-refused : goal.returns-in_err-load-in-Ok-clause-refused
-returns-in_err-load-in-Ok-clause-refused g c = λ table is_table.
+returns-in_err-load-in-Ok-clause-refused g c =
     let p = err_from_is_err_and c.from_residual.result c.from_residual.ensures.1 in
     let refused = subst (λ (t : List ℕ). Refuses t c.args.names.now c.in_err-load-in-Ok.field-0.0)
     c.deref.ensures.value c.in_err-load-in-Ok.ensures.err in
-    rw (p.1, p.2) record {
-      names = c.args.names.now;
-      is_table = is_table;
-      refused = refused_text (g.R.Source.remaining c.args.reader.now) c.in-Ok.text.items c.args.names.now
-          c.in_err-load-in-Ok.field-0.0 c.in-Ok.ensures.input refused;
-    }
+    rw (p.1, p.2) (refused_text (g.R.Source.remaining c.args.reader.now) c.in-Ok.text.items c.args.names.now
+    c.in_err-load-in-Ok.field-0.0 c.in-Ok.ensures.input refused)

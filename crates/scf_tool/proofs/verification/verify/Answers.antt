@@ -1,32 +1,38 @@
-use Rattle.std.proofs.Common.{refl}
+use Rattle.std.proofs.Common.{inl, inr, refl}
 use Rattle.std.proofs.lemmas.Result.{err_from_is_err_and}
-use Rattle.scf_tool.proofs.Refusals.{no_filter, no_table, no_profile}
 use Rattle.scf_tool.proofs.verification.verify.Goals as goal
 
 pub returns-in_err-program-clause-answer : goal.returns-in_err-program-clause-answer
 returns-in_err-program-clause-answer g c =
     let p = err_from_is_err_and c.from_residual.result c.from_residual.ensures.1 in
-    rw (p.1, p.2) (no_filter _ _ _ c.in_err-program.field-0.0 c.in_err-program.ensures.refused)
+    rw (p.1, p.2) (inl c.in_err-program.ensures.refused)
 
 pub returns-in_err-names-clause-answer : goal.returns-in_err-names-clause-answer
 returns-in_err-names-clause-answer g c =
     let p = err_from_is_err_and c.from_residual-in_err-names.result c.from_residual-in_err-names.ensures.1 in
-    rw (p.1, p.2) (no_table _ _ _ c.in_err-names.field-0.0 (c.in_ok-program.program, c.in_ok-program.ensures.filter)
-    c.in_err-names.ensures.refused)
+    rw (p.1, p.2) (inr (c.in_ok-program.program, c.in_ok-program.ensures.filter, inl c.in_err-names.ensures.refused))
 
 pub returns-in_err-loaded-clause-answer : goal.returns-in_err-loaded-clause-answer
 returns-in_err-loaded-clause-answer g c =
     let p = err_from_is_err_and c.from_residual-in_err-loaded.result c.from_residual-in_err-loaded.ensures.1 in
-    rw (p.1, p.2) (no_profile _ _ _ c.in_err-loaded.field-0.0 (c.in_ok-program.program, c.in_ok-program.ensures.filter)
-    (c.in_err-loaded.ensures.refused (g.T.Source.remaining c.args.table_reader.now) c.in_ok-names.ensures.table))
+    rw (p.1, p.2) (inr (
+      c.in_ok-program.program,
+      c.in_ok-program.ensures.filter,
+      inr (c.in_ok-names.names, c.in_ok-names.ensures.table, inl c.in_err-loaded.ensures.refused),
+    ))
 
 pub returns-in_err-verdict-clause-answer : goal.returns-in_err-verdict-clause-answer
 returns-in_err-verdict-clause-answer g c =
     let p = err_from_is_err_and c.from_residual-in_err-verdict.result c.from_residual-in_err-verdict.ensures.1 in
-    rw (p.1, p.2) (
-      (c.in_ok-program.program, c.in_ok-program.ensures.filter),
-      (c.in_ok-names.names, c.in_ok-names.ensures.table, c.in_ok-loaded.loaded, c.in_ok-loaded.ensures.loaded),
-    )
+    rw (p.1, p.2) (inr (
+      c.in_ok-program.program,
+      c.in_ok-program.ensures.filter,
+      inr (
+        c.in_ok-names.names,
+        c.in_ok-names.ensures.table,
+        inr (c.in_ok-loaded.loaded, c.in_ok-loaded.ensures.loaded, refl),
+      ),
+    ))
 
 pub returns-clause-answer : goal.returns-clause-answer
 returns-clause-answer g c = record {

@@ -1,7 +1,8 @@
-use Rattle.std.proofs.Common.{rules, ◌≤◌, length, Ok, Err, arith}
+use Rattle.std.proofs.Common.{ℕ, List, rules, ◌≤◌, length, Ok, Err, arith}
 use Rattle.std.proofs.lemmas.Result.{err_from_is_err_and}
 use Rattle.std.proofs.lemmas.Bool.Decides.{nat_tests}
-use Rattle.scf_tool.specs.Commands.{IsInputRead}
+use Rattle.scf_tool.specs.declared.fault.Fault.TheVariants.{Verify}
+use Rattle.scf_tool.specs.Commands.{ComparesParts, ReadsInput}
 use Rattle.scf_tool.proofs.StackLemmas.{bundle_compared}
 use Rattle.scf_tool.proofs.commands.compare.compare_bundle.Goals as goal
 
@@ -9,24 +10,27 @@ pub returns-in_err-compare_parts-clause-answer : goal.returns-in_err-compare_par
 returns-in_err-compare_parts-clause-answer g c =
     let p = err_from_is_err_and c.from_residual-in_err-compare_parts.result
     c.from_residual-in_err-compare_parts.ensures.1 in
-    let read : IsInputRead (g.R.Source.remaining c.args.input.now) c.deref.result.now = search rules in
+    let read : ReadsInput (g.R.Source.remaining c.args.input.now) (Ok c.deref.result.now) = search rules in
     let profile = rw c.in-Some-Some-false.is-0 at c.only-profile.ensures in
     let table = rw c.in-Some-Some-false.is-1 at c.only-table.ensures in
     let some : 1 ≤ length c.deref_mut.result.now =
     let e = c.in-Some-Some-false.ensures in let d = c.deref_mut.ensures in grind (arith, nat_tests) in
-    rw (p.1, p.2) (bundle_compared _ _ c.args.scopes c.args.relation c.args.limit (Err c.in_err-compare_parts.field-0.0)
-    c.deref_mut.result.now c.deref-2.result.now c.deref-3.result.now _ _ read
+    let ends : List (List ℕ) → List ℕ → List ℕ → Type 0 = λ filters profile table.
+    ComparesParts c.args.scopes c.args.relation c.args.limit filters profile table
+    (Err (Verify c.in_err-compare_parts.field-0.0)) in
+    rw (p.1, p.2) (bundle_compared _ _ c.deref_mut.result.now c.deref-2.result.now c.deref-3.result.now _ _ ends read
     (rw (c.deref_mut.ensures.value, c.deref-2.ensures.value, c.deref-3.ensures.value) c.in_ok-contents.ensures.bundle)
-    profile table some c.in_err-compare_parts.ensures)
+    profile table some c.in_err-compare_parts.ensures.fault)
 
 pub returns-clause-answer : goal.returns-clause-answer
 returns-clause-answer g c =
-    let read : IsInputRead (g.R.Source.remaining c.args.input.now) c.deref.result.now = search rules in
+    let read : ReadsInput (g.R.Source.remaining c.args.input.now) (Ok c.deref.result.now) = search rules in
     let profile = rw c.in-Some-Some-false.is-0 at c.only-profile.ensures in
     let table = rw c.in-Some-Some-false.is-1 at c.only-table.ensures in
     let some : 1 ≤ length c.deref_mut.result.now =
     let e = c.in-Some-Some-false.ensures in let d = c.deref_mut.ensures in grind (arith, nat_tests) in
-    bundle_compared _ _ c.args.scopes c.args.relation c.args.limit (Ok c.in_ok-compare_parts.field-0) c.deref_mut.result.now
-    c.deref-2.result.now c.deref-3.result.now _ _ read
+    let ends : List (List ℕ) → List ℕ → List ℕ → Type 0 = λ filters profile table.
+    ComparesParts c.args.scopes c.args.relation c.args.limit filters profile table (Ok c.in_ok-compare_parts.field-0) in
+    bundle_compared _ _ c.deref_mut.result.now c.deref-2.result.now c.deref-3.result.now _ _ ends read
     (rw (c.deref_mut.ensures.value, c.deref-2.ensures.value, c.deref-3.ensures.value) c.in_ok-contents.ensures.bundle)
-    profile table some c.in_ok-compare_parts.ensures
+    profile table some c.in_ok-compare_parts.ensures.reply
