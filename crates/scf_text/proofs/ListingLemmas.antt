@@ -1,13 +1,13 @@
 -- The lines of a listing: their tokens, and that no byte or token of them ends a line, a statement or a label.
 use Rattle.std.proofs.Common.{◌≡◌, ℕ, ◌/◌, ◌%◌, ◌<◌, ◌^◌, true, false, ◌&&◌, ◌||◌, eqb, List, [], ◌∷◌, ◌++◌}
-use Rattle.std.proofs.Common.{length, Some, refl, ap, ◌∙◌, arith, inl, inr, zero, suc, ◌≤◌, Bool, ltb, sym, subst}
+use Rattle.std.proofs.Common.{length, Some, refl, ap, ◌∙◌, arith, inl, inr, zero, suc, ◌≤◌, Bool, ltb}
 use Rattle.std.proofs.Common.{None, not}
 use Rattle.std.specs.List.{list_all, flat_map, AllByRecursion}
 use Rattle.std.specs.Char.{is_digit, digit_value}
 use Rattle.std.specs.Fmt.{decimal, digits, digit_glyph, digits_onto}
 use Rattle.std.specs.Str.Parse.{digits_value, AllDigits, IsNumeral}
 use Rattle.std.proofs.lemmas.Bool.{eqb-true, ne_eqb, cases_Bool, lt-ltb, agree_below_at, and_parts, and_from, and_right}
-use Rattle.std.proofs.lemmas.Bool.{ltb-true, or_cases, not-true}
+use Rattle.std.proofs.lemmas.Bool.{ltb-true, not-true}
 use Rattle.std.proofs.lemmas.Fmt.{digits_is_IsNumeral}
 use Rattle.std.proofs.lemmas.Str.Parse.{digit_from_value}
 use Rattle.scf_text.specs.Characters.{is_word_byte}
@@ -15,9 +15,9 @@ use Rattle.scf_text.specs.Tokens.{begins_in_word, before_comment}
 use Rattle.scf_insn.specs.Numbers.{number_of, numeral, has_hex_prefix}
 use Rattle.scf_text.specs.Drafts.{is_name}
 use Rattle.std.proofs.lemmas.Bool.Decides.{nat_tests}
-use Rattle.scf_text.specs.Listing.{four_digits, number_text, mark_text, piece_text, operands_text}
+use Rattle.scf_text.specs.Listing.{four_digits, number_text, operands_text}
 use Rattle.scf_text.specs.internal.Parts.{words_of_part}
-use Rattle.scf_text.proofs.TokenLemmas.{words_nil, words_blank, words_mark, words_word}
+use Rattle.scf_text.proofs.TokenLemmas.{words_nil, words_blank, words_mark, words_word, words_one, words_more, onto_word}
 use Rattle.std.specs.Prelude.{codes}
 use Rattle.scf_insn.specs.Insn.{IsInsn}
 use Rattle.scf_insn.specs.declared.insn.Insn.{Insn}
@@ -155,27 +155,6 @@ piece_wordy i f style fits = number_wordy style (field_of i f) (field_small i f 
 
 -- pieces
 
-abbrev pub is_mark : Piece → Bool
-is_mark (p.Mark b) = true
-is_mark _ = false
-
--- one of `#`, `,`, `[` and `]`
-abbrev pub is_fine_mark : ℕ → Bool
-is_fine_mark b = eqb b 35 || (eqb b 44 || (eqb b 91 || eqb b 93))
-
-abbrev pub is_fine : Piece → Bool
-is_fine (p.Mark b) = is_fine_mark b
-is_fine _ = true
-
-abbrev pub starts_with_mark : List Piece → Bool
-starts_with_mark [] = true
-starts_with_mark (q ∷ ps) = is_mark q
-
--- no two words stand side by side
-abbrev pub is_separated : List Piece → Bool
-is_separated [] = true
-is_separated (q ∷ ps) = is_fine q && ((is_mark q || starts_with_mark ps) && is_separated ps)
-
 abbrev pub piece_words : Insn → Piece → List (List ℕ)
 piece_words i (p.Mark b) = (b ∷ []) ∷ []
 piece_words i p.Len = codes "len" ∷ []
@@ -185,60 +164,54 @@ piece_words i p.Index = codes "x" ∷ []
 piece_words i (p.Number f style) = number_text style (field_of i f) ∷ []
 piece_words i (p.Target f) = decimal (field_of i f) ∷ []
 
--- what holds of each byte that the forms have as a token holds of a fine mark
-pub mark_cases : (P : ℕ → Type 0) → P 35 → P 44 → P 91 → P 93 → (b : ℕ) → is_fine_mark b ≡ true → P b
-mark_cases P sign comma left right b fine =
-    elim (or_cases (eqb b 35) (eqb b 44 || (eqb b 91 || eqb b 93)) fine) [
-      | inl e ↦ subst P (sym (eqb-true b 35 e)) sign
-      | inr others ↦
-          elim (or_cases (eqb b 44) (eqb b 91 || eqb b 93) others) [
-            | inl e ↦ subst P (sym (eqb-true b 44 e)) comma
-            | inr brackets ↦
-                elim (or_cases (eqb b 91) (eqb b 93) brackets) [
-                  | inl e ↦ subst P (sym (eqb-true b 91 e)) left
-                  | inr e ↦ subst P (sym (eqb-true b 93 e)) right
-                ]
-          ]
-    ]
+words_hexadecimal : (n : ℕ) (rest : List ℕ) → n < 2 ^ 32 → begins_in_word rest ≡ false
+    → words_of_part (48 ∷ 120 ∷ (digits 16 false n ++ rest)) ≡ (48 ∷ 120 ∷ digits 16 false n) ∷ words_of_part rest
+words_hexadecimal n rest lt h = words_wordy (48 ∷ 120 ∷ digits 16 false n) rest (number_wordy Hexadecimal n lt) h
 
-one_piece : (i : Insn) (q : Piece) (rest : List ℕ) → IsInsn i → is_fine q ≡ true
-    → (is_mark q ≡ false → begins_in_word rest ≡ false) → words_of_part (piece_text i q ++ rest) ≡ piece_words i q ++ words_of_part rest
-one_piece i (p.Mark b) rest fits fine h =
-    mark_cases (λ c. words_of_part (mark_text c ++ rest) ≡ (c ∷ []) ∷ words_of_part rest) (words_mark 35 rest refl refl)
-    (words_mark 44 (32 ∷ rest) refl refl ∙ ap (λ (ws : List (List ℕ)). (44 ∷ []) ∷ ws) (words_blank 32 rest refl))
-    (words_mark 91 rest refl refl) (words_mark 93 rest refl refl) b fine
-one_piece i (p.Number f style) rest fits fine h =
-    words_wordy (number_text style (field_of i f)) rest (piece_wordy i f style fits) (h refl)
-one_piece i (p.Target f) rest fits fine h =
-    words_wordy (decimal (field_of i f)) rest (piece_wordy i f Decimal fits) (h refl)
-one_piece i q rest fits fine h =
-    words_wordy (piece_text i q) rest (record { some = omega arith; each = refl }) (h refl)
+words_decimal : (n : ℕ) (rest : List ℕ) → n < 2 ^ 32 → begins_in_word rest ≡ false
+    → words_of_part (decimal n ++ rest) ≡ decimal n ∷ words_of_part rest
+words_decimal n rest lt h = words_wordy (decimal n) rest (number_wordy Decimal n lt) h
 
-mark_in_front : (b : ℕ) (rest : List ℕ) → is_fine_mark b ≡ true → begins_in_word (mark_text b ++ rest) ≡ false
-mark_in_front b rest fine =
-    mark_cases (λ c. begins_in_word (mark_text c ++ rest) ≡ false) refl refl refl refl b fine
+words_code : (n : ℕ) (rest : List ℕ) → n < 2 ^ 32 → begins_in_word rest ≡ false
+    → words_of_part (48 ∷ 120 ∷ (four_digits n ++ rest)) ≡ (48 ∷ 120 ∷ four_digits n) ∷ words_of_part rest
+words_code n rest lt h = words_wordy (48 ∷ 120 ∷ four_digits n) rest (number_wordy FourDigits n lt) h
 
-no_word_in_front : (i : Insn) (ps : List Piece) → is_separated ps ≡ true → starts_with_mark ps ≡ true
-    → begins_in_word (flat_map (piece_text i) ps) ≡ false
-no_word_in_front i [] s h = refl
-no_word_in_front i (p.Mark b ∷ ps) s h =
-    mark_in_front b (flat_map (piece_text i) ps)
-    (and_parts (is_fine_mark b) ((true || starts_with_mark ps) && is_separated ps) s).0
-no_word_in_front i (q ∷ ps) s h = absurd cc
-
-or_right : (a b : Bool) → (a || b) ≡ true → a ≡ false → b ≡ true
-or_right true b h k = absurd cc
-or_right false b h k = h
-
-pub pieces_words : (i : Insn) (ps : List Piece) → IsInsn i → is_separated ps ≡ true
-    → words_of_part (flat_map (piece_text i) ps) ≡ flat_map (piece_words i) ps
-pieces_words i [] fits s = words_nil
-pieces_words i (q ∷ ps) fits s =
-    let a = and_parts (is_fine q) ((is_mark q || starts_with_mark ps) && is_separated ps) s in
-    let b = and_parts (is_mark q || starts_with_mark ps) (is_separated ps) a.1 in
-    one_piece i q (flat_map (piece_text i) ps) fits a.0
-    (λ h. no_word_in_front i ps b.1 (or_right (is_mark q) (starts_with_mark ps) b.0 h))
-    ∙ ap (λ (ws : List (List ℕ)). piece_words i q ++ ws) (pieces_words i ps fits b.1)
+operands_words : (i : Insn) (shape : Shape) → IsInsn i
+    → words_of_part (operands_text i (pieces_of shape)) ≡ flat_map (piece_words i) (pieces_of shape)
+unfolding onto_word
+operands_words i s.Nothing h = words_nil
+operands_words i s.Length h = simp (words_blank, words_more, words_one, words_nil)
+operands_words i s.Accumulator h = simp (words_blank, words_more, words_one, words_nil)
+operands_words i s.Index h = simp (words_blank, words_more, words_one, words_nil)
+operands_words i s.Constant h =
+    simp (words_hexadecimal i.k, h.k, words_blank, words_mark, words_nil)
+operands_words i s.Absolute h =
+    simp (words_decimal i.k, h.k, words_blank, words_mark, words_nil)
+operands_words i s.Scratch h =
+    simp (words_decimal i.k, h.k, words_blank, words_mark, words_one, words_nil)
+operands_words i s.Jump h = simp (words_decimal i.k, h.k, words_blank, words_nil)
+operands_words i s.TestConstant h =
+    let jt = field_small i Jt h in
+    let jf = field_small i Jf h in
+    simp (words_hexadecimal i.k, h.k, words_decimal i.jt, words_decimal i.jf, words_blank, words_mark, words_nil)
+operands_words i s.TestIndex h =
+    let jt = field_small i Jt h in
+    let jf = field_small i Jf h in
+    simp (words_decimal i.jt, words_decimal i.jf, words_blank, words_mark, words_one, words_nil)
+operands_words i s.Raw h =
+    let code = field_small i Code h in
+    let jt = field_small i Jt h in
+    let jf = field_small i Jf h in
+    simp (
+      words_code i.code,
+      words_hexadecimal i.k,
+      h.k,
+      words_decimal i.jt,
+      words_decimal i.jf,
+      words_blank,
+      words_mark,
+      words_nil,
+    )
 
 -- the mnemonic
 
@@ -253,25 +226,17 @@ pub mnemonic_wordy : (n : Mnemonic) → IsWordy (mnemonic_text n)
 mnemonic_wordy m.Ld = wordy_from (mnemonic_text m.Ld) refl
 mnemonic_wordy n = wordy_from (mnemonic_text n) refl
 
-operands_words : (i : Insn) (ps : List Piece) → IsInsn i → is_separated ps ≡ true
-    → words_of_part (operands_text i ps) ≡ flat_map (piece_words i) ps
-operands_words i [] fits s = words_nil
-operands_words i (q ∷ ps) fits s = words_blank 32 (flat_map (piece_text i) (q ∷ ps)) refl
-    ∙ pieces_words i (q ∷ ps) fits s
-
 operands_apart : (i : Insn) (ps : List Piece) → begins_in_word (operands_text i ps) ≡ false
 operands_apart i [] = refl
 operands_apart i (q ∷ ps) = refl
 
-pub line_words : (i : Insn) (n : Mnemonic) (ps : List Piece) → IsInsn i → is_separated ps ≡ true
-    → words_of_part (mnemonic_text n ++ operands_text i ps) ≡ mnemonic_text n ∷ flat_map (piece_words i) ps
-line_words i n ps fits s =
-    words_wordy (mnemonic_text n) (operands_text i ps) (mnemonic_wordy n) (operands_apart i ps)
-    ∙ ap (λ (ws : List (List ℕ)). mnemonic_text n ∷ ws) (operands_words i ps fits s)
-
-pub separated : (shape : Shape) → is_separated (pieces_of shape) ≡ true
-separated s.Nothing = refl
-separated shape = refl
+pub line_words : (i : Insn) (n : Mnemonic) (shape : Shape) → IsInsn i
+    → words_of_part (mnemonic_text n ++ operands_text i (pieces_of shape))
+    ≡ mnemonic_text n ∷ flat_map (piece_words i) (pieces_of shape)
+line_words i n shape fits =
+    words_wordy (mnemonic_text n) (operands_text i (pieces_of shape)) (mnemonic_wordy n)
+    (operands_apart i (pieces_of shape))
+    ∙ ap (λ (ws : List (List ℕ)). mnemonic_text n ∷ ws) (operands_words i shape fits)
 
 -- a byte that neither ends a line nor begins a comment
 abbrev pub is_line_byte : ℕ → Bool
@@ -301,39 +266,48 @@ wordy_plain (b ∷ t) w =
     let h = (and_parts (is_word_byte b) (list_all is_word_byte t) w.each).0 in
     rw (word_semicolon b h, word_colon b h) refl
 
-mark_line : (b : ℕ) → is_fine_mark b ≡ true
-    → (list_all is_line_byte (mark_text b) ≡ true) × (list_all is_plain ((b ∷ []) ∷ []) ≡ true)
-mark_line b fine =
-    mark_cases
-    (λ c. (list_all is_line_byte (mark_text c) ≡ true) × (list_all is_plain ((c ∷ []) ∷ []) ≡ true)) (refl, refl)
-    (refl, refl) (refl, refl) (refl, refl) b fine
+number_line : (i : Insn) (f : Field) (style : Style) → IsInsn i
+    → (list_all is_line_byte (number_text style (field_of i f)) ≡ true)
+    × (is_plain (number_text style (field_of i f)) ≡ true)
+number_line i f style fits = let w = piece_wordy i f style fits in
+    (words_line (number_text style (field_of i f)) w.each, wordy_plain (number_text style (field_of i f)) w)
 
-piece_line : (i : Insn) (q : Piece) → IsInsn i → is_fine q ≡ true
-    → (list_all is_line_byte (piece_text i q) ≡ true) × (list_all is_plain (piece_words i q) ≡ true)
-piece_line i (p.Mark b) fits fine = mark_line b fine
-piece_line i (p.Number f style) fits fine = let w = piece_wordy i f style fits in
-    (words_line (number_text style (field_of i f)) w.each, rw (wordy_plain (number_text style (field_of i f)) w) refl)
-piece_line i (p.Target f) fits fine = let w = piece_wordy i f Decimal fits in
-    (words_line (decimal (field_of i f)) w.each, rw (wordy_plain (decimal (field_of i f)) w) refl)
-piece_line i q fits fine = (refl, refl)
-
-pieces_line : (i : Insn) (ps : List Piece) → IsInsn i → is_separated ps ≡ true
-    → (list_all is_line_byte (flat_map (piece_text i) ps) ≡ true)
+abbrev IsListed : Insn → List Piece → Type 0
+IsListed i ps = (list_all is_line_byte (operands_text i ps) ≡ true)
     × (list_all is_plain (flat_map (piece_words i) ps) ≡ true)
-pieces_line i [] fits s = (refl, refl)
-pieces_line i (q ∷ ps) fits s =
-    let a = and_parts (is_fine q) ((is_mark q || starts_with_mark ps) && is_separated ps) s in
-    let b = and_parts (is_mark q || starts_with_mark ps) (is_separated ps) a.1 in
-    let one = piece_line i q fits a.0 in
-    let rest = pieces_line i ps fits b.1 in (
-      rw (list_all-append is_line_byte (piece_text i q) (flat_map (piece_text i) ps), one.0, rest.0) refl,
-      rw (list_all-append is_plain (piece_words i q) (flat_map (piece_words i) ps), one.1, rest.1) refl,
-    )
 
-operands_line : (i : Insn) (ps : List Piece) → IsInsn i → is_separated ps ≡ true
-    → list_all is_line_byte (operands_text i ps) ≡ true
-operands_line i [] fits s = refl
-operands_line i (q ∷ ps) fits s = (pieces_line i (q ∷ ps) fits s).0
+operands_listed : (i : Insn) (shape : Shape) → IsInsn i → IsListed i (pieces_of shape)
+operands_listed i s.Nothing h = (refl, refl)
+operands_listed i s.Length h = (refl, refl)
+operands_listed i s.Accumulator h = (refl, refl)
+operands_listed i s.Index h = (refl, refl)
+operands_listed i s.Constant h =
+    let hex = number_line i K Hexadecimal h in
+    (simp (list_all-append, hex.0), simp (list_all-append, hex.1))
+operands_listed i s.Absolute h =
+    let k = number_line i K Decimal h in
+    (simp (list_all-append, k.0), simp (list_all-append, k.1))
+operands_listed i s.Scratch h =
+    let k = number_line i K Decimal h in
+    (simp (list_all-append, k.0), simp (list_all-append, k.1))
+operands_listed i s.Jump h =
+    let k = number_line i K Decimal h in
+    (simp (list_all-append, k.0), simp (list_all-append, k.1))
+operands_listed i s.TestConstant h =
+    let hex = number_line i K Hexadecimal h in
+    let jt = number_line i Jt Decimal h in
+    let jf = number_line i Jf Decimal h in
+    (simp (list_all-append, hex.0, jt.0, jf.0), simp (list_all-append, hex.1, jt.1, jf.1))
+operands_listed i s.TestIndex h =
+    let jt = number_line i Jt Decimal h in
+    let jf = number_line i Jf Decimal h in
+    (simp (list_all-append, jt.0, jf.0), simp (list_all-append, jt.1, jf.1))
+operands_listed i s.Raw h =
+    let code = number_line i Code FourDigits h in
+    let hex = number_line i K Hexadecimal h in
+    let jt = number_line i Jt Decimal h in
+    let jf = number_line i Jf Decimal h in
+    (simp (list_all-append, code.0, hex.0, jt.0, jf.0), simp (list_all-append, code.1, hex.1, jt.1, jf.1))
 
 -- the line of an instruction, without its end, and its tokens
 abbrev pub body : Insn → List ℕ
@@ -349,7 +323,7 @@ body_line i fits =
     rw (
       list_all-append is_line_byte (mnemonic_text n) (operands_text i ps),
       words_line (mnemonic_text n) (mnemonic_wordy n).each,
-      operands_line i ps fits (separated (form_for i).shape),
+      (operands_listed i (form_for i).shape fits).0,
     ) refl
 
 line_small : (b : ℕ) → is_line_byte b ≡ true → b < 128
@@ -394,4 +368,4 @@ no_label t (u ∷ ts) h =
     rw (and_right (is_name t) (bytes_eq u (58 ∷ [])) (not-true (bytes_eq u (58 ∷ [])) c.1)) refl
 
 pub operands_plain : (i : Insn) → IsInsn i → list_all is_plain (operands i) ≡ true
-operands_plain i fits = (pieces_line i (pieces_of (form_for i).shape) fits (separated (form_for i).shape)).1
+operands_plain i fits = (operands_listed i (form_for i).shape fits).1

@@ -2,7 +2,7 @@
 use Rattle.scf_text.specs.internal.Parts.{words_of_part}
 use Rattle.scf_text.proofs.TokenLemmas.{words_nil}
 use Rattle.scf_text.proofs.ListingLemmas.{hexadecimal_is, decimal_is, decimal_no_name, four_digits_is, piece_words}
-use Rattle.scf_text.proofs.ListingLemmas.{field_small, separated, mnemonic_wordy, line_words, is_plain, wordy_plain}
+use Rattle.scf_text.proofs.ListingLemmas.{field_small, mnemonic_wordy, line_words, is_plain, wordy_plain}
 use Rattle.scf_text.proofs.ListingLemmas.{operands_plain, body, operands, body_line, no_comment, no_end, small_bytes}
 use Rattle.scf_text.proofs.ListingLemmas.{no_semicolon, no_label}
 use Rattle.std.proofs.Common.{◌≡◌, ℕ, Bool, true, false, ◌||◌, ◌&&◌, cond, eqb, Option, None, Some, refl, sym, inl, inr}
@@ -147,10 +147,9 @@ name_of i = mnemonic_text (form_for i).mnemonic
 
 line_tokens : (i : Insn) → IsInsn i → tokens_of_statements (body i) ≡ (name_of i ∷ operands i) ∷ []
 line_tokens i fits =
-    let ps = pieces_of (form_for i).shape in
     let found : map (λ (l : Lexeme). l.text) (lexemes_from 0 (before_comment (body i))) ≡ name_of i ∷ operands i =
     ap words_of_part (no_comment (body i) (body_line i fits))
-    ∙ line_words i (form_for i).mnemonic ps fits (separated (form_for i).shape) in
+    ∙ line_words i (form_for i).mnemonic (form_for i).shape fits in
     let plain =
     and_from (is_plain (name_of i)) (list_all is_plain (operands i))
     (wordy_plain (name_of i) (mnemonic_wordy (form_for i).mnemonic)) (operands_plain i fits) in

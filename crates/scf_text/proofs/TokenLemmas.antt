@@ -179,7 +179,7 @@ words_at a b (c ∷ cs) =
 pub words_blank : (b : ℕ) (bs : List ℕ) → is_blank b ≡ true → words_of_part (b ∷ bs) ≡ words_of_part bs
 words_blank b bs h = ap (map (λ (l : Lexeme). l.text)) (blank_in_front 0 b bs h) ∙ words_at 1 0 bs
 
-words_one : (b : ℕ) (bs : List ℕ) → is_blank b ≡ false → (is_word_byte b && begins_in_word bs) ≡ false
+pub words_one : (b : ℕ) (bs : List ℕ) → is_blank b ≡ false → (is_word_byte b && begins_in_word bs) ≡ false
     → words_of_part (b ∷ bs) ≡ (b ∷ []) ∷ words_of_part bs
 words_one b bs h k =
     ap (map (λ (l : Lexeme). l.text)) (one_in_front 0 b bs h k)
