@@ -25,16 +25,6 @@ mod compile;
 #[cfg(test)]
 mod conflicts;
 #[cfg(test)]
-mod facts;
-#[cfg(test)]
-mod facts_arcs;
-#[cfg(test)]
-mod facts_exact;
-#[cfg(test)]
-mod facts_largest;
-#[cfg(test)]
-mod facts_walk;
-#[cfg(test)]
 mod fixtures;
 #[cfg(test)]
 mod largest;
@@ -56,9 +46,5 @@ mod searches;
 mod streams;
 #[cfg(test)]
 mod text;
-#[cfg(test)]
-mod word_4;
-#[cfg(test)]
-mod word_sets;
 #[cfg(test)]
 mod x86_64_table;

@@ -1,6 +1,6 @@
-//! Atoms on word 4, and what sets of numbers are told of them and tell.
+//! Atoms on word 4, what stores of facts learn of them and tell, and the way back to a mark.
 
-use scf_facts::{Atom, Tell, WordFacts, WordSets};
+use scf_facts::{Atom, Tell, WordFacts};
 use std::process::Abort;
 
 pub(crate) const ALL_BITS: u32 = u32::MAX;
@@ -55,6 +55,12 @@ pub(crate) fn are_told<F: WordFacts>(rt: &impl Abort, facts: &F, told: &[(Atom, 
     for (atom, wanted) in told {
         is_told(rt, facts, *atom, *wanted);
     }
+}
+
+/// Goes back to the newest mark, which is to be open.
+pub(crate) fn undo<F: WordFacts>(rt: &impl Abort, facts: &mut F) {
+    assert!(rt; facts.open_marks() > 0);
+    facts.undo();
 }
 
 /// The words that are 0 save word 4.

@@ -1,6 +1,6 @@
 //! Facts of 5,000 learned answers, in each store: what they tell and pick behind each of them.
 
-use crate::word_4::{ALL_BITS, above, are_told, equal, is_told, learn, words_with};
+use crate::word_4::{ALL_BITS, above, are_told, equal, is_told, learn, undo, words_with};
 use scf_facts::{Atom, AtomList, Tell, WordFacts, WordSets};
 use std::alloc::Global;
 use std::process::Abort;
@@ -45,8 +45,7 @@ fn marked_bounds<F: WordFacts>(rt: &impl Abort, alloc: Global) {
     }
     for bound in 1..=COUNT {
         is_told(rt, &facts, above(bound), Tell::Never);
-        assert!(rt; facts.open_marks() > 0);
-        facts.undo();
+        undo(rt, &mut facts);
         is_told(rt, &facts, above(bound), Tell::Maybe);
         assert!(rt; facts.open_marks() == COUNT.saturating_sub(bound) as usize);
     }

@@ -1,17 +1,11 @@
 //! What sets of numbers for each word tell, see and pick.
 
-use crate::word_4::{ALL_BITS, above, at_least, equal, is_told, learn, tell, words_with};
+use crate::word_4::{ALL_BITS, above, at_least, equal, is_told, learn, tell, undo, words_with};
 use Asked::{Above, AtLeast, Equal};
 use Tell::{Always, Maybe, Never};
 use scf_facts::{Atom, Tell, WordFacts, WordSets};
 use std::alloc::Global;
 use std::process::Abort;
-
-/// Goes back to the newest mark.
-fn undo(rt: &impl Abort, facts: &mut WordSets) {
-    assert!(rt; facts.open_marks() > 0);
-    facts.undo();
-}
 
 /// An atom on word 4.
 #[derive(Clone, Copy, Debug)]

@@ -1,0 +1,19 @@
+//! Tests of the stores of facts about the words of a call: what they tell, pick and go back to.
+//!
+//! What is equal is asserted by `assert!`, and a result taken by `expect`, as in the tests of the libraries.
+#![tactic(auto)]
+
+#[cfg(test)]
+mod facts;
+#[cfg(test)]
+mod facts_arcs;
+#[cfg(test)]
+mod facts_exact;
+#[cfg(test)]
+mod facts_largest;
+#[cfg(test)]
+mod facts_walk;
+#[cfg(test)]
+mod word_4;
+#[cfg(test)]
+mod word_sets;
