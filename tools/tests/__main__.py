@@ -1,4 +1,4 @@
-"""Tests the tools, the launcher and the documents, on the program that was built.
+"""Tests the program that was built, the tools, the launcher and the documents.
 
     python3 tools/tests [NAME ..]
 

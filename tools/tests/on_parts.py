@@ -1,0 +1,126 @@
+"""What tests of the program on bundles share: parts of bundles, worked filters and profiles, and runs of the program.
+
+A part is its kind and its text; that of a filter is in the assembler's language, and the program assembles it.
+"""
+import functools
+import os
+import re
+import subprocess
+import unittest
+
+from common import SCF, TOP, part
+
+# The program itself, which is run many times; the launcher builds it where it isn't current.
+PROGRAM = os.path.join(TOP, "crates", "scf", "out", "scf")
+X32 = 0x40000000
+
+
+def a_filter(text):
+    return "filter", text
+
+
+def behind_gate(text):
+    """A filter that turns other architectures and the numbers of x32 away first, as each compiled profile does."""
+    return "filter", GATE + text
+
+
+def a_profile(text):
+    return "profile", text
+
+
+def a_table(text):
+    return "table", text
+
+
+# Six instructions; the number is loaded behind them.
+GATE = "ld [4]; jeq #0xc000003e, 1, 0; ret #0x80000000; ld [0]; jge #0x40000000, 0, 1; ret #0x80000000\n"
+ALLOW_ALL = "ret #0x7fff0000"
+# Kills the process on calls of other architectures, and allows all others, those of x32 too.
+ARCH_GATE = "ld [4]; jeq #0xc000003e, 1, 0; ret #0x80000000; ret #0x7fff0000"
+# The mask of CLONE behind the gate: by `and`, by `jset`, and by a `jset` that lacks one of its bits.
+CLONE_BY_AND = behind_gate("jeq #56, 0, 3; ld [16]; and #0x7e020000; jeq #0, 1, 0; ret #0x50001; ret #0x7fff0000")
+CLONE_BY_JSET = behind_gate("jeq #56, 0, 2; ld [16]; jset #0x7e020000, 0, 1; ret #0x50001; ret #0x7fff0000")
+CLONE_BY_FEWER_BITS = behind_gate("jeq #56, 0, 2; ld [16]; jset #0x7c020000, 0, 1; ret #0x50001; ret #0x7fff0000")
+# Takes `clone` where none of the bits 0x7e020000 is set in its flags.
+CLONE = a_profile('''{"defaultAction":"SCMP_ACT_ERRNO","syscalls":[{"names":["clone"],"action":"SCMP_ACT_ALLOW",
+    "args":[{"index":0,"value":2114060288,"op":"SCMP_CMP_MASKED_EQ"}]}]}''')
+CLONE_TABLE = a_table("clone 56\n")
+DEFAULT_ALLOW = '{"defaultAction":"SCMP_ACT_ALLOW"}'
+# Takes every call.
+ALL = a_profile(DEFAULT_ALLOW)
+# Takes `read`.
+ONE_CALL = '{"defaultAction":"SCMP_ACT_ERRNO","syscalls":[{"names":["read"],"action":"SCMP_ACT_ALLOW"}]}'
+NO_TABLE = a_table("")
+READ_TABLE, READ_WRITE_TABLE = "read 0\n", "read 0\nwrite 1\n"
+# Allow every call, the calls that the gate leaves, and every call but number 1.
+ALLOW, NATIVE = a_filter(ALLOW_ALL), behind_gate(ALLOW_ALL)
+WITHOUT_WRITE = a_filter("ld [0]; jeq #1, 0, 1; ret #0x50001; ret #0x7fff0000")
+# A difference that was printed of a comparison at once.
+DIFFERS = re.compile(r"differs\ncall nr (\d+) arch (0x[0-9a-f]{8}) ip 0x[0-9a-f]+ args (0x[0-9a-f]+)"
+                     r"(?: 0x[0-9a-f]+){5}\nfilter ([A-Z_]+ \w+)\nprofile ([A-Z_]+ \w+)\n")
+
+
+def ran(words, given=b"", **settings):
+    """What the program prints on these bytes, and its status. It says nothing on standard error."""
+    if "stdin" not in settings:
+        settings["input"] = given
+    done = subprocess.run([PROGRAM, *words], stdout=subprocess.PIPE, stderr=subprocess.PIPE, timeout=120, check=False,
+                          **settings)
+    if done.stderr:
+        raise AssertionError(done.stderr)
+    return done.stdout, done.returncode
+
+
+@functools.lru_cache(None)
+def assembled(text):
+    """The bytes of the filter that a text spells."""
+    out, status = ran(["asm"], text.encode())
+    if status:
+        raise AssertionError((text, out))
+    return out
+
+
+def part_of(kind, text):
+    return part(kind, assembled(text) if kind == "filter" else text.encode())
+
+
+def bundle(parts):
+    """The bundle of these parts."""
+    return b"".join(part_of(*each) for each in parts)
+
+
+def long_filter(loads):
+    """`ld #0` so many times, and then an instruction that answers ALLOW."""
+    return assembled("ld #0") * loads + assembled(ALLOW_ALL)
+
+
+class OnProgram(unittest.TestCase):
+    maxDiff = 4000
+
+    @classmethod
+    def setUpClass(cls):
+        subprocess.run([SCF, "--help"], stdin=subprocess.DEVNULL, stdout=subprocess.DEVNULL, check=True)
+
+    def prints(self, words, given, text, status=0):
+        """What the program prints on these bytes, and its status."""
+        wanted = text if isinstance(text, bytes) else text.encode()
+        out, ended = ran(words, given)
+        about = words, given if len(given) < 1000 else len(given)
+        self.assertEqual((out[:2000], len(out), ended), (wanted[:2000], len(wanted), status), about)
+        self.assertTrue(out == wanted, about)
+
+    def refuses(self, words, text):
+        """What the program prints of words that it refuses, with status 2; it doesn't wait for an input then."""
+        waits, gives = os.pipe()
+        try:
+            self.assertEqual(ran(words, stdin=waits), (text.encode(), 2), words)
+        finally:
+            os.close(waits)
+            os.close(gives)
+
+    def shown(self, words, given):
+        """Of a difference: the number, the architecture and argument 0 of the call, and the two answers."""
+        out, status = ran(words, given)
+        found = DIFFERS.fullmatch(out.decode())
+        self.assertTrue(found and status == 1, (words, given, out))
+        return int(found[1]), int(found[2], 16), int(found[3], 16), found[4], found[5]

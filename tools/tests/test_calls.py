@@ -1,0 +1,160 @@
+"""`compare --calls`: each call that a table names, compared by itself."""
+import re
+
+from common import X86_64, part
+from on_parts import (ALL, ALLOW, NATIVE, NO_TABLE, ONE_CALL, READ_WRITE_TABLE, X32, OnProgram, a_filter, a_profile,
+                      a_table, bundle, ran)
+
+# An errno for each of three calls.
+ERRNOS = a_profile('''{"defaultAction":"SCMP_ACT_ALLOW","syscalls":[
+    {"names":["read"],"action":"SCMP_ACT_ERRNO","errnoRet":1},
+    {"names":["write"],"action":"SCMP_ACT_ERRNO","errnoRet":2},
+    {"names":["close"],"action":"SCMP_ACT_ERRNO","errnoRet":3}]}''')
+THREE = a_table("read 0\nwrite 1\nclose 3\n")
+OWN = a_filter("""ld [0]; jeq #0, 0, 1; ret #0x50001; jeq #1, 0, 1; ret #0x50002; jeq #3, 0, 1; ret #0x50003
+    ret #0x7fff0000""")
+# Another errno for `close`, and one for a call that the table doesn't name.
+OTHER_CLOSE = a_filter("""ld [0]; jeq #0, 0, 1; ret #0x50001; jeq #1, 0, 1; ret #0x50002; jeq #3, 0, 1; ret #0x50004
+    jeq #2, 0, 1; ret #0x50005; ret #0x7fff0000""")
+OTHER_ENDS = a_filter("""ld [0]; jeq #0, 0, 1; ret #0x50009; jeq #1, 0, 1; ret #0x50002; jeq #3, 0, 1; ret #0
+    ret #0x7fff0000""")
+# An errno for one number.
+WITHOUT_231 = a_filter("ld [0]; jeq #231, 0, 1; ret #0x50001; ret #0x7fff0000")
+# An errno for `socket` with these six arguments, and with no others.
+ONE_RECORD = a_filter("""ld [0]; jeq #41, 0, no; ld [16]; jeq #2, 0, no; ld [20]; jeq #0, 0, no
+    ld [24]; jeq #0x80000, 0, no; ld [28]; jeq #0, 0, no; ld [32]; jeq #0, 0, no; ld [36]; jeq #0, 0, no
+    ld [40]; jeq #0xffffffff, 0, no; ld [44]; jeq #0xffffffff, 0, no
+    ld [48]; jeq #0xabc, 0, no; ld [52]; jeq #0, 0, no; ld [56]; jeq #16, 0, no; ld [60]; jeq #1, 0, no
+    ret #0x50026; no: ret #0x7fff0000""")
+# One call is answered behind more than 64 steps, one by an even product of an argument, which isn't decided, and one by
+# an errno; the others are allowed. Their numbers are 1, 2 and 3, and 7, 6 and 5.
+MIXED = a_filter("""ld [0]; jeq #1, slow, 0; jeq #2, even, 0; jeq #3, other, 0
+    jeq #5, other, 0; jeq #6, even, 0; jeq #7, slow, allow
+    even: ld [16]; mul #6; jset #1, 0, allow; ret #0; other: ret #0x50001
+    slow: tax; tax; tax; tax; tax; tax; tax; tax; tax; tax; tax; tax; tax; tax; tax; tax
+    tax; tax; tax; tax; tax; tax; tax; tax; tax; tax; tax; tax; tax; tax; tax; tax
+    tax; tax; tax; tax; tax; tax; tax; tax; tax; tax; tax; tax; tax; tax; tax; tax
+    tax; tax; tax; tax; tax; tax; tax; tax; tax; tax; tax; tax; tax; tax; tax; tax
+    allow: ret #0x7fff0000""")
+# Options and parts, what is printed without the arguments of the calls, and the status.
+ROWS = (
+    ("", [OWN, ERRNOS, THREE], "same\n", 0),
+    ("", [OTHER_CLOSE, ERRNOS, THREE], "differs\n3 close differs args filter ERRNO 4 profile ERRNO 3\n", 1),
+    ("", [THREE, ERRNOS, OTHER_ENDS],
+     "differs\n"
+     "0 read differs args filter ERRNO 9 profile ERRNO 1\n"
+     "3 close differs args filter KILL_THREAD 0 profile ERRNO 3\n", 1),
+    ("", [ALLOW, ERRNOS, THREE],
+     "differs\n"
+     "0 read differs args filter ALLOW 0 profile ERRNO 1\n"
+     "1 write differs args filter ALLOW 0 profile ERRNO 2\n"
+     "3 close differs args filter ALLOW 0 profile ERRNO 3\n", 1),
+    # Names of one number, in both orders, and in that of their bytes.
+    ("", [WITHOUT_231, ALL, a_table("read 0\nleave 231\nleave_too 231\n")],
+     "differs\n231 leave,leave_too differs args filter ERRNO 1 profile ALLOW 0\n", 1),
+    ("", [WITHOUT_231, ALL, a_table("leave_too 231\nleave 231\nread 0\n")],
+     "differs\n231 leave,leave_too differs args filter ERRNO 1 profile ALLOW 0\n", 1),
+    ("", [WITHOUT_231, ALL, a_table("exit 231\n_exit 231\nEXIT 231")],
+     "differs\n231 EXIT,_exit,exit differs args filter ERRNO 1 profile ALLOW 0\n", 1),
+    # Numbers by their order, and not by that of their digits or lines.
+    ("--limit 0", [OWN, ALL, a_table("d 100\nc 10\nb 9\na 0")],
+     "unfinished\n0 a unfinished\n9 b unfinished\n10 c unfinished\n100 d unfinished\n", 4),
+    # A table without names, and what is left out of the profile behind the lines of the calls.
+    ("", [OTHER_ENDS, ERRNOS, NO_TABLE], "same\nskipped read\nskipped write\nskipped close\n", 0),
+    ("",
+     [ALLOW,
+      a_profile('''{"defaultAction":"SCMP_ACT_ERRNO","architectures":["SCMP_ARCH_X86","SCMP_ARCH_X86_64",
+                "SCMP_ARCH_X32"],"syscalls":[{"names":["gone","write"],"action":"SCMP_ACT_ALLOW"}]}'''),
+      a_table(READ_WRITE_TABLE)],
+     "differs\n"
+     "0 read differs args filter ALLOW 0 profile ERRNO 1\n"
+     "skipped gone\n"
+     "other SCMP_ARCH_X86\n"
+     "other SCMP_ARCH_X32\n", 1),
+    # A stack: the strictest of its answers counts, and that of the newest filter among equal actions.
+    ("", [ALLOW, OWN, ALLOW, ERRNOS, THREE], "same\n", 0),
+    ("", [OWN, OTHER_CLOSE, ERRNOS, THREE], "differs\n3 close differs args filter ERRNO 4 profile ERRNO 3\n", 1),
+    ("", [OTHER_CLOSE, OWN, ERRNOS, THREE], "same\n", 0),
+    # The verdict that speaks for all: a difference goes first, and then the least number.
+    ("--limit 64", [MIXED, ALL, a_table("a 0\nd 4")], "same\n", 0),
+    ("--limit=64", [MIXED, ALL, a_table("b 2\na 1\nd 4")], "unfinished\n1 a unfinished\n2 b undecided at 10\n", 4),
+    ("--limit 64", [MIXED, ALL, a_table("n 0\nb 6\na 7")], "undecided at 10\n6 b undecided at 10\n7 a unfinished\n",
+     4),
+    ("", [MIXED, ALL, a_table("b 6\na 7")], "undecided at 10\n6 b undecided at 10\n", 4),
+    ("--limit 64", [MIXED, ALL, a_table("a 1\nb 2\nc 3")],
+     "differs\n1 a unfinished\n2 b undecided at 10\n3 c differs args filter ERRNO 1 profile ALLOW 0\n", 1),
+    ("--limit 64", [MIXED, ALL, a_table("c 5\nb 6\na 7")],
+     "differs\n5 c differs args filter ERRNO 1 profile ALLOW 0\n6 b undecided at 10\n7 a unfinished\n", 1),
+    # Each call has the whole limit, which is the effort of the stack.
+    ("--limit 56",
+     [NATIVE, ALL, a_table("a 0\nb 1\nc 2\nd 3\ne 4\nf 5\ng 6\nh 7\ni 8\nj 9\nk 10\nl 11\nm 12\nn 13\no 14\np 15")],
+     "same\n", 0),
+)
+# Differences that one record of a call shows, so that all that is printed is known.
+RECORDS = (
+    ([ONE_RECORD, ALL, a_table("socket 41\nread 0")],
+     "differs\n"
+     "41 socket differs args 0x2 0x80000 0x0 0xffffffffffffffff 0xabc 0x100000010 filter ERRNO 38 profile ALLOW 0\n"),
+)
+# Answers ERRNO 38 to each number above the newest that is known.
+STUB = a_filter("ld [4]; jeq #0xc000003e, 0, 3; ld [0]; jge #451, 0, 1; ret #0x50026; ret #0x7fff0000")
+# Takes one call.
+READ = a_profile(ONE_CALL)
+KNOWN = a_table("read 0\nwrite 1\nlast 450\n")
+# Parts that are refused, and what is printed of them, call by call as at once.
+REFUSED = (
+    ([], "fault bundle Parts\n", 3),
+    ([ALL, NO_TABLE], "fault bundle Parts\n", 3),
+    ([ALLOW, ALL, ALL, NO_TABLE], "fault bundle Parts\n", 3),
+    ([ALLOW, ALL], "fault bundle Parts\n", 3),
+    ([a_filter(""), ALL, NO_TABLE], "fault filter Empty\n", 1),
+    ([a_table("9p 1"), a_profile("{}"), ALLOW, a_filter("ld #0")], "fault filter LastNotReturn\n", 1),
+    ([ALLOW, a_profile("{}"), a_table("read 0\n9p 1")], "fault table Name line 2\n", 1),
+    ([ALLOW, a_profile("{}"), NO_TABLE], "fault profile Missing\n", 1),
+)
+# Words that are refused, and what is printed of them.
+WRONG = (
+    (["--calls", "--native"], "fault command Flags\n"),
+    (["--native", "--calls"], "fault command Flags\n"),
+    (["--native", "--limit", "5", "--calls"], "fault command Flags\n"),
+    (["--calls", "--native", "--limit", "x"], "fault number limit\n"),
+    (["--calls", "--limit", ""], "fault number limit\n"),
+)
+
+
+def without_arguments(printed):
+    """What was printed, without the six arguments of the calls."""
+    return re.sub(r" args(?: 0x[0-9a-f]+){6} filter ", " args filter ", printed)
+
+
+class Calls(OnProgram):
+    def compared(self, options, given):
+        return ran(["compare", "--calls", *options.split()], given)
+
+    def test_each_call_by_itself(self):
+        for options, parts, text, status in ROWS:
+            with self.subTest(options=options, parts=parts):
+                out, ended = self.compared(options, bundle(parts))
+                self.assertEqual((without_arguments(out.decode()), ended), (text, status))
+
+    def test_one_record(self):
+        for parts, text in RECORDS:
+            self.prints(["compare", "--calls"], bundle(parts), text, 1)
+
+    def test_a_stub_differs_only_on_calls_that_the_table_lacks(self):
+        own, status = ran(["compile"], bundle([READ, KNOWN]))
+        self.assertEqual(status, 0)
+        given = part("filter", own) + bundle([STUB, READ, KNOWN])
+        number, arch, _, ours, theirs = self.shown(["compare", "--native"], given)
+        self.assertTrue(arch == X86_64 and 451 <= number < X32, number)
+        self.assertEqual((ours, theirs), ("ERRNO 38", "ERRNO 1"))
+        self.assertEqual(self.compared("", given), (b"same\n", 0))
+
+    def test_refused_parts(self):
+        for parts, text, status in REFUSED:
+            for options in ([], ["--calls"], ["--calls", "--limit", "0"]):
+                self.prints(["compare", *options], bundle(parts), text, status)
+
+    def test_wrong_words(self):
+        for words, text in WRONG:
+            self.refuses(["compare", *words], text)

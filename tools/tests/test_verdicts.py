@@ -1,0 +1,182 @@
+"""What `compare` and `compile` say of filters, profiles and tables: verdicts, differences by relations, refusals."""
+import re
+
+from common import X86_64
+from on_parts import (ALL, ALLOW, ARCH_GATE, CLONE, CLONE_BY_AND, CLONE_BY_FEWER_BITS, CLONE_BY_JSET, CLONE_TABLE,
+                      NATIVE, NO_TABLE, READ_TABLE, OnProgram, a_filter, a_profile, a_table, behind_gate, bundle, ran)
+
+# Words on a bundle of parts, what is printed, and the status.
+PROFILES = (
+    # A profile without a table.
+    (["compile"], [CLONE], "fault bundle Parts\n", 3),
+    # A wide mask, at its effort and with no step.
+    (["compare", "--limit", "208"], [CLONE_BY_AND, CLONE, CLONE_TABLE], "same\n", 0),
+    (["compare", "--limit", "0"], [CLONE_BY_AND, CLONE, CLONE_TABLE], "unfinished\n", 4),
+    (["compare"], [CLONE_TABLE, CLONE, CLONE_BY_JSET], "same\n", 0),
+    # A default alone, at its effort, and what was left out of the profile behind the verdict.
+    (["compare", "--limit", "56"], [NATIVE, ALL, NO_TABLE], "same\n", 0),
+    (["compare"],
+     [NATIVE,
+      a_profile('''{"defaultAction":"SCMP_ACT_ALLOW","architectures":["SCMP_ARCH_X86","SCMP_ARCH_X86_64"],
+                "syscalls":[{"names":["absent"],"action":"SCMP_ACT_KILL"}]}'''), NO_TABLE],
+     "same\nskipped absent\nother SCMP_ARCH_X86\n", 0),
+    # The filter is looked at before the table.
+    (["compare"], [a_table("9p 1\n"), a_profile("{}"), a_filter("ld #0")], "fault filter LastNotReturn\n", 1),
+    # A limit that is no number.
+    (["compare", "--limit", "-"], [], "fault number limit\n", 2),
+)
+# Profiles and tables that are refused, and what is printed of each kind of fault. The table is looked at first.
+REFUSED = (
+    ("{}", "read\n", "fault table Form line 1\n"),
+    ("{}", "read 0\n9p 1\n", "fault table Name line 2\n"),
+    ("{}", "read 1073741824\n", "fault table Number line 1\n"),
+    ("{}", "read 0\nread 1\n", "fault table Repeated line 2\n"),
+    ("[", "", "fault profile Json\n"),
+    ("{}", "", "fault profile Missing\n"),
+    ("[]", "", "fault profile Kind\n"),
+    ('{"defaultAction":"ALLOW"}', "", "fault profile Action\n"),
+    ('{"defaultAction":"SCMP_ACT_ALLOW","defaultErrnoRet":1}', "", "fault profile Errno\n"),
+    ('{"defaultAction":"SCMP_ACT_ERRNO","defaultErrnoRet":65536}', "", "fault profile ErrnoRange\n"),
+    ('{"defaultAction":"SCMP_ACT_ALLOW","architectures":["SCMP_ARCH_X86"]}', "", "fault profile NoX8664\n"),
+    ('{"defaultAction":"SCMP_ACT_ALLOW","archMap":[1]}', "", "fault profile EngineForm\n"),
+    ('{"defaultAction":"SCMP_ACT_ALLOW","syscalls":[{"names":[],"action":"SCMP_ACT_LOG"}]}', "",
+     "fault profile EmptyNames entry 0\n"),
+    ('{"defaultAction":"SCMP_ACT_ALLOW","syscalls":[{"names":["read"],"action":"SCMP_ACT_LOG"},{}]}', "",
+     "fault profile Missing entry 1\n"),
+    ('''{"defaultAction":"SCMP_ACT_ALLOW","syscalls":[{"names":["read"],"action":"SCMP_ACT_LOG",
+            "args":[{"index":0,"value":1,"op":"EQ"}]}]}''', "", "fault profile Operator entry 0\n"),
+    ('''{"defaultAction":"SCMP_ACT_ALLOW","syscalls":[{"names":["read"],"action":"SCMP_ACT_LOG",
+            "args":[{"index":6}]}]}''', "", "fault profile Index entry 0\n"),
+    ('''{"defaultAction":"SCMP_ACT_ALLOW","syscalls":[{"names":["read"],"action":"SCMP_ACT_LOG",
+            "args":[{"index":0,"value":1,"op":"SCMP_CMP_NE"},{"index":0,"value":2,"op":"SCMP_CMP_NE"}]}]}''', "",
+     "fault profile RepeatedIndex entry 0\n"),
+    ('''{"linux":{"seccomp":{"defaultAction":"SCMP_ACT_ERRNO","defaultErrnoRet":38,"syscalls":[
+            {"names":["read"],"action":"SCMP_ACT_ALLOW"},{"names":["read"],"action":"SCMP_ACT_ERRNO"}]}}}''',
+     "read 0\n", "fault profile Conflict number 0 first 0 second 1\n"),
+)
+# Parts that differ, the least and the greatest number that the call may have, bits of argument 0, what they are, and
+# the answers of filter and profile.
+DIFFERENCES = (
+    # The filter looks for one bit less than the profile.
+    ([CLONE_BY_FEWER_BITS, CLONE, CLONE_TABLE], 56, 56, 0x7E020000, 0x02000000, "ALLOW 0", "ERRNO 1"),
+    # A division by argument 0 ends the run where that is 0.
+    ([behind_gate("ld [16]; tax; ld #1; div x; ret #0x7fff0000"), ALL, NO_TABLE], 0, 0x3FFFFFFF, 0xFFFFFFFF, 0,
+     "KILL_THREAD 0", "ALLOW 0"),
+    # The filter forgets the numbers of x32.
+    ([a_filter(ARCH_GATE), ALL, NO_TABLE], 0x40000000, 0xFFFFFFFF, 0, 0, "ALLOW 0", "KILL_PROCESS 0"),
+)
+# Allows `read`, and answers ERRNO 1 to all other calls.
+READ = a_profile('''{"defaultAction":"SCMP_ACT_ERRNO","defaultErrnoRet":1,
+    "syscalls":[{"names":["read","gone"],"action":"SCMP_ACT_ALLOW"}]}''')
+TABLE = a_table("read 0\nwrite 1\n")
+# Answers as READ does, but ERRNO 38 to the other calls, and KILL_THREAD where the profile kills the process.
+STUB = a_filter("""ld [4]; jeq #0xc000003e, 1, 0; ret #0; ld [0]; jge #0x40000000, 0, 1; ret #0
+    jeq #0, 0, 1; ret #0x7fff0000; ret #0x50026""")
+# Refuses every call.
+NOTHING = a_filter("ret #0x50001")
+ALSO_WRITE = a_filter("ld [0]; jeq #0, yes, 0; jeq #1, yes, 0; ret #0x50001; yes: ret #0x7fff0000")
+ALSO_CLOSE = a_filter("ld [0]; jeq #0, yes, 0; jeq #3, yes, 0; ret #0x50001; yes: ret #0x7fff0000")
+LOGGED = a_profile('{"defaultAction":"SCMP_ACT_LOG"}')
+REFERRED = a_profile('{"defaultAction":"SCMP_ACT_NOTIFY"}')
+TRACED = behind_gate("ret #0x7ff00000")
+# An answer without a name that goes just behind ERRNO, and one just before LOG.
+BEHIND_ERRNO = behind_gate("ret #0x60000")
+BEFORE_LOG = behind_gate("ret #0x7ffb0000")
+# Options and parts, how what is printed begins and ends, and the status. Between the two stands what is shown of a
+# call.
+RELATIONS = (
+    ("--no-more", [STUB, READ, TABLE], "no more\n", "skipped gone\n", 0),
+    ("--no-less", [STUB, READ, TABLE], "no less\n", "skipped gone\n", 0),
+    ("--no-more", [NOTHING, READ, TABLE], "no more\n", "skipped gone\n", 0),
+    ("--no-less", [NOTHING, READ, TABLE], "less\ncall nr 0 arch 0xc000003e ",
+     "\nfilter ERRNO 1\nprofile ALLOW 0\nskipped gone\n", 1),
+    ("--no-more --native", [ALLOW, READ, TABLE], "more\ncall nr ",
+     "\nfilter ALLOW 0\nprofile ERRNO 1\nskipped gone\n", 1),
+    ("--native --no-less", [ALLOW, READ, TABLE], "no less\n", "skipped gone\n", 0),
+    # Of two filters, only both together let through no more.
+    ("--native --no-more", [ALSO_WRITE, READ, TABLE], "more\ncall nr 1 arch 0xc000003e ",
+     "\nfilter ALLOW 0\nprofile ERRNO 1\nskipped gone\n", 1),
+    ("--native --no-more", [ALSO_CLOSE, READ, TABLE], "more\ncall nr 3 arch 0xc000003e ",
+     "\nfilter ALLOW 0\nprofile ERRNO 1\nskipped gone\n", 1),
+    ("--native --no-more", [ALSO_WRITE, ALSO_CLOSE, READ, TABLE], "no more\n", "skipped gone\n", 0),
+    # LOG and ALLOW both let a call be made, USER_NOTIF and TRACE both refer it, and what goes before LOG does, too.
+    ("", [NATIVE, LOGGED, NO_TABLE], "differs\n", "\nfilter ALLOW 0\nprofile LOG 0\n", 1),
+    ("--no-more", [NATIVE, LOGGED, NO_TABLE], "no more\n", "", 0),
+    ("--no-less", [NATIVE, LOGGED, NO_TABLE], "no less\n", "", 0),
+    ("--no-more", [TRACED, REFERRED, NO_TABLE], "no more\n", "", 0),
+    ("--no-less", [TRACED, REFERRED, NO_TABLE], "no less\n", "", 0),
+    ("--no-more", [BEHIND_ERRNO, REFERRED, NO_TABLE], "no more\n", "", 0),
+    ("--no-less", [BEHIND_ERRNO, REFERRED, NO_TABLE], "no less\n", "", 0),
+    ("--no-less", [BEFORE_LOG, REFERRED, NO_TABLE], "no less\n", "", 0),
+    ("--no-more", [BEFORE_LOG, REFERRED, NO_TABLE], "no more\n", "", 0),
+    ("--no-more", [NATIVE, REFERRED, NO_TABLE], "more\ncall nr ", "\nfilter ALLOW 0\nprofile USER_NOTIF 0\n", 1),
+    ("--no-less --native", [NOTHING, REFERRED, NO_TABLE], "less\ncall nr ",
+     "\nfilter ERRNO 1\nprofile USER_NOTIF 0\n", 1),
+    ("--no-more --limit 0", [STUB, READ, TABLE], "unfinished\n", "skipped gone\n", 4),
+    # Call by call.
+    ("--calls --no-more", [STUB, READ, TABLE], "no more\n", "skipped gone\n", 0),
+    ("--no-less --calls", [ALLOW, READ, TABLE], "no less\n", "skipped gone\n", 0),
+    ("--calls --no-more", [ALLOW, READ, TABLE], "more\n1 write more args 0x",
+     " filter ALLOW 0 profile ERRNO 1\nskipped gone\n", 1),
+    ("--calls --no-less", [NOTHING, READ, TABLE], "less\n0 read less args 0x",
+     " filter ERRNO 1 profile ALLOW 0\nskipped gone\n", 1),
+    ("--calls --no-more --limit 0", [STUB, READ, TABLE], "unfinished\n0 read unfinished\n1 write unfinished\n",
+     "skipped gone\n", 4),
+)
+# The two flags exclude each other, and so do two of which one says over which calls. The number comes first.
+EXCLUDED = (
+    (["compare", "--no-more", "--no-less"], "fault command Flags\n"),
+    (["compare", "--no-less", "--native", "--no-more", "--limit", "7"], "fault command Flags\n"),
+    (["compare", "--no-more", "--calls", "--native"], "fault command Flags\n"),
+    (["compare", "--no-more", "--no-less", "--limit", "x"], "fault number limit\n"),
+)
+
+
+class Verdicts(OnProgram):
+    def test_profiles(self):
+        for words, parts, text, status in PROFILES:
+            self.prints(words, bundle(parts), text, status)
+
+    def test_refused_profiles_and_tables(self):
+        for profile, table, text in REFUSED:
+            self.prints(["compile"], bundle([a_profile(profile), a_table(table)]), text, 1)
+
+    def test_differences(self):
+        for parts, least, most, mask, bits, ours, theirs in DIFFERENCES:
+            number, arch, first, *answers = self.shown(["compare"], bundle(parts))
+            self.assertEqual((arch, first & mask, *answers), (X86_64, bits, ours, theirs), parts)
+            self.assertTrue(least <= number <= most, (parts, number))
+
+    def test_left_out(self):
+        """Four architectures, of which three are left out, and a name that the table lacks."""
+        profile = a_profile('''{"defaultAction":"SCMP_ACT_ALLOW","architectures":["SCMP_ARCH_X86","SCMP_ARCH_X86_64",
+            "SCMP_ARCH_X32","SCMP_ARCH_AARCH64"],"syscalls":[{"names":["gone"],"action":"SCMP_ACT_KILL"}]}''')
+        text = "same\nskipped gone\nother SCMP_ARCH_X86\nother SCMP_ARCH_X32\nother SCMP_ARCH_AARCH64\n"
+        self.prints(["compare"], bundle([NATIVE, profile, a_table(READ_TABLE)]), text)
+
+    def test_undecided(self):
+        """A filter that multiplies an argument needn't be decided. Where it isn't, a place of the filter is named."""
+        mixes = behind_gate("""ld [16]; mul #0x9e3779b1; xor #0x12345678; mul #0x85ebca6b
+            jeq #0xdeadbeef, 0, 1; ret #0; ret #0x7fff0000""")
+        out, status = ran(["compare"], bundle([mixes, ALL, NO_TABLE]))
+        place = re.fullmatch(rb"undecided at (\d+)\n", out)
+        self.assertTrue(place and status == 4, (out, status))
+        self.assertLess(int(place[1]), 13)
+
+
+class Relations(OnProgram):
+    """`--no-more` and `--no-less`: whether a filter lets through nothing that a profile refuses, or nothing less than
+    it allows."""
+
+    def test_relations(self):
+        for options, parts, first, rest, status in RELATIONS:
+            with self.subTest(options=options, parts=parts):
+                out, ended = ran(["compare", *options.split()], bundle(parts))
+                text = out.decode()
+                self.assertEqual((text[:len(first)], text[-len(rest):] if rest else "", ended), (first, rest, status))
+                if not (first.endswith((" ", "0x")) or rest.startswith("\n")):
+                    self.assertEqual(text, first + rest)
+
+    def test_excluded_flags(self):
+        for words, text in EXCLUDED:
+            self.refuses(words, text)

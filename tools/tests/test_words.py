@@ -1,0 +1,118 @@
+"""Words that name no command to be run: the text of help, and of one fault of each kind of the command line, as clap
+writes them."""
+from on_parts import OnProgram, ran
+
+# Words, what is printed, and the status.
+WORDS = (
+    (["--help"],
+     "Checks, runs, lists, assembles, compiles and compares seccomp filters for x86-64. "
+     "Input comes on standard input.\n"
+     "\n"
+     "Usage: scf <COMMAND>\n"
+     "\n"
+     "Commands:\n"
+     "  check    Checks a filter\n"
+     "  run      Runs a filter on a call\n"
+     "  decide   Runs a bundle of filters on a call\n"
+     "  dis      Lists a filter, which isn't checked\n"
+     "  asm      Assembles a text, which isn't checked\n"
+     "  compile  Compiles a bundle of a profile and a table\n"
+     "  compare  Compares a bundle of filters, a profile and a table\n"
+     "  ask      Says what a profile answers to a call, and why, of a bundle with a table\n"
+     "  help     Print this message or the help of the given subcommand(s)\n"
+     "\n"
+     "Options:\n"
+     "  -h, --help     Print help\n"
+     "  -V, --version  Print version\n", 0),
+    (["run", "--help"],
+     "Runs a filter on a call\n"
+     "\n"
+     "Usage: scf run [OPTIONS]\n"
+     "\n"
+     "Options:\n"
+     "      --nr <NUMBER>    The number of the call [default: 0]\n"
+     "      --arch <NUMBER>  The architecture [default: 0xc000003e, x86-64]\n"
+     "      --ip <NUMBER>    The instruction pointer [default: 0]\n"
+     "      --a0 <NUMBER>    Argument 0 [default: 0]\n"
+     "      --a1 <NUMBER>    Argument 1 [default: 0]\n"
+     "      --a2 <NUMBER>    Argument 2 [default: 0]\n"
+     "      --a3 <NUMBER>    Argument 3 [default: 0]\n"
+     "      --a4 <NUMBER>    Argument 4 [default: 0]\n"
+     "      --a5 <NUMBER>    Argument 5 [default: 0]\n"
+     "      --path           Also the places of the instructions on the way\n"
+     "  -h, --help           Print help\n", 0),
+    (["compare", "--help"],
+     "Compares a bundle of filters, a profile and a table\n"
+     "\n"
+     "Usage: scf compare [OPTIONS]\n"
+     "\n"
+     "Options:\n"
+     "      --limit <NUMBER>  The most steps of the comparison [default: 1000000]\n"
+     "      --native          Only calls of x86-64 with numbers below 0x40000000\n"
+     "      --calls           Each named call by itself, and a line for each that isn't the same; not with --native\n"
+     "      --no-more         Whether no call is let through further than by the profile\n"
+     "      --no-less         Whether each call is let through as far as by the profile; not with --no-more\n"
+     "  -h, --help            Print help\n", 0),
+    (["--version"], "scf 0.1.0\n", 0),
+    ([],
+     "error: 'scf' requires a subcommand but one was not provided\n"
+     "  [subcommands: check, run, decide, dis, asm, compile, compare, ask, help]\n"
+     "\n"
+     "Usage: scf <COMMAND>\n"
+     "\n"
+     "For more information, try '--help'.\n", 2),
+    (["frobnicate"],
+     "error: unrecognized subcommand 'frobnicate'\n\nUsage: scf <COMMAND>\n\nFor more information, try '--help'.\n",
+     2),
+    (["run", "--nr", "-1"],
+     "error: unexpected argument '-1' found\n\nUsage: scf run [OPTIONS]\n\nFor more information, try '--help'.\n", 2),
+    (["check", "--nr", "1"],
+     "error: unexpected argument '--nr' found\n\nUsage: scf check\n\nFor more information, try '--help'.\n", 2),
+    (["run", "--nr"],
+     "error: a value is required for '--nr <NUMBER>' but none was supplied\n\nFor more information, try '--help'.\n",
+     2),
+    (["run", "--nr", "1", "--nr", "2"],
+     "error: the argument '--nr <NUMBER>' cannot be used multiple times\n"
+     "\n"
+     "Usage: scf run [OPTIONS]\n"
+     "\n"
+     "For more information, try '--help'.\n", 2),
+    # A flag given twice, and with a text.
+    (["compare", "--native", "--native"],
+     "error: the argument '--native' cannot be used multiple times\n"
+     "\n"
+     "Usage: scf compare [OPTIONS]\n"
+     "\n"
+     "For more information, try '--help'.\n", 2),
+    (["compare", "--native=1"],
+     "error: unexpected value '1' for '--native' found; no more were expected\n"
+     "\n"
+     "Usage: scf compare --native\n"
+     "\n"
+     "For more information, try '--help'.\n", 2),
+    (["compare", "--calls", "--calls"],
+     "error: the argument '--calls' cannot be used multiple times\n"
+     "\n"
+     "Usage: scf compare [OPTIONS]\n"
+     "\n"
+     "For more information, try '--help'.\n", 2),
+    (["compare", "--calls=1"],
+     "error: unexpected value '1' for '--calls' found; no more were expected\n"
+     "\n"
+     "Usage: scf compare --calls\n"
+     "\n"
+     "For more information, try '--help'.\n", 2),
+)
+
+
+class Words(OnProgram):
+    def test_words(self):
+        for words, text, status in WORDS:
+            self.prints(words, b"", text, status)
+
+    def test_other_options(self):
+        """Each command that takes no option refuses one, and `compare` those of a call."""
+        for command in ("check", "dis", "asm", "compile", "compare"):
+            out, status = ran([command, "--a0", "1"])
+            self.assertTrue(out.startswith(b"error: unexpected argument '--a0' found\n"), out)
+            self.assertEqual(status, 2, command)
