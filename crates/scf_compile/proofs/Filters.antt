@@ -1,169 +1,194 @@
 -- What is put before a search makes it a filter.
-use Rattle.std.proofs.Common.{◌≡◌, ◌⊎◌, ℕ, ◌+◌, ◌-◌, ◌<◌, ◌≤◌, leb, List, [], ◌∷◌, ◌++◌, drop, length, refl, sym, ap}
-use Rattle.std.proofs.Common.{◌∙◌, subst}
-use Rattle.std.proofs.Common.{arith, inl, inr, length-append, append-nil}
-use Rattle.std.proofs.Math.ListN.{length-drop}
+use Rattle.std.proofs.Common.{◌≡◌, ℕ, ◌+◌, ◌-◌, ◌*◌, ◌^◌, ◌<◌, ◌≤◌, Bool, true, false, eqb, ltb, List, []}
+use Rattle.std.proofs.Common.{◌∷◌, ◌++◌, length, refl, sym, ap, ◌∙◌, arith, sum_by}
+use Rattle.std.specs.Prelude.{IsTrue}
 use Rattle.std.specs.List.{AllByRecursion}
-use Rattle.std.proofs.lemmas.Bool.{le-leb}
-use Rattle.scf_insn.specs.declared.answer.Answer.{Answer}
+use Rattle.std.specs.List.Sorted.{IsNonDecreasingBy}
+use Rattle.std.proofs.lemmas.Bool.{le-leb, eqb-true, eqb-false}
+use Rattle.std.proofs.lemmas.Bool.Decides.{nat_tests}
 use Rattle.scf_insn.specs.declared.insn.Insn.{Insn}
+use Rattle.scf_insn.specs.declared.record.CallRecord.{CallRecord}
 use Rattle.scf_insn.specs.declared.operation.Test.{Test}
 use Rattle.scf_insn.specs.declared.operation.Test.TheVariants.{Equal, GreaterOrEqual}
 use Rattle.scf_insn.specs.Kernel.{audit_arch_x86_64, x32_syscall_bit, seccomp_ret_kill_process}
-use Rattle.scf_machine.specs.Plain.{IsPlainInsn}
-use Rattle.scf_profile.specs.PlainProfile.{IsPlainRule}
+use Rattle.scf_insn.specs.Words.{words_of, IsRecord}
+use Rattle.scf_profile.specs.PlainProfile.{IsPlainProfile, IsPlainRule}
+use Rattle.scf_profile.specs.Profile.{Profile}
+use Rattle.scf_profile.specs.Rule.{IsRule}
+use Rattle.scf_profile.specs.ProfileAnswers.{foreign}
+use Rattle.scf_profile.specs.RulesByNumber.{rules_of}
 use Rattle.scf_compile.specs.declared.placing.Place.{Place}
-use Rattle.scf_compile.specs.internal.Blocks.{word_code}
+use Rattle.scf_compile.specs.declared.stretches.Stretch.{Stretch}
+use Rattle.scf_compile.specs.SearchBound.{search_bound_of}
+use Rattle.scf_compile.specs.SizeBound.{rule_bound, size_bound_of}
 use Rattle.scf_compile.specs.internal.Insns.{jump_if, load_word, return_with}
-use Rattle.scf_compile.specs.internal.Placing.{branch_code, code_from, IsFirst, IsPut}
-use Rattle.scf_compile.specs.internal.Plans.{Plan, Apply, Applies, Heads, IsFilterCode, IsPlanPut, in_range, killing}
-use Rattle.scf_compile.specs.internal.Plans.{most_of}
+use Rattle.scf_compile.specs.internal.Placing.{branch_code, IsFirst, IsPut}
+use Rattle.scf_compile.specs.internal.Filters.{first_answer, ArePut, IsSearchPut, IsAnswered, IsFilterOf}
+use Rattle.scf_compile.specs.internal.Runs.{Ends}
 use Rattle.scf_compile.specs.internal.Sound.{AreSound}
-use Rattle.scf_compile.proofs.Plain.{ArePlain, load_is_plain, plain-append, word_plain}
-use Rattle.scf_compile.proofs.Plans.{branch_at_most, inside, some_heads}
-use Rattle.scf_compile.proofs.Puts.{branch_put, from_behind, from_first, rules_put}
-use Rattle.scf_compile.proofs.Same.{killing_fits}
-use Rattle.scf_compile.proofs.Valid.{load_is_sound, sound-append, word_sound}
+use Rattle.scf_compile.specs.internal.Stretches.{StandsFor, rules_along, rules_on, first_of, stretch_bound}
+use Rattle.scf_compile.proofs.Runs.{more, loads, jumps, load_sound, jump_sound}
+use Rattle.scf_compile.proofs.RuleCode.{return_answers, answers_put, answers_there, branch_ends, from_first}
+use Rattle.scf_compile.proofs.Searches.{stays, longer, puts_join, branch_put}
+use Rattle.scf_compile.proofs.Profiles.{first_met, stand_alike}
 
 -- only what is far is gone to by a jump of its own
 near_branch : (test : Test) (constant hit miss : ℕ) → miss ≤ 255
     → branch_code test constant hit miss ≡ jump_if test constant hit miss ∷ []
 near_branch test constant hit miss le = rw (le-leb miss 255 le) refl
 
--- a block is put once at most
-pub put_few : (block before after : List Insn) (place : Place) → IsPut block before after place
-    → length after ≤ length block + length before
-put_few block before after place is = by_put is.put
-  where
-    by_put : (after ≡ before) ⊎ (after ≡ block ++ before) → length after ≤ length block + length before
-    by_put (inl same) = omega (arith, ap (λ (l : List Insn). length l) same)
-    by_put (inr more) = omega (arith, ap (λ (l : List Insn). length l) more, length-append block before)
+-- The search of the stretches serves a profile: each number has rules that stand for those of the profile, and both
+-- bounds are kept.
+pub record Serve (p : Profile) (ss : List Stretch) : Type 0 where
+  pub some : 0 < length ss
+  pub fine : AllByRecursion IsRule (rules_along ss)
+  pub plain : IsPlainProfile p → AllByRecursion IsPlainRule (rules_along ss)
+  pub rising : IsNonDecreasingBy (λ s. s.first) ss
+  pub whole : first_of ss ≡ 0
+  pub stand : (nr : ℕ) → nr < x32_syscall_bit
+      → StandsFor p.default_answer (rules_on [] ss nr) (rules_of nr p.rules)
+  pub small : 5 + sum_by stretch_bound ss ≤ size_bound_of p
+  pub below : size_bound_of p < 2 ^ 31
+  pub halvings : ℕ
+  pub few : length ss ≤ 2 ^ halvings
+  pub quick : (nr : ℕ) → 6 + 2 * halvings + sum_by rule_bound (rules_of nr p.rules) ≤ search_bound_of p
 
-pub branch_few : (test : Test) (constant hit miss : ℕ) (before after : List Insn) (place : Place)
-    → IsFirst (branch_code test constant hit miss) before after place → length after ≤ 2 + length before
-branch_few test constant hit miss before after place is =
-    omega (
-      arith,
-      ap (λ (l : List Insn). length l) is.whole,
-      length-append (branch_code test constant hit miss) before,
-      branch_at_most (leb miss 255) test constant hit miss,
-    )
+abbrev kill : ℕ
+kill = seccomp_ret_kill_process
 
-module _ (default : Answer) (plan : Plan) (searched killed ranged loaded answered tested code : List Insn)
-    (search x32 range native foreign first : Place)
-    (put : IsPlanPut default plan [] searched search)
-    (kill : IsPut (return_with seccomp_ret_kill_process ∷ []) searched killed x32)
+-- an instruction that answers is put before some code, or stands there
+pub kill_put : {before after : List Insn} {place : Place} → IsPut (return_with kill ∷ []) before after place
+    → ArePut [] 1 before after place
+kill_put put = answers_put [] (return_answers kill 1 (Unit {0}) (omega arith)) (λ _. tt) put
+
+module _ {p : Profile} {ss : List Stretch} {searched killed ranged loaded : List Insn} {search x32 range : Place}
+    (serve : Serve p ss) (found : IsSearchPut p.default_answer ss [] searched search)
+    (above : IsPut (return_with kill ∷ []) searched killed x32)
     (test : IsFirst (branch_code GreaterOrEqual x32_syscall_bit (length killed - x32.0) (length killed - search.0))
     killed ranged range)
-    (load : loaded ≡ load_word 0 ∷ ranged) (here : native.0 ≡ length loaded)
-    (kill_foreign : IsPut (return_with seccomp_ret_kill_process ∷ []) loaded answered foreign)
-    (arch : IsFirst (branch_code Equal audit_arch_x86_64 (length answered - native.0) (length answered - foreign.0))
-    answered tested first)
-    (whole : code ≡ load_word 1 ∷ tested) where
-  ranged_put : IsPlanPut default (in_range plan) [] ranged range
+    (load : loaded ≡ load_word 0 ∷ ranged) where
+  above_put : ArePut [] 1 searched killed x32
+  above_put = kill_put above
+
+  ranged_put : ArePut (rules_along ss) (2 + (1 + found.room)) [] ranged range
   ranged_put =
-      branch_put default x32_syscall_bit (Apply (killing ∷ [])) plan [] searched killed ranged search x32 range put
-      (rules_put default (killing ∷ []) searched killed x32 (killing_fits, tt) kill) test
+      let stands = above_put.near.stands in
+      let stood = found.put.near.stands in
+      branch_put x32 search GreaterOrEqual x32_syscall_bit (λ h m. tt)
+      (puts_join (rules_along ss) found.put above_put (λ plain. (plain, tt))) above_put.some stands found.put.some
+      (omega (arith, (longer above_put).0)) test
 
-  foreign_put : IsPlanPut default (Apply (killing ∷ [])) loaded answered foreign
-  foreign_put = rules_put default (killing ∷ []) loaded answered foreign (killing_fits, tt) kill_foreign
+  len : (length loaded ≡ 1 + length ranged) × (length ranged ≤ 3 + found.room) × (0 < length ranged)
+  len =
+      let some = ranged_put.some in
+      let stands = ranged_put.near.stands in
+      (omega (arith, ap (λ (l : List Insn). length l) load), omega (arith, (longer ranged_put).1), omega arith)
 
-  abbrev to_native : ℕ
-  to_native = length answered - native.0
+  pub answered_few : {answered : List Insn} {other : Place} → IsPut (return_with kill ∷ []) loaded answered other
+      → length answered < 2 ^ 31
+  answered_few beside =
+      let small = serve.small in
+      let below = serve.below in
+      let fits = found.small in
+      omega (arith, (longer (kill_put beside)).1, len.0, len.1)
 
-  abbrev to_foreign : ℕ
-  to_foreign = length answered - foreign.0
+  module _ {answered tested code : List Insn} {other first : Place} (native : Place) (here : native.0 ≡ length loaded)
+      (beside : IsPut (return_with kill ∷ []) loaded answered other)
+      (arch : IsFirst (branch_code Equal audit_arch_x86_64 (length answered - native.0) (length answered - other.0))
+      answered tested first)
+      (whole : code ≡ load_word 1 ∷ tested) where
+    beside_put : ArePut [] 1 loaded answered other
+    beside_put = kill_put beside
 
-  abbrev arch_test : List Insn
-  arch_test = word_code Equal 1 audit_arch_x86_64 to_native to_foreign
+    abbrev to_native : ℕ
+    to_native = length answered - native.0
 
-  is_tested : code ≡ arch_test ++ answered
-  is_tested =
-      let near = foreign_put.near.near in
-      whole ∙ ap (λ (l : List Insn). load_word 1 ∷ l) (arch.whole
-      ∙ ap (λ (l : List Insn). l ++ answered)
-      (near_branch Equal audit_arch_x86_64 to_native to_foreign (omega arith)))
+    abbrev to_other : ℕ
+    to_other = length answered - other.0
 
-  is_native : drop to_native answered ≡ loaded
-  is_native =
-      ap (code_from native) foreign_put.whole
-      ∙ from_behind foreign_put.front loaded native (omega arith) ∙ from_first loaded native here
+    is_tested : code ≡ load_word 1 ∷ jump_if Equal audit_arch_x86_64 to_native to_other ∷ answered
+    is_tested =
+        let near = beside_put.near.near in
+        whole ∙ ap (λ (l : List Insn). load_word 1 ∷ l) (arch.whole
+        ∙ ap (λ (l : List Insn). l ++ answered) (near_branch Equal audit_arch_x86_64 to_native to_other (omega arith)))
 
-  is_searched : Heads default (in_range plan) ranged
-  is_searched =
-      subst (λ (l : List Insn). Heads default (in_range plan) l) (from_first ranged range test.first) ranged_put.heads
+    filter_sound : (asked : Bool) → (IsTrue asked → IsPlainProfile p) → AreSound asked code
+    filter_sound asked is =
+        let stands = beside_put.near.stands in
+        let some = beside_put.some in
+        let native_stands : to_native < length answered = omega (arith, len.0, (longer beside_put).0) in
+        let ranged_sound = ranged_put.sound asked (λ e. serve.plain (is e)) tt in
+        rw is_tested (
+          load_sound 1 (omega arith) (omega arith),
+          (
+            jump_sound Equal audit_arch_x86_64 to_native to_other native_stands (omega arith) (λ _. tt),
+            beside_put.sound asked (λ _. tt) (rw load (load_sound 0 (omega arith) (omega (arith, len.2)), ranged_sound)),
+          ),
+        )
 
-  filter_few : length code ≤ 7 + most_of default plan
-  filter_few =
-      let few = ranged_put.few in
-      let few_foreign = foreign_put.few in
-      omega (
-        arith,
-        ap (λ (l : List Insn). length l) is_tested,
-        length-append arch_test answered,
-        ap (λ (l : List Insn). length l) foreign_put.whole,
-        length-append foreign_put.front loaded,
-        ap (λ (l : List Insn). length l) load,
-        ap (λ (l : List Insn). length l) ranged_put.whole,
-        length-append ranged_put.front [],
-      )
+    module _ (call : CallRecord) (fits : IsRecord call) where
+      -- by the architecture
+      arch_ends : (answer : ℕ) → (eqb call.arch audit_arch_x86_64 ≡ true → Ends (words_of call) loaded call.arch answer
+          (4 + (2 * serve.halvings + sum_by rule_bound (rules_of call.nr p.rules))))
+          → (eqb call.arch audit_arch_x86_64 ≡ false → answer ≡ kill)
+          → Ends (words_of call) code 0 answer (search_bound_of p)
+      arch_ends answer own foreigner =
+          let quick = serve.quick call.nr in
+          rw is_tested (more (loads 1 0 (omega arith) refl (jumps
+          {most = 4 + (2 * serve.halvings + sum_by rule_bound (rules_of call.nr p.rules))} Equal audit_arch_x86_64 to_native
+          to_other call.arch
+          (λ e. rw (stays native beside_put (omega arith) ∙ from_first loaded native here) (own e))
+          (λ e. rw (foreigner e) (more (answers_there (return_answers kill 1 (Unit {0}) (omega arith)) beside call fits call.arch)
+          (omega arith))))) (omega arith))
 
-  some_native : to_native < length answered
-  some_native =
-      omega (
-        arith,
-        length-drop to_native answered,
-        ap (λ (l : List Insn). length l) is_native,
-        ap (λ (l : List Insn). length l) load,
-      )
+      -- by the number
+      range_ends : (answer : ℕ) → (x32_syscall_bit ≤ call.nr → answer ≡ kill)
+          → (call.nr < x32_syscall_bit → answer ≡ first_answer call p.default_answer (rules_on [] ss call.nr))
+          → Ends (words_of call) loaded call.arch answer
+          (4 + (2 * serve.halvings + sum_by rule_bound (rules_of call.nr p.rules)))
+      range_ends answer high low =
+          rw (load ∙ ap (λ (l : List Insn). load_word 0 ∷ l) test.whole)
+          (more (loads 0 call.arch (omega arith) refl
+          (branch_ends {most = 2 * serve.halvings + (1 + sum_by rule_bound (rules_of call.nr p.rules))} GreaterOrEqual
+          x32_syscall_bit (length killed - x32.0) (length killed - search.0) call.nr killed
+          (λ e. rw (high (grind (arith, nat_tests, e)))
+          (more (answers_there (return_answers kill 1 (Unit {0}) (omega arith)) above call fits call.nr) (omega arith)))
+          (λ e. let below : call.nr < x32_syscall_bit = grind (arith, nat_tests, e) in
+          let stands = found.put.near.stands in
+          let bound = (stand_alike p.default_answer call _ _ (serve.stand call.nr below)).1 in
+          rw (stays search above_put stands, low below)
+          (more (found.ends call serve.halvings fits serve.rising (omega (arith, serve.whole)) serve.few) (omega arith)))))
+          (omega arith))
 
-  filter_sound : AreSound code 0
-  filter_sound =
-      let ranged_sound = subst (λ (l : List Insn). AreSound l 0) (sym (ranged_put.whole ∙ append-nil ranged_put.front))
-      ranged_put.sound in
-      let loaded_sound = subst (λ (l : List Insn). AreSound l 0) (sym load) (
-        load_is_sound 0 (length ranged + 0) (omega arith)
-            (omega (arith, some_heads default (in_range plan) ranged is_searched)),
-        ranged_sound,
-      ) in
-      let answered_sound = subst (λ (l : List Insn). AreSound l 0) (sym foreign_put.whole)
-      (sound-append foreign_put.front loaded 0
-      (subst (λ (n : ℕ). AreSound foreign_put.front n) (omega arith) foreign_put.sound) loaded_sound) in
-      subst (λ (l : List Insn). AreSound l 0) (sym is_tested)
-      (sound-append arch_test answered 0
-      (word_sound Equal 1 audit_arch_x86_64 to_native to_foreign (length answered + 0) (omega arith)
-      (omega (arith, some_native))
-      (omega (arith, inside default (Apply (killing ∷ [])) answered to_foreign foreign_put.heads))) answered_sound)
+      answered_of : (own below : Bool) → eqb call.arch audit_arch_x86_64 ≡ own → ltb call.nr x32_syscall_bit ≡ below
+          → IsAnswered p code call
+      answered_of false below other e = record {
+        answer = kill;
+        of_words = arch_ends kill (λ own. absurd (cc)) (λ _. refl);
+        of_profile = foreign (λ native. eqb-false _ _ other native.arch);
+      }
+      answered_of true false own above = record {
+        answer = kill;
+        of_words = arch_ends kill (λ _. range_ends kill (λ _. refl) (λ lt. absurd (grind (arith, nat_tests, above, lt))))
+            (λ other. absurd (cc));
+        of_profile = foreign (λ native. let lt : call.nr < x32_syscall_bit = native.nr in
+            absurd (grind (arith, nat_tests, above, lt)));
+      }
+      answered_of true true own lower =
+          let below : call.nr < x32_syscall_bit = grind (arith, nat_tests, lower) in
+          let same = (stand_alike p.default_answer call _ _ (serve.stand call.nr below)).0 in
+          record {
+            answer = first_answer call p.default_answer (rules_of call.nr p.rules);
+            of_words = arch_ends _ (λ _. range_ends _ (λ le. absurd (omega arith)) (λ _. sym same)) (λ other. absurd (cc));
+            of_profile = first_met p.default_answer call p.rules (record { arch = eqb-true _ _ own; nr = below });
+          }
 
-  killing_plain : IsPlainRule killing
-  killing_plain = record { conditions = λ k d lt. absurd (omega arith) }
-
-  filter_plain : Applies IsPlainRule plan → AllByRecursion IsPlainInsn code
-  filter_plain plain =
-      let ranged_plain = subst ArePlain (sym (ranged_put.whole ∙ append-nil ranged_put.front))
-      (ranged_put.plain ((killing_plain, tt), plain)) in
-      subst ArePlain (sym is_tested)
-      (plain-append arch_test answered (word_plain Equal 1 audit_arch_x86_64 to_native to_foreign tt)
-      (subst ArePlain (sym foreign_put.whole)
-      (plain-append foreign_put.front loaded (foreign_put.plain (killing_plain, tt))
-      (subst ArePlain (sym load) (load_is_plain 0, ranged_plain)))))
-
-  -- The code is a filter of the search's plan.
-  pub filter_put : IsFilterCode default plan code
-  filter_put = record {
-    behind = answered;
-    to_native = to_native;
-    to_foreign = to_foreign;
-    whole = is_tested;
-    foreign = foreign_put.heads;
-    numbered = ranged;
-    native = is_native ∙ load;
-    searched = is_searched;
-    few = filter_few;
-    sound = filter_sound;
-    plain = filter_plain;
-  }
-
-pub some_filter : (default : Answer) (plan : Plan) (code : List Insn) → IsFilterCode default plan code
-    → 0 < length code
-some_filter default plan code filter = omega (arith, ap (λ (l : List Insn). length l) filter.whole)
+    -- The code is the profile's filter.
+    pub filter_put : IsFilterOf p code
+    filter_put = record {
+      some = omega (arith, ap (λ (l : List Insn). length l) is_tested);
+      small = let small = serve.small in let fits = found.small in
+          omega (arith, ap (λ (l : List Insn). length l) is_tested, (longer beside_put).1, len.0, len.1);
+      sound = filter_sound;
+      answered = λ call fits. answered_of call fits (eqb call.arch audit_arch_x86_64) (ltb call.nr x32_syscall_bit) refl refl;
+    }

@@ -1,13 +1,16 @@
 -- Stretches are put one behind another until each number has its rules.
-use Rattle.std.proofs.Common.{rules, ◌≡◌, ℕ, get_or, take, drop, ◌+◌, ◌-◌, ◌*◌, ◌<◌, ◌≤◌, true, cond}
-use Rattle.std.proofs.Common.{leb, Bor, All, List, [], ◌∷◌, ◌++◌, length, refl, sym, ap, ◌∙◌, subst, arith, inl, inr}
-use Rattle.std.proofs.Common.{length-append, append-nil, append_assoc, sum_by}
+use Rattle.std.proofs.Common.{rules, ◌≡◌, ℕ, get_or, take, drop, ◌+◌, ◌-◌, ◌*◌, ◌<◌, ◌≤◌, true}
+use Rattle.std.proofs.Common.{Bor, All, List, [], ◌∷◌, ◌++◌, length, refl, sym, ap, ◌∙◌, subst, arith, inl, inr}
+use Rattle.std.proofs.Common.{length-append, append-nil, sum_by}
 use Rattle.std.specs.Prelude.{Contains}
 use Rattle.std.specs.List.{AllByRecursion}
 use Rattle.std.proofs.lemmas.Bool.{and_parts, cases_lt, le-leb, lt-leb}
 use Rattle.std.proofs.lemmas.List.{length-map, take_all, take_more}
 use Rattle.std.proofs.lemmas.List.Elements.{All-contains_itself, All-map, recursion_from_All}
 use Rattle.std.proofs.lemmas.List.Sums.{sum_by-cons, sum_by-append}
+use Rattle.std.specs.List.Sorted.{IsNonDecreasingBy}
+use Rattle.std.proofs.lemmas.List.Elements.{All-from_recursion}
+use Rattle.std.proofs.lemmas.List.Sorted.{IsNonDecreasingBy-push, IsNonDecreasingBy-short}
 use lib.Pointwise.{pointwise}
 use Rattle.scf_insn.specs.declared.answer.Answer.{Answer}
 use Rattle.scf_insn.specs.Kernel.{x32_syscall_bit}
@@ -21,8 +24,8 @@ use Rattle.scf_compile.specs.declared.stretches.Stretch.{Stretch}
 use Rattle.scf_compile.specs.SizeBound.{rule_bound}
 use Rattle.scf_compile.specs.internal.Numbers.{rules_in, RiseBetween}
 use Rattle.scf_compile.specs.internal.Stretches.{AreAlike, StandsFor, AreTelling, rules_along, rules_on, first_of}
-use Rattle.scf_compile.specs.internal.Stretches.{BeginBetween}
 use Rattle.scf_compile.specs.internal.Stretches.{rules_bound, stretch_bound, IsPut, begins, goes_on, AreStretchesOf}
+use Rattle.scf_compile.proofs.Searches.{along-append, on-append}
 use Rattle.scf_compile.proofs.Lists.{next_at, all_append, all_front, all_back}
 use Rattle.scf_compile.proofs.OwnRules.{none_below, rules_first, rules_later}
 
@@ -84,18 +87,7 @@ pub references_all : (P : Rule → Type 0) (refs : List (Bor Rule)) → All (λ 
     → AllByRecursion P (rules_at refs)
 references_all P refs all = recursion_from_All P (rules_at refs) (All-map P (λ (r : Bor Rule). r.now) refs all)
 
-pub along-append : (ss ts : List Stretch) → rules_along (ss ++ ts) ≡ rules_along ss ++ rules_along ts
-along-append [] ts = refl
-along-append (s ∷ ss) ts =
-    ap (λ (l : List Rule). rules_at s.rules.now ++ l) (along-append ss ts)
-    ∙ sym (append_assoc (rules_at s.rules.now) (rules_along ss) (rules_along ts))
-
 -- ---- the rules that apply to a number
-
-pub on-append : (before : List Rule) (ss ts : List Stretch) (nr : ℕ)
-    → rules_on before (ss ++ ts) nr ≡ rules_on (rules_on before ss nr) ts nr
-on-append before [] ts nr = refl
-on-append before (s ∷ ss) ts nr = on-append (cond (leb s.first nr) (rules_at s.rules.now) before) ss ts nr
 
 on_last : (before : List Rule) (ss : List Stretch) (s : Stretch) (nr : ℕ) → s.first ≤ nr
     → rules_on before (ss ++ s ∷ []) nr ≡ rules_at s.rules.now
@@ -105,30 +97,12 @@ on_earlier : (before : List Rule) (ss : List Stretch) (s : Stretch) (nr : ℕ) �
     → rules_on before (ss ++ s ∷ []) nr ≡ rules_on before ss nr
 on_earlier before ss s nr lt = on-append before ss (s ∷ []) nr ∙ rw (lt-leb s.first nr lt) refl
 
--- ---- where stretches begin
-
-pub begin_le : (ss : List Stretch) (low high : ℕ) → BeginBetween low high ss → low ≤ high
-begin_le [] low high h = h
-begin_le (s ∷ ss) low high h = let first = h.0 in omega (arith, begin_le ss (s.first + 1) high h.1)
-
-begin_within : (ss : List Stretch) (low high top : ℕ) → high ≤ top → BeginBetween low high ss → BeginBetween low top ss
-begin_within [] low high top le h = omega arith
-begin_within (s ∷ ss) low high top le h = (h.0, begin_within ss (s.first + 1) high top le h.1)
-
-begin_push : (ss : List Stretch) (low high : ℕ) (s : Stretch) → BeginBetween low high ss → high ≤ s.first
-    → BeginBetween low (s.first + 1) (ss ++ s ∷ [])
-begin_push [] low high s h le = let first : low ≤ high = h in (omega arith, omega arith)
-begin_push (t ∷ ts) low high s h le = (h.0, begin_push ts (t.first + 1) high s h.1 le)
-
-begin_last : (ss : List Stretch) (low high : ℕ) (s : Stretch) → BeginBetween low high (ss ++ s ∷ []) → s.first < high
-begin_last [] low high s h = let le : s.first + 1 ≤ high = h.1 in omega arith
-begin_last (t ∷ ts) low high s h = begin_last ts (t.first + 1) high s h.1
-
 -- ---- one stretch more
 
 -- The stretches give each number below `next` rules that stand for those wanted.
 pub record Covers (wanted : ℕ → List Rule) (default : Answer) (ss : List Stretch) (next : ℕ) : Type 0 where
-  pub rising : BeginBetween 0 next ss
+  pub rising : IsNonDecreasingBy (λ s. s.first) ss
+  pub below : AllByRecursion (λ s. s.first < next) ss
   pub whole : 0 < next → (0 < length ss) × (first_of ss ≡ 0)
   pub serve : (nr : ℕ) → nr < next → StandsFor default (rules_on [] ss nr) (wanted nr)
 
@@ -136,51 +110,45 @@ module _ (wanted : ℕ → List Rule) (default : Answer) (before : List Stretch)
     (covers : Covers wanted default before next)
     (rules : List (Bor Rule)) (limit : ℕ) (lt : next < limit)
     (stand : (nr : ℕ) → next ≤ nr → nr < limit → StandsFor default (rules_at rules) (wanted nr)) where
-  whole_from : (ss : List Stretch) → BeginBetween 0 next ss → (0 < next → (0 < length ss) × (first_of ss ≡ 0))
-      → 0 < length ss → first_of ss ≡ 0
-  whole_from [] rising whole some = absurd (omega arith)
-  whole_from (s ∷ ss) rising whole some = (whole (omega (arith, begin_le ss (s.first + 1) next rising.1))).1
+  still_below : (ss : List Stretch) → AllByRecursion (λ s. s.first < next) ss → AllByRecursion (λ s. s.first < limit) ss
+  still_below [] h = tt
+  still_below (s ∷ ss) h = let first = h.0 in (omega arith, still_below ss h.1)
 
-  whole_push : (ss : List Stretch) (s : Stretch) → s.first ≡ next → BeginBetween 0 next ss
+  whole_push : (ss : List Stretch) (s : Stretch) → s.first ≡ next → AllByRecursion (λ t. t.first < next) ss
       → (0 < next → (0 < length ss) × (first_of ss ≡ 0)) → first_of (ss ++ s ∷ []) ≡ 0
-  whole_push [] s is rising whole = elim (cases_lt 0 next) [
+  whole_push [] s is below whole = elim (cases_lt 0 next) [
     | inl past ↦ absurd (let some = (whole past).0 in omega arith)
     | inr zero ↦ omega arith
   ]
-  whole_push (t ∷ ts) s is rising whole = whole_from (t ∷ ts) rising whole (omega arith)
+  whole_push (t ∷ ts) s is below whole = let first = below.0 in (whole (omega arith)).1
 
   begun : (s : Stretch) → s.first ≡ next → s.rules.now ≡ rules → Covers wanted default (before ++ s ∷ []) limit
   begun s first is = record {
-    rising = begin_within (before ++ s ∷ []) 0 (s.first + 1) limit (omega arith)
-        (begin_push before 0 next s covers.rising (omega arith));
-    whole = λ _. (omega (arith, length-append before (s ∷ [])), whole_push before s first covers.rising covers.whole);
+    rising = IsNonDecreasingBy-push (λ (t : Stretch). t.first) before s covers.rising
+        (λ d some. let last = All-from_recursion (λ t. t.first < next) before covers.below (length before - 1) d (omega arith)
+        in omega arith);
+    below = all_append (λ t. t.first < limit) before (s ∷ []) (still_below before covers.below) (omega arith, tt);
+    whole = λ _. (omega (arith, length-append before (s ∷ [])), whole_push before s first covers.below covers.whole);
     serve = λ nr within. elim (cases_lt nr next) [
-      | inl below ↦ subst (λ (l : List Rule). StandsFor default l (wanted nr))
-          (sym (on_earlier [] before s nr (omega arith))) (covers.serve nr below)
-      | inr past ↦ subst (λ (l : List Rule). StandsFor default l (wanted nr))
-          (sym (on_last [] before s nr (omega arith) ∙ ap rules_at is)) (stand nr past within)
+      | inl below ↦ rw (on_earlier [] before s nr (omega arith)) (covers.serve nr below)
+      | inr past ↦ rw (on_last [] before s nr (omega arith), is) (stand nr past within)
     ];
   }
 
   gone_on : (earlier : List Stretch) (last : Stretch) → before ≡ earlier ++ last ∷ []
       → AreAlike (rules_at last.rules.now) (rules_at rules) → Covers wanted default before limit
-  gone_on earlier last is alike = record {
-    rising = begin_within before 0 next limit (omega arith) covers.rising;
-    whole = λ _. let some : 0 < length before =
-        omega (arith, ap (λ (l : List Stretch). length l) is, length-append earlier (last ∷ [])) in
-        (some, whole_from before covers.rising covers.whole some);
-    serve = λ nr within. elim (cases_lt nr next) [
-      | inl below ↦ covers.serve nr below
-      | inr past ↦
-          let end = begin_last earlier 0 next last
-          (subst (λ (l : List Stretch). BeginBetween 0 next l) is covers.rising) in
-          let on : rules_on [] before nr ≡ rules_at last.rules.now =
-          ap (λ (l : List Stretch). rules_on [] l nr) is ∙ on_last [] earlier last nr (omega arith) in
-          subst (λ (l : List Rule). StandsFor default l (wanted nr)) (sym on)
-          (stands_through default (rules_at last.rules.now) (rules_at rules) (wanted nr) alike
-          (stand nr past within))
-    ];
-  }
+  gone_on earlier last is alike =
+      let below = (all_back (λ t. t.first < next) earlier (last ∷ []) (rw is at covers.below)).0 in
+      record {
+        rising = covers.rising;
+        below = still_below before covers.below;
+        whole = λ _. covers.whole (omega arith);
+        serve = λ nr within. elim (cases_lt nr next) [
+          | inl lower ↦ covers.serve nr lower
+          | inr past ↦ rw (is, on_last [] earlier last nr (omega arith))
+              (stands_through default (rules_at last.rules.now) (rules_at rules) (wanted nr) alike (stand nr past within))
+        ];
+      }
 
   covers_more : (after : List Stretch) → IsPut before next rules after → Covers wanted default after limit
   covers_more after (begins s first is put) =
@@ -273,7 +241,8 @@ pub laid_none : (default : Answer) (numbers : List NumberRules) → RiseBetween 
     → LaidUpTo default numbers [] 0 numbers 0
 laid_none default numbers rising = record {
   covers = record {
-    rising = omega arith;
+    rising = IsNonDecreasingBy-short (λ (s : Stretch). s.first) [] (omega arith);
+    below = tt;
     whole = λ past. absurd (omega arith);
     serve = λ nr below. absurd (omega arith);
   };

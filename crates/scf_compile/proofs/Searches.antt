@@ -1,196 +1,239 @@
--- The search of stretches finds that of each number, within the bounds on instructions and steps.
-use Rattle.std.proofs.Common.{◌≡◌, ℕ, zero, suc, ◌+◌, ◌*◌, ◌^◌, ◌<◌, ◌≤◌, Bool, true, false, not, cond, ltb}
+-- The search of stretches finds that of each number.
+use Rattle.std.proofs.Common.{◌≡◌, ℕ, zero, suc, ◌+◌, ◌-◌, ◌*◌, ◌^◌, ◌<◌, ◌≤◌, cond, leb}
 use Rattle.std.proofs.Common.{List, [], ◌∷◌, ◌++◌, length, get_or, take, drop, refl, sym, ap, ◌∙◌, subst, arith}
-use Rattle.std.proofs.Common.{length-append, sum_by}
+use Rattle.std.proofs.Common.{length-append, append_assoc, sum_by}
 use Rattle.std.specs.List.{AllByRecursion}
-use Rattle.std.proofs.lemmas.Bool.{ltb-true, ltb-false, le-leb, lt-leb}
+use Rattle.std.specs.List.Sorted.{IsNonDecreasingBy}
+use Rattle.std.proofs.lemmas.Bool.{le-leb, lt-leb}
+use Rattle.std.proofs.lemmas.Bool.Decides.{nat_tests}
 use Rattle.std.proofs.lemmas.List.{take-append-drop}
+use Rattle.std.proofs.lemmas.List.Elements.{recursion_from_All}
+use Rattle.std.proofs.lemmas.List.Sorted.{IsNonDecreasingBy-take, IsNonDecreasingBy-drop}
 use Rattle.std.proofs.lemmas.List.Sums.{sum_by-cons, sum_by-append}
 use Rattle.scf_insn.specs.declared.answer.Answer.{Answer}
 use Rattle.scf_insn.specs.declared.insn.Insn.{Insn}
+use Rattle.scf_insn.specs.declared.record.CallRecord.{CallRecord}
+use Rattle.scf_insn.specs.declared.operation.Test.{Test}
+use Rattle.scf_insn.specs.declared.operation.Test.TheVariants.{GreaterOrEqual}
+use Rattle.scf_insn.specs.declared.operation.Operation.TheVariants.{JumpIf}
+use Rattle.scf_insn.specs.declared.operation.Operand.TheVariants.{Constant}
+use Rattle.scf_insn.specs.Words.{words_of}
+use Rattle.scf_machine.specs.Plain.{IsPlainOperation}
 use Rattle.scf_profile.specs.declared.rule.Rule.{Rule}
 use Rattle.scf_profile.specs.ByNumber.{rules_at}
+use Rattle.scf_profile.specs.PlainProfile.{IsPlainRule}
+use Rattle.scf_profile.specs.Rule.{IsRule}
 use Rattle.scf_compile.specs.declared.placing.Place.{Place}
 use Rattle.scf_compile.specs.declared.stretches.Stretch.{Stretch}
-use Rattle.scf_compile.specs.internal.Plans.{Plan, Apply, Branch, rules_code, IsSearch, HasFewTests, Applies, most_of}
-use Rattle.scf_compile.specs.internal.Plans.{IsSearchPut}
-use Rattle.scf_compile.specs.internal.Stretches.{rules_along, rules_on, first_of, BeginBetween, stretch_bound}
+use Rattle.scf_compile.specs.SizeBound.{rule_bound}
+use Rattle.scf_compile.specs.internal.Insns.{jump_if}
+use Rattle.scf_compile.specs.internal.Placing.{branch_code, code_from, IsFirst, IsPut}
+use Rattle.scf_compile.specs.internal.Filters.{rules_code, first_answer, ArePut, IsSearchPut}
+use Rattle.scf_compile.specs.internal.Runs.{Ends}
+use Rattle.scf_compile.specs.internal.Stretches.{rules_along, rules_on, first_of, stretch_bound}
 use Rattle.scf_compile.proofs.Lists.{all_front, all_back}
-use Rattle.scf_compile.proofs.Laying.{along-append, on-append, begin_le}
-use Rattle.scf_compile.proofs.Plans.{rules_for, plan_steps}
-use Rattle.scf_compile.proofs.Sizes.{rules_in_bound}
+use Rattle.scf_compile.proofs.Runs.{more}
+use Rattle.scf_compile.proofs.RuleCode.{rules_answer, rules_in_bound, branch_ends, branch_sound, branch_few}
+use Rattle.scf_compile.proofs.RuleCode.{from_behind, from_first, first_near, answers_put, answers_there}
 
--- ---- stretches that are cut in two
+-- ---- what is put, and more before it
 
-begin_front : (ss ts : List Stretch) (low high : ℕ) → BeginBetween low high (ss ++ ts) → BeginBetween low high ss
-begin_front [] ts low high h = begin_le ts low high h
-begin_front (s ∷ ss) ts low high h = (h.0, begin_front ss ts (s.first + 1) high h.1)
+-- what stands at a place stays
+pub stays : {rules : List Rule} {n : ℕ} {mid after : List Insn} {q : Place} (p : Place) → ArePut rules n mid after q
+    → p.0 ≤ length mid → code_from p after ≡ code_from p mid
+stays {rules} {n} {mid} p put le = ap (code_from p) put.whole ∙ from_behind put.front mid p le
 
-begin_lower : (ss : List Stretch) (low from high : ℕ) → low ≤ from → BeginBetween from high ss
-    → BeginBetween low high ss
-begin_lower [] low from high le h = let whole : from ≤ high = h in omega arith
-begin_lower (s ∷ ss) low from high le h = let first = h.0 in (omega arith, h.1)
+pub longer : {rules : List Rule} {n : ℕ} {mid after : List Insn} {q : Place} → ArePut rules n mid after q
+    → (length mid ≤ length after) × (length after ≤ n + length mid)
+longer {rules} {n} {mid} put =
+    let few = put.few in
+    let len = ap (λ (l : List Insn). length l) put.whole ∙ length-append put.front mid in
+    (omega arith, omega arith)
 
-begin_back : (ss ts : List Stretch) (low high : ℕ) → BeginBetween low high (ss ++ ts) → BeginBetween low high ts
-begin_back [] ts low high h = h
-begin_back (s ∷ ss) ts low high h = let first =
-    h.0 in begin_lower ts low (s.first + 1) high (omega arith) (begin_back ss ts (s.first + 1) high h.1)
+pub puts_join : {before mid after : List Insn} {p q : Place} {m n : ℕ} {r s : List Rule} (rules : List Rule)
+    → ArePut r m before mid p → ArePut s n mid after q
+    → (AllByRecursion IsPlainRule rules → AllByRecursion IsPlainRule r × AllByRecursion IsPlainRule s)
+    → ArePut rules (n + m) before after q
+puts_join {before} rules under over parts = record {
+  front = over.front ++ under.front;
+  whole = over.whole ∙ ap (λ (l : List Insn). over.front ++ l) under.whole
+      ∙ sym (append_assoc over.front under.front before);
+  few =
+      let a = under.few in
+      let b = over.few in
+      omega (arith, length-append over.front under.front);
+  some = over.some;
+  near = over.near;
+  sound = λ asked plain s.
+      over.sound asked (λ e. (parts (plain e)).1) (under.sound asked (λ e. (parts (plain e)).0) s);
+}
+
+-- a test that goes to two places of the code
+pub branch_put : {before both after : List Insn} {q place : Place} {n : ℕ} {rules : List Rule} (hit miss : Place)
+    (test : Test) (constant : ℕ) → ((h m : ℕ) → IsPlainOperation (JumpIf test Constant) (jump_if test constant h m))
+    → ArePut rules n before both q → 0 < hit.0 → hit.0 ≤ length both → 0 < miss.0 → miss.0 ≤ length both
+    → IsFirst (branch_code test constant (length both - hit.0) (length both - miss.0)) both after place
+    → ArePut rules (2 + n) before after place
+branch_put {before} {both} {after} {q} {place} hit miss test constant is put some_hit in_hit some_miss in_miss first =
+    let to_hit = length both - hit.0 in
+    let to_miss = length both - miss.0 in
+    let branch = branch_code test constant to_hit to_miss in
+    record {
+      front = branch ++ put.front;
+      whole = first.whole ∙ ap (λ (l : List Insn). branch ++ l) put.whole ∙ sym (append_assoc branch put.front before);
+      few = let few = put.few in
+          omega (arith, length-append branch put.front, branch_few test constant to_hit to_miss);
+      some = let all = first.first in
+          omega (arith, ap (λ (l : List Insn). length l) first.whole, length-append branch both);
+      near = first_near after place first.first;
+      sound = λ asked plain s.
+          rw first.whole (branch_sound asked test constant to_hit to_miss both (omega arith) (omega arith) is
+          (put.sound asked plain s));
+    }
+
+-- ---- the rules of one number
+
+pub along-append : (ss ts : List Stretch) → rules_along (ss ++ ts) ≡ rules_along ss ++ rules_along ts
+along-append [] ts = refl
+along-append (s ∷ ss) ts =
+    ap (λ (l : List Rule). rules_at s.rules.now ++ l) (along-append ss ts)
+    ∙ sym (append_assoc (rules_at s.rules.now) (rules_along ss) (rules_along ts))
+
+-- what holds of the rules of some stretches holds of those of both parts
+pub of_parts : (P : Rule → Type 0) (ss low high : List Stretch) → ss ≡ low ++ high → AllByRecursion P (rules_along ss)
+    → AllByRecursion P (rules_along low) × AllByRecursion P (rules_along high)
+of_parts P ss low high is all =
+    let parts = subst (λ (l : List Rule). AllByRecursion P l) (ap rules_along is ∙ along-append low high) all in
+    (all_front P (rules_along low) (rules_along high) parts, all_back P (rules_along low) (rules_along high) parts)
+
+pub of_one : (P : Rule → Type 0) (ss : List Stretch) (s : Stretch) → ss ≡ s ∷ [] → AllByRecursion P (rules_along ss)
+    → AllByRecursion P (rules_at s.rules.now)
+of_one P ss s is all =
+    all_front P (rules_at s.rules.now) [] (subst (λ (l : List Stretch). AllByRecursion P (rules_along l)) is all)
+
+pub on-append : (before : List Rule) (ss ts : List Stretch) (nr : ℕ)
+    → rules_on before (ss ++ ts) nr ≡ rules_on (rules_on before ss nr) ts nr
+on-append before [] ts nr = refl
+on-append before (s ∷ ss) ts nr = on-append (cond (leb s.first nr) (rules_at s.rules.now) before) ss ts nr
+
+-- stretches that begin above a number say nothing of it
+none_above : (before : List Rule) (ss : List Stretch) (nr : ℕ) → AllByRecursion (λ s. nr < s.first) ss
+    → rules_on before ss nr ≡ before
+none_above before [] nr h = refl
+none_above before (s ∷ ss) nr h = rw (lt-leb s.first nr h.0) (none_above before ss nr h.1)
+
+-- and from the first of them on they alone do
+from_the_first : (before : List Rule) (ss : List Stretch) (nr : ℕ) → 0 < length ss → first_of ss ≤ nr
+    → rules_on before ss nr ≡ rules_on [] ss nr
+from_the_first before [] nr some le = absurd (omega arith)
+from_the_first before (s ∷ ss) nr some le = rw (le-leb s.first nr le) refl
+
+pub first_is : (ss : List Stretch) (s d : Stretch) → 0 < length ss → s ≡ get_or ss 0 d → s.first ≡ first_of ss
+first_is [] s d some is = absurd (omega arith)
+first_is (t ∷ ss) s d some is = ap (λ (u : Stretch). u.first) is
 
 first_front : (ss ts : List Stretch) → 0 < length ss → first_of (ss ++ ts) ≡ first_of ss
 first_front [] ts some = absurd (omega arith)
 first_front (s ∷ ss) ts some = refl
 
--- stretches that begin above a number say nothing of it
-none_above : (before : List Rule) (ss : List Stretch) (low high nr : ℕ) → BeginBetween low high ss → nr < low
-    → rules_on before ss nr ≡ before
-none_above before [] low high nr h lt = refl
-none_above before (s ∷ ss) low high nr h lt =
-    let first = h.0 in
-    rw (lt-leb s.first nr (omega arith)) (none_above before ss (s.first + 1) high nr h.1 (omega arith))
+-- ---- the search
 
-below_first : (before : List Rule) (ss : List Stretch) (low high nr : ℕ) → BeginBetween low high ss → 0 < length ss
-    → nr < first_of ss → rules_on before ss nr ≡ before
-below_first before [] low high nr h some lt = absurd (omega arith)
-below_first before (s ∷ ss) low high nr h some lt =
-    rw (lt-leb s.first nr lt) (none_above before ss (s.first + 1) high nr h.1 (omega arith))
-
--- and from the first of them on they alone do
-from_first : (before other : List Rule) (ss : List Stretch) (nr : ℕ) → 0 < length ss → first_of ss ≤ nr
-    → rules_on before ss nr ≡ rules_on other ss nr
-from_first before other [] nr some le = absurd (omega arith)
-from_first before other (s ∷ ss) nr some le = rw (le-leb s.first nr le) refl
-
-some_found : (plan : Plan) (ss : List Stretch) → IsSearch plan ss → 0 < length ss
-some_found (Apply rules) ss (s, is, own) = omega (arith, ap (λ (l : List Stretch). length l) is)
-some_found (Branch number hit miss) ss (low, high, is, first, over, under) =
-    omega (arith, ap (λ (l : List Stretch). length l) is, length-append low high, some_found hit high over)
-
--- ---- what holds of the rules of the stretches holds of those of the plan
-
--- what holds of the rules of some stretches holds of those of both parts
-pub parts_ready : (P : Rule → Type 0) (ss low high : List Stretch) → ss ≡ low ++ high
-    → AllByRecursion P (rules_along ss) → AllByRecursion P (rules_along low) × AllByRecursion P (rules_along high)
-parts_ready P ss low high is all =
-    let parts = subst (λ (l : List Rule). AllByRecursion P l) (ap rules_along is ∙ along-append low high) all in
-    (all_front P (rules_along low) (rules_along high) parts, all_back P (rules_along low) (rules_along high) parts)
-
--- and of those of the only one
-pub own_rules : (P : Rule → Type 0) (ss : List Stretch) (s : Stretch) → ss ≡ s ∷ [] → AllByRecursion P (rules_along ss)
-    → AllByRecursion P (rules_at s.rules.now)
-own_rules P ss s is all =
-    all_front P (rules_at s.rules.now) []
-    (subst (λ (l : List Stretch). AllByRecursion P (rules_along l)) is all)
-
-pub search_applies : (P : Rule → Type 0) (plan : Plan) (ss : List Stretch) → IsSearch plan ss
-    → AllByRecursion P (rules_along ss) → Applies P plan
-search_applies P (Apply rules) ss (s, is, own) all =
-    subst (λ (l : List Rule). AllByRecursion P l) (sym own) (own_rules P ss s is all)
-search_applies P (Branch number hit miss) ss (low, high, is, first, over, under) all =
-    let parts = parts_ready P ss low high is all in
-    (search_applies P hit high over parts.1, search_applies P miss low under parts.0)
-
--- ---- the rules of one number
-
--- a number below a place is looked for in the lower stretches, another in the upper ones
-by_side : (hit miss : List Rule) (low high : List Stretch) (from to number nr : ℕ) (below : Bool)
-    → ltb nr number ≡ below → number ≡ first_of high → 0 < length high → BeginBetween from to high
-    → (number ≤ nr → hit ≡ rules_on [] high nr) → (nr < number → miss ≡ rules_on [] low nr)
-    → cond (not below) hit miss ≡ rules_on [] (low ++ high) nr
-by_side hit miss low high from to number nr true e first some rising over under =
-    let lt = ltb-true nr number e in
-    under lt ∙ sym (on-append [] low high nr
-    ∙ below_first (rules_on [] low nr) high from to nr rising some (omega arith))
-by_side hit miss low high from to number nr false e first some rising over under =
-    let le = ltb-false nr number e in
-    over le ∙ sym (on-append [] low high nr ∙ from_first (rules_on [] low nr) [] high nr some (omega arith))
-
--- The plan applies to each number the rules that its stretch has.
-pub search_serves : (plan : Plan) (ss : List Stretch) (from to nr : ℕ) → IsSearch plan ss → BeginBetween from to ss
-    → first_of ss ≤ nr → rules_for plan nr ≡ rules_on [] ss nr
-search_serves (Apply rules) ss from to nr (s, is, own) rising le =
-    let here : s.first ≤ nr = omega (arith, ap first_of is) in
-    own ∙ sym (ap (λ (l : List Stretch). rules_on [] l nr) is ∙ rw (le-leb s.first nr here) refl)
-search_serves (Branch number hit miss) ss from to nr (low, high, is, first, over, under) rising le =
-    let parts = subst (λ (l : List Stretch). BeginBetween from to l) is rising in
-    let begins = ap first_of is ∙ first_front low high (some_found miss low under) in
-    by_side (rules_for hit nr) (rules_for miss nr) low high from to number nr (ltb nr number) refl first
-    (some_found hit high over) (begin_back low high from to parts)
-    (λ past. search_serves hit high from to nr over (begin_back low high from to parts) (omega arith))
-    (λ below. search_serves miss low from to nr under (begin_front low high from to parts) (omega arith))
-    ∙ sym (ap (λ (l : List Stretch). rules_on [] l nr) is)
-
--- ---- its steps
-
-two_more : (default : Answer) (hit miss : List Rule) (most m n : ℕ) (b : Bool)
-    → m ≤ 2 * most + length (rules_code default hit) → n ≤ 2 * most + length (rules_code default miss)
-    → 2 + cond b m n ≤ 2 * suc most + length (rules_code default (cond b hit miss))
-two_more default hit miss most m n true few_hit few_miss = omega arith
-two_more default hit miss most m n false few_hit few_miss = omega arith
-
--- Two steps at most for each test.
-pub search_steps : (default : Answer) (plan : Plan) (most nr : ℕ) → HasFewTests plan most
-    → plan_steps default plan nr ≤ 2 * most + length (rules_code default (rules_for plan nr))
-search_steps default (Apply rules) most nr few = omega arith
-search_steps default (Branch number hit miss) zero nr few = absurd few
-search_steps default (Branch number hit miss) (suc most) nr few =
-    two_more default (rules_for hit nr) (rules_for miss nr) most (plan_steps default hit nr)
-    (plan_steps default miss nr) (not (ltb nr number)) (search_steps default hit most nr few.0)
-    (search_steps default miss most nr few.1)
-
--- ---- its instructions
-
--- No search takes more instructions than its stretches may.
-pub search_at_most : (default : Answer) (plan : Plan) (ss : List Stretch) → IsSearch plan ss
-    → most_of default plan + 2 ≤ sum_by stretch_bound ss
-search_at_most default (Apply rules) ss (s, is, own) =
-    omega (
-      arith,
-      ap (λ (l : List Rule). length (rules_code default l)) own,
-      rules_in_bound default (rules_at s.rules.now),
-      ap (sum_by stretch_bound) is,
-      sum_by-cons stretch_bound s [],
-    )
-search_at_most default (Branch number hit miss) ss (low, high, is, first, over, under) =
-    omega (
-      arith,
-      search_at_most default hit high over,
-      search_at_most default miss low under,
-      ap (sum_by stretch_bound) is,
-      sum_by-append stretch_bound low high,
-    )
-
--- nor is more put before some code
-pub put_len : (default : Answer) (ss : List Stretch) (before after : List Insn) (place : Place)
+pub put_len : {default : Answer} {ss : List Stretch} {before after : List Insn} {place : Place}
     → IsSearchPut default ss before after place → length after + 2 ≤ length before + sum_by stretch_bound ss
-put_len default ss before after place s =
-    let few = s.put.few in
-    omega (
-      arith,
-      ap (λ (l : List Insn). length l) s.put.whole,
-      length-append s.put.front before,
-      search_at_most default s.plan ss s.finds,
-    )
+put_len s = let small = s.small in omega (arith, (longer s.put).1)
 
 pub cut_in_two : (ss low high : List Stretch) (k : ℕ) → low ≡ take k ss → high ≡ drop k ss → ss ≡ low ++ high
-cut_in_two ss low high k low_is high_is =
-    sym (take-append-drop k ss) ∙ ap (λ (l : List Stretch). l ++ drop k ss) (sym low_is)
-    ∙ ap (λ (l : List Stretch). low ++ l) (sym high_is)
+cut_in_two ss low high k front back = sym (rw (front, back) (take-append-drop k ss))
+
+abbrev first_number : Stretch → ℕ
+first_number s = s.first
+
+module _ (default : Answer) (ss low high : List Stretch) (k number : ℕ) (front : low ≡ take k ss)
+    (back : high ≡ drop k ss) (some : 0 < length low) (more_than_one : 0 < length high)
+    (halves : (length low ≤ length high) × (length high ≤ length low + 1)) (named : number ≡ first_of high) where
+  whole : ss ≡ low ++ high
+  whole = cut_in_two ss low high k front back
+
+  -- a number is looked for in the upper stretches, or in the lower ones
+  in_high : (nr : ℕ) → number ≤ nr → rules_on [] ss nr ≡ rules_on [] high nr
+  in_high nr le = rw whole (on-append [] low high nr
+      ∙ from_the_first (rules_on [] low nr) high nr more_than_one (omega (arith, named)))
+
+  in_low : (nr : ℕ) → IsNonDecreasingBy first_number ss → nr < number
+      → rules_on [] ss nr ≡ rules_on [] low nr
+  in_low nr rising lt =
+      rw whole (on-append [] low high nr ∙ none_above (rules_on [] low nr) high nr
+      (recursion_from_All (λ s. nr < s.first) high
+      (λ i d inside. let up = rw (← back) at (IsNonDecreasingBy-drop first_number k ss rising) in
+      omega (arith, named, first_is high (get_or high 0 d) d more_than_one refl, up 0 i d (omega arith) inside))))
+
+  abbrev Found : CallRecord → List Insn → List Stretch → ℕ → Type 0
+  Found call code part n =
+      Ends (words_of call) code call.nr (first_answer call default (rules_on [] part call.nr))
+      (2 * n + (1 + sum_by rule_bound (rules_on [] part call.nr)))
+
+  search_ends : (call : CallRecord) (hit miss : ℕ) (both : List Insn) → IsNonDecreasingBy first_number ss
+      → first_of ss ≤ call.nr → (n : ℕ) → length ss ≤ 2 ^ n
+      → ((m : ℕ) → first_of high ≤ call.nr → length high ≤ 2 ^ m → Found call (drop hit both) high m)
+      → ((m : ℕ) → first_of low ≤ call.nr → length low ≤ 2 ^ m → Found call (drop miss both) low m)
+      → Found call (branch_code GreaterOrEqual number hit miss ++ both) ss n
+  search_ends call hit miss both rising le zero few over under =
+      absurd (omega (arith, ap (λ (l : List Stretch). length l) whole, length-append low high))
+  search_ends call hit miss both rising le (suc n) few over under =
+      let nr = call.nr in
+      let len = ap (λ (l : List Stretch). length l) whole ∙ length-append low high in
+      let begins = ap first_of whole ∙ first_front low high some in
+      more (branch_ends {most = 2 * n + (1 + sum_by rule_bound (rules_on [] ss nr))} GreaterOrEqual number hit miss nr both
+      (λ e. let past : number ≤ nr = grind (arith, nat_tests, e) in
+      rw (in_high nr past) (over n (omega (arith, named)) (omega arith)))
+      (λ e. let below : nr < number = grind (arith, nat_tests, e) in
+      rw (in_low nr rising below) (under n (omega arith) (omega arith)))) (omega arith)
+
+  pub search_branch : {before mid both after : List Insn} {to_miss to_hit place : Place}
+      → IsSearchPut default low before mid to_miss → IsSearchPut default high mid both to_hit
+      → IsFirst (branch_code GreaterOrEqual number (length both - to_hit.0) (length both - to_miss.0)) both after place
+      → IsSearchPut default ss before after place
+  search_branch {before} {mid} {both} {after} {to_miss} {to_hit} {place} under over first =
+      let hit_stands = over.put.near.stands in
+      let miss_stands = under.put.near.stands in
+      let hit = length both - to_hit.0 in
+      let miss = length both - to_miss.0 in
+      record {
+        room = 2 + (over.room + under.room);
+        small =
+            let a = under.small in
+            let b = over.small in
+            omega (arith, ap (sum_by stretch_bound) whole, sum_by-append stretch_bound low high);
+        put =
+            branch_put to_hit to_miss GreaterOrEqual number (λ h m. tt)
+            (puts_join (rules_along ss) under.put over.put (of_parts IsPlainRule ss low high whole)) over.put.some
+            hit_stands under.put.some (omega (arith, (longer over.put).0)) first;
+        ends = λ call halvings fits rising le few.
+            rw (from_first after place first.first ∙ first.whole)
+            (search_ends call hit miss both rising le halvings few
+            (λ n h f. over.ends call n fits (rw (← back) at (IsNonDecreasingBy-drop first_number k ss rising)) h f)
+            (λ n h f. rw (← stays to_miss over.put miss_stands) at
+            (under.ends call n fits (rw (← front) at (IsNonDecreasingBy-take first_number k ss rising)) h f)));
+      }
 
 pub one_is : (ss : List Stretch) (s : Stretch) → 0 < length ss → length ss ≤ 1 → s ≡ get_or ss 0 s → ss ≡ s ∷ []
 one_is [] s some one is = absurd (omega arith)
 one_is (t ∷ []) s some one is = ap (λ (u : Stretch). u ∷ []) (sym is)
 one_is (t ∷ u ∷ ss) s some one is = absurd (omega arith)
 
-pub first_is : (ss : List Stretch) (s : Stretch) → 0 < length ss → s ≡ get_or ss 0 s → s.first ≡ first_of ss
-first_is [] s some is = absurd (omega arith)
-first_is (t ∷ ss) s some is = ap (λ (u : Stretch). u.first) is
-
--- two parts that are no more than half of what both may be need one test less
-pub halves_few : (number : ℕ) (ss low high : List Stretch) (hit miss : Plan)
-    → ((most : ℕ) → length high ≤ 2 ^ most → HasFewTests hit most)
-    → ((most : ℕ) → length low ≤ 2 ^ most → HasFewTests miss most) → 1 < length ss
-    → ((most : ℕ) → length ss ≤ 2 ^ suc most → (length low ≤ 2 ^ most) × (length high ≤ 2 ^ most)) → (most : ℕ)
-    → length ss ≤ 2 ^ most → HasFewTests (Branch number hit miss) most
-halves_few number ss low high hit miss over under more halved zero few = absurd (omega arith)
-halves_few number ss low high hit miss over under more halved (suc most) few =
-    (over most (halved most few).1, under most (halved most few).0)
+pub search_one : (default : Answer) (ss : List Stretch) (s : Stretch) (before after : List Insn) (place : Place)
+    → ss ≡ s ∷ [] → AllByRecursion IsRule (rules_along ss) → IsPut (rules_code default (rules_at s.rules.now)) before after place
+    → IsSearchPut default ss before after place
+search_one default ss s before after place is fine put =
+    let rs = rules_at s.rules.now in
+    let own = of_one IsRule ss s is fine in
+    let code = rules_answer default rs own in
+    record {
+      room = length (rules_code default rs);
+      small = omega (arith, rules_in_bound default rs own, ap (sum_by stretch_bound) is, sum_by-cons stretch_bound s []);
+      put = answers_put (rules_along ss) code (of_one IsPlainRule ss s is) put;
+      ends = λ call n fits rising le few.
+          let here : s.first ≤ call.nr = omega (arith, ap first_of is) in
+          let on : rules_on [] ss call.nr ≡ rs = rw is (rw (le-leb s.first call.nr here) refl) in
+          rw on (more (answers_there code put call fits call.nr) (omega arith));
+    }

@@ -1,7 +1,7 @@
 -- How long the code of a filter is.
 use Rattle.std.proofs.Common.{◌≡◌, ℕ, ◌+◌, ◌*◌, ◌<◌, ◌≤◌, ◌⊎◌, Bool, true, false, not, cond, eqb, Bor, List}
 use Rattle.std.proofs.Common.{[], ◌∷◌, ◌++◌, length, map, get_or, take, drop, refl, sym, ap, ◌∙◌, subst, append-nil}
-use Rattle.std.proofs.Common.{arith, inl, inr, length-append, sum_by, bit_and}
+use Rattle.std.proofs.Common.{arith, inl, inr, length-append, sum_by}
 use Rattle.std.specs.Prelude.{Contains}
 use Rattle.std.specs.List.{AllByRecursion, IsDistinct, list_any}
 use Rattle.std.proofs.lemmas.Bool.{cases_eq, ne_eqb}
@@ -13,9 +13,6 @@ use Rattle.scf_insn.specs.declared.insn.Insn.{Insn}
 use Rattle.scf_insn.specs.declared.operation.Test.TheVariants.{CommonBit}
 use Rattle.scf_insn.specs.Masks.{mask_kind}
 use Rattle.scf_insn.specs.Words.{low, high}
-use Rattle.scf_profile.specs.declared.condition.Operator.{Operator}
-use Rattle.scf_profile.specs.declared.condition.Operator.TheVariants.{NotEqual, Less, LessOrEqual, Equal}
-use Rattle.scf_profile.specs.declared.condition.Operator.TheVariants.{GreaterOrEqual, Greater, MaskedEqual}
 use Rattle.scf_profile.specs.declared.condition.Condition.{Condition}
 use Rattle.scf_profile.specs.declared.rule.Rule.{Rule}
 use Rattle.scf_profile.specs.ByNumber.{rules_at}
@@ -23,12 +20,9 @@ use Rattle.scf_profile.specs.Rule.{IsCondition, AreConditions, HaveDistinctIndic
 use Rattle.scf_profile.specs.RulesByNumber.{numbers_of, rules_of}
 use Rattle.scf_insn.specs.declared.mask.MaskKind.{MaskKind}
 use Rattle.scf_insn.specs.declared.mask.MaskKind.TheVariants.{Empty, OneBit, Full, Mixed}
-use Rattle.scf_compile.specs.internal.Insns.{return_with}
-use Rattle.scf_compile.specs.internal.Blocks.{word_code, equal_code, order_code, half_code_of, half_code}
-use Rattle.scf_compile.specs.internal.Blocks.{masked_code, operator_code, condition_code, argument_word}
-use Rattle.scf_compile.specs.internal.Plans.{conditions_code, rule_code, behind_rule, rules_code}
-use Rattle.scf_compile.specs.internal.Stretches.{rules_bound}
-use Rattle.scf_compile.specs.SizeBound.{rule_bound}
+use Rattle.scf_compile.specs.internal.Blocks.{word_code, half_code_of, half_code}
+use Rattle.scf_compile.specs.internal.Blocks.{masked_code, condition_code}
+use Rattle.scf_compile.specs.internal.Filters.{conditions_code, rule_code, behind_rule, rules_code}
 use Rattle.scf_compile.proofs.Lists.{next_at, behind}
 use Rattle.scf_profile.proofs.Numbers.{numbers_of-contains, numbers_of-push, has_number}
 
@@ -68,40 +62,6 @@ masked_len word mask wanted out =
       length-append high_code low_code,
       half_len (word + 1) (high mask) (high wanted) (length low_code + out),
       half_len word (low mask) (low wanted) out,
-    )
-
-kind_at_most : (kind : MaskKind) → kind_len kind ≤ 3
-kind_at_most Empty = omega arith
-kind_at_most OneBit = omega arith
-kind_at_most Full = omega arith
-kind_at_most Mixed = omega arith
-
-operator_at_most : (op : Operator) (word value value_two out : ℕ)
-    → length (operator_code op word value value_two out) ≤ 6
-unfolding equal_code order_code
-operator_at_most NotEqual word value value_two out = omega arith
-operator_at_most Less word value value_two out = omega arith
-operator_at_most LessOrEqual word value value_two out = omega arith
-operator_at_most Equal word value value_two out = omega arith
-operator_at_most GreaterOrEqual word value value_two out = omega arith
-operator_at_most Greater word value value_two out = omega arith
-operator_at_most MaskedEqual word value value_two out =
-    omega (
-      arith,
-      masked_len word value (bit_and value_two value) out,
-      kind_at_most (mask_kind (high value)),
-      kind_at_most (mask_kind (low value)),
-    )
-
-conditions_at_most : (cs : List Condition) → length (conditions_code cs) ≤ 6 * length cs
-conditions_at_most [] = omega arith
-conditions_at_most (c ∷ cs) =
-    let out = length (conditions_code cs) + 1 in
-    omega (
-      arith,
-      length-append (condition_code c out) (conditions_code cs),
-      operator_at_most c.op (argument_word c.index) c.value c.value_two out,
-      conditions_at_most cs,
     )
 
 -- the code of the conditions from a place on
@@ -147,10 +107,6 @@ few_conditions cs fine =
 
 -- ---- rules
 
-behind_at_most : (cs : List Condition) (others : List Insn) → length (behind_rule cs others) ≤ length others
-behind_at_most [] others = omega arith
-behind_at_most (c ∷ cs) others = omega arith
-
 behind_some : (cs : List Condition) (others : List Insn) → 0 < length cs → behind_rule cs others ≡ others
 behind_some [] others some = absurd (omega arith)
 behind_some (c ∷ cs) others some = refl
@@ -163,51 +119,6 @@ rules_code_from default refs i r lt is some =
     ap (λ (l : List (Bor Rule)). rules_code default (rules_at l)) (next_at refs i r lt is)
     ∙ ap (λ (others : List Insn). rule_code r.now ++ others)
     (behind_some r.now.conditions (rules_code default (rules_at (drop (i + 1) refs))) some)
-
-rule_at_most : (r : Rule) → length (rule_code r) ≤ 6 * length r.conditions + 1
-rule_at_most r = omega
-    (arith, length-append (conditions_code r.conditions) (return_with r.answer.0 ∷ []), conditions_at_most r.conditions)
-
-pub rules_at_most : (default : Answer) (rs : List Rule) → length (rules_code default rs) ≤ 1 + sum_by rule_bound rs
-rules_at_most default [] = omega arith
-rules_at_most default (r ∷ rs) =
-    let others = rules_code default rs in
-    omega (
-      arith,
-      length-append (rule_code r) (behind_rule r.conditions others),
-      behind_at_most r.conditions others,
-      rule_at_most r,
-      rules_at_most default rs,
-      sum_by-cons rule_bound r rs,
-    )
-
--- rules are fewer instructions than their bound, since nothing stands behind one without conditions
-pub rules_in_bound : (default : Answer) (rs : List Rule) → length (rules_code default rs) + 2 ≤ rules_bound rs
-rules_in_bound default [] = omega arith
-rules_in_bound default (r ∷ rs) = by_conditions r.conditions refl
-  where
-    others : List Insn
-    others = rules_code default rs
-
-    by_conditions : (cs : List Condition) → r.conditions ≡ cs
-        → length (rule_code r ++ behind_rule cs others) + 2 ≤ 1 + sum_by rule_bound (r ∷ rs)
-    by_conditions [] none =
-        omega (
-          arith,
-          length-append (rule_code r) [],
-          rule_at_most r,
-          ap (λ (l : List Condition). length l) none,
-          sum_by-cons rule_bound r rs,
-        )
-    by_conditions (c ∷ cs) some =
-        omega (
-          arith,
-          length-append (rule_code r) others,
-          rule_at_most r,
-          ap (λ (l : List Condition). length l) some,
-          rules_at_most default rs,
-          sum_by-cons rule_bound r rs,
-        )
 
 -- ---- the distinct numbers
 

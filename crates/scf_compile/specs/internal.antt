@@ -3,5 +3,6 @@ pub mod Blocks
 pub mod Numbers
 pub mod Stretches
 pub mod Placing
+pub mod Runs
 pub mod Sound
-pub mod Plans
+pub mod Filters

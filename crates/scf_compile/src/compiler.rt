@@ -1,16 +1,14 @@
 //! From a profile to a filter.
 
-ghost use Rattle.std.specs.Prelude.{◌≡◌, ◌<◌, ◌≤◌, All, IfOk, IfErr, length};
+ghost use Rattle.std.specs.Prelude.{◌≡◌, ◌<◌, IfOk, IfErr};
 ghost use Rattle.scf_machine.specs.Machine.{RunAnswers};
 ghost use Rattle.scf_machine.specs.Plain.{IsPlainProgram};
 ghost use Rattle.scf_profile.specs.PlainProfile.{IsPlainProfile};
 ghost use Rattle.scf_insn.specs.Kernel.{bpf_maxinsns};
-ghost use Rattle.scf_profile.specs.Limits.{max_rules};
-ghost use Rattle.scf_profile.specs.Rule.{IsRule};
 ghost use Rattle.scf_profile.specs.SameAnswers.{SameAnswers};
 ghost use Rattle.scf_compile.specs.SearchBound.{AnswersWithin, search_bound_of};
 ghost use Rattle.scf_compile.specs.SizeBound.{size_bound_of};
-ghost use Rattle.scf_compile.specs.internal.Plans.{IsFilterOf};
+ghost use Rattle.scf_compile.specs.internal.Filters.{IsFilterOf};
 
 use crate::fault::CompileFault;
 use crate::insns::{load_word, return_with};
@@ -19,19 +17,18 @@ use crate::placing::{Place, put_block, put_branch};
 use crate::search::put_search;
 use crate::stretches::stretches_of;
 use scf_insn::kernel::{AUDIT_ARCH_X86_64, BPF_MAXINSNS, X32_SYSCALL_BIT};
-use scf_insn::{Answer, Insn, Memory, Test};
+use scf_insn::{Insn, Memory, Test};
 use scf_machine::{CheckFault, Program, check};
-use scf_profile::{FOREIGN_ANSWER, Profile, Rule, rules_by_number};
+use scf_profile::{FOREIGN_ANSWER, Profile, rules_by_number};
 use std::alloc::Global;
 use std::collections::VecDeque;
 
-/// The instructions of the filter of rules and a default answer, however many there are.
-fn filter_of(alloc: Global, rules: &[Rule], default: Answer) -> Result<Vec<Insn>, Memory>
-    requires rules { All IsRule rules.now }
-    requires few { length rules.now ≤ max_rules }
-    ensures { IfOk result (λ code. IsFilterOf default rules.now code.items) }
+/// The instructions of the filter of a profile, however many there are.
+fn filter_of(alloc: Global, profile: &Profile) -> Result<Vec<Insn>, Memory>
+    ensures { IfOk result (λ code. IsFilterOf profile.now code.items) }
 {
-    let sorted = rules_by_number(alloc, rules)?;
+    let default = profile.default_answer();
+    let sorted = rules_by_number(alloc, profile.rules())?;
     let numbers = cut_by_number(alloc, &sorted)?;
     let stretches = stretches_of(alloc, &numbers, default)?;
     let mut code = VecDeque::new(alloc);
@@ -57,7 +54,7 @@ pub fn compile(alloc: Global, profile: &Profile) -> Result<Program, CompileFault
     ensures plain { IsPlainProfile profile.now → IfOk result IsPlainProgram }
     ensures large { IfErr result (λ fault. fault ≡ CompileFault.TooLarge → bpf_maxinsns < size_bound_of profile.now) }
 {
-    let code = filter_of(alloc, profile.rules(), profile.default_answer())?;
+    let code = filter_of(alloc, profile)?;
     if code.as_slice().len() > BPF_MAXINSNS {
         return Err(CompileFault::TooLarge);
     }

@@ -4,7 +4,7 @@ ghost use Rattle.std.specs.Prelude.{◌≡◌, ◌++◌, ◌<◌, ◌≤◌, OnO
 ghost use Rattle.scf_profile.specs.ByNumber.{rules_at};
 ghost use Rattle.scf_profile.specs.Limits.{arguments};
 ghost use Rattle.scf_profile.specs.Rule.{IsRule};
-ghost use Rattle.scf_compile.specs.internal.Plans.{conditions_code, rule_code, rules_code};
+ghost use Rattle.scf_compile.specs.internal.Filters.{conditions_code, rule_code, rules_code};
 
 use crate::blocks::{condition_len, put_condition};
 use crate::insns::return_with;

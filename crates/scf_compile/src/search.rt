@@ -3,7 +3,7 @@
 ghost use Rattle.std.specs.Prelude.{◌+◌, ◌^◌, ◌<◌, IfOk, length, sum_by};
 ghost use Rattle.std.specs.List.{AllByRecursion};
 ghost use Rattle.scf_profile.specs.Rule.{IsRule};
-ghost use Rattle.scf_compile.specs.internal.Plans.{IsSearchPut};
+ghost use Rattle.scf_compile.specs.internal.Filters.{IsSearchPut};
 ghost use Rattle.scf_compile.specs.internal.Stretches.{rules_along, stretch_bound};
 
 use crate::placing::{Place, put_block, put_branch};

@@ -3,6 +3,7 @@ use Rattle.std.specs.Prelude.{◌≡◌, ℕ, ◌+◌, ◌*◌, ◌<◌, ◌≤�
 use Rattle.std.specs.Prelude.{if◌then◌else◌}
 use Rattle.std.specs.Borrow.{Bor}
 use Rattle.std.specs.List.{AllByRecursion}
+use Rattle.std.specs.List.Sorted.{IsNonDecreasingBy}
 use Rattle.scf_insn.specs.declared.answer.Answer.{Answer}
 use Rattle.scf_insn.specs.Kernel.{x32_syscall_bit}
 use Rattle.scf_profile.specs.declared.rule.Rule.{Rule}
@@ -44,11 +45,6 @@ abbrev pub first_of : List Stretch → ℕ
 first_of [] = 0
 first_of (s ∷ ss) = s.first
 
--- The stretches begin from one number on, below another, and each above the one before it.
-abbrev pub BeginBetween : ℕ → ℕ → List Stretch → Type 0
-BeginBetween low high [] = low ≤ high
-BeginBetween low high (s ∷ ss) = (low ≤ s.first) × BeginBetween (s.first + 1) high ss
-
 -- a count of instructions that a stretch stays within: with its share of the tests of the call number
 abbrev pub rules_bound : List Rule → ℕ
 rules_bound [] = 3
@@ -68,7 +64,7 @@ pub data IsPut (before : List Stretch) (first : ℕ) (rules : List (Bor Rule)) (
 pub record AreStretchesOf (default : Answer) (stretches : List Stretch) (numbers : List NumberRules) : Type 0 where
   pub some : 0 < length stretches
   pub whole : first_of stretches ≡ 0
-  pub rising : BeginBetween 0 x32_syscall_bit stretches
+  pub rising : IsNonDecreasingBy (λ s. s.first) stretches
   pub serve : (nr : ℕ) → nr < x32_syscall_bit
       → StandsFor default (rules_on [] stretches nr) (rules_of nr (rules_in numbers))
   pub own : AllByRecursion (Contains (rules_in numbers)) (rules_along stretches)

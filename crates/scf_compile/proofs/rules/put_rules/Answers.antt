@@ -1,7 +1,7 @@
 use Rattle.std.proofs.Common.{rules, ◌+◌, ◌<◌, ◌++◌, List, length, drop, sym, ap, ◌∙◌, append_assoc}
 use Rattle.scf_insn.specs.declared.insn.Insn.{Insn}
 use Rattle.scf_profile.specs.ByNumber.{rules_at}
-use Rattle.scf_compile.specs.internal.Plans.{rule_code, rules_code}
+use Rattle.scf_compile.specs.internal.Filters.{rule_code, rules_code}
 use Rattle.scf_compile.proofs.Sizes.{rules_code_from}
 use Rattle.scf_profile.specs.Rule.{IsRule}
 use Rattle.scf_compile.proofs.Cutting.{rule_at}

@@ -1,0 +1,215 @@
+-- The code of rules, and what is put before some code.
+use Rattle.std.proofs.Common.{◌≡◌, ◌⊎◌, ℕ, ◌+◌, ◌-◌, ◌*◌, ◌<◌, ◌≤◌, Bool, true, false, cond, leb, List, [], ◌∷◌, ◌++◌}
+use Rattle.std.proofs.Common.{drop, length, ap, ◌∙◌, arith, inl, inr, length-append, append_assoc, sum_by}
+use Rattle.std.proofs.Math.ListN.{length-drop}
+use Rattle.std.specs.Prelude.{IsTrue}
+use Rattle.std.specs.List.{AllByRecursion}
+use Rattle.std.proofs.lemmas.List.Elements.{recursion_from_All}
+use Rattle.std.proofs.lemmas.List.Sums.{sum_by-cons}
+use Rattle.std.proofs.Math.Seq.{drop-append-add}
+use Rattle.scf_insn.specs.declared.insn.Insn.{Insn}
+use Rattle.scf_insn.specs.declared.answer.Answer.{Answer}
+use Rattle.scf_insn.specs.declared.record.CallRecord.{CallRecord}
+use Rattle.scf_insn.specs.declared.operation.Test.{Test}
+use Rattle.scf_insn.specs.declared.operation.Operation.TheVariants.{JumpIf}
+use Rattle.scf_insn.specs.declared.operation.Operand.TheVariants.{Constant}
+use Rattle.scf_insn.specs.Words.{words_of, IsRecord}
+use Rattle.scf_machine.specs.Machine.{holds as test_holds}
+use Rattle.scf_machine.specs.Plain.{IsPlainOperation}
+use Rattle.scf_profile.specs.declared.condition.Condition.{Condition}
+use Rattle.scf_profile.specs.declared.rule.Rule.{Rule}
+use Rattle.scf_profile.specs.PlainProfile.{IsPlainCondition, IsPlainRule}
+use Rattle.scf_profile.specs.Rule.{all_hold, IsCondition, IsRule}
+use Rattle.scf_compile.specs.declared.placing.Place.{Place}
+use Rattle.scf_compile.specs.SizeBound.{rule_bound}
+use Rattle.scf_compile.specs.internal.Insns.{jump_if, jump_over, return_with}
+use Rattle.scf_compile.specs.internal.Placing.{branch_code, code_from, IsNear, IsPut}
+use Rattle.scf_compile.specs.internal.Filters.{conditions_code, behind_rule, rules_code, first_answer, ArePut}
+use Rattle.scf_compile.specs.internal.Runs.{Ends}
+use Rattle.scf_compile.specs.internal.Sound.{AreSound}
+use Rattle.scf_compile.specs.internal.Stretches.{rules_bound}
+use Rattle.scf_compile.proofs.Runs.{more, past, answers, jumps, passes, jump_sound, pass_sound, return_sound}
+use Rattle.scf_compile.proofs.Tests.{conditions_tests}
+
+-- The code answers each call, in no more than so many steps.
+pub record Answers (code : List Insn) (most : ℕ) (plain : Type 0) (answer : CallRecord → ℕ) : Type 0 where
+  pub some : 0 < length code
+  pub len : length code ≤ most
+  pub sound : (asked : Bool) (rest : List Insn) → (IsTrue asked → plain) → AreSound asked rest
+      → AreSound asked (code ++ rest)
+  pub ends : (call : CallRecord) → IsRecord call → (rest : List Insn) (a : ℕ)
+      → Ends (words_of call) (code ++ rest) a (answer call) most
+
+pub return_answers : (answer most : ℕ) (plain : Type 0) → 0 < most
+    → Answers (return_with answer ∷ []) most plain (λ _. answer)
+return_answers answer most plain lt = record {
+  some = omega arith;
+  len = omega arith;
+  sound = λ asked rest is s. (return_sound answer, s);
+  ends = λ call fits rest a. more {m = 1} (answers answer a) lt;
+}
+
+rule_answers : (cs : List Condition) (answer n most : ℕ) (others : List Insn) (p : Type 0) (f : CallRecord → ℕ)
+    → AllByRecursion IsCondition cs → Answers others n p f → 6 * length cs + 1 + n ≤ most
+    → Answers ((conditions_code cs ++ return_with answer ∷ []) ++ others) most
+    (AllByRecursion IsPlainCondition cs × p) (λ call. cond (all_hold call cs) answer (f call))
+rule_answers cs answer n most others p f fine next le =
+    let t = conditions_tests cs fine in
+    let conditions = conditions_code cs in
+    let own = return_with answer ∷ [] in
+    let few = t.len in
+    record {
+      some = let some = next.some in omega (arith, length-append (conditions ++ own) others);
+      len = let len = next.len in omega (arith, length-append (conditions ++ own) others, length-append conditions own);
+      sound = λ asked rest is s.
+          rw (append_assoc (conditions ++ own) others rest, append_assoc conditions own (others ++ rest))
+          (t.sound asked (own ++ (others ++ rest)) (λ e. (is e).0) (omega arith)
+          (let some = next.some in omega (arith, length-append others rest))
+          (return_sound answer, next.sound asked rest (λ e. (is e).1) s));
+      ends = λ call fits rest a.
+          rw (append_assoc (conditions ++ own) others rest, append_assoc conditions own (others ++ rest))
+          (more (t.ends call fits (own ++ (others ++ rest)) _ (1 + n) a
+          (λ e b. rw e (more {m = 1} (answers answer b) (omega arith)))
+          (λ e b. rw e (more (next.ends call fits rest b) (omega arith)))) (omega arith));
+    }
+
+-- The code of rules answers as the first of them whose conditions hold.
+pub rules_answer : (default : Answer) (rs : List Rule) → AllByRecursion IsRule rs
+    → Answers (rules_code default rs) (1 + sum_by rule_bound rs) (AllByRecursion IsPlainRule rs)
+    (λ call. first_answer call default rs)
+rules_answer default [] fine = return_answers default.0 _ _ (omega arith)
+rules_answer default (r ∷ rs) fine =
+    rw (sum_by-cons rule_bound r rs) (by_conditions r.conditions fine.0.conditions.each
+    (λ plain. recursion_from_All IsPlainCondition r.conditions plain.0.conditions) (rules_answer default rs fine.1))
+  where
+    by_conditions : (cs : List Condition) → AllByRecursion IsCondition cs
+        → (AllByRecursion IsPlainRule (r ∷ rs) → AllByRecursion IsPlainCondition cs)
+        → Answers (rules_code default rs) (1 + sum_by rule_bound rs) (AllByRecursion IsPlainRule rs)
+        (λ call. first_answer call default rs)
+        → Answers ((conditions_code cs ++ return_with r.answer.0 ∷ []) ++ behind_rule cs (rules_code default rs))
+        (1 + (2 + 8 * length cs + sum_by rule_bound rs)) (AllByRecursion IsPlainRule (r ∷ rs))
+        (λ call. cond (all_hold call cs) r.answer.0 (first_answer call default rs))
+    by_conditions [] each plain next = return_answers r.answer.0 _ _ (omega arith)
+    by_conditions (c ∷ cs) each plain next =
+        let whole = rule_answers (c ∷ cs) r.answer.0 _ (1 + (2 + 8 * length (c ∷ cs) + sum_by rule_bound rs)) _ _ _ each
+        next (omega arith) in
+        record {
+          some = whole.some;
+          len = whole.len;
+          sound = λ asked rest is. whole.sound asked rest (λ e. (plain (is e), (is e).1));
+          ends = whole.ends;
+        }
+
+-- rules are fewer instructions than their bound, since nothing stands behind one without conditions
+pub rules_in_bound : (default : Answer) (rs : List Rule) → AllByRecursion IsRule rs
+    → length (rules_code default rs) + 2 ≤ rules_bound rs
+rules_in_bound default [] fine = omega arith
+rules_in_bound default (r ∷ rs) fine = rw (sum_by-cons rule_bound r rs) (by_conditions r.conditions fine.0.conditions.each)
+  where
+    by_conditions : (cs : List Condition) → AllByRecursion IsCondition cs
+        → length ((conditions_code cs ++ return_with r.answer.0 ∷ []) ++ behind_rule cs (rules_code default rs)) + 2
+        ≤ 1 + (2 + 8 * length cs + sum_by rule_bound rs)
+    by_conditions [] each = omega arith
+    by_conditions (c ∷ cs) each =
+        let few = (conditions_tests (c ∷ cs) each).len in
+        let rest = (rules_answer default rs fine.1).len in
+        omega (
+          arith,
+          length-append (conditions_code (c ∷ cs) ++ return_with r.answer.0 ∷ []) (rules_code default rs),
+          length-append (conditions_code (c ∷ cs)) (return_with r.answer.0 ∷ []),
+        )
+
+-- ---- branches
+
+-- a branch and the code that it goes to, in two steps more at most
+pub branch_ends : {words : List ℕ} {answer most : ℕ} (test : Test) (constant hit miss a : ℕ) (behind : List Insn)
+    → (test_holds test a constant ≡ true → Ends words (drop hit behind) a answer most)
+    → (test_holds test a constant ≡ false → Ends words (drop miss behind) a answer most)
+    → Ends words (branch_code test constant hit miss ++ behind) a answer (2 + most)
+branch_ends {words} {answer} {most} test constant hit miss a behind over under = by_distance (leb miss 255)
+  where
+    by_distance : (near : Bool) → Ends words (cond near (jump_if test constant hit miss ∷ [])
+        (jump_if test constant (1 + hit) 0 ∷ jump_over miss ∷ []) ++ behind) a answer (2 + most)
+    by_distance true = more (jumps test constant hit miss a over under) (omega arith)
+    by_distance false =
+        more (jumps test constant (1 + hit) 0 a
+        (λ e. more (past (jump_over miss ∷ []) behind hit a (over e)) (omega arith)) (λ e. passes miss a (under e)))
+        (omega arith)
+
+pub branch_sound : (plain : Bool) (test : Test) (constant hit miss : ℕ) (behind : List Insn) → hit < length behind
+    → miss < length behind → ((h m : ℕ) → IsPlainOperation (JumpIf test Constant) (jump_if test constant h m))
+    → AreSound plain behind → AreSound plain (branch_code test constant hit miss ++ behind)
+branch_sound plain test constant hit miss behind h m is s = by_distance (leb miss 255)
+  where
+    by_distance : (near : Bool) → AreSound plain (cond near (jump_if test constant hit miss ∷ [])
+        (jump_if test constant (1 + hit) 0 ∷ jump_over miss ∷ []) ++ behind)
+    by_distance true = (jump_sound test constant hit miss h m (λ _. is hit miss), s)
+    by_distance false =
+        (jump_sound test constant (1 + hit) 0 (omega arith) (omega arith) (λ _. is (1 + hit) 0), (pass_sound miss m, s))
+
+pub branch_few : (test : Test) (constant hit miss : ℕ) → length (branch_code test constant hit miss) ≤ 2
+branch_few test constant hit miss = by_distance (leb miss 255)
+  where
+    by_distance : (near : Bool) → length (cond near (jump_if test constant hit miss ∷ [])
+        (jump_if test constant (1 + hit) 0 ∷ jump_over miss ∷ [])) ≤ 2
+    by_distance true = omega arith
+    by_distance false = omega arith
+
+-- ---- what is put before some code
+
+-- what stands from a place on stays where more is put before it
+pub from_behind : (front code : List Insn) (place : Place) → place.0 ≤ length code
+    → code_from place (front ++ code) ≡ code_from place code
+from_behind front code place le =
+    let passed : length (front ++ code) - place.0 ≡ length front + (length code - place.0) =
+    omega (arith, length-append front code) in
+    ap (λ (n : ℕ). drop n (front ++ code)) passed ∙ drop-append-add front code (length code - place.0)
+
+-- the first place of some code
+pub from_first : (code : List Insn) (place : Place) → place.0 ≡ length code → code_from place code ≡ code
+from_first code place is =
+    let passed : length code - place.0 ≡ 0 = omega arith in
+    ap (λ (n : ℕ). drop n code) passed
+
+pub first_near : (code : List Insn) (place : Place) → place.0 ≡ length code → IsNear place code
+first_near code place is = record { stands = omega arith; near = omega arith }
+
+-- code that answers is put before some code, or stands there
+pub answers_put : {block before after : List Insn} {place : Place} {most : ℕ} {p : Type 0} {f : CallRecord → ℕ}
+    (rules : List Rule) → Answers block most p f → (AllByRecursion IsPlainRule rules → p) → IsPut block before after place
+    → ArePut rules (length block) before after place
+answers_put {block} {before} {after} {place} rules is plain put = by_put put.put
+  where
+    some : 0 < place.0
+    some =
+        let has = is.some in
+        let stands = put.near.stands in
+        omega (
+          arith,
+          ap (λ (l : List Insn). length l) put.there,
+          length-append block put.behind,
+          length-drop (length after - place.0) after,
+        )
+
+    by_put : (after ≡ before) ⊎ (after ≡ block ++ before) → ArePut rules (length block) before after place
+    by_put (inl same) = record {
+      front = [];
+      whole = same;
+      few = omega arith;
+      some = some;
+      near = put.near;
+      sound = λ asked e s. rw same s;
+    }
+    by_put (inr whole) = record {
+      front = block;
+      whole = whole;
+      few = omega arith;
+      some = some;
+      near = put.near;
+      sound = λ asked e s. rw whole (is.sound asked before (λ h. plain (e h)) s);
+    }
+
+pub answers_there : {block before after : List Insn} {place : Place} {most : ℕ} {p : Type 0} {f : CallRecord → ℕ}
+    → Answers block most p f → IsPut block before after place → (call : CallRecord) → IsRecord call → (a : ℕ)
+    → Ends (words_of call) (code_from place after) a (f call) most
+answers_there is put call fits a = rw put.there (is.ends call fits put.behind a)

@@ -1,0 +1,139 @@
+-- What each instruction does, and that it is sound.
+use Rattle.std.proofs.Common.{◌≡◌, ℕ, zero, suc, ◌+◌, ◌*◌, ◌/◌, ◌%◌, ◌<◌, ◌≤◌, Bool, true, false}
+use Rattle.std.proofs.Common.{ltb, List, [], ◌∷◌, ◌++◌, length, map, drop, refl, ap, ◌∙◌, subst, arith, bit_and}
+use Rattle.std.specs.Prelude.{slice_get, slice_index, IsTrue}
+use Rattle.std.proofs.Math.Seq.{drop-append-add}
+use Rattle.std.proofs.lemmas.Bool.{lt-ltb}
+use Rattle.std.proofs.lemmas.List.{length-map}
+use Rattle.scf_insn.specs.declared.insn.Insn.{Insn}
+use Rattle.scf_insn.specs.declared.operation.Test.{Test}
+use Rattle.scf_insn.specs.declared.operation.Operand.TheVariants.{Constant}
+use Rattle.scf_insn.specs.declared.operation.Arithmetic.TheVariants.{And}
+use Rattle.scf_insn.specs.declared.operation.Operation.TheVariants.{LoadWord, Compute, Jump, JumpIf, ReturnConstant}
+use Rattle.scf_insn.proofs.Codes.{asks_for}
+use Rattle.scf_machine.specs.Machine.{Goes, step, holds}
+use Rattle.scf_machine.specs.Parts.{IsPart, moved}
+use Rattle.scf_machine.specs.Plain.{IsPlainOperation}
+use Rattle.scf_machine.proofs.Chains.{run_behind, chain_of_part, answer_of_part}
+use Rattle.scf_machine.specs.Machine.{IsRunFrom}
+use Rattle.scf_compile.specs.internal.Insns.{load_word, and_with, jump_if, jump_over, return_with}
+use Rattle.scf_compile.specs.internal.Runs.{at, Ends}
+use Rattle.scf_compile.specs.internal.Sound.{IsSound}
+
+pub more : {words : List ℕ} {code : List Insn} {a answer m most : ℕ} → Ends words code a answer m → m ≤ most
+    → Ends words code a answer most
+more e le = record { steps = e.steps; run = e.run; few = (let few = e.few in omega arith) }
+
+-- what is behind an instruction, from some place on, is a part of the whole
+behind_is_part : (i : Insn) (behind : List Insn) (count : ℕ) → IsPart (drop count behind) (1 + count) (i ∷ behind)
+behind_is_part i behind count place insn here =
+    let e : 1 + count + place ≡ suc (count + place) = omega arith in
+    ap (slice_get (i ∷ behind)) e ∙ from behind count ∙ here
+  where
+    from : (xs : List Insn) (n : ℕ) → slice_get xs (n + place) ≡ slice_get (drop n xs) place
+    from xs zero = let e : 0 + place ≡ place = omega arith in ap (slice_get xs) e
+    from [] (suc n) = refl
+    from (x ∷ xs) (suc n) = let e : suc n + place ≡ suc (n + place) = omega arith in
+        ap (slice_get (x ∷ xs)) e ∙ from xs n
+
+module _ {words : List ℕ} {behind : List Insn} {answer most : ℕ} where
+  -- an instruction, and the code where it goes on
+  goes_on : (i : Insn) (count a b : ℕ) → step (i ∷ behind) words (at 0 a) ≡ Goes (at (1 + count) b)
+      → Ends words (drop count behind) b answer most → Ends words (i ∷ behind) a answer (suc most)
+  goes_on i count a b goes e =
+      let n = 1 + count in
+      let is = behind_is_part i behind count in
+      let part = drop count behind in
+      let run = e.run in
+      let rest : IsRunFrom (i ∷ behind) words (moved n (at 0 b)) answer e.steps = record {
+        last = moved n run.last;
+        earlier = map (moved n) run.earlier;
+        chain = chain_of_part (i ∷ behind) part n words (at 0 b) run.last run.earlier is run.chain;
+        answers = answer_of_part (i ∷ behind) part n words run.last answer is run.answers;
+        count = let e = run.count in omega (arith, length-map run.earlier (moved n));
+      } in
+      let same : n + 0 ≡ n = omega arith in
+      let few = e.few in
+      record {
+        steps = 1 + e.steps;
+        run = run_behind (i ∷ behind) words (at 0 a) (at n b) (at 0 a ∷ []) answer e.steps (goes, refl)
+            (subst (λ (p : ℕ). IsRunFrom (i ∷ behind) words (at p b) answer e.steps) same rest);
+        few = omega arith;
+      }
+
+  pub loads : {n : ℕ} (word a : ℕ) → word < 16 → slice_index words word ≡ n → Ends words behind n answer most
+      → Ends words (load_word word ∷ behind) a answer (suc most)
+  loads {n} word a lt is e =
+      let small : ltb (4 * word) 64 ≡ true = lt-ltb (4 * word) 64 (omega arith) in
+      let aligned : (4 * word) % 4 ≡ 0 = omega arith in
+      let place : (4 * word) / 4 ≡ word = omega arith in
+      goes_on (load_word word) 0 a n (rw (asks_for LoadWord) (rw (small, aligned, place, is) refl)) e
+
+  pub masks : (mask a : ℕ) → Ends words behind (bit_and a mask) answer most
+      → Ends words (and_with mask ∷ behind) a answer (suc most)
+  masks mask a e = goes_on (and_with mask) 0 a (bit_and a mask) (rw (asks_for (Compute And Constant)) refl) e
+
+  pub passes : (count a : ℕ) → Ends words (drop count behind) a answer most
+      → Ends words (jump_over count ∷ behind) a answer (suc most)
+  passes count a e = goes_on (jump_over count) count a a (rw (asks_for Jump) refl) e
+
+  pub jumps : (test : Test) (constant hit miss a : ℕ)
+      → (holds test a constant ≡ true → Ends words (drop hit behind) a answer most)
+      → (holds test a constant ≡ false → Ends words (drop miss behind) a answer most)
+      → Ends words (jump_if test constant hit miss ∷ behind) a answer (suc most)
+  jumps test constant hit miss a over under = by_test (holds test a constant) refl
+    where
+      by_test : (met : Bool) → holds test a constant ≡ met
+          → Ends words (jump_if test constant hit miss ∷ behind) a answer (suc most)
+      by_test true e = goes_on (jump_if test constant hit miss) hit a a (rw (asks_for (JumpIf test Constant), e) refl) (over e)
+      by_test false e = goes_on (jump_if test constant hit miss) miss a a (rw (asks_for (JumpIf test Constant), e) refl) (under e)
+
+pub answers : {words : List ℕ} {behind : List Insn} {most : ℕ} (answer a : ℕ)
+    → Ends words (return_with answer ∷ behind) a answer (suc most)
+answers answer a = record {
+  steps = 1;
+  run = record { last = at 0 a; earlier = []; chain = refl; answers = rw (asks_for ReturnConstant) refl; count = refl };
+  few = omega arith;
+}
+
+-- what stands behind a piece that is passed
+pub past : {words : List ℕ} {answer most : ℕ} (front rest : List Insn) (count a : ℕ)
+    → Ends words (drop count rest) a answer most → Ends words (drop (length front + count) (front ++ rest)) a answer most
+past front rest count a e = rw (drop-append-add front rest count) e
+
+-- ---- each of them is sound
+
+module _ {plain : Bool} {behind : ℕ} where
+  pub load_sound : (word : ℕ) → word < 16 → 0 < behind → IsSound plain (load_word word) behind
+  load_sound word lt some = record {
+    operation = LoadWord;
+    known = asks_for LoadWord;
+    keeps = (omega arith, omega arith, some);
+    is_plain = λ _. tt;
+  }
+
+  pub mask_sound : (mask : ℕ) → (IsTrue plain → ⊥) → 0 < behind → IsSound plain (and_with mask) behind
+  mask_sound mask unasked some = record {
+    operation = Compute And Constant;
+    known = asks_for (Compute And Constant);
+    keeps = some;
+    is_plain = λ asked. absurd (unasked asked);
+  }
+
+  pub jump_sound : (test : Test) (constant hit miss : ℕ) → hit < behind → miss < behind
+      → (IsTrue plain → IsPlainOperation (JumpIf test Constant) (jump_if test constant hit miss))
+      → IsSound plain (jump_if test constant hit miss) behind
+  jump_sound test constant hit miss h m is = record {
+    operation = JumpIf test Constant;
+    known = asks_for (JumpIf test Constant);
+    keeps = (h, m);
+    is_plain = is;
+  }
+
+  pub pass_sound : (count : ℕ) → count < behind → IsSound plain (jump_over count) behind
+  pass_sound count lt =
+      record { operation = Jump; known = asks_for Jump; keeps = lt; is_plain = λ _. tt }
+
+  pub return_sound : (answer : ℕ) → IsSound plain (return_with answer) behind
+  return_sound answer =
+      record { operation = ReturnConstant; known = asks_for ReturnConstant; keeps = tt; is_plain = λ _. tt }
