@@ -23,8 +23,8 @@ use Rattle.scf_compile.specs.SearchBound.{search_bound_of}
 use Rattle.scf_compile.specs.SizeBound.{rule_bound, size_bound_of}
 use Rattle.scf_compile.specs.internal.Insns.{jump_if, load_word, return_with}
 use Rattle.scf_compile.specs.internal.Placing.{branch_code, IsFirst, IsPut}
-use Rattle.scf_compile.specs.internal.Filters.{first_answer, ArePut, IsSearchPut, IsAnswered, IsFilterOf}
-use Rattle.scf_compile.specs.internal.Runs.{Ends}
+use Rattle.scf_compile.specs.internal.Filters.{first_answer, ArePut, IsSearchPut, AnswersCall, IsFilterOf}
+use Rattle.scf_compile.specs.internal.Runs.{EndsWithin}
 use Rattle.scf_compile.specs.internal.Sound.{AreSound}
 use Rattle.scf_compile.specs.internal.Stretches.{StandsFor, rules_along, rules_on, first_of, stretch_bound}
 use Rattle.scf_compile.proofs.Runs.{more, loads, jumps, load_sound, jump_sound}
@@ -128,10 +128,10 @@ module _ {p : Profile} {ss : List Stretch} {searched killed ranged loaded : List
 
     module _ (call : CallRecord) (fits : IsRecord call) where
       -- by the architecture
-      arch_ends : (answer : ℕ) → (eqb call.arch audit_arch_x86_64 ≡ true → Ends (words_of call) loaded call.arch answer
+      arch_ends : (answer : ℕ) → (eqb call.arch audit_arch_x86_64 ≡ true → EndsWithin (words_of call) loaded call.arch answer
           (4 + (2 * serve.halvings + sum_by rule_bound (rules_of call.nr p.rules))))
           → (eqb call.arch audit_arch_x86_64 ≡ false → answer ≡ kill)
-          → Ends (words_of call) code 0 answer (search_bound_of p)
+          → EndsWithin (words_of call) code 0 answer (search_bound_of p)
       arch_ends answer own foreigner =
           let quick = serve.quick call.nr in
           rw is_tested (more (loads 1 0 (omega arith) refl (jumps
@@ -144,7 +144,7 @@ module _ {p : Profile} {ss : List Stretch} {searched killed ranged loaded : List
       -- by the number
       range_ends : (answer : ℕ) → (x32_syscall_bit ≤ call.nr → answer ≡ kill)
           → (call.nr < x32_syscall_bit → answer ≡ first_answer call p.default_answer (rules_on [] ss call.nr))
-          → Ends (words_of call) loaded call.arch answer
+          → EndsWithin (words_of call) loaded call.arch answer
           (4 + (2 * serve.halvings + sum_by rule_bound (rules_of call.nr p.rules)))
       range_ends answer high low =
           rw (load ∙ ap (λ (l : List Insn). load_word 0 ∷ l) test.whole)
@@ -161,7 +161,7 @@ module _ {p : Profile} {ss : List Stretch} {searched killed ranged loaded : List
           (omega arith))
 
       answered_of : (own below : Bool) → eqb call.arch audit_arch_x86_64 ≡ own → ltb call.nr x32_syscall_bit ≡ below
-          → IsAnswered p code call
+          → AnswersCall p code call
       answered_of false below other e = record {
         answer = kill;
         of_words = arch_ends kill (λ own. absurd (cc)) (λ _. refl);

@@ -25,7 +25,7 @@ use Rattle.scf_compile.specs.SizeBound.{rule_bound}
 use Rattle.scf_compile.specs.internal.Insns.{jump_if, jump_over, return_with}
 use Rattle.scf_compile.specs.internal.Placing.{branch_code, code_from, IsNear, IsPut}
 use Rattle.scf_compile.specs.internal.Filters.{conditions_code, behind_rule, rules_code, first_answer, ArePut}
-use Rattle.scf_compile.specs.internal.Runs.{Ends}
+use Rattle.scf_compile.specs.internal.Runs.{EndsWithin}
 use Rattle.scf_compile.specs.internal.Sound.{AreSound}
 use Rattle.scf_compile.specs.internal.Stretches.{rules_bound}
 use Rattle.scf_compile.proofs.Runs.{more, past, answers, jumps, passes, jump_sound, pass_sound, return_sound}
@@ -38,7 +38,7 @@ pub record Answers (code : List Insn) (most : ℕ) (plain : Type 0) (answer : Ca
   pub sound : (asked : Bool) (rest : List Insn) → (IsTrue asked → plain) → AreSound asked rest
       → AreSound asked (code ++ rest)
   pub ends : (call : CallRecord) → IsRecord call → (rest : List Insn) (a : ℕ)
-      → Ends (words_of call) (code ++ rest) a (answer call) most
+      → EndsWithin (words_of call) (code ++ rest) a (answer call) most
 
 pub return_answers : (answer most : ℕ) (plain : Type 0) → 0 < most
     → Answers (return_with answer ∷ []) most plain (λ _. answer)
@@ -123,12 +123,12 @@ rules_in_bound default (r ∷ rs) fine = rw (sum_by-cons rule_bound r rs) (by_co
 
 -- a branch and the code that it goes to, in two steps more at most
 pub branch_ends : {words : List ℕ} {answer most : ℕ} (test : Test) (constant hit miss a : ℕ) (behind : List Insn)
-    → (test_holds test a constant ≡ true → Ends words (drop hit behind) a answer most)
-    → (test_holds test a constant ≡ false → Ends words (drop miss behind) a answer most)
-    → Ends words (branch_code test constant hit miss ++ behind) a answer (2 + most)
+    → (test_holds test a constant ≡ true → EndsWithin words (drop hit behind) a answer most)
+    → (test_holds test a constant ≡ false → EndsWithin words (drop miss behind) a answer most)
+    → EndsWithin words (branch_code test constant hit miss ++ behind) a answer (2 + most)
 branch_ends {words} {answer} {most} test constant hit miss a behind over under = by_distance (leb miss 255)
   where
-    by_distance : (near : Bool) → Ends words (cond near (jump_if test constant hit miss ∷ [])
+    by_distance : (near : Bool) → EndsWithin words (cond near (jump_if test constant hit miss ∷ [])
         (jump_if test constant (1 + hit) 0 ∷ jump_over miss ∷ []) ++ behind) a answer (2 + most)
     by_distance true = more (jumps test constant hit miss a over under) (omega arith)
     by_distance false =
@@ -211,5 +211,5 @@ answers_put {block} {before} {after} {place} rules is plain put = by_put put.put
 
 pub answers_there : {block before after : List Insn} {place : Place} {most : ℕ} {p : Type 0} {f : CallRecord → ℕ}
     → Answers block most p f → IsPut block before after place → (call : CallRecord) → IsRecord call → (a : ℕ)
-    → Ends (words_of call) (code_from place after) a (f call) most
+    → EndsWithin (words_of call) (code_from place after) a (f call) most
 answers_there is put call fits a = rw put.there (is.ends call fits put.behind a)

@@ -17,11 +17,11 @@ use Rattle.scf_machine.specs.Plain.{IsPlainOperation}
 use Rattle.scf_machine.proofs.Chains.{run_behind, chain_of_part, answer_of_part}
 use Rattle.scf_machine.specs.Machine.{IsRunFrom}
 use Rattle.scf_compile.specs.internal.Insns.{load_word, and_with, jump_if, jump_over, return_with}
-use Rattle.scf_compile.specs.internal.Runs.{at, Ends}
+use Rattle.scf_compile.specs.internal.Runs.{at, EndsWithin}
 use Rattle.scf_compile.specs.internal.Sound.{IsSound}
 
-pub more : {words : List ℕ} {code : List Insn} {a answer m most : ℕ} → Ends words code a answer m → m ≤ most
-    → Ends words code a answer most
+pub more : {words : List ℕ} {code : List Insn} {a answer m most : ℕ} → EndsWithin words code a answer m → m ≤ most
+    → EndsWithin words code a answer most
 more e le = record { steps = e.steps; run = e.run; few = (let few = e.few in omega arith) }
 
 -- what is behind an instruction, from some place on, is a part of the whole
@@ -39,7 +39,7 @@ behind_is_part i behind count place insn here =
 module _ {words : List ℕ} {behind : List Insn} {answer most : ℕ} where
   -- an instruction, and the code where it goes on
   goes_on : (i : Insn) (count a b : ℕ) → step (i ∷ behind) words (at 0 a) ≡ Goes (at (1 + count) b)
-      → Ends words (drop count behind) b answer most → Ends words (i ∷ behind) a answer (suc most)
+      → EndsWithin words (drop count behind) b answer most → EndsWithin words (i ∷ behind) a answer (suc most)
   goes_on i count a b goes e =
       let n = 1 + count in
       let is = behind_is_part i behind count in
@@ -61,35 +61,35 @@ module _ {words : List ℕ} {behind : List Insn} {answer most : ℕ} where
         few = omega arith;
       }
 
-  pub loads : {n : ℕ} (word a : ℕ) → word < 16 → slice_index words word ≡ n → Ends words behind n answer most
-      → Ends words (load_word word ∷ behind) a answer (suc most)
+  pub loads : {n : ℕ} (word a : ℕ) → word < 16 → slice_index words word ≡ n → EndsWithin words behind n answer most
+      → EndsWithin words (load_word word ∷ behind) a answer (suc most)
   loads {n} word a lt is e =
       let small : ltb (4 * word) 64 ≡ true = lt-ltb (4 * word) 64 (omega arith) in
       let aligned : (4 * word) % 4 ≡ 0 = omega arith in
       let place : (4 * word) / 4 ≡ word = omega arith in
       goes_on (load_word word) 0 a n (rw (asks_for LoadWord) (rw (small, aligned, place, is) refl)) e
 
-  pub masks : (mask a : ℕ) → Ends words behind (bit_and a mask) answer most
-      → Ends words (and_with mask ∷ behind) a answer (suc most)
+  pub masks : (mask a : ℕ) → EndsWithin words behind (bit_and a mask) answer most
+      → EndsWithin words (and_with mask ∷ behind) a answer (suc most)
   masks mask a e = goes_on (and_with mask) 0 a (bit_and a mask) (rw (asks_for (Compute And Constant)) refl) e
 
-  pub passes : (count a : ℕ) → Ends words (drop count behind) a answer most
-      → Ends words (jump_over count ∷ behind) a answer (suc most)
+  pub passes : (count a : ℕ) → EndsWithin words (drop count behind) a answer most
+      → EndsWithin words (jump_over count ∷ behind) a answer (suc most)
   passes count a e = goes_on (jump_over count) count a a (rw (asks_for Jump) refl) e
 
   pub jumps : (test : Test) (constant hit miss a : ℕ)
-      → (holds test a constant ≡ true → Ends words (drop hit behind) a answer most)
-      → (holds test a constant ≡ false → Ends words (drop miss behind) a answer most)
-      → Ends words (jump_if test constant hit miss ∷ behind) a answer (suc most)
+      → (holds test a constant ≡ true → EndsWithin words (drop hit behind) a answer most)
+      → (holds test a constant ≡ false → EndsWithin words (drop miss behind) a answer most)
+      → EndsWithin words (jump_if test constant hit miss ∷ behind) a answer (suc most)
   jumps test constant hit miss a over under = by_test (holds test a constant) refl
     where
       by_test : (met : Bool) → holds test a constant ≡ met
-          → Ends words (jump_if test constant hit miss ∷ behind) a answer (suc most)
+          → EndsWithin words (jump_if test constant hit miss ∷ behind) a answer (suc most)
       by_test true e = goes_on (jump_if test constant hit miss) hit a a (rw (asks_for (JumpIf test Constant), e) refl) (over e)
       by_test false e = goes_on (jump_if test constant hit miss) miss a a (rw (asks_for (JumpIf test Constant), e) refl) (under e)
 
 pub answers : {words : List ℕ} {behind : List Insn} {most : ℕ} (answer a : ℕ)
-    → Ends words (return_with answer ∷ behind) a answer (suc most)
+    → EndsWithin words (return_with answer ∷ behind) a answer (suc most)
 answers answer a = record {
   steps = 1;
   run = record { last = at 0 a; earlier = []; chain = refl; answers = rw (asks_for ReturnConstant) refl; count = refl };
@@ -98,7 +98,7 @@ answers answer a = record {
 
 -- what stands behind a piece that is passed
 pub past : {words : List ℕ} {answer most : ℕ} (front rest : List Insn) (count a : ℕ)
-    → Ends words (drop count rest) a answer most → Ends words (drop (length front + count) (front ++ rest)) a answer most
+    → EndsWithin words (drop count rest) a answer most → EndsWithin words (drop (length front + count) (front ++ rest)) a answer most
 past front rest count a e = rw (drop-append-add front rest count) e
 
 -- ---- each of them is sound

@@ -29,7 +29,7 @@ use Rattle.scf_compile.specs.SizeBound.{rule_bound}
 use Rattle.scf_compile.specs.internal.Insns.{jump_if}
 use Rattle.scf_compile.specs.internal.Placing.{branch_code, code_from, IsFirst, IsPut}
 use Rattle.scf_compile.specs.internal.Filters.{rules_code, first_answer, ArePut, IsSearchPut}
-use Rattle.scf_compile.specs.internal.Runs.{Ends}
+use Rattle.scf_compile.specs.internal.Runs.{EndsWithin}
 use Rattle.scf_compile.specs.internal.Stretches.{rules_along, rules_on, first_of, stretch_bound}
 use Rattle.scf_compile.proofs.Lists.{all_front, all_back}
 use Rattle.scf_compile.proofs.Runs.{more}
@@ -169,7 +169,7 @@ module _ (default : Answer) (ss low high : List Stretch) (k number : ℕ) (front
 
   abbrev Found : CallRecord → List Insn → List Stretch → ℕ → Type 0
   Found call code part n =
-      Ends (words_of call) code call.nr (first_answer call default (rules_on [] part call.nr))
+      EndsWithin (words_of call) code call.nr (first_answer call default (rules_on [] part call.nr))
       (2 * n + (1 + sum_by rule_bound (rules_on [] part call.nr)))
 
   search_ends : (call : CallRecord) (hit miss : ℕ) (both : List Insn) → IsNonDecreasingBy first_number ss

@@ -34,7 +34,7 @@ use Rattle.scf_compile.specs.internal.Insns.{jump_if}
 use Rattle.scf_compile.specs.internal.Blocks.{word_code, equal_code, order_code, half_code_of, half_code}
 use Rattle.scf_compile.specs.internal.Blocks.{masked_code, operator_code, argument_word}
 use Rattle.scf_compile.specs.internal.Filters.{conditions_code}
-use Rattle.scf_compile.specs.internal.Runs.{Ends}
+use Rattle.scf_compile.specs.internal.Runs.{EndsWithin}
 use Rattle.scf_compile.specs.internal.Sound.{AreSound}
 use Rattle.scf_compile.proofs.Masks.{under_empty, under_full, wanted_of_power}
 use Rattle.scf_compile.proofs.Runs.{more, past, loads, masks, jumps, load_sound, mask_sound, jump_sound}
@@ -46,9 +46,9 @@ pub record Tests (code : List Insn) (hit miss most : ℕ) (plain : Type 0) (met 
   pub sound : (asked : Bool) (rest : List Insn) → (IsTrue asked → plain) → hit < length rest → miss < length rest
       → AreSound asked rest → AreSound asked (code ++ rest)
   pub ends : (call : CallRecord) → IsRecord call → (rest : List Insn) (answer left a : ℕ)
-      → (met call ≡ true → (b : ℕ) → Ends (words_of call) (drop hit rest) b answer left)
-      → (met call ≡ false → (b : ℕ) → Ends (words_of call) (drop miss rest) b answer left)
-      → Ends (words_of call) (code ++ rest) a answer (most + left)
+      → (met call ≡ true → (b : ℕ) → EndsWithin (words_of call) (drop hit rest) b answer left)
+      → (met call ≡ false → (b : ℕ) → EndsWithin (words_of call) (drop miss rest) b answer left)
+      → EndsWithin (words_of call) (code ++ rest) a answer (most + left)
 
 -- the same test, said in other words
 tests_as : {code : List Insn} {hit miss : ℕ} {p : Type 0} {f : CallRecord → Bool} (most n : ℕ) (q : Type 0)

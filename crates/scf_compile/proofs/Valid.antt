@@ -124,7 +124,13 @@ module _ {p : Profile} {code : List Insn} (filter : IsFilterOf p code) where
   pub answers_same : SameAnswers (RunAnswers code) p
   answers_same call fits =
       let found = filter.answered call fits in
-      record { answer = found.answer; of_words = (found.of_words.steps, found.of_words.run); of_profile = found.of_profile }
+      record {
+        filter = found.answer;
+        profile = found.answer;
+        of_words = (found.of_words.steps, found.of_words.run);
+        of_profile = found.of_profile;
+        are_related = refl;
+      }
 
   pub answers_within : AnswersWithin code (search_bound_of p)
   answers_within call fits answer steps run =

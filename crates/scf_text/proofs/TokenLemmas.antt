@@ -14,7 +14,7 @@ use Rattle.scf_text.specs.declared.token.Token.{Token}
 use Rattle.scf_text.specs.Characters.{is_blank, is_word_byte}
 use Rattle.scf_text.specs.Tokens.{Lexeme, begins_comment, before_comment, begins_in_word, joined, lexemes_from}
 use Rattle.scf_text.specs.Tokens.{lexemes, IsSliceOf, lines_of, lexemes_of_lines, tokens_of, words_of_line}
-use Rattle.scf_text.specs.internal.Parts.{words_of_part, words_in, others_in, statements_in, first_of}
+use Rattle.scf_text.specs.internal.Parts.{words_of_part, words_in, others_in, statements_in, first_statement}
 use Rattle.std.proofs.lemmas.List.Elements.{All-from_recursion}
 
 pub word_not_blank : (b : ℕ) → is_word_byte b ≡ true → is_blank b ≡ false
@@ -358,7 +358,7 @@ pub words_front : (part rest t : List ℕ) (s n : ℕ)
 words_front part rest t s n h =
     ap (map (λ (l : Lexeme). l.text)) (h 0) ∙ ap (λ (ws : List (List ℕ)). t ∷ ws) (words_at (0 + n) 0 rest)
 
-some_statement : (ss : List (List (List ℕ))) → 0 < length ss → ss ≡ first_of ss ∷ drop 1 ss
+some_statement : (ss : List (List (List ℕ))) → 0 < length ss → ss ≡ first_statement ss ∷ drop 1 ss
 some_statement [] some = absurd (omega arith)
 some_statement (s ∷ ss) some = refl
 

@@ -20,7 +20,7 @@ use Rattle.scf_compile.specs.SizeBound.{rule_bound, size_bound_of}
 use Rattle.scf_compile.specs.internal.Insns.{return_with}
 use Rattle.scf_compile.specs.internal.Blocks.{condition_code}
 use Rattle.scf_compile.specs.internal.Placing.{code_from, IsNear}
-use Rattle.scf_compile.specs.internal.Runs.{Ends}
+use Rattle.scf_compile.specs.internal.Runs.{EndsWithin}
 use Rattle.scf_compile.specs.internal.Sound.{AreSound}
 use Rattle.scf_compile.specs.internal.Stretches.{first_of, rules_along, rules_on, stretch_bound}
 
@@ -68,13 +68,13 @@ pub record IsSearchPut (default : Answer) (stretches : List Stretch) (before aft
   pub put : ArePut (rules_along stretches) room before after place
   pub ends : (call : CallRecord) (halvings : ℕ) → IsRecord call → IsNonDecreasingBy (λ s. s.first) stretches
       → first_of stretches ≤ call.nr → length stretches ≤ 2 ^ halvings
-      → Ends (words_of call) (code_from place after) call.nr (first_answer call default (rules_on [] stretches call.nr))
+      → EndsWithin (words_of call) (code_from place after) call.nr (first_answer call default (rules_on [] stretches call.nr))
       (2 * halvings + (1 + sum_by rule_bound (rules_on [] stretches call.nr)))
 
 -- what the filter and the profile answer to a call
-pub record IsAnswered (p : Profile) (code : List Insn) (call : CallRecord) : Type 0 where
+pub record AnswersCall (p : Profile) (code : List Insn) (call : CallRecord) : Type 0 where
   pub answer : ℕ
-  pub of_words : Ends (words_of call) code 0 answer (search_bound_of p)
+  pub of_words : EndsWithin (words_of call) code 0 answer (search_bound_of p)
   pub of_profile : ProfileAnswers p call answer
 
 -- The code answers each call as the profile does, and is within both bounds; it is sound, and plain where the profile is.
@@ -82,4 +82,4 @@ pub record IsFilterOf (p : Profile) (code : List Insn) : Type 0 where
   pub some : 0 < length code
   pub small : length code ≤ size_bound_of p
   pub sound : (plain : Bool) → (IsTrue plain → IsPlainProfile p) → AreSound plain code
-  pub answered : (call : CallRecord) → IsRecord call → IsAnswered p code call
+  pub answered : (call : CallRecord) → IsRecord call → AnswersCall p code call

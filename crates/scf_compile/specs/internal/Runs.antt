@@ -8,7 +8,7 @@ abbrev pub at : ℕ → ℕ → State
 at place a = record { place = place; a = a; x = 0; scratch = [] }
 
 -- From its head, with `a` in the accumulator, the code ends in the answer within so many steps.
-pub record Ends (words : List ℕ) (code : List Insn) (a answer most : ℕ) : Type 0 where
+pub record EndsWithin (words : List ℕ) (code : List Insn) (a answer most : ℕ) : Type 0 where
   pub steps : ℕ
   pub run : IsRunFrom code words (at 0 a) answer steps
   pub few : steps ≤ most

@@ -15,13 +15,13 @@ words_of_part part = map (λ (t : Lexeme). t.text) (lexemes_from 0 part)
 abbrev pub statements_in : List ℕ → List (List (List ℕ))
 statements_in part = slice_split is_semicolon (words_of_part part)
 
-abbrev pub first_of : List (List (List ℕ)) → List (List ℕ)
-first_of [] = []
-first_of (s ∷ ss) = s
+abbrev pub first_statement : List (List (List ℕ)) → List (List ℕ)
+first_statement [] = []
+first_statement (s ∷ ss) = s
 
 -- the tokens of the first
 unfoldable pub words_in : List ℕ → List (List ℕ)
-words_in part = first_of (statements_in part)
+words_in part = first_statement (statements_in part)
 
 -- the tokens of the others
 unfoldable pub others_in : List ℕ → List (List (List ℕ))
