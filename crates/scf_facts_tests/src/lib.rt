@@ -12,6 +12,8 @@ mod facts_exact;
 #[cfg(test)]
 mod facts_largest;
 #[cfg(test)]
+mod facts_pairs;
+#[cfg(test)]
 mod facts_walk;
 #[cfg(test)]
 mod word_4;
