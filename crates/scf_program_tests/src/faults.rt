@@ -192,15 +192,18 @@ const ANSWERS: &[(&[&str], Input, &[u8])] = &[
     ),
     (&["scf", "dis"], Input::Filter("ret a"), b"ret a\n"),
     (&["scf", "decide"], STACK, b"KILL_THREAD 0\n"),
+    (&["scf", "ask"], PROFILE, b"ALLOW 0 default\n"),
 ];
 
-/// Each is answered, with status 0.
+/// Each is answered, with status 0, whether the input comes byte by byte or at once.
 #[test]
 fn answers(rt: HostRuntime) {
     for (words, input, answer) in ANSWERS {
         let input = bytes_of(&rt, rt.alloc(), *input);
-        let ended = run(rt.alloc(), words, &input, usize::MAX);
-        assert!(rt; ended.is(answer, 0, 0), "{words:?}: {ended:?}");
+        for step in [1, usize::MAX] {
+            let ended = run(rt.alloc(), words, &input, step);
+            assert!(rt; ended.is(answer, 0, 0), "{words:?}: {ended:?}");
+        }
     }
 }
 

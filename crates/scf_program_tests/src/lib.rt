@@ -1,4 +1,6 @@
-//! Tests of the program as a whole: its words, its input, its output and its exit status.
+//! Tests of the program and its public calls from inside: readers and writers that fail in turn, what is asked of them,
+//! what is at its largest, and answers to thousands of calls. Tables of inputs with what is printed of them stand in
+//! tools/tests, which runs the built program.
 //!
 //! What is equal is asserted by `assert!`, and a result taken by `expect`, as in the tests of the libraries.
 #![tactic(auto)]
@@ -8,8 +10,6 @@ mod bundles;
 #[cfg(test)]
 mod call_verification;
 #[cfg(test)]
-mod calls;
-#[cfg(test)]
 mod changed_bytes;
 #[cfg(test)]
 mod command_line;
@@ -18,21 +18,9 @@ mod efforts;
 #[cfg(test)]
 mod faults;
 #[cfg(test)]
-mod filters;
-#[cfg(test)]
-mod hostile;
-#[cfg(test)]
 mod messages;
 #[cfg(test)]
-mod options;
-#[cfg(test)]
 mod parts;
-#[cfg(test)]
-mod paths;
-#[cfg(test)]
-mod profiles;
-#[cfg(test)]
-mod relations;
 #[cfg(test)]
 mod reporting;
 #[cfg(test)]
@@ -40,14 +28,8 @@ mod runs;
 #[cfg(test)]
 mod sizes;
 #[cfg(test)]
-mod stacks;
-#[cfg(test)]
 mod stretches;
 #[cfg(test)]
-mod texts;
-#[cfg(test)]
 mod verification;
-#[cfg(test)]
-mod worked;
 #[cfg(test)]
 mod writes;

@@ -10,9 +10,6 @@ use std::process::Abort;
 pub(crate) enum Part {
     /// A filter, in the assembler's language.
     Filter(&'static str),
-    /// What stands behind the gate of a filter that turns other architectures and the numbers of x32 away first, as
-    /// each compiled profile does.
-    Native(&'static str),
     Profile(&'static str),
     Table(&'static str),
 }
@@ -22,19 +19,8 @@ pub(crate) const ALL: Part = Part::Profile(profiles::DEFAULT_ALLOW);
 
 pub(crate) const NO_TABLE: Part = Part::Table("");
 
-/// Takes `clone` where none of the bits 0x7e020000 is set in its flags, and the same as filters.
-pub(crate) const CLONE: Part = Part::Profile(profiles::CLONE_MASK);
-
-pub(crate) const CLONE_TABLE: Part = Part::Table(profiles::CLONE_TABLE);
-
-pub(crate) const CLONE_BY_AND: Part = Part::Native(filters::CLONE_BY_AND);
-
-pub(crate) const CLONE_BY_JSET: Part = Part::Native(filters::CLONE_BY_JSET);
-
-/// Allows every call, and the calls that the gate leaves.
+/// Allows every call.
 pub(crate) const ALLOW: Part = Part::Filter(filters::ALLOW_ALL);
-
-pub(crate) const NATIVE: Part = Part::Native(filters::ALLOW_ALL);
 
 /// Allows every call but number 1.
 pub(crate) const WITHOUT_WRITE: Part = Part::Filter(filters::WITHOUT_WRITE);
@@ -90,11 +76,6 @@ pub(crate) fn bundle(rt: &impl Abort, alloc: Global, parts: &[Part]) -> Vec<u8> 
                 "filter",
                 &filter_of(rt, alloc, text),
             ),
-            Part::Native(rest) => {
-                let text = format!(in alloc; "{}{rest}", filters::GATE).expect(rt, "no fault");
-                let filter = filter_of(rt, alloc, text.as_str());
-                add(rt, alloc, &mut bundle, "filter", &filter);
-            }
             Part::Profile(text) => add(rt, alloc, &mut bundle, "profile", text.as_bytes()),
             Part::Table(text) => add(rt, alloc, &mut bundle, "table", text.as_bytes()),
         }

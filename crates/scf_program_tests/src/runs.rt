@@ -1,21 +1,10 @@
 //! Runs of the program: what one printed, its status, and how often its reader and its writer failed.
 
 use scf_insn::faults::{Failing, Reader, Writer};
-use scf_insn::parse_number;
-use scf_test_fixtures::kernel::X32;
 use scf_tool::run_command;
 use std::alloc::{AllocError, Global};
 use std::fmt;
 use std::process::Abort;
-
-/// A run of the program, what it prints and its status.
-#[derive(Clone, Copy)]
-pub(crate) struct Case<'a> {
-    pub(crate) words: &'a [&'a str],
-    pub(crate) input: &'a [u8],
-    pub(crate) output: &'a str,
-    pub(crate) status: u8,
-}
 
 /// A run of the program that has ended.
 #[derive(Drop)]
@@ -113,67 +102,4 @@ pub(crate) fn answer_text(alloc: Global, answer: u32) -> Result<String, AllocErr
 pub(crate) fn answer_line(alloc: Global, answer: u32) -> Result<String, AllocError> {
     let text = answer_text(alloc, answer)?;
     format!(in alloc; "{text}\n")
-}
-
-/// The call that is printed of a difference.
-#[derive(Clone, Copy)]
-pub(crate) struct ShownCall {
-    pub(crate) number: u64,
-    pub(crate) is_x86_64: bool,
-    /// Its first argument.
-    pub(crate) first: u64,
-}
-
-impl ShownCall {
-    /// Whether it is a call of x86-64 and not of x32.
-    pub(crate) fn is_native(&self) -> bool {
-        self.is_x86_64 && self.number < u64::from(X32)
-    }
-}
-
-/// The call that is shown by what was printed.
-pub(crate) fn shown_call(alloc: Global, text: &str) -> Result<Option<ShownCall>, AllocError> {
-    let words: Vec<&str> = text.split_whitespace().collect(alloc)?;
-    let [
-        "differs",
-        "call",
-        "nr",
-        number,
-        "arch",
-        arch,
-        "ip",
-        _,
-        "args",
-        first,
-        ..
-    ] = words.as_slice()
-    else {
-        return Ok(None);
-    };
-    let (Ok(number), Ok(first)) = (
-        parse_number(number.as_bytes()),
-        parse_number(first.as_bytes()),
-    ) else {
-        return Ok(None);
-    };
-    Ok(Some(ShownCall {
-        number,
-        is_x86_64: *arch == "0xc000003e",
-        first,
-    }))
-}
-
-/// Runs each case with a reader that gives one byte at a time, and with one that gives all at once.
-pub(crate) fn pass(rt: &impl Abort, alloc: Global, cases: &[Case<'_>]) {
-    for case in cases {
-        for step in [1, usize::MAX] {
-            let ended = run(alloc, case.words, case.input, step);
-            assert!(rt;
-                ended.is(case.output.as_bytes(), case.status, 0),
-                "{:?} on {:?}: {ended:?}",
-                case.words,
-                case.input
-            );
-        }
-    }
 }
