@@ -1,12 +1,13 @@
 -- Masks of scratch words, and the paths that they stand for.
-use Rattle.std.proofs.Common.{◌≡◌, ◌≢◌, ℕ, zero, suc, ◌+◌, ◌*◌, ◌%◌, ◌^◌, ◌<◌, ◌≤◌, ◌⊎◌, inl, inr, min, Bool, true}
+use Rattle.std.proofs.Common.{◌≡◌, ℕ, zero, suc, ◌+◌, ◌*◌, ◌%◌, ◌^◌, ◌<◌, ◌≤◌, inl, inr, min, Bool, true}
 use Rattle.std.proofs.Common.{false, cond, nat_eq, List, [], ◌∷◌, Option, Some, refl, ap, sym, subst, ◌∙◌, arith}
 use Rattle.std.proofs.Common.{length, get_or, set, replicate, bit_and, bit_or, length-set, get_or-set_same}
 use Rattle.std.proofs.Common.{get_or-set_other}
 use Rattle.std.specs.Int.{bit_at, w16}
-use Rattle.std.specs.List.{slice_get, list_any, AllByRecursion}
+use Rattle.std.specs.List.{list_any, AllByRecursion}
+use Rattle.std.proofs.lemmas.Bool.Decides.{nat_tests}
 use Rattle.std.proofs.lemmas.Nat.Bits.{bit_at_and, bit_at_ones, bit_at-zero, bit_at_set_same, bit_at_set_other}
-use Rattle.std.proofs.lemmas.Bool.{eq-eqb, ne_eqb, cases_eq, or_parts, or_from, true_from_ne_false}
+use Rattle.std.proofs.lemmas.Bool.{cases_eq, or_parts, or_from, true_from_ne_false}
 use Rattle.std.proofs.lemmas.List.{get_or-replicate}
 use Rattle.std.proofs.Math.ListN.{length-replicate}
 use Rattle.std.proofs.lemmas.Option.{slice_get_within, slice_get-get_or}
@@ -15,57 +16,40 @@ use Rattle.scf_insn.specs.Kernel.{bpf_memwords}
 use Rattle.scf_insn.specs.declared.insn.Insn.{Insn}
 use Rattle.scf_insn.specs.declared.operation.Register.{Register}
 use Rattle.scf_insn.specs.declared.operation.Operation.{Operation}
-use Rattle.scf_insn.specs.declared.operation.Operation.TheVariants.{LoadScratch, StoreScratch}
+use Rattle.scf_insn.specs.declared.operation.Operation.TheVariants.{LoadScratch}
 use Rattle.scf_machine.specs.internal.Masks.{Joins, Unstored, MasksAt}
-use Rattle.scf_machine.specs.Rules.{IsFine, IsValidList, GoesTo, Edge, Stands, stores_word, stores_word_of}
-use Rattle.scf_machine.specs.Rules.{insn_stores_word, stores_at, IsPath, IsUnsetAt, KeepsScratchRule}
-use Rattle.scf_machine.proofs.Moves.{edge_of}
-use Rattle.scf_machine.proofs.Runs.{edge_forward, same_insn, fine_of}
+use Rattle.scf_machine.specs.Rules.{IsFine, IsValidList, GoesTo, Edge, Stands, stores_word}
+use Rattle.scf_machine.specs.Rules.{stores_at, IsPath, IsUnsetAt, KeepsScratchRule}
+use Rattle.scf_machine.proofs.Runs.{edge_forward, fine_of}
 
-min_zero : (a b : ℕ) → min a b ≡ 0 → (a ≡ 0) ⊎ (b ≡ 0)
-min_zero zero b e = inl refl
-min_zero (suc a) zero e = inr refl
-min_zero (suc a) (suc b) e = absurd (omega arith)
+edge_of : (insns : List Insn) (p t : ℕ) (i : Insn) (operation : Operation)
+    → Stands insns p i operation → GoesTo (Some operation) i p t → Edge insns p t
+edge_of insns p t i operation stands goes = grind arith
 
-min_left : (a b : ℕ) → a ≡ 0 → min a b ≡ 0
-min_left a b e = omega arith
-
-min_right : (a b : ℕ) → b ≡ 0 → min a b ≡ 0
-min_right a b e = omega arith
+joined_bit : (masks : List ℕ) (target mask p n : ℕ) → target < length masks
+    → bit_at (get_or (set masks target (bit_and (get_or masks target 0) mask)) p 0) n
+    ≡ cond (nat_eq p target) (min (bit_at (get_or masks p 0) n) (bit_at mask n)) (bit_at (get_or masks p 0) n)
+joined_bit masks target mask p n inside =
+    let new = bit_and (get_or masks target 0) mask in
+    grind (
+      arith,
+      nat_tests,
+      get_or-set_same masks target new 0 inside,
+      get_or-set_other masks target p new 0,
+      bit_at_and (get_or masks target 0) mask n,
+    )
 
 -- a mask that loses bits at one place
 pub joins_set : (masks : List ℕ) (target mask : ℕ) → target < length masks
     → Joins masks (set masks target (bit_and (get_or masks target 0) mask)) (λ p. p ≡ target) mask
-joins_set masks target mask inside =
-    let new = set masks target (bit_and (get_or masks target 0) mask) in
-    let at_target : (p n : ℕ) → p ≡ target
-    → bit_at (get_or new p 0) n ≡ min (bit_at (get_or masks p 0) n) (bit_at mask n) =
-    λ p n e. rw e
-    (ap (λ (m : ℕ). bit_at m n) (get_or-set_same masks target (bit_and (get_or masks target 0) mask) 0 inside)
-    ∙ bit_at_and (get_or masks target 0) mask n) in
-    let elsewhere : (p n : ℕ) → p ≢ target → bit_at (get_or new p 0) n ≡ bit_at (get_or masks p 0) n =
-    λ p n ne. ap (λ (m : ℕ). bit_at m n)
-    (get_or-set_other masks target p (bit_and (get_or masks target 0) mask) 0 ne) in
-    record {
-      long = length-set masks target _;
-      kept = λ p n inside_p zero_bit. elim (cases_eq p target)
-          [ inl e ↦ at_target p n e ∙ min_left _ _ zero_bit | inr ne ↦ elsewhere p n ne ∙ zero_bit ];
-      cleared = λ p n inside_p e zero_bit. at_target p n e ∙ min_right _ _ zero_bit;
-      only = λ p n inside_p zero_bit. elim (cases_eq p target) [
-        | inl e ↦ elim (min_zero _ _ (sym (at_target p n e) ∙ zero_bit))
-            [ inl old ↦ inl old | inr lost ↦ inr (e, lost) ]
-        | inr ne ↦ inl (sym (elsewhere p n ne) ∙ zero_bit)
-      ];
-    }
+joins_set masks target mask inside = grind (arith, nat_tests, joined_bit, length-set {A = ℕ})
 
 -- the mask with one more word
-pub bit_set : (mask k n : ℕ) → k < 16
-    → n < bpf_memwords → bit_at (bit_or mask (1 * 2 ^ k % 2 ^ 16)) n ≡ cond (nat_eq k n) 1 (bit_at mask n)
-bit_set mask k n inside inside_n = elim (cases_eq k n) [
-  | inl e ↦ rw (← e) (bit_at_set_same w16 mask k inside ∙ sym (ap (λ b. cond b 1 (bit_at mask k)) (eq-eqb k k refl)))
-  | inr ne ↦ bit_at_set_other w16 mask k inside n (λ e. ne (sym e))
-      ∙ sym (ap (λ b. cond b 1 (bit_at mask n)) (ne_eqb k n ne))
-]
+pub bit_set : (mask k n : ℕ) → k < bpf_memwords → n < bpf_memwords
+    → bit_at (bit_or mask (1 * 2 ^ k % 2 ^ 16)) n ≡ cond (nat_eq k n) 1 (bit_at mask n)
+bit_set mask k n inside inside_n =
+    let fits : k < 16 = omega arith in
+    grind (arith, nat_tests, bit_at_set_same w16 mask k fits, bit_at_set_other w16 mask k fits n)
 
 -- ---- the invariant
 -- what was read at a place stands there, and keeps the rules
@@ -77,9 +61,7 @@ pub fine_here : (insns : List Insn) (at : ℕ) (i d : Insn) (found : Option Oper
     → IsValidList insns → at < length insns
     → i ≡ get_or insns at d → found ≡ operation_of i.code → found ≡ Some operation → FineHere insns at i operation
 fine_here insns at i d found operation valid inside e known is =
-    let here : slice_get insns at ≡ Some i = slice_get-get_or insns at d inside ∙ ap Some (sym e) in
-    let stands : Stands insns at i operation = record { here = here; known = sym known ∙ is } in
-    record { stands = stands; fine = fine_of insns at i operation (valid.each at inside) stands }
+    let here = slice_get-get_or insns at d inside in grind (arith, fine_of, valid.each at inside)
 
 below_more : (bound more : ℕ) (places : List ℕ)
     → bound ≤ more → AllByRecursion (λ q. q < bound) places → AllByRecursion (λ q. q < more) places
@@ -103,8 +85,7 @@ masks_start insns masks long first others = record {
 }
   where
     full : (m n : ℕ) → m ≡ 65535 → n < bpf_memwords → bit_at m n ≡ 0 → ⊥
-    full m n e inside_n zero_bit = let one : bit_at 65535 n ≡ 1 = bit_at_ones 16 n inside_n in
-        let same = ap (λ (k : ℕ). bit_at k n) e in absurd (omega (arith, one, same, zero_bit))
+    full m n e inside_n zero_bit = let fits : n < 16 = omega arith in grind (arith, bit_at_ones 16 n fits)
 
     at_zero : (p n : ℕ) → p < length insns
         → n < bpf_memwords → bit_at (get_or masks p 0) n ≡ 0 → (q : ℕ) → q ≡ p → Unstored insns 0 p n
@@ -133,30 +114,16 @@ cleared_parts false m e = (refl, e)
 pub stores_is : (insns : List Insn) (p n : ℕ) (i : Insn) (operation : Operation)
     → Stands insns p i operation → stores_at insns n p ≡ stores_word operation i.k n
 unfolding stores_at
-stores_is insns p n i operation stands = ap (λ (o : Option Insn). insn_stores_word o n) stands.here
-    ∙ ap (λ (o : Option Operation). stores_word_of o i.k n) stands.known
+stores_is insns p n i operation stands = grind arith
 
--- an instruction with its operation
-pub record SameAs (i j : Insn) (a b : Operation) : Type 0 where
-  pub insn : i ≡ j
-  pub operation : a ≡ b
-
-same_operation : (o : Option Operation) (a b : Operation) → o ≡ Some a → o ≡ Some b → a ≡ b
-same_operation o a b e f = cc
-
-pub stands_once : (insns : List Insn) (p : ℕ) (i j : Insn) (a b : Operation)
-    → Stands insns p i a → Stands insns p j b → SameAs i j a b
-stands_once insns p i j a b first second =
-    let is_i = same_insn insns p i j first.here second.here in
-    let known : operation_of j.code ≡ Some a = subst (λ (k : Insn). operation_of k.code ≡ Some a) is_i first.known in
-    record { insn = is_i; operation = same_operation _ a b known second.known }
+-- the instruction of a place is one, with its operation
+stands_once : (insns : List Insn) (p : ℕ) (i j : Insn) (a b : Operation)
+    → Stands insns p i a → Stands insns p j b → (i ≡ j) × (a ≡ b)
+stands_once insns p i j a b first second = grind arith
 
 goes_of : (insns : List Insn) (p t : ℕ) (i : Insn) (operation : Operation)
     → Edge insns p t → Stands insns p i operation → GoesTo (Some operation) i p t
-goes_of insns p t i operation edge stands =
-    let same = same_insn insns p edge.insn i edge.here stands.here in
-    subst (λ (o : Option Operation). GoesTo o i p t) stands.known
-    (subst (λ (j : Insn). GoesTo (operation_of j.code) j p t) same edge.goes)
+goes_of insns p t i operation edge stands = grind arith
 
 module _ (insns : List Insn) (masks new : List ℕ)
     (at mask : ℕ) (i : Insn) (operation : Operation) (old : MasksAt insns masks at) (inside : at < length insns)
@@ -234,13 +201,13 @@ pub none_here : (insns : List Insn) (masks : List ℕ) (at : ℕ) (i : Insn) (op
     → (n : ℕ) → IsUnsetAt insns at n → ⊥
 none_here insns masks at i operation valid old inside stands set_bit n u =
     let same = stands_once insns at i u.loads.insn operation (LoadScratch u.loads.register) stands u.loads.stands in
-    let index : i.k ≡ n = ap (λ (j : Insn). j.k) same.insn ∙ u.loads.index in
+    let index : i.k ≡ n = ap (λ (j : Insn). j.k) same.0 ∙ u.loads.index in
     let fine : u.loads.insn.k < bpf_memwords =
     fine_of insns at u.loads.insn (LoadScratch u.loads.register) (valid.each at inside) u.loads.stands in
     let is_n = u.loads.index in
     let zero_bit = old.found at n inside (omega arith) (record
     { earlier = u.earlier; path = u.path; below = path_below insns at u.earlier u.path; unset = u.unset }) in
-    let one_bit = set_bit u.loads.register same.operation in
+    let one_bit = set_bit u.loads.register same.1 in
     let same_bit = ap (λ (k : ℕ). bit_at (get_or masks at 0) k) index in
     absurd (omega (arith, one_bit, zero_bit, same_bit))
 
@@ -263,8 +230,7 @@ keeps_rule insns none place n earlier loads path =
 
 pub stored_index : (operation : Operation) (len at : ℕ) (i : Insn)
     → IsFine len at i operation → stores_word operation i.k i.k ≡ true → i.k < bpf_memwords
-stored_index (StoreScratch r) len at i fine e = fine
-stored_index operation len at i fine e = absurd (cc)
+stored_index operation len at i fine e = grind arith
 
 -- at first each mask is full, and that of place 0 is empty
 pub masks_made : (insns : List Insn) (masks : List ℕ)

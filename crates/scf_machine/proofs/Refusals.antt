@@ -14,8 +14,7 @@ use Rattle.scf_machine.proofs.Runs.{fine_of, same_insn}
 
 breaks_none : (insns : List Insn) (at : ℕ) (Kind : Operation → Type 0)
     → IsValidList insns → BreaksRule insns at Kind → ⊥
-breaks_none insns at Kind v b =
-    b.broken (fine_of insns at b.insn b.operation (v.each at (slice_get_within insns at b.insn b.stands.here)) b.stands)
+breaks_none insns at Kind v b = grind (arith, fine_of, v.each, slice_get_within {A = Insn})
 
 true_false : (b : Bool) → IsTrue b → b ≡ false → ⊥
 true_false true t e = cc

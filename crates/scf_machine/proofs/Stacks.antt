@@ -1,17 +1,14 @@
 -- What a stack answers, one filter after another.
-use Rattle.std.proofs.Common.{◌≡◌, ◌↔◌, ℕ, zero, suc, ◌+◌, ◌<◌, ◌≤◌, ◌≤ℤ◌, ◌<ℤ◌, ℤ, pos, inl, inr, Bool, true, false}
-use Rattle.std.proofs.Common.{cond, int_lt, List, [], ◌∷◌, ◌++◌, Some, refl, ap, sym, subst, ◌∙◌, arith, length, get_or}
+use Rattle.std.proofs.Common.{◌≡◌, ◌↔◌, ℕ, zero, suc, ◌+◌, ◌<◌, ◌≤◌, ◌≤ℤ◌, ◌<ℤ◌, ℤ}
+use Rattle.std.proofs.Common.{List, [], ◌∷◌, ◌++◌, Some, refl, ap, sym, subst, ◌∙◌, arith, length, get_or}
 use Rattle.std.proofs.Common.{take, reverse, All}
 use Rattle.std.specs.List.{slice_get}
-use Rattle.std.specs.Int.{w16, cast_signed}
-use Rattle.std.proofs.lemmas.Bool.{cases_order}
 use Rattle.std.proofs.lemmas.Int.{ints}
 use Rattle.std.proofs.lemmas.List.{take_more, take_all, reverse-append, length-reverse, get_or-reverse}
 use Rattle.std.specs.Prelude.{Contains, ◌-◌}
 use Rattle.scf_insn.specs.declared.insn.Insn.{Insn}
-use Rattle.scf_insn.specs.Answers.{action_half, rank_of, degree_of, LetsThroughNoMore}
-use Rattle.scf_insn.specs.Kernel.{seccomp_ret_allow, seccomp_ret_errno, seccomp_ret_log}
-use Rattle.scf_insn.specs.declared.answer.Fate.TheVariants.{Refused, Referred, Made}
+use Rattle.scf_insn.specs.Answers.{rank_of, LetsThroughNoMore}
+use Rattle.scf_insn.specs.Kernel.{seccomp_ret_allow}
 use Rattle.scf_machine.specs.Machine.{RunAnswers}
 use Rattle.scf_machine.specs.Rules.{IsFilter}
 use Rattle.scf_machine.proofs.Meets.{run_once}
@@ -22,51 +19,33 @@ some_same : (a b : ℕ) → Some a ≡ Some b → a ≡ b
 some_same a b e = cc
 
 -- ---- one answer decides
-ranks_apart : (a b : ℤ) → a ≤ℤ b → b <ℤ a → ⊥
-ranks_apart a b f g = omega (arith, ints)
-
 first_once : (answers : List ℕ) (m n : ℕ) → IsFirstLeast answers m → IsFirstLeast answers n → m ≡ n
-first_once answers m n a b = elim (cases_order a.position b.position) [
-  | inl e ↦ some_same m n (sym a.here ∙ ap (slice_get answers) e ∙ b.here)
-  | inr others ↦ elim others [
-    | inl less ↦ absurd (ranks_apart _ _ (a.least b.position n b.here) (b.first a.position m less a.here))
-    | inr more ↦ absurd (ranks_apart _ _ (b.least a.position m a.here) (a.first b.position n more b.here))
-  ]
-]
+first_once answers m n a b = grind (
+  arith,
+  ints,
+  a.least b.position n b.here,
+  b.least a.position m a.here,
+  a.first b.position n,
+  b.first a.position m,
+)
 
 pub decision_once : (answers : List ℕ) (m n : ℕ) → IsDecision answers m → IsDecision answers n → m ≡ n
-decision_once [] m n a b = a ∙ sym b
-decision_once (newest ∷ older) m n a b = first_once (newest ∷ older) m n a b
+decision_once answers m n a b = grind (arith, first_once)
 
 -- ---- one answer more
-int_lt_true : (a b : ℤ) → int_lt a b ≡ true → a <ℤ b
-int_lt_true a b e = grind (arith, ints)
-
-int_lt_false : (a b : ℤ) → int_lt a b ≡ false → b ≤ℤ a
-int_lt_false a b e = grind (arith, ints)
-
 le_refl : (x : ℤ) → x ≤ℤ x
 le_refl x = omega (arith, ints)
-
-le_from_lt : (x y : ℤ) → x <ℤ y → x ≤ℤ y
-le_from_lt x y h = omega (arith, ints)
-
-lt_le_trans : (x y z : ℤ) → x <ℤ y → y ≤ℤ z → x <ℤ z
-lt_le_trans x y z f g = omega (arith, ints)
 
 le_trans : (x y z : ℤ) → x ≤ℤ y → y ≤ℤ z → x ≤ℤ z
 le_trans x y z f g = omega (arith, ints)
 
--- no answer has a greater rank than ALLOW
-rank_at_most : (half : ℕ) → cast_signed w16 half ≤ℤ pos 32767
-rank_at_most half = omega (arith, ints)
-
 alone : (answer : ℕ) → IsFirstLeast (answer ∷ []) answer
-alone answer = record { position = 0; here = refl; least = at; first = λ q other below here. absurd (omega arith) }
-  where
-    at : (q other : ℕ) → slice_get (answer ∷ []) q ≡ Some other → rank_of answer ≤ℤ rank_of other
-    at zero other e = subst (λ (n : ℕ). rank_of answer ≤ℤ rank_of n) (some_same _ _ e) (le_refl _)
-    at (suc q) other e = absurd (cc)
+alone answer = record {
+  position = 0;
+  here = refl;
+  least = λ q other e. grind (arith, ints);
+  first = λ q other below here. absurd (omega arith);
+}
 
 wins : (newest older : ℕ) (answers : List ℕ)
     → IsFirstLeast answers older → rank_of newest ≤ℤ rank_of older → IsFirstLeast (newest ∷ answers) newest
@@ -79,16 +58,12 @@ wins newest older answers old le =
 
 stays : (newest older : ℕ) (answers : List ℕ)
     → IsFirstLeast answers older → rank_of older <ℤ rank_of newest → IsFirstLeast (newest ∷ answers) older
-stays newest older answers old lt = record { position = suc old.position; here = old.here; least = at; first = before }
-  where
-    at : (q other : ℕ) → slice_get (newest ∷ answers) q ≡ Some other → rank_of older ≤ℤ rank_of other
-    at zero other e = subst (λ (n : ℕ). rank_of older ≤ℤ rank_of n) (some_same _ _ e) (le_from_lt _ _ lt)
-    at (suc q) other e = old.least q other e
-
-    before : (q other : ℕ) → q < suc old.position
-        → slice_get (newest ∷ answers) q ≡ Some other → rank_of older <ℤ rank_of other
-    before zero other below e = subst (λ (n : ℕ). rank_of older <ℤ rank_of n) (some_same _ _ e) lt
-    before (suc q) other below e = old.first q other (omega arith) e
+stays newest older answers old lt = record {
+  position = suc old.position;
+  here = old.here;
+  least = λ q other e. grind (arith, ints, old.least);
+  first = λ q other below here. grind (arith, ints, old.first);
+}
 
 pub newest_decides : (newest older : ℕ) (answers : List ℕ)
     → IsDecision answers older → rank_of newest ≤ℤ rank_of older → IsDecision (newest ∷ answers) newest
@@ -97,20 +72,11 @@ newest_decides newest older (a ∷ answers) old le = wins newest older (a ∷ an
 
 pub older_decides : (newest older : ℕ) (answers : List ℕ)
     → IsDecision answers older → rank_of older <ℤ rank_of newest → IsDecision (newest ∷ answers) older
-older_decides newest older [] old lt =
-    let allows : rank_of (seccomp_ret_allow) <ℤ rank_of newest =
-    subst (λ (n : ℕ). rank_of n <ℤ rank_of newest) old lt in
-    absurd (ranks_apart (rank_of newest) (pos 32767) (rank_at_most (action_half newest)) allows)
-older_decides newest older (a ∷ answers) old lt = stays newest older (a ∷ answers) old lt
+older_decides newest older answers old lt = grind (arith, ints, stays)
 
 pub decision_with_newest : (answers : List ℕ) (older newest : ℕ)
     → IsDecision answers older → IsDecision (newest ∷ answers) (with_newest older newest)
-decision_with_newest answers older newest old = by_test (int_lt (rank_of older) (rank_of newest)) refl
-  where
-    by_test : (b : Bool) → int_lt (rank_of older) (rank_of newest) ≡ b
-        → IsDecision (newest ∷ answers) (cond b older newest)
-    by_test true e = older_decides newest older answers old (int_lt_true _ _ e)
-    by_test false e = newest_decides newest older answers old (int_lt_false _ _ e)
+decision_with_newest answers older newest old = grind (arith, ints, older_decides, newest_decides)
 
 pub decision_is : (answers : List ℕ) → (decision : ℕ) × IsDecision answers decision
 decision_is [] = (seccomp_ret_allow, refl)
@@ -149,10 +115,7 @@ empty_allows words = record { answers = []; are = tt; decides = refl }
 
 answered_by_one : (filter : List Insn) (words answers : List ℕ) (answer : ℕ)
     → AreAnswers (filter ∷ []) words answers → IsDecision answers answer → RunAnswers filter words answer
-answered_by_one filter words [] answer are decides = absurd are
-answered_by_one filter words (only ∷ []) answer are decides =
-    subst (λ (n : ℕ). RunAnswers filter words n) (first_once (only ∷ []) only answer (alone only) decides) are.0
-answered_by_one filter words (only ∷ more ∷ answers) answer are decides = absurd are.1
+answered_by_one filter words answers answer are decides = grind (arith, first_once, alone)
 
 pub one_answers : (filter : List Insn) (words : List ℕ) (answer : ℕ)
     → RunAnswers filter words answer ↔ StackAnswers (filter ∷ []) words answer
@@ -229,25 +192,11 @@ has_reverse filters filter (i, inside, is) =
 
 least_rank : (answers : List ℕ) (decision answer q : ℕ) → IsDecision answers decision
     → slice_get answers q ≡ Some answer → rank_of decision ≤ℤ rank_of answer
-least_rank [] decision answer q decides at = absurd (cc)
-least_rank (x ∷ answers) decision answer q decides at = decides.least q answer at
+least_rank answers decision answer q decides at = grind (arith, ints)
 
 -- the less the rank, the less is let through
-fate_by_tests : (low high a b : ℤ) (x y u v : Bool) → int_lt low a ≡ x → int_lt a high ≡ y → int_lt low b ≡ u
-    → int_lt b high ≡ v → a ≤ℤ b
-    → degree_of (cond x (cond y Referred Made) Refused) ≤ degree_of (cond u (cond v Referred Made) Refused)
-fate_by_tests low high a b false y u v e f g h le = omega arith
-fate_by_tests low high a b true y false v e f g h le =
-    absurd (ranks_apart b low (int_lt_false low b g) (lt_le_trans low a b (int_lt_true low a e) le))
-fate_by_tests low high a b true true true true e f g h le = omega arith
-fate_by_tests low high a b true true true false e f g h le = omega arith
-fate_by_tests low high a b true false true true e f g h le =
-    absurd (ranks_apart high b (le_trans high a b (int_lt_false a high f) le) (int_lt_true b high h))
-fate_by_tests low high a b true false true false e f g h le = omega arith
-
 pub fate_by_rank : (answer other : ℕ) → rank_of answer ≤ℤ rank_of other → LetsThroughNoMore answer other
-fate_by_rank answer other le = fate_by_tests (rank_of seccomp_ret_errno) (rank_of seccomp_ret_log) (rank_of answer)
-    (rank_of other) _ _ _ _ refl refl refl refl le
+fate_by_rank answer other le = grind (arith, ints)
 
 -- a stack lets through no more than each of its filters
 pub stack_lets_through_no_more : (filters : List (List Insn)) (filter : List Insn) (words : List ℕ) (decision answer : ℕ)

@@ -18,8 +18,8 @@ pub record Stands (insns : List Insn) (place : ℕ) (i : Insn) (operation : Oper
   pub here : slice_get insns place ≡ Some i
   pub known : operation_of i.code ≡ Some operation
 
--- What the rules ask of an instruction at a place, in a list of a length: a load within the record, a scratch
--- index below 16, a divisor that isn't 0, a shift below 32, and jump targets inside the list.
+-- What the rules ask of an instruction at a place, in a list of a length: a load within the record, the index of a
+-- scratch word, a divisor that isn't 0, a shift below 32, and jump targets inside the list.
 abbrev pub IsFine : ℕ → ℕ → Insn → Operation → Type 0
 IsFine len place i LoadWord = (i.k < seccomp_data_len) × (i.k % 4 ≡ 0)
 IsFine len place i (LoadScratch r) = i.k < bpf_memwords

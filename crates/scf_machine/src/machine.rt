@@ -1,14 +1,14 @@
 //! The machine that runs a filter.
 
-ghost use Rattle.std.specs.Prelude.{◌≡◌, ◌≢◌, ◌+◌, ◌<◌, ◌≤◌, length, None, if◌then◌else◌, IfOk};
+ghost use Rattle.std.specs.Prelude.{◌≡◌, ◌≢◌, ◌+◌, ◌<◌, ◌≤◌, ℕ, List, length, None, if◌then◌else◌, IfOk};
 ghost use Rattle.scf_insn.specs.declared.insn.Insn.{Insn};
 ghost use Rattle.scf_insn.specs.Kernel.{bpf_maxinsns, bpf_memwords};
 ghost use Rattle.scf_insn.specs.Words.{words_of};
 ghost use Rattle.scf_machine.specs.Machine.{State, sets, stores, jumps_to, start};
 ghost use Rattle.scf_machine.specs.Machine.{value_computed, computation, holds, effect, IsRun, RunsSafely};
 ghost use Rattle.scf_machine.specs.Path.{IsPathOf};
-ghost use Rattle.scf_machine.specs.Rules.{IsFine};
-ghost use Rattle.scf_machine.specs.internal.Registers.{StandFor, Agrees};
+ghost use Rattle.scf_machine.specs.Rules.{IsFine, IsFilter};
+ghost use Rattle.scf_machine.specs.internal.Registers.{StandFor, Agrees, IsAt, Follows};
 
 use crate::path::Trace;
 use crate::program::Program;
@@ -85,7 +85,7 @@ impl Registers {
     /// Goes on to the next instruction with a register set.
     fn set(&mut self, register: Register, value: u32)
         requires { self.old.place < bpf_maxinsns }
-        ensures { (s : State) → StandFor self.old s → StandFor self.new (sets register s value) }
+        ensures { (s : State) (v : ℕ) → StandFor self.old s → v ≡ value → StandFor self.new (sets register s v) }
     {
         match register {
             Register::A => self.a = value,
@@ -98,7 +98,7 @@ impl Registers {
     fn store(&mut self, index: u8, value: u32)
         requires place { self.old.place < bpf_maxinsns }
         requires index { index < bpf_memwords }
-        ensures { (s : State) → StandFor self.old s → StandFor self.new (stores s index value) }
+        ensures { (s : State) (v : ℕ) → StandFor self.old s → v ≡ value → StandFor self.new (stores s index v) }
     {
         self.scratch[index as usize] = value;
         self.place += 1;
@@ -120,8 +120,8 @@ impl Registers {
         requires divisor { arithmetic ≡ Arithmetic.Div → value ≢ 0 }
         requires left { arithmetic ≡ Arithmetic.Lsh → value < 32 }
         requires right { arithmetic ≡ Arithmetic.Rsh → value < 32 }
-        ensures { (s : State) → StandFor self.old s
-            → StandFor self.new (sets Register.A s (value_computed arithmetic s.a value)) }
+        ensures { (s : State) (v : ℕ) → StandFor self.old s → v ≡ value
+            → StandFor self.new (sets Register.A s (value_computed arithmetic s.a v)) }
     {
         self.set(Register::A, compute(arithmetic, self.a, value));
     }
@@ -151,8 +151,8 @@ impl Registers {
     #[inline(always)]
     fn branch(&mut self, test: Test, value: u32, insn: &Insn)
         requires { self.old.place < bpf_maxinsns }
-        ensures { (s : State) → StandFor self.old s → StandFor self.new
-            (jumps_to s (s.place + 1 + (if holds test s.a value then insn.now.jt else insn.now.jf))) }
+        ensures { (s : State) (v : ℕ) → StandFor self.old s → v ≡ value → StandFor self.new
+            (jumps_to s (s.place + 1 + (if holds test s.a v then insn.now.jt else insn.now.jf))) }
     {
         if holds_of(test, self.a, value) {
             self.jump(insn.jt);
@@ -194,6 +194,21 @@ impl Registers {
         }
         None
     }
+
+    /// Executes the instruction at the place.
+    #[inline(always)]
+    fn advance(&mut self, program: &Program, words: &[u32; 16]) -> Option<Answer>
+        requires { (earlier : List State) × IsAt program.now words.now self.old earlier }
+        ensures filter { IsFilter program.now }
+        ensures follows { (earlier : List State) (at : IsAt program.now words.now self.old earlier)
+            → Follows program.now words.now at.state result self.new }
+    {
+        let insn = &program.list[self.place];
+        let Some(operation) = insn.operation() else {
+            unreachable!();
+        };
+        self.step(insn, operation, words)
+    }
 }
 
 /// Runs a filter over the record of a call: the answer and the length of its one run.
@@ -206,16 +221,12 @@ pub fn run(program: &Program, call: &CallRecord) -> Ran
     ensures safe { RunsSafely program.now (words_of call.now) }
 {
     let words = call.words();
-    let insns = &program.list;
     let mut registers = Registers::new();
     let mut steps = 0u32;
     loop {
-        let insn = &insns[registers.place];
+        let answered = registers.advance(program, &words);
         steps += 1;
-        let Some(operation) = insn.operation() else {
-            unreachable!();
-        };
-        if let Some(answer) = registers.step(insn, operation, &words) {
+        if let Some(answer) = answered {
             return Ran { answer, steps };
         }
     }
@@ -233,16 +244,12 @@ pub fn trace(alloc: Global, program: &Program, call: &CallRecord) -> Result<Trac
     ensures bound { IfOk result (λ t. length t.places.items ≤ length program.now) }
 {
     let words = call.words();
-    let insns = &program.list;
     let mut registers = Registers::new();
     let mut places = Vec::new(alloc);
     loop {
-        let insn = &insns[registers.place];
         places.push(registers.place)?;
-        let Some(operation) = insn.operation() else {
-            unreachable!();
-        };
-        if let Some(answer) = registers.step(insn, operation, &words) {
+        let answered = registers.advance(program, &words);
+        if let Some(answer) = answered {
             return Ok(Trace { answer, places });
         }
     }

@@ -1,12 +1,13 @@
-use Rattle.std.proofs.Common.{true, false, refl}
-use Rattle.scf_machine.proofs.Steps.{branches, holds_at}
+use Rattle.std.proofs.Common.{◌≡◌, true, false, sym, ◌∙◌}
+use Rattle.scf_machine.specs.Machine.{holds}
 use Rattle.scf_machine.proofs.machine.Registers.branch.Goals as goal
 
 pub returns-then-holds_of : goal.returns-then-holds_of
-returns-then-holds_of c = λ s stand. branches _ true c.args.insn.now s _
-    (holds_at c.args.test _ _ _ _ _ _ c.holds_of.ensures c.if-holds_of.true stand.a refl) (c.jump.ensures s stand)
+returns-then-holds_of c = λ s v stand e.
+    let is : holds c.args.test s.a v ≡ true = rw (stand.a, e) (sym c.holds_of.ensures ∙ c.if-holds_of.true) in
+    rw is (c.jump.ensures s stand)
 
 pub returns-else-holds_of : goal.returns-else-holds_of
-returns-else-holds_of c = λ s stand. branches _ false c.args.insn.now s _
-    (holds_at c.args.test _ _ _ _ _ _ c.holds_of.ensures c.if-holds_of.false stand.a refl)
-    (c.jump-else-holds_of.ensures s stand)
+returns-else-holds_of c = λ s v stand e.
+    let is : holds c.args.test s.a v ≡ false = rw (stand.a, e) (sym c.holds_of.ensures ∙ c.if-holds_of.false) in
+    rw is (c.jump-else-holds_of.ensures s stand)

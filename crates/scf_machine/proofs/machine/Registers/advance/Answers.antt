@@ -1,0 +1,41 @@
+use Rattle.std.proofs.Common.{length, sym, arith, rules, ◌∙◌}
+use Rattle.scf_machine.proofs.Loop.{at_inside, follows_at, read_here, always_known, wider}
+use Rattle.scf_machine.proofs.Runs.{fine_of}
+use Rattle.scf_machine.proofs.machine.Registers.advance.Goals as goal
+
+pub index-insn-requires : goal.index-insn-requires
+index-insn-requires c =
+    let at = rw (← c.program.view_is) at c.requires.1 in
+    let inside = at_inside c.program.inside.list.items _ _ _ c.program.invariant.valid at in search rules
+
+pub unreachable-requires : goal.unreachable-requires
+unreachable-requires c =
+    let at = rw (← c.program.view_is) at c.requires.1 in
+    let inside = at_inside c.program.inside.list.items _ _ _ c.program.invariant.valid at in
+    always_known c.program.inside.list.items c.args.self.now.place c.index-insn.result.now c.operation.result
+    (c.program.invariant.valid.each _ inside.0) (read_here _ _ _ inside.0 c.index-insn.ensures) c.operation.ensures
+    c.in_default.is
+
+pub step-requires-clause-place : goal.step-requires-clause-place
+step-requires-clause-place c =
+    let at = rw (← c.program.view_is) at c.requires.1 in
+    let inside = at_inside c.program.inside.list.items _ _ _ c.program.invariant.valid at in omega arith
+
+pub step-requires-clause-fine : goal.step-requires-clause-fine
+step-requires-clause-fine c =
+    let at = rw (← c.program.view_is) at c.requires.1 in
+    let inside = at_inside c.program.inside.list.items _ _ _ c.program.invariant.valid at in
+    wider (length c.program.inside.list.items) c.args.self.now.place c.index-insn.result.now c.in-Some.operation
+    inside.2 (fine_of c.program.inside.list.items c.args.self.now.place c.index-insn.result.now c.in-Some.operation
+    (c.program.invariant.valid.each _ inside.0)
+    (record { here = read_here _ _ _ inside.0 c.index-insn.ensures; known = sym c.operation.ensures ∙ c.in-Some.is }))
+
+pub returns-clause-filter : goal.returns-clause-filter
+returns-clause-filter c = rw (← c.program.view_is) c.program.invariant
+
+pub returns-clause-follows : goal.returns-clause-follows
+returns-clause-follows c = rw (← c.program.view_is) (λ earlier at.
+    let inside = at_inside c.program.inside.list.items _ _ _ c.program.invariant.valid at in
+    follows_at c.program.inside.list.items _ _ _ earlier _ _ _ c.program.invariant at
+    (record { here = read_here _ _ _ inside.0 c.index-insn.ensures; known = sym c.operation.ensures ∙ c.in-Some.is })
+    (c.step.ensures at.state at.stand))
