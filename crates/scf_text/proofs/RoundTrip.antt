@@ -9,29 +9,26 @@ use Rattle.std.proofs.Common.{◌≡◌, ℕ, Bool, true, false, ◌||◌, ◌&&
 use Rattle.std.proofs.Common.{◌+◌, ◌<◌, ◌≤◌, List, [], ◌∷◌, ◌++◌, length, map, ap, subst, ◌∙◌, append_assoc, arith}
 use Rattle.std.specs.Prelude.{if◌then◌else◌}
 use Rattle.std.specs.List.{list_any, flat_map, AllByRecursion, list_all, slice_split}
-use Rattle.std.specs.Str.{bytes_eq}
 use Rattle.std.proofs.lemmas.Bool.{cases_Bool, eqb-true, and_parts, and_from}
-use Rattle.std.proofs.lemmas.Slice.Eq.{bytes_eq-Decides}
 use Rattle.scf_insn.specs.Insn.{IsInsn}
-use Rattle.scf_insn.specs.Numbers.{number_of}
 use Rattle.scf_insn.specs.declared.insn.Insn.{Insn}
 use Rattle.scf_text.specs.declared.form.Mnemonic.{Mnemonic}
 use Rattle.scf_text.specs.declared.form.Shape.{Shape}
 use Rattle.scf_text.specs.declared.form.Field.TheVariants.{Code, Jt, Jf, K}
 use Rattle.scf_text.specs.declared.form.Form.{Form}
 use Rattle.scf_text.specs.Forms.{mnemonic_text, pieces_of, raw, form_of_code, names, is_named_or_zero, tells_all}
-use Rattle.scf_text.specs.Forms.{full_form, form_for}
-use Rattle.scf_text.specs.Drafts.{Number, Draft, draft_of, fill_by, blank}
+use Rattle.scf_text.specs.Forms.{full_form, form_for, forms, known_forms}
+use Rattle.scf_text.specs.Drafts.{Number, Draft, draft_of}
 use Rattle.scf_text.specs.Statements.{Places, Statement, place_of, is_semicolon, tokens_of_statements, statements_from}
 use Rattle.scf_text.specs.Statements.{label_in, instruction_in, labels_from, labels_of, drafts_in, drafts_of, IsRead}
 use Rattle.scf_text.specs.Spelling.{SaysInsn, SaysEach, Spells}
-use Rattle.scf_text.proofs.FormLemmas.{same_code, all_to_one, IsOnlyReading, one_reading}
+use Rattle.scf_text.proofs.FormLemmas.{same_code, all_to_one}
+use Rattle.scf_insn.specs.Codes.{code_table}
 use Rattle.std.proofs.lemmas.List.Elements.{All-from_recursion}
 use Rattle.std.proofs.lemmas.List.Splits.{slice_split_at, slice_split_none}
 use Rattle.scf_insn.specs.Kernel.{bpf_maxinsns}
 use Rattle.scf_text.specs.Tokens.{Lexeme, lines_of, before_comment, lexemes_from}
 use Rattle.scf_text.specs.Listing.{operands_text, line_of, text_of}
-use Rattle.scf_text.specs.declared.form.Shape.TheVariants as s
 
 -- what the listing of an instruction in this form says
 abbrev pub draft_in : Form → Insn → Draft
@@ -45,66 +42,49 @@ draft_in f i = record {
 abbrev form : ℕ → Mnemonic → Shape → Form
 form code mnemonic shape = record { code = code; mnemonic = mnemonic; shape = shape }
 
--- the operands as they are listed are read, whatever the mnemonic
-filled_back : (code : ℕ) (m : Mnemonic) (shape : Shape) (i : Insn) → IsInsn i
-    → fill_by number_of (pieces_of shape) (flat_map (piece_words i) (pieces_of shape))
-    (blank (form code m shape)) ≡ Some (draft_in (form code m shape) i)
-filled_back code m s.Nothing i h = refl
-filled_back code m s.Length i h = refl
-filled_back code m s.Accumulator i h = refl
-filled_back code m s.Index i h = refl
-filled_back code m s.Constant i h = rw (hexadecimal_is i.k h.k) refl
-filled_back code m s.Absolute i h = rw (decimal_is i.k h.k) refl
-filled_back code m s.Scratch i h = rw (decimal_is i.k h.k) refl
-filled_back code m s.Jump i h = rw (decimal_no_name i.k h.k, decimal_is i.k h.k) refl
-filled_back code m s.TestConstant i h =
-    rw (
+-- what the tokens of an instruction's listing in this form are read as
+abbrev read_back : Insn → Form → Option Draft
+read_back i f = draft_of (mnemonic_text f.mnemonic) (flat_map (piece_words i) (pieces_of f.shape))
+
+all_back : (i : Insn) → IsInsn i → map (read_back i) forms ≡ map (λ f. Some (draft_in f i)) forms
+unfolding draft_of known_forms code_table
+all_back i h =
+    let jt = field_small i Jt h in
+    let jf = field_small i Jf h in
+    simp (
       hexadecimal_is i.k h.k,
-      decimal_no_name i.jt (field_small i Jt h),
-      decimal_is i.jt (field_small i Jt h),
-      decimal_no_name i.jf (field_small i Jf h),
-      decimal_is i.jf (field_small i Jf h),
-    ) refl
-filled_back code m s.TestIndex i h =
-    rw (
-      decimal_no_name i.jt (field_small i Jt h),
-      decimal_is i.jt (field_small i Jt h),
-      decimal_no_name i.jf
-          (field_small i Jf h),
-      decimal_is i.jf (field_small i Jf h),
-    ) refl
-filled_back code m s.Raw i h =
-    rw (
+      decimal_is i.k h.k,
+      decimal_no_name i.k h.k,
+      decimal_is i.jt jt,
+      decimal_no_name i.jt jt,
+      decimal_is i.jf jf,
+      decimal_no_name i.jf jf,
       four_digits_is i.code h.code,
-      decimal_is i.jt (field_small i Jt h),
-      decimal_is i.jf (field_small i Jf h),
-      hexadecimal_is i.k h.k,
-    ) refl
+    )
 
-abbrev pub IsReadBack : Form → Type 0
-IsReadBack f = (i : Insn) → IsInsn i
-    → draft_of (mnemonic_text f.mnemonic) (flat_map (piece_words i) (pieces_of f.shape)) ≡ Some (draft_in f i)
+each_same : {A B : Type 0} (f g : A → B) (xs : List A) → map f xs ≡ map g xs → AllByRecursion (λ x. f x ≡ g x) xs
+each_same f g [] e = tt
+each_same f g (x ∷ xs) e =
+    let same : f x ∷ map f xs ≡ g x ∷ map g xs = e in
+    (cc, each_same f g xs cc)
 
-one_back : (f : Form) → IsOnlyReading f → IsReadBack f
-one_back f only i h =
-    let word : bytes_eq (mnemonic_text f.mnemonic) (mnemonic_text f.mnemonic) ≡ true =
-    (bytes_eq-Decides (mnemonic_text f.mnemonic) (mnemonic_text f.mnemonic)).1 refl in
-    only (mnemonic_text f.mnemonic) (flat_map (piece_words i) (pieces_of f.shape)) (draft_in f i)
-    (rw word (filled_back f.code f.mnemonic f.shape i h))
+abbrev pub IsReadBack : Insn → Form → Type 0
+IsReadBack i f = read_back i f ≡ Some (draft_in f i)
 
-full_only : (i : Insn) (o : Option Form) → ((f : Form) → o ≡ Some f → IsOnlyReading f) → IsOnlyReading (full_form i o)
-full_only i None known = one_reading.0
-full_only i (Some f) known =
+full_back : (i : Insn) (o : Option Form) → IsReadBack i raw → ((f : Form) → o ≡ Some f → IsReadBack i f)
+    → IsReadBack i (full_form i o)
+full_back i None first known = first
+full_back i (Some f) first known =
     elim (cases_Bool (tells_all i f)) [
       | inl all ↦ rw all (known f refl)
-      | inr other ↦ rw other one_reading.0
+      | inr other ↦ rw other first
     ]
 
-pub reads_back : (i : Insn) → IsReadBack (form_for i)
+pub reads_back : (i : Insn) → IsInsn i → IsReadBack i (form_for i)
 unfolding form_for
-reads_back i =
-    one_back (full_form i (form_of_code i.code))
-    (full_only i (form_of_code i.code) (all_to_one IsOnlyReading one_reading.1 i.code))
+reads_back i h =
+    let each = each_same (read_back i) (λ f. Some (draft_in f i)) forms (all_back i h) in
+    full_back i (form_of_code i.code) each.0 (all_to_one (IsReadBack i) each.1 i.code)
 
 named : (b : Bool) (v : ℕ) → (b || eqb v 0) ≡ true → v ≡ cond b v 0
 named true v h = refl
@@ -193,7 +173,7 @@ labels_are at n (i ∷ is) fits = rw (unlabeled i fits.0) (labels_are (at + 1) (
 are_read : (n : ℕ) (is : List Insn) → AllByRecursion IsInsn is
     → AllByRecursion (λ (s : Statement). IsRead (instruction_in s.tokens)) (listing n is)
 are_read n [] fits = (tt, tt)
-are_read n (i ∷ is) fits = (rw (unlabeled i fits.0, reads_back i i fits.0) refl, are_read (n + 1) is fits.1)
+are_read n (i ∷ is) fits = (rw (unlabeled i fits.0, reads_back i fits.0) refl, are_read (n + 1) is fits.1)
 
 drafts : ℕ → List Insn → List (ℕ × Draft)
 drafts n [] = []
@@ -203,7 +183,7 @@ drafts_are : (n : ℕ) (is : List Insn) → AllByRecursion IsInsn is → flat_ma
 unfolding drafts
 drafts_are n [] fits = refl
 drafts_are n (i ∷ is) fits =
-    rw (unlabeled i fits.0, reads_back i i fits.0)
+    rw (unlabeled i fits.0, reads_back i fits.0)
     (ap (λ (ds : List (ℕ × Draft)). (n, draft_in (form_for i) i) ∷ ds) (drafts_are (n + 1) is fits.1))
 
 says : (places : Places) (at n : ℕ) (is : List Insn) → SaysEach places at (drafts n is) is
