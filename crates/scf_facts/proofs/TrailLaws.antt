@@ -1,21 +1,24 @@
 -- What was known at a level, as more is learned and marks are opened and closed.
 use Rattle.std.proofs.Common.{◌≡◌, ◌^◌, ℕ, ◌≤◌, ◌<◌, ◌↔◌, List, [], ◌∷◌, ◌++◌, length, take, drop, refl, sym, ◌∙◌, ap}
-use Rattle.std.proofs.Common.{subst, arith, length-append, ◌-◌}
+use Rattle.std.proofs.Common.{subst, arith, length-append, ◌-◌, suc}
 use Rattle.std.specs.Prelude.{Bool, IsTrue, Some, slice_get, slice_set, slice_index, slice_index_or}
 use Rattle.std.specs.Prelude.{◌==◌}
 use Rattle.std.specs.List.{list_all}
-use Rattle.std.proofs.lemmas.List.{set-set, set-get_or, get_or-set_same, drop-append-le, take-append-drop}
-use Rattle.std.proofs.lemmas.List.{length-take-le}
+use Rattle.std.proofs.lemmas.List.{set-set, set-get_or, get_or-set_same, get_or_default, drop-append-le}
+use Rattle.std.proofs.lemmas.List.{length-take-le, take-append-drop}
 use Rattle.std.proofs.lemmas.List.Elements.{All-push, All-pop}
-use Rattle.std.proofs.Math.Seq.{drop-length, take-append_seam}
+use Rattle.std.proofs.Math.Seq.{drop-cons, drop-length, take-append_seam}
 use Rattle.scf_facts.specs.declared.atom.Atom.{Atom}
 use Rattle.scf_facts.specs.declared.atom_pair.AtomPair.{AtomPair}
 use Rattle.scf_facts.specs.declared.trail.Change.{Change}
 use Rattle.scf_facts.specs.declared.trail.Change.TheVariants.{OfWord, Refuted}
+use Rattle.scf_facts.specs.declared.trail.Former.{Former}
+use Rattle.scf_facts.specs.declared.trail.Former.TheVariants.{Same, Intervals, Known, Unrefuted}
 use Rattle.scf_facts.specs.declared.trail.WordChange.{WordChange}
 use Rattle.scf_facts.specs.Atoms.{answer_at, atom_answer, word_of}
 use Rattle.scf_facts.specs.internal.Counts.{count_at, AreRising}
 use Rattle.scf_facts.specs.internal.Trail.{facts_before, known_before, restored, known_at}
+use Rattle.scf_facts.specs.internal.Trail.{HasIntervals, KeepsIntervals}
 use Rattle.scf_facts.specs.internal.WordSets.{NumberFacts, AllowsNumber, AllowsWords, is_exact_set, no_facts}
 use Rattle.scf_facts.specs.internal.WordSets.{AllFacts, AllowsList, is_exact_known, known_of}
 use Rattle.scf_facts.specs.internal.AtomPairs.{NotBothTrue}
@@ -196,3 +199,87 @@ pub taken-before : (known : AllFacts) (trail rest : List Change) (change : Chang
 taken-before known trail rest change count e le =
     sym (restored-append known (drop count rest) (change ∷ []))
     ∙ ap (restored known) (sym (drop-append-le count rest (change ∷ []) le) ∙ ap (drop count) (sym e))
+
+-- ---- a change of intervals that isn't put on the trail
+
+-- intervals from before an earlier change bring back the same facts
+same-before : (older newer : Former) (old new : NumberFacts) → HasIntervals older → HasIntervals newer
+    → facts_before newer new ≡ old → facts_before older new ≡ facts_before older old
+same-before (Intervals is) (Intervals js) old new _ _ e =
+    let cut : NumberFacts → NumberFacts = λ facts. record facts { intervals = is } in ap cut e
+same-before Same newer old new p _ e = absurd p
+same-before (Known bits) newer old new p _ e = absurd p
+same-before Unrefuted newer old new p _ e = absurd p
+same-before (Intervals is) Same old new _ q e = absurd q
+same-before (Intervals is) (Known bits) old new _ q e = absurd q
+same-before (Intervals is) Unrefuted old new _ q e = absurd q
+
+-- so the change before brings back what was known
+before-kept : (sets : List NumberFacts) (pairs : List AtomPair) (kept : WordChange) (word : ℕ) (former : Former)
+    (old new : NumberFacts) → word < length sets → slice_index_or sets word old ≡ old
+    → facts_before former new ≡ old → kept.word ≡ word → HasIntervals kept.former → HasIntervals former
+    → known_before (OfWord kept) (known_of (slice_set sets word new) pairs)
+    ≡ known_before (OfWord kept) (known_of sets pairs)
+before-kept sets pairs kept word former old new within at before same older newer =
+    let put = λ (k : ℕ). known_of (slice_set (slice_set sets word new) k
+    (facts_before kept.former (slice_index_or (slice_set sets word new) k no_facts))) pairs in
+    let got = λ (k : ℕ). known_of (slice_set sets k
+    (facts_before kept.former (slice_index_or sets k no_facts))) pairs in
+    ap put same
+    ∙ ap (λ (s : List NumberFacts). known_of s pairs)
+    (set-set sets word new _
+    ∙ ap (slice_set sets word)
+    (ap (facts_before kept.former) (get_or-set_same sets word new no_facts within)
+    ∙ same-before kept.former former old new older newer before
+    ∙ ap (facts_before kept.former) (sym at ∙ get_or_default sets word old no_facts within)))
+    ∙ ap got (sym same)
+
+-- the last of the changes
+last-change : (trail : List Change) (change : Change)
+    → change ≡ slice_index_or trail (length trail - 1) change → 0 < length trail
+    → trail ≡ take (length trail - 1) trail ++ change ∷ []
+last-change trail change e lt =
+    let m = length trail - 1 in
+    let end : suc m ≡ length trail = omega arith in
+    sym (take-append-drop m trail)
+    ∙ ap (λ rest. take m trail ++ rest)
+    (drop-cons trail m change (omega arith)
+    ∙ ap (λ c. c ∷ drop (suc m) trail) (sym e)
+    ∙ ap (λ n. change ∷ drop n trail) end
+    ∙ ap (λ rest. change ∷ rest) (drop-length trail))
+
+-- no level before the one now is past the newest mark
+newest-last : (marks : List ℕ) (now count place : ℕ) → AreRising marks now → place < length marks
+    → count ≡ slice_index_or marks (length marks - 1) count → count_at marks now place ≤ count
+newest-last marks now count place rising lt e = omega (
+  arith,
+  rising place (length marks - 1) (omega arith),
+  get_or_default marks (length marks - 1) now count (omega arith),
+  e,
+)
+
+-- the open marks stay as they are, too
+pub at-kept : (sets : List NumberFacts) (pairs : List AtomPair) (trail room : List Change) (marks : List ℕ)
+    (count word : ℕ) (former : Former) (old new : NumberFacts)
+    → AreRising marks (length trail) → room ≡ trail → count ≡ slice_index_or marks (length marks - 1) count
+    → KeepsIntervals room count word → HasIntervals former
+    → word < length sets → slice_index_or sets word old ≡ old → facts_before former new ≡ old
+    → (place : ℕ) → place < length marks → IsSameKnown (known_at (known_of sets pairs) trail marks place)
+    (known_at (known_of (slice_set sets word new) pairs) room marks place)
+at-kept sets pairs trail room marks count word former old new rising same newest keeps has within at before place lt =
+    let after = known_of (slice_set sets word new) pairs in
+    let (kept, last, past, here, older) = subst (λ t. KeepsIntervals t count word) same keeps in
+    let rest = take (length trail - 1) trail in
+    let n = count_at marks (length trail) place in
+    let early : n ≤ length rest = omega (
+      arith,
+      newest-last marks (length trail) count place rising lt newest,
+      past,
+      length-take-le (length trail - 1) trail (omega arith),
+    ) in
+    let split = last-change trail (OfWord kept) last (omega (arith, past)) in
+    same-known _ _ (ap (λ t. known_at after t marks place) same
+    ∙ sym (taken-before after trail rest (OfWord kept) n split early)
+    ∙ ap (λ known. restored known (drop n rest))
+    (before-kept sets pairs kept word former old new within at before here older has)
+    ∙ taken-before (known_of sets pairs) trail rest (OfWord kept) n split early)

@@ -1,12 +1,21 @@
 //! How changes are taken back.
 
-ghost use Rattle.std.specs.Prelude.{◌≡◌, ◌≤◌, length, take, drop};
-ghost use Rattle.scf_facts.specs.internal.Trail.{known_before, restored};
+ghost use Rattle.std.specs.Prelude.{◌≡◌, ◌≤◌, IsTrue, length, take, drop};
+ghost use Rattle.scf_facts.specs.internal.Trail.{HasIntervals, KeepsIntervals, known_before, restored};
 ghost use Rattle.scf_facts.specs.internal.WordSets.{known_of};
 
 use crate::atom_pair::AtomPair;
-use crate::trail::Change;
+use crate::trail::{Change, Former};
 use crate::word_set::WordSet;
+
+impl Former {
+    /// Whether these are intervals.
+    fn has_intervals(&self) -> bool
+        ensures { IsTrue result → HasIntervals self.now }
+    {
+        matches!(self, Former::Intervals(_))
+    }
+}
 
 impl Change {
     /// Takes it back.
@@ -41,4 +50,27 @@ pub(crate) fn take_back(
             change.take_back(sets, pairs);
         }
     }
+}
+
+/// Whether the last change past a count of them is one of the word's intervals. Taken back, it brings back what they
+/// were before those that follow, so one of them that follows at once need not be kept.
+fn keeps_intervals(trail: &[Change], count: usize, word: u8) -> bool
+    ensures { IsTrue result → KeepsIntervals trail.now count word }
+{
+    if trail.len() <= count {
+        return false;
+    }
+    match &trail[trail.len() - 1] {
+        Change::OfWord(last) => last.word == word && last.former.has_intervals(),
+        Change::Refuted => false,
+    }
+}
+
+/// Whether a change need not be put on the trail: the one before it, past a count of them, is of the same word, and
+/// both are of intervals.
+pub(crate) fn is_kept(trail: &[Change], count: usize, word: u8, former: &Former) -> bool
+    ensures kept { IsTrue result → KeepsIntervals trail.now count word }
+    ensures intervals { IsTrue result → HasIntervals former.now }
+{
+    former.has_intervals() && keeps_intervals(trail, count, word)
 }

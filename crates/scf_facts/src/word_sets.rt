@@ -10,7 +10,7 @@ use crate::atom_pair::AtomPair;
 use crate::by_pair::{all_agree, has_told_pair, part_pairs, tell_by_pairs};
 use crate::by_word::{has_empty_word, pick_by_word, tell_by_word};
 use crate::trail::{Change, WordChange};
-use crate::undo::take_back;
+use crate::undo::{is_kept, take_back};
 use crate::word_facts::WordFacts;
 use crate::word_set::WordSet;
 use scf_insn::Memory;
@@ -27,7 +27,8 @@ use std::alloc::Global;
 /// number of one of its words is tried.
 ///
 /// Where a mark is open, a trail has what was changed, in order, and a mark how long it was then. What learns makes
-/// room in it first, so that nothing has changed where memory is refused.
+/// room in it first, so that nothing has changed where memory is refused. Of changes of one word's intervals in a row
+/// it has the first alone, which brings back what they were before all of them.
 #[derive(Drop)]
 pub struct WordSets {
     alloc: Global,
@@ -73,6 +74,10 @@ impl WordFacts for WordSets {
         }
         self.trail.reserve(1)?;
         let former = self.sets[word as usize].learn(self.alloc, atom, holds)?;
+        let newest = self.marks[self.marks.len() - 1];
+        if is_kept(&self.trail, newest, word, &former) {
+            return Ok(());
+        }
         let change = Change::OfWord(WordChange { word, former });
         self.trail.push(change)?;
         Ok(())
