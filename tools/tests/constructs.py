@@ -299,6 +299,15 @@ def by_no_bit_of_both(dice, low):
     return Asked("SCMP_CMP_EQ", 0, code=[(LD, words[0]), (TAX, 0), (LD, words[1]), (OR | X, 0), is_equal(0)])
 
 
+def by_joined_words_under_masks(dice, low):
+    high_mask, low_mask = some_mask(dice), some_mask(dice)
+    high, value = value_in(dice, high_mask), value_in(dice, low_mask)
+    return Asked("SCMP_CMP_MASKED_EQ", high_mask << 32 | low_mask, high << 32 | value,
+                 [(LD, low + 4), (AND, high_mask), (XOR, high), (TAX, 0), (LD, low), (AND, low_mask), (XOR, value),
+                  (OR | X, 0), *dice.choice(([is_equal(0)], [(JSET, WORD, "no", "yes")], [(JGT, 0, "no", "yes")],
+                                             [(JGE, 1, "no", "yes")]))])
+
+
 # What stands for each construct, and whether scf decides all such pairs.
 CONSTRUCTS = {
     "a mask": (by_mask, True), "a mask in X": (by_mask_in_x, True), "the word in X": (by_word_in_x, True),
@@ -315,7 +324,8 @@ CONSTRUCTS = {
     "an order of a complement": (by_order_of_complement, True),
     "an order of a high complement": (by_order_of_high_complement, True),
     "masks joined": (by_joined_masks, True), "two halves joined": (by_joined_halves, True),
-    "both words joined": (by_joined_words, False), "no bit of both words": (by_no_bit_of_both, False),
+    "both words joined": (by_joined_words, True), "no bit of both words": (by_no_bit_of_both, True),
+    "both words joined under masks": (by_joined_words_under_masks, False),
 }
 
 
@@ -376,6 +386,8 @@ def corners(pair, dice):
     lows |= {(pair.asked.two ^ (1 << bit)) & WORD for bit in range(32)}
     high = pair.asked.value >> 32
     highs = {0, 1, WORD, high, high ^ 1}
+    if pair.asked.two >> 32 or pair.asked.op == "SCMP_CMP_MASKED_EQ" and high:
+        highs |= {pair.asked.two >> 32} | {pair.asked.two >> 32 ^ 1 << bit for bit in range(32)}
     return [h << 32 | low for low in sorted(lows) for h in sorted(highs)]
 
 
