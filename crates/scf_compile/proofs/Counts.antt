@@ -152,7 +152,8 @@ module _ (p : Profile) (valid : IsProfile p) (sorted : List Rule) (numbers : Lis
   few_rules [] = omega arith
   few_rules (r ∷ rs) =
       let others : ℕ → Bool = λ number. not (eqb number r.number) in
-      omega (arith, length-filter_both others (λ number. not (others number)) (λ number. refl) (numbers_of rs), few_rules rs)
+      let fewer = length-filter_both others (λ number. not (others number)) (λ number. refl) (numbers_of rs) in
+      omega (arith, few_rules rs)
 
   -- The search of the stretches serves the profile.
   pub serves : Serve p ss

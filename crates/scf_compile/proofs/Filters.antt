@@ -22,7 +22,7 @@ use Rattle.scf_compile.specs.declared.stretches.Stretch.{Stretch}
 use Rattle.scf_compile.specs.SearchBound.{search_bound_of}
 use Rattle.scf_compile.specs.SizeBound.{rule_bound, size_bound_of}
 use Rattle.scf_compile.specs.internal.Insns.{jump_if, load_word, return_with}
-use Rattle.scf_compile.specs.internal.Placing.{branch_code, IsFirst, IsPut}
+use Rattle.scf_compile.specs.internal.Placing.{branch_code, code_from, IsFirst, IsPut}
 use Rattle.scf_compile.specs.internal.Filters.{first_answer, ArePut, IsSearchPut, AnswersCall, IsFilterOf}
 use Rattle.scf_compile.specs.internal.Runs.{EndsWithin}
 use Rattle.scf_compile.specs.internal.Sound.{AreSound}
@@ -60,6 +60,10 @@ kill = seccomp_ret_kill_process
 pub kill_put : {before after : List Insn} {place : Place} → IsPut (return_with kill ∷ []) before after place
     → ArePut [] 1 before after place
 kill_put put = answers_put [] (return_answers kill 1 (Unit {0}) (omega arith)) (λ _. tt) put
+
+kill_there : {before after : List Insn} {place : Place} → IsPut (return_with kill ∷ []) before after place
+    → (call : CallRecord) → IsRecord call → (a : ℕ) → EndsWithin (words_of call) (code_from place after) a kill 1
+kill_there put = answers_there (return_answers kill 1 (Unit {0}) (omega arith)) put
 
 module _ {p : Profile} {ss : List Stretch} {searched killed ranged loaded : List Insn} {search x32 range : Place}
     (serve : Serve p ss) (found : IsSearchPut p.default_answer ss [] searched search)
@@ -122,7 +126,8 @@ module _ {p : Profile} {ss : List Stretch} {searched killed ranged loaded : List
           load_sound 1 (omega arith) (omega arith),
           (
             jump_sound Equal audit_arch_x86_64 to_native to_other native_stands (omega arith) (λ _. tt),
-            beside_put.sound asked (λ _. tt) (rw load (load_sound 0 (omega arith) (omega (arith, len.2)), ranged_sound)),
+            beside_put.sound asked (λ _. tt)
+                (rw load (load_sound 0 (omega arith) (omega (arith, len.2)), ranged_sound)),
           ),
         )
 
@@ -135,11 +140,10 @@ module _ {p : Profile} {ss : List Stretch} {searched killed ranged loaded : List
       arch_ends answer own foreigner =
           let quick = serve.quick call.nr in
           rw is_tested (more (loads 1 0 (omega arith) refl (jumps
-          {most = 4 + (2 * serve.halvings + sum_by rule_bound (rules_of call.nr p.rules))} Equal audit_arch_x86_64 to_native
-          to_other call.arch
+          {most = 4 + (2 * serve.halvings + sum_by rule_bound (rules_of call.nr p.rules))} Equal audit_arch_x86_64
+          to_native to_other call.arch
           (λ e. rw (stays native beside_put (omega arith) ∙ from_first loaded native here) (own e))
-          (λ e. rw (foreigner e) (more (answers_there (return_answers kill 1 (Unit {0}) (omega arith)) beside call fits call.arch)
-          (omega arith))))) (omega arith))
+          (λ e. rw (foreigner e) (more (kill_there beside call fits call.arch) (omega arith))))) (omega arith))
 
       -- by the number
       range_ends : (answer : ℕ) → (x32_syscall_bit ≤ call.nr → answer ≡ kill)
@@ -152,12 +156,13 @@ module _ {p : Profile} {ss : List Stretch} {searched killed ranged loaded : List
           (branch_ends {most = 2 * serve.halvings + (1 + sum_by rule_bound (rules_of call.nr p.rules))} GreaterOrEqual
           x32_syscall_bit (length killed - x32.0) (length killed - search.0) call.nr killed
           (λ e. rw (high (grind (arith, nat_tests, e)))
-          (more (answers_there (return_answers kill 1 (Unit {0}) (omega arith)) above call fits call.nr) (omega arith)))
+          (more (kill_there above call fits call.nr) (omega arith)))
           (λ e. let below : call.nr < x32_syscall_bit = grind (arith, nat_tests, e) in
           let stands = found.put.near.stands in
           let bound = (stand_alike p.default_answer call _ _ (serve.stand call.nr below)).1 in
           rw (stays search above_put stands, low below)
-          (more (found.ends call serve.halvings fits serve.rising (omega (arith, serve.whole)) serve.few) (omega arith)))))
+          (more (found.ends call serve.halvings fits serve.rising (omega (arith, serve.whole)) serve.few)
+          (omega arith)))))
           (omega arith))
 
       answered_of : (own below : Bool) → eqb call.arch audit_arch_x86_64 ≡ own → ltb call.nr x32_syscall_bit ≡ below
@@ -169,7 +174,8 @@ module _ {p : Profile} {ss : List Stretch} {searched killed ranged loaded : List
       }
       answered_of true false own above = record {
         answer = kill;
-        of_words = arch_ends kill (λ _. range_ends kill (λ _. refl) (λ lt. absurd (grind (arith, nat_tests, above, lt))))
+        of_words = arch_ends kill
+            (λ _. range_ends kill (λ _. refl) (λ lt. absurd (grind (arith, nat_tests, above, lt))))
             (λ other. absurd (cc));
         of_profile = foreign (λ native. let lt : call.nr < x32_syscall_bit = native.nr in
             absurd (grind (arith, nat_tests, above, lt)));
@@ -179,7 +185,8 @@ module _ {p : Profile} {ss : List Stretch} {searched killed ranged loaded : List
           let same = (stand_alike p.default_answer call _ _ (serve.stand call.nr below)).0 in
           record {
             answer = first_answer call p.default_answer (rules_of call.nr p.rules);
-            of_words = arch_ends _ (λ _. range_ends _ (λ le. absurd (omega arith)) (λ _. sym same)) (λ other. absurd (cc));
+            of_words =
+                arch_ends _ (λ _. range_ends _ (λ le. absurd (omega arith)) (λ _. sym same)) (λ other. absurd (cc));
             of_profile = first_met p.default_answer call p.rules (record { arch = eqb-true _ _ own; nr = below });
           }
 
@@ -190,5 +197,6 @@ module _ {p : Profile} {ss : List Stretch} {searched killed ranged loaded : List
       small = let small = serve.small in let fits = found.small in
           omega (arith, ap (λ (l : List Insn). length l) is_tested, (longer beside_put).1, len.0, len.1);
       sound = filter_sound;
-      answered = λ call fits. answered_of call fits (eqb call.arch audit_arch_x86_64) (ltb call.nr x32_syscall_bit) refl refl;
+      answered = λ call fits.
+          answered_of call fits (eqb call.arch audit_arch_x86_64) (ltb call.nr x32_syscall_bit) refl refl;
     }

@@ -125,8 +125,9 @@ module _ (wanted : ℕ → List Rule) (default : Answer) (before : List Stretch)
   begun : (s : Stretch) → s.first ≡ next → s.rules.now ≡ rules → Covers wanted default (before ++ s ∷ []) limit
   begun s first is = record {
     rising = IsNonDecreasingBy-push (λ (t : Stretch). t.first) before s covers.rising
-        (λ d some. let last = All-from_recursion (λ t. t.first < next) before covers.below (length before - 1) d (omega arith)
-        in omega arith);
+        (λ d some.
+        let last = All-from_recursion (λ t. t.first < next) before covers.below (length before - 1) d (omega arith) in
+        omega arith);
     below = all_append (λ t. t.first < limit) before (s ∷ []) (still_below before covers.below) (omega arith, tt);
     whole = λ _. (omega (arith, length-append before (s ∷ [])), whole_push before s first covers.below covers.whole);
     serve = λ nr within. elim (cases_lt nr next) [
@@ -146,7 +147,8 @@ module _ (wanted : ℕ → List Rule) (default : Answer) (before : List Stretch)
         serve = λ nr within. elim (cases_lt nr next) [
           | inl lower ↦ covers.serve nr lower
           | inr past ↦ rw (is, on_last [] earlier last nr (omega arith))
-              (stands_through default (rules_at last.rules.now) (rules_at rules) (wanted nr) alike (stand nr past within))
+              (stands_through default (rules_at last.rules.now) (rules_at rules) (wanted nr) alike
+              (stand nr past within))
         ];
       }
 
@@ -156,34 +158,23 @@ module _ (wanted : ℕ → List Rule) (default : Answer) (before : List Stretch)
   covers_more after (goes_on earlier last is alike same) =
       subst (λ (l : List Stretch). Covers wanted default l limit) (sym same) (gone_on earlier last is alike)
 
-module _ (before after : List Stretch) (first : ℕ) (rules : List (Bor Rule)) where
-  put_own : (P : Rule → Type 0) → IsPut before first rules after → AllByRecursion P (rules_along before)
-      → AllByRecursion P (rules_at rules) → AllByRecursion P (rules_along after)
-  put_own P (begins s f is put) h k =
-      let own = subst (λ (l : List (Bor Rule)). AllByRecursion P (rules_at l)) (sym is) k in
-      subst (λ (l : List Rule). AllByRecursion P l) (sym (ap rules_along put ∙ along-append before (s ∷ [])))
-      (all_append P (rules_along before) (rules_at s.rules.now ++ []) h
-      (subst (λ (l : List Rule). AllByRecursion P l) (sym (append-nil (rules_at s.rules.now))) own))
-  put_own P (goes_on earlier last is alike same) h k =
-      subst (λ (l : List Stretch). AllByRecursion P (rules_along l)) (sym same) h
+put_own : {before after : List Stretch} {first : ℕ} {rules : List (Bor Rule)} (P : Rule → Type 0)
+    → IsPut before first rules after → AllByRecursion P (rules_along before) → AllByRecursion P (rules_at rules)
+    → AllByRecursion P (rules_along after)
+put_own {before} P (begins s f is put) h k =
+    rw (put, along-append before (s ∷ []), append-nil (rules_at s.rules.now))
+    (all_append P (rules_along before) (rules_at s.rules.now) h (rw is k))
+put_own P (goes_on earlier last is alike same) h k = rw same h
 
-  put_len : IsPut before first rules after → length after ≤ length before + 1
-  put_len (begins s f is put) = omega (arith, ap (λ (l : List Stretch). length l) put, length-append before (s ∷ []))
-  put_len (goes_on earlier last is alike same) = omega (arith, ap (λ (l : List Stretch). length l) same)
-
-  put_bound : IsPut before first rules after
-      → sum_by stretch_bound after ≤ sum_by stretch_bound before + rules_bound (rules_at rules)
-  put_bound (begins s f is put) =
-      let own : stretch_bound s ≡ rules_bound (rules_at rules) =
-      ap (λ (l : List (Bor Rule)). rules_bound (rules_at l)) is in
-      omega (
-        arith,
-        ap (sum_by stretch_bound) put,
-        sum_by-append stretch_bound before (s ∷ []),
-        sum_by-cons stretch_bound s [],
-        own,
-      )
-  put_bound (goes_on earlier last is alike same) = omega (arith, ap (sum_by stretch_bound) same)
+put_few : {before after : List Stretch} {first : ℕ} {rules : List (Bor Rule)} → IsPut before first rules after
+    → (length after ≤ length before + 1)
+    × (sum_by stretch_bound after ≤ sum_by stretch_bound before + rules_bound (rules_at rules))
+put_few {before} {rules = rules} (begins s f is put) =
+    let one = sum_by-append stretch_bound before (s ∷ []) in
+    let own : stretch_bound s ≡ rules_bound (rules_at rules) =
+    ap (λ (l : List (Bor Rule)). rules_bound (rules_at l)) is in
+    rw put (omega (arith, length-append before (s ∷ [])), omega (arith, sum_by-cons stretch_bound s []))
+put_few (goes_on earlier last is alike same) = rw same (omega arith, omega arith)
 
 -- the last of the stretches is the one that goes on
 pub goes_on_last : (before : List Stretch) (first : ℕ) (last : Stretch) (rules : List (Bor Rule)) → 0 < length before
@@ -267,10 +258,10 @@ laid_gap default numbers before after next limit rest laid put lt rising = recor
       (sym (laid.left nr from ∙ none_below rest limit x32_syscall_bit nr rising below)) tt)) after put;
   rising = rising;
   left = λ nr le. laid.left nr (omega arith);
-  own = put_own before after next [] (Contains (rules_in numbers)) put laid.own tt;
+  own = put_own (Contains (rules_in numbers)) put laid.own tt;
   own_left = laid.own_left;
-  few = let few = laid.few in omega (arith, put_len before after next [] put);
-  small = let small = laid.small in omega (arith, put_bound before after next [] put);
+  few = let few = laid.few in omega (arith, (put_few put).0);
+  small = let small = laid.small in omega (arith, (put_few put).1);
 }
 
 -- the stretch of a number, or one more number of the last stretch
@@ -291,17 +282,17 @@ laid_own default numbers before after n rest more telling laid one tells put = r
       (telling_stands default telling n.rules.now tells))) after put;
   rising = laid.rising.2;
   left = λ nr le. laid.left nr (omega arith) ∙ rules_later n rest nr (λ e. omega arith) laid.rising.1.own;
-  own = put_own before after n.number telling (Contains (rules_in numbers)) put laid.own
+  own = put_own (Contains (rules_in numbers)) put laid.own
       (telling_own (Contains (rules_in numbers)) default telling n.rules.now tells
       (all_front (Contains (rules_in numbers)) (rules_at n.rules.now) (rules_in rest) laid.own_left));
   own_left = all_back (Contains (rules_in numbers)) (rules_at n.rules.now) (rules_in rest) laid.own_left;
-  few = let few = laid.few in omega (arith, put_len before after n.number telling put);
+  few = let few = laid.few in omega (arith, (put_few put).0);
   small =
       let small = laid.small in
       let some = laid.rising.1.some in
       omega (
         arith,
-        put_bound before after n.number telling put,
+        (put_few put).1,
         telling_bound default telling n.rules.now some tells,
         sum_by-append rule_bound (rules_at n.rules.now) (rules_in rest),
       );

@@ -66,7 +66,7 @@ module _ (default : Answer) (call : CallRecord) where
   of_alike (r ∷ rs) (s ∷ ss) h =
       let rest = of_alike rs ss h.2 in (
         rw (h.0, h.1, rest.0) refl,
-        omega (arith, sum_by-cons rule_bound r rs, sum_by-cons rule_bound s ss, ap (λ (l : List Condition). length l) h.0, rest.1),
+        rw (sum_by-cons rule_bound r rs, sum_by-cons rule_bound s ss, h.0, rest.1) refl,
       )
 
   -- Rules that stand for others answer as they do, and have no greater bound.

@@ -104,7 +104,8 @@ rules_answer default (r ∷ rs) fine =
 pub rules_in_bound : (default : Answer) (rs : List Rule) → AllByRecursion IsRule rs
     → length (rules_code default rs) + 2 ≤ rules_bound rs
 rules_in_bound default [] fine = omega arith
-rules_in_bound default (r ∷ rs) fine = rw (sum_by-cons rule_bound r rs) (by_conditions r.conditions fine.0.conditions.each)
+rules_in_bound default (r ∷ rs) fine =
+    rw (sum_by-cons rule_bound r rs) (by_conditions r.conditions fine.0.conditions.each)
   where
     by_conditions : (cs : List Condition) → AllByRecursion IsCondition cs
         → length ((conditions_code cs ++ return_with r.answer.0 ∷ []) ++ behind_rule cs (rules_code default rs)) + 2
@@ -176,7 +177,8 @@ first_near code place is = record { stands = omega arith; near = omega arith }
 
 -- code that answers is put before some code, or stands there
 pub answers_put : {block before after : List Insn} {place : Place} {most : ℕ} {p : Type 0} {f : CallRecord → ℕ}
-    (rules : List Rule) → Answers block most p f → (AllByRecursion IsPlainRule rules → p) → IsPut block before after place
+    (rules : List Rule) → Answers block most p f → (AllByRecursion IsPlainRule rules → p)
+    → IsPut block before after place
     → ArePut rules (length block) before after place
 answers_put {block} {before} {after} {place} rules is plain put = by_put put.put
   where

@@ -85,8 +85,10 @@ module _ {words : List ℕ} {behind : List Insn} {answer most : ℕ} where
     where
       by_test : (met : Bool) → holds test a constant ≡ met
           → EndsWithin words (jump_if test constant hit miss ∷ behind) a answer (suc most)
-      by_test true e = goes_on (jump_if test constant hit miss) hit a a (rw (asks_for (JumpIf test Constant), e) refl) (over e)
-      by_test false e = goes_on (jump_if test constant hit miss) miss a a (rw (asks_for (JumpIf test Constant), e) refl) (under e)
+      by_test true e =
+          goes_on (jump_if test constant hit miss) hit a a (rw (asks_for (JumpIf test Constant), e) refl) (over e)
+      by_test false e =
+          goes_on (jump_if test constant hit miss) miss a a (rw (asks_for (JumpIf test Constant), e) refl) (under e)
 
 pub answers : {words : List ℕ} {behind : List Insn} {most : ℕ} (answer a : ℕ)
     → EndsWithin words (return_with answer ∷ behind) a answer (suc most)
@@ -98,7 +100,8 @@ answers answer a = record {
 
 -- what stands behind a piece that is passed
 pub past : {words : List ℕ} {answer most : ℕ} (front rest : List Insn) (count a : ℕ)
-    → EndsWithin words (drop count rest) a answer most → EndsWithin words (drop (length front + count) (front ++ rest)) a answer most
+    → EndsWithin words (drop count rest) a answer most
+    → EndsWithin words (drop (length front + count) (front ++ rest)) a answer most
 past front rest count a e = rw (drop-append-add front rest count) e
 
 -- ---- each of them is sound

@@ -183,7 +183,8 @@ module _ (default : Answer) (ss low high : List Stretch) (k number : ℕ) (front
       let nr = call.nr in
       let len = ap (λ (l : List Stretch). length l) whole ∙ length-append low high in
       let begins = ap first_of whole ∙ first_front low high some in
-      more (branch_ends {most = 2 * n + (1 + sum_by rule_bound (rules_on [] ss nr))} GreaterOrEqual number hit miss nr both
+      more (branch_ends {most = 2 * n + (1 + sum_by rule_bound (rules_on [] ss nr))} GreaterOrEqual number hit miss nr
+      both
       (λ e. let past : number ≤ nr = grind (arith, nat_tests, e) in
       rw (in_high nr past) (over n (omega (arith, named)) (omega arith)))
       (λ e. let below : nr < number = grind (arith, nat_tests, e) in
@@ -222,7 +223,8 @@ one_is (t ∷ []) s some one is = ap (λ (u : Stretch). u ∷ []) (sym is)
 one_is (t ∷ u ∷ ss) s some one is = absurd (omega arith)
 
 pub search_one : (default : Answer) (ss : List Stretch) (s : Stretch) (before after : List Insn) (place : Place)
-    → ss ≡ s ∷ [] → AllByRecursion IsRule (rules_along ss) → IsPut (rules_code default (rules_at s.rules.now)) before after place
+    → ss ≡ s ∷ [] → AllByRecursion IsRule (rules_along ss)
+    → IsPut (rules_code default (rules_at s.rules.now)) before after place
     → IsSearchPut default ss before after place
 search_one default ss s before after place is fine put =
     let rs = rules_at s.rules.now in
@@ -230,7 +232,8 @@ search_one default ss s before after place is fine put =
     let code = rules_answer default rs own in
     record {
       room = length (rules_code default rs);
-      small = omega (arith, rules_in_bound default rs own, ap (sum_by stretch_bound) is, sum_by-cons stretch_bound s []);
+      small =
+          omega (arith, rules_in_bound default rs own, ap (sum_by stretch_bound) is, sum_by-cons stretch_bound s []);
       put = answers_put (rules_along ss) code (of_one IsPlainRule ss s is) put;
       ends = λ call n fits rising le few.
           let here : s.first ≤ call.nr = omega (arith, ap first_of is) in

@@ -1,5 +1,6 @@
 -- The code of a condition: how long it is, that it is sound, and how it goes on.
-use Rattle.std.proofs.Common.{◌≡◌, ℕ, ◌+◌, ◌*◌, ◌<◌, ◌≤◌, ◌^◌, Bool, true, false, cond, eqb, ltb, leb, not, List, [], ◌∷◌}
+use Rattle.std.proofs.Common.{◌≡◌, ℕ, ◌+◌, ◌*◌, ◌<◌, ◌≤◌, ◌^◌, Bool, true, false, cond, eqb, ltb, leb, not, List, []}
+use Rattle.std.proofs.Common.{◌∷◌}
 use Rattle.std.proofs.Common.{◌++◌, drop, length, refl, sym, ap, ◌∙◌, arith, append_assoc, bit_and, length-append}
 use Rattle.std.specs.Prelude.{slice_index, IsTrue}
 use Rattle.std.specs.List.{AllByRecursion}
@@ -58,7 +59,8 @@ tests_as most n q g t le plain same = record {
   len = let len = t.len in omega arith;
   sound = λ asked rest is. t.sound asked rest (λ h. plain (is h));
   ends = λ call fits rest answer left a over under.
-      more (t.ends call fits rest answer left a (λ e. over (sym (same call fits) ∙ e)) (λ e. under (sym (same call fits) ∙ e)))
+      let is = same call fits in
+      more (t.ends call fits rest answer left a (λ e. over (sym is ∙ e)) (λ e. under (sym is ∙ e)))
       (omega arith);
 }
 
@@ -69,7 +71,8 @@ opposite g t is = record {
   len = t.len;
   sound = λ asked rest plain h m. t.sound asked rest plain m h;
   ends = λ call fits rest answer left a over under.
-      t.ends call fits rest answer left a (λ e. under (sym (is call) ∙ ap not e)) (λ e. over (sym (is call) ∙ ap not e));
+      t.ends call fits rest answer left a (λ e. under (sym (is call) ∙ ap not e))
+      (λ e. over (sym (is call) ∙ ap not e));
 }
 
 -- two tests: where both are met the code goes on `hit` instructions behind them, else `miss`
@@ -93,10 +96,12 @@ both {first} {second} {hit} {miss} {m} {n} {p} {q} {f} {g} s t = record {
 word_tests : (word : ℕ) (n : CallRecord → ℕ) (test : Test) (constant hit miss : ℕ) → word < 16
     → ((call : CallRecord) → slice_index (words_of call) word ≡ n call)
     → Tests (word_code test word constant hit miss) hit miss 2
-    (IsPlainOperation (JumpIf test Constant) (jump_if test constant hit miss)) (λ call. test_holds test (n call) constant)
+    (IsPlainOperation (JumpIf test Constant) (jump_if test constant hit miss))
+    (λ call. test_holds test (n call) constant)
 word_tests word n test constant hit miss lt is = record {
   len = omega arith;
-  sound = λ asked rest plain h m s. (load_sound word lt (omega arith), (jump_sound test constant hit miss h m plain, s));
+  sound = λ asked rest plain h m s.
+      (load_sound word lt (omega arith), (jump_sound test constant hit miss h m plain, s));
   ends = λ call fits rest answer left a over under.
       more (loads word a lt (is call) (jumps test constant hit miss (n call) (λ e. over e (n call))
       (λ e. under e (n call)))) (omega arith);
@@ -172,21 +177,26 @@ module _ (index : ℕ) (lt : index < 6) where
   high_tests test constant hit miss = word_tests (word + 1) (λ call. high (n call)) test constant hit miss (omega arith)
       (λ call. argument_high call index)
 
-  equal_tests : (value hit miss : ℕ)
-      → Tests (equal_code word value hit miss) hit miss 6 (Unit {0}) (λ call. eqb (n call) value)
+  equal_tests : (q : Type 0) (value hit miss : ℕ)
+      → Tests (equal_code word value hit miss) hit miss 6 q (λ call. eqb (n call) value)
   unfolding equal_code
-  equal_tests value hit miss =
-      tests_as 4 6 (Unit {0}) (λ call. eqb (n call) value)
+  equal_tests q value hit miss =
+      tests_as 4 6 q (λ call. eqb (n call) value)
       (both (high_tests SameWord (high value) 0 (2 + miss)) (low_tests SameWord (low value) hit miss)) (omega arith)
       (λ _. (tt, tt)) (λ call h. sym (eqb_split (n call) value))
 
-  order_tests : (test : Test) (value hit miss : ℕ) (met : CallRecord → Bool)
+  -- the number is above the value, by its words
+  abbrev by_words : Test → ℕ → CallRecord → Bool
+  by_words test value call =
+      cond (ltb (high value) (high (n call))) true
+      (cond (eqb (high (n call)) (high value)) (test_holds test (low (n call)) (low value)) false)
+
+  order_tests : (q : Type 0) (test : Test) (value hit miss : ℕ) (met : CallRecord → Bool)
       → IsPlainOperation (JumpIf test Constant) (jump_if test (low value) hit miss)
-      → ((call : CallRecord) → cond (ltb (high value) (high (n call))) true
-      (cond (eqb (high (n call)) (high value)) (test_holds test (low (n call)) (low value)) false) ≡ met call)
-      → Tests (order_code test word value hit miss) hit miss 6 (Unit {0}) met
+      → ((call : CallRecord) → by_words test value call ≡ met call)
+      → Tests (order_code test word value hit miss) hit miss 6 q met
   unfolding order_code
-  order_tests test value hit miss met plain said = record {
+  order_tests q test value hit miss met plain said = record {
     len = omega arith;
     sound = λ asked rest _ h m s. (
       load_sound (word + 1) (omega arith) (omega arith),
@@ -200,27 +210,26 @@ module _ (index : ℕ) (lt : index < 6) where
     );
     ends = λ call fits rest answer left a over under.
         let last = word_code test word (low value) hit miss in
-        let met_of : (b : Bool) → cond (ltb (high value) (high (n call))) true
-        (cond (eqb (high (n call)) (high value)) (test_holds test (low (n call)) (low value)) false) ≡ b → met call ≡ b =
-        λ b e. sym (said call) ∙ e in
+        let front = jump_if SameWord (high value) 0 (2 + miss) ∷ last in
+        let met_of : (b : Bool) → by_words test value call ≡ b → met call ≡ b = λ b e. sym (said call) ∙ e in
         more (loads (word + 1) a (omega arith) (argument_high call index)
         (jumps Above (high value) (3 + hit) 0 (high (n call))
-        (λ x. more (past (jump_if SameWord (high value) 0 (2 + miss) ∷ last) rest hit _ (over (met_of true (rw x refl)) _)) (omega arith))
+        (λ x. more (past front rest hit _ (over (met_of true (rw x refl)) _)) (omega arith))
         (λ x. jumps SameWord (high value) 0 (2 + miss) (high (n call))
         (λ y. (low_tests test (low value) hit miss).ends call fits rest answer left _
         (λ z. over (met_of true (rw (x, y, z) refl))) (λ z. under (met_of false (rw (x, y, z) refl))))
         (λ y. more (past last rest miss _ (under (met_of false (rw (x, y) refl)) _)) (omega arith))))) (omega arith);
   }
 
-  above_tests : (value hit miss : ℕ)
-      → Tests (order_code Above word value hit miss) hit miss 6 (Unit {0}) (λ call. ltb value (n call))
-  above_tests value hit miss =
-      order_tests Above value hit miss (λ call. ltb value (n call)) tt (λ call. sym (ltb_split value (n call)))
+  above_tests : (q : Type 0) (value hit miss : ℕ)
+      → Tests (order_code Above word value hit miss) hit miss 6 q (λ call. ltb value (n call))
+  above_tests q value hit miss =
+      order_tests q Above value hit miss (λ call. ltb value (n call)) tt (λ call. sym (ltb_split value (n call)))
 
-  at_least_tests : (value hit miss : ℕ)
-      → Tests (order_code AtLeast word value hit miss) hit miss 6 (Unit {0}) (λ call. leb value (n call))
-  at_least_tests value hit miss =
-      order_tests AtLeast value hit miss (λ call. leb value (n call)) tt
+  at_least_tests : (q : Type 0) (value hit miss : ℕ)
+      → Tests (order_code AtLeast word value hit miss) hit miss 6 q (λ call. leb value (n call))
+  at_least_tests q value hit miss =
+      order_tests q AtLeast value hit miss (λ call. leb value (n call)) tt
       (λ call. grind (arith, nat_tests, leb_split value (n call)))
 
   masked_tests : (mask wanted out : ℕ) → bit_and wanted mask ≡ wanted
@@ -242,19 +251,14 @@ module _ (index : ℕ) (lt : index < 6) where
       (IsPlainCondition (record { index = index; op = op; value = value; value_two = value_two }))
       (λ call. compares op (n call) value value_two)
   operator_tests NotEqual value value_two out =
-      tests_as 6 6 _ _ (opposite (λ call. not (eqb (n call) value)) (equal_tests value out 0) (λ call. refl)) (omega arith) (λ _. tt) (λ call h. refl)
+      opposite (λ call. not (eqb (n call) value)) (equal_tests _ value out 0) (λ call. refl)
   operator_tests Less value value_two out =
-      tests_as 6 6 _ _ (opposite (λ call. ltb (n call) value) (at_least_tests value out 0)
-      (λ call. grind (arith, nat_tests))) (omega arith) (λ _. tt) (λ call h. refl)
+      opposite (λ call. ltb (n call) value) (at_least_tests _ value out 0) (λ call. grind (arith, nat_tests))
   operator_tests LessOrEqual value value_two out =
-      tests_as 6 6 _ _ (opposite (λ call. leb (n call) value) (above_tests value out 0)
-      (λ call. grind (arith, nat_tests))) (omega arith) (λ _. tt) (λ call h. refl)
-  operator_tests Equal value value_two out =
-      tests_as 6 6 _ _ (equal_tests value 0 out) (omega arith) (λ _. tt) (λ call h. refl)
-  operator_tests GreaterOrEqual value value_two out =
-      tests_as 6 6 _ _ (at_least_tests value 0 out) (omega arith) (λ _. tt) (λ call h. refl)
-  operator_tests Greater value value_two out =
-      tests_as 6 6 _ _ (above_tests value 0 out) (omega arith) (λ _. tt) (λ call h. refl)
+      opposite (λ call. leb (n call) value) (above_tests _ value out 0) (λ call. grind (arith, nat_tests))
+  operator_tests Equal value value_two out = equal_tests _ value 0 out
+  operator_tests GreaterOrEqual value value_two out = at_least_tests _ value 0 out
+  operator_tests Greater value value_two out = above_tests _ value 0 out
   operator_tests MaskedEqual value value_two out =
       tests_as 6 6 _ _
       (masked_tests value (bit_and value_two value) out

@@ -119,15 +119,17 @@ module _ {p : Profile} {code : List Insn} (filter : IsFilterOf p code) where
     where
       each : (is : List Insn) → AreSound true is → AllByRecursion IsPlainInsn is
       each [] h = tt
-      each (i ∷ is) h = (record { operation = h.0.operation; known = h.0.known; plain = h.0.is_plain refl }, each is h.1)
+      each (i ∷ is) h =
+          (record { operation = h.0.operation; known = h.0.known; plain = h.0.is_plain refl }, each is h.1)
 
   pub answers_same : SameAnswers (RunAnswers code) p
   answers_same call fits =
       let found = filter.answered call fits in
+      let run = found.of_words in
       record {
         filter = found.answer;
         profile = found.answer;
-        of_words = (found.of_words.steps, found.of_words.run);
+        of_words = (run.steps, run.run);
         of_profile = found.of_profile;
         are_related = refl;
       }
@@ -135,6 +137,7 @@ module _ {p : Profile} {code : List Insn} (filter : IsFilterOf p code) where
   pub answers_within : AnswersWithin code (search_bound_of p)
   answers_within call fits answer steps run =
       let found = filter.answered call fits in
-      let same = (run_once code (words_of call) found.answer answer found.of_words.steps steps found.of_words.run run).1 in
-      let few = found.of_words.few in
+      let own = found.of_words in
+      let same = (run_once code (words_of call) found.answer answer own.steps steps own.run run).1 in
+      let few = own.few in
       omega arith

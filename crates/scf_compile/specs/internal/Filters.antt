@@ -59,8 +59,8 @@ pub record ArePut (rules : List Rule) (room : ℕ) (before after : List Insn) (p
   pub sound : (plain : Bool) → (IsTrue plain → AllByRecursion IsPlainRule rules) → AreSound plain before
       → AreSound plain after
 
--- From a place on each call with a number from the first on is answered by the rules of its stretch, after two steps for
--- each halving of the stretches.
+-- From a place on each call with a number from the first on is answered by the rules of its stretch, after two steps
+-- for each halving of the stretches.
 pub record IsSearchPut (default : Answer) (stretches : List Stretch) (before after : List Insn) (place : Place)
     : Type 0 where
   pub room : ℕ
@@ -77,7 +77,8 @@ pub record AnswersCall (p : Profile) (code : List Insn) (call : CallRecord) : Ty
   pub of_words : EndsWithin (words_of call) code 0 answer (search_bound_of p)
   pub of_profile : ProfileAnswers p call answer
 
--- The code answers each call as the profile does, and is within both bounds; it is sound, and plain where the profile is.
+-- The code answers each call as the profile does, and is within both bounds. It is sound, and plain where the profile
+-- is.
 pub record IsFilterOf (p : Profile) (code : List Insn) : Type 0 where
   pub some : 0 < length code
   pub small : length code ≤ size_bound_of p

@@ -9,7 +9,8 @@ use Rattle.scf_compile.specs.declared.stretches.Stretch.{Stretch}
 use Rattle.scf_compile.specs.internal.Placing.{IsFirst, IsPut}
 use Rattle.scf_compile.specs.internal.Filters.{IsSearchPut, rules_code}
 use Rattle.scf_compile.specs.internal.Stretches.{stretch_bound}
-use Rattle.scf_compile.proofs.Searches.{cut_in_two, of_parts, longer, put_len, first_is, one_is, search_branch, search_one}
+use Rattle.scf_compile.proofs.Searches.{cut_in_two, of_parts, longer, put_len, first_is, one_is, search_branch}
+use Rattle.scf_compile.proofs.Searches.{search_one}
 use Rattle.scf_compile.proofs.search.+put_search.Goals as goal
 
 pub put_search-requires : goal.put_search-requires
