@@ -235,5 +235,5 @@ class Headline(Case):
         with open(path, encoding="utf-8") as file:
             text = file.read()
         with open(path, "w", encoding="utf-8") as file:
-            file.write(text.replace("  pub answer : ℕ\n", "  pub answer : ℕ\n  pub more : ℕ\n"))
+            file.write(text.replace("  pub filter : ℕ\n", "  pub filter : ℕ\n  pub more : ℕ\n"))
         self.assertEqual(self.run_words([tool("believe"), "--repository", tree, "--page", page])[0], 1)
