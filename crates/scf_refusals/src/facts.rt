@@ -2,14 +2,24 @@
 
 use crate::twice::{note, twice};
 use scf_facts::{Atom, AtomList, Tell, WordFacts, WordSets};
+use scf_insn::Memory;
 use std::alloc::Global;
 use std::{fmt, io};
 
-/// What is learned, and asked of.
-const LEARNED: [(Atom, bool); 7] = [
-    (Atom::Ge { word: 0, value: 5 }, true),
-    (Atom::Gt { word: 1, value: 9 }, false),
-    (
+/// One thing to learn.
+#[derive(Clone, Copy)]
+enum Lesson {
+    /// The answer of an atom.
+    Answer(Atom, bool),
+    /// Two atoms aren't both true.
+    NotBoth(Atom, Atom),
+}
+
+/// What is learned, the answers first: those are asked of.
+const LESSONS: [Lesson; 9] = [
+    Lesson::Answer(Atom::Ge { word: 0, value: 5 }, true),
+    Lesson::Answer(Atom::Gt { word: 1, value: 9 }, false),
+    Lesson::Answer(
         Atom::Eq {
             word: 2,
             mask: u32::MAX,
@@ -17,7 +27,7 @@ const LEARNED: [(Atom, bool); 7] = [
         },
         true,
     ),
-    (
+    Lesson::Answer(
         Atom::Eq {
             word: 3,
             mask: 0x7e02_0000,
@@ -25,7 +35,7 @@ const LEARNED: [(Atom, bool); 7] = [
         },
         false,
     ),
-    (
+    Lesson::Answer(
         Atom::Eq {
             word: 0,
             mask: u32::MAX,
@@ -33,7 +43,7 @@ const LEARNED: [(Atom, bool); 7] = [
         },
         true,
     ),
-    (
+    Lesson::Answer(
         Atom::Eq {
             word: 4,
             mask: 0x8000_0000,
@@ -41,12 +51,25 @@ const LEARNED: [(Atom, bool); 7] = [
         },
         true,
     ),
-    (
+    Lesson::Answer(
         Atom::Gt {
             word: 5,
             value: 1000,
         },
         false,
+    ),
+    // Of words that are 0 both are true.
+    Lesson::NotBoth(
+        Atom::Ge { word: 6, value: 0 },
+        Atom::Eq {
+            word: 7,
+            mask: u32::MAX,
+            value: 0,
+        },
+    ),
+    Lesson::NotBoth(
+        Atom::Gt { word: 8, value: 9 },
+        Atom::Gt { word: 9, value: 9 },
     ),
 ];
 
@@ -58,6 +81,7 @@ const BEFORE_MARK: usize = 4;
 struct Names {
     all: &'static str,
     learn: &'static str,
+    learn_not_both: &'static str,
     mark: &'static str,
     undo: &'static str,
 }
@@ -65,6 +89,7 @@ struct Names {
 const OF_LIST: Names = Names {
     all: "AtomList::all",
     learn: "AtomList::learn",
+    learn_not_both: "AtomList::learn_not_both",
     mark: "AtomList::mark",
     undo: "AtomList::undo",
 };
@@ -72,6 +97,7 @@ const OF_LIST: Names = Names {
 const OF_SETS: Names = Names {
     all: "WordSets::all",
     learn: "WordSets::learn",
+    learn_not_both: "WordSets::learn_not_both",
     mark: "WordSets::mark",
     undo: "WordSets::undo",
 };
@@ -88,9 +114,11 @@ struct State {
 impl State {
     fn of<F: WordFacts>(facts: &F) -> State {
         let mut tells = [Tell::Maybe; 7];
-        for (tell, (atom, _)) in tells.iter_mut().zip(LEARNED.iter()) {
-            if atom.word() < 16 {
-                *tell = facts.tell(*atom);
+        for (tell, lesson) in tells.iter_mut().zip(LESSONS.iter()) {
+            if let Lesson::Answer(atom, _) = lesson {
+                if atom.word() < 16 {
+                    *tell = facts.tell(*atom);
+                }
             }
         }
         State {
@@ -114,40 +142,59 @@ impl fmt::Display for State {
     }
 }
 
-/// Whether an answer could be learned.
+impl Lesson {
+    /// Learns it, where its words are among the sixteen.
+    fn learn<F: WordFacts>(self, facts: &mut F) -> Option<Result<(), Memory>> {
+        match self {
+            Lesson::Answer(atom, holds) if atom.word() < 16 => Some(facts.learn(atom, holds)),
+            Lesson::NotBoth(first, second) if first.word() < 16 && second.word() < 16 => {
+                Some(facts.learn_not_both(first, second))
+            }
+            _ => None,
+        }
+    }
+
+    /// The name of the call that learns it.
+    fn call(self, names: &Names) -> &'static str {
+        match self {
+            Lesson::Answer(..) => names.learn,
+            Lesson::NotBoth(..) => names.learn_not_both,
+        }
+    }
+}
+
+/// Whether this could be learned.
 fn is_learned<F: WordFacts>(
     rt: &impl Print,
     names: &Names,
     facts: &mut F,
-    atom: Atom,
-    holds: bool,
+    lesson: Lesson,
 ) -> io::Result<bool> {
-    let call = names.learn;
+    let call = lesson.call(names);
     let before = State::of(facts);
     for _ in 0..2 {
-        if atom.word() < 16 {
-            match facts.learn(atom, holds) {
-                Ok(()) => {
-                    println!(rt; "{call} {}", State::of(facts))?;
-                    return Ok(true);
-                }
-                Err(fault) => println!(rt; "{call} {fault:?}")?,
+        match lesson.learn(facts) {
+            Some(Ok(())) => {
+                println!(rt; "{call} {}", State::of(facts))?;
+                return Ok(true);
             }
+            Some(Err(fault)) => println!(rt; "{call} {fault:?}")?,
+            None => {}
         }
         note(rt, call, State::of(facts) == before)?;
     }
     Ok(false)
 }
 
-/// Whether these answers could be learned.
+/// Whether all of these could be learned.
 fn are_learned<F: WordFacts>(
     rt: &impl Print,
     names: &Names,
     facts: &mut F,
-    answers: &[(Atom, bool)],
+    lessons: &[Lesson],
 ) -> io::Result<bool> {
-    for (atom, holds) in answers {
-        if !is_learned(rt, names, facts, *atom, *holds)? {
+    for lesson in lessons {
+        if !is_learned(rt, names, facts, *lesson)? {
             return Ok(false);
         }
     }
@@ -191,7 +238,7 @@ fn walk<F: WordFacts>(rt: &impl Print, alloc: Global, names: &Names) -> io::Resu
         return Ok(());
     };
     println!(rt; "{} {}", names.all, State::of(&facts))?;
-    let (first, then) = LEARNED.split_at(BEFORE_MARK);
+    let (first, then) = LESSONS.split_at(BEFORE_MARK);
     if !are_learned(rt, names, &mut facts, first)? {
         return Ok(());
     }
