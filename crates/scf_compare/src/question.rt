@@ -1,13 +1,13 @@
 //! Conditions on 64-bit arguments as questions about words.
 
-ghost use Rattle.std.specs.Prelude.{◌≡◌, ◌+◌, ◌*◌, ◌<◌, ◌≤◌, ◌==◌, ℕ, List, bit_and, nat_lt, nat_le, slice_index};
+ghost use Rattle.std.specs.Prelude.{◌≡◌, ◌+◌, ◌*◌, ◌<◌, ◌==◌, ℕ, List, bit_and, nat_lt, nat_le, slice_index};
 ghost use Rattle.scf_insn.specs.Kernel.{seccomp_data_args};
 ghost use Rattle.scf_insn.specs.SimpleMask.{IsSimpleMask};
 ghost use Rattle.scf_insn.specs.Words.{IsWords, argument, call_of};
 ghost use Rattle.scf_facts.specs.Atoms.{atom_answer, word_of};
 ghost use Rattle.scf_profile.specs.PlainProfile.{IsPlainCondition};
 ghost use Rattle.scf_compare.specs.declared.asking.Atoms.TheVariants.{One};
-ghost use Rattle.scf_compare.specs.internal.Conditions.{IsAtPart, Splits, half_of, part_size, way_size};
+ghost use Rattle.scf_compare.specs.internal.Conditions.{SplitsAt, CostsAt, half_of};
 ghost use Rattle.scf_compare.specs.internal.Asking.{KeepsEither};
 
 use Way::{Fails, Holds, Then};
@@ -67,12 +67,8 @@ fn ask(atom: Atom, if_true: Way, if_false: Way) -> Question
 pub(crate) fn question_of(condition: Condition, part: Part) -> Question
     requires { condition.index < seccomp_data_args }
     ensures word { word_of result.atom < 16 }
-    ensures splits { (words : List ℕ) → IsWords words
-        → IsAtPart condition part (argument (call_of words) condition.index)
-        → Splits condition result words (argument (call_of words) condition.index) }
-    ensures costs { (holds fails : ℕ)
-        → way_size result.if_true holds fails + way_size result.if_false holds fails + 1
-        ≤ part_size part holds fails }
+    ensures splits { SplitsAt condition part result }
+    ensures costs { CostsAt part result }
     ensures keeps { IsPlainCondition condition → KeepsEither (One result.atom) }
 {
     match part {
@@ -85,11 +81,8 @@ pub(crate) fn question_of(condition: Condition, part: Part) -> Question
 fn at_high(condition: Condition) -> Question
     requires { condition.index < seccomp_data_args }
     ensures word { word_of result.atom < 16 }
-    ensures splits { (words : List ℕ) → IsWords words
-        → Splits condition result words (argument (call_of words) condition.index) }
-    ensures costs { (holds fails : ℕ)
-        → way_size result.if_true holds fails + way_size result.if_false holds fails + 1
-        ≤ part_size Part.High holds fails }
+    ensures splits { SplitsAt condition Part.High result }
+    ensures costs { CostsAt Part.High result }
     ensures keeps { IsPlainCondition condition → KeepsEither (One result.atom) }
 {
     match condition.op {
@@ -112,12 +105,8 @@ fn at_high(condition: Condition) -> Question
 fn at_above(condition: Condition) -> Question
     requires { condition.index < seccomp_data_args }
     ensures word { word_of result.atom < 16 }
-    ensures splits { (words : List ℕ) → IsWords words
-        → IsAtPart condition Part.Above (argument (call_of words) condition.index)
-        → Splits condition result words (argument (call_of words) condition.index) }
-    ensures costs { (holds fails : ℕ)
-        → way_size result.if_true holds fails + way_size result.if_false holds fails + 1
-        ≤ part_size Part.Above holds fails }
+    ensures splits { SplitsAt condition Part.Above result }
+    ensures costs { CostsAt Part.Above result }
     ensures keeps { IsPlainCondition condition → KeepsEither (One result.atom) }
 {
     match condition.op {
@@ -137,12 +126,8 @@ fn at_above(condition: Condition) -> Question
 fn at_low(condition: Condition) -> Question
     requires { condition.index < seccomp_data_args }
     ensures word { word_of result.atom < 16 }
-    ensures splits { (words : List ℕ) → IsWords words
-        → IsAtPart condition Part.Low (argument (call_of words) condition.index)
-        → Splits condition result words (argument (call_of words) condition.index) }
-    ensures costs { (holds fails : ℕ)
-        → way_size result.if_true holds fails + way_size result.if_false holds fails + 1
-        ≤ part_size Part.Low holds fails }
+    ensures splits { SplitsAt condition Part.Low result }
+    ensures costs { CostsAt Part.Low result }
     ensures keeps { IsPlainCondition condition → KeepsEither (One result.atom) }
 {
     match condition.op {

@@ -1,6 +1,6 @@
 -- Conditions on 64-bit arguments as questions about the two words of an argument.
-use Rattle.std.specs.Prelude.{◌≡◌, ◌≢◌, ◌+◌, ◌*◌, ℕ, List, true, false, bit_and}
-use Rattle.scf_insn.specs.Words.{low, high}
+use Rattle.std.specs.Prelude.{◌≡◌, ◌≢◌, ◌+◌, ◌*◌, ◌≤◌, ℕ, List, true, false, bit_and}
+use Rattle.scf_insn.specs.Words.{IsWords, argument, call_of, low, high}
 use Rattle.scf_facts.specs.Atoms.{atom_answer}
 use Rattle.scf_profile.specs.declared.condition.Operator.{Operator}
 use Rattle.scf_profile.specs.declared.condition.Operator.TheVariants.{NotEqual, Equal, MaskedEqual}
@@ -59,3 +59,15 @@ abbrev pub way_size : Way → ℕ → ℕ → ℕ
 way_size Holds holds fails = holds
 way_size Fails holds fails = fails
 way_size (Then part) holds fails = part_size part holds fails
+
+-- over the words of a call the ways on from a part's question
+abbrev pub SplitsAt : Condition → Part → Question → Type 0
+SplitsAt c part question =
+    (words : List ℕ) → IsWords words → IsAtPart c part (argument (call_of words) c.index)
+    → Splits c question words (argument (call_of words) c.index)
+
+-- a part's question, and what is asked on both ways, are within its size
+abbrev pub CostsAt : Part → Question → Type 0
+CostsAt part question =
+    (holds fails : ℕ)
+    → way_size question.if_true holds fails + way_size question.if_false holds fails + 1 ≤ part_size part holds fails

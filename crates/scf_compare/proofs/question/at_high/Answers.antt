@@ -5,7 +5,7 @@ use Rattle.scf_compare.proofs.question.at_high.Goals as goal
 
 pub returns-in-MaskedEqual-clause-splits : goal.returns-in-MaskedEqual-clause-splits
 returns-in-MaskedEqual-clause-splits c =
-    λ words w.
+    λ words w at_part.
     let n = argument (call_of words) c.args.condition.index in
     let u = bit_and c.args.condition.value_two c.args.condition.value in
     let e = c.half_is_under_mask.ensures.answers words w in
