@@ -9,7 +9,7 @@ use Rattle.scf_facts.specs.Levels.{IsSameLevel}
 use Rattle.scf_compare.specs.declared.frontier.Branch.{Branch}
 use Rattle.scf_compare.specs.declared.frontier.Frontier.{Frontier}
 use Rattle.scf_compare.specs.internal.Compared.{Compared}
-use Rattle.scf_compare.specs.internal.Frontier.{Gives, LearnsExactly, IsBranch, IsInBranch, IsFrontier, IsExactBranch, AreExact, open_size}
+use Rattle.scf_compare.specs.internal.Frontier.{GivesLearned, LearnsExactly, IsBranch, IsInBranch, IsFrontier, IsExactBranch, AreExact, open_size}
 use Rattle.scf_compare.specs.internal.Stages.{IsTaken}
 use Rattle.scf_compare.specs.internal.Trees.{Tree}
 
@@ -91,7 +91,7 @@ module _ {F K N : Type 0} (store : Store F) (tree : K → Tree N) (scope : List 
       }
 
   -- and those that were allowed are in the new one, where they give what it learns and come to its node
-  pub in_opened : (words : List ℕ) → store.allows old.facts (store.level old.facts) words → Gives b.learned words
+  pub in_opened : (words : List ℕ) → store.allows old.facts (store.level old.facts) words → GivesLearned b.learned words
       → (tree b.known).reaches b.node words → IsInBranch store tree new words
   in_opened words allowed given reached = record {
     place = length old.branches.items;
@@ -133,7 +133,7 @@ module _ {F K N : Type 0} (store : Store F) (tree : K → Tree N) (scope : List 
 
   pub exact_opened : AreExact store tree old → IsTrue (store.is_exact old.facts (store.level old.facts))
       → LearnsExactly b.learned → (tree b.known).is_plain b.node
-      → ((words : List ℕ) → store.allows old.facts (store.level old.facts) words → Gives b.learned words
+      → ((words : List ℕ) → store.allows old.facts (store.level old.facts) words → GivesLearned b.learned words
       → (tree b.known).reaches b.node words)
       → AreExact store tree new
   exact_opened are exact keeps plain reached =
@@ -172,7 +172,7 @@ pub record HasTaken {F K N : Type 0} (store : Store F) (old new : Frontier F K N
       → IsSameLevel store.allows store.is_exact old.facts place new.facts place
   pub known : (words : List ℕ)
       → store.allows new.facts (store.level new.facts) words
-      ↔ (store.allows old.facts (store.level new.facts) words × Gives b.learned words)
+      ↔ (store.allows old.facts (store.level new.facts) words × GivesLearned b.learned words)
   pub exact : LearnsExactly b.learned → IsTrue (store.is_exact old.facts (store.level new.facts))
       → IsTrue (store.is_exact new.facts (store.level new.facts))
 
@@ -225,7 +225,7 @@ taken {K = K} {N = N} store compared tree old new b f h =
             | inr at ↦ inr (
               (h.known words).1 (
                 subst (λ n. store.allows old.facts n words) (at.0 ∙ sym marks) inside.allowed,
-                subst (λ (branch : Branch K N). Gives branch.learned words) (sym at.1) inside.given,
+                subst (λ (branch : Branch K N). GivesLearned branch.learned words) (sym at.1) inside.given,
               ),
               subst (λ (branch : Branch K N). (tree branch.known).reaches branch.node words) (sym at.1) inside.reached,
             )

@@ -13,8 +13,8 @@ use Rattle.scf_profile.specs.Condition.{holds}
 use Rattle.scf_profile.specs.Rule.{all_hold, meets}
 use Rattle.scf_profile.specs.RulesByNumber.{numbers_of, rules_of}
 use Rattle.scf_profile.proofs.Numbers.{numbers_of-contains}
-use Rattle.scf_compare.specs.declared.question.Part.{Part}
-use Rattle.scf_compare.specs.declared.question.Part.TheVariants.{High}
+use Rattle.scf_compare.specs.declared.question.ConditionPart.{ConditionPart}
+use Rattle.scf_compare.specs.declared.question.ConditionPart.TheVariants.{High}
 use Rattle.scf_compare.specs.internal.Conditions.{IsAtPart}
 use Rattle.scf_compare.specs.Effort.{conditions_size}
 use Rattle.scf_compare.specs.internal.Profiles.{StandsAt, IsAtCondition, KnowsPart, KnowsRule, condition_size, size_behind}
@@ -128,7 +128,7 @@ rules_kept rules place number r here same =
 
 -- ---- what is known at a condition
 
-pub knows : (rules : List Rule) (place index : ℕ) (call : CallRecord) (asked : Part) (rule : Rule)
+pub knows : (rules : List Rule) (place index : ℕ) (call : CallRecord) (asked : ConditionPart) (rule : Rule)
     (condition : Condition) → StandsAt rules place index rule condition → IsAtCondition rules place index rule call
     → IsAtPart condition asked (argument call condition.index)
     → KnowsRule rules place index call asked (slice_get rules place)

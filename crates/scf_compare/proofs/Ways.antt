@@ -15,7 +15,7 @@ use Rattle.scf_compare.specs.declared.value.Decision.{Decision}
 use Rattle.scf_compare.specs.declared.value.Decision.TheVariants.{Known as Decided, Asks, Open}
 use Rattle.scf_compare.specs.internal.Flow.{flow_at}
 use Rattle.scf_compare.specs.internal.Trees.{Tree, IsProper, GoesOn, Costs, StaysPlain}
-use Rattle.scf_compare.specs.internal.Values.{Describes, Decides, IsDecision, IsPlainDecision}
+use Rattle.scf_compare.specs.internal.Values.{Describes, Decides, IsTestDecision, IsPlainDecision}
 use Rattle.scf_compare.specs.internal.Filters.{ComesTo, IsTurnOf}
 use Rattle.scf_compare.proofs.Flows.{next_never_ends, edge_next}
 
@@ -71,7 +71,7 @@ module _ (insns : List Insn) (words : List ℕ) (place : ℕ) (i : Insn) (operat
 
 pub turn_proper : (tree : Tree FilterNode) (is_end : FilterEnd → Type 0) (decision : Decision)
     (if_true if_false : FilterNode) (turn : Turn FilterNode FilterEnd) → IsTurnOf decision if_true if_false turn
-    → IsDecision decision → tree.is_node if_true → tree.is_node if_false → IsProper tree is_end turn
+    → IsTestDecision decision → tree.is_node if_true → tree.is_node if_false → IsProper tree is_end turn
 turn_proper tree is_end (Decided true) t f turn e d ht hf = subst (IsProper tree is_end) (sym e) ht
 turn_proper tree is_end (Decided false) t f turn e d ht hf = subst (IsProper tree is_end) (sym e) hf
 turn_proper tree is_end (Asks atoms true) t f turn e d ht hf = subst (IsProper tree is_end) (sym e) (d, ht, hf)

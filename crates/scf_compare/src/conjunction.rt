@@ -5,7 +5,7 @@ ghost use Rattle.scf_facts.specs.Atoms.{atom_answer, word_of};
 ghost use Rattle.scf_machine.specs.Machine.{holds};
 ghost use Rattle.scf_compare.specs.internal.Asking.{AsksOfWords, atoms_answer};
 ghost use Rattle.scf_compare.specs.internal.Conjunctions.{MaskedHolds, IsConjunction, ConjunctionHolds};
-ghost use Rattle.scf_compare.specs.internal.Values.{IsValue, StandsFor, IsDecision, Decides, IsZeroWhere};
+ghost use Rattle.scf_compare.specs.internal.Values.{IsValue, StandsFor, IsTestDecision, Decides, IsZeroWhere};
 
 use crate::asking::Atoms;
 use crate::value::{Decision, Value};
@@ -70,7 +70,7 @@ impl Conjunction {
     #[tactic(auto, using(crate::proofs::Joins::zero_by_test, crate::proofs::Joins::never_zero))]
     pub(crate) fn by_test(word: u8, is_zero: Decision) -> Value
         requires word { word < 16 }
-        requires asks { IsDecision is_zero }
+        requires asks { IsTestDecision is_zero }
         ensures value { IsValue result }
         ensures stands { (words : List ℕ) (a : ℕ) → a < 2 ^ 32 → Decides is_zero words (a == 0)
             → StandsFor result words a }
@@ -141,7 +141,7 @@ impl Conjunction {
     /// How a test of the number against another comes out: only whether it is 0 is asked.
     pub(crate) fn decide(self, test: Test, v: u32) -> Decision
         requires { IsConjunction self }
-        ensures asks { IsDecision result }
+        ensures asks { IsTestDecision result }
         ensures decides { (words : List ℕ) (a : ℕ) → a < 2 ^ 32 → IsZeroWhere self words a
             → Decides result words (holds test a v) }
     {

@@ -9,7 +9,7 @@ ghost use Rattle.scf_machine.specs.Rules.{IsValidList, Stands};
 ghost use Rattle.scf_compare.specs.internal.Trees.{IsProper, GoesOn, Costs, StaysPlain};
 ghost use Rattle.scf_compare.specs.internal.Ends.{FilterTells, KnowsAnswer};
 ghost use Rattle.scf_compare.specs.Paths.{tree_size};
-ghost use Rattle.scf_compare.specs.internal.Values.{AreValues, IsPlainValue, IsDecision};
+ghost use Rattle.scf_compare.specs.internal.Values.{AreValues, IsPlainValue, IsTestDecision};
 ghost use Rattle.scf_compare.specs.internal.Filters.{ComesTo, IsFilterEnd, IsTurnOf, filter_tree};
 
 use crate::comparison::FilterEnd;

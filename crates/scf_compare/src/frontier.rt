@@ -3,7 +3,7 @@
 ghost use Rattle.std.specs.Prelude.{◌≡◌, ◌+◌, ◌<◌, ◌≤◌, ◌↔◌, ◌++◌, ◌∷◌, [], ℕ, List, IsTrue, OnOk, IfOk, MatchOption};
 ghost use Rattle.scf_facts.specs.Levels.{IsSameLevel};
 ghost use Rattle.scf_compare.specs.internal.Ends.{IsEnd};
-ghost use Rattle.scf_compare.specs.internal.Frontier.{Gives, LearnsOfWords, LearnsExactly, IsInBranch, IsFrontier};
+ghost use Rattle.scf_compare.specs.internal.Frontier.{GivesLearned, LearnsOfWords, LearnsExactly, IsInBranch, IsFrontier};
 ghost use Rattle.scf_compare.specs.internal.Stages.{LeadsTo, IsTaken};
 ghost use Rattle.scf_compare.specs.internal.Trees.{IsProper};
 
@@ -77,7 +77,7 @@ fn learn_answer<F: WordFacts>(facts: &mut F, learned: Option<(Atoms, bool)>) -> 
     ensures at_marks { (place : ℕ) → place < F.level facts.old
         → IsSameLevel F.allows F.is_exact facts.old place facts.new place }
     ensures learned { OnOk result ((words : List ℕ) → F.allows facts.new (F.level facts.old) words
-        ↔ (F.allows facts.old (F.level facts.old) words × Gives learned words)) }
+        ↔ (F.allows facts.old (F.level facts.old) words × GivesLearned learned words)) }
     ensures exact { OnOk result (LearnsExactly learned
         → IsTrue (F.is_exact facts.old (F.level facts.old)) → IsTrue (F.is_exact facts.new (F.level facts.old))) }
 {

@@ -7,7 +7,7 @@ ghost use Rattle.scf_insn.specs.SimpleMask.{IsSimpleMask};
 ghost use Rattle.scf_insn.specs.Words.{IsWords};
 ghost use Rattle.scf_compare.specs.internal.Images.{IsImage, IsWhole, AreShiftedAlike, image_number};
 ghost use Rattle.scf_machine.specs.Machine.{value_computed};
-ghost use Rattle.scf_compare.specs.internal.Values.{IsValue, StandsFor, IsDecision, Decides, IsPlainDecision};
+ghost use Rattle.scf_compare.specs.internal.Values.{IsValue, StandsFor, IsTestDecision, Decides, IsPlainDecision};
 
 use crate::asking::Atoms;
 use crate::value::{Decision, Value};
@@ -195,7 +195,7 @@ impl Image {
     /// Whether it is a number, as an atom about its word.
     pub(crate) fn is(self, v: u32) -> Decision
         requires { IsImage self }
-        ensures asks { IsDecision result }
+        ensures asks { IsTestDecision result }
         ensures decides { (words : List ℕ) → Decides result words (image_number self words == v) }
         ensures plain { self.right ≡ 0 → self.left ≡ 0 → IsSimpleMask self.mask → IsPlainDecision result }
     {
@@ -218,7 +218,7 @@ impl Image {
     /// Whether it is above a number, as an atom about its word, where its mask has all bits of the word from one on.
     pub(crate) fn is_above(self, v: u32) -> Decision
         requires { IsImage self }
-        ensures asks { IsDecision result }
+        ensures asks { IsTestDecision result }
         ensures decides { (words : List ℕ) → IsWords words → Decides result words (nat_lt v (image_number self words)) }
     {
         let mask = self.mask >> self.left << self.right;
@@ -241,7 +241,7 @@ impl Image {
     /// Whether it is on the arc from one number up to another, as an atom about its word, where it is the whole word.
     pub(crate) fn is_on_arc(self, first: u32, last: u32) -> Decision
         requires { IsImage self }
-        ensures asks { IsDecision result }
+        ensures asks { IsTestDecision result }
         ensures decides { (words : List ℕ) → IsWords words
             → Decides result words (nat_le (steps_from first (image_number self words)) (steps_from first last)) }
     {

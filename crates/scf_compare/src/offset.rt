@@ -4,7 +4,7 @@ ghost use Rattle.std.specs.Prelude.{◌≡◌, ◌==◌, ◌+◌, ◌-◌, ◌%�
 ghost use Rattle.scf_insn.specs.Words.{IsWords};
 ghost use Rattle.scf_compare.specs.internal.Images.{IsImage, image_number};
 ghost use Rattle.scf_compare.specs.internal.Offsets.{signed_sum, offset_number};
-ghost use Rattle.scf_compare.specs.internal.Values.{IsValue, StandsFor, IsDecision, Decides};
+ghost use Rattle.scf_compare.specs.internal.Values.{IsValue, StandsFor, IsTestDecision, Decides};
 
 use crate::image::Image;
 use crate::value::{Decision, Value};
@@ -110,7 +110,7 @@ impl Offset {
     /// Whether it is a number, as an atom about its word.
     pub(crate) fn is(self, v: u32) -> Decision
         requires { IsImage self.image }
-        ensures asks { IsDecision result }
+        ensures asks { IsTestDecision result }
         ensures decides { (words : List ℕ) → Decides result words (offset_number self words == v) }
     {
         if self.negated {
@@ -123,7 +123,7 @@ impl Offset {
     /// Whether it is above a number, as an atom about its word.
     pub(crate) fn is_above(self, v: u32) -> Decision
         requires { IsImage self.image }
-        ensures asks { IsDecision result }
+        ensures asks { IsTestDecision result }
         ensures decides { (words : List ℕ) → IsWords words
             → Decides result words (nat_lt v (offset_number self words)) }
     {
@@ -143,7 +143,7 @@ impl Offset {
 fn sum_is_above(image: Image, added: u32, v: u32) -> Decision
     requires image { IsImage image }
     requires least { v < 2 ^ 32 - 1 }
-    ensures asks { IsDecision result }
+    ensures asks { IsTestDecision result }
     ensures decides { (words : List ℕ) → IsWords words
         → Decides result words (nat_lt v (signed_sum false (image_number image words) added)) }
 {
@@ -160,7 +160,7 @@ fn sum_is_above(image: Image, added: u32, v: u32) -> Decision
 fn difference_is_above(image: Image, from: u32, v: u32) -> Decision
     requires image { IsImage image }
     requires least { v < 2 ^ 32 - 1 }
-    ensures asks { IsDecision result }
+    ensures asks { IsTestDecision result }
     ensures decides { (words : List ℕ) → IsWords words
         → Decides result words (nat_lt v (signed_sum true (image_number image words) from)) }
 {

@@ -49,7 +49,7 @@ ghost use Rattle.scf_compare.specs.internal.Trees.{IsProper, GoesOn, Costs, Stay
 use crate::asking::Atoms;
 use crate::party::ProfileTree;
 use crate::profile_numbers::{FirstRule, ProfileNumbers};
-use crate::question::{Part, Way, question_of};
+use crate::question::{ConditionPart, Way, question_of};
 use crate::turn::Turn;
 use scf_facts::{Atom, Tell, WordFacts};
 use scf_insn::kernel::{AUDIT_ARCH_X86_64, X32_SYSCALL_BIT};
@@ -69,7 +69,7 @@ pub(crate) enum ProfileNode {
     Condition {
         rule: usize,
         condition: usize,
-        part: Part,
+        part: ConditionPart,
     },
     /// The profile answers so.
     Answer(Answer),
@@ -263,7 +263,7 @@ fn first_of_rule(default_answer: Answer, rules: &[Rule], place: usize) -> Profil
         ProfileNode::Condition {
             rule: place,
             condition: 0,
-            part: Part::High,
+            part: ConditionPart::High,
         }
     }
 }
@@ -282,7 +282,7 @@ fn ask_condition(
     rules: &[Rule],
     place: usize,
     index: usize,
-    part: Part,
+    part: ConditionPart,
 ) -> Turn<ProfileNode, Answer>
     requires profile { IsProfile (profile_with default_answer rules.now) }
     requires node { profile_is_node (profile_with default_answer rules.now) (ProfileNode.Condition place index part) }
@@ -315,7 +315,7 @@ fn follow(
 ) -> ProfileNode
     requires few { length rules.now ≤ max_rules }
     requires node { profile_is_node (profile_with default_answer rules.now)
-        (ProfileNode.Condition place index Part.High) }
+        (ProfileNode.Condition place index ConditionPart.High) }
     ensures node { profile_is_node (profile_with default_answer rules.now) result }
     ensures reached { let p : Profile = profile_with default_answer rules.now in
         (words : List ℕ) (rule : Rule) (condition : Condition) → StandsAt rules.now place index rule condition
@@ -336,7 +336,7 @@ fn follow(
                 ProfileNode::Condition {
                     rule: place,
                     condition: index + 1,
-                    part: Part::High,
+                    part: ConditionPart::High,
                 }
             }
         }

@@ -17,7 +17,7 @@ use scf_profile::{Condition, Operator};
 
 /// Which question of a condition is asked.
 #[derive(Clone, Copy)]
-pub(crate) enum Part {
+pub(crate) enum ConditionPart {
     /// Whether the high halves are the same, the first question.
     High,
     /// Whether the argument's high half is above, where it isn't the same.
@@ -34,7 +34,7 @@ pub(crate) enum Way {
     /// It doesn't.
     Fails,
     /// It hangs on another question.
-    Then(Part),
+    Then(ConditionPart),
 }
 
 /// A question, and where its two answers lead.
@@ -64,7 +64,7 @@ fn ask(atom: Atom, if_true: Way, if_false: Way) -> Question
 }
 
 /// What a part of a condition asks.
-pub(crate) fn question_of(condition: Condition, part: Part) -> Question
+pub(crate) fn question_of(condition: Condition, part: ConditionPart) -> Question
     requires { condition.index < seccomp_data_args }
     ensures word { word_of result.atom < 16 }
     ensures splits { SplitsAt condition part result }
@@ -72,32 +72,40 @@ pub(crate) fn question_of(condition: Condition, part: Part) -> Question
     ensures keeps { IsPlainCondition condition → KeepsEither (One result.atom) }
 {
     match part {
-        Part::High => at_high(condition),
-        Part::Above => at_above(condition),
-        Part::Low => at_low(condition),
+        ConditionPart::High => at_high(condition),
+        ConditionPart::Above => at_above(condition),
+        ConditionPart::Low => at_low(condition),
     }
 }
 
 fn at_high(condition: Condition) -> Question
     requires { condition.index < seccomp_data_args }
     ensures word { word_of result.atom < 16 }
-    ensures splits { SplitsAt condition Part.High result }
-    ensures costs { CostsAt Part.High result }
+    ensures splits { SplitsAt condition ConditionPart.High result }
+    ensures costs { CostsAt ConditionPart.High result }
     ensures keeps { IsPlainCondition condition → KeepsEither (One result.atom) }
 {
     match condition.op {
         Operator::MaskedEqual => ask(
             half_is_under_mask(Half::High, condition),
-            Then(Part::Low),
+            Then(ConditionPart::Low),
             Fails,
         ),
-        Operator::Equal => ask(half_is(Half::High, condition), Then(Part::Low), Fails),
-        Operator::NotEqual => ask(half_is(Half::High, condition), Then(Part::Low), Holds),
+        Operator::Equal => ask(
+            half_is(Half::High, condition),
+            Then(ConditionPart::Low),
+            Fails,
+        ),
+        Operator::NotEqual => ask(
+            half_is(Half::High, condition),
+            Then(ConditionPart::Low),
+            Holds,
+        ),
         Operator::Less | Operator::LessOrEqual | Operator::GreaterOrEqual | Operator::Greater =>
             ask(
                 half_is(Half::High, condition),
-                Then(Part::Low),
-                Then(Part::Above),
+                Then(ConditionPart::Low),
+                Then(ConditionPart::Above),
             ),
     }
 }
@@ -105,8 +113,8 @@ fn at_high(condition: Condition) -> Question
 fn at_above(condition: Condition) -> Question
     requires { condition.index < seccomp_data_args }
     ensures word { word_of result.atom < 16 }
-    ensures splits { SplitsAt condition Part.Above result }
-    ensures costs { CostsAt Part.Above result }
+    ensures splits { SplitsAt condition ConditionPart.Above result }
+    ensures costs { CostsAt ConditionPart.Above result }
     ensures keeps { IsPlainCondition condition → KeepsEither (One result.atom) }
 {
     match condition.op {
@@ -126,8 +134,8 @@ fn at_above(condition: Condition) -> Question
 fn at_low(condition: Condition) -> Question
     requires { condition.index < seccomp_data_args }
     ensures word { word_of result.atom < 16 }
-    ensures splits { SplitsAt condition Part.Low result }
-    ensures costs { CostsAt Part.Low result }
+    ensures splits { SplitsAt condition ConditionPart.Low result }
+    ensures costs { CostsAt ConditionPart.Low result }
     ensures keeps { IsPlainCondition condition → KeepsEither (One result.atom) }
 {
     match condition.op {

@@ -6,7 +6,7 @@ ghost use Rattle.scf_insn.specs.Words.{IsWords};
 ghost use Rattle.scf_machine.specs.Machine.{holds, value_computed};
 ghost use Rattle.scf_compare.specs.internal.Images.{IsImage, IsWhole, image_number};
 ghost use Rattle.scf_compare.specs.internal.Offsets.{offset_number};
-ghost use Rattle.scf_compare.specs.internal.Values.{IsValue, StandsFor, IsPlainValue, IsDecision, Decides};
+ghost use Rattle.scf_compare.specs.internal.Values.{IsValue, StandsFor, IsPlainValue, IsTestDecision, Decides};
 ghost use Rattle.scf_compare.specs.internal.Values.{IsPlainDecision};
 
 use crate::asking::Atoms;
@@ -181,7 +181,7 @@ impl Value {
     pub(crate) fn decide(self, test: Test, other: Value) -> Decision
         requires value { IsValue self }
         requires other { IsValue other }
-        ensures asks { IsDecision result }
+        ensures asks { IsTestDecision result }
         ensures decides { (words : List ℕ) (a v : ℕ) → IsWords words
             → StandsFor self words a
             → StandsFor other words v
@@ -200,7 +200,7 @@ impl Value {
     /// How a test of it against a known number comes out.
     fn decide_with(self, test: Test, v: u32) -> Decision
         requires { IsValue self }
-        ensures asks { IsDecision result }
+        ensures asks { IsTestDecision result }
         ensures decides { (words : List ℕ) (a : ℕ) → IsWords words
             → StandsFor self words a
             → Decides result words (holds test a v) }
@@ -218,7 +218,7 @@ impl Value {
     /// How a test of a known number against it comes out.
     fn decide_turned(self, a: u32, test: Test) -> Decision
         requires { IsValue self }
-        ensures asks { IsDecision result }
+        ensures asks { IsTestDecision result }
         ensures decides { (words : List ℕ) (v : ℕ) → IsWords words
             → StandsFor self words v
             → Decides result words (holds test a v) }
@@ -235,8 +235,8 @@ impl Value {
 impl Decision {
     /// How the opposite of the test comes out.
     pub(crate) fn negated(self) -> Decision
-        requires { IsDecision self }
-        ensures asks { IsDecision result }
+        requires { IsTestDecision self }
+        ensures asks { IsTestDecision result }
         ensures decides { (words : List ℕ) (outcome : Bool) → Decides self words outcome
             → Decides result words (not outcome) }
         ensures plain { IsPlainDecision self → IsPlainDecision result }
@@ -354,7 +354,7 @@ fn exponent_of(v: u32) -> Option<u32>
 /// How a test of an image of a word against a known number comes out.
 fn decide_image(image: Image, test: Test, v: u32) -> Decision
     requires { IsImage image }
-    ensures asks { IsDecision result }
+    ensures asks { IsTestDecision result }
     ensures decides { (words : List ℕ) → IsWords words
         → Decides result words (holds test (image_number image words) v) }
     ensures plain { IsWhole image → (test ≡ Test.CommonBit → IsSimpleMask v) → IsPlainDecision result }
@@ -378,7 +378,7 @@ fn decide_image(image: Image, test: Test, v: u32) -> Decision
 /// How a test of an offset of an image against a known number comes out.
 fn decide_offset(offset: Offset, test: Test, v: u32) -> Decision
     requires { IsImage offset.image }
-    ensures asks { IsDecision result }
+    ensures asks { IsTestDecision result }
     ensures decides { (words : List ℕ) → IsWords words
         → Decides result words (holds test (offset_number offset words) v) }
 {

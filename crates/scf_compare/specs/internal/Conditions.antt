@@ -8,8 +8,8 @@ use Rattle.scf_profile.specs.declared.condition.Condition.{Condition}
 use Rattle.scf_profile.specs.Condition.{holds}
 use Rattle.scf_compare.specs.declared.question.Half.{Half}
 use Rattle.scf_compare.specs.declared.question.Half.TheVariants.{High as HighHalf, Low as LowHalf}
-use Rattle.scf_compare.specs.declared.question.Part.{Part}
-use Rattle.scf_compare.specs.declared.question.Part.TheVariants.{High, Above, Low}
+use Rattle.scf_compare.specs.declared.question.ConditionPart.{ConditionPart}
+use Rattle.scf_compare.specs.declared.question.ConditionPart.TheVariants.{High, Above, Low}
 use Rattle.scf_compare.specs.declared.question.Way.{Way}
 use Rattle.scf_compare.specs.declared.question.Way.TheVariants.{Holds, Fails, Then}
 use Rattle.scf_compare.specs.declared.question.Question.{Question}
@@ -32,7 +32,7 @@ HasOtherHigh MaskedEqual number value = ⊥
 HasOtherHigh _ number value = high number ≢ high value
 
 -- what is known of a number when a part of a condition is asked
-abbrev pub IsAtPart : Condition → Part → ℕ → Type 0
+abbrev pub IsAtPart : Condition → ConditionPart → ℕ → Type 0
 IsAtPart c High number = Unit {0}
 IsAtPart c Above number = HasOtherHigh c.op number c.value
 IsAtPart c Low number = HasSameHigh c.op number c.value c.value_two
@@ -50,7 +50,7 @@ Splits c question words number =
     × (atom_answer question.atom words ≡ false → IsOnWay c question.if_false number)
 
 -- the size of the tree from a part on, where those behind a condition that holds and one that fails have sizes
-abbrev pub part_size : Part → ℕ → ℕ → ℕ
+abbrev pub part_size : ConditionPart → ℕ → ℕ → ℕ
 part_size High holds fails = 3 + 2 * holds + 2 * fails
 part_size Above holds fails = 1 + holds + fails
 part_size Low holds fails = 1 + holds + fails
@@ -61,13 +61,13 @@ way_size Fails holds fails = fails
 way_size (Then part) holds fails = part_size part holds fails
 
 -- over the words of a call the ways on from a part's question
-abbrev pub SplitsAt : Condition → Part → Question → Type 0
+abbrev pub SplitsAt : Condition → ConditionPart → Question → Type 0
 SplitsAt c part question =
     (words : List ℕ) → IsWords words → IsAtPart c part (argument (call_of words) c.index)
     → Splits c question words (argument (call_of words) c.index)
 
 -- a part's question, and what is asked on both ways, are within its size
-abbrev pub CostsAt : Part → Question → Type 0
+abbrev pub CostsAt : ConditionPart → Question → Type 0
 CostsAt part question =
     (holds fails : ℕ)
     → way_size question.if_true holds fails + way_size question.if_false holds fails + 1 ≤ part_size part holds fails

@@ -8,9 +8,9 @@ use Rattle.scf_compare.specs.internal.Asking.{AsksOfWords, atoms_answer, StaysEx
 use Rattle.scf_compare.specs.internal.Trees.{Tree}
 
 -- the words give the answer that is learned, if any is
-abbrev pub Gives : Option (Atoms × Bool) → List ℕ → Type 0
-Gives None words = Unit {0}
-Gives (Some learned) words = atoms_answer learned.0 words ≡ learned.1
+abbrev pub GivesLearned : Option (Atoms × Bool) → List ℕ → Type 0
+GivesLearned None words = Unit {0}
+GivesLearned (Some learned) words = atoms_answer learned.0 words ≡ learned.1
 
 -- what is learned is about some of the sixteen words
 abbrev pub LearnsOfWords : Option (Atoms × Bool) → Type 0
@@ -39,7 +39,7 @@ module _ {F K N : Type 0} (store : Store F) (tree : K → Tree N) where
     pub branch : Branch K N
     pub stands : slice_get frontier.branches.items place ≡ Some branch
     pub allowed : store.allows frontier.facts place words
-    pub given : Gives branch.learned words
+    pub given : GivesLearned branch.learned words
     pub reached : (tree branch.known).reaches branch.node words
 
   -- The words are still to be seen: they are in an open branch, or are allowed now and come on from here.
@@ -62,7 +62,7 @@ module _ {F K N : Type 0} (store : Store F) (tree : K → Tree N) where
     pub facts : IsTrue (store.is_exact frontier.facts place)
     pub keeps : LearnsExactly branch.learned
     pub plain : (tree branch.known).is_plain branch.node
-    pub reached : (words : List ℕ) → store.allows frontier.facts place words → Gives branch.learned words
+    pub reached : (words : List ℕ) → store.allows frontier.facts place words → GivesLearned branch.learned words
         → (tree branch.known).reaches branch.node words
 
   -- each open branch is so

@@ -18,8 +18,8 @@ use Rattle.scf_compare.specs.declared.stack.StackNode.TheVariants.{Empty, At as 
 use Rattle.scf_compare.specs.internal.Stacks.{filter_at, stack_tree}
 use Rattle.scf_compare.specs.declared.profile.ProfileNode.{ProfileNode}
 use Rattle.scf_compare.specs.declared.profile.ProfileNode.TheVariants.{Architecture, Range, Number, Condition as OfCondition, Answer as Answers}
-use Rattle.scf_compare.specs.declared.question.Part.{Part}
-use Rattle.scf_compare.specs.declared.question.Part.TheVariants.{High, Above, Low}
+use Rattle.scf_compare.specs.declared.question.ConditionPart.{ConditionPart}
+use Rattle.scf_compare.specs.declared.question.ConditionPart.TheVariants.{High, Above, Low}
 use Rattle.scf_profile.specs.declared.rule.Rule.{Rule}
 use Rattle.scf_profile.specs.Profile.{Profile}
 use Rattle.scf_compare.specs.internal.Conditions.{part_size}
@@ -80,12 +80,12 @@ stack_node_counts filters registers (InStack place older node) =
     let behind = drop (place + 1) filters in
     scaled_counts (filter_size here node) (stack_paths behind) (node_counts here registers node) (paths_count behind)
 
-part_counts : (part : Part) (holds fails : ℕ) → 0 < part_size part holds fails
+part_counts : (part : ConditionPart) (holds fails : ℕ) → 0 < part_size part holds fails
 part_counts High holds fails = omega arith
 part_counts Above holds fails = omega arith
 part_counts Low holds fails = omega arith
 
-condition_counts : (rules : List Rule) (place index : ℕ) (part : Part) (found : Option Rule)
+condition_counts : (rules : List Rule) (place index : ℕ) (part : ConditionPart) (found : Option Rule)
     → 0 < condition_size rules place index part found
 condition_counts rules place index part None = omega arith
 condition_counts rules place index part (Some rule) = part_counts part _ _

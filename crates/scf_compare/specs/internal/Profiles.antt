@@ -13,7 +13,7 @@ use Rattle.scf_profile.specs.ProfileAnswers.{ProfileAnswers}
 use Rattle.scf_profile.specs.RulesByNumber.{numbers_of, rules_of}
 use Rattle.scf_compare.specs.declared.profile.ProfileNode.{ProfileNode}
 use Rattle.scf_compare.specs.declared.profile.ProfileNode.TheVariants.{Architecture, Range, Number, Condition as OfCondition, Answer as Answers}
-use Rattle.scf_compare.specs.declared.question.Part.{Part}
+use Rattle.scf_compare.specs.declared.question.ConditionPart.{ConditionPart}
 use Rattle.scf_compare.specs.internal.Conditions.{IsAtPart, part_size}
 use Rattle.scf_compare.specs.Effort.{conditions_size, rules_size, number_size}
 use Rattle.scf_compare.specs.internal.Trees.{Tree}
@@ -45,17 +45,17 @@ size_of_rest rules place index rule = conditions_size (drop (index + 1) rule.con
 abbrev pub size_of_rule : List Rule → ℕ → Rule → ℕ
 size_of_rule rules place rule = conditions_size rule.conditions (size_behind rules place rule)
 
-abbrev pub condition_size : List Rule → ℕ → ℕ → Part → Option Rule → ℕ
+abbrev pub condition_size : List Rule → ℕ → ℕ → ConditionPart → Option Rule → ℕ
 condition_size rules place index part None = 1
 condition_size rules place index part (Some rule) =
     part_size part (size_of_rest rules place index rule) (size_behind rules place rule)
 
 -- what is known of a call when a part of a condition of a rule is asked
-abbrev pub KnowsPart : CallRecord → Part → Option Condition → Type 0
+abbrev pub KnowsPart : CallRecord → ConditionPart → Option Condition → Type 0
 KnowsPart call part None = ⊥
 KnowsPart call part (Some condition) = IsAtPart condition part (argument call condition.index)
 
-abbrev pub KnowsRule : List Rule → ℕ → ℕ → CallRecord → Part → Option Rule → Type 0
+abbrev pub KnowsRule : List Rule → ℕ → ℕ → CallRecord → ConditionPart → Option Rule → Type 0
 KnowsRule rules place index call part None = ⊥
 KnowsRule rules place index call part (Some rule) =
     IsAtCondition rules place index rule call × KnowsPart call part (slice_get rule.conditions index)

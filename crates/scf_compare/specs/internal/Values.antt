@@ -33,10 +33,10 @@ StandsFor (ZeroWhere conjunction) words x = (x < 2 ^ 32) × IsZeroWhere conjunct
 StandsFor Unknown words x = Unit {0}
 
 -- a decision asks of some of the sixteen words
-abbrev pub IsDecision : Decision → Type 0
-IsDecision (Decided outcome) = Unit {0}
-IsDecision (Asks asked holds) = AsksOfWords asked
-IsDecision Open = Unit {0}
+abbrev pub IsTestDecision : Decision → Type 0
+IsTestDecision (Decided outcome) = Unit {0}
+IsTestDecision (Asks asked holds) = AsksOfWords asked
+IsTestDecision Open = Unit {0}
 
 -- over the words a decision tells the outcome of a test
 abbrev pub Decides : Decision → List ℕ → Bool → Type 0

@@ -1,6 +1,6 @@
 use Rattle.std.proofs.Common.{◌≡◌, ◌<◌, ◌↔◌, sym, subst, ◌∙◌, arith}
 use Rattle.std.specs.Prelude.{IsTrue}
-use Rattle.scf_compare.specs.internal.Frontier.{Gives}
+use Rattle.scf_compare.specs.internal.Frontier.{GivesLearned}
 use Rattle.scf_compare.proofs.Branches.{same_then, newest_is_branch, taken}
 use Rattle.scf_compare.proofs.frontier.take_branch.Goals as goal
 
@@ -29,7 +29,7 @@ returns g c =
           same_then store.allows store.is_exact old back new place place place (c.undo.ensures.law_undo place still)
           (c.in_ok-learn_answer.ensures.at_marks place before);
       known = λ words.
-          subst (λ n. store.allows new n words ↔ (store.allows old n words × Gives c.in-Some.branch.learned words))
+          subst (λ n. store.allows new n words ↔ (store.allows old n words × GivesLearned c.in-Some.branch.learned words))
           (sym marks) (
             λ allowed. let here = (c.in_ok-learn_answer.ensures.learned words).0 allowed in
                 ((same.0 words).0 here.0, here.1),

@@ -7,7 +7,7 @@ use Rattle.scf_profile.specs.declared.condition.Condition.{Condition}
 use Rattle.scf_profile.specs.declared.rule.Rule.{Rule}
 use Rattle.scf_profile.specs.Rule.{all_hold}
 use Rattle.scf_profile.specs.ProfileAnswers.{by_rule}
-use Rattle.scf_compare.specs.declared.question.Part.TheVariants.{High}
+use Rattle.scf_compare.specs.declared.question.ConditionPart.TheVariants.{High}
 use Rattle.scf_compare.specs.internal.Profiles.{StandsAt, IsAtCondition}
 use Rattle.scf_compare.proofs.Rules.{read_here, same_here, none_of, some_of, contains_here, met_by, knows, size_at_condition, conditions_count}
 use Rattle.scf_compare.proofs.profile.first_of_rule.Goals as goal

@@ -10,7 +10,7 @@ use Rattle.scf_profile.specs.declared.rule.Rule.{Rule}
 use Rattle.scf_profile.specs.Rule.{all_hold}
 use Rattle.scf_profile.specs.ProfileAnswers.{ProfileAnswers, by_rule}
 use Rattle.scf_profile.specs.RulesByNumber.{rules_of}
-use Rattle.scf_compare.specs.declared.question.Part.TheVariants.{High}
+use Rattle.scf_compare.specs.declared.question.ConditionPart.TheVariants.{High}
 use Rattle.scf_compare.specs.Effort.{rules_size}
 use Rattle.scf_compare.specs.internal.Profiles.{profile_with, StandsAt, IsAtCondition}
 use Rattle.scf_compare.proofs.Rules.{read_here, same_here, contains_here, met_by, held_more, fails_by, unmet_failing, unmet_more, knows, size_at_condition, conditions_count}
