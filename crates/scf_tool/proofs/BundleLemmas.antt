@@ -7,7 +7,7 @@ use Rattle.scf_tool.specs.declared.bundle.Part.{Part}
 use Rattle.scf_tool.specs.declared.bundle.PartKind.{PartKind}
 use Rattle.scf_tool.specs.declared.bundle.BundleFault.{BundleFault}
 use Rattle.scf_tool.specs.declared.bundle.BundleFault.TheVariants.{Header, Short, Memory}
-use Rattle.scf_tool.specs.Bundle.{IsHeader, IsBundlePart, SpellsFrom, SpellsBundle, LacksHeader, IsShort, IsFaultAt, BreaksAt, IsBundleFault}
+use Rattle.scf_tool.specs.Bundle.{IsHeader, IsBundlePart, SpellsFrom, SpellsBundle, IsFaultAt, BreaksAt, IsBundleFault}
 use Rattle.scf_tool.proofs.HeaderLemmas.{same_header, header_some}
 
 -- ---- one part
@@ -107,39 +107,39 @@ rest_is_spelled o bs rest (p ∷ ps) (q ∷ qs) h g =
 
 -- ---- faults
 
-no_header_no_parts : (o : ℕ) (bs : List ℕ) (ps : List Part) → LacksHeader bs → SpellsFrom o bs ps → ⊥
-no_header_no_parts o bs [] lacks h = lacks.more h
-no_header_no_parts o bs (p ∷ ps) lacks h =
-    let part = h.3 in
-    lacks.none p.kind (length part.content) (record {
+-- no whole part stands in front where a fault is
+whole_in_front : (o at : ℕ) (bs own rest : List ℕ) (p : Part) (fault : BundleFault) → bs ≡ own ++ rest
+    → IsBundlePart o p own → IsFaultAt bs at fault → ⊥
+whole_in_front o at bs own rest p (Header offset) whole part here =
+    here.1.none p.kind (length part.content) (record {
       header = part.header;
-      rest = part.content ++ h.1;
+      rest = part.content ++ rest;
       is_header = part.is_header;
-      whole = h.2 ∙ ap (λ (xs : List ℕ). xs ++ h.1) part.whole ∙ append_assoc part.header part.content h.1;
+      whole = whole ∙ ap (λ (xs : List ℕ). xs ++ rest) part.whole ∙ append_assoc part.header part.content rest;
     })
+whole_in_front o at bs own rest p (Short offset) whole part here =
+    let short = here.1 in
+    let is : bs ≡ part.header ++ (part.content ++ rest) =
+    whole ∙ ap (λ (xs : List ℕ). xs ++ rest) part.whole ∙ append_assoc part.header part.content rest in
+    let same = same_header short.found.header part.header short.kind p.kind short.count (length part.content)
+    short.found.rest (part.content ++ rest) short.found.is_header part.is_header (sym short.found.whole ∙ is) in
+    let long : length short.found.rest ≡ length part.content + length rest =
+    ap (λ (xs : List ℕ). length xs) same.rest ∙ length-append part.content rest in
+    absurd (omega (arith, long, same.count, short.fewer))
+whole_in_front o at bs own rest p Memory whole part here = here
 
-short_no_parts : (o : ℕ) (bs : List ℕ) (ps : List Part) → IsShort bs → SpellsFrom o bs ps → ⊥
-short_no_parts o bs [] short h =
+pub broken_no_parts : (o at : ℕ) (bs : List ℕ) (ps : List Part) (fault : BundleFault) → IsFaultAt bs at fault
+    → SpellsFrom o bs ps → ⊥
+broken_no_parts o at bs (p ∷ ps) fault here h = whole_in_front o at bs h.0 h.1 p fault h.2 h.3 here
+broken_no_parts o at bs [] (Header offset) here h = here.1.more h
+broken_no_parts o at bs [] (Short offset) here h =
+    let short = here.1 in
     let some = header_some short.found.header short.kind short.count short.found.is_header in
     let none : length bs ≡ 0 = ap (λ (xs : List ℕ). length xs) h in
     let long : length bs ≡ length short.found.header + length short.found.rest =
     ap (λ (xs : List ℕ). length xs) short.found.whole ∙ length-append short.found.header short.found.rest in
     absurd (omega (arith, some, none, long))
-short_no_parts o bs (p ∷ ps) short h =
-    let part = h.3 in
-    let whole : bs ≡ part.header ++ (part.content ++ h.1) =
-    h.2 ∙ ap (λ (xs : List ℕ). xs ++ h.1) part.whole ∙ append_assoc part.header part.content h.1 in
-    let same = same_header short.found.header part.header short.kind p.kind short.count (length part.content)
-    short.found.rest (part.content ++ h.1) short.found.is_header part.is_header (sym short.found.whole ∙ whole) in
-    let long : length short.found.rest ≡ length part.content + length h.1 =
-    ap (λ (xs : List ℕ). length xs) same.rest ∙ length-append part.content h.1 in
-    absurd (omega (arith, long, same.count, short.fewer))
-
-pub broken_no_parts : (o at : ℕ) (bs : List ℕ) (ps : List Part) (fault : BundleFault) → IsFaultAt bs at fault
-    → SpellsFrom o bs ps → ⊥
-broken_no_parts o at bs ps (Header offset) here h = no_header_no_parts o bs ps here.1 h
-broken_no_parts o at bs ps (Short offset) here h = short_no_parts o bs ps here.1 h
-broken_no_parts o at bs ps Memory here h = here
+broken_no_parts o at bs [] Memory here h = here
 
 breaks_no_parts : (bs : List ℕ) (fault : BundleFault) (ps : List Part) → BreaksAt bs fault → SpellsBundle bs ps → ⊥
 breaks_no_parts bs fault ps breaks h =
@@ -219,31 +219,11 @@ tail o bs = take_all (length bs - o) (drop o bs) (omega (arith, length-drop o bs
 
 -- ---- bytes that begin with no whole part
 
-whole_in_front : (bs own rest : List ℕ) (p : Part) (fault : BundleFault) → bs ≡ own ++ rest → IsBundlePart 0 p own
-    → IsFaultAt bs 0 fault → ⊥
-whole_in_front bs own rest p (Header offset) whole part here =
-    here.1.none p.kind (length part.content) (record {
-      header = part.header;
-      rest = part.content ++ rest;
-      is_header = part.is_header;
-      whole = whole ∙ ap (λ (xs : List ℕ). xs ++ rest) part.whole ∙ append_assoc part.header part.content rest;
-    })
-whole_in_front bs own rest p (Short offset) whole part here =
-    let short = here.1 in
-    let is : bs ≡ part.header ++ (part.content ++ rest) =
-    whole ∙ ap (λ (xs : List ℕ). xs ++ rest) part.whole ∙ append_assoc part.header part.content rest in
-    let same = same_header short.found.header part.header short.kind p.kind short.count (length part.content)
-    short.found.rest (part.content ++ rest) short.found.is_header part.is_header (sym short.found.whole ∙ is) in
-    let long : length short.found.rest ≡ length part.content + length rest =
-    ap (λ (xs : List ℕ). length xs) same.rest ∙ length-append part.content rest in
-    absurd (omega (arith, long, same.count, short.fewer))
-whole_in_front bs own rest p Memory whole part here = here
-
 none_before : (bs : List ℕ) (o : ℕ) (ps : List Part) (fault : BundleFault) → IsFaultAt bs 0 fault
     → SpellsBundle (take o bs) ps → ps ≡ []
 none_before bs o [] fault here spelled = refl
 none_before bs o (p ∷ ps) fault here spelled =
-    absurd (whole_in_front bs spelled.0 (spelled.1 ++ drop o bs) p fault
+    absurd (whole_in_front 0 0 bs spelled.0 (spelled.1 ++ drop o bs) p fault
     (sym (take-append-drop o bs) ∙ ap (λ (xs : List ℕ). xs ++ drop o bs) spelled.2
     ∙ append_assoc spelled.0 spelled.1 (drop o bs)) spelled.3 here)
 

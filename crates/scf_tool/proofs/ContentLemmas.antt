@@ -4,44 +4,24 @@ use Rattle.std.specs.Prelude.{if◌then◌else◌}
 use Rattle.std.proofs.lemmas.List.{take_more}
 use Rattle.scf_tool.specs.declared.bundle.Part.{Part}
 use Rattle.scf_tool.specs.declared.bundle.PartKind.{PartKind}
-use Rattle.scf_tool.specs.declared.bundle.PartKind.TheVariants.{Filter, Profile, Table}
 use Rattle.scf_tool.specs.Bundle.{held, held_by, is_of}
 use Rattle.scf_tool.specs.internal.Contents.{with_one}
 
-first_part : (added kind : PartKind) (bytes : List ℕ) (own : List ℕ) (rest : List (List ℕ))
-    → with_one added bytes kind (own ∷ rest) ≡ own ∷ with_one added bytes kind rest
-first_part Filter Filter bytes own rest = refl
-first_part Filter Profile bytes own rest = refl
-first_part Filter Table bytes own rest = refl
-first_part Profile Filter bytes own rest = refl
-first_part Profile Profile bytes own rest = refl
-first_part Profile Table bytes own rest = refl
-first_part Table Filter bytes own rest = refl
-first_part Table Profile bytes own rest = refl
-first_part Table Table bytes own rest = refl
-
-alone : (kind added : PartKind) (bytes : List ℕ) (part : Part) → part.kind ≡ added
-    → held_by kind bytes (part ∷ []) ≡ with_one added (held bytes part) kind []
-alone Filter Filter bytes part is = rw is refl
-alone Filter Profile bytes part is = rw is refl
-alone Filter Table bytes part is = rw is refl
-alone Profile Filter bytes part is = rw is refl
-alone Profile Profile bytes part is = rw is refl
-alone Profile Table bytes part is = rw is refl
-alone Table Filter bytes part is = rw is refl
-alone Table Profile bytes part is = rw is refl
-alone Table Table bytes part is = rw is refl
+first_part : (b : Bool) (bytes own : List ℕ) (rest : List (List ℕ))
+    → (if b then (own ∷ rest) ++ bytes ∷ [] else own ∷ rest) ≡ own ∷ (if b then rest ++ bytes ∷ [] else rest)
+first_part true bytes own rest = refl
+first_part false bytes own rest = refl
 
 step : (b : Bool) (own : List ℕ) (added kind : PartKind) (bytes : List ℕ) (rest more : List (List ℕ))
     → more ≡ with_one added bytes kind rest
     → (if b then own ∷ more else more) ≡ with_one added bytes kind (if b then own ∷ rest else rest)
 step true own added kind bytes rest more e = ap (λ (texts : List (List ℕ)). own ∷ texts) e
-    ∙ sym (first_part added kind bytes own rest)
+    ∙ sym (first_part (is_of kind added) bytes own rest)
 step false own added kind bytes rest more e = e
 
 behind : (kind : PartKind) (bytes : List ℕ) (parts : List Part) (part : Part)
     → held_by kind bytes (parts ++ part ∷ []) ≡ with_one part.kind (held bytes part) kind (held_by kind bytes parts)
-behind kind bytes [] part = alone kind part.kind bytes part refl
+behind kind bytes [] part = refl
 behind kind bytes (p ∷ ps) part = step (is_of kind p.kind) (held bytes p) part.kind kind (held bytes part)
     (held_by kind bytes ps) (held_by kind bytes (ps ++ part ∷ [])) (behind kind bytes ps part)
 

@@ -132,7 +132,8 @@ EndsOnFilters told holds = EndsOnBundle told (λ filters profiles tables. (profi
 -- ---- a profile
 
 -- A profile and a table are all that the bundle holds.
-abbrev pub EndsOnProfile : Option (List ℕ) → (List ℕ → List ℕ → Result Reply Fault → Type 0) → Result Reply Fault → Type 0
+abbrev pub EndsOnProfile : Option (List ℕ) → (List ℕ → List ℕ → Result Reply Fault → Type 0)
+    → Result Reply Fault → Type 0
 EndsOnProfile told holds = EndsOnBundle told (λ filters profiles tables. (filters ≡ 0) × (profiles ≡ 1) × (tables ≡ 1))
     (λ ending. (profile table : List ℕ) × HoldsBundle told [] (profile ∷ []) (table ∷ []) × holds profile table ending)
 

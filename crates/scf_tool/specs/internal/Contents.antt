@@ -1,5 +1,5 @@
 -- What the parts of a bundle hold, as the program keeps it.
-use Rattle.std.specs.Prelude.{◌≡◌, ℕ, List, [], ◌∷◌, ◌++◌, map, Result, Ok, Err}
+use Rattle.std.specs.Prelude.{◌≡◌, ℕ, List, [], ◌∷◌, ◌++◌, map, Result, Ok, Err, if◌then◌else◌}
 use Rattle.scf_profile.specs.References.{texts_at}
 use Rattle.scf_tool.specs.declared.bundle.BundleFault.{BundleFault}
 use Rattle.scf_tool.specs.declared.bundle.BundleFault.TheVariants.{Memory}
@@ -7,7 +7,7 @@ use Rattle.scf_tool.specs.declared.bundle.PartKind.{PartKind}
 use Rattle.scf_tool.specs.declared.bundle.PartKind.TheVariants.{Filter, Profile, Table}
 use Rattle.scf_tool.specs.declared.contents.Contents.{Contents}
 use Rattle.scf_tool.specs.declared.contents.PartReader.{PartReader}
-use Rattle.scf_tool.specs.Bundle.{IsBundle}
+use Rattle.scf_tool.specs.Bundle.{IsBundle, is_of}
 
 -- what a reader of a part has still to give
 abbrev pub rest_of : PartReader → List ℕ
@@ -21,10 +21,7 @@ of_kind Table contents = texts_at contents.tables.items
 
 -- one more of this kind, and of the other kinds none
 abbrev pub with_one : PartKind → List ℕ → PartKind → List (List ℕ) → List (List ℕ)
-with_one Filter bytes Filter held = held ++ bytes ∷ []
-with_one Profile bytes Profile held = held ++ bytes ∷ []
-with_one Table bytes Table held = held ++ bytes ∷ []
-with_one added bytes kind held = held
+with_one added bytes kind held = if is_of kind added then held ++ bytes ∷ [] else held
 
 abbrev pub AddsPart : PartKind → List ℕ → Contents → Result (Unit {0}) BundleFault → Contents → Type 0
 AddsPart added bytes old (Ok done) new =
