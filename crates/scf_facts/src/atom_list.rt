@@ -13,8 +13,8 @@ use crate::word_facts::WordFacts;
 use scf_insn::Memory;
 use std::alloc::Global;
 
-/// The learned atoms with their answers, and pairs of atoms that aren't both true, in order, and how many of these there
-/// were at each open mark.
+/// The learned atoms with their answers, and pairs of atoms that aren't both true, in order, and how many of these
+/// there were at each open mark.
 ///
 /// It tells of an atom that was learned itself, of an `Eq` with mask 0, and of any atom on a word that a true `Eq` with
 /// all bits in its mask has fixed; pairs tell nothing. It picks the words that are 0 save those so fixed, where every

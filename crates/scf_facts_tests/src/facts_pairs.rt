@@ -113,8 +113,8 @@ fn both_atoms_of_a_pair_are_true(rt: HostRuntime) {
     leaves_none::<WordSets>(&rt, rt.alloc(), true);
 }
 
-/// What was learned of word 4, an atom on it that isn't true where word 0 is 0, and words 0 and 4 of what is picked: word
-/// 4 is the first number of which the atom is false, or word 0 is 1 where there is none.
+/// What was learned of word 4, an atom on it that isn't true where word 0 is 0, and words 0 and 4 of what is picked:
+/// word 4 is the first number of which the atom is false, or word 0 is 1 where there is none.
 fn picks() -> [(Atom, Atom, (u32, u32)); 7] {
     [
         (at_least(0), equal(ALL_BITS, 0), (0, 1)),

@@ -13,8 +13,8 @@ use crate::part::{Next, front};
 use scf_insn::kernel::BPF_MAXINSNS;
 use std::collections::BTreeMap;
 
-/// The instruction that a mnemonic and what follows it are, in this line and behind as many others, and what follows its
-/// statement.
+/// The instruction that a mnemonic and what follows it are, in this line and behind as many others, and what follows
+/// its statement.
 #[tactic(auto, unfolding(crate::specs::Drafts::draft_of))]
 fn read_instruction<'a>(
     mnemonic: &[u8],

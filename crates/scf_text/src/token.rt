@@ -144,8 +144,8 @@ pub(crate) fn push_tokens<'a>(
 ///
 /// Each borrows its slice of the text. `Memory` comes where memory was refused, and not where there is no token.
 ///
-/// These are the pieces that `assemble` works on. It looks for a byte that isn't ASCII first, and then takes them one by
-/// one from the text, and keeps none of them but the names of labels and numbers past 2^64-1.
+/// These are the pieces that `assemble` works on. It looks for a byte that isn't ASCII first, and then takes them one
+/// by one from the text, and keeps none of them but the names of labels and numbers past 2^64-1.
 #[tactic(auto, unfolding(crate::specs::Tokens::tokens_of))]
 pub fn tokens(alloc: Global, text: &[u8]) -> Result<Vec<Token<'_>>, Memory>
     ensures pieces { IfOk result (λ found. lexemes found.items ≡ tokens_of text.now) }

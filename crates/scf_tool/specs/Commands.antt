@@ -206,12 +206,14 @@ ComparesParts over relation limit filters profile table (Err (faults.Verify faul
     NoReadFailed fault × IsRefusedStack (map Some filters) (Some table) (Some profile) fault
 ComparesParts over relation limit filters profile table ending = ⊥
 
--- `compare`: the report of the comparison, where one filter or more, a profile and a table are all that the bundle holds
+-- `compare`: the report of the comparison, where one filter or more, a profile and a table are all that the bundle
+-- holds
 abbrev pub Compares : Scopes → Relation → ℕ → Option (List ℕ) → Result Reply Fault → Type 0
 Compares over relation limit told =
     EndsOnBundle told (λ filters profiles tables. (1 ≤ filters) × (profiles ≡ 1) × (tables ≡ 1))
     (λ ending. (filters : List (List ℕ)) × (profile table : List ℕ) × (1 ≤ length filters)
-    × HoldsBundle told filters (profile ∷ []) (table ∷ []) × ComparesParts over relation limit filters profile table ending)
+    × HoldsBundle told filters (profile ∷ []) (table ∷ [])
+    × ComparesParts over relation limit filters profile table ending)
 
 -- ---- all commands
 

@@ -68,7 +68,8 @@ pub record IsSearchPut (default : Answer) (stretches : List Stretch) (before aft
   pub put : ArePut (rules_along stretches) room before after place
   pub ends : (call : CallRecord) (halvings : ℕ) → IsRecord call → IsNonDecreasingBy (λ s. s.first) stretches
       → first_of stretches ≤ call.nr → length stretches ≤ 2 ^ halvings
-      → EndsWithin (words_of call) (code_from place after) call.nr (first_answer call default (rules_on [] stretches call.nr))
+      → EndsWithin (words_of call) (code_from place after) call.nr
+      (first_answer call default (rules_on [] stretches call.nr))
       (2 * halvings + (1 + sum_by rule_bound (rules_on [] stretches call.nr)))
 
 -- what the filter and the profile answer to a call

@@ -53,7 +53,8 @@ known_of sets pairs = record { sets = sets; pairs = pairs }
 
 -- the lists of words that are allowed, where of no pair both atoms are true
 abbrev pub AllowsList : AllFacts → List ℕ → Type 0
-AllowsList known words = AllowsWords known.sets words × All (λ pair. NotBothTrue pair.first pair.second words) known.pairs
+AllowsList known words =
+    AllowsWords known.sets words × All (λ pair. NotBothTrue pair.first pair.second words) known.pairs
 
 -- what is known is in intervals and known bits: there is no pair
 abbrev pub is_exact_known : AllFacts → Bool

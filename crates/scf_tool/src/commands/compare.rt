@@ -104,7 +104,8 @@ fn compare_parts(
     ensures reply { IfOk result (λ reply.
         ComparesParts scopes relation limit (map rest_of filters.old) profile.now table.now (Ok reply)) }
     ensures fault { IfErr result (λ fault.
-        ComparesParts scopes relation limit (map rest_of filters.old) profile.now table.now (Err (Fault.Verify fault))) }
+        ComparesParts scopes relation limit (map rest_of filters.old) profile.now table.now
+        (Err (Fault.Verify fault))) }
 {
     let parties = parties_in(alloc, filters, profile, table)?;
     Ok(report_on(alloc, scopes, relation, parties, limit)?)
