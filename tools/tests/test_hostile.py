@@ -192,6 +192,10 @@ class Hostile(Case):
         """Tests that split what is known thousands of times, before a profile whose rules split it again."""
         bits = load(16) + b"".join(jset(1 << bit, 0, 1) + load(16) for bit in range(14))
         wide = load(24) + b"".join(jset(at * 2654435761 % 2**32 | 3, 0, 1) + load(24) for at in range(14))
+        joined = b"".join(
+            load(20 + 8 * (at % 5)) + insn(0x54, 1 << at % 32) + insn(0x07, 0)
+            + load(16 + 8 * (at % 5)) + insn(0x54, 1 << at * 7 % 32) + insn(0x4C, 0) + jeq(0, 0, 1) + load(16)
+            for at in range(100))
         one_value = [{"index": 1, "value": 5, "op": "SCMP_CMP_EQ"}]
         numbers = [("c%d" % (3 * at), None) for at in range(4000)]
         values = [("c0", [{"index": 1, "value": 3 * at, "op": "SCMP_CMP_EQ"}]) for at in range(4000)]
@@ -199,7 +203,8 @@ class Hostile(Case):
                  for mask in (at * 2654435761 % 2**32 | 3 for at in range(4000))]
         pairs = {"bits before numbers": (bits, numbers), "bits before values": (bits, values),
                  "bits before masks": (bits, masks), "masks before values": (wide, values), "masks before masks":
-                 (wide, masks), "masks before numbers": (wide, [(name, one_value) for name, _ in numbers])}
+                 (wide, masks), "masks before numbers": (wide, [(name, one_value) for name, _ in numbers]),
+                 "words joined before numbers": (joined, numbers), "words joined before values": (joined, values)}
         table = b"".join(b"c%d %d\n" % (3 * at, 3 * at) for at in range(4000))
         for what, (tests, rules) in pairs.items():
             entries = [{"names": [name], "action": "SCMP_ACT_ALLOW", "args": conditions or []}
