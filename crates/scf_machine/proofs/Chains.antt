@@ -1,13 +1,10 @@
 -- Chains of steps from any state: two that meet are one, and a chain inside a part of a list is one of the whole.
-use Rattle.std.proofs.Common.{◌≡◌, ℕ, ◌+◌, List, [], ◌∷◌, ◌++◌, Option, None, Some, refl, ap, sym, subst}
+use Rattle.std.proofs.Common.{◌≡◌, ℕ, ◌+◌, List, [], ◌∷◌, ◌++◌, refl, ap, sym, subst}
 use Rattle.std.proofs.Common.{arith, length, map, get_or, length-append}
 use Rattle.std.proofs.lemmas.Grind.{common_steps}
 use Rattle.std.proofs.lemmas.Option.{gets, slice_get_within, slice_get_read}
-use Rattle.std.specs.Prelude.{slice_get}
-use Rattle.scf_insn.specs.Codes.{operation_of}
 use Rattle.scf_insn.specs.declared.insn.Insn.{Insn}
-use Rattle.scf_insn.specs.declared.operation.Operation.{Operation}
-use Rattle.scf_machine.specs.Machine.{State, Outcome, Goes, Ends, Faults, Fault, effect_of_insn, effect_at, step}
+use Rattle.scf_machine.specs.Machine.{State, Outcome, Goes, Ends, Faults, Fault, step}
 use Rattle.scf_machine.specs.Machine.{IsChain, IsRunFrom}
 use Rattle.scf_machine.specs.Parts.{IsPart, moved}
 use Rattle.scf_machine.proofs.Moves.{moved_outcome, effect_moves}
@@ -32,34 +29,22 @@ run_behind insns words s t xs answer steps a r = record {
 
 -- ---- a part of a list
 
-insn_moves : (n : ℕ) (i : Insn) (words : List ℕ) (s : State) (found : Option Operation)
-    → effect_of_insn i words (moved n s) found ≡ moved_outcome n (effect_of_insn i words s found)
-insn_moves n i words s None = refl
-insn_moves n i words s (Some operation) = effect_moves n operation i words s
-
-step_moves : (whole part : List Insn) (n : ℕ) (words : List ℕ) (s : State) (found : Option Insn) (o : Outcome)
-    → IsPart part n whole → slice_get part s.place ≡ found → effect_at words s found ≡ o
-    → ((fault : Fault) → o ≡ Faults fault → ⊥) → step whole words (moved n s) ≡ moved_outcome n o
-step_moves whole part n words s None o is here e fine = absurd (fine _ (sym e))
-step_moves whole part n words s (Some i) o is here e fine =
-    let moves = insn_moves n i words s (operation_of i.code) in cc (is s.place i here)
-
 -- a step inside a part is a step of the whole
-pub step_of_part : (whole part : List Insn) (n : ℕ) (words : List ℕ) (s t : State)
-    → IsPart part n whole → step part words s ≡ Goes t → step whole words (moved n s) ≡ Goes (moved n t)
-step_of_part whole part n words s t is e = step_moves whole part n words s _ (Goes t) is refl e (λ fault h. cc)
+step_moves : (whole part : List Insn) (n : ℕ) (words : List ℕ) (s : State) (o : Outcome)
+    → IsPart part n whole → step part words s ≡ o → ((fault : Fault) → o ≡ Faults fault → ⊥)
+    → step whole words (moved n s) ≡ moved_outcome n o
+step_moves whole part n words s o is e fine = grind (arith, effect_moves, is s.place)
 
 pub answer_of_part : (whole part : List Insn) (n : ℕ) (words : List ℕ) (s : State) (answer : ℕ)
     → IsPart part n whole → step part words s ≡ Ends answer → step whole words (moved n s) ≡ Ends answer
-answer_of_part whole part n words s answer is e =
-    step_moves whole part n words s _ (Ends answer) is refl e (λ fault h. cc)
+answer_of_part whole part n words s answer is e = step_moves whole part n words s (Ends answer) is e (λ fault h. cc)
 
 -- a chain inside a part is a chain of the whole
 pub chain_of_part : (whole part : List Insn) (n : ℕ) (words : List ℕ) (s t : State) (xs : List State)
     → IsPart part n whole → IsChain part words s t xs → IsChain whole words (moved n s) (moved n t) (map (moved n) xs)
 chain_of_part whole part n words s t [] is a = ap (moved n) a
 chain_of_part whole part n words s t (x ∷ xs) is a =
-    (step_of_part whole part n words x t is a.0, chain_of_part whole part n words s x xs is a.1)
+    (step_moves whole part n words x (Goes t) is a.0 (λ fault h. cc), chain_of_part whole part n words s x xs is a.1)
 
 -- what stands between a front and a back is a part, behind the front
 pub part_between : (front part back : List Insn) → IsPart part (length front) (front ++ part ++ back)

@@ -3,6 +3,7 @@ use Rattle.std.specs.Prelude.{◌≡◌, ℕ, ◌+◌, ◌-◌, ◌*◌, ◌/◌
 use Rattle.std.specs.Prelude.{length, Option, None, Some, if◌then◌else◌, bit_and, bit_or, bit_xor, slice_get}
 use Rattle.std.specs.Prelude.{slice_index}
 use Rattle.std.specs.Map.{lookup}
+use Rattle.std.specs.Option.{option_map_or}
 use Rattle.scf_insn.specs.declared.insn.Insn.{Insn}
 use Rattle.scf_insn.specs.declared.operation.Register.{Register}
 use Rattle.scf_insn.specs.declared.operation.Register.TheVariants.{A, X}
@@ -20,17 +21,12 @@ use Rattle.scf_insn.specs.declared.operation.Operation.TheVariants.{CopyToAccumu
 use Rattle.scf_insn.specs.Codes.{operation_of}
 use Rattle.scf_insn.specs.Kernel.{bpf_memwords, seccomp_data_len}
 
--- a scratch word that was stored: its index and its value
-abbrev pub Stored : Type 0
-Stored = ℕ × ℕ
-
--- A state: the place of the next instruction, the accumulator a, the index register x, and the scratch words
--- that were stored, the newest first.
+-- A state: next place, accumulator, index register, and the scratch words that were stored, by index, the newest first.
 pub record State : Type 0 where
   pub place : ℕ
   pub a : ℕ
   pub x : ℕ
-  pub scratch : List Stored
+  pub scratch : List (ℕ × ℕ)
 
 abbrev pub start : State
 start = record { place = 0; a = 0; x = 0; scratch = [] }
@@ -52,7 +48,7 @@ pub data Outcome : Type 0 where
   Faults : Fault → Outcome
 
 -- the scratch word of an index, None where none was stored
-abbrev pub word_at : List Stored → ℕ → Option ℕ
+abbrev pub word_at : List (ℕ × ℕ) → ℕ → Option ℕ
 word_at scratch n = lookup (λ index. index == n) scratch
 
 abbrev pub value_of : Register → State → ℕ
@@ -79,10 +75,9 @@ operand_of Index i s = s.x
 
 -- the second operand of a computation: of a shift by the index register, its low five bits
 abbrev pub operand_in_computation : Arithmetic → Operand → Insn → State → ℕ
-operand_in_computation arithmetic Constant i s = i.k
 operand_in_computation Lsh Index i s = s.x % 32
 operand_in_computation Rsh Index i s = s.x % 32
-operand_in_computation arithmetic Index i s = s.x
+operand_in_computation arithmetic operand i s = operand_of operand i s
 
 -- what a computation on two numbers gives
 abbrev pub value_computed : Arithmetic → ℕ → ℕ → ℕ
@@ -107,8 +102,7 @@ holds CommonBit a v = not (bit_and a v == 0)
 abbrev pub unless : Bool → Fault → Outcome → Outcome
 unless condition fault outcome = (if condition then outcome else Faults fault)
 
--- a computation: a constant divisor of 0 or a constant shift past 31 is a fault, and a division by an index
--- register of 0 answers 0
+-- a constant divisor of 0 and a constant shift past 31 are faults, and a division by an index register of 0 answers 0
 abbrev pub computation : Arithmetic → Operand → Insn → State → Outcome
 computation Div Constant i s = unless (not (i.k == 0)) DivisionByZero (Goes (sets A s (value_computed Div s.a i.k)))
 computation Div Index i s = (if s.x == 0 then Ends 0 else Goes (sets A s (value_computed Div s.a s.x)))
@@ -117,15 +111,14 @@ computation Rsh Constant i s = unless (nat_lt i.k 32) ShiftTooFar (Goes (sets A 
 computation arithmetic operand i s =
     Goes (sets A s (value_computed arithmetic s.a (operand_in_computation arithmetic operand i s)))
 
--- loads a scratch word, which must be stored
+-- a scratch word that is loaded must be stored
 abbrev pub loads : Register → State → Option ℕ → Outcome
 loads r s None = Faults UnsetScratchWord
 loads r s (Some value) = Goes (sets r s value)
 
 -- what an operation of an instruction does to a state, over the words of a record
 abbrev pub effect : Operation → Insn → List ℕ → State → Outcome
-effect LoadWord i words s =
-    unless (nat_lt i.k seccomp_data_len && (i.k % 4 == 0)) LoadOutsideRecord
+effect LoadWord i words s = unless (nat_lt i.k seccomp_data_len && (i.k % 4 == 0)) LoadOutsideRecord
     (Goes (sets A s (slice_index words (i.k / 4))))
 effect (LoadLength r) i words s = Goes (sets r s seccomp_data_len)
 effect (LoadConstant r) i words s = Goes (sets r s i.k)
@@ -143,17 +136,10 @@ effect ReturnAccumulator i words s = Ends s.a
 effect CopyToIndex i words s = Goes (sets X s s.a)
 effect CopyToAccumulator i words s = Goes (sets A s s.x)
 
-abbrev pub effect_of_insn : Insn → List ℕ → State → Option Operation → Outcome
-effect_of_insn i words s None = Faults UnknownCode
-effect_of_insn i words s (Some operation) = effect operation i words s
-
-abbrev pub effect_at : List ℕ → State → Option Insn → Outcome
-effect_at words s None = Faults NoInstruction
-effect_at words s (Some i) = effect_of_insn i words s (operation_of i.code)
-
 -- one step of a list of instructions, accepted or not: a next state, an answer or a fault
 abbrev pub step : List Insn → List ℕ → State → Outcome
-step insns words s = effect_at words s (slice_get insns s.place)
+step insns words s = option_map_or (λ i. option_map_or (λ operation. effect operation i words s)
+    (operation_of i.code) (Faults UnknownCode)) (slice_get insns s.place) (Faults NoInstruction)
 
 -- A chain of steps from a state: it comes to another through earlier ones, the latest first.
 abbrev pub IsChain : List Insn → List ℕ → State → State → List State → Type 0
@@ -161,8 +147,7 @@ IsChain insns words from s [] = s ≡ from
 IsChain insns words from s (before ∷ earlier) =
     (step insns words before ≡ Goes s) × IsChain insns words from before earlier
 
--- A run from a state: a chain whose last state answers. Its steps are those between its states, and the one that
--- answers.
+-- A run from a state: a chain whose last state answers. All its steps count, the one that answers included.
 pub record IsRunFrom (insns : List Insn) (words : List ℕ) (from : State) (answer steps : ℕ) : Type 0 where
   pub last : State
   pub earlier : List State
@@ -170,7 +155,6 @@ pub record IsRunFrom (insns : List Insn) (words : List ℕ) (from : State) (answ
   pub answers : step insns words last ≡ Ends answer
   pub count : steps ≡ length earlier + 1
 
--- A run begins at the start.
 abbrev pub IsRun : List Insn → List ℕ → ℕ → ℕ → Type 0
 IsRun insns words answer steps = IsRunFrom insns words start answer steps
 

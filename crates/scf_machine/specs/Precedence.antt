@@ -26,8 +26,7 @@ abbrev pub AreAnswers : List (List Insn) → List ℕ → List ℕ → Type 0
 AreAnswers [] words [] = Unit {0}
 AreAnswers (filter ∷ filters) words (answer ∷ answers) =
     RunAnswers filter words answer × AreAnswers filters words answers
-AreAnswers [] words (answer ∷ answers) = ⊥
-AreAnswers (filter ∷ filters) words [] = ⊥
+AreAnswers filters words answers = ⊥
 
 -- What a stack of filters, the oldest first, answers to the words of a record: what the answers of the runs of all its
 -- filters decide.
