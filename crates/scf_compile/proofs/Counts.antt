@@ -29,7 +29,7 @@ use Rattle.scf_compile.specs.declared.numbers.NumberRules.{NumberRules}
 use Rattle.scf_compile.specs.declared.stretches.Stretch.{Stretch}
 use Rattle.scf_compile.specs.SearchBound.{digits_within, binary_digits, greatest}
 use Rattle.scf_compile.specs.SizeBound.{rule_bound}
-use Rattle.scf_compile.specs.internal.Numbers.{rules_in, IsCut, RiseBetween}
+use Rattle.scf_compile.specs.internal.Numbers.{cut_rules, IsCut, RiseBetween}
 use Rattle.scf_compile.specs.internal.Stretches.{AreStretchesOf, rules_along}
 use Rattle.scf_compile.proofs.Filters.{Serve}
 use Rattle.scf_compile.proofs.Sizes.{few_conditions, number_there}
@@ -65,7 +65,7 @@ first_own (r ∷ rs) number some own = (r, (0, omega arith, refl), own.0)
 -- a number that stands there is that of some rule
 there : (ns : List NumberRules) (low high number : ℕ) → RiseBetween low high ns
     → list_any (eqb number) (map (λ n. n.number) ns) ≡ true
-    → (r : Rule) × Contains (rules_in ns) r × (r.number ≡ number)
+    → (r : Rule) × Contains (cut_rules ns) r × (r.number ≡ number)
 there [] low high number h e = absurd (cc)
 there (n ∷ ns) low high number h e =
     let own = rules_at n.rules.now in
@@ -74,10 +74,10 @@ there (n ∷ ns) low high number h e =
           let some = h.1.some in
           let found = first_own own n.number
           (omega (arith, length-map n.rules.now (λ (r : Bor Rule). r.now))) h.1.own in
-          (found.0, Contains-append_left own (rules_in ns) found.0 found.1, found.2 ∙ sym same)
+          (found.0, Contains-append_left own (cut_rules ns) found.0 found.1, found.2 ∙ sym same)
       | inr apart ↦
           let found = there ns (n.number + 1) high number h.2 (rw (ne_eqb number n.number apart) at e) in
-          (found.0, Contains-append_right own (rules_in ns) found.0 found.1, found.2)
+          (found.0, Contains-append_right own (cut_rules ns) found.0 found.1, found.2)
     ]
 
 later_apart : (ns : List NumberRules) (low high number : ℕ) → number < low → RiseBetween low high ns
@@ -122,7 +122,7 @@ sum_at_most rules nr =
 module _ (p : Profile) (valid : IsProfile p) (sorted : List Rule) (numbers : List NumberRules) (ss : List Stretch)
     (by_number : IsByNumber sorted p.rules) (cut : IsCut numbers sorted)
     (laid : AreStretchesOf p.default_answer ss numbers) where
-  in_order : IsPermutation p.rules (rules_in numbers)
+  in_order : IsPermutation p.rules (cut_rules numbers)
   in_order = rw cut.whole by_number.same
 
   abbrev count : ℕ
@@ -134,16 +134,16 @@ module _ (p : Profile) (valid : IsProfile p) (sorted : List Rule) (numbers : Lis
       (all_apart numbers 0 x32_syscall_bit cut.rising)
       (λ number e.
       let found = there numbers 0 x32_syscall_bit number cut.rising e in
-      let among = Contains-permutation (rules_in numbers) p.rules found.0
-      (IsPermutation-sym p.rules (rules_in numbers) in_order) found.1 in
+      let among = Contains-permutation (cut_rules numbers) p.rules found.0
+      (IsPermutation-sym p.rules (cut_rules numbers) in_order) found.1 in
       list_any-from_Contains nat_eq_equiv number (numbers_of p.rules)
       (subst (λ (n : ℕ). Contains (numbers_of p.rules) n) found.2 (numbers_of-contains p.rules found.0 among))) in
       omega (arith, length-map numbers (λ (n : NumberRules). n.number))
 
   of_profile : (P : Rule → Type 0) → All P p.rules → AllByRecursion P (rules_along ss)
   of_profile P all =
-      of_contained P (rules_along ss) (rules_in numbers)
-      (recursion_from_All P (rules_in numbers) (All-permutation P p.rules (rules_in numbers) in_order all)) laid.own
+      of_contained P (rules_along ss) (cut_rules numbers)
+      (recursion_from_All P (cut_rules numbers) (All-permutation P p.rules (cut_rules numbers) in_order all)) laid.own
 
   each : All IsRule p.rules
   each = All-from_recursion IsRule p.rules valid.each
@@ -165,7 +165,7 @@ module _ (p : Profile) (valid : IsProfile p) (sorted : List Rule) (numbers : Lis
     whole = laid.whole;
     stand = λ nr lt. rw (← by_number.kept nr, ← cut.whole) (laid.serve nr lt);
     small = let small = laid.small in
-        omega (arith, few_numbers, sum_by-IsPermutation rule_bound p.rules (rules_in numbers) in_order);
+        omega (arith, few_numbers, sum_by-IsPermutation rule_bound p.rules (cut_rules numbers) in_order);
     below = let few = valid.few in
         omega (arith, few_rules p.rules, sum_by-le rule_bound 50 p.rules (rule_bound_at_most p.rules each));
     halvings = suc (binary_digits count);

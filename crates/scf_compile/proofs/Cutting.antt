@@ -14,7 +14,7 @@ use Rattle.scf_profile.specs.ByNumber.{rules_at}
 use Rattle.scf_profile.specs.Rule.{IsRule}
 use Rattle.scf_profile.proofs.ByNumber.{number_at, references_rise}
 use Rattle.scf_compile.specs.declared.numbers.NumberRules.{NumberRules}
-use Rattle.scf_compile.specs.internal.Numbers.{rules_in, HasOwnRules, RiseBetween, IsCut}
+use Rattle.scf_compile.specs.internal.Numbers.{cut_rules, HasOwnRules, RiseBetween, IsCut}
 
 -- what holds of the rules holds of those that references point to
 references_all : (P : Rule → Type 0) (refs : List (Bor Rule)) → All P (rules_at refs) → All (λ r. P r.now) refs
@@ -32,7 +32,7 @@ pub record CutUpTo (numbers : List NumberRules) (refs : List (Bor Rule)) (first 
   pub above : ℕ
   pub below : above ≤ x32_syscall_bit
   pub rising : RiseBetween 0 above numbers
-  pub whole : rules_in numbers ≡ rules_at (take first refs)
+  pub whole : cut_rules numbers ≡ rules_at (take first refs)
   pub later : All (λ r. above ≤ number_at r) (drop first refs)
 
 rise_push : (ns : List NumberRules) (low high : ℕ) (n : NumberRules) → RiseBetween low high ns → high ≤ n.number
@@ -40,12 +40,12 @@ rise_push : (ns : List NumberRules) (low high : ℕ) (n : NumberRules) → RiseB
 rise_push [] low high n h le own = let first : low ≤ high = h in (omega arith, own, omega arith)
 rise_push (m ∷ ns) low high n h le own = (h.0, h.1, rise_push ns (m.number + 1) high n h.2 le own)
 
-rules_in-push : (ns : List NumberRules) (n : NumberRules)
-    → rules_in (ns ++ n ∷ []) ≡ rules_in ns ++ rules_at n.rules.now
-rules_in-push [] n = append-nil (rules_at n.rules.now)
-rules_in-push (m ∷ ns) n =
-    ap (λ (rs : List Rule). rules_at m.rules.now ++ rs) (rules_in-push ns n)
-    ∙ sym (append_assoc (rules_at m.rules.now) (rules_in ns) (rules_at n.rules.now))
+cut_rules-push : (ns : List NumberRules) (n : NumberRules)
+    → cut_rules (ns ++ n ∷ []) ≡ cut_rules ns ++ rules_at n.rules.now
+cut_rules-push [] n = append-nil (rules_at n.rules.now)
+cut_rules-push (m ∷ ns) n =
+    ap (λ (rs : List Rule). rules_at m.rules.now ++ rs) (cut_rules-push ns n)
+    ∙ sym (append_assoc (rules_at m.rules.now) (cut_rules ns) (rules_at n.rules.now))
 
 -- the first element is one, whatever is given for none
 head_is : (rest : List (Bor Rule)) (r : Bor Rule) → 0 < length rest → r ≡ get_or rest 0 r → (d : Bor Rule)
@@ -130,7 +130,7 @@ module _ (numbers : List NumberRules) (refs : List (Bor Rule)) (first count : �
     rising = rise_push numbers 0 done.above n done.rising
         (omega (arith, done.later 0 d (omega (arith, rest_len)), head d)) (own_rules d);
     whole =
-        rules_in-push numbers n ∙ ap (λ (rs : List Rule). rs ++ rules_at n.rules.now) done.whole
+        cut_rules-push numbers n ∙ ap (λ (rs : List Rule). rs ++ rules_at n.rules.now) done.whole
         ∙ ap (λ (own_refs : List (Bor Rule)). rules_at (take first refs) ++ rules_at own_refs) own
         ∙ sym (map-append (λ (r : Bor Rule). r.now) (take first refs) (take count rest))
         ∙ ap rules_at (sym (take-add first count refs));

@@ -133,7 +133,8 @@ module _ {p : Profile} {ss : List Stretch} {searched killed ranged loaded : List
 
     module _ (call : CallRecord) (fits : IsRecord call) where
       -- by the architecture
-      arch_ends : (answer : ℕ) → (eqb call.arch audit_arch_x86_64 ≡ true → EndsWithin (words_of call) loaded call.arch answer
+      arch_ends : (answer : ℕ)
+          → (eqb call.arch audit_arch_x86_64 ≡ true → EndsWithin (words_of call) loaded call.arch answer
           (4 + (2 * serve.halvings + sum_by rule_bound (rules_of call.nr p.rules))))
           → (eqb call.arch audit_arch_x86_64 ≡ false → answer ≡ kill)
           → EndsWithin (words_of call) code 0 answer (search_bound_of p)

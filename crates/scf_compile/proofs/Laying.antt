@@ -22,9 +22,9 @@ use Rattle.scf_profile.specs.RulesByNumber.{rules_of}
 use Rattle.scf_compile.specs.declared.numbers.NumberRules.{NumberRules}
 use Rattle.scf_compile.specs.declared.stretches.Stretch.{Stretch}
 use Rattle.scf_compile.specs.SizeBound.{rule_bound}
-use Rattle.scf_compile.specs.internal.Numbers.{rules_in, RiseBetween}
+use Rattle.scf_compile.specs.internal.Numbers.{cut_rules, RiseBetween}
 use Rattle.scf_compile.specs.internal.Stretches.{AreAlike, StandsFor, AreTelling, rules_along, rules_on, first_of}
-use Rattle.scf_compile.specs.internal.Stretches.{rules_bound, stretch_bound, IsPut, begins, goes_on, AreStretchesOf}
+use Rattle.scf_compile.specs.internal.Stretches.{rules_bound, stretch_bound, IsLaid, begins, goes_on, AreStretchesOf}
 use Rattle.scf_compile.proofs.Searches.{along-append, on-append}
 use Rattle.scf_compile.proofs.Lists.{next_at, all_append, all_front, all_back}
 use Rattle.scf_compile.proofs.OwnRules.{none_below, rules_first, rules_later}
@@ -152,21 +152,21 @@ module _ (wanted : ℕ → List Rule) (default : Answer) (before : List Stretch)
         ];
       }
 
-  covers_more : (after : List Stretch) → IsPut before next rules after → Covers wanted default after limit
+  covers_more : (after : List Stretch) → IsLaid before next rules after → Covers wanted default after limit
   covers_more after (begins s first is put) =
       subst (λ (l : List Stretch). Covers wanted default l limit) (sym put) (begun s first is)
   covers_more after (goes_on earlier last is alike same) =
       subst (λ (l : List Stretch). Covers wanted default l limit) (sym same) (gone_on earlier last is alike)
 
 put_own : {before after : List Stretch} {first : ℕ} {rules : List (Bor Rule)} (P : Rule → Type 0)
-    → IsPut before first rules after → AllByRecursion P (rules_along before) → AllByRecursion P (rules_at rules)
+    → IsLaid before first rules after → AllByRecursion P (rules_along before) → AllByRecursion P (rules_at rules)
     → AllByRecursion P (rules_along after)
 put_own {before} P (begins s f is put) h k =
     rw (put, along-append before (s ∷ []), append-nil (rules_at s.rules.now))
     (all_append P (rules_along before) (rules_at s.rules.now) h (rw is k))
 put_own P (goes_on earlier last is alike same) h k = rw same h
 
-put_few : {before after : List Stretch} {first : ℕ} {rules : List (Bor Rule)} → IsPut before first rules after
+put_few : {before after : List Stretch} {first : ℕ} {rules : List (Bor Rule)} → IsLaid before first rules after
     → (length after ≤ length before + 1)
     × (sum_by stretch_bound after ≤ sum_by stretch_bound before + rules_bound (rules_at rules))
 put_few {before} {rules = rules} (begins s f is put) =
@@ -179,7 +179,7 @@ put_few (goes_on earlier last is alike same) = rw same (omega arith, omega arith
 -- the last of the stretches is the one that goes on
 pub goes_on_last : (before : List Stretch) (first : ℕ) (last : Stretch) (rules : List (Bor Rule)) → 0 < length before
     → last ≡ get_or before (length before - 1) last → AreAlike (rules_at last.rules.now) (rules_at rules)
-    → IsPut before first rules before
+    → IsLaid before first rules before
 goes_on_last before first last rules some is alike = goes_on (take (length before - 1) before) last ends alike refl
   where
     ends : before ≡ take (length before - 1) before ++ last ∷ []
@@ -219,14 +219,14 @@ telling_own P default telling own (inr none) h =
 -- stretches `more` than two for each number.
 pub record LaidUpTo (default : Answer) (numbers : List NumberRules) (ss : List Stretch) (next : ℕ)
     (rest : List NumberRules) (more : ℕ) : Type 0 where
-  pub covers : Covers (λ nr. rules_of nr (rules_in numbers)) default ss next
+  pub covers : Covers (λ nr. rules_of nr (cut_rules numbers)) default ss next
   pub rising : RiseBetween next x32_syscall_bit rest
-  pub left : (nr : ℕ) → next ≤ nr → rules_of nr (rules_in numbers) ≡ rules_of nr (rules_in rest)
-  pub own : AllByRecursion (Contains (rules_in numbers)) (rules_along ss)
-  pub own_left : AllByRecursion (Contains (rules_in numbers)) (rules_in rest)
+  pub left : (nr : ℕ) → next ≤ nr → rules_of nr (cut_rules numbers) ≡ rules_of nr (cut_rules rest)
+  pub own : AllByRecursion (Contains (cut_rules numbers)) (rules_along ss)
+  pub own_left : AllByRecursion (Contains (cut_rules numbers)) (cut_rules rest)
   pub few : length ss + 2 * length rest ≤ 2 * length numbers + more
   pub small : sum_by stretch_bound ss + 4 * length rest + sum_by rule_bound
-      (rules_in rest) ≤ 4 * length numbers + sum_by rule_bound (rules_in numbers) + 3 * more
+      (cut_rules rest) ≤ 4 * length numbers + sum_by rule_bound (cut_rules numbers) + 3 * more
 
 pub laid_none : (default : Answer) (numbers : List NumberRules) → RiseBetween 0 x32_syscall_bit numbers
     → LaidUpTo default numbers [] 0 numbers 0
@@ -240,8 +240,8 @@ laid_none default numbers rising = record {
   rising = rising;
   left = λ nr le. refl;
   own = tt;
-  own_left = recursion_from_All (Contains (rules_in numbers)) (rules_in numbers)
-      (All-contains_itself (rules_in numbers));
+  own_left = recursion_from_All (Contains (cut_rules numbers)) (cut_rules numbers)
+      (All-contains_itself (cut_rules numbers));
   few = omega arith;
   small = omega arith;
 }
@@ -249,16 +249,16 @@ laid_none default numbers rising = record {
 -- a stretch without rules, up to the next of the numbers or to the end
 pub laid_gap : (default : Answer) (numbers : List NumberRules) (before after : List Stretch) (next limit : ℕ)
     (rest : List NumberRules) → LaidUpTo default numbers before next rest 0
-    → IsPut before next [] after → next < limit → RiseBetween limit x32_syscall_bit rest
+    → IsLaid before next [] after → next < limit → RiseBetween limit x32_syscall_bit rest
     → LaidUpTo default numbers after limit rest 1
 laid_gap default numbers before after next limit rest laid put lt rising = record {
-  covers = covers_more (λ nr. rules_of nr (rules_in numbers)) default before next laid.covers [] limit lt
+  covers = covers_more (λ nr. rules_of nr (cut_rules numbers)) default before next laid.covers [] limit lt
       (λ nr from below. inl
       (subst (λ (l : List Rule). AreAlike [] l)
       (sym (laid.left nr from ∙ none_below rest limit x32_syscall_bit nr rising below)) tt)) after put;
   rising = rising;
   left = λ nr le. laid.left nr (omega arith);
-  own = put_own (Contains (rules_in numbers)) put laid.own tt;
+  own = put_own (Contains (cut_rules numbers)) put laid.own tt;
   own_left = laid.own_left;
   few = let few = laid.few in omega (arith, (put_few put).0);
   small = let small = laid.small in omega (arith, (put_few put).1);
@@ -268,24 +268,24 @@ laid_gap default numbers before after next limit rest laid put lt rising = recor
 pub laid_own : (default : Answer) (numbers : List NumberRules) (before after : List Stretch) (n : NumberRules)
     (rest : List NumberRules) (more : ℕ) (telling : List (Bor Rule))
     → LaidUpTo default numbers before n.number (n ∷ rest) more → more ≤ 1 → AreTelling default telling n.rules.now
-    → IsPut before n.number telling after
+    → IsLaid before n.number telling after
     → LaidUpTo default numbers after (n.number + 1) rest 0
 laid_own default numbers before after n rest more telling laid one tells put = record {
-  covers = covers_more (λ nr. rules_of nr (rules_in numbers)) default before n.number laid.covers telling (n.number + 1)
-      (omega arith)
+  covers = covers_more (λ nr. rules_of nr (cut_rules numbers)) default before n.number laid.covers telling
+      (n.number + 1) (omega arith)
       (λ nr from below.
       let is : n.number ≡ nr = omega arith in
-      let wanted : rules_at n.rules.now ≡ rules_of n.number (rules_in numbers) =
+      let wanted : rules_at n.rules.now ≡ rules_of n.number (cut_rules numbers) =
       sym (laid.left n.number (omega arith) ∙ rules_first n rest n.number x32_syscall_bit laid.rising) in
-      subst (λ (m : ℕ). StandsFor default (rules_at telling) (rules_of m (rules_in numbers))) is
+      subst (λ (m : ℕ). StandsFor default (rules_at telling) (rules_of m (cut_rules numbers))) is
       (subst (λ (l : List Rule). StandsFor default (rules_at telling) l) wanted
       (telling_stands default telling n.rules.now tells))) after put;
   rising = laid.rising.2;
   left = λ nr le. laid.left nr (omega arith) ∙ rules_later n rest nr (λ e. omega arith) laid.rising.1.own;
-  own = put_own (Contains (rules_in numbers)) put laid.own
-      (telling_own (Contains (rules_in numbers)) default telling n.rules.now tells
-      (all_front (Contains (rules_in numbers)) (rules_at n.rules.now) (rules_in rest) laid.own_left));
-  own_left = all_back (Contains (rules_in numbers)) (rules_at n.rules.now) (rules_in rest) laid.own_left;
+  own = put_own (Contains (cut_rules numbers)) put laid.own
+      (telling_own (Contains (cut_rules numbers)) default telling n.rules.now tells
+      (all_front (Contains (cut_rules numbers)) (rules_at n.rules.now) (cut_rules rest) laid.own_left));
+  own_left = all_back (Contains (cut_rules numbers)) (rules_at n.rules.now) (cut_rules rest) laid.own_left;
   few = let few = laid.few in omega (arith, (put_few put).0);
   small =
       let small = laid.small in
@@ -294,7 +294,7 @@ laid_own default numbers before after n rest more telling laid one tells put = r
         arith,
         (put_few put).1,
         telling_bound default telling n.rules.now some tells,
-        sum_by-append rule_bound (rules_at n.rules.now) (rules_in rest),
+        sum_by-append rule_bound (rules_at n.rules.now) (cut_rules rest),
       );
 }
 

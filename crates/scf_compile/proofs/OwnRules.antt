@@ -8,7 +8,7 @@ use Rattle.scf_profile.specs.declared.rule.Rule.{Rule}
 use Rattle.scf_profile.specs.ByNumber.{rules_at}
 use Rattle.scf_profile.specs.RulesByNumber.{rules_of}
 use Rattle.scf_compile.specs.declared.numbers.NumberRules.{NumberRules}
-use Rattle.scf_compile.specs.internal.Numbers.{rules_in, RiseBetween}
+use Rattle.scf_compile.specs.internal.Numbers.{cut_rules, RiseBetween}
 
 pub rise_le : (ns : List NumberRules) (low high : ℕ) → RiseBetween low high ns → low ≤ high
 rise_le [] low high h = h
@@ -28,14 +28,14 @@ no_rules nr number (r ∷ rs) apart own =
 -- the rules of a number that isn't the first are among the others
 pub rules_later : (n : NumberRules) (ns : List NumberRules) (nr : ℕ) → nr ≢ n.number
     → AllByRecursion (λ r. r.number ≡ n.number) (rules_at n.rules.now)
-    → rules_of nr (rules_in (n ∷ ns)) ≡ rules_of nr (rules_in ns)
+    → rules_of nr (cut_rules (n ∷ ns)) ≡ rules_of nr (cut_rules ns)
 rules_later n ns nr apart own =
-    filter-append (λ (r : Rule). eqb r.number nr) (rules_at n.rules.now) (rules_in ns)
-    ∙ ap (λ (l : List Rule). l ++ rules_of nr (rules_in ns)) (no_rules nr n.number (rules_at n.rules.now) apart own)
+    filter-append (λ (r : Rule). eqb r.number nr) (rules_at n.rules.now) (cut_rules ns)
+    ∙ ap (λ (l : List Rule). l ++ rules_of nr (cut_rules ns)) (no_rules nr n.number (rules_at n.rules.now) apart own)
 
 -- no rule has a number below all of them
 pub none_below : (ns : List NumberRules) (low high nr : ℕ) → RiseBetween low high ns → nr < low
-    → rules_of nr (rules_in ns) ≡ []
+    → rules_of nr (cut_rules ns) ≡ []
 none_below [] low high nr h lt = refl
 none_below (n ∷ ns) low high nr h lt =
     let first = h.0 in
@@ -43,9 +43,9 @@ none_below (n ∷ ns) low high nr h lt =
 
 -- the rules of the first number are its own
 pub rules_first : (n : NumberRules) (ns : List NumberRules) (low high : ℕ) → RiseBetween low high (n ∷ ns)
-    → rules_of n.number (rules_in (n ∷ ns)) ≡ rules_at n.rules.now
+    → rules_of n.number (cut_rules (n ∷ ns)) ≡ rules_at n.rules.now
 rules_first n ns low high h =
-    filter-append (λ (r : Rule). eqb r.number n.number) (rules_at n.rules.now) (rules_in ns)
-    ∙ ap (λ (l : List Rule). l ++ rules_of n.number (rules_in ns)) (all_rules n.number (rules_at n.rules.now) h.1.own)
+    filter-append (λ (r : Rule). eqb r.number n.number) (rules_at n.rules.now) (cut_rules ns)
+    ∙ ap (λ (l : List Rule). l ++ rules_of n.number (cut_rules ns)) (all_rules n.number (rules_at n.rules.now) h.1.own)
     ∙ ap (λ (l : List Rule). rules_at n.rules.now ++ l) (none_below ns (n.number + 1) high n.number h.2 (omega arith))
     ∙ append-nil (rules_at n.rules.now)

@@ -4,7 +4,7 @@ ghost use Rattle.std.specs.Prelude.{◌≡◌, IfOk, IsTrue, OnOk};
 ghost use Rattle.scf_insn.specs.Kernel.{x32_syscall_bit};
 ghost use Rattle.scf_profile.specs.ByNumber.{rules_at};
 ghost use Rattle.scf_compile.specs.internal.Numbers.{RiseBetween};
-ghost use Rattle.scf_compile.specs.internal.Stretches.{AreAlike, AreStretchesOf, AreTelling, IsPut};
+ghost use Rattle.scf_compile.specs.internal.Stretches.{AreAlike, AreStretchesOf, AreTelling, IsLaid};
 
 use crate::numbers::NumberRules;
 use scf_insn::Answer;
@@ -55,7 +55,7 @@ fn put_stretch<'a>(
     first: u32,
     rules: &'a [&'a Rule],
 ) -> Result<(), AllocError>
-    ensures { OnOk result (IsPut stretches.old.items first rules.now stretches.new.items) }
+    ensures { OnOk result (IsLaid stretches.old.items first rules.now stretches.new.items) }
 {
     let goes_on = match stretches.last() {
         Some(last) => are_alike(last.rules, rules),

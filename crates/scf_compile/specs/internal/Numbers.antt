@@ -7,9 +7,9 @@ use Rattle.scf_profile.specs.ByNumber.{IsByNumber, rules_at}
 use Rattle.scf_compile.specs.declared.numbers.NumberRules.{NumberRules}
 
 -- the rules of some numbers, those of one number after those of another
-abbrev pub rules_in : List NumberRules → List Rule
-rules_in [] = []
-rules_in (n ∷ ns) = rules_at n.rules.now ++ rules_in ns
+abbrev pub cut_rules : List NumberRules → List Rule
+cut_rules [] = []
+cut_rules (n ∷ ns) = rules_at n.rules.now ++ cut_rules ns
 
 -- The number has rules, and all of them are its own.
 pub record HasOwnRules (n : NumberRules) : Type 0 where
@@ -24,7 +24,7 @@ RiseBetween low high (n ∷ ns) = (low ≤ n.number) × HasOwnRules n × RiseBet
 -- Rules that stand in the order of their numbers, cut into those of each number.
 pub record IsCut (numbers : List NumberRules) (rules : List Rule) : Type 0 where
   pub rising : RiseBetween 0 x32_syscall_bit numbers
-  pub whole : rules_in numbers ≡ rules
+  pub whole : cut_rules numbers ≡ rules
 
 -- These are the distinct numbers of the rules, rising, each with its rules in their order.
 pub record AreNumbersOf (numbers : List NumberRules) (rules : List Rule) : Type 0 where

@@ -12,7 +12,7 @@ use Rattle.scf_profile.specs.RulesByNumber.{rules_of}
 use Rattle.scf_compile.specs.declared.numbers.NumberRules.{NumberRules}
 use Rattle.scf_compile.specs.declared.stretches.Stretch.{Stretch}
 use Rattle.scf_compile.specs.SizeBound.{rule_bound}
-use Rattle.scf_compile.specs.internal.Numbers.{rules_in}
+use Rattle.scf_compile.specs.internal.Numbers.{cut_rules}
 
 -- The rules have equal conditions and answers, in the same order.
 abbrev pub AreAlike : List Rule → List Rule → Type 0
@@ -54,11 +54,11 @@ abbrev pub stretch_bound : Stretch → ℕ
 stretch_bound s = rules_bound (rules_at s.rules.now)
 
 -- From a number on the rules apply: a stretch of them stands behind the others, or the last of these has like ones.
-pub data IsPut (before : List Stretch) (first : ℕ) (rules : List (Bor Rule)) (after : List Stretch) : Type 0 where
+pub data IsLaid (before : List Stretch) (first : ℕ) (rules : List (Bor Rule)) (after : List Stretch) : Type 0 where
   begins : (s : Stretch) → s.first ≡ first → s.rules.now ≡ rules → after ≡ before ++ s ∷ []
-      → IsPut before first rules after
+      → IsLaid before first rules after
   goes_on : (earlier : List Stretch) (last : Stretch) → before ≡ earlier ++ last ∷ []
-      → AreAlike (rules_at last.rules.now) (rules_at rules) → after ≡ before → IsPut before first rules after
+      → AreAlike (rules_at last.rules.now) (rules_at rules) → after ≡ before → IsLaid before first rules after
 
 -- These are the stretches of the numbers.
 pub record AreStretchesOf (default : Answer) (stretches : List Stretch) (numbers : List NumberRules) : Type 0 where
@@ -66,7 +66,7 @@ pub record AreStretchesOf (default : Answer) (stretches : List Stretch) (numbers
   pub whole : first_of stretches ≡ 0
   pub rising : IsNonDecreasingBy (λ s. s.first) stretches
   pub serve : (nr : ℕ) → nr < x32_syscall_bit
-      → StandsFor default (rules_on [] stretches nr) (rules_of nr (rules_in numbers))
-  pub own : AllByRecursion (Contains (rules_in numbers)) (rules_along stretches)
+      → StandsFor default (rules_on [] stretches nr) (rules_of nr (cut_rules numbers))
+  pub own : AllByRecursion (Contains (cut_rules numbers)) (rules_along stretches)
   pub few : length stretches ≤ 1 + 2 * length numbers
-  pub small : sum_by stretch_bound stretches ≤ 3 + 4 * length numbers + sum_by rule_bound (rules_in numbers)
+  pub small : sum_by stretch_bound stretches ≤ 3 + 4 * length numbers + sum_by rule_bound (cut_rules numbers)
