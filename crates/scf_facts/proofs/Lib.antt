@@ -4,8 +4,8 @@ pub mod CountLaws
 pub mod HighMasks
 pub mod IntervalLaws
 pub mod LeastNumber
+pub mod LowestBit
 pub mod MaskLaws
-pub mod OpenBits
 pub mod PairLaws
 pub mod SetLaws
 pub mod SplitLaws

@@ -30,6 +30,7 @@ impl Bits {
     }
 
     /// The bits of both, where some number has both.
+    #[tactic(auto, using(crate::proofs::MaskLaws::joined, crate::proofs::MaskLaws::in_joined))]
     pub(crate) fn join(self, other: Bits) -> Option<Bits>
         ensures both { IfSome result (λ bits. (x : ℕ) → HasBits bits x ↔ (HasBits self x × HasBits other x)) }
         ensures shown { IfSome result (λ bits. HasBits self bits.value × HasBits other bits.value) }
@@ -39,7 +40,9 @@ impl Bits {
             mask: self.mask | other.mask,
             value: self.value | other.value,
         };
-        if self.are_in(bits.value) && other.are_in(bits.value) {
+        let in_self = self.are_in(bits.value);
+        let in_other = other.are_in(bits.value);
+        if in_self && in_other {
             Some(bits)
         } else {
             None
@@ -47,6 +50,7 @@ impl Bits {
     }
 
     /// Whether every number with these has the others.
+    #[tactic(auto, using(crate::proofs::MaskLaws::part_of, crate::proofs::MaskLaws::some_lack))]
     pub(crate) fn imply(self, others: Bits) -> bool
         ensures each { IsTrue result → (x : ℕ) → HasBits self x → HasBits others x }
         ensures some { result ≡ false → HasBits self self.value → SomeLack self others }
@@ -55,6 +59,7 @@ impl Bits {
     }
 
     /// Those of these bits that the known ones leave open, where some number has both.
+    #[tactic(auto, using(crate::proofs::MaskLaws::beyond_laws))]
     pub(crate) fn beyond(self, known: Bits) -> Bits
         ensures decides { (some x : ℕ) → HasBits known some → HasBits self some
             → HasBits known x → (HasBits self x ↔ HasBits result x) }
@@ -71,6 +76,7 @@ impl Bits {
     }
 
     /// The other value of a single bit.
+    #[tactic(auto, using(crate::proofs::MaskLaws::flipped))]
     pub(crate) fn flipped(self) -> Bits
         requires one { IsPowerOfTwo self.mask }
         requires within { bit_and self.value self.mask ≡ self.value }
@@ -83,6 +89,7 @@ impl Bits {
     }
 
     /// The lowest of these bits.
+    #[tactic(auto, using(crate::proofs::LowestBit::lowest))]
     pub(crate) fn lowest(self) -> Option<Bits>
         ensures none { IfNone result (self.mask ≡ 0) }
         ensures one { IfSome result (λ bit. IsPowerOfTwo bit.mask) }
@@ -101,6 +108,7 @@ impl Bits {
     }
 
     /// Whether the mask has one bit.
+    #[tactic(auto, using(crate::proofs::MaskLaws::is_one))]
     pub(crate) fn is_single(self) -> bool
         ensures { IsTrue result ↔ IsPowerOfTwo self.mask }
     {

@@ -4,6 +4,7 @@ ghost use Rattle.std.specs.Prelude.{IsTrue};
 ghost use Rattle.scf_facts.specs.HighMask.{IsHighMask};
 
 /// Whether a mask has all bits from one on, and none before it.
+#[tactic(auto, using(crate::proofs::LowestBit::high_mask))]
 pub fn is_high_mask(mask: u32) -> bool
     ensures { IsTrue result → IsHighMask mask }
 {

@@ -1,0 +1,30 @@
+-- The lowest bit of a mask.
+use Rattle.std.proofs.Common.{◌≡◌, ℕ, ◌*◌, ◌-◌, ◌%◌, ◌<◌, ◌^◌, ◌∙◌, ap, sym, arith}
+use Rattle.std.specs.Prelude.{bit_and}
+use Rattle.std.specs.Int.{w32, IsPowerOfTwo}
+use Rattle.std.specs.Int.Count.{count_trailing_zeros}
+use Rattle.std.proofs.lemmas.Nat.{one_shl, and_assoc}
+use Rattle.std.proofs.lemmas.Nat.Bits.{and_pow, bit_at-trailing_zeros, ones_shl}
+use Rattle.scf_facts.specs.HighMask.{IsHighMask}
+use Rattle.scf_facts.proofs.MaskLaws.{and_twice}
+
+pub lowest_power : (m : ℕ) → 0 < m → m < 2 ^ 32 → IsPowerOfTwo (1 * 2 ^ count_trailing_zeros 32 m % 2 ^ 32)
+lowest_power m some fits = (count_trailing_zeros 32 m, one_shl _ 32 (bit_at-trailing_zeros w32 m some fits).0)
+
+-- it is one of the mask's bits
+pub lowest_among : (m : ℕ) → 0 < m → m < 2 ^ 32
+    → bit_and m (1 * 2 ^ count_trailing_zeros 32 m % 2 ^ 32) ≡ 1 * 2 ^ count_trailing_zeros 32 m % 2 ^ 32
+lowest_among m some fits =
+    rw (one_shl _ 32 (bit_at-trailing_zeros w32 m some fits).0, and_pow m, (bit_at-trailing_zeros w32 m some fits).1)
+    (omega arith)
+
+pub lowest_part : (m x : ℕ) → 0 < m → m < 2 ^ 32 → bit_and x (1 * 2 ^ count_trailing_zeros 32 m % 2 ^ 32)
+    ≡ bit_and (bit_and x m) (1 * 2 ^ count_trailing_zeros 32 m % 2 ^ 32)
+lowest_part m x some fits = sym (and_assoc _ x m ∙ ap (bit_and x) (lowest_among m some fits))
+
+pub high_mask : (m : ℕ) → 0 < m → m < 2 ^ 32 → m ≡ (2 ^ 32 - 1) * 2 ^ count_trailing_zeros 32 m % 2 ^ 32 → IsHighMask m
+high_mask m some fits e =
+    let place = (bit_at-trailing_zeros w32 m some fits).0 in
+    (count_trailing_zeros 32 m, place, e ∙ ones_shl 32 _ (omega arith))
+
+pub ruleset lowest = (lowest_power, lowest_among, lowest_part, and_twice)
