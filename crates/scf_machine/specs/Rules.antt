@@ -1,7 +1,8 @@
 -- What makes a list of instructions a filter (Linux uapi filter.h; seccomp(2)).
 use Rattle.std.specs.Prelude.{◌≡◌, ◌≢◌, ℕ, ◌+◌, ◌-◌, ◌%◌, ◌<◌, ◌≤◌, ◌==◌, ◌⊎◌, Bool, false, List, [], ◌∷◌, length}
-use Rattle.std.specs.Prelude.{Option, None, Some, slice_get, IsTrue}
+use Rattle.std.specs.Prelude.{Option, Some, slice_get, IsTrue}
 use Rattle.std.specs.List.{list_any, AllByRecursion}
+use Rattle.std.specs.Option.{option_map_or}
 use Rattle.scf_insn.specs.declared.insn.Insn.{Insn}
 use Rattle.scf_insn.specs.declared.operation.Register.{Register}
 use Rattle.scf_insn.specs.declared.operation.Operand.TheVariants.{Constant}
@@ -72,17 +73,10 @@ abbrev pub stores_word : Operation → ℕ → ℕ → Bool
 stores_word (StoreScratch r) k n = k == n
 stores_word _ k n = false
 
-abbrev pub stores_word_of : Option Operation → ℕ → ℕ → Bool
-stores_word_of None k n = false
-stores_word_of (Some operation) k n = stores_word operation k n
-
-abbrev pub insn_stores_word : Option Insn → ℕ → Bool
-insn_stores_word None n = false
-insn_stores_word (Some i) n = stores_word_of (operation_of i.code) i.k n
-
 -- the instruction at a place stores the scratch word n
 unfoldable pub stores_at : List Insn → ℕ → ℕ → Bool
-stores_at insns n place = insn_stores_word (slice_get insns place) n
+stores_at insns n place = option_map_or (λ i. option_map_or (λ operation. stores_word operation i.k n)
+    (operation_of i.code) false) (slice_get insns place) false
 
 -- The instruction at a place loads the scratch word n.
 pub record LoadsAt (insns : List Insn) (place n : ℕ) : Type 0 where
