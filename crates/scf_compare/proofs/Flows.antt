@@ -15,12 +15,11 @@ use Rattle.scf_insn.specs.declared.operation.Operation.TheVariants.{LoadWord, Lo
 use Rattle.scf_insn.specs.Codes.{operation_of}
 use Rattle.scf_machine.specs.Machine.{State, Goes, Ends, Fault, unless, loads, sets, jumps_to, holds, operand_of, effect}
 use Rattle.scf_machine.specs.Rules.{Stands, IsFine, IsValidList, IsReturn, GoesTo, Edge}
-use Rattle.scf_machine.specs.Checks.{UsesScratch}
 use Rattle.scf_machine.proofs.Runs.{fine_of, same_insn}
 use Rattle.scf_compare.specs.declared.flow.Flow.{Flow}
 use Rattle.scf_compare.specs.declared.flow.Flow.TheVariants.{Next, Jump, Branch, DivideByIndex, ReturnConstant, ReturnAccumulator}
 use Rattle.scf_compare.specs.Paths.{size_of_insn, tree_sizes, tree_size}
-use Rattle.scf_compare.specs.internal.Flow.{flow_at, IsInside, size_of_flow}
+use Rattle.scf_compare.specs.internal.Flow.{flow_at, UsesScratch, IsInside, size_of_flow}
 
 -- ---- places inside the program
 

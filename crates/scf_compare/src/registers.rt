@@ -13,7 +13,7 @@ ghost use Rattle.scf_machine.specs.Machine.{
   effect,
   Goes,
 };
-ghost use Rattle.scf_machine.specs.Checks.{UsesScratch};
+ghost use Rattle.scf_compare.specs.internal.Flow.{UsesScratch};
 ghost use Rattle.scf_compare.specs.internal.Values.{IsValue, StandsFor, IsPlainValue, AreValues, Describes};
 
 use crate::image::Image;

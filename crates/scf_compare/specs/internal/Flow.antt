@@ -4,7 +4,7 @@ use Rattle.scf_insn.specs.declared.insn.Insn.{Insn}
 use Rattle.scf_insn.specs.declared.operation.Operand.TheVariants.{Index}
 use Rattle.scf_insn.specs.declared.operation.Arithmetic.TheVariants.{Div}
 use Rattle.scf_insn.specs.declared.operation.Operation.{Operation}
-use Rattle.scf_insn.specs.declared.operation.Operation.TheVariants.{Compute, Jump as Jumps, JumpIf, ReturnConstant as ReturnsConstant, ReturnAccumulator as ReturnsAccumulator}
+use Rattle.scf_insn.specs.declared.operation.Operation.TheVariants.{LoadScratch, StoreScratch, Compute, Jump as Jumps, JumpIf, ReturnConstant as ReturnsConstant, ReturnAccumulator as ReturnsAccumulator}
 use Rattle.scf_compare.specs.declared.flow.Flow.{Flow}
 use Rattle.scf_compare.specs.declared.flow.Flow.TheVariants.{Next, Jump, Branch, DivideByIndex, ReturnConstant, ReturnAccumulator}
 
@@ -16,6 +16,12 @@ flow_at ReturnsConstant i place = ReturnConstant
 flow_at ReturnsAccumulator i place = ReturnAccumulator
 flow_at (Compute Div Index) i place = DivideByIndex (place + 1)
 flow_at _ i place = Next (place + 1)
+
+-- it loads or stores a scratch word
+abbrev pub UsesScratch : Operation → Type 0
+UsesScratch (LoadScratch r) = Unit {0}
+UsesScratch (StoreScratch r) = Unit {0}
+UsesScratch _ = ⊥
 
 -- the places that it goes on to are below a length
 abbrev pub IsInside : ℕ → Flow → Type 0
