@@ -1,5 +1,6 @@
 -- Which answer of a stack decides (seccomp(2)).
 use Rattle.std.specs.Prelude.{◌≡◌, ℕ, ◌<◌, ◌≤ℤ◌, ◌<ℤ◌, int_lt, if◌then◌else◌, List, [], ◌∷◌, Some, slice_get, reverse}
+use Rattle.std.specs.List.{AllZip}
 use Rattle.scf_insn.specs.declared.insn.Insn.{Insn}
 use Rattle.scf_insn.specs.Answers.{rank_of}
 use Rattle.scf_insn.specs.Kernel.{seccomp_ret_allow}
@@ -23,10 +24,7 @@ with_newest older newest = (if int_lt (rank_of older) (rank_of newest) then olde
 
 -- the answers of the runs of filters over a record, one for each
 abbrev pub AreAnswers : List (List Insn) → List ℕ → List ℕ → Type 0
-AreAnswers [] words [] = Unit {0}
-AreAnswers (filter ∷ filters) words (answer ∷ answers) =
-    RunAnswers filter words answer × AreAnswers filters words answers
-AreAnswers filters words answers = ⊥
+AreAnswers filters words answers = AllZip (λ filter answer. RunAnswers filter words answer) filters answers
 
 -- What a stack of filters, the oldest first, answers to the words of a record: what the answers of the runs of all its
 -- filters decide.
