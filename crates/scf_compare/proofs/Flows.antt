@@ -13,6 +13,7 @@ use Rattle.scf_insn.specs.declared.operation.Test.{Test}
 use Rattle.scf_insn.specs.declared.operation.Operation.{Operation}
 use Rattle.scf_insn.specs.declared.operation.Operation.TheVariants.{LoadWord, LoadScratch, StoreScratch, Compute, Jump as Jumps, JumpIf, ReturnConstant as ReturnsConstant, ReturnAccumulator as ReturnsAccumulator}
 use Rattle.scf_insn.specs.Codes.{operation_of}
+use Rattle.scf_insn.specs.Kernel.{bpf_memwords}
 use Rattle.scf_machine.specs.Machine.{State, Goes, Ends, Fault, unless, loads, sets, jumps_to, holds, operand_of, effect}
 use Rattle.scf_machine.specs.Rules.{Stands, IsFine, IsValidList, IsReturn, GoesTo, Edge}
 use Rattle.scf_machine.proofs.Runs.{fine_of, same_insn}
@@ -59,13 +60,13 @@ load_fits insns place i operation valid stands e =
     fine.0
 
 scratch_is_fine : (len place : ℕ) (i : Insn) (operation : Operation) → IsFine len place i operation
-    → UsesScratch operation → i.k < 16
+    → UsesScratch operation → i.k < bpf_memwords
 scratch_is_fine len place i (LoadScratch r) fine uses = fine
 scratch_is_fine len place i (StoreScratch r) fine uses = fine
 scratch_is_fine len place i operation fine uses = absurd uses
 
 pub scratch_fits : (insns : List Insn) (place : ℕ) (i : Insn) (operation : Operation) → IsValidList insns
-    → Stands insns place i operation → UsesScratch operation → i.k < 16
+    → Stands insns place i operation → UsesScratch operation → i.k < bpf_memwords
 scratch_fits insns place i operation valid stands uses =
     scratch_is_fine (length insns) place i operation (fine_at insns place i operation valid stands) uses
 

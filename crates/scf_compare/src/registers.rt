@@ -1,6 +1,7 @@
 //! What is known of the registers and scratch words on a way through a filter.
 
 ghost use Rattle.std.specs.Prelude.{◌≡◌, ℕ, ◌+◌, ◌<◌, List};
+ghost use Rattle.scf_insn.specs.Kernel.{bpf_memwords};
 ghost use Rattle.scf_insn.specs.Words.{IsWords};
 ghost use Rattle.scf_machine.specs.Machine.{
   State,
@@ -18,7 +19,7 @@ ghost use Rattle.scf_compare.specs.internal.Values.{IsValue, StandsFor, IsPlainV
 
 use crate::image::Image;
 use crate::value::Value;
-use scf_insn::kernel::SECCOMP_DATA_LEN;
+use scf_insn::kernel::{BPF_MEMWORDS, SECCOMP_DATA_LEN};
 use scf_insn::{Arithmetic, Insn, Operand, Operation, Register};
 
 /// What is known of both registers and the sixteen scratch words.
@@ -26,7 +27,7 @@ use scf_insn::{Arithmetic, Insn, Operand, Operation, Register};
 pub(crate) struct Registers {
     pub(crate) a: Value,
     pub(crate) x: Value,
-    pub(crate) scratch: [Value; 16],
+    pub(crate) scratch: [Value; BPF_MEMWORDS],
 }
 
 impl Registers {
@@ -39,7 +40,7 @@ impl Registers {
         Registers {
             a: Value::Known(0),
             x: Value::Known(0),
-            scratch: [Value::Unknown; 16],
+            scratch: [Value::Unknown; BPF_MEMWORDS],
         }
     }
 
@@ -75,7 +76,7 @@ impl Registers {
     fn store(&mut self, index: u8, value: Value)
         requires values { AreValues self.old }
         requires value { IsValue value }
-        requires index { index < 16 }
+        requires index { index < bpf_memwords }
         ensures values { AreValues self.new }
         ensures describes { (words : List ℕ) (s : State) (number : ℕ) → Describes self.old words s
             → StandsFor value words number
@@ -118,7 +119,7 @@ impl Registers {
     pub(crate) fn apply(&mut self, insn: Insn, operation: Operation)
         requires values { AreValues self.old }
         requires load { operation ≡ Operation.LoadWord → insn.k < 64 }
-        requires scratch { UsesScratch operation → insn.k < 16 }
+        requires scratch { UsesScratch operation → insn.k < bpf_memwords }
         ensures values { AreValues self.new }
         ensures describes { (words : List ℕ) (s t : State) → IsWords words
             → Describes self.old words s

@@ -1,5 +1,6 @@
 -- What is known of the numbers that a filter computes from the words of a record.
 use Rattle.std.specs.Prelude.{◌≡◌, ◌<◌, ◌↔◌, ◌^◌, ℕ, List, Bool, true, Some, All, slice_index_or}
+use Rattle.scf_insn.specs.Kernel.{bpf_memwords}
 use Rattle.scf_machine.specs.Machine.{State, word_at}
 use Rattle.scf_compare.specs.declared.value.Value.{Value}
 use Rattle.scf_compare.specs.declared.value.Value.TheVariants.{Known, OfWord, Offset, ZeroWhere, Unknown}
@@ -67,5 +68,5 @@ pub record AreValues (registers : Registers) : Type 0 where
 pub record Describes (registers : Registers) (words : List ℕ) (s : State) : Type 0 where
   pub a : StandsFor registers.a words s.a
   pub x : StandsFor registers.x words s.x
-  pub scratch : (n value : ℕ) (past : Value) → n < 16 → word_at s.scratch n ≡ Some value
+  pub scratch : (n value : ℕ) (past : Value) → n < bpf_memwords → word_at s.scratch n ≡ Some value
       → StandsFor (slice_index_or registers.scratch n past) words value
