@@ -33,13 +33,7 @@ start = record { place = 0; a = 0; x = 0; scratch = [] }
 
 -- Why a machine can't go on.
 pub data Fault : Type 0 where
-  NoInstruction : Fault
-  UnknownCode : Fault
-  LoadOutsideRecord : Fault
-  NoSuchScratchWord : Fault
-  UnsetScratchWord : Fault
-  DivisionByZero : Fault
-  ShiftTooFar : Fault
+  NoInstruction UnknownCode LoadOutsideRecord NoSuchScratchWord UnsetScratchWord DivisionByZero ShiftTooFar : Fault
 
 -- What one step leads to.
 pub data Outcome : Type 0 where
