@@ -2,7 +2,6 @@
 use Rattle.std.proofs.Common.{◌≡◌, ◌≢◌, ℕ, ◌<◌, ◌≤◌, ◌^◌, true, false, eqb, leb, List, sym, ◌∙◌, arith, bit_and}
 use Rattle.std.specs.Prelude.{slice_index}
 use Rattle.std.proofs.lemmas.Bool.{eq-eqb, eqb-true}
-use Rattle.std.proofs.lemmas.Bool.Decides.{nat_tests}
 use Rattle.std.proofs.lemmas.Nat.{and_mask}
 use Rattle.std.proofs.Math.Nat.{mod-eq_of_lt}
 use Rattle.scf_insn.specs.Words.{IsWords}
@@ -20,11 +19,10 @@ word_is words i v w e = whole_word _ (word_below words w i) ∙ eqb-true _ _ e
 
 pub word_isnt : (words : List ℕ) (i v : ℕ) → IsWords words → eqb (bit_and (slice_index words i) 4294967295) v ≡ false
     → slice_index words i ≢ v
-word_isnt words i v w e = λ same. let both : true ≡ false =
-    sym (eq-eqb _ _ (sym (whole_word _ (word_below words w i)) ∙ same)) ∙ e in cc
+word_isnt words i v h1 h2 = grind (arith, eq-eqb, whole_word, word_below)
 
 pub at_least : (x v : ℕ) → leb v x ≡ true → v ≤ x
-at_least x v e = grind (arith, nat_tests)
+at_least x v e = grind arith
 
 pub below : (x v : ℕ) → leb v x ≡ false → x < v
-below x v e = grind (arith, nat_tests)
+below x v e = grind arith

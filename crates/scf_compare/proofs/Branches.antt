@@ -1,7 +1,7 @@
 -- Open branches, as one is opened and one is taken.
 use Rattle.std.proofs.Common.{◌≡◌, ℕ, zero, suc, ◌+◌, ◌<◌, ◌≤◌, ◌↔◌, ◌⊎◌, inl, inr, List, [], ◌∷◌, ◌++◌, Bool, length, refl, sym, ap, subst, ◌∙◌, arith, length-append}
 use Rattle.std.proofs.Math.Nat.{eq-or-lt_of_le}
-use Rattle.std.specs.Prelude.{Some, IsTrue, slice_get, sum_by}
+use Rattle.std.specs.Prelude.{Some, IsTrue, slice_get}
 use Rattle.std.proofs.lemmas.Option.{slice_get_within}
 use Rattle.std.proofs.lemmas.List.Sums.{sum_by-append}
 use Rattle.scf_facts.specs.declared.word_facts.WordFacts.{Ghosts as Store}
@@ -39,28 +39,19 @@ length_more xs ys x e = ap length e ∙ length-append xs (x ∷ [])
 size_more : {F K N : Type 0} (tree : K → Tree N) (fewer more : Frontier F K N) (b : Branch K N)
     → more.branches.items ≡ fewer.branches.items ++ b ∷ []
     → open_size tree more ≡ open_size tree fewer + (tree b.known).size b.node
-size_more {K = K} {N = N} tree fewer more b e =
-    ap (sum_by (λ (branch : Branch K N). (tree branch.known).size branch.node)) e
-    ∙ sum_by-append (λ (branch : Branch K N). (tree branch.known).size branch.node) fewer.branches.items (b ∷ [])
-    ∙ grind arith
+size_more tree fewer more b h1 = grind (arith, sum_by-append)
 
 -- ---- levels that stay
 
 pub same_then : {S : Type 0} (allows : S → ℕ → List ℕ → Type 0) (is_exact : S → ℕ → Bool) (a b c : S) (i j k : ℕ)
     → IsSameLevel allows is_exact a i b j → IsSameLevel allows is_exact b j c k → IsSameLevel allows is_exact a i c k
-same_then allows is_exact a b c i j k f h =
-    (λ words. (λ x. (f.0 words).0 ((h.0 words).0 x), λ x. (h.0 words).1 ((f.0 words).1 x)), h.1 ∙ f.1)
+same_then allows is_exact a b c i j k h1 h2 = grind arith
 
 module _ {F K N : Type 0} (store : Store F) (tree : K → Tree N) (old new : Frontier F K N) where
   exact_still : (place : ℕ) (branch : Branch K N)
       → IsSameLevel store.allows store.is_exact old.facts place new.facts place
       → IsExactBranch store tree old place branch → IsExactBranch store tree new place branch
-  exact_still place branch same e = record {
-    facts = same.1 ∙ e.facts;
-    keeps = e.keeps;
-    plain = e.plain;
-    reached = λ words allowed given. e.reached words ((same.0 words).0 allowed) given;
-  }
+  exact_still place branch h1 h2 = grind arith
 
 -- A branch was opened, and more may have been learned since.
 pub record HasOpened {F K N : Type 0} (store : Store F) (old new : Frontier F K N) (b : Branch K N) : Type 0 where

@@ -1,12 +1,12 @@
 -- The first rules of numbers, and what it says of a call that no rule before one has its number.
 use Rattle.std.proofs.Common.{◌≡◌, ◌≢◌, ℕ, zero, suc, ◌+◌, ◌≤◌, ◌||◌, Bool, true, false, cond, eqb, List, [], ◌∷◌, ◌++◌, length, take, drop, get_or, refl, sym, ap, subst, ◌∙◌, arith}
-use Rattle.std.specs.Prelude.{All, map, option_map, slice_get, sum_by, Some}
+use Rattle.std.specs.Prelude.{All, map, slice_get, sum_by, Some}
 use Rattle.std.specs.List.{list_any}
 use Rattle.std.proofs.lemmas.Bool.{eq-eqb}
 use Rattle.std.proofs.lemmas.List.Sums.{get_or-le-sum_by, sum_by-append}
 use Rattle.std.proofs.lemmas.List.{length-map}
 use Rattle.std.proofs.lemmas.Option.{slice_get-map, slice_get-get_or, slice_get_within}
-use Rattle.std.proofs.lemmas.List.Elements.{All-nil, All-cons, All-push, All-contains}
+use Rattle.std.proofs.lemmas.List.Elements.{All-nil, All-cons, All-push}
 use Rattle.scf_insn.specs.declared.record.CallRecord.{CallRecord}
 use Rattle.scf_profile.specs.declared.rule.Rule.{Rule}
 use Rattle.scf_profile.specs.Rule.{meets}
@@ -17,8 +17,7 @@ use Rattle.scf_compare.specs.internal.Numbers.{AreFirstRules}
 use Rattle.scf_compare.proofs.Rules.{unmet_apart, contains_here, drop_here}
 
 neither : (b c : Bool) → (b || c) ≡ false → (b ≡ false) × (c ≡ false)
-neither true c e = absurd (cc)
-neither false c e = (refl, e)
+neither b c h1 = grind arith
 
 append_nil : {X : Type 0} (xs : List X) → xs ++ [] ≡ xs
 append_nil [] = refl
@@ -78,22 +77,10 @@ sum_split f xs place x here =
 module _ (firsts : List FirstRule) (rules : List Rule) (h : AreFirstRules firsts rules) (place : ℕ) (first : FirstRule)
     (here : slice_get firsts place ≡ Some first) where
   pub number_at : slice_get (numbers_of rules) place ≡ Some first.number
-  number_at =
-      let in_map : slice_get (map (λ (f : FirstRule). f.number) firsts) place ≡ Some first.number =
-      slice_get-map (λ (f : FirstRule). f.number) firsts place
-      ∙ ap (option_map (λ (f : FirstRule). f.number)) here in
-      subst (λ (numbers : List ℕ). slice_get numbers place ≡ Some first.number) h.numbers in_map
-
-  pub place_at : first.place ≤ length rules
-  place_at =
-      All-contains (λ (f : FirstRule). f.place ≤ length rules) firsts first h.inside
-      (contains_here firsts place first here)
+  number_at = grind (arith, slice_get-map)
 
   none_before : list_any (λ (rule : Rule). eqb rule.number first.number) (take first.place rules) ≡ false
-  none_before =
-      All-contains
-      (λ (f : FirstRule). list_any (λ (rule : Rule). eqb rule.number f.number) (take f.place rules) ≡ false) firsts
-      first h.others_before (contains_here firsts place first here)
+  none_before = grind (arith, contains_here)
 
   pub unmet_at : (call : CallRecord) → call.nr ≡ first.number
       → All (λ earlier. meets earlier call ≡ false) (take first.place rules)
@@ -118,6 +105,4 @@ module _ (firsts : List FirstRule) (rules : List Rule) (h : AreFirstRules firsts
 -- past the first rules there are no more numbers
 pub all_past : (firsts : List FirstRule) (rules : List Rule) → AreFirstRules firsts rules → (place : ℕ)
     → length firsts ≤ place → length (numbers_of rules) ≤ place
-all_past firsts rules h place past =
-    let as_many : length (map (λ (f : FirstRule). f.number) firsts) ≡ length (numbers_of rules) = ap length h.numbers in
-    omega (arith, as_many, length-map firsts (λ (f : FirstRule). f.number))
+all_past firsts rules h1 place h2 = grind (arith, length-map)

@@ -13,10 +13,7 @@ every_run_ends insns call is_filter is_record = (
 )
 
 pub same_is_true : SameIsTrue
-same_is_true relation filters p scope steps is_profile all call is_record in_scope filter profile of_words of_profile =
-    related_here relation filters p call filter profile is_profile.no_conflict is_record (all call is_record in_scope)
-    of_words of_profile
+same_is_true = grind (arith, related_here)
 
 pub differs_is_shown : DiffersIsShown
-differs_is_shown relation filters p scope call filter profile shown =
-    (shown.0, shown.1, λ related. shown.4 (related filter.0 profile.0 shown.2 shown.3))
+differs_is_shown = grind arith

@@ -23,16 +23,6 @@ flipped_twice a c = same_from_bits (bit_xor (bit_xor a c) c) a
     bit_at_xor (bit_xor a c) c i ∙ ap (λ n. (n + bit_at c i) % 2) (bit_at_xor a c i)
     ∙ flipped_bit (bit_at a i) (bit_at c i) (bit_at-lt a i) (bit_at-lt c i))
 
-joined_bit : (a b c : ℕ) → a < 2 → b < 2 → c < 2 → ((a + b) % 2 + c) % 2 ≡ (a + (b + c) % 2) % 2
-joined_bit a b c h k l = omega arith
-
-pub xor_assoc : (a b c : ℕ) → bit_xor (bit_xor a b) c ≡ bit_xor a (bit_xor b c)
-xor_assoc a b c = same_from_bits (bit_xor (bit_xor a b) c) (bit_xor a (bit_xor b c))
-    (λ i.
-    bit_at_xor (bit_xor a b) c i ∙ ap (λ n. (n + bit_at c i) % 2) (bit_at_xor a b i)
-    ∙ joined_bit (bit_at a i) (bit_at b i) (bit_at c i) (bit_at-lt a i) (bit_at-lt b i) (bit_at-lt c i)
-    ∙ sym (bit_at_xor a (bit_xor b c) i ∙ ap (λ n. (bit_at a i + n) % 2) (bit_at_xor b c i)))
-
 masked_bit : (a c v : ℕ) → a < 2 → c < 2 → v < 2 → min ((a + c) % 2) v ≡ (min a v + min c v) % 2
 masked_bit a c v h k l = omega arith
 
@@ -83,8 +73,7 @@ shifted_back w m s =
 
 -- a word shifted to the left, under a mask
 pub under_mask : (y t m : ℕ) → bit_and (y * 2 ^ t) m ≡ bit_and y (m / 2 ^ t) * 2 ^ t
-under_mask y t m =
-    and_comm (y * 2 ^ t) m ∙ shifted_back m y t ∙ ap (λ n. n * 2 ^ t) (and_comm (m / 2 ^ t) y)
+under_mask y t m = grind (arith, and_comm, shifted_back)
 
 scaled_once : (a b s : ℕ) → a * 2 ^ s ≡ b * 2 ^ s → a ≡ b
 scaled_once a b s e = sym (shl-shr a s) ∙ ap (λ n. n / 2 ^ s) e ∙ shl-shr b s
@@ -94,9 +83,7 @@ unflipped : (y c v : ℕ) → bit_xor y c ≡ v → y ≡ bit_xor v c
 unflipped y c v e = sym (flipped_twice y c) ∙ ap (λ n. bit_xor n c) e
 
 in_range : (m u s : ℕ) → m * 2 ^ s < 2 ^ 32 → u ≤ m → u * 2 ^ s < 2 ^ 32
-in_range m u s fits least =
-    let scaled : 2 ^ s * u ≤ 2 ^ s * m = mul-le-mul_left (2 ^ s) least in
-    omega arith
+in_range m u s h1 h2 = grind arith
 
 -- a number shifted to the right and back, that stays, was a multiple
 same_shifted_back : (u t : ℕ) → u / 2 ^ t * 2 ^ t % 2 ^ 32 ≡ u → u / 2 ^ t * 2 ^ t ≡ u
@@ -127,8 +114,7 @@ image_is w s t m c v fits least stays =
     )
 
 not_equal : (a b : ℕ) (test : Bool) → eqb a b ≡ test → (a ≡ b → ⊥) → eqb a b ≡ false
-not_equal a b true e apart = absurd (apart (eqb-true a b e))
-not_equal a b false e apart = e
+not_equal a b test h1 h2 = grind arith
 
 -- an image that is a number is so in the bits of its mask, shifted back
 same_bits : (w s t m c v : ℕ) → bit_xor (bit_and (w / 2 ^ s * 2 ^ t) m) c ≡ v
@@ -212,8 +198,7 @@ of_whole_word image words word whole same below =
 -- ---- shifts
 
 divided : (m j k t : ℕ) → j + k ≡ t → m / 2 ^ j / 2 ^ k ≡ m / 2 ^ t
-divided m j k t e =
-    div-div-eq-div-mul m (2 ^ j) (2 ^ k) ∙ ap (λ n. m / n) (sym (pow-add 2 j k) ∙ ap (λ n. 2 ^ n) e)
+divided m j k t h1 = grind (arith, div-div-eq-div-mul, pow-add)
 
 scaled : (y j k t : ℕ) → j + k ≡ t → y * 2 ^ j * 2 ^ k ≡ y * 2 ^ t
 scaled y j k t e = mul_assoc y (2 ^ j) (2 ^ k) ∙ ap (λ n. y * n) (sym (pow-add 2 j k) ∙ ap (λ n. 2 ^ n) e)
@@ -228,8 +213,7 @@ right_within y t k least =
     ap (λ n. n / 2 ^ k) (sym (scaled y (t - k) k t (omega arith))) ∙ shl-shr (y * 2 ^ (t - k)) k
 
 pub mask_right_within : (m s t k : ℕ) → k ≤ t → m / 2 ^ t * 2 ^ s < 2 ^ 32 → m / 2 ^ k / 2 ^ (t - k) * 2 ^ s < 2 ^ 32
-mask_right_within m s t k least fits =
-    subst (λ n. n * 2 ^ s < 2 ^ 32) (sym (divided m k (t - k) t (omega arith))) fits
+mask_right_within m s t k h1 h2 = grind (arith, divided)
 
 -- and by more
 pub right_past : (w s t k : ℕ) → t ≤ k → w / 2 ^ s * 2 ^ t / 2 ^ k ≡ w / 2 ^ (s + (k - t)) * 2 ^ 0
@@ -246,8 +230,7 @@ fits_past m s t k past fits =
 
 pub mask_right_past : (m s t k : ℕ) → t ≤ k → m / 2 ^ t * 2 ^ s < 2 ^ 32
     → m / 2 ^ k / 2 ^ 0 * 2 ^ (s + (k - t)) < 2 ^ 32
-mask_right_past m s t k past fits =
-    subst (λ n. n * 2 ^ (s + (k - t)) < 2 ^ 32) (sym (div-one (m / 2 ^ k))) (fits_past m s t k past fits)
+mask_right_past m s t k h1 h2 = grind (arith, div-one, fits_past)
 
 -- no bit is left of a mask that is shifted past the word
 pub none_past : (m s t k : ℕ) → t ≤ k → 32 ≤ s + (k - t) → m / 2 ^ t * 2 ^ s < 2 ^ 32 → m / 2 ^ k ≡ 0
@@ -256,8 +239,7 @@ none_past m s t k past far fits =
     ∙ div-eq_of_lt (omega (arith, fits_past m s t k past fits, pow_mono far))
 
 pub no_bit : (x m c : ℕ) → m ≡ 0 → bit_xor (bit_and x m) c ≡ c
-no_bit x m c none =
-    ap (λ n. bit_xor (bit_and x n) c) none ∙ ap (λ n. bit_xor n c) (and_zero_r x) ∙ xor_zero_l c
+no_bit x m c h1 = grind (arith, and_zero_r, xor_zero_l)
 
 -- an image shifted to the left
 pub xor_scaled : (a b k : ℕ) → bit_xor a b * 2 ^ k ≡ bit_xor (a * 2 ^ k) (b * 2 ^ k)

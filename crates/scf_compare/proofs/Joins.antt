@@ -1,11 +1,10 @@
 -- Images of one word that are joined.
 use Rattle.std.proofs.Common.{◌≡◌, ℕ, ◌+◌, ◌*◌, ◌/◌, ◌%◌, ◌<◌, ◌≤◌, ◌^◌, ◌↔◌, true, false, eqb, sym, ap, subst, ◌∙◌, arith}
 use Rattle.std.proofs.Common.{bit_and, bit_or, bit_xor, min, max}
-use Rattle.std.specs.Prelude.{List, nat_lt, not, slice_index}
+use Rattle.std.specs.Prelude.{List, nat_lt, not}
 use Rattle.std.specs.Int.{bit_at}
 use Rattle.std.specs.Int.Bits.{and_zero_r}
-use Rattle.std.proofs.lemmas.Bool.{eq-eqb, eqb-true}
-use Rattle.std.proofs.lemmas.Bool.Decides.{nat_tests}
+use Rattle.std.proofs.lemmas.Bool.{eq-eqb}
 use Rattle.std.proofs.lemmas.Nat.{and_assoc, and_le_r, or_block, or_lt, or_shr, xor_lt, xor_shr, le_or_l, le_or_r, pow_pos}
 use Rattle.std.proofs.lemmas.Nat.Bits.{bit_at_and, bit_at_or, bit_at_xor, bit_at-lt, same_from_bits}
 use Rattle.scf_compare.specs.declared.image.Image.{Image}
@@ -22,12 +21,7 @@ module _ (join bit : ℕ → ℕ → ℕ) (by_bits : (a b i : ℕ) → bit_at (j
   -- what comes of zeros and of ones differs in these bits
   differing_bit : (m c n d i : ℕ) → bit_at (bit_xor (join c d) (join (bit_xor m c) (bit_xor n d))) i
       ≡ (bit (bit_at c i) (bit_at d i) + bit ((bit_at m i + bit_at c i) % 2) ((bit_at n i + bit_at d i) % 2)) % 2
-  differing_bit m c n d i =
-      bit_at_xor (join c d) (join (bit_xor m c) (bit_xor n d)) i
-      ∙ ap (λ a. (a + bit_at (join (bit_xor m c) (bit_xor n d)) i) % 2) (by_bits c d i)
-      ∙ ap (λ a. (bit (bit_at c i) (bit_at d i) + a) % 2)
-      (by_bits (bit_xor m c) (bit_xor n d) i ∙ ap (λ a. bit a (bit_at (bit_xor n d) i)) (bit_at_xor m c i)
-      ∙ ap (bit ((bit_at m i + bit_at c i) % 2)) (bit_at_xor n d i))
+  differing_bit m c n d i = grind (arith, bit_at_xor)
 
   images_joined :
       ((w m c n d : ℕ) → w < 2 → m < 2 → c < 2 → n < 2 → d < 2
@@ -141,41 +135,27 @@ xor_mask_fits m n t s h k =
 
 pub same_shift : (image other : Image) (words : List ℕ) → AreShiftedAlike image other
     → shifted_word image words ≡ shifted_word other words
-same_shift image other words alike =
-    ap (λ n. slice_index words n / 2 ^ image.right * 2 ^ image.left) alike.word
-    ∙ ap (λ n. slice_index words other.word / 2 ^ n * 2 ^ image.left) alike.right
-    ∙ ap (λ n. slice_index words other.word / 2 ^ other.right * 2 ^ n) alike.left
+same_shift image other words h1 = grind arith
 
 pub same_fit : (image other : Image) → AreShiftedAlike image other
     → other.mask / 2 ^ other.left * 2 ^ other.right < 2 ^ 32 → other.mask / 2 ^ image.left * 2 ^ image.right < 2 ^ 32
-same_fit image other alike fits =
-    subst (λ n. other.mask / 2 ^ n * 2 ^ image.right < 2 ^ 32) (sym alike.left)
-    (subst (λ n. other.mask / 2 ^ other.left * 2 ^ n < 2 ^ 32) (sym alike.right) fits)
+same_fit image other h1 h2 = grind arith
 
 -- ---- where numbers are 0
 
 -- a test for 0 as a question of a word under a mask
 pub zero_by_test : (a x v : ℕ) → (eqb a 0 ≡ true) ↔ (eqb x v ≡ true) → (a ≡ 0) ↔ (x ≡ v)
-zero_by_test a x v tests = (
-  λ zero. eqb-true x v (tests.0 (eq-eqb a 0 zero)),
-  λ same. eqb-true a 0 (tests.1 (eq-eqb x v same)),
-)
+zero_by_test a x v h1 = grind arith
 
 -- a number that is never 0
 pub never_zero : (a w : ℕ) → eqb a 0 ≡ false → (a ≡ 0) ↔ (bit_and w 0 ≡ 1)
-never_zero a w isnt = (
-  λ zero. let contrary : true ≡ false = sym (eq-eqb a 0 zero) ∙ isnt in cc,
-  λ is. let contrary : 0 ≡ 1 = sym (and_zero_r w) ∙ is in cc,
-)
+never_zero a w h1 = grind (arith, and_zero_r, eq-eqb)
 
 pub above_zero : (x : ℕ) → not (eqb x 0) ≡ nat_lt 0 x
-above_zero x = grind (arith, nat_tests)
+above_zero x = grind arith
 
 pub or_zero : (a b : ℕ) → (bit_or a b ≡ 0) ↔ ((a ≡ 0) × (b ≡ 0))
-or_zero a b = (
-  λ none. (omega (arith, none, le_or_l a b), omega (arith, none, le_or_r a b)),
-  λ both. ap (λ n. bit_or n b) both.0 ∙ ap (bit_or 0) both.1,
-)
+or_zero a b = grind (arith, le_or_l, le_or_r)
 
 spread_bit : (w m n : ℕ) → w < 2 → m < 2 → n < 2 → min w (max m n) ≡ max (min w m) (min w n)
 spread_bit w m n h k l = omega arith
@@ -212,16 +192,12 @@ under_first : (w m n b : ℕ) → bit_and w (bit_or m n) ≡ b → bit_and w m �
 under_first w m n b both = sym (ap (λ a. bit_and a m) (sym both) ∙ and_assoc m w (bit_or m n) ∙ ap (bit_and w) (first_kept m n))
 
 under_second : (w m n b : ℕ) → bit_and w (bit_or m n) ≡ b → bit_and w n ≡ bit_and b n
-under_second w m n b both =
-    sym (ap (λ a. bit_and a n) (sym both) ∙ and_assoc n w (bit_or m n) ∙ ap (bit_and w) (second_kept m n))
+under_second w m n b h1 = grind (arith, and_assoc, second_kept)
 
 -- a word has both values under both masks
 pub under_both_masks : (w m n u v : ℕ) → bit_and (bit_or u v) m ≡ u → bit_and (bit_or u v) n ≡ v
     → (bit_and w (bit_or m n) ≡ bit_or u v) ↔ ((bit_and w m ≡ u) × (bit_and w n ≡ v))
-under_both_masks w m n u v fits suits = (
-  λ both. (under_first w m n (bit_or u v) both ∙ fits, under_second w m n (bit_or u v) both ∙ suits),
-  λ both. under_both w m n u v both.0 both.1,
-)
+under_both_masks w m n u v h1 h2 = grind (arith, under_both, under_first, under_second)
 
 -- and never where the values are apart in a bit of both
 pub never_under_both : (w m n u v : ℕ) → ((bit_and (bit_or u v) m ≡ u) × (bit_and (bit_or u v) n ≡ v) → ⊥)

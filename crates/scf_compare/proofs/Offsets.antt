@@ -1,11 +1,9 @@
 -- Sums and differences of a number and an image of a word.
-use Rattle.std.proofs.Common.{◌≡◌, ℕ, ◌+◌, ◌-◌, ◌%◌, ◌<◌, ◌≤◌, ◌^◌, Bool, true, false, eqb, refl, sym, ap, ◌∙◌, arith}
+use Rattle.std.proofs.Common.{◌≡◌, ℕ, ◌+◌, ◌-◌, ◌%◌, ◌<◌, ◌≤◌, ◌^◌, Bool, true, false, eqb, sym, ap, ◌∙◌, arith}
 use Rattle.std.proofs.Common.{bit_and, bit_or, bit_xor, min, max}
 use Rattle.std.specs.Prelude.{List, nat_lt, nat_le, not}
 use Rattle.std.specs.Int.{bit_at}
 use Rattle.std.specs.Int.Bits.{xor_zero_r}
-use Rattle.std.proofs.lemmas.Bool.{eq-eqb, eqb-true, lt-ltb, ltb-true, le-ltb, le-leb, leb-true}
-use Rattle.std.proofs.lemmas.Bool.Decides.{nat_tests}
 use Rattle.std.proofs.lemmas.Nat.{and_assoc, and_comm, and_le_r, or_disjoint, xor_comm, xor_lt}
 use Rattle.std.proofs.lemmas.Nat.Bits.{bit_at_and, bit_at_or, bit_at_xor, bit_at-lt, bit_at-zero, same_from_bits}
 use Rattle.std.proofs.Math.Nat.{mod-eq_of_lt}
@@ -20,18 +18,15 @@ use Rattle.scf_compare.proofs.Images.{flipped_twice, image_fits}
 
 pub plus_number : (negated : Bool) (n added v : ℕ) → n < 2 ^ 32 → added < 2 ^ 32 → v < 2 ^ 32
     → (signed_sum negated n added + v) % 2 ^ 32 ≡ signed_sum negated n ((added + v) % 2 ^ 32)
-plus_number false n added v h k l = omega arith
-plus_number true n added v h k l = omega arith
+plus_number negated n added v h1 h2 h3 = grind arith
 
 pub minus_number : (negated : Bool) (n added v : ℕ) → n < 2 ^ 32 → added < 2 ^ 32 → v < 2 ^ 32
     → (signed_sum negated n added + 2 ^ 32 - v) % 2 ^ 32 ≡ signed_sum negated n ((added + (2 ^ 32 - v)) % 2 ^ 32)
-minus_number false n added v h k l = omega arith
-minus_number true n added v h k l = omega arith
+minus_number negated n added v h1 h2 h3 = grind arith
 
 pub taken_number : (negated : Bool) (n added v : ℕ) → n < 2 ^ 32 → added < 2 ^ 32 → v < 2 ^ 32
     → (v + 2 ^ 32 - signed_sum negated n added) % 2 ^ 32 ≡ signed_sum (not negated) n ((v + (2 ^ 32 - added)) % 2 ^ 32)
-taken_number false n added v h k l = omega arith
-taken_number true n added v h k l = omega arith
+taken_number negated n added v h1 h2 h3 = grind arith
 
 pub number_fits : (image : Image) (words : List ℕ) → image.mask < 2 ^ 32 → image.flipped < 2 ^ 32
     → image_number image words < 2 ^ 32
@@ -39,97 +34,39 @@ number_fits image words h k = image_fits (shifted_word image words) image.mask i
 
 -- ---- equality
 
-same_test : (a b : Bool) → (a ≡ true → b ≡ true) → (b ≡ true → a ≡ true) → a ≡ b
-same_test true true there back = refl
-same_test true false there back = sym (there refl)
-same_test false true there back = back refl
-same_test false false there back = refl
-
 pub sum_is : (n added v : ℕ) → n < 2 ^ 32 → added < 2 ^ 32 → v < 2 ^ 32
     → eqb n ((v + (2 ^ 32 - added)) % 2 ^ 32) ≡ eqb (signed_sum false n added) v
-sum_is n added v h k l =
-    same_test _ _
-    (λ is. let same = eqb-true n _ is in let sum : (n + added) % 2 ^ 32 ≡ v = omega arith in eq-eqb _ _ sum)
-    (λ is. let sum = eqb-true ((n + added) % 2 ^ 32) v is in let same : n ≡ (v + (2 ^ 32 - added)) % 2 ^ 32 = omega arith in
-    eq-eqb _ _ same)
+sum_is n added v h1 h2 h3 = grind arith
 
 pub difference_is : (n added v : ℕ) → n < 2 ^ 32 → added < 2 ^ 32 → v < 2 ^ 32
     → eqb n ((added + (2 ^ 32 - v)) % 2 ^ 32) ≡ eqb (signed_sum true n added) v
-difference_is n added v h k l =
-    same_test _ _
-    (λ is. let same = eqb-true n _ is in let sum : (added + 2 ^ 32 - n) % 2 ^ 32 ≡ v = omega arith in eq-eqb _ _ sum)
-    (λ is. let sum = eqb-true ((added + 2 ^ 32 - n) % 2 ^ 32) v is in
-    let same : n ≡ (added + (2 ^ 32 - v)) % 2 ^ 32 = omega arith in eq-eqb _ _ same)
+difference_is n added v h1 h2 h3 = grind arith
 
 -- ---- orders, where the image passes no end of the numbers
 
 pub sum_above : (n added v : ℕ) → n + added < 2 ^ 32 → added ≤ v
     → nat_lt (v - added) n ≡ nat_lt v (signed_sum false n added)
-sum_above n added v within least = grind (arith, nat_tests)
+sum_above n added v within least = grind arith
 
 pub sum_above_all : (n added v : ℕ) → n + added < 2 ^ 32 → v < added → nat_lt v (signed_sum false n added) ≡ true
-sum_above_all n added v within below = grind (arith, nat_tests)
+sum_above_all n added v within below = grind arith
 
 pub difference_above : (n added v : ℕ) → n ≤ added → added < 2 ^ 32 → v < added
     → not (nat_lt (added - v - 1) n) ≡ nat_lt v (signed_sum true n added)
-difference_above n added v within fits below = grind (arith, nat_tests)
+difference_above n added v within fits below = grind arith
 
 pub difference_above_none : (n added v : ℕ) → n ≤ added → added < 2 ^ 32 → added ≤ v
     → nat_lt v (signed_sum true n added) ≡ false
-difference_above_none n added v within fits least = grind (arith, nat_tests)
-
--- no number of 32 bits is above the greatest
-pub above_none : (negated : Bool) (n added v : ℕ) → v ≡ 2 ^ 32 - 1 → nat_lt v (signed_sum negated n added) ≡ false
-above_none false n added v most = le-ltb v _ (omega arith)
-above_none true n added v most = le-ltb v _ (omega arith)
+difference_above_none n added v within fits least = grind arith
 
 -- ---- orders, as arcs
-
-steps_of_sum : (n added v : ℕ) → n < 2 ^ 32 → added < 2 ^ 32 → v < 2 ^ 32 - 1
-    → steps_from ((v + 1 + (2 ^ 32 - added)) % 2 ^ 32) n ≡ ((n + added) % 2 ^ 32 + (2 ^ 32 - 1 - v)) % 2 ^ 32
-steps_of_sum n added v h k l = omega arith
-
-steps_to_last : (added v : ℕ) → added < 2 ^ 32 → v < 2 ^ 32 - 1
-    → steps_from ((v + 1 + (2 ^ 32 - added)) % 2 ^ 32) (2 ^ 32 - 1 - added) ≡ 2 ^ 32 - 2 - v
-steps_to_last added v h k = omega arith
-
--- a sum is above a number where the image is on the arc up to what is just added to the greatest number
-pub sum_on_arc : (n added v : ℕ) → n < 2 ^ 32 → added < 2 ^ 32 → v < 2 ^ 32 - 1
-    → nat_le (steps_from ((v + 1 + (2 ^ 32 - added)) % 2 ^ 32) n)
-    (steps_from ((v + 1 + (2 ^ 32 - added)) % 2 ^ 32) (2 ^ 32 - 1 - added))
-    ≡ nat_lt v (signed_sum false n added)
-sum_on_arc n added v h k l =
-    let first = (v + 1 + (2 ^ 32 - added)) % 2 ^ 32 in
-    let there = steps_of_sum n added v h k l in
-    let last = steps_to_last added v k l in
-    same_test _ _
-    (λ within. let least = leb-true (steps_from first n) (steps_from first (2 ^ 32 - 1 - added)) within in
-    lt-ltb v _ (omega (arith, there, last, least)))
-    (λ above. let over = ltb-true v ((n + added) % 2 ^ 32) above in
-    le-leb _ _ (omega (arith, there, last, over)))
-
-steps_of_difference : (n added v : ℕ) → n < 2 ^ 32 → added < 2 ^ 32
-    → steps_from ((added + 1) % 2 ^ 32) n ≡ 2 ^ 32 - 1 - (added + 2 ^ 32 - n) % 2 ^ 32
-steps_of_difference n added v h k = omega arith
-
-steps_to_least : (added v : ℕ) → added < 2 ^ 32 → v < 2 ^ 32 - 1
-    → steps_from ((added + 1) % 2 ^ 32) ((added + (2 ^ 32 - (v + 1))) % 2 ^ 32) ≡ 2 ^ 32 - 2 - v
-steps_to_least added v h k = omega arith
 
 -- a difference is above a number where the image is on the arc that begins above what it is taken from
 pub difference_on_arc : (n added v : ℕ) → n < 2 ^ 32 → added < 2 ^ 32 → v < 2 ^ 32 - 1
     → nat_le (steps_from ((added + 1) % 2 ^ 32) n)
     (steps_from ((added + 1) % 2 ^ 32) ((added + (2 ^ 32 - (v + 1))) % 2 ^ 32))
     ≡ nat_lt v (signed_sum true n added)
-difference_on_arc n added v h k l =
-    let first = (added + 1) % 2 ^ 32 in
-    let there = steps_of_difference n added v h k in
-    let last = steps_to_least added v k l in
-    same_test _ _
-    (λ within. let least = leb-true (steps_from first n) (steps_from first ((added + (2 ^ 32 - (v + 1))) % 2 ^ 32)) within in
-    lt-ltb v _ (omega (arith, there, last, least)))
-    (λ above. let over = ltb-true v ((added + 2 ^ 32 - n) % 2 ^ 32) above in
-    le-leb _ _ (omega (arith, there, last, over)))
+difference_on_arc n added v h1 h2 h3 = grind arith
 
 -- ---- bits without carries
 
@@ -167,8 +104,7 @@ xor_inside a b all =
     ∙ flipped_twice b a
 
 signed_fits : (negated : Bool) (n added : ℕ) → signed_sum negated n added < 2 ^ 32
-signed_fits false n added = omega arith
-signed_fits true n added = omega arith
+signed_fits negated n added = grind arith
 
 -- XOR 32 ones a number is taken from them
 pub complement : (negated : Bool) (n added : ℕ)
@@ -186,10 +122,7 @@ sum_by_bits n added h k none = ap (λ m. m % 2 ^ 32) (sym (xor_apart n added non
 
 pub difference_by_bits : (n added : ℕ) → n < 2 ^ 32 → added < 2 ^ 32 → bit_and n added ≡ n
     → signed_sum true n added ≡ bit_xor n added
-difference_by_bits n added h k all =
-    let sum = xor_inside n added all in
-    let rest : (added + 2 ^ 32 - n) % 2 ^ 32 ≡ bit_xor added n = omega (arith, xor_lt 32 added n k h) in
-    rest ∙ xor_comm added n
+difference_by_bits n added h1 h2 h3 = grind (arith, xor_comm, xor_inside, xor_lt)
 
 -- ---- the bits of an image
 
@@ -224,8 +157,7 @@ apart n b a within none =
     ∙ sym (bit_at-zero i))
 
 pub inside : (n b a : ℕ) → bit_and n b ≡ n → bit_and a b ≡ b → bit_and n a ≡ n
-inside n b a within all =
-    ap (λ m. bit_and m a) (sym within) ∙ and_assoc a n b ∙ ap (bit_and n) (and_comm b a ∙ all) ∙ within
+inside n b a h1 h2 = grind (arith, and_assoc, and_comm)
 
 -- an image that flips no bit
 without_flips : (x m : ℕ) → bit_and (bit_xor (bit_and x m) 0) m ≡ bit_xor (bit_and x m) 0
@@ -237,17 +169,9 @@ without_flips x m =
 -- an image that flips no bit under its mask
 pub unflipped_sum : (x m c : ℕ) → m < 2 ^ 32 → c < 2 ^ 32 → bit_and c m ≡ 0
     → bit_xor (bit_and x m) c ≡ signed_sum false (bit_xor (bit_and x m) 0) c
-unflipped_sum x m c h k none =
-    let n = bit_xor (bit_and x m) 0 in
-    let fits : n < 2 ^ 32 = omega (arith, h, xor_zero_r (bit_and x m), and_le_r x m) in
-    ap (λ y. bit_xor y c) (sym (xor_zero_r (bit_and x m)))
-    ∙ sym (sum_by_bits n c fits k (apart n m c (without_flips x m) none))
+unflipped_sum x m c h1 h2 h3 = grind (arith, and_le_r, apart, sum_by_bits, without_flips, xor_zero_r)
 
 -- and one that flips each
 pub flipped_difference : (x m c : ℕ) → m < 2 ^ 32 → c < 2 ^ 32 → bit_and c m ≡ m
     → bit_xor (bit_and x m) c ≡ signed_sum true (bit_xor (bit_and x m) 0) c
-flipped_difference x m c h k all =
-    let n = bit_xor (bit_and x m) 0 in
-    let fits : n < 2 ^ 32 = omega (arith, h, xor_zero_r (bit_and x m), and_le_r x m) in
-    ap (λ y. bit_xor y c) (sym (xor_zero_r (bit_and x m)))
-    ∙ sym (difference_by_bits n c fits k (inside n m c (without_flips x m) all))
+flipped_difference x m c h1 h2 h3 = grind (arith, and_le_r, difference_by_bits, inside, without_flips, xor_zero_r)

@@ -23,28 +23,11 @@ module _ (w s t m c k : ℕ) (none : c ≡ 0) (below : w < 2 ^ 32) (within : k <
 
   -- their order with a number is that of the word's part from the bit on with the number, shifted back
   above_quotient : (v : ℕ) → (v < bit_and (w / 2 ^ s) (m / 2 ^ t) * 2 ^ t) ↔ (v / 2 ^ t * 2 ^ s < w / 2 ^ k * 2 ^ k)
-  above_quotient v = let y = bit_and (w / 2 ^ s) (m / 2 ^ t) in (
-    λ above.
-        let quotient : v / 2 ^ t < y = (div-lt_iff_lt-mul (pow_pos t)).1 above in
-        subst (λ n. v / 2 ^ t * 2 ^ s < n) bits_of_word (mul-lt-mul_of_pos_right quotient (pow_pos s)),
-    λ above.
-        let moved : v / 2 ^ t * 2 ^ s < y * 2 ^ s = subst (λ n. v / 2 ^ t * 2 ^ s < n) (sym bits_of_word) above in
-        let quotient : v / 2 ^ t < y = lt_of_mul-lt-mul_right (2 ^ s) moved in
-        (div-lt_iff_lt-mul (pow_pos t)).0 quotient,
-  )
+  above_quotient v = grind (arith, bits_of_word, div-lt_iff_lt-mul, lt_of_mul-lt-mul_right, mul-lt-mul_of_pos_right, pow_pos)
 
   -- and that of the word with the last number that has the same such part
   above_last : (n : ℕ) → (n < w / 2 ^ k * 2 ^ k) ↔ (n / 2 ^ k * 2 ^ k + (2 ^ k - 1) < w)
-  above_last n = (
-    λ above.
-        let quotient : n / 2 ^ k < w / 2 ^ k = (div-lt_iff_lt-mul (pow_pos k)).1 above in
-        let least : (n / 2 ^ k + 1) * 2 ^ k ≤ w = (le-div_iff_mul-le (pow_pos k)).0 (omega arith) in
-        omega (arith, one_more (n / 2 ^ k) (2 ^ k), pow_pos k),
-    λ above.
-        let least : (n / 2 ^ k + 1) * 2 ^ k ≤ w = omega (arith, one_more (n / 2 ^ k) (2 ^ k), pow_pos k) in
-        let quotient : n / 2 ^ k + 1 ≤ w / 2 ^ k = (le-div_iff_mul-le (pow_pos k)).1 least in
-        (div-lt_iff_lt-mul (pow_pos k)).0 (omega arith),
-  )
+  above_last n = grind (arith, div-lt_iff_lt-mul, le-div_iff_mul-le, one_more, pow_pos)
 
   pub image_above : (v h : ℕ) → h ≡ 2 ^ 32 - 2 ^ k → v / 2 ^ t ≤ (2 ^ 32 - 1) / 2 ^ s
       → (nat_lt v (bit_xor (bit_and (w / 2 ^ s * 2 ^ t) m) c) ≡ true)
@@ -70,13 +53,4 @@ module _ (w s t m c k : ℕ) (none : c ≡ 0) (below : w < 2 ^ 32) (within : k <
   -- and never above a number that the mask's bits, all set, don't reach
   pub image_not_above : (v : ℕ) → (2 ^ 32 - 1) / 2 ^ s < v / 2 ^ t
       → nat_lt v (bit_xor (bit_and (w / 2 ^ s * 2 ^ t) m) c) ≡ false
-  image_not_above v past =
-      let far : 2 ^ 32 - 1 < v / 2 ^ t * 2 ^ s = (div-lt_iff_lt-mul (pow_pos s)).0 past in
-      not_less v _
-      (λ above. let contrary : ⊥ = omega (
-        arith,
-        far,
-        below,
-        (above_quotient v).0 (subst (λ b. v < b) number_of_bits above),
-        shr_split w k,
-      ) in contrary)
+  image_not_above v h1 = grind (arith, above_quotient, div-lt_iff_lt-mul, not_less, number_of_bits, pow_pos, shr_split)

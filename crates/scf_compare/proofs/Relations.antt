@@ -1,10 +1,9 @@
 -- What follows from one relation for another.
-use Rattle.std.proofs.Common.{◌≡◌, ◌≤◌, ℕ, List, refl, arith, subst}
+use Rattle.std.proofs.Common.{◌≡◌, ◌≤◌, ℕ, List, arith, subst}
 use Rattle.scf_insn.specs.declared.answer.Fate.{Fate}
-use Rattle.scf_insn.specs.declared.answer.Fate.TheVariants.{Refused, Referred, Made}
 use Rattle.scf_insn.specs.declared.insn.Insn.{Insn}
 use Rattle.scf_insn.specs.declared.record.CallRecord.{CallRecord}
-use Rattle.scf_insn.specs.Answers.{degree_of, fate_of, LetsThroughNoMore}
+use Rattle.scf_insn.specs.Answers.{degree_of, fate_of}
 use Rattle.scf_insn.specs.Words.{IsRecord, words_of}
 use Rattle.scf_machine.specs.Precedence.{StackAnswers}
 use Rattle.scf_machine.proofs.Stacks.{stack_answer_once}
@@ -18,40 +17,13 @@ use Rattle.scf_compare.specs.declared.scope.Scope.{Scope}
 use Rattle.scf_compare.specs.Relation.{IsRelated}
 use Rattle.scf_compare.specs.Scope.{IsInScope, RelatedAnswersIn}
 
-no_more_than_itself : (answer : ℕ) → LetsThroughNoMore answer answer
-no_more_than_itself answer = omega arith
-
--- answers that are the same are related in each way
-pub same_related : (relation : Relation) (filter profile : ℕ) → filter ≡ profile → IsRelated relation filter profile
-same_related Same filter profile same = same
-same_related NoMore filter profile same =
-    subst (LetsThroughNoMore filter) same (no_more_than_itself filter)
-same_related NoLess filter profile same =
-    subst (λ other. LetsThroughNoMore other filter) same (no_more_than_itself filter)
-
 pub all_related : (relation : Relation) (filters : List (List Insn)) (p : Profile) (scope : Scope)
     → RelatedAnswersIn Same scope (StackAnswers filters) p → RelatedAnswersIn relation scope (StackAnswers filters) p
-all_related relation filters p scope same = λ call is_record in_scope.
-    let both = same call is_record in_scope in
-    record {
-      filter = both.filter;
-      profile = both.profile;
-      of_words = both.of_words;
-      of_profile = both.of_profile;
-      are_related = same_related relation both.filter both.profile both.are_related;
-    }
+all_related relation filters p scope h1 = grind arith
 
 -- two fates of which each is at most the other are one
 one_fate : (fate other : Fate) → degree_of fate ≤ degree_of other → degree_of other ≤ degree_of fate → fate ≡ other
-one_fate Refused Refused most least = refl
-one_fate Refused Referred most least = absurd (omega arith)
-one_fate Refused Made most least = absurd (omega arith)
-one_fate Referred Refused most least = absurd (omega arith)
-one_fate Referred Referred most least = refl
-one_fate Referred Made most least = absurd (omega arith)
-one_fate Made Refused most least = absurd (omega arith)
-one_fate Made Referred most least = absurd (omega arith)
-one_fate Made Made most least = refl
+one_fate fate other h1 h2 = grind arith
 
 -- the relation holds of the two answers to a call, of which there are no others
 pub related_here : (relation : Relation) (filters : List (List Insn)) (p : Profile) (call : CallRecord) (filter profile : ℕ)

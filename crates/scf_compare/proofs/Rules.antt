@@ -1,5 +1,5 @@
 -- The rules of a profile and their conditions, one after another.
-use Rattle.std.proofs.Common.{◌≡◌, ◌≢◌, ℕ, zero, suc, ◌+◌, ◌*◌, ◌<◌, ◌≤◌, ◌&&◌, Bool, true, false, eqb, cond, List, [], ◌∷◌, ◌++◌, Some, length, take, drop, get_or, refl, sym, ap, subst, ◌∙◌, arith}
+use Rattle.std.proofs.Common.{◌≡◌, ◌≢◌, ℕ, zero, suc, ◌+◌, ◌*◌, ◌<◌, ◌≤◌, ◌&&◌, Bool, true, false, eqb, List, [], ◌∷◌, ◌++◌, Some, length, take, drop, get_or, refl, sym, ap, subst, ◌∙◌, arith}
 use Rattle.std.specs.Prelude.{slice_get, All, Contains}
 use Rattle.std.proofs.lemmas.Bool.{eq-eqb, ne_eqb, and_parts}
 use Rattle.std.proofs.lemmas.List.{take_all}
@@ -17,7 +17,7 @@ use Rattle.scf_compare.specs.declared.question.ConditionPart.{ConditionPart}
 use Rattle.scf_compare.specs.declared.question.ConditionPart.TheVariants.{High}
 use Rattle.scf_compare.specs.internal.Conditions.{IsAtPart}
 use Rattle.scf_compare.specs.Effort.{conditions_size}
-use Rattle.scf_compare.specs.internal.Profiles.{StandsAt, IsAtCondition, KnowsPart, KnowsRule, condition_size, size_behind}
+use Rattle.scf_compare.specs.internal.Profiles.{StandsAt, IsAtCondition, KnowsRule, condition_size, size_behind}
 
 -- ---- which rules a call meets
 
@@ -25,8 +25,7 @@ pub unmet_apart : (call : CallRecord) (r : Rule) → call.nr ≢ r.number → me
 unmet_apart call r apart = ap (λ b. b && all_hold call r.conditions) (ne_eqb call.nr r.number apart)
 
 and_not : (b c : Bool) → c ≡ false → (b && c) ≡ false
-and_not true c e = e
-and_not false c e = refl
+and_not b c h1 = grind arith
 
 pub unmet_failing : (call : CallRecord) (r : Rule) → all_hold call r.conditions ≡ false → meets r call ≡ false
 unmet_failing call r fails = and_not (eqb call.nr r.number) (all_hold call r.conditions) fails
@@ -89,10 +88,7 @@ unmet_more call rules place r here before unmet =
 pub unmet_all : (call : CallRecord) (rules : List Rule) (place : ℕ) → length rules ≤ place
     → All (λ earlier. meets earlier call ≡ false) (take place rules) → (r : Rule) → Contains rules r
     → meets r call ≡ false
-unmet_all call rules place past unmet r in_rules =
-    All-contains (λ earlier. meets earlier call ≡ false) rules r
-    (subst (λ (xs : List Rule). All (λ earlier. meets earlier call ≡ false) xs) (take_all place rules past) unmet)
-    in_rules
+unmet_all call rules place h1 h2 r h3 = grind (arith, take_all)
 
 -- a call whose number no rule has meets none
 pub unmet_numbers : (call : CallRecord) (rules : List Rule) (place : ℕ) → length (numbers_of rules) ≤ place
@@ -116,15 +112,11 @@ apart_more nr numbers place number here before apart =
 
 kept : (r : Rule) (rules : List Rule) (number : ℕ) → r.number ≡ number
     → rules_of number (r ∷ rules) ≡ r ∷ rules_of number rules
-kept r rules number same =
-    ap (λ b. cond b (r ∷ rules_of number rules) (rules_of number rules)) (eq-eqb r.number number same)
+kept r rules number h1 = grind arith
 
 pub rules_kept : (rules : List Rule) (place number : ℕ) (r : Rule) → slice_get rules place ≡ Some r → r.number ≡ number
     → rules_of number (drop place rules) ≡ r ∷ rules_of number (drop (place + 1) rules)
-rules_kept rules place number r here same =
-    let one : suc place ≡ place + 1 = omega arith in
-    ap (rules_of number) (drop_here rules place r here) ∙ kept r (drop (suc place) rules) number same
-    ∙ ap (λ n. r ∷ rules_of number (drop n rules)) one
+rules_kept rules place number r h1 h2 = grind (arith, drop_here, kept)
 
 -- ---- what is known at a condition
 
@@ -132,9 +124,7 @@ pub knows : (rules : List Rule) (place index : ℕ) (call : CallRecord) (asked :
     (condition : Condition) → StandsAt rules place index rule condition → IsAtCondition rules place index rule call
     → IsAtPart condition asked (argument call condition.index)
     → KnowsRule rules place index call asked (slice_get rules place)
-knows rules place index call asked rule condition stands at_rule at_part =
-    subst (KnowsRule rules place index call asked) (sym stands.rule_here)
-    (at_rule, subst (KnowsPart call asked) (sym stands.condition_here) at_part)
+knows rules place index call asked rule condition h1 h2 h3 = grind arith
 
 -- ---- sizes
 
@@ -142,10 +132,7 @@ pub conditions_more : (conditions : List Condition) (index : ℕ) (c : Condition
     → slice_get conditions index ≡ Some c
     → conditions_size (drop index conditions) fails
     ≡ 3 + 2 * conditions_size (drop (index + 1) conditions) fails + 2 * fails
-conditions_more conditions index c fails here =
-    let one : suc index ≡ index + 1 = omega arith in
-    ap (λ (cs : List Condition). conditions_size cs fails) (drop_here conditions index c here)
-    ∙ ap (λ n. 3 + 2 * conditions_size (drop n conditions) fails + 2 * fails) one
+conditions_more conditions index c fails h1 = grind (arith, drop_here)
 
 pub conditions_count : (conditions : List Condition) (fails : ℕ) → 1 ≤ conditions_size conditions fails
 conditions_count [] fails = omega arith
@@ -155,13 +142,7 @@ pub size_at_condition : (rules : List Rule) (place index : ℕ) (rule : Rule) (c
     → slice_get rules place ≡ Some rule → slice_get rule.conditions index ≡ Some c
     → condition_size rules place index High (slice_get rules place)
     ≤ conditions_size (drop index rule.conditions) (size_behind rules place rule)
-size_at_condition rules place index rule c here first =
-    let all : conditions_size (drop index rule.conditions) (size_behind rules place rule)
-    ≡ condition_size rules place index High (Some rule) =
-    conditions_more rule.conditions index c (size_behind rules place rule) first in
-    let found : condition_size rules place index High (slice_get rules place)
-    ≡ condition_size rules place index High (Some rule) = ap (condition_size rules place index High) here in
-    omega (arith, all, found)
+size_at_condition rules place index rule c h1 h2 = grind (arith, conditions_more)
 
 -- ---- what the code reads
 
@@ -178,5 +159,4 @@ none_of [] e = refl
 none_of (x ∷ xs) e = absurd (omega arith)
 
 pub some_of : (n : ℕ) (b : Bool) → b ≡ eqb n 0 → b ≡ false → 0 < n
-some_of zero b e f = absurd (let both : true ≡ false = sym e ∙ f in cc)
-some_of (suc n) b e f = omega arith
+some_of n b h1 h2 = grind arith

@@ -1,8 +1,6 @@
 -- Numbers that are cut at 2^64-1.
-use Rattle.std.proofs.Common.{◌≡◌, ℕ, suc, ◌+◌, ◌*◌, ◌-◌, ◌<◌, ◌≤◌, cond, Bool, true, false, List, [], ◌∷◌, ◌++◌, length, drop, take, slice_index_or, refl, ap, ◌∙◌, arith, inl, inr}
+use Rattle.std.proofs.Common.{◌≡◌, ℕ, suc, ◌+◌, ◌*◌, ◌-◌, ◌<◌, ◌≤◌, cond, Bool, List, [], ◌∷◌, ◌++◌, length, drop, take, slice_index_or, ap, ◌∙◌, arith}
 use Rattle.std.specs.Prelude.{Some, slice_get, sum_by}
-use Rattle.std.proofs.Math.Nat.{mul-le-mul_left}
-use Rattle.std.proofs.lemmas.Bool.{cases_lt}
 use Rattle.std.proofs.lemmas.List.Sums.{sum_by-append}
 use Rattle.std.proofs.lemmas.Option.{slice_get-get_or}
 use Rattle.scf_profile.specs.declared.condition.Operator.TheVariants.{Equal}
@@ -18,29 +16,10 @@ added a b x y e f = omega arith
 
 pub multiplied : (a b x y : ℕ) → 0 < x → 0 < y → a ≡ saturated x → b ≡ saturated y
     → saturated (a * b) ≡ saturated (x * y)
-multiplied a b x y some_x some_y e f =
-    let some_a : 1 ≤ a = omega arith in
-    let some_b : 1 ≤ b = omega arith in
-    let one_x : 1 ≤ x = omega arith in
-    let one_y : 1 ≤ y = omega arith in
-    let a_most : a * 1 ≤ a * b = mul-le-mul_left a some_b in
-    let b_most : b * 1 ≤ b * a = mul-le-mul_left b some_a in
-    let x_most : x * 1 ≤ x * y = mul-le-mul_left x one_y in
-    let y_most : y * 1 ≤ y * x = mul-le-mul_left y one_x in
-    elim (cases_lt 18446744073709551615 x) [
-      | inl large ↦ omega arith
-      | inr small ↦ elim (cases_lt 18446744073709551615 y) [
-        | inl large ↦ omega arith
-        | inr other_small ↦
-            let same_x : a ≡ x = omega arith in
-            let same_y : b ≡ y = omega arith in
-            ap (λ n. saturated (n * b)) same_x ∙ ap (λ n. saturated (x * n)) same_y
-      ]
-    ]
+multiplied a b x y h1 h2 h3 h4 = grind arith
 
 sum_of_one : (f : ℕ → ℕ) (has : Bool) (number : ℕ) → sum_by f (cond has [] (number ∷ [])) ≡ cond has 0 (f number)
-sum_of_one f true number = refl
-sum_of_one f false number = omega arith
+sum_of_one f has number = grind arith
 
 -- what the number of one more rule adds to a sum over the distinct numbers
 pub sum_grows : (f : ℕ → ℕ) (rules : List Rule) (place : ℕ) (r : Rule) → slice_get rules place ≡ Some r

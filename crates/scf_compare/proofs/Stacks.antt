@@ -1,9 +1,7 @@
 -- The filters of a stack by their places.
-use Rattle.std.proofs.Common.{◌≡◌, ℕ, suc, ◌+◌, ◌*◌, ◌<◌, List, [], ◌∷◌, length, take, drop, refl, sym, ap, subst, ◌∙◌, arith}
-use Rattle.std.proofs.Common.{ℤ, ◌<ℤ◌, ◌≤ℤ◌, int_lt, Bool, true, false, cond}
-use Rattle.std.specs.Prelude.{Option, Some, None, All, IfSome, slice_get}
-use Rattle.std.proofs.lemmas.Int.{ints}
-use Rattle.std.proofs.lemmas.List.Elements.{All-contains}
+use Rattle.std.proofs.Common.{◌≡◌, ℕ, suc, ◌+◌, ◌*◌, ◌<◌, List, [], ◌∷◌, length, take, drop, refl, ap, ◌∙◌, arith}
+use Rattle.std.proofs.Common.{ℤ, ◌<ℤ◌, ◌≤ℤ◌, int_lt, Bool, cond}
+use Rattle.std.specs.Prelude.{Option, Some, All, IfSome, slice_get}
 use Rattle.std.proofs.lemmas.Option.{slice_get-get_or, slice_get_within}
 use Rattle.scf_insn.specs.declared.answer.Answer.{Answer}
 use Rattle.scf_insn.specs.declared.insn.Insn.{Insn}
@@ -26,10 +24,7 @@ here filters place inside = slice_get-get_or filters place [] inside
 -- the filter that stands at a place
 pub filter_is : (filters : List (List Insn)) (place : ℕ) (filter : List Insn) → slice_get filters place ≡ Some filter
     → filter ≡ filter_at filters place
-filter_is filters place filter found =
-    let inside = slice_get_within filters place filter found in
-    let both : Some filter ≡ Some (filter_at filters place) = sym found ∙ here filters place inside in
-    cc
+filter_is filters place filter h1 = grind (arith, here, slice_get_within)
 
 -- an end of one of the filters is an end of the stack
 pub is_stack_end : (filters : List (List Insn)) (place : ℕ) (end : FilterEnd) → place < length filters
@@ -52,30 +47,19 @@ paths_from filters place inside =
 
 pub plain_at : (filters : List (List Insn)) (place : ℕ) → All IsPlainProgram filters → place < length filters
     → IsPlainProgram (filter_at filters place)
-plain_at filters place plain inside =
-    All-contains IsPlainProgram filters (filter_at filters place) plain
-    (contains_here filters place (filter_at filters place) (here filters place inside))
+plain_at filters place h1 h2 = grind arith
 
 -- the first filter decides alone
 pub first_decides : (filters : List (List Insn)) (place : ℕ) (words : List ℕ) (answer : Option Answer)
     → place < length filters → place ≡ 0 → IfSome answer (λ a. RunAnswers (filter_at filters place) words a.0)
     → IfSome answer (λ a. StackAnswers (take (place + 1) filters) words a.0)
-first_decides filters place words None inside first run = tt
-first_decides [] place words (Some answer) inside first run = absurd (omega arith)
-first_decides (filter ∷ filters) place words (Some answer) inside first run =
-    let run_first : RunAnswers (filter_at (filter ∷ filters) 0) words answer.0 =
-    subst (λ n. RunAnswers (filter_at (filter ∷ filters) n) words answer.0) first run in
-    let alone : StackAnswers (take (0 + 1) (filter ∷ filters)) words answer.0 =
-    (one_answers filter words answer.0).0 run_first in
-    subst (λ n. StackAnswers (take (n + 1) (filter ∷ filters)) words answer.0) (sym first) alone
+first_decides filters place words answer h1 h2 h3 = grind (arith, one_answers)
 
 chosen : (a b : ℤ) (test : Bool) (x y : ℕ) → int_lt a b ≡ test → a <ℤ b → cond test x y ≡ x
-chosen a b true x y e less = refl
-chosen a b false x y e less = absurd (let most : b ≤ℤ a = grind (arith, ints) in let no : ⊥ = omega (arith, ints) in no)
+chosen a b test x y h1 h2 = grind arith
 
 other : (a b : ℤ) (test : Bool) (x y : ℕ) → int_lt a b ≡ test → b ≤ℤ a → cond test x y ≡ y
-other a b true x y e most = absurd (let less : a <ℤ b = grind (arith, ints) in let no : ⊥ = omega (arith, ints) in no)
-other a b false x y e most = refl
+other a b test x y h1 h2 = grind arith
 
 -- the older answer decides where it has the lesser rank, and else the newer one
 pub lesser_wins : (older newest : ℕ) → rank_of older <ℤ rank_of newest → with_newest older newest ≡ older

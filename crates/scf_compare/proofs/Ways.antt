@@ -1,21 +1,19 @@
 -- The runs that come to the nodes of a filter's tree.
-use Rattle.std.proofs.Common.{◌≡◌, ℕ, ◌+◌, ◌≤◌, inl, inr, Bool, true, false, List, ◌∷◌, length, refl, sym, subst, ◌∙◌, arith}
-use Rattle.std.proofs.lemmas.Bool.{cases_Bool}
+use Rattle.std.proofs.Common.{◌≡◌, ℕ, ◌+◌, ◌≤◌, Bool, true, false, List, ◌∷◌, length, refl, subst, ◌∙◌, arith}
 use Rattle.scf_insn.specs.declared.insn.Insn.{Insn}
 use Rattle.scf_insn.specs.declared.operation.Operation.{Operation}
 use Rattle.scf_machine.specs.Machine.{State, Outcome, Goes, Ends, Faults, step, effect, jumps_to, RunAnswers, RunsSafely}
 use Rattle.scf_machine.specs.Rules.{Stands, Edge}
-use Rattle.scf_machine.proofs.Runs.{step_is, step_edge}
+use Rattle.scf_machine.proofs.Runs.{step_edge}
 use Rattle.scf_compare.specs.declared.comparison.FilterEnd.{FilterEnd}
 use Rattle.scf_compare.specs.declared.filter.FilterNode.{FilterNode}
 use Rattle.scf_compare.specs.declared.flow.Flow.TheVariants.{Next}
 use Rattle.scf_compare.specs.declared.registers.Registers.{Registers}
 use Rattle.scf_compare.specs.declared.turn.Turn.{Turn}
 use Rattle.scf_compare.specs.declared.value.Decision.{Decision}
-use Rattle.scf_compare.specs.declared.value.Decision.TheVariants.{Known as Decided, Asks, Open}
 use Rattle.scf_compare.specs.internal.Flow.{flow_at}
-use Rattle.scf_compare.specs.internal.Trees.{Tree, IsProper, GoesOn, Costs, StaysPlain}
-use Rattle.scf_compare.specs.internal.Values.{Describes, Decides, IsTestDecision, IsPlainDecision}
+use Rattle.scf_compare.specs.internal.Trees.{Tree, GoesOn, Costs, StaysPlain}
+use Rattle.scf_compare.specs.internal.Values.{Describes, Decides, IsPlainDecision}
 use Rattle.scf_compare.specs.internal.Filters.{ComesTo, IsTurnOf}
 use Rattle.scf_compare.proofs.Flows.{next_never_ends, edge_next}
 
@@ -27,8 +25,7 @@ describes_at registers words s target d = record { a = d.a; x = d.x; scratch = d
 module _ (insns : List Insn) (words : List ℕ) (place : ℕ) (i : Insn) (operation : Operation) (registers : Registers)
     (stands : Stands insns place i operation) (c : ComesTo insns place registers words) where
   step_here : step insns words c.state ≡ effect operation i words c.state
-  step_here =
-      step_is insns words c.state i operation (subst (λ (p : ℕ). Stands insns p i operation) (sym c.there) stands)
+  step_here = grind arith
 
   pub comes_on : (t : State) (next : ℕ) (after : Registers) → effect operation i words c.state ≡ Goes t → t.place ≡ next
       → Describes after words t → ComesTo insns next after words
@@ -69,55 +66,18 @@ module _ (insns : List Insn) (words : List ℕ) (place : ℕ) (i : Insn) (operat
 
 -- ---- the ways on from a test
 
-pub turn_proper : (tree : Tree FilterNode) (is_end : FilterEnd → Type 0) (decision : Decision)
-    (if_true if_false : FilterNode) (turn : Turn FilterNode FilterEnd) → IsTurnOf decision if_true if_false turn
-    → IsTestDecision decision → tree.is_node if_true → tree.is_node if_false → IsProper tree is_end turn
-turn_proper tree is_end (Decided true) t f turn e d ht hf = subst (IsProper tree is_end) (sym e) ht
-turn_proper tree is_end (Decided false) t f turn e d ht hf = subst (IsProper tree is_end) (sym e) hf
-turn_proper tree is_end (Asks atoms true) t f turn e d ht hf = subst (IsProper tree is_end) (sym e) (d, ht, hf)
-turn_proper tree is_end (Asks atoms false) t f turn e d ht hf = subst (IsProper tree is_end) (sym e) (d, hf, ht)
-turn_proper tree is_end Open t f turn e d ht hf = subst (IsProper tree is_end) (sym e) (ht, hf)
-
 pub turn_costs : (tree : Tree FilterNode) (decision : Decision) (if_true if_false : FilterNode)
     (turn : Turn FilterNode FilterEnd) (n : ℕ) → IsTurnOf decision if_true if_false turn
     → tree.size if_true + tree.size if_false + 1 ≤ n → Costs tree turn n
-turn_costs tree (Decided true) t f turn n e h =
-    subst (λ (u : Turn FilterNode FilterEnd). Costs tree u n) (sym e) (let k : tree.size t + 1 ≤ n = omega arith in k)
-turn_costs tree (Decided false) t f turn n e h =
-    subst (λ (u : Turn FilterNode FilterEnd). Costs tree u n) (sym e) (let k : tree.size f + 1 ≤ n = omega arith in k)
-turn_costs tree (Asks atoms true) t f turn n e h = subst (λ (u : Turn FilterNode FilterEnd). Costs tree u n) (sym e) h
-turn_costs tree (Asks atoms false) t f turn n e h =
-    subst (λ (u : Turn FilterNode FilterEnd). Costs tree u n) (sym e)
-    (let k : tree.size f + tree.size t + 1 ≤ n = omega arith in k)
-turn_costs tree Open t f turn n e h = subst (λ (u : Turn FilterNode FilterEnd). Costs tree u n) (sym e) h
+turn_costs tree decision if_true if_false turn n h1 h2 = grind arith
 
 pub turn_leads : (tree : Tree FilterNode) (tells : FilterEnd → List ℕ → Type 0) (words : List ℕ) (decision : Decision)
     (if_true if_false : FilterNode) (turn : Turn FilterNode FilterEnd) (test : Bool)
     → IsTurnOf decision if_true if_false turn → Decides decision words test → (test ≡ true → tree.reaches if_true words)
     → (test ≡ false → tree.reaches if_false words) → GoesOn tree tells turn words
-turn_leads tree tells words (Decided true) t f turn test e d ht hf =
-    subst (λ (u : Turn FilterNode FilterEnd). GoesOn tree tells u words) (sym e) (ht d)
-turn_leads tree tells words (Decided false) t f turn test e d ht hf =
-    subst (λ (u : Turn FilterNode FilterEnd). GoesOn tree tells u words) (sym e) (hf d)
-turn_leads tree tells words (Asks atoms true) t f turn test e d ht hf =
-    subst (λ (u : Turn FilterNode FilterEnd). GoesOn tree tells u words) (sym e) (
-      λ a. ht (d.1 a),
-      λ a. elim (cases_Bool test) [ inl y ↦ absurd (let both : true ≡ false = sym (d.0 y) ∙ a in cc) | inr n ↦ hf n ],
-    )
-turn_leads tree tells words (Asks atoms false) t f turn test e d ht hf =
-    subst (λ (u : Turn FilterNode FilterEnd). GoesOn tree tells u words) (sym e) (
-      λ a. elim (cases_Bool test) [ inl y ↦ absurd (let both : false ≡ true = sym (d.0 y) ∙ a in cc) | inr n ↦ hf n ],
-      λ a. ht (d.1 a),
-    )
-turn_leads tree tells words Open t f turn test e d ht hf =
-    subst (λ (u : Turn FilterNode FilterEnd). GoesOn tree tells u words) (sym e)
-    (elim (cases_Bool test) [ inl y ↦ inl (ht y) | inr n ↦ inr (hf n) ])
+turn_leads tree tells words decision if_true if_false turn test h1 h2 h3 h4 = grind arith
 
 pub turn_plain : (tree : Tree FilterNode) (tells_all : FilterEnd → Type 0) (decision : Decision)
     (if_true if_false : FilterNode) (turn : Turn FilterNode FilterEnd) → IsTurnOf decision if_true if_false turn
     → IsPlainDecision decision → tree.is_plain if_true → tree.is_plain if_false → StaysPlain tree tells_all turn
-turn_plain tree tells_all (Decided true) t f turn e d ht hf = subst (StaysPlain tree tells_all) (sym e) ht
-turn_plain tree tells_all (Decided false) t f turn e d ht hf = subst (StaysPlain tree tells_all) (sym e) hf
-turn_plain tree tells_all (Asks atoms true) t f turn e d ht hf = subst (StaysPlain tree tells_all) (sym e) (d, ht, hf)
-turn_plain tree tells_all (Asks atoms false) t f turn e d ht hf = subst (StaysPlain tree tells_all) (sym e) (d, hf, ht)
-turn_plain tree tells_all Open t f turn e d ht hf = absurd d
+turn_plain tree tells_all decision if_true if_false turn h1 h2 h3 h4 = grind arith

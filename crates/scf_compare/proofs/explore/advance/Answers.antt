@@ -1,4 +1,4 @@
-use Rattle.scf_compare.specs.declared.turn.Turn.TheVariants.{Ask, Fork}
+use Rattle.scf_compare.specs.declared.turn.Turn.TheVariants.{Ask}
 use Rattle.scf_compare.proofs.Stages.{led, ended}
 use Rattle.scf_compare.proofs.explore.advance.Goals as goal
 
@@ -12,17 +12,6 @@ returns-in-Ask-clause-stage g c =
     (tree c.args.known.now) c.args.node (tree c.turn.new.known)
     (Ask c.in-Ask.atoms c.in-Ask.if_true c.in-Ask.if_false) c.in_ok-next-in-Ask.next
     turn.leads turn.costs turn.plain c.in_ok-next-in-Ask.ensures _
-
-pub returns-in-Fork-clause-stage : goal.returns-in-Fork-clause-stage
-returns-in-Fork-clause-stage g c =
-    let C = g.C.Comparison in
-    let comparison = c.args.comparison.now in
-    let tree = C.tree comparison in
-    let turn = c.in-Fork.ensures in
-    led g.F.WordFacts (C.compared comparison) tree c.args.frontier.now c.fork.new.frontier c.requires.frontier
-    (tree c.args.known.now) c.args.node (tree c.turn.new.known)
-    (Fork c.in-Fork.if_true c.in-Fork.if_false) c.in_ok-next-in-Fork.next
-    turn.leads turn.costs turn.plain c.in_ok-next-in-Fork.ensures _
 
 pub returns-in-Some-2-clause-stage : goal.returns-in-Some-2-clause-stage
 returns-in-Some-2-clause-stage g c =

@@ -1,42 +1,30 @@
-use Rattle.std.proofs.Common.{◌≡◌, ◌+◌, ◌∙◌, ℕ, List, true, false, inl, inr, sym, subst, arith}
-use Rattle.std.specs.Prelude.{Option, Some, None, IfSome, IsSome}
+use Rattle.std.proofs.Common.{◌≡◌, ◌+◌, ◌∙◌, ℕ, List, inl, inr, arith}
+use Rattle.std.specs.Prelude.{Option, None, IfSome, IsSome}
 use Rattle.scf_compare.specs.Verdicts.{IsDecided}
-use Rattle.scf_compare.specs.internal.Compared.{Compared, WordsRelated, AllRelated, IsTrueVerdict}
+use Rattle.scf_compare.specs.internal.Compared.{Compared, AllRelated, IsTrueVerdict}
 use Rattle.scf_compare.specs.internal.Ends.{WereSeen, WereAllSeen}
 use Rattle.scf_compare.specs.internal.Stages.{verdict_of_all}
 use Rattle.scf_compare.proofs.explore.explore.Goals as goal
 
--- words that were seen where no end was left open are related
-related_where_none : (compared : Compared) (words : List ℕ) → WereSeen compared None words → WordsRelated compared words
-related_where_none compared words seen =
-    elim seen [ inl related ↦ related | inr left ↦ let none : false ≡ true = left.0 in cc ]
-
 -- what was seen stays so
 still_seen : (compared : Compared) (old new : Option ℕ) (words : List ℕ) → (IsSome old → new ≡ old)
     → WereSeen compared old words → WereSeen compared new words
-still_seen compared old new words first seen = elim seen [
-  | inl related ↦ inl related
-  | inr left ↦ inr (subst IsSome (sym (first left.0)) left.0, left.1)
-]
+still_seen compared old new words h1 h2 = grind arith
 
 holds_of_all : (compared : Compared) (steps : ℕ) (left_open : Option ℕ) → IfSome left_open compared.is_place
     → ((words : List ℕ) → compared.in_scope words → WereSeen compared left_open words)
     → IsTrueVerdict compared (verdict_of_all steps left_open)
-holds_of_all compared steps (Some at) place seen = place
-holds_of_all compared steps None place seen = λ words within. related_where_none compared words (seen words within)
+holds_of_all compared steps left_open h1 h2 = grind arith
 
 seen_of_all : (compared : Compared) (steps : ℕ) (left_open : Option ℕ)
     → ((words : List ℕ) → compared.in_scope words → WereSeen compared left_open words)
     → WereAllSeen compared (verdict_of_all steps left_open)
-seen_of_all compared steps (Some at) seen = seen
-seen_of_all compared steps None seen = tt
+seen_of_all compared steps left_open h1 = grind arith
 
 decided_of_all : (compared : Compared) (steps limit effort : ℕ) (left_open : Option ℕ) → left_open ≡ None
     → ((words : List ℕ) → compared.in_scope words → WereSeen compared left_open words)
     → IsDecided (AllRelated compared) limit effort (verdict_of_all steps left_open)
-decided_of_all compared steps limit effort (Some at) none seen = let no : ⊥ = cc none in no
-decided_of_all compared steps limit effort None none seen =
-    λ words within. related_where_none compared words (seen words within)
+decided_of_all compared steps limit effort left_open h1 h2 = grind arith
 
 pub returns-in-AllSeen-clause-holds : goal.returns-in-AllSeen-clause-holds
 returns-in-AllSeen-clause-holds g c =

@@ -1,57 +1,27 @@
 -- The ways on from an instruction follow the runs that come to it, and their sizes are within its size.
-use Rattle.std.proofs.Common.{◌≡◌, ◌+◌, ◌/◌, ◌==◌, ℕ, List, Bool, true, false, if◌then◌else◌, refl, sym, ap, subst, ◌∙◌, arith}
-use Rattle.std.specs.Prelude.{Option, Some}
+use Rattle.std.proofs.lemmas.Grind.{common_steps}
+use Rattle.std.proofs.Common.{◌≡◌, ◌+◌, ◌/◌, ◌==◌, ℕ, Bool, if◌then◌else◌, refl, sym, ap, subst, ◌∙◌, arith}
 use Rattle.std.proofs.lemmas.Option.{IfSome_then}
 use Rattle.scf_insn.specs.declared.answer.Answer.{Answer}
-use Rattle.scf_insn.specs.declared.insn.Insn.{Insn}
-use Rattle.scf_insn.specs.declared.operation.Operation.{Operation}
 use Rattle.scf_insn.specs.declared.operation.Register.TheVariants.{A}
 use Rattle.scf_machine.specs.Machine.{State, Goes, Ends, sets, jumps_to, holds, operand_of, RunAnswers}
-use Rattle.scf_machine.specs.Rules.{Stands}
 use Rattle.scf_compare.specs.declared.filter.FilterNode.{FilterNode}
 use Rattle.scf_compare.specs.declared.filter.FilterNode.TheVariants.{At, Stopped}
-use Rattle.scf_compare.specs.declared.flow.Flow.{Flow}
 use Rattle.scf_compare.specs.declared.flow.Flow.TheVariants.{Next, Jump, Branch, DivideByIndex, ReturnConstant, ReturnAccumulator}
 use Rattle.scf_compare.specs.internal.Ends.{FilterTells, KnowsAnswer}
-use Rattle.scf_compare.specs.internal.Filters.{EndsWith, IsFilterEnd, filter_tree}
+use Rattle.scf_compare.specs.internal.Filters.{filter_tree}
 use Rattle.scf_compare.specs.Paths.{tree_size}
 use Rattle.scf_compare.specs.internal.Flow.{flow_at}
 use Rattle.scf_compare.proofs.Flows.{load_fits, scratch_fits, jumped, branched, divided, returned_constant, returned_accumulator, size_by_flow}
 use Rattle.scf_compare.proofs.PlainFlows.{plain_flow}
-use Rattle.scf_compare.proofs.Ways.{describes_at, comes_on, comes_to_answer, straight, turn_proper, turn_costs, turn_leads, turn_plain}
+use Rattle.scf_compare.proofs.Ways.{describes_at, comes_on, comes_to_answer, straight, turn_costs, turn_leads, turn_plain}
 use Rattle.scf_compare.proofs.filter.turn_of.Goals as goal
 
--- an end at the place of an instruction that goes on so
-ends_here : (insns : List Insn) (place : ℕ) (i : Insn) (operation : Operation) (answer : Option Answer) (flow : Flow)
-    → Stands insns place i operation → flow_at operation i place ≡ flow → EndsWith flow i answer
-    → IsFilterEnd insns (record { answer = answer; at = place })
-ends_here insns place i operation answer flow stands e ends = record {
-  insn = i;
-  operation = operation;
-  stands = stands;
-  ends = subst (λ (f : Flow). EndsWith f i answer) (sym e) ends;
-}
-
 pub apply-requires-clause-load : goal.apply-requires-clause-load
-apply-requires-clause-load c =
-    let insns = c.args.insns.now in
-    let place = c.args.place in
-    let insn = c.args.insn in
-    let operation = c.args.operation in
-    load_fits insns place insn operation c.requires.valid c.requires.stands
+apply-requires-clause-load c = grind (arith, common_steps, load_fits)
 
 pub apply-requires-clause-scratch : goal.apply-requires-clause-scratch
-apply-requires-clause-scratch c =
-    let insns = c.args.insns.now in
-    let place = c.args.place in
-    let insn = c.args.insn in
-    let operation = c.args.operation in
-    scratch_fits insns place insn operation c.requires.valid c.requires.stands
-
-pub returns-in-Next-clause-proper : goal.returns-in-Next-clause-proper
-returns-in-Next-clause-proper c =
-    let inside = rw c.in-Next.is at c.of.ensures.inside in
-    (inside, c.apply.ensures.values)
+apply-requires-clause-scratch c = grind (arith, common_steps, scratch_fits)
 
 pub returns-in-Next-clause-leads : goal.returns-in-Next-clause-leads
 returns-in-Next-clause-leads c =
@@ -74,11 +44,6 @@ returns-in-Next-clause-costs c =
     let f : flow_at operation insn place ≡ Next c.in-Next.next = sym c.of.ensures.flow ∙ c.in-Next.is in
     let size = size_by_flow insns place insn operation (Next c.in-Next.next) c.requires.stands f in
     omega arith
-
-pub returns-in-Jump-clause-proper : goal.returns-in-Jump-clause-proper
-returns-in-Jump-clause-proper c =
-    let inside = rw c.in-Jump.is at c.of.ensures.inside in
-    (inside, c.requires.values)
 
 pub returns-in-Jump-clause-leads : goal.returns-in-Jump-clause-leads
 returns-in-Jump-clause-leads c =
@@ -105,8 +70,7 @@ returns-in-Jump-clause-costs c =
     omega arith
 
 either_way : (b : Bool) (m n : ℕ) → m ≡ n → (if b then m else n) ≡ m
-either_way true m n same = refl
-either_way false m n same = sym same
+either_way b m n h1 = grind arith
 
 pub returns-then-if_true-if_false-clause-leads : goal.returns-then-if_true-if_false-clause-leads
 returns-then-if_true-if_false-clause-leads c =
@@ -142,20 +106,6 @@ returns-then-if_true-if_false-clause-costs c =
     (Branch c.in-Branch.test c.in-Branch.operand c.in-Branch.if_true c.in-Branch.if_false) c.requires.stands
     f in
     omega arith
-
-pub returns-then-if_true-if_false-clause-proper : goal.returns-then-if_true-if_false-clause-proper
-returns-then-if_true-if_false-clause-proper c =
-    let inside = rw c.in-Branch.is at c.of.ensures.inside in
-    (inside.0, c.requires.values)
-
-pub returns-else-if_true-if_false-clause-proper : goal.returns-else-if_true-if_false-clause-proper
-returns-else-if_true-if_false-clause-proper c =
-    let insns = c.args.insns.now in
-    let inside = rw c.in-Branch.is at c.of.ensures.inside in
-    let if_true : FilterNode = At c.in-Branch.if_true in
-    let if_false : FilterNode = At c.in-Branch.if_false in
-    turn_proper (filter_tree insns c.args.registers.now) _ c.decide-decision.result if_true if_false c.turn_by.result
-    c.turn_by.ensures c.decide-decision.ensures.asks (inside.0, c.requires.values) (inside.1, c.requires.values)
 
 pub returns-else-if_true-if_false-clause-leads : goal.returns-else-if_true-if_false-clause-leads
 returns-else-if_true-if_false-clause-leads c =
@@ -205,21 +155,6 @@ returns-else-if_true-if_false-clause-costs c =
     turn_costs (filter_tree insns c.args.registers.now) c.decide-decision.result if_true if_false c.turn_by.result
     (tree_size insns place) c.turn_by.ensures (omega arith)
 
-pub returns-in-DivideByIndex-clause-proper : goal.returns-in-DivideByIndex-clause-proper
-returns-in-DivideByIndex-clause-proper c =
-    let insns = c.args.insns.now in
-    let place = c.args.place in
-    let insn = c.args.insn in
-    let inside = rw c.in-DivideByIndex.is at c.of.ensures.inside in
-    let stopped : FilterNode = Stopped (record { 0 = 0 }) place in
-    let divided_on : FilterNode = At c.in-DivideByIndex.next in
-    turn_proper (filter_tree insns c.apply-in-DivideByIndex.new.self) _ c.decide-decision-in-DivideByIndex.result
-    stopped divided_on c.turn_by-in-DivideByIndex.result c.turn_by-in-DivideByIndex.ensures
-    c.decide-decision-in-DivideByIndex.ensures.asks
-    (ends_here insns place insn c.args.operation (Some (record { 0 = 0 })) (DivideByIndex c.in-DivideByIndex.next)
-    c.requires.stands (sym c.of.ensures.flow ∙ c.in-DivideByIndex.is) refl)
-    (inside, c.apply-in-DivideByIndex.ensures.values)
-
 pub returns-in-DivideByIndex-clause-leads : goal.returns-in-DivideByIndex-clause-leads
 returns-in-DivideByIndex-clause-leads c =
     let insns = c.args.insns.now in
@@ -262,11 +197,6 @@ returns-in-DivideByIndex-clause-costs c =
     divided_on c.turn_by-in-DivideByIndex.result (tree_size insns place) c.turn_by-in-DivideByIndex.ensures
     (omega arith)
 
-pub returns-in-ReturnConstant-clause-proper : goal.returns-in-ReturnConstant-clause-proper
-returns-in-ReturnConstant-clause-proper c =
-    ends_here c.args.insns.now c.args.place c.args.insn c.args.operation (Some (record { 0 = c.args.insn.k }))
-    ReturnConstant c.requires.stands (sym c.of.ensures.flow ∙ c.in-ReturnConstant.is) refl
-
 pub returns-in-ReturnConstant-clause-leads : goal.returns-in-ReturnConstant-clause-leads
 returns-in-ReturnConstant-clause-leads c =
     let insns = c.args.insns.now in
@@ -288,11 +218,6 @@ returns-in-ReturnConstant-clause-costs c =
     let f : flow_at operation insn place ≡ ReturnConstant = sym c.of.ensures.flow ∙ c.in-ReturnConstant.is in
     let size = size_by_flow insns place insn operation ReturnConstant c.requires.stands f in
     omega arith
-
-pub returns-in-ReturnAccumulator-clause-proper : goal.returns-in-ReturnAccumulator-clause-proper
-returns-in-ReturnAccumulator-clause-proper c =
-    ends_here c.args.insns.now c.args.place c.args.insn c.args.operation c.answer.result
-    ReturnAccumulator c.requires.stands (sym c.of.ensures.flow ∙ c.in-ReturnAccumulator.is) tt
 
 pub returns-in-ReturnAccumulator-clause-leads : goal.returns-in-ReturnAccumulator-clause-leads
 returns-in-ReturnAccumulator-clause-leads c =

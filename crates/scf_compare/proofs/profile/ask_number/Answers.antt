@@ -1,3 +1,4 @@
+use Rattle.std.proofs.lemmas.Grind.{common_steps}
 use Rattle.std.proofs.Common.{slice_index_or, arith}
 use Rattle.std.proofs.lemmas.Option.{slice_get-get_or}
 use Rattle.scf_insn.specs.Words.{call_of}
@@ -37,16 +38,4 @@ returns-clause-leads g c =
     )
 
 pub returns-clause-costs : goal.returns-clause-costs
-returns-clause-costs g c =
-    let firsts = c.args.firsts.now in
-    let rules = c.args.rules.now in
-    let place = c.args.place in
-    let none : FirstRule = record { number = 0; place = 0 } in
-    let first : FirstRule = slice_index_or firsts place none in
-    let here = slice_get-get_or firsts place none c.if-place-firsts.false in
-    omega (
-      arith,
-      c.next_rule.ensures.size,
-      size_at firsts rules c.requires place first here,
-      sum_at firsts rules c.requires place first here,
-    )
+returns-clause-costs g c = grind (arith, common_steps, size_at, slice_get-get_or, sum_at)

@@ -1,45 +1,17 @@
-use Rattle.std.proofs.Common.{◌≡◌, ◌≢◌, slice_index_or, take, drop, ap, sym, subst, ◌∙◌, arith}
+use Rattle.std.proofs.lemmas.Grind.{common_steps}
+use Rattle.std.proofs.Common.{◌≢◌, slice_index_or, take, sym, subst, arith}
 use Rattle.std.specs.Prelude.{All}
 use Rattle.std.proofs.lemmas.Option.{slice_get-get_or}
 use Rattle.scf_insn.specs.Words.{call_of}
-use Rattle.scf_profile.specs.RulesByNumber.{numbers_of, rules_of}
+use Rattle.scf_profile.specs.RulesByNumber.{numbers_of}
 use Rattle.scf_profile.specs.ProfileAnswers.{by_default}
 use Rattle.scf_compare.specs.declared.profile_numbers.FirstRule.{FirstRule}
-use Rattle.scf_compare.specs.Effort.{rules_size}
-use Rattle.scf_compare.proofs.Firsts.{number_at, unmet_at, size_at, within_sum, all_past}
+use Rattle.scf_compare.proofs.Firsts.{number_at, size_at, within_sum, all_past}
 use Rattle.scf_compare.proofs.Rules.{apart_more, unmet_numbers}
 use Rattle.scf_compare.proofs.profile.ask_rules_of.Goals as goal
 
-pub returns-then-first-number-clause-leads : goal.returns-then-first-number-clause-leads
-returns-then-first-number-clause-leads c =
-    let firsts = c.args.firsts.now in
-    let rules = c.args.rules.now in
-    let place = c.loop-place.place in
-    let none : FirstRule = record { number = 0; place = 0 } in
-    let first : FirstRule = slice_index_or firsts place none in
-    let here = slice_get-get_or firsts place none c.loop-place-test.true in
-    λ words native number.
-    c.next_rule.ensures.reached words native number
-    (unmet_at firsts rules c.requires place first here (call_of words) (number ∙ sym c.if-first-number.true))
-
 pub returns-then-first-number-clause-costs : goal.returns-then-first-number-clause-costs
-returns-then-first-number-clause-costs c =
-    let firsts = c.args.firsts.now in
-    let rules = c.args.rules.now in
-    let place = c.loop-place.place in
-    let none : FirstRule = record { number = 0; place = 0 } in
-    let first : FirstRule = slice_index_or firsts place none in
-    let here = slice_get-get_or firsts place none c.loop-place-test.true in
-    let same : rules_size (rules_of c.args.number (drop first.place rules))
-    ≡ rules_size (rules_of first.number (drop first.place rules)) =
-    ap (λ n. rules_size (rules_of n (drop first.place rules))) (sym c.if-first-number.true) in
-    omega (
-      arith,
-      c.next_rule.ensures.size,
-      same,
-      size_at firsts rules c.requires place first here,
-      within_sum firsts rules c.requires place first here,
-    )
+returns-then-first-number-clause-costs c = grind (arith, common_steps, size_at, slice_get-get_or, within_sum)
 
 pub loop-place-preserved : goal.loop-place-preserved
 loop-place-preserved c =

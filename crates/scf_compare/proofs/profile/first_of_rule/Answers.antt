@@ -1,11 +1,12 @@
-use Rattle.std.proofs.Common.{◌≡◌, ◌<◌, ℕ, List, [], get_or, length, slice_index_or, eqb-true, sym, ap, subst, ◌∙◌}
+use Rattle.std.proofs.lemmas.Grind.{common_steps}
+use Rattle.std.proofs.Common.{arith}
+use Rattle.std.proofs.Common.{◌≡◌, ◌<◌, ℕ, List, get_or, length, slice_index_or, sym, subst}
 use Rattle.std.proofs.lemmas.Option.{slice_get-get_or}
 use Rattle.std.specs.Prelude.{slice_get, Some}
 use Rattle.scf_insn.specs.Words.{call_of}
 use Rattle.scf_profile.specs.declared.condition.Operator.TheVariants.{Equal}
 use Rattle.scf_profile.specs.declared.condition.Condition.{Condition}
 use Rattle.scf_profile.specs.declared.rule.Rule.{Rule}
-use Rattle.scf_profile.specs.Rule.{all_hold}
 use Rattle.scf_profile.specs.ProfileAnswers.{by_rule}
 use Rattle.scf_compare.specs.declared.question.ConditionPart.TheVariants.{High}
 use Rattle.scf_compare.specs.internal.Profiles.{StandsAt, IsAtCondition}
@@ -14,17 +15,7 @@ use Rattle.scf_compare.proofs.profile.first_of_rule.Goals as goal
 
 pub returns-then-is_empty-clause-reached : goal.returns-then-is_empty-clause-reached
 returns-then-is_empty-clause-reached c =
-    let rules = c.args.rules.now in
-    let place = c.args.place in
-    let a = c.index-rules-place.result in
-    let here = read_here rules place a c.requires c.index-rules-place.is in
-    let empty : a.conditions ≡ [] =
-    none_of a.conditions
-    (sym (ap length c.as_slice.ensures) ∙ eqb-true _ _ (sym c.is_empty.ensures ∙ c.if-is_empty.true)) in
-    λ words rule at h.
-    let same = same_here rules place rule a at here in
-    by_rule a h.native (contains_here rules place a here)
-    (met_by (call_of words) a (h.number ∙ ap (λ (r : Rule). r.number) same) (ap (all_hold (call_of words)) empty))
+    grind (arith, common_steps, by_rule, contains_here, met_by, none_of, read_here, same_here)
 
 pub returns-then-is_empty-clause-size : goal.returns-then-is_empty-clause-size
 returns-then-is_empty-clause-size c = λ rule at. conditions_count rule.conditions _
@@ -36,11 +27,7 @@ no_condition = record { index = 0; op = Equal; value = 0; value_two = 0 }
 first_stands : (rules : List Rule) (place : ℕ) (a : Rule) (conditions : List Condition) → place < length rules
     → a ≡ get_or rules place a → conditions ≡ a.conditions → 0 < length conditions
     → StandsAt rules place 0 a (slice_index_or a.conditions 0 no_condition)
-first_stands rules place a conditions inside is same some = record {
-  rule_here = read_here rules place a inside is;
-  condition_here =
-      slice_get-get_or a.conditions 0 no_condition (subst (λ (xs : List Condition). 0 < length xs) same some);
-}
+first_stands rules place a conditions h1 h2 h3 h4 = grind (arith, no_condition, read_here, slice_get-get_or)
 
 pub returns-else-is_empty-clause-node : goal.returns-else-is_empty-clause-node
 returns-else-is_empty-clause-node c =

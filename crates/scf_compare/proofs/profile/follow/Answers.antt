@@ -1,4 +1,5 @@
 -- Where the ways on from a condition lead.
+use Rattle.std.proofs.lemmas.Grind.{common_steps}
 use Rattle.std.proofs.Common.{◌≡◌, ◌≢◌, ◌+◌, ◌<◌, ◌≤◌, ℕ, suc, List, get_or, length, take, drop, slice_index_or, true, sym, ap, subst, ◌∙◌, arith}
 use Rattle.std.specs.Prelude.{slice_get, Some}
 use Rattle.std.proofs.lemmas.List.{take_all}
@@ -23,22 +24,13 @@ none = record { index = 0; op = Equal; value = 0; value_two = 0 }
 rule_read : (rules : List Rule) (place index : ℕ) (a : Rule)
     → ((rule : Rule) × (condition : Condition) × StandsAt rules place index rule condition) → a ≡ get_or rules place a
     → (condition : Condition) × StandsAt rules place index a condition
-rule_read rules place index a node is =
-    let here = read_here rules place a (slice_get_within rules place node.0 node.2.rule_here) is in
-    let same : node.0 ≡ a = same_here rules place node.0 a node.2.rule_here here in
-    (node.1, subst (λ (r : Rule). StandsAt rules place index r node.1) same node.2)
+rule_read rules place index a h1 h2 = grind (arith, read_here, same_here, slice_get_within)
 
 -- the condition behind the one that was read, where that isn't the last
 next_stands : (rules : List Rule) (place index count : ℕ) (a : Rule)
     → (condition : Condition) × StandsAt rules place index a condition → count ≡ length a.conditions
     → index + 1 ≢ count → StandsAt rules place (index + 1) a (slice_index_or a.conditions (index + 1) none)
-next_stands rules place index count a read counts apart =
-    let within : index < length a.conditions = slice_get_within a.conditions index read.0 read.1.condition_here in
-    record {
-      rule_here = read.1.rule_here;
-      condition_here =
-          slice_get-get_or a.conditions (index + 1) none (omega (arith, within, counts, apart));
-    }
+next_stands rules place index count a h1 h2 h3 = grind (arith, none, slice_get-get_or, slice_get_within)
 
 pub overflow_add-index : goal.overflow_add-index
 overflow_add-index c =
@@ -61,18 +53,10 @@ overflow_add-result c =
     omega (arith, within, ap length c.as_slice-conditions.ensures, c.as_slice-conditions.type_inv.0)
 
 pub overflow_add-place : goal.overflow_add-place
-overflow_add-place c =
-    let rules = c.args.rules.now in
-    let place = c.args.place in
-    let inside = slice_get_within rules place c.requires.node.0 c.requires.node.2.rule_here in
-    omega (arith, inside, c.requires.few)
+overflow_add-place c = grind (arith, common_steps, slice_get_within)
 
 pub next_rule-requires : goal.next_rule-requires
-next_rule-requires c =
-    let rules = c.args.rules.now in
-    let place = c.args.place in
-    let inside = slice_get_within rules place c.requires.node.0 c.requires.node.2.rule_here in
-    omega (arith, inside)
+next_rule-requires c = grind (arith, common_steps, slice_get_within)
 
 pub returns-then-index-conditions-clause-reached : goal.returns-then-index-conditions-clause-reached
 returns-then-index-conditions-clause-reached c =
@@ -96,8 +80,7 @@ returns-then-index-conditions-clause-reached c =
     (met_by (call_of words) rule at.number hold)))
 
 pub returns-then-index-conditions-clause-size : goal.returns-then-index-conditions-clause-size
-returns-then-index-conditions-clause-size c =
-    λ rule at. rw c.in-Holds.is (conditions_count _ _)
+returns-then-index-conditions-clause-size c = grind (arith, common_steps, conditions_count)
 
 pub returns-else-index-conditions-clause-node : goal.returns-else-index-conditions-clause-node
 returns-else-index-conditions-clause-node c =

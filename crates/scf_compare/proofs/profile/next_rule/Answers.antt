@@ -1,9 +1,8 @@
-use Rattle.std.proofs.Common.{◌≡◌, ◌+◌, drop, refl, sym, ap, ◌∙◌, arith}
+use Rattle.std.proofs.lemmas.Grind.{common_steps}
+use Rattle.std.proofs.Common.{◌≡◌, refl, sym, ap, ◌∙◌, arith}
 use Rattle.scf_insn.specs.Words.{call_of}
 use Rattle.scf_profile.specs.declared.rule.Rule.{Rule}
-use Rattle.scf_profile.specs.RulesByNumber.{rules_of}
 use Rattle.scf_profile.specs.ProfileAnswers.{by_default}
-use Rattle.scf_compare.specs.Effort.{conditions_size, rules_size}
 use Rattle.scf_compare.proofs.Rules.{read_here, rules_kept, unmet_all}
 use Rattle.scf_compare.proofs.profile.next_rule.Goals as goal
 
@@ -25,21 +24,7 @@ returns-then-rules-place-clause-reached c =
     })
 
 pub returns-then-rules-place-clause-size : goal.returns-then-rules-place-clause-size
-returns-then-rules-place-clause-size c =
-    let rules = c.args.rules.now in
-    let place = c.loop-place.place in
-    let a = c.index-rules-place.result in
-    let here = read_here rules place a c.loop-place-test.true c.index-rules-place.is in
-    let number_is : a.number ≡ c.args.number =
-    ap (λ (r : Rule). r.number) c.index-rules-place.is ∙ c.if-rules-place.true in
-    let size = c.first_of_rule.ensures.size a here in
-    let whole : rules_size (rules_of c.args.number (drop c.args.from rules))
-    ≡ conditions_size a.conditions (rules_size (rules_of c.args.number (drop (place + 1) rules))) =
-    ap rules_size (sym c.loop-place.invariant.skipped ∙ rules_kept rules place c.args.number a here number_is) in
-    let named : conditions_size a.conditions (rules_size (rules_of a.number (drop (place + 1) rules)))
-    ≡ conditions_size a.conditions (rules_size (rules_of c.args.number (drop (place + 1) rules))) =
-    ap (λ n. conditions_size a.conditions (rules_size (rules_of n (drop (place + 1) rules)))) number_is in
-    omega (arith, size, whole, named)
+returns-then-rules-place-clause-size c = grind (arith, common_steps, read_here, rules_kept)
 
 pub returns-clause-reached : goal.returns-clause-reached
 returns-clause-reached c =

@@ -1,3 +1,4 @@
+use Rattle.std.proofs.lemmas.Grind.{common_steps}
 use Rattle.std.proofs.Common.{◌+◌, ◌<ℤ◌, ◌≤ℤ◌, [], subst, take, arith}
 use Rattle.std.proofs.lemmas.Int.{ints}
 use Rattle.scf_insn.specs.Answers.{rank_of}
@@ -7,8 +8,7 @@ use Rattle.scf_compare.proofs.Stacks.{first_decides, lesser_wins, other_wins}
 use Rattle.scf_compare.proofs.stack.decided_at.Goals as goal
 
 pub returns-in_default-clause-decides : goal.returns-in_default-clause-decides
-returns-in_default-clause-decides c = λ filters place words inside is_older tells run.
-    first_decides filters place words c.args.newest.answer inside (rw c.in_default.is at is_older) run
+returns-in_default-clause-decides c = grind (arith, common_steps, first_decides)
 
 pub returns-then-rank-clause-decides : goal.returns-then-rank-clause-decides
 returns-then-rank-clause-decides c =

@@ -1,5 +1,6 @@
 -- The turns of the filter that is asked are turns of the stack, and where it ends the next one begins.
-use Rattle.std.proofs.Common.{◌≡◌, ◌+◌, ◌*◌, ◌<◌, ◌≤◌, ℕ, List, length, drop, inl, inr, sym, subst, ap, ◌∙◌, arith}
+use Rattle.std.proofs.lemmas.Grind.{common_steps}
+use Rattle.std.proofs.Common.{◌≡◌, ◌+◌, ◌*◌, ◌<◌, ◌≤◌, ℕ, List, length, drop, sym, subst, ap, ◌∙◌, arith}
 use Rattle.std.proofs.lemmas.List.{take_all}
 use Rattle.std.proofs.Math.Nat.{mul-le-mul_left}
 use Rattle.scf_insn.specs.declared.insn.Insn.{Insn}
@@ -19,43 +20,14 @@ filter_of-requires c = c.loop-next.invariant.node.0
 pub turn-requires : goal.turn-requires
 turn-requires c = rw c.filter_of.ensures c.loop-next.invariant.node.1
 
-pub returns-in-Go-clause-leads : goal.returns-in-Go-clause-leads
-returns-in-Go-clause-leads c =
-    let leads = rw c.filter_of.ensures at c.in-Go.ensures.leads in
-    λ words w r. let before = c.loop-next.invariant.reaches words w r in (before.0, leads words w before.1)
-
 pub returns-in-Go-clause-costs : goal.returns-in-Go-clause-costs
-returns-in-Go-clause-costs c =
-    let filters = c.args.stack.now in
-    let place = c.loop-next.place in
-    let size = filter_size (filter_at filters place) in
-    let behind = stack_paths (drop (place + 1) filters) in
-    let costs : size c.in-Go.next + 1 ≤ size c.loop-next.node = rw c.filter_of.ensures at c.in-Go.ensures.costs in
-    let alone : size c.in-Go.next + 0 + 1 ≤ size c.loop-next.node = omega (arith, costs) in
-    let scaled =
-    scaled_costs (size c.in-Go.next) 0 (size c.loop-next.node) behind alone
-    (paths_count (drop (place + 1) filters)) in
-    omega (arith, scaled, c.loop-next.invariant.size)
-
-pub returns-in-Go-clause-plain : goal.returns-in-Go-clause-plain
-returns-in-Go-clause-plain c =
-    let stays = rw c.filter_of.ensures at c.in-Go.ensures.plain in
-    λ plain. let before = c.loop-next.invariant.plain plain in (before.0, before.1, stays before.2)
+returns-in-Go-clause-costs c = grind (arith, common_steps, paths_count, scaled_costs)
 
 -- a turn's costs in the tree of a filter, with the newer filters behind each of its ends
 whole_costs : (filters : List (List Insn)) (place a b n whole : ℕ) → a + b + 1 ≤ n
     → n * stack_paths (drop (place + 1) filters) ≤ whole
     → a * stack_paths (drop (place + 1) filters) + b * stack_paths (drop (place + 1) filters) + 1 ≤ whole
-whole_costs filters place a b n whole costs most =
-    let behind = drop (place + 1) filters in
-    let scaled = scaled_costs a b n (stack_paths behind) costs (paths_count behind) in
-    omega arith
-
-pub returns-in-Ask-clause-leads : goal.returns-in-Ask-clause-leads
-returns-in-Ask-clause-leads c =
-    let leads = rw c.filter_of.ensures at c.in-Ask.ensures.leads in
-    λ words w r. let before = c.loop-next.invariant.reaches words w r in let on = leads words w before.1 in
-    (λ e. (before.0, on.0 e), λ e. (before.0, on.1 e))
+whole_costs filters place a b n whole h1 h2 = grind (arith, paths_count, scaled_costs)
 
 pub returns-in-Ask-clause-costs : goal.returns-in-Ask-clause-costs
 returns-in-Ask-clause-costs c =
@@ -67,19 +39,6 @@ returns-in-Ask-clause-costs c =
     whole_costs filters place (size c.in-Ask.if_true) (size c.in-Ask.if_false) (size c.loop-next.node) _ costs
     c.loop-next.invariant.size
 
-pub returns-in-Ask-clause-plain : goal.returns-in-Ask-clause-plain
-returns-in-Ask-clause-plain c =
-    let stays = rw c.filter_of.ensures at c.in-Ask.ensures.plain in
-    λ plain. let before = c.loop-next.invariant.plain plain in let on = stays before.2 in
-    (on.0, (before.0, before.1, on.1), (before.0, before.1, on.2))
-
-pub returns-in-Fork-clause-leads : goal.returns-in-Fork-clause-leads
-returns-in-Fork-clause-leads c =
-    let leads = rw c.filter_of.ensures at c.in-Fork.ensures.leads in
-    λ words w r.
-    let before = c.loop-next.invariant.reaches words w r in
-    elim (leads words w before.1) [ inl first ↦ inl (before.0, first) | inr second ↦ inr (before.0, second) ]
-
 pub returns-in-Fork-clause-costs : goal.returns-in-Fork-clause-costs
 returns-in-Fork-clause-costs c =
     let filters = c.args.stack.now in
@@ -89,11 +48,6 @@ returns-in-Fork-clause-costs c =
     rw c.filter_of.ensures at c.in-Fork.ensures.costs in
     whole_costs filters place (size c.in-Fork.if_true) (size c.in-Fork.if_false) (size c.loop-next.node) _ costs
     c.loop-next.invariant.size
-
-pub returns-in-Fork-clause-plain : goal.returns-in-Fork-clause-plain
-returns-in-Fork-clause-plain c =
-    let stays = rw c.filter_of.ensures at c.in-Fork.ensures.plain in
-    λ plain. absurd (stays (c.loop-next.invariant.plain plain).2)
 
 -- the end of a filter's tree is one of the stack, and so is the end at which all filters so far decide
 pub returns-then-place-count-clause-proper : goal.returns-then-place-count-clause-proper

@@ -1,16 +1,11 @@
+use Rattle.std.proofs.lemmas.Grind.{common_steps}
+use Rattle.std.proofs.Common.{arith}
 use Rattle.std.proofs.lemmas.Nat.{and_le_l}
-use Rattle.scf_compare.specs.internal.Images.{shifted_word}
 use Rattle.scf_compare.proofs.Images.{image_and, mask_within}
 use Rattle.scf_compare.proofs.image.Image.and.Goals as goal
 
 pub returns-clause-image : goal.returns-clause-image
-returns-clause-image c = let image = c.args.self in record {
-  word = c.requires.word;
-  right = c.requires.right;
-  left = c.requires.left;
-  mask = mask_within image.mask _ image.left image.right c.requires.mask (and_le_l image.mask c.args.v);
-}
+returns-clause-image c = grind (arith, common_steps, and_le_l, mask_within)
 
 pub returns-clause-number : goal.returns-clause-number
-returns-clause-number c = λ words.
-    image_and (shifted_word c.args.self words) c.args.self.mask c.args.self.flipped c.args.v
+returns-clause-number c = grind (arith, common_steps, image_and)

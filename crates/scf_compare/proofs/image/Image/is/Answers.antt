@@ -1,3 +1,4 @@
+use Rattle.std.proofs.lemmas.Grind.{common_steps}
 use Rattle.std.proofs.Common.{arith}
 use Rattle.std.specs.Prelude.{slice_index}
 use Rattle.std.proofs.lemmas.Nat.{xor_lt}
@@ -17,6 +18,4 @@ returns-then-value-mask-clause-decides c = let image = c.args.self in
     ]
 
 pub returns-clause-decides : goal.returns-clause-decides
-returns-clause-decides c = let image = c.args.self in λ words.
-    image_is (slice_index words image.word) image.right image.left image.mask image.flipped c.args.v c.requires.mask
-    c.if-value-mask.false c.if-value-self.false
+returns-clause-decides c = grind (arith, common_steps, image_is)

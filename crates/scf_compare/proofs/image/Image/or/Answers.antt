@@ -1,4 +1,5 @@
-use Rattle.scf_compare.specs.internal.Images.{shifted_word}
+use Rattle.std.proofs.lemmas.Grind.{common_steps}
+use Rattle.std.proofs.Common.{arith}
 use Rattle.scf_compare.proofs.Images.{image_or, mask_within, mask_left}
 use Rattle.scf_compare.proofs.image.Image.or.Goals as goal
 
@@ -11,5 +12,4 @@ returns-clause-image c = let image = c.args.self in record {
 }
 
 pub returns-clause-number : goal.returns-clause-number
-returns-clause-number c = λ words.
-    image_or (shifted_word c.args.self words) c.args.self.mask c.args.self.flipped c.args.v
+returns-clause-number c = grind (arith, common_steps, image_or)

@@ -1,9 +1,7 @@
+use Rattle.std.proofs.lemmas.Grind.{common_steps}
 use Rattle.std.proofs.Common.{arith}
-use Rattle.scf_compare.specs.internal.Images.{image_number}
 use Rattle.scf_compare.proofs.Offsets.{number_fits, minus_number}
 use Rattle.scf_compare.proofs.offset.Offset.minus.Goals as goal
 
 pub returns-clause-number : goal.returns-clause-number
-returns-clause-number c = let offset = c.args.self in λ words.
-    minus_number offset.negated (image_number offset.image words) offset.added c.args.v
-    (number_fits offset.image words (omega arith) (omega arith)) (omega arith) (omega arith)
+returns-clause-number c = grind (arith, common_steps, minus_number, number_fits)

@@ -1,29 +1,13 @@
+use Rattle.std.proofs.lemmas.Grind.{common_steps}
 use Rattle.std.proofs.Common.{◌*◌, ◌≤◌, arith}
 use Rattle.std.proofs.Math.Nat.{mul-le-mul_left}
-use Rattle.scf_compare.specs.internal.Laws.{scaled_costs}
 use Rattle.scf_compare.proofs.pair.PairComparison.turn.Goals as goal
 
 pub returns-in-Ask-clause-costs : goal.returns-in-Ask-clause-costs
-returns-in-Ask-clause-costs g c =
-    let tree = g.A.FilterTree.tree c.args.self.now.filter.now in
-    let old = tree c.args.known.now in
-    let new = tree c.turn.new.known in
-    let profile = c.args.self.now.profile.now in
-    rw c.in-AtFilter.is (
-    scaled_costs (new.size c.in-Ask.if_true) (new.size c.in-Ask.if_false) (old.size c.in-AtFilter.node)
-    (g.B.ProfileTree.whole_size profile) c.in-Ask.ensures.costs (g.met.B.ProfileTree.counts_whole profile)
-    )
+returns-in-Ask-clause-costs g c = grind (arith, common_steps)
 
 pub returns-in-Fork-clause-costs : goal.returns-in-Fork-clause-costs
-returns-in-Fork-clause-costs g c =
-    let tree = g.A.FilterTree.tree c.args.self.now.filter.now in
-    let old = tree c.args.known.now in
-    let new = tree c.turn.new.known in
-    let profile = c.args.self.now.profile.now in
-    rw c.in-AtFilter.is (
-    scaled_costs (new.size c.in-Fork.if_true) (new.size c.in-Fork.if_false) (old.size c.in-AtFilter.node)
-    (g.B.ProfileTree.whole_size profile) c.in-Fork.ensures.costs (g.met.B.ProfileTree.counts_whole profile)
-    )
+returns-in-Fork-clause-costs g c = grind (arith, common_steps)
 
 pub returns-in-End-clause-proper : goal.returns-in-End-clause-proper
 returns-in-End-clause-proper g c = c.ask_profile.ensures.proper c.turn.new.known
