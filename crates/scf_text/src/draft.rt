@@ -7,7 +7,8 @@ ghost use Rattle.scf_insn.specs.Numbers.{number_of};
 ghost use Rattle.scf_text.specs.Forms.{forms};
 ghost use Rattle.scf_text.specs.Drafts.{is_name, with_field, spellings, put_by, fill_by, blank, has_mnemonic};
 ghost use Rattle.scf_text.specs.Drafts.{read_by, is_below, is_in_range};
-ghost use Rattle.scf_text.specs.internal.Parts.{words_in, StopsAt};
+ghost use Rattle.scf_text.specs.Drafts as written;
+ghost use Rattle.scf_text.specs.internal.Parts.{words_in, others_in, statements_after};
 ghost use Rattle.scf_text.specs.internal.Results.{Reads};
 ghost use Rattle.scf_text.specs.internal.Views.{number_view, written_view, draft_view};
 
@@ -75,7 +76,7 @@ pub(crate) fn is_token_name(token: &[u8]) -> bool
 
 impl<'a> Draft<'a> {
     /// Before any field is named.
-    fn blank(form: Form) -> Draft<'a>
+    pub(crate) fn blank(form: Form) -> Draft<'a>
         ensures { draft_view result ≡ blank form }
     {
         let zero = Written::Number(Number::Given(0));
@@ -87,24 +88,19 @@ impl<'a> Draft<'a> {
         }
     }
 
-    /// With this in place of a field.
-    fn with_field(self, field: Field, operand: Written<'a>) -> Draft<'a>
-        ensures { draft_view result ≡ with_field field (written_view operand.entry) (draft_view self.entry) }
+    /// Puts this in place of a field.
+    fn set_field(&mut self, field: Field, operand: Written<'a>)
+        ensures { draft_view self.new ≡ with_field field (written_view operand.entry) (draft_view self.old) }
     {
         match field {
-            Field::Code => match operand {
-                Written::Number(code) => Draft { code, ..self },
-                Written::Label(_) => self,
-            },
-            Field::Jt => Draft {
-                jt: operand,
-                ..self
-            },
-            Field::Jf => Draft {
-                jf: operand,
-                ..self
-            },
-            Field::K => Draft { k: operand, ..self },
+            Field::Code => {
+                if let Written::Number(code) = operand {
+                    self.code = code;
+                }
+            }
+            Field::Jt => self.jt = operand,
+            Field::Jf => self.jf = operand,
+            Field::K => self.k = operand,
         }
     }
 }
@@ -123,54 +119,59 @@ fn is_spelling(piece: Piece, token: &[u8]) -> bool
     }
 }
 
-/// The draft after a token stands for a piece.
-fn put<'a>(piece: Piece, token: &'a [u8], draft: Draft<'a>) -> Option<Draft<'a>>
-    ensures { option_map draft_view result ≡ put_by number_of piece token.now (draft_view draft.entry) }
+/// Puts the number that a token is in place of a field, if it is one.
+fn put_number<'a>(draft: &mut Draft<'a>, field: Field, token: &'a [u8]) -> bool
+    ensures { option_map (λ n. with_field field (written.Number n) (draft_view draft.old)) (number_of token.now)
+        ≡ (if result then Some (draft_view draft.new) else None) }
+{
+    let Some(number) = Number::of_token(token) else {
+        return false;
+    };
+    draft.set_field(field, Written::Number(number));
+    true
+}
+
+/// Notes that a token stands for a piece, if it may.
+fn put<'a>(draft: &mut Draft<'a>, piece: Piece, token: &'a [u8]) -> bool
+    ensures { put_by number_of piece token.now (draft_view draft.old)
+        ≡ (if result then Some (draft_view draft.new) else None) }
 {
     match piece {
-        Piece::Number(field, _) => {
-            let number = Number::of_token(token)?;
-            Some(draft.with_field(field, Written::Number(number)))
-        }
+        Piece::Number(field, _) => put_number(draft, field, token),
         Piece::Target(field) => {
-            if is_token_name(token) {
-                return Some(draft.with_field(field, Written::Label(token)));
+            if !is_token_name(token) {
+                return put_number(draft, field, token);
             }
-            let number = Number::of_token(token)?;
-            Some(draft.with_field(field, Written::Number(number)))
+            draft.set_field(field, Written::Label(token));
+            true
         }
         Piece::Mark(_) | Piece::Len | Piece::Memory | Piece::Accumulator | Piece::Index => {
-            if is_spelling(piece, token) {
-                Some(draft)
-            } else {
-                None
-            }
+            is_spelling(piece, token)
         }
     }
 }
 
-/// The draft after the tokens of a statement stand for pieces, and what follows the statement.
-fn fill<'a>(
-    pieces: &[Piece],
-    part: &'a [u8],
-    draft: Draft<'a>,
-) -> Option<(Draft<'a>, Option<&'a [u8]>)>
-    ensures said { option_map (λ read. draft_view read.0) result
-        ≡ fill_by number_of pieces.now (words_in part.now) (draft_view draft.entry) }
-    ensures stops { IfSome result (λ read. StopsAt part.now read.1) }
+/// Notes that the tokens of a statement stand for pieces, and gives what follows the statement.
+fn fill<'a>(draft: &mut Draft<'a>, pieces: &[Piece], part: &'a [u8]) -> Option<Option<&'a [u8]>>
+    ensures said { fill_by number_of pieces.now (words_in part.now) (draft_view draft.old)
+        ≡ option_map (λ _. draft_view draft.new) result }
+    ensures stops { IfSome result (λ after. others_in part.now ≡ statements_after after) }
 {
-    match pieces {
-        [] => match front(part) {
-            Next::End(after) => Some((draft, after)),
-            Next::Token(..) => None,
-        },
-        [piece, pieces @ ..] => {
-            let Next::Token(token, rest) = front(part) else {
-                return None;
-            };
-            let draft = put(*piece, token, draft)?;
-            fill(pieces, rest, draft)
+    let mut rest = part;
+    for piece in pieces {
+        match front(rest) {
+            Next::End(_) => return None,
+            Next::Token(token, behind) => {
+                if !put(draft, *piece, token) {
+                    return None;
+                }
+                rest = behind;
+            }
         }
+    }
+    match front(rest) {
+        Next::End(after) => Some(after),
+        Next::Token(..) => None,
     }
 }
 
@@ -181,22 +182,23 @@ pub(crate) enum Reading<'a> {
     Unknown,
     /// Nothing, since no form of the mnemonic has the tokens.
     Unfit,
-    /// This, and here is what follows the statement.
-    Said(Draft<'a>, Option<&'a [u8]>),
+    /// The draft, and here is what follows the statement.
+    Said(Option<&'a [u8]>),
 }
 
 /// What a mnemonic and the tokens behind it say, in the first form of the mnemonic that has the tokens.
-pub(crate) fn read<'a>(mnemonic: &[u8], part: &'a [u8]) -> Reading<'a>
+pub(crate) fn read<'a>(draft: &mut Draft<'a>, mnemonic: &[u8], part: &'a [u8]) -> Reading<'a>
     ensures { Reads (list_any (has_mnemonic mnemonic.now) forms)
-        (read_by number_of forms mnemonic.now (words_in part.now)) part.now result }
+        (read_by number_of forms mnemonic.now (words_in part.now)) (others_in part.now) (draft_view draft.new) result }
 {
     let mut is_known = false;
     for form in Form::all() {
         if !form.has_mnemonic(mnemonic) {
             continue;
         }
-        if let Some((draft, after)) = fill(form.shape.pieces(), part, Draft::blank(*form)) {
-            return Reading::Said(draft, after);
+        *draft = Draft::blank(*form);
+        if let Some(after) = fill(draft, form.shape.pieces(), part) {
+            return Reading::Said(after);
         }
         is_known = true;
     }

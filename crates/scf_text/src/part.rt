@@ -1,5 +1,6 @@
 //! The statements of a line, token by token.
-ghost use Rattle.scf_text.specs.internal.Parts.{IsNext};
+ghost use Rattle.std.specs.Prelude.{◌≡◌};
+ghost use Rattle.scf_text.specs.internal.Parts.{words_in, others_in, words_at, others_at};
 
 use crate::token::first_token;
 
@@ -14,7 +15,7 @@ pub(crate) enum Next<'a> {
 
 /// What stands in front of a part of a line.
 pub(crate) fn front(part: &[u8]) -> Next<'_>
-    ensures { IsNext part.now result }
+    ensures { (words_in part.now ≡ words_at result) × (others_in part.now ≡ others_at result) }
 {
     let Some(token) = first_token(part) else {
         return Next::End(None);

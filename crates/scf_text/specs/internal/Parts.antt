@@ -1,5 +1,5 @@
 -- Parts of a line, which begin in one of its statements.
-use Rattle.std.specs.Prelude.{◌≡◌, ℕ, List, [], ◌∷◌, map, drop, Option, Some, None}
+use Rattle.std.specs.Prelude.{ℕ, List, [], ◌∷◌, map, drop, Option, Some, None}
 use Rattle.std.specs.Borrow.{Bor}
 use Rattle.std.specs.List.{slice_split}
 use Rattle.scf_text.specs.declared.part.Next.{Next}
@@ -27,15 +27,20 @@ words_in part = first_statement (statements_in part)
 unfoldable pub others_in : List ℕ → List (List (List ℕ))
 others_in part = drop 1 (statements_in part)
 
--- The first statement is followed by this, or ends the line.
-abbrev pub StopsAt : List ℕ → Option (Bor (List ℕ)) → Type 0
-StopsAt part None = others_in part ≡ []
-StopsAt part (Some rest) = others_in part ≡ words_in rest.now ∷ others_in rest.now
+-- the tokens of the statements of what follows a statement
+abbrev pub statements_after : Option (Bor (List ℕ)) → List (List (List ℕ))
+statements_after None = []
+statements_after (Some rest) = words_in rest.now ∷ others_in rest.now
 
--- A token stands in front and the rest behind it, or the first statement ends.
-abbrev pub IsNext : List ℕ → Next → Type 0
-IsNext part (Token t rest) = (words_in part ≡ t.now ∷ words_in rest.now) × (others_in part ≡ others_in rest.now)
-IsNext part (End rest) = (words_in part ≡ []) × StopsAt part rest
+-- the tokens of a statement, of which this stands in front
+abbrev pub words_at : Next → List (List ℕ)
+words_at (Token t rest) = t.now ∷ words_in rest.now
+words_at (End rest) = []
+
+-- the tokens of the statements behind it
+abbrev pub others_at : Next → List (List (List ℕ))
+others_at (Token t rest) = others_in rest.now
+others_at (End rest) = statements_after rest
 
 -- the lines behind the first
 abbrev pub lines_after : Option (Bor (List ℕ)) → List (List ℕ)

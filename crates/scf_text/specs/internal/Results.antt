@@ -5,7 +5,6 @@ use Rattle.std.specs.List.{AllByRecursion}
 use Rattle.std.specs.Global.{Vec}
 use Rattle.scf_insn.specs.Insn.{IsInsn}
 use Rattle.scf_insn.specs.declared.insn.Insn.{Insn}
-use Rattle.scf_text.specs.declared.draft.Draft.{Draft}
 use Rattle.scf_text.specs.declared.draft.Reading.{Reading}
 use Rattle.scf_text.specs.declared.draft.Reading.TheVariants.{Unknown, Unfit, Said}
 use Rattle.scf_text.specs.declared.fault.TextFault.{TextFault}
@@ -14,9 +13,8 @@ use Rattle.scf_text.specs.Faults.{IsFault, label_fault, instruction_fault}
 use Rattle.scf_text.specs.Faults.{target_fault, targets_fault, all_targets_fault}
 use Rattle.scf_text.specs.Spelling.{Says, SaysInsn, SaysEach}
 use Rattle.scf_text.specs.Statements.{Places, place_of, labels_of, drafts_of, drafts_by, place_after}
-use Rattle.scf_text.specs.internal.Parts.{StopsAt}
+use Rattle.scf_text.specs.internal.Parts.{statements_after}
 use Rattle.scf_text.specs.internal.Reading.{with_label}
-use Rattle.scf_text.specs.internal.Views.{draft_view}
 
 -- the number that is written, or the offset to the label, below the limit
 abbrev pub TellsTarget : Places → ℕ → ℕ → ℕ → drafts.Written → Result ℕ TextFault → Type 0
@@ -44,12 +42,12 @@ TellsText first text (Ok insns) =
     × AllByRecursion IsInsn insns.items
 TellsText first text (Err e) = IsFault e first
 
--- what a mnemonic and its operands say, in a line and behind as many instructions
-abbrev pub TellsDraft : {T : Type 0} → ℕ → ℕ → List ℕ → List (List ℕ) → Result (Draft × T) TextFault → Type 0
-TellsDraft at line mnemonic operands (Ok read) =
-    IsTrue (drafts.is_in_range (draft_view read.0)) × (instruction_fault at line (mnemonic ∷ operands) ≡ None)
-    × (drafts.draft_of mnemonic operands ≡ Some (draft_view read.0))
-TellsDraft at line mnemonic operands (Err e) = instruction_fault at line (mnemonic ∷ operands) ≡ Some e
+-- This draft is what a mnemonic and its operands say, in a line and behind as many instructions.
+abbrev pub TellsDraft : {T : Type 0} → ℕ → ℕ → List ℕ → List (List ℕ) → drafts.Draft → Result T TextFault → Type 0
+TellsDraft at line mnemonic operands draft (Ok _) =
+    IsTrue (drafts.is_in_range draft) × (instruction_fault at line (mnemonic ∷ operands) ≡ None)
+    × (drafts.draft_of mnemonic operands ≡ Some draft)
+TellsDraft at line mnemonic operands draft (Err e) = instruction_fault at line (mnemonic ∷ operands) ≡ Some e
 
 -- A label got this place, if there is one.
 abbrev pub AddsLabel : {T : Type 0} → Places → ℕ → ℕ → Option (List ℕ) → Result T TextFault → Places → Type 0
@@ -65,8 +63,8 @@ AddsInstruction old line tokens (Ok _) new =
 AddsInstruction old line tokens (Err e) new = IsFault e (instruction_fault (length old) line tokens)
 
 -- A mnemonic is known or not, and it says this draft with the tokens behind it, or nothing.
-abbrev pub Reads : Bool → Option drafts.Draft → List ℕ → Reading → Type 0
-Reads known said part Unknown = known ≡ false
-Reads known said part Unfit = (known ≡ true) × (said ≡ None)
-Reads known said part (Said draft after) =
-    (known ≡ true) × (said ≡ Some (draft_view draft)) × StopsAt part after
+abbrev pub Reads : Bool → Option drafts.Draft → List (List (List ℕ)) → drafts.Draft → Reading → Type 0
+Reads known said others draft Unknown = known ≡ false
+Reads known said others draft Unfit = (known ≡ true) × (said ≡ None)
+Reads known said others draft (Said after) =
+    (known ≡ true) × (said ≡ Some draft) × (others ≡ statements_after after)

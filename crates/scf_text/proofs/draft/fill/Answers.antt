@@ -1,0 +1,9 @@
+use Rattle.std.proofs.Common.{sym, ◌∙◌, refl}
+use Rattle.std.proofs.lemmas.List.{drop_more}
+use Rattle.scf_text.specs.declared.form.Piece.TheVariants.{Len}
+use Rattle.scf_text.proofs.draft.fill.Goals as goal
+
+pub returns-in-End-clause-said : goal.returns-in-End-clause-said
+returns-in-End-clause-said c =
+    let more = drop_more c.args.pieces.now c.loop-piece.piece-index Len c.loop-piece-test.true in
+    sym c.loop-piece.invariant.said ∙ rw (more, c.in-End.ensures.0) refl
