@@ -1,128 +1,290 @@
 -- Laws of intervals and their parts.
-use Rattle.std.proofs.Common.{◌≡◌, ◌⊎◌, inl, inr, ℕ, zero, suc, ◌+◌, ◌-◌, ◌<◌, ◌↔◌, List, [], ◌∷◌, ◌++◌, refl, sym}
-use Rattle.std.proofs.Common.{subst, arith}
-use Rattle.std.specs.Prelude.{Option, Some, None, Bool, true, false, nat_le, nat_lt, min, max, if◌then◌else◌}
-use Rattle.std.specs.List.{filter_map, cons_option}
-use Rattle.std.proofs.lemmas.Bool.{leb-false, ltb-true, ltb-false}
+use Rattle.std.proofs.Common.{◌≡◌, ◌⊎◌, inl, inr, ℕ, zero, suc, refl, sym, ◌+◌, ◌<◌, ◌≤◌, ◌↔◌, List, [], ◌∷◌, ◌++◌, get_or, length, arith}
+use Rattle.std.specs.Prelude.{All, IfSome, IfNone, Option, Some, None, nat_le, nat_lt, min, max, slice_get}
+use Rattle.std.specs.List.{filter_map, cons_option, AllWithin}
+use Rattle.std.proofs.lemmas.Bool.{leb-true, leb-false, ltb-true, ltb-false, cond_both}
 use Rattle.scf_facts.specs.declared.interval.Interval.{Interval}
-use Rattle.scf_facts.specs.internal.Intervals.{LiesIn, LiesOutside, LiesInOne, part_within, part_below, part_above}
+use Rattle.scf_facts.specs.internal.Intervals.{LiesIn, LiesOutside, LiesInOne, AreApartFrom, AreApart, ArePartsOf}
+use Rattle.scf_facts.specs.internal.Intervals.{part_within, part_below, part_above}
 
-inside_head : (i : Interval) (is : List Interval) (x : ℕ) → LiesIn i x → LiesInOne (i ∷ is) x
-inside_head i is x h = (0, i, refl, h)
+-- ---- one list after another
 
-inside_tail : (i : Interval) (is : List Interval) (x : ℕ) → LiesInOne is x → LiesInOne (i ∷ is) x
-inside_tail i is x (place, j, e, h) = (suc place, j, e, h)
+lies_left : (is js : List Interval) (x : ℕ) → LiesInOne is x → LiesInOne (is ++ js) x
+lies_left [] js x h = absurd h
+lies_left (i ∷ is) js x h = elim h [ inl here ↦ inl here | inr later ↦ inr (lies_left is js x later) ]
 
-inside_cases : (i : Interval) (is : List Interval) (x : ℕ) → LiesInOne (i ∷ is) x → LiesIn i x ⊎ LiesInOne is x
-inside_cases i is x (zero, j, e, h) = let same : i ≡ j = cc in inl (subst (λ k. LiesIn k x) (sym same) h)
-inside_cases i is x (suc place, j, e, h) = inr (place, j, e, h)
+lies_right : (is js : List Interval) (x : ℕ) → LiesInOne js x → LiesInOne (is ++ js) x
+lies_right [] js x h = h
+lies_right (i ∷ is) js x h = inr (lies_right is js x h)
 
-pub inside_none : (x : ℕ) → LiesInOne [] x → ⊥
-inside_none x (place, j, e, h) = cc
-
--- a number lies in a part, where there is one
-abbrev InPart : Option Interval → ℕ → Type 0
-InPart None x = ⊥
-InPart (Some i) x = LiesIn i x
-
-module _ (part : Interval → Option Interval)
-    (P : ℕ → Type 0) (x : ℕ) (keeps : (i : Interval) → InPart (part i) x ↔ (LiesIn i x × P x)) where
-  to_step : (o : Option Interval) (i : Interval) (is rest : List Interval) → (InPart o x → LiesIn i x × P x)
-      → (LiesInOne rest x → LiesInOne is x × P x) → LiesInOne (cons_option o rest) x → LiesInOne (i ∷ is) x × P x
-  to_step None i is rest f ih h = let r = ih h in (inside_tail i is x r.0, r.1)
-  to_step (Some j) i is rest f ih h = elim (inside_cases j rest x h) [
-    | inl w ↦ let r = f w in (inside_head i is x r.0, r.1)
-    | inr t ↦ let r = ih t in (inside_tail i is x r.0, r.1)
-  ]
-
-  from_parts : (is : List Interval) → LiesInOne (filter_map part is) x → LiesInOne is x × P x
-  from_parts [] h = absurd (inside_none x h)
-  from_parts (i ∷ is) h = to_step (part i) i is (filter_map part is) (keeps i).0 (from_parts is) h
-
-  from_step : (o : Option Interval) (i : Interval) (is rest : List Interval) → (LiesIn i x → InPart o x)
-      → (LiesInOne is x → LiesInOne rest x) → LiesInOne (i ∷ is) x → LiesInOne (cons_option o rest) x
-  from_step None i is rest f ih h = elim (inside_cases i is x h) [ inl w ↦ absurd (f w) | inr t ↦ ih t ]
-  from_step (Some j) i is rest f ih h =
-      elim (inside_cases i is x h) [ inl w ↦ inside_head j rest x (f w) | inr t ↦ inside_tail j rest x (ih t) ]
-
-  to_parts : (is : List Interval) → P x → LiesInOne is x → LiesInOne (filter_map part is) x
-  to_parts [] p h = h
-  to_parts (i ∷ is) p h = from_step (part i) i is (filter_map part is) (λ w. (keeps i).1 (w, p)) (to_parts is p) h
-
-within_part : (range : Interval) (x : ℕ) (i : Interval) → InPart (part_within range i) x ↔ (LiesIn i x × LiesIn range x)
-within_part range x i = by_test (nat_le (max i.low range.low) (min i.high range.high)) refl
-  where
-    by_test : (b : Bool) → nat_le (max i.low range.low) (min i.high range.high) ≡ b
-        → InPart (if b then Some (record { low = max i.low range.low; high = min i.high range.high }) else None) x
-        ↔ (LiesIn i x × LiesIn range x)
-    by_test true e = (
-      λ h. (
-        (omega (arith, h.0, h.1), omega (arith, h.0, h.1)),
-        (omega (arith, h.0, h.1), omega (arith, h.0, h.1)),
-      ),
-      λ h. (omega (arith, h.0, h.1), omega (arith, h.0, h.1)),
-    )
-    by_test false e = (λ h. absurd h, λ h. absurd (omega (arith, h.0, h.1, leb-false _ _ e)))
-
-below_part : (bound x : ℕ) (i : Interval) → InPart (part_below bound i) x ↔ (LiesIn i x × (x < bound))
-below_part bound x i = by_test (nat_lt i.low bound) refl
-  where
-    by_test : (b : Bool) → nat_lt i.low bound ≡ b
-        → InPart (if b then Some (record { low = i.low; high = min i.high (bound - 1) }) else None) x
-        ↔ (LiesIn i x × (x < bound))
-    by_test true e = let lt = ltb-true _ _ e in
-        (λ h. ((h.0, omega (arith, h.0, h.1)), omega (arith, h.0, h.1)), λ h. (h.0.0, omega (arith, h.0, h.1)))
-    by_test false e = (λ h. absurd h, λ h. absurd (omega (arith, h.0, h.1, ltb-false _ _ e)))
-
-above_part : (bound x : ℕ) (i : Interval) → InPart (part_above bound i) x ↔ (LiesIn i x × (bound < x))
-above_part bound x i = by_test (nat_lt bound i.high) refl
-  where
-    by_test : (b : Bool) → nat_lt bound i.high ≡ b
-        → InPart (if b then Some (record { low = max i.low (bound + 1); high = i.high }) else None) x
-        ↔ (LiesIn i x × (bound < x))
-    by_test true e = let lt = ltb-true _ _ e in
-        (λ h. ((omega (arith, h.0, h.1), h.1), omega (arith, h.0, h.1)), λ h. (omega (arith, h.0, h.1), h.0.1))
-    by_test false e = (λ h. absurd h, λ h. absurd (omega (arith, h.0, h.1, ltb-false _ _ e)))
-
-inside_left : (is js : List Interval) (x : ℕ) → LiesInOne is x → LiesInOne (is ++ js) x
-inside_left [] js x h = absurd (inside_none x h)
-inside_left (i ∷ is) js x h = elim (inside_cases i is x h)
-    [ inl w ↦ inside_head i (is ++ js) x w | inr t ↦ inside_tail i (is ++ js) x (inside_left is js x t) ]
-
-inside_right : (is js : List Interval) (x : ℕ) → LiesInOne js x → LiesInOne (is ++ js) x
-inside_right [] js x h = h
-inside_right (i ∷ is) js x h = inside_tail i (is ++ js) x (inside_right is js x h)
-
-inside_either : (is js : List Interval) (x : ℕ) → LiesInOne (is ++ js) x → LiesInOne is x ⊎ LiesInOne js x
-inside_either [] js x h = inr h
-inside_either (i ∷ is) js x h = elim (inside_cases i (is ++ js) x h) [
-  | inl w ↦ inl (inside_head i is x w)
-  | inr t ↦ elim (inside_either is js x t) [ inl l ↦ inl (inside_tail i is x l) | inr r ↦ inr r ]
+lies_either : (is js : List Interval) (x : ℕ) → LiesInOne (is ++ js) x → LiesInOne is x ⊎ LiesInOne js x
+lies_either [] js x h = inr h
+lies_either (i ∷ is) js x h = elim h [
+  | inl here ↦ inl (inl here)
+  | inr later ↦ elim (lies_either is js x later) [ inl l ↦ inl (inr l) | inr r ↦ inr r ]
 ]
 
--- the parts within a range have the numbers within it
-pub inside_within : (range : Interval) (is : List Interval) (x : ℕ)
-    → LiesInOne (filter_map (part_within range) is) x ↔ (LiesInOne is x × LiesIn range x)
-inside_within range is x = (
-  from_parts (part_within range) (LiesIn range) x (within_part range x) is,
-  λ h. to_parts (part_within range) (LiesIn range) x (within_part range x) is h.1 h.0,
+lies_under : (range : Interval) (is : List Interval) (x : ℕ)
+    → All (λ i. i.high < range.low) is → LiesInOne is x → x < range.low
+lies_under range [] x all h = absurd h
+lies_under range (i ∷ is) x all h = elim h [
+  | inl here ↦ omega (arith, here.1, all 0 i (omega arith))
+  | inr later ↦ lies_under range is x (λ k d lt. all (suc k) d (omega arith)) later
+]
+
+lies_over : (range : Interval) (is : List Interval) (x : ℕ)
+    → All (λ i. range.high < i.low) is → LiesInOne is x → range.high < x
+lies_over range [] x all h = absurd h
+lies_over range (i ∷ is) x all h = elim h [
+  | inl here ↦ omega (arith, here.0, all 0 i (omega arith))
+  | inr later ↦ lies_over range is x (λ k d lt. all (suc k) d (omega arith)) later
+]
+
+lies_from : (least : ℕ) (is : List Interval) (x : ℕ) → AreApartFrom least is → LiesInOne is x → least ≤ x
+lies_from least [] x a h = absurd h
+lies_from least (i ∷ is) x a h =
+    elim h [ inl here ↦ omega arith | inr later ↦ omega (arith, a, lies_from (i.high + 1) is x a.2 later) ]
+
+apart_from : (least : ℕ) (is : List Interval) (other : ℕ)
+    → AreApartFrom least is → ((x : ℕ) → LiesInOne is x → other ≤ x) → AreApartFrom other is
+apart_from least [] other a from = tt
+apart_from least (i ∷ is) other a from = (from i.low (inl (omega arith, a.1)), a.1, a.2)
+
+apart_less : (least : ℕ) (is : List Interval) (other : ℕ)
+    → AreApartFrom least is → other ≤ least → AreApartFrom other is
+apart_less least is other a le = apart_from least is other a (λ x h. omega (arith, le, lies_from least is x a h))
+
+-- the numbers of the first lie below those of the second
+abbrev AreBelow : List Interval → List Interval → Type 0
+AreBelow is js = (x y : ℕ) → LiesInOne is x → LiesInOne js y → x < y
+
+apart_append : (least : ℕ) (is js : List Interval)
+    → AreApartFrom least is → AreApartFrom least js → AreBelow is js → AreApartFrom least (is ++ js)
+apart_append least [] js a b below = b
+apart_append least (i ∷ is) js a b below = (
+  a.0,
+  a.1,
+  apart_append (i.high + 1) is js a.2
+      (apart_from least js (i.high + 1) b (λ y h. omega (arith, below i.high y (inl (a.1, omega arith)) h)))
+      (λ x y h k. below x y (inr h) k),
 )
 
--- the parts below and above a range have the numbers outside it
-pub inside_outside : (range : Interval) (is : List Interval) (x : ℕ)
-    → LiesInOne (filter_map (part_below range.low) is ++ filter_map (part_above range.high) is) x
-    ↔ (LiesInOne is x × LiesOutside range x)
-inside_outside range is x = (
-  λ h. elim (inside_either (filter_map (part_below range.low) is) (filter_map (part_above range.high) is) x h) [
-    | inl l ↦ let r = from_parts (part_below range.low) (λ y. y < range.low) x (below_part range.low x) is l in
-        (r.0, inl r.1)
-    | inr a ↦ let r = from_parts (part_above range.high) (λ y. range.high < y) x (above_part range.high x) is a in
-        (r.0, inr r.1)
-  ],
-  λ h. elim h.1 [
-    | inl l ↦ inside_left _ _ x
-        (to_parts (part_below range.low) (λ y. y < range.low) x (below_part range.low x) is l h.0)
-    | inr a ↦ inside_right _ _ x
-        (to_parts (part_above range.high) (λ y. range.high < y) x (above_part range.high x) is a h.0)
+apart_split : (least : ℕ) (is js : List Interval)
+    → AreApartFrom least (is ++ js) → AreApartFrom least is × AreApartFrom least js × AreBelow is js
+apart_split least [] js a = (tt, a, λ x y h. absurd h)
+apart_split least (i ∷ is) js a =
+    let rest = apart_split (i.high + 1) is js a.2 in (
+      (a.0, a.1, rest.0),
+      apart_less (i.high + 1) js least rest.1 (omega (arith, a.0, a.1)),
+      λ x y h k. elim h [
+        | inl here ↦ omega (arith, here.1, lies_from (i.high + 1) js y rest.1 k)
+        | inr later ↦ rest.2 x y later k
+      ],
+    )
+
+pub apart_right : (whole is js : List Interval) → whole ≡ is ++ js → AreApart whole → AreApart js
+apart_right whole is js e a = (apart_split 0 is js (rw e at a)).1
+
+-- no interval begins or ends before an earlier one
+pub rising : (least : ℕ) (is : List Interval) → AreApartFrom least is → (k l : ℕ) (d : Interval) → k ≤ l
+    → l < length is → ((get_or is k d).low ≤ (get_or is l d).low) × ((get_or is k d).high ≤ (get_or is l d).high)
+rising least [] a k l d le lt = absurd (omega arith)
+rising least (i ∷ is) a zero zero d le lt = (omega arith, omega arith)
+rising least (i ∷ is) a zero (suc l) d le lt =
+    let (low, filled) = from (i.high + 1) is a.2 l (omega arith) in
+    (omega (arith, a.1, low), omega (arith, low, filled))
+  where
+    from : (least : ℕ) (is : List Interval) → AreApartFrom least is → (l : ℕ) → l < length is
+        → (least ≤ (get_or is l d).low) × ((get_or is l d).low ≤ (get_or is l d).high)
+    from least [] a l lt = absurd (omega arith)
+    from least (i ∷ is) a zero lt = (a.0, a.1)
+    from least (i ∷ is) a (suc l) lt =
+        let (low, filled) = from (i.high + 1) is a.2 l (omega arith) in (omega (arith, a.0, a.1, low), filled)
+rising least (i ∷ is) a (suc k) zero d le lt = absurd (omega arith)
+rising least (i ∷ is) a (suc k) (suc l) d le lt = rising (i.high + 1) is a.2 k l d (omega arith) (omega arith)
+
+-- ---- the first interval that reaches up to a number
+
+lies_at : (is : List Interval) (k : ℕ) (i : Interval) (x : ℕ)
+    → slice_get is k ≡ Some i → LiesIn i x → LiesInOne is x
+lies_at [] k i x e h = cc
+lies_at (j ∷ is) zero i x e h = let same : i ≡ j = cc in inl (rw same at h)
+lies_at (j ∷ is) (suc k) i x e h = inr (lies_at is k i x e h)
+
+reach : (least : ℕ) (is : List Interval) (k x y : ℕ)
+    → AreApartFrom least is → AllWithin (λ i. i.high < x) is 0 k → x ≤ y → LiesInOne is y
+    → (i : Interval) × (slice_get is k ≡ Some i) × (i.low ≤ y)
+reach least [] k x y a below le h = absurd h
+reach least (i ∷ is) zero x y a below le h = (
+  i,
+  refl,
+  elim h [
+    | inl here ↦ here.0
+    | inr later ↦ omega (arith, a.1, lies_from (i.high + 1) is y a.2 later)
   ],
 )
+reach least (i ∷ is) (suc k) x y a below le h = elim h [
+  | inl here ↦ absurd (omega (arith, here.1, below 0 i (omega arith) (omega arith)))
+  | inr later ↦ reach (i.high + 1) is k x y a.2 (λ j d _ lt. below (suc j) d (omega arith) (omega arith)) le later
+]
+
+pub reached : (is : List Interval) (k x : ℕ) (found : Option Interval)
+    → AreApart is → AllWithin (λ i. i.high < x) is 0 k → found ≡ slice_get is k
+    → IfSome found (λ i. (y : ℕ) → LiesIn i y → LiesInOne is y)
+    × IfSome found (λ i. (y : ℕ) → x ≤ y → LiesInOne is y → i.low ≤ y)
+    × IfNone found ((y : ℕ) → x ≤ y → LiesInOne is y → ⊥)
+reached is k x None a below e = (tt, tt, λ y le h. let r = reach 0 is k x y a below le h in cc (r.1))
+reached is k x (Some i) a below e = (
+  λ y. lies_at is k i y (sym e),
+  λ y le h. let r = reach 0 is k x y a below le h in let same : r.0 ≡ i = cc (r.1) in rw same at r.2,
+  tt,
+)
+
+-- ---- parts
+
+-- a part has the numbers of its interval with a property
+abbrev IsPart : (ℕ → Type 0) → Interval → Option Interval → Type 0
+IsPart P i None = (x : ℕ) → LiesIn i x → P x → ⊥
+IsPart P i (Some j) = (j.low ≤ j.high) × ((x : ℕ) → LiesIn j x ↔ (LiesIn i x × P x))
+
+abbrev ArePartsFrom : ℕ → (ℕ → Type 0) → List Interval → List Interval → Type 0
+ArePartsFrom least P whole parts =
+    AreApartFrom least parts × ((x : ℕ) → LiesInOne parts x ↔ (LiesInOne whole x × P x))
+
+module _ (P : ℕ → Type 0) (part : Interval → Option Interval)
+    (each : (i : Interval) → i.low ≤ i.high → IsPart P i (part i)) where
+  parts_step : (least : ℕ) (o : Option Interval) (i : Interval) (is rest : List Interval) → IsPart P i o
+      → AreApartFrom least (i ∷ is) → ArePartsFrom (i.high + 1) P is rest
+      → ArePartsFrom least P (i ∷ is) (cons_option o rest)
+  parts_step least None i is rest none a more = (
+    apart_less (i.high + 1) rest least more.0 (omega (arith, a.0, a.1)),
+    λ x. (
+      λ h. let r = (more.1 x).0 h in (inr r.0, r.1),
+      λ h. elim h.0 [ inl here ↦ absurd (none x here h.1) | inr later ↦ (more.1 x).1 (later, h.1) ],
+    ),
+  )
+  parts_step least (Some j) i is rest some a more =
+      let low = ((some.1 j.low).0 (omega arith, some.0)).0 in
+      let high = ((some.1 j.high).0 (some.0, omega arith)).0 in (
+        (omega (arith, a.0, low.0), some.0, apart_less (i.high + 1) rest (j.high + 1) more.0 (omega (arith, high.1))),
+        λ x. (
+          λ h. elim h [
+            | inl here ↦ let r = (some.1 x).0 here in (inl r.0, r.1)
+            | inr later ↦ let r = (more.1 x).0 later in (inr r.0, r.1)
+          ],
+          λ h. elim h.0 [
+            | inl here ↦ inl ((some.1 x).1 (here, h.1))
+            | inr later ↦ inr ((more.1 x).1 (later, h.1))
+          ],
+        ),
+      )
+
+  parts_of : (least : ℕ) (is : List Interval) → AreApartFrom least is → ArePartsFrom least P is (filter_map part is)
+  parts_of least [] a = (tt, λ x. (λ h. absurd h, λ h. h.0))
+  parts_of least (i ∷ is) a =
+      parts_step least (part i) i is (filter_map part is) (each i a.1) a (parts_of (i.high + 1) is a.2)
+
+within_part : (range i : Interval) → i.low ≤ i.high → IsPart (LiesIn range) i (part_within range i)
+within_part range i filled =
+    cond_both (nat_le (max i.low range.low) (min i.high range.high)) _ None (IsPart (LiesIn range) i)
+    (λ e. omega (arith, leb-true _ _ e)) (λ e. omega (arith, leb-false _ _ e))
+
+below_part : (bound : ℕ) (i : Interval) → i.low ≤ i.high → IsPart (λ x. x < bound) i (part_below bound i)
+below_part bound i filled = cond_both (nat_lt i.low bound) _ None (IsPart (λ x. x < bound) i)
+    (λ e. omega (arith, ltb-true _ _ e)) (λ e. omega (arith, ltb-false _ _ e))
+
+above_part : (bound : ℕ) (i : Interval) → i.low ≤ i.high → IsPart (λ x. bound < x) i (part_above bound i)
+above_part bound i filled = cond_both (nat_lt bound i.high) _ None (IsPart (λ x. bound < x) i)
+    (λ e. omega (arith, ltb-true _ _ e)) (λ e. omega (arith, ltb-false _ _ e))
+
+-- the parts below a range and those above it are its parts outside
+abbrev pub parts_beside : Interval → List Interval → List Interval
+parts_beside range is = filter_map (part_below range.low) is ++ filter_map (part_above range.high) is
+
+beside : (range : Interval) (is : List Interval)
+    → range.low ≤ range.high → AreApart is → ArePartsOf (LiesOutside range) is (parts_beside range is)
+beside range is filled a =
+    let below = filter_map (part_below range.low) is in
+    let above = filter_map (part_above range.high) is in
+    let l = parts_of (λ x. x < range.low) (part_below range.low) (below_part range.low) 0 is a in
+    let u = parts_of (λ x. range.high < x) (part_above range.high) (above_part range.high) 0 is a in (
+      apart_append 0 below above l.0 u.0 (λ x y h k. omega (arith, ((l.1 x).0 h).1, ((u.1 y).0 k).1)),
+      λ x. (
+        λ h. elim (lies_either below above x h) [
+          | inl b ↦ let r = (l.1 x).0 b in (r.0, inl r.1)
+          | inr b ↦ let r = (u.1 x).0 b in (r.0, inr r.1)
+        ],
+        λ h. elim h.1 [
+          | inl b ↦ lies_left below above x ((l.1 x).1 (h.0, b))
+          | inr b ↦ lies_right below above x ((u.1 x).1 (h.0, b))
+        ],
+      ),
+    )
+
+-- ---- intervals of which some lie below a range and some above it
+
+module _ (range : Interval) (is js ks : List Interval) (apart : AreApart (is ++ (js ++ ks)))
+    (below : All (λ i. i.high < range.low) is) (above : All (λ i. range.high < i.low) ks) where
+  left : AreApart is × AreApart (js ++ ks) × AreBelow is (js ++ ks)
+  left = apart_split 0 is (js ++ ks) apart
+
+  right : AreApart js × AreApart ks × AreBelow js ks
+  right = apart_split 0 js ks left.1
+
+  split_within : ArePartsOf (LiesIn range) (is ++ (js ++ ks)) (filter_map (part_within range) js)
+  split_within =
+      let here = parts_of (LiesIn range) (part_within range) (within_part range) 0 js right.0 in (
+        here.0,
+        λ x. (
+          λ h. let r = (here.1 x).0 h in (lies_right is (js ++ ks) x (lies_left js ks x r.0), r.1),
+          λ h. elim (lies_either is (js ++ ks) x h.0) [
+            | inl l ↦ absurd (omega (arith, lies_under range is x below l, h.1))
+            | inr r ↦ elim (lies_either js ks x r) [
+              | inl t ↦ (here.1 x).1 (t, h.1)
+              | inr u ↦ absurd (omega (arith, lies_over range ks x above u, h.1))
+            ]
+          ],
+        ),
+      )
+
+  split_outside : range.low ≤ range.high
+      → ArePartsOf (LiesOutside range) (is ++ (js ++ ks)) ((is ++ parts_beside range js) ++ ks)
+  split_outside filled =
+      let cut = parts_beside range js in
+      let here = beside range js filled right.0 in (
+        apart_append 0 (is ++ cut) ks
+            (apart_append 0 is cut left.0 here.0 (λ x y h k. left.2 x y h (lies_left js ks y ((here.1 y).0 k).0)))
+            right.1
+            (λ x y h k. elim (lies_either is cut x h) [
+              | inl l ↦ left.2 x y l (lies_right js ks y k)
+              | inr c ↦ right.2 x y ((here.1 x).0 c).0 k
+            ]),
+        λ x. (
+          λ h. elim (lies_either (is ++ cut) ks x h) [
+            | inl l ↦ elim (lies_either is cut x l) [
+              | inl a ↦ (lies_left is (js ++ ks) x a, inl (lies_under range is x below a))
+              | inr c ↦ let r = (here.1 x).0 c in (lies_right is (js ++ ks) x (lies_left js ks x r.0), r.1)
+            ]
+            | inr u ↦ (lies_right is (js ++ ks) x (lies_right js ks x u), inr (lies_over range ks x above u))
+          ],
+          λ h. elim (lies_either is (js ++ ks) x h.0) [
+            | inl a ↦ lies_left (is ++ cut) ks x (lies_left is cut x a)
+            | inr r ↦ elim (lies_either js ks x r) [
+              | inl t ↦ lies_left (is ++ cut) ks x (lies_right is cut x ((here.1 x).1 (t, h.1)))
+              | inr u ↦ lies_right (is ++ cut) ks x u
+            ]
+          ],
+        ),
+      )
+
+pub cut_within : (range : Interval) (whole is js ks parts : List Interval)
+    → whole ≡ is ++ (js ++ ks) → AreApart whole → All (λ i. i.high < range.low) is → All (λ i. range.high < i.low) ks
+    → parts ≡ filter_map (part_within range) js → ArePartsOf (LiesIn range) whole parts
+cut_within range whole is js ks parts e a below above f =
+    rw (e, f) (split_within range is js ks (rw e at a) below above)
+
+pub cut_outside : (range : Interval) (whole is js ks parts : List Interval)
+    → whole ≡ is ++ (js ++ ks) → AreApart whole → All (λ i. i.high < range.low) is → All (λ i. range.high < i.low) ks
+    → range.low ≤ range.high → parts ≡ (is ++ parts_beside range js) ++ ks → ArePartsOf (LiesOutside range) whole parts
+cut_outside range whole is js ks parts e a below above filled f =
+    rw (e, f) (split_outside range is js ks (rw e at a) below above filled)

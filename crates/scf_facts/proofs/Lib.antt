@@ -1,4 +1,3 @@
-pub mod ApartLaws
 pub mod AtomLaws
 pub mod CountLaws
 pub mod HighMasks
@@ -8,6 +7,5 @@ pub mod LowestBit
 pub mod MaskLaws
 pub mod PairLaws
 pub mod SetLaws
-pub mod SplitLaws
 pub mod StoreLaws
 pub mod TrailLaws

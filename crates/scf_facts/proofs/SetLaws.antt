@@ -1,59 +1,40 @@
 -- What a change of the facts of a word leaves.
-use Rattle.std.proofs.Common.{◌≡◌, ℕ, ◌<◌, ◌^◌, ◌↔◌, List, [], ◌∷◌, ◌++◌, inl, inr, refl, sym, ap}
-use Rattle.std.proofs.Common.{subst, ◌∙◌, arith}
+use Rattle.std.proofs.Common.{◌≡◌, ℕ, ◌<◌, ◌^◌, ◌↔◌, [], ◌∷◌, ◌++◌, inl, inr, refl, sym, ap}
+use Rattle.std.proofs.Common.{◌∙◌, arith}
 use Rattle.std.specs.Prelude.{Bool, true, false, Some, bit_and}
 use Rattle.std.specs.Int.Bits.{and_zero_r}
 use Rattle.std.proofs.lemmas.List.Elements.{All-push, All-pop}
-use Rattle.std.specs.List.{filter_map}
 use Rattle.scf_facts.specs.declared.bits.Bits.{Bits}
 use Rattle.scf_facts.specs.declared.interval.Interval.{Interval}
-use Rattle.scf_facts.specs.internal.Intervals.{LiesIn, LiesOutside, LiesInOne, part_within, part_below, part_above}
+use Rattle.scf_facts.specs.internal.Intervals.{LiesIn, LiesOutside, ArePartsOf}
 use Rattle.scf_facts.specs.internal.WordSets.{NumberFacts, AllowsNumber, SomeNumber}
 use Rattle.scf_facts.specs.internal.Bits.{HasBits, LacksBits}
-use Rattle.scf_facts.proofs.IntervalLaws.{inside_within, inside_outside}
 
 -- other intervals
-pub allows_cut : (s : NumberFacts) (kept : List Interval) (P : Type 0) (x : ℕ) → LiesInOne kept x
-    ↔ (LiesInOne s.intervals x × P) → AllowsNumber (record s { intervals = kept }) x ↔ (AllowsNumber s x × P)
-allows_cut s kept P x same = (
-  λ h. let r = same.0 h.inside in (record { inside = r.0; known = h.known; unrefuted = h.unrefuted }, r.1),
-  λ h. record { inside = same.1 (h.0.inside, h.1); known = h.0.known; unrefuted = h.0.unrefuted },
+pub allows_cut : (s new : NumberFacts) (P : ℕ → Type 0) (x : ℕ) → new.known ≡ s.known → new.refuted ≡ s.refuted
+    → ArePartsOf P s.intervals new.intervals → AllowsNumber new x ↔ (AllowsNumber s x × P x)
+allows_cut s new P x known refuted parts = (
+  λ h. let r = (parts.1 x).0 h.inside in
+      (record { inside = r.0; known = rw known at h.known; unrefuted = rw refuted at h.unrefuted }, r.1),
+  λ h. record {
+    inside = (parts.1 x).1 (h.0.inside, h.1);
+    known = rw known h.0.known;
+    unrefuted = rw refuted h.0.unrefuted;
+  },
 )
 
--- the parts of the intervals within a range, or outside it
-pub allows_within : (s new : NumberFacts) (range : Interval) (kept : List Interval) (x : ℕ)
-    → record s { intervals = kept } ≡ new
-    → kept ≡ filter_map (part_within range) s.intervals → AllowsNumber new x ↔ (AllowsNumber s x × LiesIn range x)
-allows_within s new range kept x e parts =
-    let same = subst (λ is. LiesInOne is x ↔ (LiesInOne s.intervals x × LiesIn range x))
-    (sym parts) (inside_within range s.intervals x) in
-    subst (λ n. AllowsNumber n x ↔ (AllowsNumber s x × LiesIn range x)) e (allows_cut s kept (LiesIn range x) x same)
-
-pub allows_outside : (s new : NumberFacts) (range : Interval) (kept : List Interval) (x : ℕ)
-    → record s { intervals = kept } ≡ new → kept ≡ filter_map (part_below range.low) s.intervals
-    ++ filter_map (part_above range.high) s.intervals → AllowsNumber new x ↔ (AllowsNumber s x × LiesOutside range x)
-allows_outside s new range kept x e parts =
-    let same = subst (λ is. LiesInOne is x ↔ (LiesInOne s.intervals x × LiesOutside range x))
-    (sym parts) (inside_outside range s.intervals x) in
-    subst (λ n. AllowsNumber n x ↔ (AllowsNumber s x × LiesOutside range x)) e
-    (allows_cut s kept (LiesOutside range x) x same)
-
 -- one more refuted
-pub allows_refuted : (s new : NumberFacts) (bits : Bits) (x : ℕ) → record s { refuted = s.refuted ++ bits ∷ [] } ≡ new
-    → AllowsNumber new x ↔ (AllowsNumber s x × LacksBits bits x)
-allows_refuted s new bits x e = subst (λ n. AllowsNumber n x ↔ (AllowsNumber s x × LacksBits bits x)) e (to, from)
-  where
-    to : AllowsNumber (record s { refuted = s.refuted ++ bits ∷ [] }) x → AllowsNumber s x × LacksBits bits x
-    to h =
-        let both = All-pop (λ other. LacksBits other x) (s.refuted ++ bits ∷ []) s.refuted (Some bits) refl h.unrefuted in
-        (record { inside = h.inside; known = h.known; unrefuted = both.0 }, both.1)
-
-    from : AllowsNumber s x × LacksBits bits x → AllowsNumber (record s { refuted = s.refuted ++ bits ∷ [] }) x
-    from h = record {
-      inside = h.0.inside;
-      known = h.0.known;
-      unrefuted = All-push (λ other. LacksBits other x) s.refuted bits h.0.unrefuted h.1;
-    }
+pub allows_refuted : (s new : NumberFacts) (bits : Bits) (x : ℕ) → new.intervals ≡ s.intervals → new.known ≡ s.known
+    → new.refuted ≡ s.refuted ++ bits ∷ [] → AllowsNumber new x ↔ (AllowsNumber s x × LacksBits bits x)
+allows_refuted s new bits x intervals known refuted = (
+  λ h. let both = All-pop (λ other. LacksBits other x) new.refuted s.refuted (Some bits) refuted h.unrefuted in
+      (record { inside = rw intervals at h.inside; known = rw known at h.known; unrefuted = both.0 }, both.1),
+  λ h. record {
+    inside = rw intervals h.0.inside;
+    known = rw known h.0.known;
+    unrefuted = rw refuted (All-push (λ other. LacksBits other x) s.refuted bits h.0.unrefuted h.1);
+  },
+)
 
 -- where no bit of them is open, each number has the bits that some number with the known ones has
 pub has_closed : (x m v : ℕ) → m ≡ 0 → bit_and v m ≡ v → bit_and x m ≡ v

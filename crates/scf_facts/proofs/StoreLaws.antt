@@ -1,5 +1,5 @@
 -- What facts of each word say of lists of words.
-use Rattle.std.proofs.Common.{◌≡◌, ◌≢◌, ◌⊎◌, inl, inr, ℕ, zero, suc, ◌+◌, ◌-◌, ◌<◌, ◌^◌, ◌↔◌, List, [], ◌∷◌, refl, sym}
+use Rattle.std.proofs.Common.{◌≡◌, ◌≢◌, ◌⊎◌, inl, inr, ℕ, zero, suc, ◌+◌, ◌<◌, ◌^◌, ◌↔◌, List, [], ◌∷◌, refl, sym}
 use Rattle.std.proofs.Common.{ap, subst, ◌∙◌, arith, length, get_or}
 use Rattle.std.specs.Prelude.{Bool, true, false, ◌&&◌, IsTrue, slice_get, slice_index, slice_set, replicate, Option}
 use Rattle.std.specs.Prelude.{Some, None, IsSome}
@@ -69,7 +69,7 @@ word_fits words k h = fits_at words h.each k
 
 all_numbers : (x : ℕ) → x < 2 ^ 32 → AllowsNumber no_facts x
 all_numbers x fits = record {
-  inside = (0, record { low = 0; high = 2 ^ 32 - 1 }, refl, (omega arith, omega arith));
+  inside = inl (omega arith, omega arith);
   known = and_zero_r x;
   unrefuted = λ k d lt. absurd (omega arith);
 }

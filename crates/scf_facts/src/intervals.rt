@@ -2,7 +2,7 @@
 
 ghost use Rattle.std.specs.Prelude.{◌≡◌, ◌<◌, ◌≤◌, ◌++◌, ◌↔◌, ℕ, [], All, length, IsTrue, IfSome, IfNone, IfOk};
 ghost use Rattle.std.specs.List.{filter_map, AllWithin};
-ghost use Rattle.scf_facts.specs.internal.Intervals.{LiesIn, LiesInOne, AreApart};
+ghost use Rattle.scf_facts.specs.internal.Intervals.{LiesIn, LiesOutside, LiesInOne, AreApart, ArePartsOf};
 ghost use Rattle.scf_facts.specs.internal.Intervals.{all_intervals, part_within, part_below, part_above};
 
 use crate::interval::Interval;
@@ -66,7 +66,7 @@ impl Intervals {
 
     /// Their parts within a range.
     pub(crate) fn within(&self, alloc: Global, range: Interval) -> Result<Intervals, Memory>
-        ensures { IfOk result (λ parts. parts ≡ filter_map (part_within range) self.now) }
+        ensures { IfOk result (λ parts. ArePartsOf (LiesIn range) self.now parts) }
     {
         let parts = parts_within(alloc, self.as_slice(), range)?;
         Ok(Intervals { cut: Some(parts) })
@@ -75,8 +75,7 @@ impl Intervals {
     /// Their parts outside a range.
     pub(crate) fn outside(&self, alloc: Global, range: Interval) -> Result<Intervals, Memory>
         requires { range.low ≤ range.high }
-        ensures { IfOk result (λ parts. parts
-            ≡ filter_map (part_below range.low) self.now ++ filter_map (part_above range.high) self.now) }
+        ensures { IfOk result (λ parts. ArePartsOf (LiesOutside range) self.now parts) }
     {
         let parts = parts_outside(alloc, self.as_slice(), range)?;
         Ok(Intervals { cut: Some(parts) })
@@ -90,9 +89,11 @@ fn parts_within(
     range: Interval,
 ) -> Result<Vec<Interval>, AllocError>
     requires { AreApart intervals.now }
-    ensures { IfOk result (λ parts. parts.items ≡ filter_map (part_within range) intervals.now) }
+    ensures { IfOk result (λ parts. ArePartsOf (LiesIn range) intervals.now parts.items) }
 {
-    parts_of_touched_within(alloc, split_by(intervals, range).touched, range)
+    let split = split_by(intervals, range);
+    let parts = parts_of_touched_within(alloc, split.touched, range)?;
+    Ok(parts)
 }
 
 /// The parts of intervals within a range, looked for in each.
@@ -117,8 +118,7 @@ fn parts_outside(
 ) -> Result<Vec<Interval>, AllocError>
     requires apart { AreApart intervals.now }
     requires filled { range.low ≤ range.high }
-    ensures { IfOk result (λ parts. parts.items
-        ≡ filter_map (part_below range.low) intervals.now ++ filter_map (part_above range.high) intervals.now) }
+    ensures { IfOk result (λ parts. ArePartsOf (LiesOutside range) intervals.now parts.items) }
 {
     let split = split_by(intervals, range);
     let cut = parts_of_touched_outside(alloc, split.touched, range)?;
@@ -159,6 +159,7 @@ struct Split<'a> {
 }
 
 /// Splits sorted intervals by a range.
+#[tactic(auto, using(crate::proofs::IntervalLaws::apart_right))]
 fn split_by(intervals: &[Interval], range: Interval) -> Split<'_>
     requires { AreApart intervals.now }
     ensures whole { intervals.now ≡ result.below.now ++ (result.touched.now ++ result.above.now) }

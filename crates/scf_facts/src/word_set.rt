@@ -99,6 +99,7 @@ impl WordSet {
     }
 
     /// Keeps the numbers within a range.
+    #[tactic(auto, using(crate::proofs::SetLaws::allows_cut))]
     fn keep_range(&mut self, alloc: Global, range: Interval) -> Result<Former, Memory>
         ensures kept { OnOk result ((x : ℕ) → AllowsNumber self.new x ↔ (AllowsNumber self.old x × LiesIn range x)) }
         ensures before { IfOk result (λ former. facts_before former self.new ≡ self.old) }
@@ -111,6 +112,7 @@ impl WordSet {
     }
 
     /// Keeps the numbers outside a range.
+    #[tactic(auto, using(crate::proofs::SetLaws::allows_cut))]
     fn drop_range(&mut self, alloc: Global, range: Interval) -> Result<Former, Memory>
         requires { range.low ≤ range.high }
         ensures kept { OnOk result ((x : ℕ)

@@ -1,7 +1,6 @@
 -- Numbers by the intervals that they lie in.
-use Rattle.std.specs.Prelude.{◌≡◌, ◌+◌, ◌-◌, ◌<◌, ◌≤◌, ◌^◌, ◌⊎◌, ℕ, List, [], ◌∷◌, Option, slice_get, Some, None}
+use Rattle.std.specs.Prelude.{◌+◌, ◌-◌, ◌<◌, ◌≤◌, ◌^◌, ◌⊎◌, ◌↔◌, ℕ, List, [], ◌∷◌, Option, Some, None}
 use Rattle.std.specs.Prelude.{nat_lt, nat_le, min, max, if◌then◌else◌}
-use Rattle.std.specs.List.{AllByRecursion}
 use Rattle.scf_facts.specs.declared.interval.Interval.{Interval}
 
 -- a number lies in an interval
@@ -14,14 +13,21 @@ LiesOutside interval x = (x < interval.low) ⊎ (interval.high < x)
 
 -- a number lies in one of the intervals
 abbrev pub LiesInOne : List Interval → ℕ → Type 0
-LiesInOne intervals x =
-    (place : ℕ) × (interval : Interval) × (slice_get intervals place ≡ Some interval) × LiesIn interval x
+LiesInOne [] x = ⊥
+LiesInOne (interval ∷ later) x = LiesIn interval x ⊎ LiesInOne later x
 
--- the intervals are filled, in order and apart
+-- the intervals are filled, in order and apart, from a number on
+abbrev pub AreApartFrom : ℕ → List Interval → Type 0
+AreApartFrom least [] = Unit {0}
+AreApartFrom least (interval ∷ later) =
+    (least ≤ interval.low) × (interval.low ≤ interval.high) × AreApartFrom (interval.high + 1) later
+
 abbrev pub AreApart : List Interval → Type 0
-AreApart [] = Unit {0}
-AreApart (interval ∷ later) =
-    (interval.low ≤ interval.high) × AllByRecursion (λ other. interval.high < other.low) later × AreApart later
+AreApart intervals = AreApartFrom 0 intervals
+
+-- the first intervals have those numbers of the others that have a property, and are in order and apart
+abbrev pub ArePartsOf : (ℕ → Type 0) → List Interval → List Interval → Type 0
+ArePartsOf P whole parts = AreApart parts × ((x : ℕ) → LiesInOne parts x ↔ (LiesInOne whole x × P x))
 
 -- the interval of all numbers alone
 abbrev pub all_intervals : List Interval

@@ -1,13 +1,13 @@
 use Rattle.std.proofs.Common.{leb, rules}
 use Rattle.std.proofs.lemmas.Bool.{leb-false}
 use Rattle.std.proofs.lemmas.List.Sorted.{IsPartitionPoint-from_clause, IsPartitionedBy-leb}
-use Rattle.scf_facts.proofs.ApartLaws.{rising}
+use Rattle.scf_facts.proofs.IntervalLaws.{rising}
 use Rattle.scf_facts.proofs.intervals.count_beginning_within.Goals as goal
 
 pub returns : goal.returns
 returns c =
     let parted = IsPartitionedBy-leb (λ i. i.low) c.args.intervals.now c.args.x
-    (λ k l d le lt. (rising c.args.intervals.now c.requires k l d le lt).0) in
+    (λ k l d le lt. (rising 0 c.args.intervals.now c.requires k l d le lt).0) in
     let point = IsPartitionPoint-from_clause (λ i. leb i.low c.args.x) _ _ c.partition_point.ensures.partitioned parted
     (λ a r q k. search rules) in
     record {

@@ -1,18 +1,15 @@
 use Rattle.std.proofs.Common.{◌≡◌, arith}
-use Rattle.std.specs.Prelude.{slice_get}
+use Rattle.std.specs.Prelude.{IfSome, slice_get, ◌≤◌}
 use Rattle.std.proofs.lemmas.Grind.{common_steps}
 use Rattle.std.proofs.lemmas.Option.{gets}
-use Rattle.scf_facts.proofs.ApartLaws.{reached, unreached}
+use Rattle.scf_facts.proofs.IntervalLaws.{reached}
 use Rattle.scf_facts.proofs.intervals.first_reaching.Goals as goal
 
-pub returns-clause-first : goal.returns-clause-first
-returns-clause-first c =
+pub returns : goal.returns
+returns c =
     let place = c.count_ending_below.result in
     let found : c.copied.result ≡ slice_get c.args.intervals.now place = grind (arith, common_steps, gets) in
-    reached c.args.intervals.now place c.args.x c.requires c.count_ending_below.ensures.below c.copied.result found
-
-pub returns-clause-none : goal.returns-clause-none
-returns-clause-none c =
-    let place = c.count_ending_below.result in
-    let found : c.copied.result ≡ slice_get c.args.intervals.now place = grind (arith, common_steps, gets) in
-    unreached c.args.intervals.now place c.args.x c.requires c.count_ending_below.ensures.below c.copied.result found
+    let reaches : IfSome c.copied.result (λ i. c.args.x ≤ i.high) = grind (arith, common_steps, gets) in
+    let r = reached c.args.intervals.now place c.args.x c.copied.result c.requires
+    c.count_ending_below.ensures.below found in
+    record { reaches = reaches; one = r.0; first = r.1; none = r.2 }

@@ -1,5 +1,4 @@
-use Rattle.std.proofs.Common.{◌↔◌, ◌∷◌, ◌++◌, [], List, ap, sym, subst, ◌∙◌}
-use Rattle.scf_facts.specs.declared.bits.Bits.{Bits}
+use Rattle.std.proofs.Common.{◌↔◌, ◌∷◌, ◌++◌, [], ap, sym, subst, ◌∙◌}
 use Rattle.scf_facts.specs.internal.Bits.{HasBits}
 use Rattle.scf_facts.specs.internal.WordSets.{NumberFacts}
 use Rattle.scf_facts.proofs.SetLaws.{allows_refuted, has_closed}
@@ -30,10 +29,6 @@ returns-then-is_single-clause-kept c = λ x.
     )
 
 pub returns-clause-kept : goal.returns-clause-kept
-returns-clause-kept c = λ x.
-    let bits = c.args.bits in
-    let inside = c.self.inside in
-    allows_refuted c.args.self.now _ bits x
-    (ap (λ (s : NumberFacts). record s { refuted = s.refuted ++ bits ∷ [] }) (sym c.self.view_is)
-    ∙ ap (λ (refuted : List Bits). record { intervals = inside.intervals; known = inside.known; refuted = refuted })
-    (sym c.in_ok-push.ensures.items))
+returns-clause-kept c = λ x. allows_refuted c.args.self.now _ c.args.bits x
+    (ap (λ (s : NumberFacts). s.intervals) c.self.view_is) (ap (λ (s : NumberFacts). s.known) c.self.view_is)
+    (c.in_ok-push.ensures.items ∙ ap (λ (s : NumberFacts). s.refuted ++ c.args.bits ∷ []) c.self.view_is)
