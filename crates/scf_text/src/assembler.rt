@@ -74,7 +74,9 @@ fn value_of<'a>(
     ensures { TellsTarget (places_view places.now) at line limit (written_view written.entry) result }
 {
     match written {
-        Written::Number(number) => number.below(limit).ok_or(TextFault::NumberRange { line }),
+        Written::Number(_) | Written::Large(_) => written
+            .below(limit)
+            .ok_or(TextFault::NumberRange { line }),
         Written::Label(name) => {
             let Some(place) = find_place(places, name) else {
                 return Err(TextFault::Label { line });
@@ -101,7 +103,10 @@ fn resolve<'a>(
 {
     let line = written.line;
     let draft = written.draft;
-    let code = value_of(places, Written::Number(draft.code), at, 1 << 16, line)?;
+    let code = draft
+        .code
+        .below(1 << 16)
+        .ok_or(TextFault::NumberRange { line })?;
     let jt = value_of(places, draft.jt, at, 1 << 8, line)?;
     let jf = value_of(places, draft.jf, at, 1 << 8, line)?;
     let k = value_of(places, draft.k, at, 1 << 32, line)?;

@@ -16,49 +16,44 @@ use crate::form::{Field, Form, Piece};
 use crate::part::{Next, front};
 use scf_insn::{NumeralFault, parse_number};
 
-/// A number that is written.
-#[derive(Clone, Copy)]
-pub(crate) enum Number<'a> {
-    Given(u64),
-    /// The token, whose number is past 2^64-1.
-    Large(&'a [u8]),
-}
-
 /// What stands for a field: a number, or the name of a place.
 #[derive(Clone, Copy)]
 pub(crate) enum Written<'a> {
-    Number(Number<'a>),
+    Number(u64),
+    /// The token of a number past 2^64-1.
+    Large(&'a [u8]),
     Label(&'a [u8]),
 }
 
 /// An instruction as it is written.
 #[derive(Clone, Copy)]
 pub(crate) struct Draft<'a> {
-    pub code: Number<'a>,
+    pub code: Written<'a>,
     pub jt: Written<'a>,
     pub jf: Written<'a>,
     pub k: Written<'a>,
 }
 
-impl<'a> Number<'a> {
+impl<'a> Written<'a> {
     /// The number that a token is.
-    fn of_token(token: &'a [u8]) -> Option<Number<'a>>
-        ensures { option_map number_view result ≡ number_of token.now }
+    fn of_number(token: &'a [u8]) -> Option<Written<'a>>
+        ensures { option_map written_view result ≡ option_map (λ n. written.Number n) (number_of token.now) }
     {
         match parse_number(token) {
-            Ok(number) => Some(Number::Given(number)),
-            Err(NumeralFault::TooLarge) => Some(Number::Large(token)),
+            Ok(number) => Some(Written::Number(number)),
+            Err(NumeralFault::TooLarge) => Some(Written::Large(token)),
             Err(NumeralFault::Malformed) => None,
         }
     }
 
-    /// The number, where it is below the limit.
+    /// The number, where it is below the limit. A name stands for none: 0.
     pub(crate) fn below(self, limit: u64) -> Option<u64>
         ensures { result ≡ (if nat_lt (number_view self.entry) limit then Some (number_view self.entry) else None) }
     {
         let number = match self {
-            Number::Given(number) => number,
-            Number::Large(token) => parse_number(token).ok()?,
+            Written::Number(number) => number,
+            Written::Large(token) => parse_number(token).ok()?,
+            Written::Label(_) => 0,
         };
         if number < limit { Some(number) } else { None }
     }
@@ -79,9 +74,9 @@ impl<'a> Draft<'a> {
     pub(crate) fn blank(form: Form) -> Draft<'a>
         ensures { draft_view result ≡ blank form }
     {
-        let zero = Written::Number(Number::Given(0));
+        let zero = Written::Number(0);
         Draft {
-            code: Number::Given(form.code as u64),
+            code: Written::Number(form.code as u64),
             jt: zero,
             jf: zero,
             k: zero,
@@ -93,11 +88,10 @@ impl<'a> Draft<'a> {
         ensures { draft_view self.new ≡ with_field field (written_view operand.entry) (draft_view self.old) }
     {
         match field {
-            Field::Code => {
-                if let Written::Number(code) = operand {
-                    self.code = code;
-                }
-            }
+            Field::Code => match operand {
+                Written::Number(_) | Written::Large(_) => self.code = operand,
+                Written::Label(_) => {}
+            },
             Field::Jt => self.jt = operand,
             Field::Jf => self.jf = operand,
             Field::K => self.k = operand,
@@ -124,10 +118,10 @@ fn put_number<'a>(draft: &mut Draft<'a>, field: Field, token: &'a [u8]) -> bool
     ensures { option_map (λ n. with_field field (written.Number n) (draft_view draft.old)) (number_of token.now)
         ≡ (if result then Some (draft_view draft.new) else None) }
 {
-    let Some(number) = Number::of_token(token) else {
+    let Some(number) = Written::of_number(token) else {
         return false;
     };
-    draft.set_field(field, Written::Number(number));
+    draft.set_field(field, number);
     true
 }
 
@@ -214,7 +208,7 @@ fn is_below(operand: Written<'_>, limit: u64) -> bool
     ensures { result ≡ is_below limit (written_view operand.entry) }
 {
     match operand {
-        Written::Number(number) => number.below(limit).is_some(),
+        Written::Number(_) | Written::Large(_) => operand.below(limit).is_some(),
         Written::Label(_) => true,
     }
 }

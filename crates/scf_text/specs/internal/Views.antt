@@ -2,20 +2,20 @@
 use Rattle.std.specs.Prelude.{ℕ, ◌^◌}
 use Rattle.std.specs.Option.{unwrap_or}
 use Rattle.scf_insn.specs.Numbers.{number_of}
-use Rattle.scf_text.specs.declared.draft.Number.{Number}
-use Rattle.scf_text.specs.declared.draft.Number.TheVariants.{Given, Large}
 use Rattle.scf_text.specs.declared.draft.Written.{Written}
 use Rattle.scf_text.specs.declared.draft.Written.TheVariants as code
 use Rattle.scf_text.specs.declared.draft.Draft.{Draft}
 use Rattle.scf_text.specs.Drafts as drafts
 
 -- A token that is no number stands for one that fits no field.
-abbrev pub number_view : Number → ℕ
-number_view (Given n) = n
-number_view (Large token) = unwrap_or (number_of token.now) (2 ^ 64)
+abbrev pub number_view : Written → ℕ
+number_view (code.Number n) = n
+number_view (code.Large token) = unwrap_or (number_of token.now) (2 ^ 64)
+number_view (code.Label name) = 0
 
 abbrev pub written_view : Written → drafts.Written
-written_view (code.Number n) = drafts.Number (number_view n)
+written_view (code.Number n) = drafts.Number n
+written_view (code.Large token) = drafts.Number (number_view (code.Large token))
 written_view (code.Label name) = drafts.Label name.now
 
 abbrev pub draft_view : Draft → drafts.Draft
