@@ -1,5 +1,5 @@
 -- Bytes are those of one list of instructions.
-use Rattle.std.proofs.Common.{◌≡◌, ℕ, zero, suc, lit<, ◌*◌, ◌<◌, ◌++◌, List, [], ◌∷◌, take, drop, length, get_or, ap}
+use Rattle.std.proofs.Common.{◌≡◌, ℕ, zero, suc, ◌*◌, ◌<◌, ◌++◌, List, [], ◌∷◌, take, drop, length, get_or, ap}
 use Rattle.std.proofs.Common.{sym, refl, ◌∙◌, arith}
 use Rattle.std.specs.List.{AllByRecursion}
 use Rattle.std.specs.Int.{w16, w32, to_le_bytes, from_le_bytes}
@@ -38,16 +38,10 @@ length-program_bytes [] = refl
 length-program_bytes (i ∷ is) = let rest = length-program_bytes is in omega arith
 
 bytes_two : (b c : ℕ) → b < 256 → c < 256 → (i : ℕ) → get_or (b ∷ c ∷ []) i 0 < 256
-bytes_two b c p q zero = p
-bytes_two b c p q (suc zero) = q
-bytes_two b c p q (suc (suc i)) = lit< tt
+bytes_two b c h1 h2 i = grind arith
 
 bytes_four : (b c d e : ℕ) → b < 256 → c < 256 → d < 256 → e < 256 → (i : ℕ) → get_or (b ∷ c ∷ d ∷ e ∷ []) i 0 < 256
-bytes_four b c d e p q r s zero = p
-bytes_four b c d e p q r s (suc zero) = q
-bytes_four b c d e p q r s (suc (suc zero)) = r
-bytes_four b c d e p q r s (suc (suc (suc zero))) = s
-bytes_four b c d e p q r s (suc (suc (suc (suc i)))) = lit< tt
+bytes_four b c d e h1 h2 h3 h4 i = grind arith
 
 -- bytes whose number is a multiple of 8 are those of some list of instructions within their widths
 pub some_list : (n : ℕ) (bs : List ℕ) → length bs ≡ 8 * n → AllByRecursion (λ b. b < 256) bs

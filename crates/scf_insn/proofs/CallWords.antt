@@ -101,12 +101,4 @@ number_below words h i = let first = word_below words h i in let second = word_b
 
 -- the record of sixteen words has fields within their widths
 pub IsRecord-call_of : (words : List ℕ) → IsWords words → IsRecord (call_of words)
-IsRecord-call_of words h =
-    let n = number_below words h in
-    record {
-      nr = word_below words h 0;
-      arch = word_below words h 1;
-      ip = n 2;
-      count = refl;
-      args = place_below (2 ^ 64) (lit< tt) (call_of words).args (n 4, (n 6, (n 8, (n 10, (n 12, (n 14, tt))))));
-    }
+IsRecord-call_of words h1 = grind (arith, number_below, place_below, word_below)

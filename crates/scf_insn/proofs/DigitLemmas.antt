@@ -1,6 +1,6 @@
 -- Digits from the last to the first.
-use Rattle.std.proofs.Common.{◌≡◌, ℕ, zero, suc, ◌+◌, ◌-◌, ◌*◌, ◌/◌, ◌%◌, ◌^◌, ◌<◌, ◌≤◌, false, cond, eqb, List, []}
-use Rattle.std.proofs.Common.{◌∷◌, refl, subst, arith}
+use Rattle.std.proofs.Common.{◌≡◌, ℕ, suc, ◌+◌, ◌-◌, ◌/◌, ◌%◌, ◌^◌, ◌<◌, ◌≤◌, false, cond, eqb, List, []}
+use Rattle.std.proofs.Common.{◌∷◌, refl, arith}
 use Rattle.std.specs.Fmt.{digits, digits_onto, digit_glyph}
 use Rattle.std.proofs.lemmas.Bool.{ne_eqb}
 use Rattle.std.proofs.Math.Nat.{mul-le-mul_left, div-lt_iff_lt-mul, pow-suc}
@@ -25,19 +25,13 @@ unfolding with_front
 last_digit base start acc = refl
 
 fewer_below : (base k left : ℕ) → 10 ≤ base → left < 10 ^ suc k → left / base < 10 ^ k
-fewer_below base k left low few =
-    let power : 10 ^ suc k ≡ 10 ^ k * 10 = pow-suc 10 k in
-    let wide : 10 ^ k * 10 ≤ 10 ^ k * base = mul-le-mul_left (10 ^ k) low in
-    (div-lt_iff_lt-mul (omega arith)).1 (omega arith)
+fewer_below base k left h1 h2 = grind (arith, div-lt_iff_lt-mul, mul-le-mul_left, pow-suc)
 
 pub fewer : (base start left : ℕ) → 10 ≤ base → 0 < start → left < 10 ^ start → left / base < 10 ^ (start - 1)
-fewer base start left low some few =
-    let k : start ≡ suc (start - 1) = omega arith in
-    fewer_below base (start - 1) left low (subst (λ (n : ℕ). left < 10 ^ n) k few)
+fewer base start left h1 h2 h3 = grind (arith, fewer_below)
 
 pub fewer_than_twenty : (base n : ℕ) → 10 ≤ base → n < 2 ^ 64 → n / base < 10 ^ 19
 fewer_than_twenty base n low few = fewer base 20 n low (omega arith) (omega arith)
 
 pub has_place : (start left : ℕ) → 0 < left → left < 10 ^ start → 0 < start
-has_place zero left some few = omega arith
-has_place (suc k) left some few = omega arith
+has_place start left h1 h2 = grind arith

@@ -1,6 +1,6 @@
 -- Comparing numbers of 64 bits by their halves, and the words of a record.
 use Rattle.std.proofs.Common.{◌≡◌, ℕ, zero, suc, ◌+◌, ◌*◌, ◌<◌, ◌^◌, true, false, cond, eqb, ltb, leb, List, [], ◌∷◌}
-use Rattle.std.proofs.Common.{get_or, refl, sym, ap, ◌∙◌, arith, inl, inr, bit_and}
+use Rattle.std.proofs.Common.{get_or, refl, arith, bit_and}
 use Rattle.std.specs.Prelude.{slice_index}
 use Rattle.std.specs.List.{flat_map}
 use Rattle.std.proofs.lemmas.Bool.{cases_eq, eq-eqb, ne_eqb}
@@ -17,16 +17,7 @@ low_below : (n : ℕ) → low n < 2 ^ 32
 low_below n = omega arith
 
 pub eqb_split : (n v : ℕ) → eqb n v ≡ cond (eqb (high n) (high v)) (eqb (low n) (low v)) false
-eqb_split n v =
-    elim (cases_eq (high n) (high v)) [
-      | inl h ↦ elim (cases_eq (low n) (low v)) [
-        | inl l ↦ eq-eqb n v (omega (arith, h, l))
-            ∙ sym (ap (λ b. cond b (eqb (low n) (low v)) false) (eq-eqb _ _ h) ∙ eq-eqb _ _ l)
-        | inr l ↦ ne_eqb n v (λ e. l (ap low e))
-            ∙ sym (ap (λ b. cond b (eqb (low n) (low v)) false) (eq-eqb _ _ h) ∙ ne_eqb _ _ l)
-      ]
-      | inr h ↦ ne_eqb n v (λ e. h (ap high e)) ∙ sym (ap (λ b. cond b (eqb (low n) (low v)) false) (ne_eqb _ _ h))
-    ]
+eqb_split n v = grind (arith, cases_eq, eq-eqb, ne_eqb)
 
 -- a test of two numbers that agrees with the order of their high halves, and else with that of the low ones
 pub ltb_split : (v n : ℕ)

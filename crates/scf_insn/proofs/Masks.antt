@@ -1,5 +1,5 @@
 -- What the kind of a mask says of it.
-use Rattle.std.proofs.Common.{◌≡◌, ℕ, zero, suc, ◌+◌, ◌*◌, ◌/◌, ◌%◌, ◌-◌, ◌<◌, ◌≤◌, ◌^◌, true, false, cond, eqb, Bool}
+use Rattle.std.proofs.Common.{◌≡◌, ℕ, zero, suc, ◌+◌, ◌*◌, ◌/◌, ◌%◌, ◌-◌, ◌<◌, ◌≤◌, ◌^◌, cond, eqb, Bool}
 use Rattle.std.proofs.Common.{ap, ◌∙◌, arith, inl, inr, ◌⊎◌, refl, sym, subst}
 use Rattle.std.specs.Prelude.{count_ones}
 use Rattle.std.specs.Int.{IsPowerOfTwo}
@@ -45,15 +45,7 @@ IsOfKind Mixed mask = IsSimpleMask mask → ⊥
 by_tests : (mask : ℕ) (none all one : Bool) → eqb mask 0 ≡ none → eqb mask (2 ^ 32 - 1) ≡ all
     → eqb (count_ones mask) 1 ≡ one
     → IsOfKind (cond none Empty (cond all Full (cond one OneBit Mixed))) mask
-by_tests mask true all one e f g = eqb-true mask 0 e
-by_tests mask false true one e f g = eqb-true mask (2 ^ 32 - 1) f
-by_tests mask false false true e f g = power_from_one_bit mask (eqb-true (count_ones mask) 1 g)
-by_tests mask false false false e f g = not_simple
-  where
-    not_simple : IsSimpleMask mask → ⊥
-    not_simple (inl none) = eqb-false mask 0 e none
-    not_simple (inr (inl (k, lt, power))) = eqb-false (count_ones mask) 1 g (ap count_ones power ∙ one_bit_of_power k)
-    not_simple (inr (inr all)) = eqb-false mask (2 ^ 32 - 1) f all
+by_tests mask none all one h1 h2 h3 = grind (arith, eqb-false, eqb-true, one_bit_of_power, power_from_one_bit)
 
 pub is_of_kind : (mask : ℕ) → IsOfKind (mask_kind mask) mask
 is_of_kind mask = by_tests mask _ _ _ refl refl refl

@@ -1,5 +1,5 @@
 -- A record's bytes, piece by piece.
-use Rattle.std.proofs.Common.{◌≡◌, ℕ, ◌+◌, ◌*◌, ◌<◌, ◌≤◌, ◌^◌, ◌++◌, List, [], ◌∷◌, drop, take, length, get_or, refl}
+use Rattle.std.proofs.Common.{◌≡◌, ℕ, ◌+◌, ◌*◌, ◌<◌, ◌≤◌, ◌^◌, ◌++◌, List, [], ◌∷◌, drop, take, length, get_or}
 use Rattle.std.proofs.Common.{ap, sym, ◌∙◌, append-nil, arith, length-drop, length-append, length-take}
 use Rattle.std.proofs.lemmas.List.{take-append-drop, drop-drop, drop_all, take_all, take_more}
 use Rattle.std.specs.Int.{w32, to_le_bytes}
@@ -11,22 +11,13 @@ use Rattle.scf_insn.specs.Words.{low, high}
 
 -- eight bytes are four and four
 pub eight : (xs : List ℕ) → take 8 xs ≡ take 4 xs ++ take 4 (drop 4 xs)
-eight [] = refl
-eight (a ∷ []) = refl
-eight (a ∷ b ∷ []) = refl
-eight (a ∷ b ∷ c ∷ []) = refl
-eight (a ∷ b ∷ c ∷ d ∷ xs) = refl
+eight xs = grind arith
 
 -- a number's halves have the bytes that its words have
 pub number_of_halves : (first second n : ℕ) (xs ys : List ℕ) → first < 2 ^ 32 → n ≡ first + 2 ^ 32 * second
     → to_le_bytes w32 first ≡ xs → to_le_bytes w32 second ≡ ys
     → to_le_bytes w32 (low n) ++ to_le_bytes w32 (high n) ≡ xs ++ ys
-number_of_halves first second n xs ys small e a b =
-    let is_low : low n ≡ first = omega arith in
-    let is_high : high n ≡ second = omega arith in
-    ap (λ k. to_le_bytes w32 k ++ to_le_bytes w32 (high n)) is_low
-    ∙ ap (λ k. to_le_bytes w32 first ++ to_le_bytes w32 k) is_high
-    ∙ ap (λ front. front ++ to_le_bytes w32 second) a ∙ ap (λ back. xs ++ back) b
+number_of_halves first second n xs ys h1 h2 h3 h4 = grind arith
 
 -- the next piece of bytes
 piece : (n at : ℕ) (xs front back : List ℕ) → front ≡ take n (drop at xs) → back ≡ drop (at + n) xs
@@ -73,6 +64,4 @@ next_word bytes ys words i w k long inside all is_word is four before =
 -- all words are written
 pub all_words : (bytes words : List ℕ) (i : ℕ) → length bytes ≡ 64 → length words ≡ 16 → i ≡ 16
     → take (4 * i) bytes ≡ flat_map (to_le_bytes w32) (take i words) → bytes ≡ flat_map (to_le_bytes w32) words
-all_words bytes words i long all e written =
-    sym (take_all (4 * i) bytes (omega arith)) ∙ written
-    ∙ ap (flat_map (to_le_bytes w32)) (take_all i words (omega arith))
+all_words bytes words i h1 h2 h3 h4 = grind (arith, take_all)

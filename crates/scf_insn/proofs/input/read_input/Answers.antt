@@ -1,3 +1,4 @@
+use Rattle.std.proofs.lemmas.Grind.{common_steps}
 use Rattle.std.proofs.Common.{◌+◌, take, arith, length-take}
 use Rattle.scf_insn.specs.Readings.{read_len}
 use Rattle.scf_insn.proofs.Taken.{gives_bounded, gives_some}
@@ -11,11 +12,7 @@ returns-then-count-limit-clause-past g c = λ _.
     c.chunks.invariant.known c.in_ok-count.ensures.bytes.0 (simp length-take (omega arith))
 
 pub returns-in_err-extend_from_slice-clause-wanted : goal.returns-in_err-extend_from_slice-clause-wanted
-returns-in_err-extend_from_slice-clause-wanted g c = λ _.
-    let remaining = g.S.Source.remaining in
-    gives_some (remaining c.args.source.now) (remaining c.chunks.source) (remaining c.read.new.self)
-    c.chunks.bytes.items (take c.in_ok-count.count c.read.new.buffer) c.chunks.invariant.known
-    c.in_ok-count.ensures.bytes.0 (simp length-take (omega arith))
+returns-in_err-extend_from_slice-clause-wanted g c = grind (arith, common_steps, gives_some)
 
 pub returns-in_err-extend_from_slice-clause-early : goal.returns-in_err-extend_from_slice-clause-early
 returns-in_err-extend_from_slice-clause-early g c = λ _.
