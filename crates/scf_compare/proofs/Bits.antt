@@ -3,9 +3,13 @@ use Rattle.std.proofs.Common.{◌≡◌, ◌≢◌, ℕ, ◌<◌, ◌≤◌, ◌
 use Rattle.std.specs.Prelude.{slice_index}
 use Rattle.std.proofs.lemmas.Bool.{eq-eqb, eqb-true}
 use Rattle.std.proofs.lemmas.Nat.{and_mask}
+use Rattle.std.proofs.lemmas.Nat.Bits.{bit_at_and, bit_at_or, bit_at_xor, bit_at-lt, bit_at-zero}
 use Rattle.std.proofs.Math.Nat.{mod-eq_of_lt}
 use Rattle.scf_insn.specs.Words.{IsWords}
 use Rattle.scf_insn.proofs.CallWords.{word_below}
+
+-- what each bit is of numbers that are joined
+pub ruleset each_bit = (bit_at_and, bit_at_or, bit_at_xor, bit_at-lt, bit_at-zero)
 
 -- a word under all of its bits is the word
 pub whole_word : (x : ℕ) → x < 2 ^ 32 → x ≡ bit_and x 4294967295
@@ -19,7 +23,7 @@ word_is words i v w e = whole_word _ (word_below words w i) ∙ eqb-true _ _ e
 
 pub word_isnt : (words : List ℕ) (i v : ℕ) → IsWords words → eqb (bit_and (slice_index words i) 4294967295) v ≡ false
     → slice_index words i ≢ v
-word_isnt words i v h1 h2 = grind (arith, eq-eqb, whole_word, word_below)
+word_isnt words i v w e = grind (arith, eq-eqb, whole_word, word_below)
 
 pub at_least : (x v : ℕ) → leb v x ≡ true → v ≤ x
 at_least x v e = grind arith

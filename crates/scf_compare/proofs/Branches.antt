@@ -39,19 +39,19 @@ length_more xs ys x e = ap length e ∙ length-append xs (x ∷ [])
 size_more : {F K N : Type 0} (tree : K → Tree N) (fewer more : Frontier F K N) (b : Branch K N)
     → more.branches.items ≡ fewer.branches.items ++ b ∷ []
     → open_size tree more ≡ open_size tree fewer + (tree b.known).size b.node
-size_more tree fewer more b h1 = grind (arith, sum_by-append)
+size_more tree fewer more b h = grind (arith, sum_by-append)
 
 -- ---- levels that stay
 
 pub same_then : {S : Type 0} (allows : S → ℕ → List ℕ → Type 0) (is_exact : S → ℕ → Bool) (a b c : S) (i j k : ℕ)
     → IsSameLevel allows is_exact a i b j → IsSameLevel allows is_exact b j c k → IsSameLevel allows is_exact a i c k
-same_then allows is_exact a b c i j k h1 h2 = grind arith
+same_then allows is_exact a b c i j k f h = grind arith
 
 module _ {F K N : Type 0} (store : Store F) (tree : K → Tree N) (old new : Frontier F K N) where
   exact_still : (place : ℕ) (branch : Branch K N)
       → IsSameLevel store.allows store.is_exact old.facts place new.facts place
       → IsExactBranch store tree old place branch → IsExactBranch store tree new place branch
-  exact_still place branch h1 h2 = grind arith
+  exact_still place branch same e = grind arith
 
 -- A branch was opened, and more may have been learned since.
 pub record HasOpened {F K N : Type 0} (store : Store F) (old new : Frontier F K N) (b : Branch K N) : Type 0 where

@@ -17,7 +17,7 @@ use Rattle.scf_compare.specs.internal.Numbers.{AreFirstRules}
 use Rattle.scf_compare.proofs.Rules.{unmet_apart, contains_here, drop_here}
 
 neither : (b c : Bool) → (b || c) ≡ false → (b ≡ false) × (c ≡ false)
-neither b c h1 = grind arith
+neither b c e = grind arith
 
 append_nil : {X : Type 0} (xs : List X) → xs ++ [] ≡ xs
 append_nil [] = refl
@@ -105,4 +105,4 @@ module _ (firsts : List FirstRule) (rules : List Rule) (h : AreFirstRules firsts
 -- past the first rules there are no more numbers
 pub all_past : (firsts : List FirstRule) (rules : List Rule) → AreFirstRules firsts rules → (place : ℕ)
     → length firsts ≤ place → length (numbers_of rules) ≤ place
-all_past firsts rules h1 place h2 = grind (arith, length-map)
+all_past firsts rules h place past = grind (arith, length-map)

@@ -26,11 +26,11 @@ use Rattle.scf_compare.specs.internal.Flow.{flow_at, UsesScratch, IsInside, size
 -- an instruction that isn't a return isn't the last one
 not_last : (insns : List Insn) (place : ℕ) (i : Insn) (operation : Operation) → IsValidList insns
     → Stands insns place i operation → (IsReturn operation → ⊥) → place + 1 < length insns
-not_last insns place i operation h1 h2 h3 = grind (arith, eq-or-lt_of_le, slice_get_within)
+not_last insns place i operation valid stands goes_on = grind (arith, eq-or-lt_of_le, slice_get_within)
 
 fine_at : (insns : List Insn) (place : ℕ) (i : Insn) (operation : Operation) → IsValidList insns
     → Stands insns place i operation → IsFine (length insns) place i operation
-fine_at insns place i operation h1 h2 = grind (arith, fine_of, slice_get_within)
+fine_at insns place i operation valid stands = grind (arith, fine_of, slice_get_within)
 
 pub inside_at : (insns : List Insn) (place : ℕ) (i : Insn) (operation : Operation) → IsValidList insns
     → Stands insns place i operation → IsInside (length insns) (flow_at operation i place)
@@ -51,7 +51,7 @@ load_fits insns place i operation valid stands e =
 
 scratch_is_fine : (len place : ℕ) (i : Insn) (operation : Operation) → IsFine len place i operation
     → UsesScratch operation → i.k < bpf_memwords
-scratch_is_fine len place i operation h1 h2 = grind arith
+scratch_is_fine len place i operation fine uses = grind arith
 
 pub scratch_fits : (insns : List Insn) (place : ℕ) (i : Insn) (operation : Operation) → IsValidList insns
     → Stands insns place i operation → UsesScratch operation → i.k < bpf_memwords
@@ -73,35 +73,35 @@ has_operation insns place i valid here none =
 
 pub next_never_ends : (operation : Operation) (i : Insn) (words : List ℕ) (s : State) (place next n : ℕ)
     → flow_at operation i place ≡ Next next → effect operation i words s ≡ Ends n → ⊥
-next_never_ends operation i words s place next n h1 h2 = grind arith
+next_never_ends operation i words s place next n f e = grind arith
 
 pub edge_next : (insns : List Insn) (place target next : ℕ) (i : Insn) (operation : Operation)
     → Stands insns place i operation → Edge insns place target → flow_at operation i place ≡ Next next → target ≡ next
-edge_next insns place target next i operation h1 h2 h3 = grind arith
+edge_next insns place target next i operation stands edge f = grind arith
 
 pub jumped : (operation : Operation) (i : Insn) (words : List ℕ) (s : State) (place target : ℕ) → s.place ≡ place
     → flow_at operation i place ≡ Jump target → effect operation i words s ≡ Goes (jumps_to s target)
-jumped operation i words s place target h1 h2 = grind arith
+jumped operation i words s place target there f = grind arith
 
 pub branched : (operation : Operation) (i : Insn) (words : List ℕ) (s : State) (place : ℕ) (test : Test)
     (operand : Operand) (if_true if_false : ℕ) → s.place ≡ place
     → flow_at operation i place ≡ Branch test operand if_true if_false
     → effect operation i words s
     ≡ Goes (jumps_to s (if holds test s.a (operand_of operand i s) then if_true else if_false))
-branched operation i words s place test operand if_true if_false h1 h2 = grind arith
+branched operation i words s place test operand if_true if_false there f = grind arith
 
 pub divided : (operation : Operation) (i : Insn) (words : List ℕ) (s : State) (place next : ℕ)
     → flow_at operation i place ≡ DivideByIndex next
     → (next ≡ place + 1) × (effect operation i words s ≡ (if s.x == 0 then Ends 0 else Goes (sets A s (s.a / s.x))))
-divided operation i words s place next h1 = grind arith
+divided operation i words s place next f = grind arith
 
 pub returned_constant : (operation : Operation) (i : Insn) (words : List ℕ) (s : State) (place : ℕ)
     → flow_at operation i place ≡ ReturnConstant → effect operation i words s ≡ Ends i.k
-returned_constant operation i words s place h1 = grind arith
+returned_constant operation i words s place f = grind arith
 
 pub returned_accumulator : (operation : Operation) (i : Insn) (words : List ℕ) (s : State) (place : ℕ)
     → flow_at operation i place ≡ ReturnAccumulator → effect operation i words s ≡ Ends s.a
-returned_accumulator operation i words s place h1 = grind arith
+returned_accumulator operation i words s place f = grind arith
 
 -- ---- sizes
 

@@ -19,11 +19,11 @@ use Rattle.scf_compare.specs.Scope.{IsInScope, RelatedAnswersIn}
 
 pub all_related : (relation : Relation) (filters : List (List Insn)) (p : Profile) (scope : Scope)
     → RelatedAnswersIn Same scope (StackAnswers filters) p → RelatedAnswersIn relation scope (StackAnswers filters) p
-all_related relation filters p scope h1 = grind arith
+all_related relation filters p scope same = grind arith
 
 -- two fates of which each is at most the other are one
 one_fate : (fate other : Fate) → degree_of fate ≤ degree_of other → degree_of other ≤ degree_of fate → fate ≡ other
-one_fate fate other h1 h2 = grind arith
+one_fate fate other most least = grind arith
 
 -- the relation holds of the two answers to a call, of which there are no others
 pub related_here : (relation : Relation) (filters : List (List Insn)) (p : Profile) (call : CallRecord) (filter profile : ℕ)

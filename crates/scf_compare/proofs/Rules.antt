@@ -25,7 +25,7 @@ pub unmet_apart : (call : CallRecord) (r : Rule) → call.nr ≢ r.number → me
 unmet_apart call r apart = ap (λ b. b && all_hold call r.conditions) (ne_eqb call.nr r.number apart)
 
 and_not : (b c : Bool) → c ≡ false → (b && c) ≡ false
-and_not b c h1 = grind arith
+and_not b c e = grind arith
 
 pub unmet_failing : (call : CallRecord) (r : Rule) → all_hold call r.conditions ≡ false → meets r call ≡ false
 unmet_failing call r fails = and_not (eqb call.nr r.number) (all_hold call r.conditions) fails
@@ -88,7 +88,7 @@ unmet_more call rules place r here before unmet =
 pub unmet_all : (call : CallRecord) (rules : List Rule) (place : ℕ) → length rules ≤ place
     → All (λ earlier. meets earlier call ≡ false) (take place rules) → (r : Rule) → Contains rules r
     → meets r call ≡ false
-unmet_all call rules place h1 h2 r h3 = grind (arith, take_all)
+unmet_all call rules place past unmet r in_rules = grind (arith, take_all)
 
 -- a call whose number no rule has meets none
 pub unmet_numbers : (call : CallRecord) (rules : List Rule) (place : ℕ) → length (numbers_of rules) ≤ place
@@ -112,11 +112,11 @@ apart_more nr numbers place number here before apart =
 
 kept : (r : Rule) (rules : List Rule) (number : ℕ) → r.number ≡ number
     → rules_of number (r ∷ rules) ≡ r ∷ rules_of number rules
-kept r rules number h1 = grind arith
+kept r rules number same = grind arith
 
 pub rules_kept : (rules : List Rule) (place number : ℕ) (r : Rule) → slice_get rules place ≡ Some r → r.number ≡ number
     → rules_of number (drop place rules) ≡ r ∷ rules_of number (drop (place + 1) rules)
-rules_kept rules place number r h1 h2 = grind (arith, drop_here, kept)
+rules_kept rules place number r here same = grind (arith, drop_here, kept)
 
 -- ---- what is known at a condition
 
@@ -124,7 +124,7 @@ pub knows : (rules : List Rule) (place index : ℕ) (call : CallRecord) (asked :
     (condition : Condition) → StandsAt rules place index rule condition → IsAtCondition rules place index rule call
     → IsAtPart condition asked (argument call condition.index)
     → KnowsRule rules place index call asked (slice_get rules place)
-knows rules place index call asked rule condition h1 h2 h3 = grind arith
+knows rules place index call asked rule condition stands at_rule at_part = grind arith
 
 -- ---- sizes
 
@@ -132,7 +132,7 @@ pub conditions_more : (conditions : List Condition) (index : ℕ) (c : Condition
     → slice_get conditions index ≡ Some c
     → conditions_size (drop index conditions) fails
     ≡ 3 + 2 * conditions_size (drop (index + 1) conditions) fails + 2 * fails
-conditions_more conditions index c fails h1 = grind (arith, drop_here)
+conditions_more conditions index c fails here = grind (arith, drop_here)
 
 pub conditions_count : (conditions : List Condition) (fails : ℕ) → 1 ≤ conditions_size conditions fails
 conditions_count [] fails = omega arith
@@ -142,7 +142,7 @@ pub size_at_condition : (rules : List Rule) (place index : ℕ) (rule : Rule) (c
     → slice_get rules place ≡ Some rule → slice_get rule.conditions index ≡ Some c
     → condition_size rules place index High (slice_get rules place)
     ≤ conditions_size (drop index rule.conditions) (size_behind rules place rule)
-size_at_condition rules place index rule c h1 h2 = grind (arith, conditions_more)
+size_at_condition rules place index rule c here first = grind (arith, conditions_more)
 
 -- ---- what the code reads
 
@@ -159,4 +159,4 @@ none_of [] e = refl
 none_of (x ∷ xs) e = absurd (omega arith)
 
 pub some_of : (n : ℕ) (b : Bool) → b ≡ eqb n 0 → b ≡ false → 0 < n
-some_of n b h1 h2 = grind arith
+some_of n b e f = grind arith

@@ -16,7 +16,7 @@ added a b x y e f = omega arith
 
 pub multiplied : (a b x y : ℕ) → 0 < x → 0 < y → a ≡ saturated x → b ≡ saturated y
     → saturated (a * b) ≡ saturated (x * y)
-multiplied a b x y h1 h2 h3 h4 = grind arith
+multiplied a b x y some_x some_y e f = grind arith
 
 sum_of_one : (f : ℕ → ℕ) (has : Bool) (number : ℕ) → sum_by f (cond has [] (number ∷ [])) ≡ cond has 0 (f number)
 sum_of_one f has number = grind arith

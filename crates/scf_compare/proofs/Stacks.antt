@@ -24,7 +24,7 @@ here filters place inside = slice_get-get_or filters place [] inside
 -- the filter that stands at a place
 pub filter_is : (filters : List (List Insn)) (place : ℕ) (filter : List Insn) → slice_get filters place ≡ Some filter
     → filter ≡ filter_at filters place
-filter_is filters place filter h1 = grind (arith, here, slice_get_within)
+filter_is filters place filter found = grind (arith, here, slice_get_within)
 
 -- an end of one of the filters is an end of the stack
 pub is_stack_end : (filters : List (List Insn)) (place : ℕ) (end : FilterEnd) → place < length filters
@@ -47,19 +47,19 @@ paths_from filters place inside =
 
 pub plain_at : (filters : List (List Insn)) (place : ℕ) → All IsPlainProgram filters → place < length filters
     → IsPlainProgram (filter_at filters place)
-plain_at filters place h1 h2 = grind arith
+plain_at filters place plain inside = grind arith
 
 -- the first filter decides alone
 pub first_decides : (filters : List (List Insn)) (place : ℕ) (words : List ℕ) (answer : Option Answer)
     → place < length filters → place ≡ 0 → IfSome answer (λ a. RunAnswers (filter_at filters place) words a.0)
     → IfSome answer (λ a. StackAnswers (take (place + 1) filters) words a.0)
-first_decides filters place words answer h1 h2 h3 = grind (arith, one_answers)
+first_decides filters place words answer inside first run = grind (arith, one_answers)
 
 chosen : (a b : ℤ) (test : Bool) (x y : ℕ) → int_lt a b ≡ test → a <ℤ b → cond test x y ≡ x
-chosen a b test x y h1 h2 = grind arith
+chosen a b test x y e less = grind arith
 
 other : (a b : ℤ) (test : Bool) (x y : ℕ) → int_lt a b ≡ test → b ≤ℤ a → cond test x y ≡ y
-other a b test x y h1 h2 = grind arith
+other a b test x y e most = grind arith
 
 -- the older answer decides where it has the lesser rank, and else the newer one
 pub lesser_wins : (older newest : ℕ) → rank_of older <ℤ rank_of newest → with_newest older newest ≡ older

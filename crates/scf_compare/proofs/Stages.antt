@@ -92,7 +92,7 @@ module _ {F K N : Type 0} (store : Store F) (compared : Compared) (tree : K → 
       → (here.is_plain from → StaysPlain there KnowsBoth turn)
       → LeadsTo store compared tree old new there turn next
       → (found : Option ℕ) → GoesOver store compared tree old new here from there found next
-  led here from there turn next h1 h2 h3 h4 found = grind arith
+  led here from there turn next leads costs plain to found = grind arith
 
   -- where all was seen at an end, and the newest branch was taken
   pub ended : (here : Tree N) (from : N) (there : Tree N) (found : Option ℕ) (next : N)

@@ -69,15 +69,15 @@ module _ (insns : List Insn) (words : List ℕ) (place : ℕ) (i : Insn) (operat
 pub turn_costs : (tree : Tree FilterNode) (decision : Decision) (if_true if_false : FilterNode)
     (turn : Turn FilterNode FilterEnd) (n : ℕ) → IsTurnOf decision if_true if_false turn
     → tree.size if_true + tree.size if_false + 1 ≤ n → Costs tree turn n
-turn_costs tree decision if_true if_false turn n h1 h2 = grind arith
+turn_costs tree decision if_true if_false turn n e h = grind arith
 
 pub turn_leads : (tree : Tree FilterNode) (tells : FilterEnd → List ℕ → Type 0) (words : List ℕ) (decision : Decision)
     (if_true if_false : FilterNode) (turn : Turn FilterNode FilterEnd) (test : Bool)
     → IsTurnOf decision if_true if_false turn → Decides decision words test → (test ≡ true → tree.reaches if_true words)
     → (test ≡ false → tree.reaches if_false words) → GoesOn tree tells turn words
-turn_leads tree tells words decision if_true if_false turn test h1 h2 h3 h4 = grind arith
+turn_leads tree tells words decision if_true if_false turn test e d ht hf = grind arith
 
 pub turn_plain : (tree : Tree FilterNode) (tells_all : FilterEnd → Type 0) (decision : Decision)
     (if_true if_false : FilterNode) (turn : Turn FilterNode FilterEnd) → IsTurnOf decision if_true if_false turn
     → IsPlainDecision decision → tree.is_plain if_true → tree.is_plain if_false → StaysPlain tree tells_all turn
-turn_plain tree tells_all decision if_true if_false turn h1 h2 h3 h4 = grind arith
+turn_plain tree tells_all decision if_true if_false turn e d ht hf = grind arith

@@ -9,22 +9,22 @@ use Rattle.scf_compare.proofs.explore.explore.Goals as goal
 -- what was seen stays so
 still_seen : (compared : Compared) (old new : Option ℕ) (words : List ℕ) → (IsSome old → new ≡ old)
     → WereSeen compared old words → WereSeen compared new words
-still_seen compared old new words h1 h2 = grind arith
+still_seen compared old new words first seen = grind arith
 
 holds_of_all : (compared : Compared) (steps : ℕ) (left_open : Option ℕ) → IfSome left_open compared.is_place
     → ((words : List ℕ) → compared.in_scope words → WereSeen compared left_open words)
     → IsTrueVerdict compared (verdict_of_all steps left_open)
-holds_of_all compared steps left_open h1 h2 = grind arith
+holds_of_all compared steps left_open place seen = grind arith
 
 seen_of_all : (compared : Compared) (steps : ℕ) (left_open : Option ℕ)
     → ((words : List ℕ) → compared.in_scope words → WereSeen compared left_open words)
     → WereAllSeen compared (verdict_of_all steps left_open)
-seen_of_all compared steps left_open h1 = grind arith
+seen_of_all compared steps left_open seen = grind arith
 
 decided_of_all : (compared : Compared) (steps limit effort : ℕ) (left_open : Option ℕ) → left_open ≡ None
     → ((words : List ℕ) → compared.in_scope words → WereSeen compared left_open words)
     → IsDecided (AllRelated compared) limit effort (verdict_of_all steps left_open)
-decided_of_all compared steps limit effort left_open h1 h2 = grind arith
+decided_of_all compared steps limit effort left_open none seen = grind arith
 
 pub returns-in-AllSeen-clause-holds : goal.returns-in-AllSeen-clause-holds
 returns-in-AllSeen-clause-holds g c =

@@ -70,7 +70,7 @@ returns-in-Jump-clause-costs c =
     omega arith
 
 either_way : (b : Bool) (m n : ℕ) → m ≡ n → (if b then m else n) ≡ m
-either_way b m n h1 = grind arith
+either_way b m n same = grind arith
 
 pub returns-then-if_true-if_false-clause-leads : goal.returns-then-if_true-if_false-clause-leads
 returns-then-if_true-if_false-clause-leads c =

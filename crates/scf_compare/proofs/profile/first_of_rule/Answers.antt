@@ -27,7 +27,7 @@ no_condition = record { index = 0; op = Equal; value = 0; value_two = 0 }
 first_stands : (rules : List Rule) (place : ℕ) (a : Rule) (conditions : List Condition) → place < length rules
     → a ≡ get_or rules place a → conditions ≡ a.conditions → 0 < length conditions
     → StandsAt rules place 0 a (slice_index_or a.conditions 0 no_condition)
-first_stands rules place a conditions h1 h2 h3 h4 = grind (arith, no_condition, read_here, slice_get-get_or)
+first_stands rules place a conditions inside is same some = grind (arith, no_condition, read_here, slice_get-get_or)
 
 pub returns-else-is_empty-clause-node : goal.returns-else-is_empty-clause-node
 returns-else-is_empty-clause-node c =

@@ -24,13 +24,13 @@ none = record { index = 0; op = Equal; value = 0; value_two = 0 }
 rule_read : (rules : List Rule) (place index : ℕ) (a : Rule)
     → ((rule : Rule) × (condition : Condition) × StandsAt rules place index rule condition) → a ≡ get_or rules place a
     → (condition : Condition) × StandsAt rules place index a condition
-rule_read rules place index a h1 h2 = grind (arith, read_here, same_here, slice_get_within)
+rule_read rules place index a node is = grind (arith, read_here, same_here, slice_get_within)
 
 -- the condition behind the one that was read, where that isn't the last
 next_stands : (rules : List Rule) (place index count : ℕ) (a : Rule)
     → (condition : Condition) × StandsAt rules place index a condition → count ≡ length a.conditions
     → index + 1 ≢ count → StandsAt rules place (index + 1) a (slice_index_or a.conditions (index + 1) none)
-next_stands rules place index count a h1 h2 h3 = grind (arith, none, slice_get-get_or, slice_get_within)
+next_stands rules place index count a read counts apart = grind (arith, none, slice_get-get_or, slice_get_within)
 
 pub overflow_add-index : goal.overflow_add-index
 overflow_add-index c =

@@ -18,7 +18,7 @@ learned : {F : Type 0} (store : Store F) (old new : F) (atom : Atom) (holds : Bo
     → store.allows new (store.level old) words
     ↔ (store.allows old (store.level old) words × (atom_answer atom words ≡ holds)))
     → (words : List ℕ) → store.allows new 0 words ↔ (AreWordsOfX86_64 words × (atom_answer atom words ≡ holds))
-learned store old new atom holds h1 h2 h3 words = grind arith
+learned store old new atom holds none first law words = grind arith
 
 are_native : (words : List ℕ)
     → (AreWordsOfX86_64 words × (atom_answer (Ge 0 x32_syscall_bit) words ≡ false)) ↔ AreWordsOf Native words

@@ -27,7 +27,7 @@ returns-in-Go-clause-costs c = grind (arith, common_steps, paths_count, scaled_c
 whole_costs : (filters : List (List Insn)) (place a b n whole : ℕ) → a + b + 1 ≤ n
     → n * stack_paths (drop (place + 1) filters) ≤ whole
     → a * stack_paths (drop (place + 1) filters) + b * stack_paths (drop (place + 1) filters) + 1 ≤ whole
-whole_costs filters place a b n whole h1 h2 = grind (arith, paths_count, scaled_costs)
+whole_costs filters place a b n whole costs most = grind (arith, paths_count, scaled_costs)
 
 pub returns-in-Ask-clause-costs : goal.returns-in-Ask-clause-costs
 returns-in-Ask-clause-costs c =
