@@ -1,10 +1,11 @@
 -- What was known at a level, as more is learned and marks are opened and closed.
 use Rattle.std.proofs.Common.{◌≡◌, ◌^◌, ℕ, ◌≤◌, ◌<◌, ◌↔◌, List, [], ◌∷◌, ◌++◌, length, take, drop, refl, sym, ◌∙◌, ap}
 use Rattle.std.proofs.Common.{subst, arith, length-append, ◌-◌, suc}
-use Rattle.std.specs.Prelude.{Bool, IsTrue, Some, slice_get, slice_set, slice_index, slice_index_or}
+use Rattle.std.specs.Prelude.{Bool, IsTrue, Some, slice_set, slice_index, slice_index_or}
 use Rattle.std.specs.Prelude.{◌==◌}
 use Rattle.std.specs.List.{list_all}
 use Rattle.std.proofs.lemmas.List.{set-set, set-get_or, get_or-set_same, get_or_default, drop-append-le}
+use Rattle.std.proofs.lemmas.Bool.{and_parts, and_from}
 use Rattle.std.proofs.lemmas.List.{length-take-le, take-append-drop}
 use Rattle.std.proofs.lemmas.List.Elements.{All-push, All-pop}
 use Rattle.std.proofs.Math.Seq.{drop-cons, drop-length, take-append_seam}
@@ -22,7 +23,7 @@ use Rattle.scf_facts.specs.internal.Trail.{HasIntervals, KeepsIntervals}
 use Rattle.scf_facts.specs.internal.WordSets.{NumberFacts, AllowsNumber, AllowsWords, is_exact_set, no_facts}
 use Rattle.scf_facts.specs.internal.WordSets.{AllFacts, AllowsList, is_exact_known, known_of}
 use Rattle.scf_facts.specs.internal.AtomPairs.{NotBothTrue}
-use Rattle.scf_facts.proofs.StoreLaws.{allows_set, list_all-get, list_all-set, both_true, and_true}
+use Rattle.scf_facts.proofs.StoreLaws.{allows_set, exact_set}
 use Rattle.scf_facts.proofs.CountLaws.{count-now, count-marked, count-opened, count-closed, count-within, count-newest}
 use Rattle.scf_facts.proofs.CountLaws.{rising-closed}
 
@@ -69,24 +70,24 @@ pub known-past : (known : AllFacts) (trail : List Change) (marks : List ℕ) (le
 known-past known trail marks level past = ap (λ n. restored known (drop n trail))
     (count-now marks (length trail) level past) ∙ ap (restored known) (drop-length trail)
 
-pub known-now : (known : AllFacts) (trail : List Change) (marks : List ℕ)
+pub known_now : (known : AllFacts) (trail : List Change) (marks : List ℕ)
     → known_at known trail marks (length marks) ≡ known
-known-now known trail marks = known-past known trail marks (length marks) (omega arith)
+known_now known trail marks = known-past known trail marks (length marks) (omega arith)
 
 -- so what is said of the facts holds of those at the level past the last mark
 pub said-now : (P : AllFacts → Type 0) (known : AllFacts) (trail : List Change) (marks : List ℕ)
     → P known → P (known_at known trail marks (length marks))
-said-now P known trail marks h = subst P (sym (known-now known trail marks)) h
+said-now P known trail marks h = subst P (sym (known_now known trail marks)) h
 
 -- what is learned of a word is known now, whatever is put on the trail
 pub allows-learned : (sets : List NumberFacts) (pairs : List AtomPair) (trail more : List Change) (marks : List ℕ)
     (word : ℕ) (old new : NumberFacts) (atom : Atom) (holds : Bool)
-    → word ≡ word_of atom → slice_get sets word ≡ Some old
+    → word ≡ word_of atom → word < length sets → old ≡ slice_index_or sets word old
     → ((x : ℕ) → x < 2 ^ 32 → AllowsNumber new x ↔ (AllowsNumber old x × (answer_at atom x ≡ holds)))
     → (words : List ℕ)
     → AllowsList (known_at (known_of (slice_set sets word new) pairs) more marks (length marks)) words
     ↔ (AllowsList (known_at (known_of sets pairs) trail marks (length marks)) words × (atom_answer atom words ≡ holds))
-allows-learned sets pairs trail more marks word old new atom holds asked at learned words =
+allows-learned sets pairs trail more marks word old new atom holds asked within at learned words =
     let after = known_of (slice_set sets word new) pairs in
     let answered = atom_answer atom words ≡ holds in
     said-now (λ known. AllowsList known words
@@ -97,20 +98,18 @@ allows-learned sets pairs trail more marks word old new atom holds asked at lear
     same : AllowsWords (slice_set sets word new) words ↔ (AllowsWords sets words × (atom_answer atom words ≡ holds))
     same = subst (λ k. AllowsWords (slice_set sets word new) words
         ↔ (AllowsWords sets words × (answer_at atom (slice_index words k) ≡ holds))) asked
-        (allows_set sets word old new (λ x. answer_at atom x ≡ holds) at learned words)
+        (allows_set sets word old within at new (λ x. answer_at atom x ≡ holds) learned words)
 
 pub exact-learned : (sets : List NumberFacts) (pairs : List AtomPair) (trail more : List Change) (marks : List ℕ)
     (word : ℕ) (old new : NumberFacts)
-    → slice_get sets word ≡ Some old → (IsTrue (is_exact_set old) → IsTrue (is_exact_set new))
+    → word < length sets → old ≡ slice_index_or sets word old → (IsTrue (is_exact_set old) → IsTrue (is_exact_set new))
     → IsTrue (is_exact_known (known_at (known_of sets pairs) trail marks (length marks)))
     → IsTrue (is_exact_known (known_at (known_of (slice_set sets word new) pairs) more marks (length marks)))
-exact-learned sets pairs trail more marks word old new at exact all =
-    let before = subst (λ known. IsTrue (is_exact_known known)) (known-now (known_of sets pairs) trail marks) all in
-    let parts = both_true (list_all is_exact_set sets) (length pairs == 0) before in
+exact-learned sets pairs trail more marks word old new within at exact all =
+    let before = subst (λ known. IsTrue (is_exact_known known)) (known_now (known_of sets pairs) trail marks) all in
+    let parts = and_parts (list_all is_exact_set sets) (length pairs == 0) before in
     said-now (λ known. IsTrue (is_exact_known known)) (known_of (slice_set sets word new) pairs) more marks
-    (and_true (list_all is_exact_set (slice_set sets word new)) (length pairs == 0)
-    (list_all-set is_exact_set sets word new parts.0 (exact (list_all-get is_exact_set sets word old parts.0 at)))
-    parts.1)
+    (and_from _ (length pairs == 0) (exact_set sets word old within at new exact parts.0) parts.1)
 
 -- a pair that is learned is known now
 pub allows-refuted : (sets : List NumberFacts) (pairs more_pairs : List AtomPair) (pair : AtomPair)

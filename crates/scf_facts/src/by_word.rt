@@ -16,14 +16,10 @@ pub(crate) fn tell_by_word(sets: &[WordSet], atom: Atom) -> Tell
         → (words : List ℕ) → AllowsWords sets.now words → atom_answer atom words ≡ true }
     ensures never { result ≡ Tell.Never
         → (words : List ℕ) → AllowsWords sets.now words → atom_answer atom words ≡ false }
-    ensures told_always { IsTrue (list_all is_exact_set sets.now)
-        → (some : List ℕ) → AllowsWords sets.now some
-        → ((words : List ℕ) → AllowsWords sets.now words → atom_answer atom words ≡ true)
-        → result ≡ Tell.Always }
-    ensures told_never { IsTrue (list_all is_exact_set sets.now)
-        → (some : List ℕ) → AllowsWords sets.now some
-        → ((words : List ℕ) → AllowsWords sets.now words → atom_answer atom words ≡ false)
-        → result ≡ Tell.Never }
+    ensures both { result ≡ Tell.Maybe
+        → IsTrue (list_all is_exact_set sets.now) → (some : List ℕ) → AllowsWords sets.now some
+        → ((words : List ℕ) × AllowsWords sets.now words × (atom_answer atom words ≡ true))
+        × ((words : List ℕ) × AllowsWords sets.now words × (atom_answer atom words ≡ false)) }
 {
     sets[atom.word() as usize].tell(atom)
 }

@@ -7,8 +7,8 @@ ghost use Rattle.scf_facts.specs.internal.WordSets.{AllowsList, is_exact_known, 
 
 use crate::atom::{Atom, Tell};
 use crate::atom_pair::AtomPair;
-use crate::by_pair::{all_agree, has_told_pair, part_pairs, tell_by_pairs};
-use crate::by_word::{has_empty_word, pick_by_word, tell_by_word};
+use crate::by_pair::{all_agree, is_known_empty, part_pairs, tell_known};
+use crate::by_word::pick_by_word;
 use crate::trail::{Change, WordChange};
 use crate::undo::{is_kept, take_back};
 use crate::word_facts::WordFacts;
@@ -111,15 +111,14 @@ impl WordFacts for WordSets {
         self.marks.len()
     }
 
+    #[tactic(auto, using(crate::proofs::TrailLaws::known_now))]
     fn tell(&self, atom: Atom) -> Tell {
-        match tell_by_word(&self.sets, atom) {
-            Tell::Maybe => tell_by_pairs(&self.sets, &self.pairs, atom),
-            told => told,
-        }
+        tell_known(&self.sets, &self.pairs, atom)
     }
 
+    #[tactic(auto, using(crate::proofs::TrailLaws::known_now))]
     fn is_empty(&self) -> bool {
-        has_empty_word(&self.sets) || has_told_pair(&self.sets, &self.pairs)
+        is_known_empty(&self.sets, &self.pairs)
     }
 
     fn pick(&self) -> Option<[u32; 16]> {

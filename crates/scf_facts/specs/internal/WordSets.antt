@@ -1,5 +1,5 @@
 -- What is known of each word and of pairs of atoms, and which lists of words that allows.
-use Rattle.std.specs.Prelude.{◌≡◌, ◌==◌, ◌&&◌, ◌<◌, ◌^◌, ℕ, List, [], Bool, All, Some, length, slice_get, slice_index}
+use Rattle.std.specs.Prelude.{◌==◌, ◌&&◌, ◌<◌, ◌^◌, ℕ, List, [], Bool, All, length, slice_index, slice_index_or}
 use Rattle.std.specs.List.{list_all}
 use Rattle.scf_insn.specs.Words.{IsWords}
 use Rattle.scf_facts.specs.declared.atom_pair.AtomPair.{AtomPair}
@@ -40,8 +40,8 @@ is_exact_set facts = length facts.refuted == 0
 -- the lists of words that are allowed, where each word has its facts
 pub record AllowsWords (sets : List NumberFacts) (words : List ℕ) : Type 0 where
   pub sixteen : IsWords words
-  pub each : (place : ℕ) (facts : NumberFacts)
-      → slice_get sets place ≡ Some facts → AllowsNumber facts (slice_index words place)
+  pub each : (place : ℕ) (default : NumberFacts) → place < length sets
+      → AllowsNumber (slice_index_or sets place default) (slice_index words place)
 
 -- what is known: the facts of each word, and pairs of atoms that aren't both true
 pub record AllFacts : Type 0 where

@@ -1,5 +1,5 @@
-use Rattle.std.proofs.Common.{◌≡◌, ◌<◌, ◌^◌, ℕ, length}
-use Rattle.std.specs.Prelude.{slice_get, slice_index, Some, All}
+use Rattle.std.proofs.Common.{◌≡◌, ◌<◌, ◌^◌, ℕ, length, get_or}
+use Rattle.std.specs.Prelude.{slice_index, All}
 use Rattle.scf_facts.specs.internal.WordSets.{NumberFacts, AllowsNumber}
 use Rattle.scf_facts.proofs.by_word.pick_by_word.Given as goal
 
@@ -8,6 +8,6 @@ abbrev pub invariant-loop-place : goal.invariant-loop-place
 invariant-loop-place l = record {
   count : length l.words ≡ 16;
   fits : All (λ word. word < 2 ^ 32) l.words;
-  each : (k : ℕ) (facts : NumberFacts)
-      → k < l.place → slice_get l.sets k ≡ Some facts → AllowsNumber facts (slice_index l.words k);
+  each : (k : ℕ) (default : NumberFacts)
+      → k < l.place → AllowsNumber (get_or l.sets k default) (slice_index l.words k);
 }

@@ -1,34 +1,28 @@
-use Rattle.std.proofs.Common.{◌≡◌, ◌<◌, arith, length, refl, subst, sym}
+use Rattle.std.proofs.Common.{◌≡◌, ◌<◌, arith, length, subst}
 use Rattle.std.specs.Prelude.{slice_index, true, false}
-use Rattle.std.proofs.lemmas.Option.{slice_get_read}
 use Rattle.scf_facts.specs.Atoms.{answer_at}
-use Rattle.scf_facts.specs.internal.WordSets.{is_exact_set}
-use Rattle.scf_facts.proofs.StoreLaws.{word_fits, list_all-get, always_told, never_told, each_of_all}
+use Rattle.scf_facts.proofs.StoreLaws.{each_word, exact_word, other_answer}
 use Rattle.scf_facts.proofs.by_word.tell_by_word.Goals as goal
 
 pub returns : goal.returns
 returns c =
     let sets = c.args.sets.now in
+    let atom = c.args.atom in
     let word = c.word.result in
-    let within : word < length sets = omega (arith, c.word.ensures, c.requires.word, c.requires.sixteen) in
-    let below : word < 16 = omega (arith, within, c.requires.sixteen) in
+    let asked = c.word.ensures in
+    let within : word < length sets = omega (arith, asked, c.requires.word, c.requires.sixteen) in
+    let below : word < 16 = omega (arith, asked, c.requires.word) in
     let s = c.index-sets-word.result in
-    let at = slice_get_read sets (length sets) word s refl within c.index-sets-word.is in
-    let f = answer_at c.args.atom in
+    let read = c.index-sets-word.is in
     let tells = c.tell.ensures in
     record {
-      always = λ told words h. subst (λ k. f (slice_index words k) ≡ true) c.word.ensures
-          (tells.always told (slice_index words word) (word_fits words word h.sixteen) (h.each word s at));
-      never = λ told words h. subst (λ k. f (slice_index words k) ≡ false) c.word.ensures
-          (tells.never told (slice_index words word) (word_fits words word h.sixteen) (h.each word s at));
-      told_always = λ exact some h agree. always_told s f (slice_index some word) (word_fits some word h.sixteen)
-          (h.each word s at) c.tell.result tells.never
-          (λ maybe. tells.both maybe (list_all-get is_exact_set sets word s exact at))
-          (each_of_all sets word s at below f true some h
-          (λ words allowed. subst (λ k. f (slice_index words k) ≡ true) (sym c.word.ensures) (agree words allowed)));
-      told_never = λ exact some h agree. never_told s f (slice_index some word) (word_fits some word h.sixteen)
-          (h.each word s at) c.tell.result tells.always
-          (λ maybe. tells.both maybe (list_all-get is_exact_set sets word s exact at))
-          (each_of_all sets word s at below f false some h
-          (λ words allowed. subst (λ k. f (slice_index words k) ≡ false) (sym c.word.ensures) (agree words allowed)));
+      always = λ told words h. subst (λ k. answer_at atom (slice_index words k) ≡ true) asked
+          (each_word sets word s within read (λ x. answer_at atom x ≡ true) (tells.always told) words h);
+      never = λ told words h. subst (λ k. answer_at atom (slice_index words k) ≡ false) asked
+          (each_word sets word s within read (λ x. answer_at atom x ≡ false) (tells.never told) words h);
+      both = λ maybe exact some h.
+          let some_of = tells.both maybe (exact_word sets word s within read exact) in (
+            other_answer sets word s within read atom true asked below some h some_of.0,
+            other_answer sets word s within read atom false asked below some h some_of.1,
+          );
     }

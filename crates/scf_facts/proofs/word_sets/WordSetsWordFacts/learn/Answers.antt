@@ -1,8 +1,7 @@
-use Rattle.std.proofs.Common.{◌≡◌, ◌<◌, ◌≤◌, ◌-◌, List, arith, length, ap, sym, ◌∙◌, refl, subst}
+use Rattle.std.proofs.Common.{◌≡◌, ◌<◌, ◌≤◌, ◌-◌, List, arith, length, ap, sym, ◌∙◌, subst}
 use Rattle.scf_facts.specs.declared.trail.Change.{Change}
 use Rattle.scf_facts.specs.internal.Trail.{KeepsIntervals}
 use Rattle.std.specs.Prelude.{slice_index_or}
-use Rattle.std.proofs.lemmas.Option.{slice_get_read}
 use Rattle.scf_facts.proofs.CountLaws.{rising-more}
 use Rattle.scf_facts.proofs.TrailLaws.{at-learned, at-kept, allows-learned, exact-learned}
 use Rattle.scf_facts.proofs.word_sets.WordSetsWordFacts.learn.Goals as goal
@@ -30,9 +29,9 @@ returns-clause-law_learn c =
     let sets = facts.sets.items in
     let word = c.word-word.result in
     let within : word < length sets = omega (arith, c.word-word.ensures, c.requires.word, facts.sixteen) in
-    let at = slice_get_read sets (length sets) word c.index_mut-2.result.now refl within c.index_mut-2.ensures.value in
+    let at = c.index_mut-2.ensures.value in
     allows-learned sets facts.pairs.items facts.trail.items c.push.new.self.items facts.marks.items word
-    c.index_mut-2.result.now c.learn-2.new.self c.args.atom c.args.holds c.word-word.ensures at
+    c.index_mut-2.result.now c.learn-2.new.self c.args.atom c.args.holds c.word-word.ensures within at
     c.in_ok-former.ensures.learned
 
 pub returns-clause-exact : goal.returns-clause-exact
@@ -41,9 +40,9 @@ returns-clause-exact c =
     let sets = facts.sets.items in
     let word = c.word-word.result in
     let within : word < length sets = omega (arith, c.word-word.ensures, c.requires.word, facts.sixteen) in
-    let at = slice_get_read sets (length sets) word c.index_mut-2.result.now refl within c.index_mut-2.ensures.value in
+    let at = c.index_mut-2.ensures.value in
     λ keeps. exact-learned sets facts.pairs.items facts.trail.items c.push.new.self.items
-    facts.marks.items word c.index_mut-2.result.now c.learn-2.new.self at (c.in_ok-former.ensures.exact keeps)
+    facts.marks.items word c.index_mut-2.result.now c.learn-2.new.self within at (c.in_ok-former.ensures.exact keeps)
 
 pub returns-then-is_empty-clause-law_learn : goal.returns-then-is_empty-clause-law_learn
 returns-then-is_empty-clause-law_learn c =
@@ -51,9 +50,9 @@ returns-then-is_empty-clause-law_learn c =
     let sets = facts.sets.items in
     let word = c.word-word.result in
     let within : word < length sets = omega (arith, c.word-word.ensures, c.requires.word, facts.sixteen) in
-    let at = slice_get_read sets (length sets) word c.index_mut.result.now refl within c.index_mut.ensures.value in
+    let at = c.index_mut.ensures.value in
     allows-learned sets facts.pairs.items facts.trail.items facts.trail.items facts.marks.items word
-    c.index_mut.result.now c.learn.new.self c.args.atom c.args.holds c.word-word.ensures at
+    c.index_mut.result.now c.learn.new.self c.args.atom c.args.holds c.word-word.ensures within at
     c.in_ok-learn.ensures.learned
 
 pub returns-then-is_empty-clause-exact : goal.returns-then-is_empty-clause-exact
@@ -62,9 +61,9 @@ returns-then-is_empty-clause-exact c =
     let sets = facts.sets.items in
     let word = c.word-word.result in
     let within : word < length sets = omega (arith, c.word-word.ensures, c.requires.word, facts.sixteen) in
-    let at = slice_get_read sets (length sets) word c.index_mut.result.now refl within c.index_mut.ensures.value in
+    let at = c.index_mut.ensures.value in
     λ keeps. exact-learned sets facts.pairs.items facts.trail.items facts.trail.items
-    facts.marks.items word c.index_mut.result.now c.learn.new.self at (c.in_ok-learn.ensures.exact keeps)
+    facts.marks.items word c.index_mut.result.now c.learn.new.self within at (c.in_ok-learn.ensures.exact keeps)
 
 pub returns-then-is_kept-clause-at_marks : goal.returns-then-is_kept-clause-at_marks
 returns-then-is_kept-clause-at_marks c =
@@ -89,9 +88,9 @@ returns-then-is_kept-clause-law_learn c =
     let sets = facts.sets.items in
     let word = c.word-word.result in
     let within : word < length sets = omega (arith, c.word-word.ensures, c.requires.word, facts.sixteen) in
-    let at = slice_get_read sets (length sets) word c.index_mut-2.result.now refl within c.index_mut-2.ensures.value in
+    let at = c.index_mut-2.ensures.value in
     allows-learned sets facts.pairs.items facts.trail.items c.reserve.new.self.items facts.marks.items word
-    c.index_mut-2.result.now c.learn-2.new.self c.args.atom c.args.holds c.word-word.ensures at
+    c.index_mut-2.result.now c.learn-2.new.self c.args.atom c.args.holds c.word-word.ensures within at
     c.in_ok-former.ensures.learned
 
 pub returns-then-is_kept-clause-exact : goal.returns-then-is_kept-clause-exact
@@ -100,6 +99,6 @@ returns-then-is_kept-clause-exact c =
     let sets = facts.sets.items in
     let word = c.word-word.result in
     let within : word < length sets = omega (arith, c.word-word.ensures, c.requires.word, facts.sixteen) in
-    let at = slice_get_read sets (length sets) word c.index_mut-2.result.now refl within c.index_mut-2.ensures.value in
+    let at = c.index_mut-2.ensures.value in
     λ keeps. exact-learned sets facts.pairs.items facts.trail.items c.reserve.new.self.items
-    facts.marks.items word c.index_mut-2.result.now c.learn-2.new.self at (c.in_ok-former.ensures.exact keeps)
+    facts.marks.items word c.index_mut-2.result.now c.learn-2.new.self within at (c.in_ok-former.ensures.exact keeps)

@@ -2,7 +2,7 @@ use Rattle.std.proofs.Common.{◌≡◌, ◌+◌, ◌∷◌, ◌++◌, [], ℕ, 
 use Rattle.scf_facts.specs.internal.Counts.{AreRising}
 use Rattle.scf_facts.specs.internal.WordSets.{known_of}
 use Rattle.scf_facts.proofs.CountLaws.{rising-pushed}
-use Rattle.scf_facts.proofs.TrailLaws.{same-known, known-now, known-past, known-opened}
+use Rattle.scf_facts.proofs.TrailLaws.{same-known, known_now, known-past, known-opened}
 use Rattle.scf_facts.proofs.word_sets.WordSetsWordFacts.mark.Goals as goal
 
 pub invariant_of-self : goal.invariant_of-self
@@ -22,7 +22,7 @@ returns-clause-known c =
     rw c.in_ok-push.ensures.items (same-known _ _ (
     known-past (known_of facts.sets.items facts.pairs.items) facts.trail.items
     (marks ++ c.len-count.result ∷ []) (length marks + 1) (simp length-append (omega arith))
-    ∙ sym (known-now (known_of facts.sets.items facts.pairs.items) facts.trail.items marks)))
+    ∙ sym (known_now (known_of facts.sets.items facts.pairs.items) facts.trail.items marks)))
 
 pub returns-clause-at_marks : goal.returns-clause-at_marks
 returns-clause-at_marks c =
