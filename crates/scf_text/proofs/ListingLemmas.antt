@@ -180,36 +180,21 @@ operands_words : (i : Insn) (shape : Shape) → IsInsn i
     → words_of_part (operands_text i (pieces_of shape)) ≡ flat_map (piece_words i) (pieces_of shape)
 unfolding onto_word
 operands_words i s.Nothing h = words_nil
-operands_words i s.Length h = simp (words_blank, words_more, words_one, words_nil)
-operands_words i s.Accumulator h = simp (words_blank, words_more, words_one, words_nil)
-operands_words i s.Index h = simp (words_blank, words_more, words_one, words_nil)
-operands_words i s.Constant h =
-    simp (words_hexadecimal i.k, h.k, words_blank, words_mark, words_nil)
-operands_words i s.Absolute h =
-    simp (words_decimal i.k, h.k, words_blank, words_mark, words_nil)
-operands_words i s.Scratch h =
-    simp (words_decimal i.k, h.k, words_blank, words_mark, words_one, words_nil)
-operands_words i s.Jump h = simp (words_decimal i.k, h.k, words_blank, words_nil)
-operands_words i s.TestConstant h =
-    let jt = field_small i Jt h in
-    let jf = field_small i Jf h in
-    simp (words_hexadecimal i.k, h.k, words_decimal i.jt, words_decimal i.jf, words_blank, words_mark, words_nil)
-operands_words i s.TestIndex h =
-    let jt = field_small i Jt h in
-    let jf = field_small i Jf h in
-    simp (words_decimal i.jt, words_decimal i.jf, words_blank, words_mark, words_one, words_nil)
-operands_words i s.Raw h =
+operands_words i shape h =
     let code = field_small i Code h in
     let jt = field_small i Jt h in
     let jf = field_small i Jf h in
     simp (
       words_code i.code,
       words_hexadecimal i.k,
+      words_decimal i.k,
       h.k,
       words_decimal i.jt,
       words_decimal i.jf,
       words_blank,
       words_mark,
+      words_one,
+      words_more,
       words_nil,
     )
 
@@ -281,33 +266,15 @@ operands_listed i s.Nothing h = (refl, refl)
 operands_listed i s.Length h = (refl, refl)
 operands_listed i s.Accumulator h = (refl, refl)
 operands_listed i s.Index h = (refl, refl)
-operands_listed i s.Constant h =
-    let hex = number_line i K Hexadecimal h in
-    (simp (list_all-append, hex.0), simp (list_all-append, hex.1))
-operands_listed i s.Absolute h =
-    let k = number_line i K Decimal h in
-    (simp (list_all-append, k.0), simp (list_all-append, k.1))
-operands_listed i s.Scratch h =
-    let k = number_line i K Decimal h in
-    (simp (list_all-append, k.0), simp (list_all-append, k.1))
-operands_listed i s.Jump h =
-    let k = number_line i K Decimal h in
-    (simp (list_all-append, k.0), simp (list_all-append, k.1))
-operands_listed i s.TestConstant h =
-    let hex = number_line i K Hexadecimal h in
-    let jt = number_line i Jt Decimal h in
-    let jf = number_line i Jf Decimal h in
-    (simp (list_all-append, hex.0, jt.0, jf.0), simp (list_all-append, hex.1, jt.1, jf.1))
-operands_listed i s.TestIndex h =
-    let jt = number_line i Jt Decimal h in
-    let jf = number_line i Jf Decimal h in
-    (simp (list_all-append, jt.0, jf.0), simp (list_all-append, jt.1, jf.1))
-operands_listed i s.Raw h =
+operands_listed i shape h =
     let code = number_line i Code FourDigits h in
     let hex = number_line i K Hexadecimal h in
+    let k = number_line i K Decimal h in
     let jt = number_line i Jt Decimal h in
-    let jf = number_line i Jf Decimal h in
-    (simp (list_all-append, code.0, hex.0, jt.0, jf.0), simp (list_all-append, code.1, hex.1, jt.1, jf.1))
+    let jf = number_line i Jf Decimal h in (
+      simp (list_all-append, code.0, hex.0, k.0, jt.0, jf.0),
+      simp (list_all-append, code.1, hex.1, k.1, jt.1, jf.1),
+    )
 
 -- the line of an instruction, without its end, and its tokens
 abbrev pub body : Insn → List ℕ
