@@ -22,7 +22,7 @@ use Rattle.scf_text.specs.Statements.{IsRead, statements_of, labels_of, drafts_o
 use Rattle.scf_text.specs.Spelling.{Says, SaysInsn, SaysEach, AreNew, Spells}
 use Rattle.scf_text.proofs.ReadLemmas.{count_more, labels_more}
 use Rattle.scf_text.specs.Faults.{ascii_fault, label_fault, draft_fault, instruction_fault, statement_fault}
-use Rattle.scf_text.specs.Faults.{statements_fault, fault_in, target_fault, targets_fault, all_targets_fault}
+use Rattle.scf_text.specs.Faults.{statements_fault, target_fault, targets_fault, all_targets_fault}
 use Rattle.scf_text.specs.Faults.{fault_of}
 
 -- choices
@@ -233,7 +233,7 @@ says_each places at (d ∷ ds) (i ∷ is) s fits =
 
 -- a text that spells a list has no fault
 pub no_fault : (text : List ℕ) (is : List Insn) → Spells text is → fault_of text ≡ None
-unfolding fault_of fault_in
+unfolding fault_of
 no_fault text is s =
     let said = says_each (place_of (labels_of text)) 0 (drafts_of text) is s.each s.fields in
     let read = statements_to_none (statements_of text) [] [] 0 refl refl s.distinct s.read said.0
@@ -247,7 +247,7 @@ no_fault text is s =
 -- a text with no fault spells what its instructions say
 pub spelled : (text : List ℕ) (is : List Insn) → fault_of text ≡ None
     → SaysEach (place_of (labels_of text)) 0 (drafts_of text) is → AllByRecursion IsInsn is → Spells text is
-unfolding fault_of fault_in
+unfolding fault_of
 spelled text is none says fits =
     let outer =
     both_none (ascii_fault 1 text)

@@ -16,9 +16,9 @@ use Rattle.scf_text.specs.declared.fault.TextFault.TheVariants as fault
 use Rattle.scf_text.specs.Drafts as drafts
 use Rattle.scf_text.specs.Statements.{Statement, Places, place_of, places_in, statements_of, labels_of, drafts_in, drafts_of}
 use Rattle.scf_text.specs.Spelling.{Spells}
-use Rattle.scf_text.specs.Faults.{ascii_fault, statements_fault, all_targets_fault, fault_in, fault_of, IsFault}
+use Rattle.scf_text.specs.Faults.{ascii_fault, statements_fault, all_targets_fault, fault_of, IsFault}
 use Rattle.scf_text.specs.declared.numbered_draft.NumberedDraft.{NumberedDraft}
-use Rattle.scf_text.specs.internal.Results.{TellsInsns, TellsText}
+use Rattle.scf_text.specs.internal.Results.{TellsInsns, TellsText, fault_in}
 use Rattle.scf_text.specs.internal.Reading.{places_view, drafts_view, IsLeft}
 use Rattle.scf_text.proofs.ReadLemmas.{fault_first, fault_then}
 use Rattle.scf_text.proofs.LawLemmas.{no_fault, spelled}
@@ -69,12 +69,12 @@ text_tells text places ds r left h =
     (rw (named, drafts_read (statements_of text) places ds left) at h)
 
 pub ascii_fails : (e : TextFault) (text : List ℕ) → ascii_fault 1 text ≡ Some e → IsFault e (fault_of text)
-unfolding fault_of
+unfolding fault_of fault_in
 ascii_fails e text h = fault_first e (ascii_fault 1 text) (fault_in text) (is_fault e (ascii_fault 1 text) h)
 
 pub ascii_tells : (text : List ℕ) (r : Result (Vec Insn) TextFault) → ascii_fault 1 text ≡ None
     → TellsText (fault_in text) text r → TellsText (fault_of text) text r
-unfolding fault_of
+unfolding fault_of fault_in
 ascii_tells text (Ok v) none h = (rw none h.0, h.1, h.2)
 ascii_tells text (Err e) none h = fault_then e (ascii_fault 1 text) (fault_in text) none h
 

@@ -1,51 +1,19 @@
 -- The bytes of a text (ASCII).
+use Prim.Native.Char.{code}
 use Rattle.std.specs.Prelude.{ℕ, Bool, ◌==◌, ◌||◌}
 use Rattle.std.specs.Char.{is_ascii_alphabetic, is_ascii_alphanumeric}
 
-abbrev pub tab : ℕ
-tab = 9
-
-abbrev pub line_feed : ℕ
-line_feed = 10
-
-abbrev pub carriage_return : ℕ
-carriage_return = 13
-
-abbrev pub space : ℕ
-space = 32
-
-abbrev pub number_sign : ℕ
-number_sign = 35
-
-abbrev pub comma : ℕ
-comma = 44
-
-abbrev pub slash : ℕ
-slash = 47
-
-abbrev pub colon : ℕ
-colon = 58
-
-abbrev pub semicolon : ℕ
-semicolon = 59
-
-abbrev pub left_bracket : ℕ
-left_bracket = 91
-
-abbrev pub right_bracket : ℕ
-right_bracket = 93
-
-abbrev pub underscore : ℕ
-underscore = 95
+abbrev pub is_line_end : ℕ → Bool
+is_line_end b = b == code "\n"
 
 -- Blanks separate tokens and have no other meaning.
 abbrev pub is_blank : ℕ → Bool
-is_blank b = b == space || b == tab || b == carriage_return
+is_blank b = b == code " " || b == code "\t" || b == code "\r"
 
 -- a letter or `_`
 abbrev pub is_name_start : ℕ → Bool
-is_name_start b = is_ascii_alphabetic b || b == underscore
+is_name_start b = is_ascii_alphabetic b || b == code "_"
 
 -- a letter, a digit or `_`
 abbrev pub is_word_byte : ℕ → Bool
-is_word_byte b = is_ascii_alphanumeric b || b == underscore
+is_word_byte b = is_ascii_alphanumeric b || b == code "_"

@@ -84,12 +84,6 @@ module _ (number : List ℕ → Option ℕ) where
 unfoldable pub draft_of : List ℕ → List (List ℕ) → Option Draft
 draft_of t ts = read_by number_of forms t ts
 
-abbrev pub limit_of : Field → ℕ
-limit_of Code = 2 ^ 16
-limit_of Jt = 2 ^ 8
-limit_of Jf = 2 ^ 8
-limit_of K = 2 ^ 32
-
 abbrev pub is_below : ℕ → Written → Bool
 is_below limit (Number n) = nat_lt n limit
 is_below limit (Label name) = true
@@ -97,5 +91,4 @@ is_below limit (Label name) = true
 -- each number fits its field
 abbrev pub is_in_range : Draft → Bool
 is_in_range d =
-    nat_lt d.code (limit_of Code)
-    && (is_below (limit_of Jt) d.jt && (is_below (limit_of Jf) d.jf && is_below (limit_of K) d.k))
+    nat_lt d.code (2 ^ 16) && (is_below (2 ^ 8) d.jt && (is_below (2 ^ 8) d.jf && is_below (2 ^ 32) d.k))

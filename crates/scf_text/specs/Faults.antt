@@ -1,12 +1,12 @@
 -- The first fault of a text.
-use Rattle.std.specs.Prelude.{◌≡◌, ℕ, ◌+◌, ◌-◌, ◌==◌, ◌||◌, ◌^◌, not, List, [], ◌∷◌, ◌++◌, Option, Some, None, nat_lt}
+use Rattle.std.specs.Prelude.{◌≡◌, ℕ, ◌+◌, ◌-◌, ◌||◌, ◌^◌, not, List, [], ◌∷◌, ◌++◌, Option, Some, None, nat_lt}
 use Rattle.std.specs.Prelude.{nat_le, if◌then◌else◌}
 use Rattle.std.specs.Option.{is_some, option_or}
 use Rattle.std.specs.List.{list_any}
 use Rattle.scf_insn.specs.Kernel.{bpf_maxinsns}
 use Rattle.scf_text.specs.declared.fault.TextFault.{TextFault}
 use Rattle.scf_text.specs.declared.fault.TextFault.TheVariants as fault
-use Rattle.scf_text.specs.Characters.{line_feed}
+use Rattle.scf_text.specs.Characters.{is_line_end}
 use Rattle.scf_text.specs.Forms.{forms}
 use Rattle.scf_text.specs.Drafts.{Written, Number, Label, Draft, draft_of, has_mnemonic, is_in_range}
 use Rattle.scf_text.specs.Statements.{Statement, Places, place_of, places_in, statements_of, labels_of, drafts_of}
@@ -21,7 +21,7 @@ IsFault e first = first ≡ Some e
 abbrev pub ascii_fault : ℕ → List ℕ → Option TextFault
 ascii_fault line [] = None
 ascii_fault line (b ∷ bs) =
-    if nat_lt b 128 then ascii_fault (if b == line_feed then line + 1 else line) bs else Some (fault.NotAscii line)
+    if nat_lt b 128 then ascii_fault (if is_line_end b then line + 1 else line) bs else Some (fault.NotAscii line)
 
 -- the label has a place already
 abbrev pub label_fault : Places → ℕ → Option (List ℕ) → Option TextFault
@@ -73,13 +73,9 @@ all_targets_fault places at [] = None
 all_targets_fault places at (d ∷ ds) =
     option_or (targets_fault places at d.0 d.1) (all_targets_fault places (at + 1) ds)
 
--- of the statements of a text
-unfoldable pub fault_in : List ℕ → Option TextFault
-fault_in text =
-    option_or (statements_fault [] (statements_of text))
-    (all_targets_fault (place_of (labels_of text)) 0 (drafts_of text))
-
 -- The first fault: first of all a byte that isn't ASCII, then the first fault of a statement, then the first wrong
 -- target.
 unfoldable pub fault_of : List ℕ → Option TextFault
-fault_of text = option_or (ascii_fault 1 text) (fault_in text)
+fault_of text =
+    option_or (ascii_fault 1 text) (option_or (statements_fault [] (statements_of text))
+    (all_targets_fault (place_of (labels_of text)) 0 (drafts_of text)))

@@ -1,11 +1,11 @@
 -- The forms of an instruction, for the assembler and the disassembler alike.
+use Prim.Native.Char.{code}
 use Rattle.std.specs.Prelude.{ℕ, ◌==◌, ◌&&◌, ◌||◌, Bool, true, false, List, [], ◌∷◌, Option, None, Some, codes, map}
 use Rattle.std.specs.Prelude.{if◌then◌else◌}
 use Rattle.std.specs.Option.{option_map}
 use Rattle.std.specs.List.{list_any}
 use Rattle.scf_insn.specs.declared.insn.Insn.{Insn}
 use Rattle.scf_insn.specs.Codes.{Row, code_table, operation_of}
-use Rattle.scf_insn.specs.declared.operation.Register.{Register}
 use Rattle.scf_insn.specs.declared.operation.Register.TheVariants.{A, X}
 use Rattle.scf_insn.specs.declared.operation.Operand.TheVariants as operands
 use Rattle.scf_insn.specs.declared.operation.Arithmetic.{Arithmetic}
@@ -17,7 +17,6 @@ use Rattle.scf_insn.specs.declared.operation.Operation.TheVariants.{LoadWord, Lo
 use Rattle.scf_insn.specs.declared.operation.Operation.TheVariants.{StoreScratch, Compute, Negate, Jump, JumpIf}
 use Rattle.scf_insn.specs.declared.operation.Operation.TheVariants.{ReturnConstant, ReturnAccumulator}
 use Rattle.scf_insn.specs.declared.operation.Operation.TheVariants.{CopyToIndex, CopyToAccumulator}
-use Rattle.scf_text.specs.Characters.{number_sign, comma, left_bracket, right_bracket}
 use Rattle.scf_text.specs.declared.form.Mnemonic.{Mnemonic}
 use Rattle.scf_text.specs.declared.form.Mnemonic.TheVariants as m
 use Rattle.scf_text.specs.declared.form.Shape.{Shape}
@@ -57,7 +56,7 @@ mnemonic_text m.Raw = codes "raw"
 
 -- the two targets of a conditional jump
 abbrev pub both_targets : List Piece
-both_targets = Mark comma ∷ Target Jt ∷ Mark comma ∷ Target Jf ∷ []
+both_targets = Mark (code ",") ∷ Target Jt ∷ Mark (code ",") ∷ Target Jf ∷ []
 
 -- what stands after the mnemonic
 abbrev pub pieces_of : Shape → List Piece
@@ -65,15 +64,15 @@ pieces_of s.Nothing = []
 pieces_of s.Length = Len ∷ []
 pieces_of s.Accumulator = Accumulator ∷ []
 pieces_of s.Index = Index ∷ []
-pieces_of s.Constant = Mark number_sign ∷ Number K Hexadecimal ∷ []
-pieces_of s.Absolute = Mark left_bracket ∷ Number K Decimal ∷ Mark right_bracket ∷ []
-pieces_of s.Scratch = Memory ∷ Mark left_bracket ∷ Number K Decimal ∷ Mark right_bracket ∷ []
+pieces_of s.Constant = Mark (code "#") ∷ Number K Hexadecimal ∷ []
+pieces_of s.Absolute = Mark (code "[") ∷ Number K Decimal ∷ Mark (code "]") ∷ []
+pieces_of s.Scratch = Memory ∷ Mark (code "[") ∷ Number K Decimal ∷ Mark (code "]") ∷ []
 pieces_of s.Jump = Target K ∷ []
-pieces_of s.TestConstant = Mark number_sign ∷ Number K Hexadecimal ∷ both_targets
+pieces_of s.TestConstant = Mark (code "#") ∷ Number K Hexadecimal ∷ both_targets
 pieces_of s.TestIndex = Index ∷ both_targets
 pieces_of s.Raw =
-    Number Code FourDigits ∷ Mark comma ∷ Number Jt Decimal ∷ Mark comma ∷ Number Jf Decimal
-    ∷ Mark comma ∷ Number K Hexadecimal ∷ []
+    Number Code FourDigits ∷ Mark (code ",") ∷ Number Jt Decimal ∷ Mark (code ",") ∷ Number Jf Decimal
+    ∷ Mark (code ",") ∷ Number K Hexadecimal ∷ []
 
 abbrev pub mnemonic_of_arithmetic : Arithmetic → Mnemonic
 mnemonic_of_arithmetic o.Add = m.Add
@@ -92,51 +91,32 @@ mnemonic_of_test Greater = m.Jgt
 mnemonic_of_test GreaterOrEqual = m.Jge
 mnemonic_of_test CommonBit = m.Jset
 
-abbrev pub mnemonic_of_load : Register → Mnemonic
-mnemonic_of_load A = m.Ld
-mnemonic_of_load X = m.Ldx
-
-abbrev pub mnemonic_of_store : Register → Mnemonic
-mnemonic_of_store A = m.St
-mnemonic_of_store X = m.Stx
-
--- the word for an operation
-abbrev pub mnemonic_of : Operation → Mnemonic
-mnemonic_of LoadWord = m.Ld
-mnemonic_of (LoadLength r) = mnemonic_of_load r
-mnemonic_of (LoadConstant r) = mnemonic_of_load r
-mnemonic_of (LoadScratch r) = mnemonic_of_load r
-mnemonic_of (StoreScratch r) = mnemonic_of_store r
-mnemonic_of (Compute arithmetic operand) = mnemonic_of_arithmetic arithmetic
-mnemonic_of Negate = m.Neg
-mnemonic_of Jump = m.Ja
-mnemonic_of (JumpIf test operand) = mnemonic_of_test test
-mnemonic_of ReturnConstant = m.Ret
-mnemonic_of ReturnAccumulator = m.Ret
-mnemonic_of CopyToIndex = m.Tax
-mnemonic_of CopyToAccumulator = m.Txa
-
--- what stands behind that word
-abbrev pub shape_of : Operation → Shape
-shape_of LoadWord = s.Absolute
-shape_of (LoadLength r) = s.Length
-shape_of (LoadConstant r) = s.Constant
-shape_of (LoadScratch r) = s.Scratch
-shape_of (StoreScratch r) = s.Scratch
-shape_of (Compute arithmetic operands.Constant) = s.Constant
-shape_of (Compute arithmetic operands.Index) = s.Index
-shape_of Negate = s.Nothing
-shape_of Jump = s.Jump
-shape_of (JumpIf test operands.Constant) = s.TestConstant
-shape_of (JumpIf test operands.Index) = s.TestIndex
-shape_of ReturnConstant = s.Constant
-shape_of ReturnAccumulator = s.Accumulator
-shape_of CopyToIndex = s.Nothing
-shape_of CopyToAccumulator = s.Nothing
+-- the word for an operation, and what stands behind that word
+abbrev pub word_and_shape : Operation → Mnemonic × Shape
+word_and_shape LoadWord = (m.Ld, s.Absolute)
+word_and_shape (LoadLength A) = (m.Ld, s.Length)
+word_and_shape (LoadLength X) = (m.Ldx, s.Length)
+word_and_shape (LoadConstant A) = (m.Ld, s.Constant)
+word_and_shape (LoadConstant X) = (m.Ldx, s.Constant)
+word_and_shape (LoadScratch A) = (m.Ld, s.Scratch)
+word_and_shape (LoadScratch X) = (m.Ldx, s.Scratch)
+word_and_shape (StoreScratch A) = (m.St, s.Scratch)
+word_and_shape (StoreScratch X) = (m.Stx, s.Scratch)
+word_and_shape (Compute arithmetic operands.Constant) = (mnemonic_of_arithmetic arithmetic, s.Constant)
+word_and_shape (Compute arithmetic operands.Index) = (mnemonic_of_arithmetic arithmetic, s.Index)
+word_and_shape Negate = (m.Neg, s.Nothing)
+word_and_shape Jump = (m.Ja, s.Jump)
+word_and_shape (JumpIf test operands.Constant) = (mnemonic_of_test test, s.TestConstant)
+word_and_shape (JumpIf test operands.Index) = (mnemonic_of_test test, s.TestIndex)
+word_and_shape ReturnConstant = (m.Ret, s.Constant)
+word_and_shape ReturnAccumulator = (m.Ret, s.Accumulator)
+word_and_shape CopyToIndex = (m.Tax, s.Nothing)
+word_and_shape CopyToAccumulator = (m.Txa, s.Nothing)
 
 -- the form of an operation, whose code this is
 abbrev pub form_of : ℕ → Operation → Form
-form_of code operation = record { code = code; mnemonic = mnemonic_of operation; shape = shape_of operation }
+form_of code operation =
+    let said = word_and_shape operation in record { code = code; mnemonic = said.0; shape = said.1 }
 
 -- the forms of the 41 codes
 unfoldable pub known_forms : List Form

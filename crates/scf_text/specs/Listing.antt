@@ -1,4 +1,5 @@
 -- The canonical text of instructions.
+use Prim.Native.Char.{code}
 use Rattle.std.specs.Prelude.{ℕ, ◌/◌, ◌%◌, ◌==◌, false, List, [], ◌∷◌, ◌++◌, codes, if◌then◌else◌}
 use Rattle.std.specs.List.{flat_map}
 use Rattle.std.specs.Fmt.{decimal, digits, digit_glyph}
@@ -8,7 +9,6 @@ use Rattle.scf_text.specs.declared.form.Piece.TheVariants.{Mark, Len, Memory, Ac
 use Rattle.scf_text.specs.declared.form.Style.{Style}
 use Rattle.scf_text.specs.declared.form.Style.TheVariants.{Decimal, Hexadecimal, FourDigits}
 use Rattle.scf_text.specs.declared.form.Form.{Form}
-use Rattle.scf_text.specs.Characters.{line_feed, space, comma}
 use Rattle.scf_text.specs.Forms.{mnemonic_text, pieces_of, field_of, form_for}
 
 -- the last four hexadecimal digits
@@ -24,7 +24,7 @@ number_text FourDigits n = codes "0x" ++ four_digits n
 
 -- One blank stands after a comma.
 abbrev pub mark_text : ℕ → List ℕ
-mark_text b = if b == comma then codes ", " else b ∷ []
+mark_text b = if b == code "," then codes ", " else b ∷ []
 
 abbrev pub piece_text : Insn → Piece → List ℕ
 piece_text i (Mark b) = mark_text b
@@ -38,10 +38,10 @@ piece_text i (Target field) = decimal (field_of i field)
 -- the operands, behind a blank where there are any
 abbrev pub operands_text : Insn → List Piece → List ℕ
 operands_text i [] = []
-operands_text i (p ∷ ps) = space ∷ flat_map (piece_text i) (p ∷ ps)
+operands_text i (p ∷ ps) = code " " ∷ flat_map (piece_text i) (p ∷ ps)
 
 abbrev pub line_in : Form → Insn → List ℕ
-line_in form i = mnemonic_text form.mnemonic ++ (operands_text i (pieces_of form.shape) ++ line_feed ∷ [])
+line_in form i = mnemonic_text form.mnemonic ++ (operands_text i (pieces_of form.shape) ++ codes "\n")
 
 -- a line, with its end
 abbrev pub line_of : Insn → List ℕ

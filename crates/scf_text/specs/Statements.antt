@@ -1,10 +1,9 @@
 -- The statements of a text.
-use Rattle.std.specs.Prelude.{ℕ, ◌+◌, ◌&&◌, Bool, List, [], ◌∷◌, ◌++◌, drop, map, Option, Some, None, if◌then◌else◌}
+use Rattle.std.specs.Prelude.{ℕ, ◌+◌, ◌&&◌, Bool, List, [], ◌∷◌, ◌++◌, drop, map, Option, Some, None, codes, if◌then◌else◌}
 use Rattle.std.specs.Option.{is_some, IsSome, option_to_list, option_map}
 use Rattle.std.specs.List.{slice_split, flat_map}
 use Rattle.std.specs.Map.{lookup}
 use Rattle.std.specs.Str.{bytes_eq}
-use Rattle.scf_text.specs.Characters.{colon, semicolon}
 use Rattle.scf_text.specs.Tokens.{lines_of, words_of_line}
 use Rattle.scf_text.specs.Drafts.{Draft, draft_of, is_name}
 
@@ -14,7 +13,7 @@ pub record Statement : Type 0 where
   pub tokens : List (List ℕ)
 
 abbrev pub is_semicolon : List ℕ → Bool
-is_semicolon t = bytes_eq t (semicolon ∷ [])
+is_semicolon t = bytes_eq t (codes ";")
 
 -- a line without its comment is cut at each `;`
 abbrev pub tokens_of_statements : List ℕ → List (List (List ℕ))
@@ -33,7 +32,7 @@ statements_of text = statements_from 1 (lines_of text)
 abbrev pub label_in : List (List ℕ) → Option (List ℕ)
 label_in [] = None
 label_in (t ∷ []) = None
-label_in (t ∷ u ∷ ts) = if is_name t && bytes_eq u (colon ∷ []) then Some t else None
+label_in (t ∷ u ∷ ts) = if is_name t && bytes_eq u (codes ":") then Some t else None
 
 -- the instruction behind the label, which may be missing
 abbrev pub instruction_in : List (List ℕ) → List (List ℕ)

@@ -1,9 +1,10 @@
 -- The tokens of a text.
+use Prim.Native.Char.{code}
 use Rattle.std.specs.Prelude.{◌≡◌, ℕ, ◌+◌, Bool, false, ◌==◌, ◌&&◌, List, [], ◌∷◌, ◌++◌, length, map, take, drop}
 use Rattle.std.specs.Prelude.{if◌then◌else◌}
 use Rattle.std.specs.List.{slice_split}
 use Rattle.scf_text.specs.declared.token.Token.{Token}
-use Rattle.scf_text.specs.Characters.{line_feed, slash, is_blank, is_word_byte}
+use Rattle.scf_text.specs.Characters.{is_line_end, is_blank, is_word_byte}
 
 -- a token, and the place in the text where it begins
 pub record Lexeme : Type 0 where
@@ -19,7 +20,7 @@ lexemes tokens = map lexeme tokens
 
 -- Lines end at LF, which the last may lack.
 abbrev pub lines_of : List ℕ → List (List ℕ)
-lines_of text = slice_split (λ b. b == line_feed) text
+lines_of text = slice_split is_line_end text
 
 -- the bytes begin with this one
 abbrev pub begins_with : ℕ → List ℕ → Bool
@@ -29,7 +30,7 @@ begins_with c (b ∷ bs) = b == c
 -- the bytes begin with `//`
 abbrev pub begins_comment : List ℕ → Bool
 begins_comment [] = false
-begins_comment (b ∷ bs) = b == slash && begins_with slash bs
+begins_comment (b ∷ bs) = b == code "/" && begins_with (code "/") bs
 
 -- a line without its comment, which goes from the first `//` to the end
 abbrev pub before_comment : List ℕ → List ℕ

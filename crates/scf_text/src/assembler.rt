@@ -1,17 +1,17 @@
 //! Text as instructions.
-ghost use Rattle.std.specs.Prelude.{◌≡◌, ◌≢◌, ◌<◌, [], ℕ, List, length, IsTrue, IfOk, IfErr, OnErr, MatchResult};
+ghost use Rattle.std.specs.Prelude.{◌≡◌, ◌≢◌, ◌<◌, [], List, length, IsTrue, IfOk, IfErr, OnErr, MatchResult};
 ghost use Rattle.scf_insn.specs.declared.insn.Insn.{Insn};
 ghost use Rattle.scf_text.specs.declared.fault.TextFault.{TextFault};
 ghost use Rattle.scf_text.specs.Drafts.{is_below};
 ghost use Rattle.scf_text.specs.Statements.{Statement, statements_of};
 ghost use Rattle.scf_text.specs.Spelling.{Spells};
 ghost use Rattle.scf_text.specs.Tokens.{tokens_of};
-ghost use Rattle.scf_text.specs.Faults.{IsFault, ascii_fault, fault_in, fault_of};
+ghost use Rattle.scf_text.specs.Faults.{IsFault, ascii_fault, fault_of};
 ghost use Rattle.scf_text.specs.internal.Reading.{places_view, drafts_view, HaveTokens, IsLeft, Leaves};
-ghost use Rattle.scf_text.specs.internal.Results.{TellsTarget, TellsInsn, TellsInsns, TellsText};
+ghost use Rattle.scf_text.specs.internal.Results.{TellsTarget, TellsInsn, TellsInsns, TellsText, fault_in};
 ghost use Rattle.scf_text.specs.internal.Views.{written_view, draft_view};
 
-use crate::draft::{Draft, Written};
+use crate::draft::Written;
 use crate::fault::TextFault;
 use crate::numbered_draft::NumberedDraft;
 use crate::statement::{Places, add_line, find_place};

@@ -1,5 +1,5 @@
 //! The forms of an instruction, for the assembler and the disassembler alike.
-ghost use Rattle.std.specs.Prelude.{◌≡◌, ◌==◌, ◌||◌, IsTrue};
+ghost use Rattle.std.specs.Prelude.{◌≡◌, ◌==◌, ◌||◌};
 ghost use Rattle.std.specs.List.{find, list_any};
 ghost use Rattle.scf_text.specs.Forms.{mnemonic_text, pieces_of, forms, known_forms, form_of_code, raw};
 ghost use Rattle.scf_text.specs.Forms.{names, tells_all, form_for};

@@ -3,7 +3,7 @@ ghost use Rattle.std.specs.Prelude.{◌≡◌, ◌++◌, ◌∷◌, [], false, c
 ghost use Rattle.std.specs.List.{flat_map};
 ghost use Rattle.std.specs.Fmt.{digits};
 ghost use Rattle.scf_insn.specs.Streams.{Writes};
-ghost use Rattle.scf_text.specs.Forms.{mnemonic_text, pieces_of, field_of, form_for};
+ghost use Rattle.scf_text.specs.Forms.{mnemonic_text, field_of};
 ghost use Rattle.scf_text.specs.Listing.{four_digits, number_text, piece_text, operands_text, line_of, text_of};
 
 use crate::form::{Field, Form, Mnemonic, Piece, Style};

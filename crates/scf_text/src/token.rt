@@ -1,8 +1,8 @@
 //! The tokens of a text.
-ghost use Rattle.std.specs.Prelude.{◌≡◌, ◌≢◌, ℕ, ◌+◌, ◌≤◌, ◌<◌, ◌^◌, ◌++◌, ◌∷◌, [], ◌==◌, not, length, drop};
+ghost use Rattle.std.specs.Prelude.{◌≡◌, ◌≢◌, ℕ, ◌+◌, ◌≤◌, ◌<◌, ◌^◌, ◌++◌, ◌∷◌, [], not, length, drop};
 ghost use Rattle.std.specs.Prelude.{OnOk, OnErr, IfOk, IfSome, MatchOption};
 ghost use Rattle.std.specs.List.{All, prefix_len};
-ghost use Rattle.scf_text.specs.Characters.{line_feed, is_blank, is_word_byte};
+ghost use Rattle.scf_text.specs.Characters.{is_line_end, is_blank, is_word_byte};
 ghost use Rattle.scf_text.specs.Tokens.{begins_comment, before_comment, lexemes_from, lines_of, tokens_of};
 ghost use Rattle.scf_text.specs.Tokens.{IsSliceOf, lexemes};
 ghost use Rattle.scf_text.specs.internal.Parts.{lines_after};
@@ -31,7 +31,7 @@ fn is_of_word(byte: u8) -> bool
 
 /// How many bytes are in front of the first line end.
 fn line_len(text: &[u8]) -> usize
-    ensures { result ≡ prefix_len (λ b. not (b == line_feed)) text.now }
+    ensures { result ≡ prefix_len (λ b. not (is_line_end b)) text.now }
 {
     text.iter().take_while(|byte| **byte != b'\n').count()
 }

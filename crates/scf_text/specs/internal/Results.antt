@@ -1,7 +1,8 @@
 -- What the functions of the assembler answer: what was asked for, or the fault that stands in its place.
-use Rattle.std.specs.Prelude.{◌≡◌, ℕ, ◌<◌, Bool, true, false, List, ◌∷◌, ◌++◌, length, Option, Some, None, Result, Ok}
+use Rattle.std.specs.Prelude.{◌≡◌, ℕ, ◌<◌, Bool, true, false, List, [], ◌∷◌, ◌++◌, length, Option, Some, None, Result, Ok}
 use Rattle.std.specs.Prelude.{Err, IsTrue}
 use Rattle.std.specs.List.{AllByRecursion}
+use Rattle.std.specs.Option.{option_or}
 use Rattle.std.specs.Global.{Vec}
 use Rattle.scf_insn.specs.Insn.{IsInsn}
 use Rattle.scf_insn.specs.declared.insn.Insn.{Insn}
@@ -9,12 +10,18 @@ use Rattle.scf_text.specs.declared.draft.Reading.{Reading}
 use Rattle.scf_text.specs.declared.draft.Reading.TheVariants.{Unknown, Unfit, Said}
 use Rattle.scf_text.specs.declared.fault.TextFault.{TextFault}
 use Rattle.scf_text.specs.Drafts as drafts
-use Rattle.scf_text.specs.Faults.{IsFault, label_fault, instruction_fault}
+use Rattle.scf_text.specs.Faults.{IsFault, label_fault, instruction_fault, statements_fault}
 use Rattle.scf_text.specs.Faults.{target_fault, targets_fault, all_targets_fault}
 use Rattle.scf_text.specs.Spelling.{Says, SaysInsn, SaysEach}
-use Rattle.scf_text.specs.Statements.{Places, place_of, labels_of, drafts_of, drafts_by, place_after}
+use Rattle.scf_text.specs.Statements.{Places, place_of, statements_of, labels_of, drafts_of, drafts_by, place_after}
 use Rattle.scf_text.specs.internal.Parts.{statements_after}
 use Rattle.scf_text.specs.internal.Reading.{with_label}
+
+-- the first fault of a text but for bytes that aren't ASCII
+unfoldable pub fault_in : List ℕ → Option TextFault
+fault_in text =
+    option_or (statements_fault [] (statements_of text))
+    (all_targets_fault (place_of (labels_of text)) 0 (drafts_of text))
 
 -- the number that is written, or the offset to the label, below the limit
 abbrev pub TellsTarget : Places → ℕ → ℕ → ℕ → drafts.Written → Result ℕ TextFault → Type 0
