@@ -263,7 +263,7 @@ module _ (index : ℕ) (lt : index < 6) where
       tests_as 6 6 _ _
       (masked_tests value (bit_and value_two value) out
       (and_assoc value value_two value ∙ ap (λ (m : ℕ). bit_and value_two m) (and_self value)))
-      (omega arith) (λ plain. ((plain refl).high_half, (plain refl).low_half)) (λ call h. refl)
+      (omega arith) (λ plain. ((plain refl).1, (plain refl).0)) (λ call h. refl)
 
 -- Conditions one after another pass one instruction more where one of them fails.
 pub conditions_tests : (cs : List Condition) → AllByRecursion IsCondition cs

@@ -1,5 +1,5 @@
 -- A profile has an answer to every call, and one only.
-use Rattle.std.proofs.Common.{◌≡◌, ℕ, suc, ◌<◌, ◌⊎◌, Bool, true, false, cond, List, [], ◌∷◌, length, get_or, All, refl}
+use Rattle.std.proofs.Common.{◌≡◌, ℕ, suc, ◌<◌, ◌⊎◌, Bool, true, false, cond, List, [], ◌∷◌, All, refl}
 use Rattle.std.proofs.Common.{Option, Some, None, sym, ap, arith, inl, inr}
 use Rattle.std.specs.Prelude.{Contains}
 use Rattle.std.specs.List.{find}
@@ -100,6 +100,3 @@ one_answer p call none fits (by_default native unmet) (foreign k) = absurd (k na
 one_answer p call none fits (by_default native unmet) (by_rule s native_too among met) =
     absurd (both_ways _ (unmet s among) met)
 one_answer p call none fits (by_default native unmet) (by_default native_too unmet_too) = refl
-
-pub is_among : {A : Type 0} (xs : List A) (i : ℕ) (x : A) → i < length xs → x ≡ get_or xs i x → Contains xs x
-is_among xs i x lt is = (i, lt, sym is)

@@ -1,15 +1,14 @@
 -- Loops over the items of an array.
 use Rattle.std.proofs.Common.{◌≡◌, ℕ, suc, ◌+◌, ◌<◌, ◌≤◌, List, [], ◌∷◌, ◌++◌, length, get_or, drop, Result, Ok, Err}
-use Rattle.std.proofs.Common.{refl, sym, ap, ◌∙◌, add-one, eqb, not, String, Global, zero, Bool, true, Bor, arith}
+use Rattle.std.proofs.Common.{refl, sym, ap, ◌∙◌, add-one, String, Global, Bool, map, ◌||◌}
 use Rattle.std.proofs.Math.Seq.{drop-cons}
 use Rattle.std.specs.List.{list_any}
-use Rattle.std.proofs.lemmas.Bool.{ne_eqb, or_left, or_right}
 use Rattle.std.proofs.lemmas.List.{drop_all}
 use Rattle.serde_json.specs.declared.value.Value.{Value}
 use Rattle.serde_json.specs.Data.{Data, item, no_items}
 use Rattle.serde_json.specs.View.{view, items_view, members_view}
-use Rattle.scf_profile.specs.JsonMembers.{has_items, has_members, each}
-use Rattle.scf_profile.specs.References.{texts_at}
+use Rattle.serde_json.specs.Events.{items_len, members_len}
+use Rattle.scf_profile.specs.JsonMembers.{each}
 
 -- the items from a place on
 pub items_from : (vs : List Value) (i : ℕ) (v : Value) → i < length vs → v ≡ get_or vs i v
@@ -53,17 +52,18 @@ module _ {A E : Type 0} (test : List A → Data → Result A E) (vs : List Value
   unfolding each
   is_done before i le so_far = sym (rw (drop_all i vs le) at so_far)
 
-pub items_there : (vs : List Value) → not (eqb (length vs) 0) ≡ has_items (items_view vs)
-items_there [] = refl
-items_there (v ∷ vs) = rw (ne_eqb (length (v ∷ vs)) 0 (λ e. omega arith)) refl
+pub list_any-map : {A B : Type 0} (p : B → Bool) (f : A → B) (xs : List A)
+    → list_any p (map f xs) ≡ list_any (λ x. p (f x)) xs
+list_any-map p f [] = refl
+list_any-map p f (x ∷ xs) = ap (λ (b : Bool). p (f x) || b) (list_any-map p f xs)
 
-pub members_there : (ms : List (String Global × Value)) → not (eqb (length ms) 0) ≡ has_members (members_view ms)
-members_there [] = refl
-members_there (m ∷ ms) = rw (ne_eqb (length (m ∷ ms)) 0 (λ e. omega arith)) refl
+-- how many items and members there are
+pub items_counted : (vs : List Value) → items_len (items_view vs) ≡ length vs
+items_counted [] = refl
+items_counted (v ∷ vs) = ap suc (items_counted vs)
 
--- a text that passes is among them
-pub any_at : (p : List ℕ → Bool) (xs : List (Bor (List ℕ))) (i : ℕ) (d : Bor (List ℕ)) → i < length xs
-    → p (get_or xs i d).now ≡ true → true ≡ list_any p (texts_at xs)
-any_at p [] i d lt h = absurd (omega arith)
-any_at p (y ∷ ys) zero d lt h = sym (or_left (p y.now) _ h)
-any_at p (y ∷ ys) (suc i) d lt h = sym (or_right (p y.now) _ (sym (any_at p ys i d (omega arith) h)))
+pub members_counted : (ms : List (String Global × Value)) → members_len (members_view ms) ≡ length ms
+members_counted [] = refl
+members_counted (m ∷ ms) = ap suc (members_counted ms)
+
+pub ruleset lengths = (items_counted, members_counted)

@@ -25,7 +25,8 @@ use Rattle.std.proofs.lemmas.Map.Keys.{any_passes_from_place, IsDistinct-from_so
 use Rattle.std.proofs.lemmas.Map.Lookups.{exact_bytes, exact_unsigned}
 use Rattle.std.proofs.lemmas.Map.Views.{All-found, Contains-keys_from_lookup, IsSome-lookup_from_Contains}
 use Rattle.std.proofs.lemmas.Map.Views.{btree_map_contains_key_iff, tells_apart}
-use Rattle.scf_profile.specs.NamedCalls.{numbers_in, HasNumber, HasItsNames, AreCallsOf}
+use Rattle.scf_profile.specs.declared.named_call.NamedCall.{NamedCall}
+use Rattle.scf_profile.specs.NamedCalls.{HasItsNames, AreCallsOf}
 use Rattle.scf_profile.specs.Names.{named, names_of}
 use Rattle.scf_profile.specs.References.{texts_at}
 use Rattle.scf_profile.specs.Table.{Names}
@@ -50,6 +51,12 @@ module _ {X K : Type 0} (c : K → K → Ordering) (key : X → K) where
 
 abbrev TableEntry : Type 0
 TableEntry = String Global × ℕ
+
+abbrev HasNumber : Names → ℕ → Type 0
+HasNumber table number = (name : List ℕ) × (get table name ≡ Some number)
+
+abbrev numbers_in : List NamedCall → List ℕ
+numbers_in calls = map (λ call. call.number) calls
 
 abbrev by_bytes : List ℕ → List ℕ → Ordering
 by_bytes = slice_cmp nat_cmp
@@ -134,15 +141,12 @@ module _ (numbers : BTreeMap (String Global) ℕ) (ordered : IsOrdered string_cm
       let all = All-found string_cmp_total numbers ordered found.0 found.1 found.2 in
       let Got : TableEntry → Type 0 = λ e. lookup (is_at (string_cmp e.0)) entries ≡ Some e.1 in
       let number = ap Some (sym (eqb-true n found.1.1 found.4)) in
-      record {
-        name = string_bytes found.1.0;
-        has = get_named entries (string_bytes found.1.0) ∙ subst Got found.3 all ∙ number;
-      }
+      (string_bytes found.1.0, get_named entries (string_bytes found.1.0) ∙ subst Got found.3 all ∙ number)
 
   has_any : (n : ℕ) → HasNumber (names_of entries) n → list_any (has_number n) entries ≡ true
   has_any n h =
-      let found = sym (get_named entries h.name) ∙ h.has in
-      let place = place_from_lookup (is_at (λ k. by_bytes h.name (string_bytes k))) entries n found in
+      let found = sym (get_named entries h.0) ∙ h.1 in
+      let place = place_from_lookup (is_at (λ k. by_bytes h.0 (string_bytes k))) entries n found in
       any_passes_from_place (has_number n) entries place.0 (place.1, n) place.2 (eq-eqb n n refl)
 
 -- ---- names under numbers as calls

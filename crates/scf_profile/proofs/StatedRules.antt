@@ -1,10 +1,10 @@
 -- The rules that entries state: their ranges, and one answer for each entry.
-use Rattle.std.proofs.Common.{◌≡◌, ℕ, suc, true, false, ◌+◌, ◌<◌, ◌^◌, List, [], ◌∷◌, ◌++◌, length, get_or, map}
-use Rattle.std.proofs.Common.{Some, None, Ok, All, refl, sym, ap, ◌∙◌, subst, arith, inl, inr}
-use Rattle.std.specs.Prelude.{Contains, nat_lt, option_map}
+use Rattle.std.proofs.Common.{◌≡◌, ℕ, suc, Bool, ◌+◌, ◌<◌, ◌≤◌, ◌^◌, List, [], ◌∷◌, ◌++◌, length, get_or, map}
+use Rattle.std.proofs.Common.{Some, None, All, refl, sym, ap, ◌∙◌, arith, inl, inr}
+use Rattle.std.specs.Prelude.{Contains, option_map}
 use Rattle.std.specs.List.{cons_option, filter}
 use Rattle.std.specs.FinMap.{get}
-use Rattle.std.proofs.lemmas.Bool.{cases_lt, cases_order, lt-ltb, le-ltb}
+use Rattle.std.proofs.lemmas.Bool.{cases_order}
 use Rattle.std.proofs.lemmas.List.Elements.{recursion_from_All, All-nil, All-cons, All-append, All-head, All-tail}
 use Rattle.std.proofs.lemmas.List.Elements.{All-contains, All-weaker, filter-append}
 use Rattle.std.proofs.lemmas.List.Elements.{filter_map-append}
@@ -18,7 +18,7 @@ use Rattle.scf_profile.specs.Profile.{IsProfile, HaveNoConflict}
 use Rattle.scf_profile.specs.Rule.{Conflicts, IsRule}
 use Rattle.scf_profile.proofs.Answering.{conflicts_both_ways}
 use Rattle.scf_profile.specs.Table.{Names, AreCallNumbers}
-use Rattle.scf_profile.specs.StatedProfile.{rule_for, rules_named, rules_from, rules_in, is_skipped}
+use Rattle.scf_profile.specs.StatedProfile.{rule_for, rules_named, rules_from}
 
 -- what holds of the rule for each number that a name has
 module _ (P : Rule → Type 0) (table : Names) (place : ℕ) (e : Entry)
@@ -79,50 +79,43 @@ pub rules_first : (table : Names) (place : ℕ) (e : Entry) (name : List ℕ) (n
 rules_first table place e name names =
     filter_map-append (λ n. option_map (rule_for place e) (get table n)) (name ∷ []) names
 
-pub skipped_first : (table : Names) (name : List ℕ) (names : List (List ℕ))
-    → filter (is_skipped table) (name ∷ names)
-    ≡ filter (is_skipped table) (name ∷ []) ++ filter (is_skipped table) names
-skipped_first table name names = filter-append (is_skipped table) (name ∷ []) names
+pub skipped_first : (lacks : List ℕ → Bool) (name : List ℕ) (names : List (List ℕ))
+    → filter lacks (name ∷ names) ≡ filter lacks (name ∷ []) ++ filter lacks names
+skipped_first lacks name names = filter-append lacks (name ∷ []) names
 
 pub ruleset names_first = (rules_first, skipped_first)
 
--- the rules that pass the tests
+-- the rules, where they are few enough
 pub stated_rules : (table : Names) (es : List Entry) (rules : List Rule) → AreCallNumbers table → All IsEntry es
-    → rules_in table es ≡ Ok rules → AreStatedRules rules
-unfolding rules_in
-stated_rules table es rules below each is =
-    elim (cases_lt max_rules (length (rules_from table 0 es))) [
-      | inl many ↦ absurd (
-          let test : nat_lt max_rules (length (rules_from table 0 es)) ≡ true =
-          lt-ltb max_rules (length (rules_from table 0 es)) many in
-          let impossible = rw test at is in
-          cc)
-      | inr few ↦
-          let test : nat_lt max_rules (length (rules_from table 0 es)) ≡ false =
-          le-ltb max_rules (length (rules_from table 0 es)) few in
-          let fine = rw test at is in
-          let same : rules_from table 0 es ≡ rules = cc in
-          subst AreStatedRules same
-          (record { few = few; each = all_rules table below 0 es each; one_answer = one_answer_each table 0 es })
-    ]
+    → rules ≡ rules_from table 0 es → length rules ≤ max_rules → AreStatedRules rules
+stated_rules table es rules below each is few =
+    let fewer = rw is at few in
+    rw is (record { few = fewer; each = all_rules table below 0 es each; one_answer = one_answer_each table 0 es })
 
 -- ---- conflicts
 
 module _ (rules : List Rule) (none : (first second number : ℕ) → EntriesConflict rules first second number → ⊥) where
   not_before : (r s : Rule) → Contains rules r → Contains rules s → r.entry < s.entry → Conflicts r s → ⊥
-  not_before r s has_r has_s before conflict =
-      none r.entry s.entry r.number
-      (record {
-        rule = r;
-        later = s;
-        has_rule = has_r;
-        has_later = has_s;
-        entry = refl;
-        later_entry = refl;
-        order = before;
-        rule_number = refl;
-        conflict = conflict;
-      })
+  not_before r s (i, i_lt, i_is) (j, j_lt, j_is) before conflict =
+      none r.entry s.entry r.number (
+        i,
+        r,
+        i_lt,
+        i_is,
+        (
+          j,
+          s,
+          j_lt,
+          j_is,
+          record {
+            entry = refl;
+            later_entry = refl;
+            order = before;
+            rule_number = refl;
+            conflict = conflict;
+          },
+        ),
+      )
 
 -- rules of which no two entries conflict
 pub have_no_conflict : (rules : List Rule) → AreStatedRules rules

@@ -1,5 +1,5 @@
 -- The limits of texts, of their numbers and of profiles.
-use Rattle.std.specs.Prelude.{ℕ}
+use Rattle.std.specs.Prelude.{ℕ, ℤ, pos, negsuc, Option, Some, None, nat_lt, if◌then◌else◌}
 use Rattle.scf_insn.specs.Kernel.{seccomp_data_args}
 
 -- how many arguments a call has
@@ -17,3 +17,8 @@ max_text_len = 4194304
 -- the most rules of a profile
 abbrev pub max_rules : ℕ
 max_rules = 4096
+
+-- a whole number from 0 on, where it is below a limit
+abbrev pub number_below : ℕ → ℤ → Option ℕ
+number_below limit (pos number) = if nat_lt number limit then Some number else None
+number_below limit (negsuc number) = None

@@ -8,14 +8,6 @@ use Rattle.scf_profile.specs.declared.named_call.NamedCall.{NamedCall}
 use Rattle.scf_profile.specs.References.{texts_at}
 use Rattle.scf_profile.specs.Table.{Names}
 
-abbrev pub numbers_in : List NamedCall → List ℕ
-numbers_in calls = map (λ call. call.number) calls
-
--- some name of the table has the number
-pub record HasNumber (table : Names) (number : ℕ) : Type 0 where
-  pub name : List ℕ
-  pub has : get table name ≡ Some number
-
 -- the names that have the call's number in the table, each once, in the order of their bytes
 pub record HasItsNames (table : Names) (call : NamedCall) : Type 0 where
   pub rising : IsStrictlySortedBy (slice_cmp nat_cmp) (texts_at call.names.items)
@@ -23,6 +15,7 @@ pub record HasItsNames (table : Names) (call : NamedCall) : Type 0 where
 
 -- the numbers of the table, each once, rising, and each with its names
 pub record AreCallsOf (table : Names) (calls : List NamedCall) : Type 0 where
-  pub rising : IsStrictlyIncreasing (numbers_in calls)
-  pub exact : (number : ℕ) → Contains (numbers_in calls) number ↔ HasNumber table number
+  pub rising : IsStrictlyIncreasing (map (λ call. call.number) calls)
+  pub exact : (number : ℕ)
+      → Contains (map (λ call. call.number) calls) number ↔ ((name : List ℕ) × (get table name ≡ Some number))
   pub names : All (HasItsNames table) calls

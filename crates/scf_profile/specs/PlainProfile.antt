@@ -8,12 +8,8 @@ use Rattle.scf_profile.specs.declared.rule.Rule.{Rule}
 use Rattle.scf_profile.specs.Profile.{Profile}
 
 -- both 32-bit halves of a mask are simple
-pub record HasSimpleMask (c : Condition) : Type 0 where
-  pub low_half : IsSimpleMask (low c.value)
-  pub high_half : IsSimpleMask (high c.value)
-
 abbrev pub IsPlainCondition : Condition → Type 0
-IsPlainCondition c = c.op ≡ MaskedEqual → HasSimpleMask c
+IsPlainCondition c = c.op ≡ MaskedEqual → IsSimpleMask (low c.value) × IsSimpleMask (high c.value)
 
 pub record IsPlainRule (r : Rule) : Type 0 where
   pub conditions : All IsPlainCondition r.conditions

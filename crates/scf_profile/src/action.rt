@@ -37,11 +37,7 @@ fn takes_errno(action: Action) -> bool
 
 /// The action that a member of the object names.
 #[tactic(auto, unfolding(crate::specs::StatedProfile::action_in))]
-pub(crate) fn find_action(
-    entry: Option<u32>,
-    name: &str,
-    object: &Value,
-) -> Result<Action, LoadFault>
+fn find_action(entry: Option<u32>, name: &str, object: &Value) -> Result<Action, LoadFault>
     ensures { result ≡ action_in entry name.now (view object.now) }
 {
     let found = member_of(object, name).ok_or(LoadFault::Missing { entry })?;
@@ -67,18 +63,19 @@ fn errno_of(entry: Option<u32>, action: Action, value: &Value) -> Result<u16, Lo
     }
 }
 
-/// The answer of an action with the errno in a member of the object, EPERM where there is none.
+/// The answer of the action that a member of the object names, with the errno in another, EPERM where there is none.
 #[tactic(auto, unfolding(crate::specs::StatedProfile::answer_in))]
 pub(crate) fn find_answer(
     entry: Option<u32>,
-    action: Action,
     name: &str,
+    errno_name: &str,
     object: &Value,
 ) -> Result<Answer, LoadFault>
-    ensures value { result ≡ answer_in entry action name.now (view object.now) }
+    ensures value { result ≡ answer_in entry name.now errno_name.now (view object.now) }
     ensures range { IfOk result (λ answer. answer.0 < 2 ^ 32) }
 {
-    let errno = match member_of(object, name) {
+    let action = find_action(entry, name, object)?;
+    let errno = match member_of(object, errno_name) {
         None => u16::from(takes_errno(action)),
         Some(found) => errno_of(entry, action, found)?,
     };

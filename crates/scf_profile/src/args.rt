@@ -7,7 +7,7 @@ ghost use Rattle.scf_profile.specs.declared.load_fault.LoadFault.TheVariants.{Me
 ghost use Rattle.scf_profile.specs.JsonMembers.{each, unsigned_number};
 ghost use Rattle.scf_profile.specs.Limits.{arguments};
 ghost use Rattle.scf_profile.specs.Rule.{IsCondition, AreConditions};
-ghost use Rattle.scf_profile.specs.StatedProfile.{required, operator_named, index_in, operator_in, value_two_in};
+ghost use Rattle.scf_profile.specs.StatedProfile.{required, optional, operator_named, index_in, operator_in};
 ghost use Rattle.scf_profile.specs.StatedProfile.{condition_of as condition_stated, conditions_in};
 ghost use Rattle.scf_profile.specs.Steps.{Gives};
 ghost use Rattle.scf_profile.specs.internal.Results.{result_map};
@@ -69,9 +69,8 @@ fn find_value(entry: Option<u32>, object: &Value) -> Result<u64, LoadFault>
     found.as_u64().ok_or(LoadFault::Kind { entry })
 }
 
-#[tactic(auto, unfolding(crate::specs::StatedProfile::value_two_in))]
 fn find_value_two(entry: Option<u32>, object: &Value) -> Result<u64, LoadFault>
-    ensures { result ≡ value_two_in entry (view object.now) }
+    ensures { result ≡ optional 0 entry (codes "valueTwo") unsigned_number (view object.now) }
 {
     match member_of(object, "valueTwo") {
         None => Ok(0),

@@ -3,7 +3,9 @@
 ghost use Rattle.std.specs.Prelude.{◌≡◌, ◌<◌, ◌^◌, ◌↔◌, ℕ, IsTrue, All, IfOk, IfSome};
 ghost use Rattle.scf_profile.specs.Condition.{holds};
 ghost use Rattle.scf_profile.specs.internal.NumberSets.{IsNumberSet, is_in_some};
-ghost use Rattle.scf_profile.specs.PlainProfile.{IsPlainCondition, HasSimpleMask};
+ghost use Rattle.scf_insn.specs.SimpleMask.{IsSimpleMask};
+ghost use Rattle.scf_insn.specs.Words.{low, high};
+ghost use Rattle.scf_profile.specs.PlainProfile.{IsPlainCondition};
 
 use crate::number_set::NumberSet;
 use scf_insn::{high_half, is_simple_mask, low_half};
@@ -36,7 +38,8 @@ pub struct Condition {
 impl Condition {
     /// Whether both 32-bit halves of the mask are simple.
     fn has_simple_mask(&self) -> bool
-        ensures { IsTrue result ↔ HasSimpleMask self.now }
+        ensures { IsTrue result
+            ↔ (IsSimpleMask (low self.now.value) × IsSimpleMask (high self.now.value)) }
     {
         is_simple_mask(low_half(self.value)) && is_simple_mask(high_half(self.value))
     }

@@ -1,10 +1,8 @@
 //! Conflicts among rules: the least one, among all pairs of one number.
 
-ghost use Rattle.std.specs.Prelude.{◌≡◌, ◌⊎◌, ℕ, IfOk, IfSome, IfNone, All, Some, Contains};
-ghost use Rattle.scf_profile.specs.ByNumber.{rules_at};
+ghost use Rattle.std.specs.Prelude.{◌≡◌, ◌⊎◌, ℕ, IfOk, IfSome, IfNone, All, Any, Some};
 ghost use Rattle.scf_profile.specs.declared.conflict.Clash.{Clash};
-ghost use Rattle.scf_profile.specs.declared.rule.Rule.{Rule};
-ghost use Rattle.scf_profile.specs.internal.Clashes.{IsBoundedBy, IsClash, IsClashAmong};
+ghost use Rattle.scf_profile.specs.internal.Clashes.{IsBoundedBy, IsClashBounded, IsClashOf};
 ghost use Rattle.scf_profile.specs.Loading.{IsLeastConflict, EntriesConflict};
 ghost use Rattle.scf_profile.specs.Rule.{IsRule};
 
@@ -42,8 +40,8 @@ fn lesser(least: Option<Clash>, clash: Option<Clash>) -> Option<Clash>
 fn clash_of(rule: &Rule, later: &Rule) -> Option<Clash>
     requires rule { IsRule rule.now }
     requires later { IsRule later.now }
-    ensures some { IfSome result (λ c. IsClash rule.now later.now c) }
-    ensures all { (c : Clash) → IsClash rule.now later.now c → result ≡ Some c }
+    ensures some { IfSome result (IsClashOf rule.now later.now) }
+    ensures all { (c : Clash) → IsClashOf rule.now later.now c → result ≡ Some c }
 {
     if rule.entry >= later.entry || !rule.conflicts_with(later) {
         return None;
@@ -57,11 +55,10 @@ fn clash_of(rule: &Rule, later: &Rule) -> Option<Clash>
 
 /// The least of a clash and those of the rules with a later one.
 fn least_with(rules: &[&Rule], later: &Rule, known: Option<Clash>) -> Option<Clash>
-    requires rules { All IsRule (rules_at rules.now) }
+    requires rules { All (λ r. IsRule r.now) rules.now }
     requires later { IsRule later.now }
-    ensures one { IfSome result (λ c. (known ≡ Some c) ⊎ IsClashAmong (rules_at rules.now) later.now c) }
-    ensures bounds { (c : Clash) (rule : Rule) → Contains (rules_at rules.now) rule → IsClash rule later.now c
-        → IsBoundedBy result c }
+    ensures one { IfSome result (λ c. (known ≡ Some c) ⊎ Any (λ r. IsClashOf r.now later.now c) rules.now) }
+    ensures bounds { All (λ r. IsClashBounded result later.now r.now) rules.now }
     ensures keeps { (c : Clash) → IsBoundedBy known c → IsBoundedBy result c }
 {
     let mut least = known;

@@ -5,7 +5,7 @@ ghost use Rattle.serde_json.specs.View.{view};
 ghost use Rattle.scf_profile.specs.declared.load_fault.LoadFault.TheVariants.{Memory};
 ghost use Rattle.scf_profile.specs.Steps.{Gives};
 
-use crate::action::{find_action, find_answer};
+use crate::action::find_answer;
 use crate::args::find_conditions;
 use crate::condition::Conditions;
 use crate::forms::{check_no_engine_form, find_names};
@@ -40,8 +40,7 @@ impl<'v> Entry<'v> {
         check_no_engine_form(entry, "includes", object)?;
         check_no_engine_form(entry, "excludes", object)?;
         let names = find_names(alloc, entry, object)?;
-        let action = find_action(entry, "action", object)?;
-        let answer = find_answer(entry, action, "errnoRet", object)?;
+        let answer = find_answer(entry, "action", "errnoRet", object)?;
         let conditions = find_conditions(alloc, entry, object)?;
         Ok(Entry {
             names,

@@ -1,15 +1,13 @@
 //! From the names of entries to the numbers that the call table has for them.
 
-ghost use Rattle.std.specs.Prelude.{◌≡◌, ◌≤◌, ◌^◌, ◌++◌, ◌∷◌, [], length, vec_len, IfOk, IfErr, OnOk};
+ghost use Rattle.std.specs.Prelude.{◌≡◌, ◌≤◌, ◌^◌, ◌++◌, ◌∷◌, [], length, vec_len, IfOk, IfErr, OnOk, is_none, not};
 ghost use Rattle.std.specs.List.{filter};
-ghost use Rattle.scf_profile.specs.declared.load_fault.LoadFault.TheVariants.{Memory};
+ghost use Rattle.std.specs.FinMap.{get};
+ghost use Rattle.std.specs.Str.{bytes_eq};
 ghost use Rattle.scf_profile.specs.internal.EntryRanges.{TellsTooMany};
 ghost use Rattle.scf_profile.specs.Limits.{max_rules};
 ghost use Rattle.scf_profile.specs.References.{texts_at};
-ghost use Rattle.scf_profile.specs.StatedProfile.{rules_named, rules_in, is_skipped, skipped_names};
-ghost use Rattle.scf_profile.specs.StatedProfile.{is_other_architecture};
-ghost use Rattle.scf_profile.specs.Steps.{Gives};
-ghost use Rattle.scf_profile.specs.internal.Results.{result_map};
+ghost use Rattle.scf_profile.specs.StatedProfile.{rules_named, rules_from, skipped_names, x86_64};
 
 use crate::entry::Entry;
 use crate::limits::MAX_RULES;
@@ -41,7 +39,7 @@ impl Expanded {
         ensures rules { OnOk result (self.new.rules.items
             ≡ self.old.rules.items ++ rules_named table.now place entry.now (name.now ∷ [])) }
         ensures skipped { OnOk result (self.new.skipped
-            ≡ self.old.skipped ++ filter (is_skipped table.now) (name.now ∷ [])) }
+            ≡ self.old.skipped ++ filter (λ n. is_none (get table.now n)) (name.now ∷ [])) }
         ensures few { OnOk result (vec_len self.new.rules ≤ max_rules) }
         ensures err { IfErr result (TellsTooMany
             (self.old.rules.items ++ rules_named table.now place entry.now (name.now ∷ []))) }
@@ -76,7 +74,7 @@ impl Expanded {
         ensures rules { OnOk result (self.new.rules.items
             ≡ self.old.rules.items ++ rules_named table.now place entry.now entry.now.names) }
         ensures skipped { OnOk result (self.new.skipped
-            ≡ self.old.skipped ++ filter (is_skipped table.now) entry.now.names) }
+            ≡ self.old.skipped ++ filter (λ n. is_none (get table.now n)) entry.now.names) }
         ensures few { OnOk result (vec_len self.new.rules ≤ max_rules) }
         ensures err { IfErr result (TellsTooMany
             (self.old.rules.items ++ rules_named table.now place entry.now entry.now.names)) }
@@ -89,16 +87,16 @@ impl Expanded {
 }
 
 /// What entries and a table state, unless the rules are more than `MAX_RULES`.
-#[tactic(auto, unfolding(crate::specs::StatedProfile::rules_in))]
 pub(crate) fn expand(
     alloc: Global,
     table: &CallTable,
     entries: &[Entry],
 ) -> Result<Expanded, LoadFault>
     requires { length entries.now ≤ 2 ^ 32 }
-    ensures rules { Gives Memory (result_map (λ e. e.rules.items) result)
-        (rules_in table.now entries.now) }
+    ensures rules { IfOk result (λ e. e.rules.items ≡ rules_from table.now 0 entries.now) }
     ensures skipped { IfOk result (λ e. e.skipped ≡ skipped_names table.now entries.now) }
+    ensures few { IfOk result (λ e. vec_len e.rules ≤ max_rules) }
+    ensures err { IfErr result (TellsTooMany (rules_from table.now 0 entries.now)) }
 {
     let mut expanded = Expanded {
         rules: Vec::new(alloc),
@@ -116,7 +114,7 @@ pub(crate) fn other_architectures(
     architectures: &[&str],
 ) -> Result<Texts, AllocError>
     ensures { IfOk result (λ texts.
-        texts ≡ filter is_other_architecture (texts_at architectures.now)) }
+        texts ≡ filter (λ name. not (bytes_eq x86_64 name)) (texts_at architectures.now)) }
 {
     let mut others = Texts::new(alloc);
     for name in architectures {

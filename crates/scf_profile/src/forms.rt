@@ -2,26 +2,28 @@
 
 ghost use Rattle.std.specs.Prelude.{◌≡◌};
 ghost use Rattle.serde_json.specs.View.{view, items_view};
-ghost use Rattle.scf_profile.specs.declared.load_fault.LoadFault.TheVariants.{Memory};
-ghost use Rattle.scf_profile.specs.StatedProfile.{is_empty as empty_value, no_engine_form, string_of as string_stated};
-ghost use Rattle.scf_profile.specs.StatedProfile.{strings_of as strings_stated, names_in};
-ghost use Rattle.scf_profile.specs.Steps.{Gives};
+ghost use Rattle.serde_json.specs.Find.{as_str};
+ghost use Rattle.scf_profile.specs.declared.load_fault.LoadFault.TheVariants.{Memory, Kind};
+ghost use Rattle.scf_profile.specs.StatedProfile.{is_empty as empty_value, no_engine_form, names_in};
+ghost use Rattle.scf_profile.specs.StatedProfile.{strings_of as strings_stated};
+ghost use Rattle.scf_profile.specs.Steps.{Gives, some_or};
 ghost use Rattle.scf_profile.specs.internal.Results.{result_map};
 
-use crate::json_members::{has_items, has_members, member_of};
+use crate::json_members::member_of;
 use crate::load_fault::LoadFault;
 use crate::texts::BorrowedTexts;
 use serde_json::Value;
 use std::alloc::Global;
 
 /// Whether a value is an empty array or an empty object.
+#[tactic(auto, using(crate::proofs::Loops::lengths))]
 fn is_empty(value: &Value) -> bool
     ensures { result ≡ empty_value (view value.now) }
 {
     match value.as_array() {
-        Some(items) => !has_items(items),
+        Some(items) => items.is_empty(),
         None => match value.as_object() {
-            Some(members) => !has_members(members),
+            Some(members) => members.is_empty(),
             None => false,
         },
     }
@@ -43,7 +45,7 @@ pub(crate) fn check_no_engine_form(
 }
 
 fn string_of(entry: Option<u32>, value: &Value) -> Result<&str, LoadFault>
-    ensures { result_map (λ s. s.now) result ≡ string_stated entry (view value.now) }
+    ensures { result_map (λ s. s.now) result ≡ some_or (as_str (view value.now)) (Kind entry) }
 {
     value.as_str().ok_or(LoadFault::Kind { entry })
 }
@@ -66,7 +68,7 @@ pub(crate) fn strings_of<'v>(
 }
 
 /// The names of an entry.
-#[tactic(auto, unfolding(crate::specs::StatedProfile::names_in))]
+#[tactic(auto, using(crate::proofs::Loops::lengths), unfolding(crate::specs::StatedProfile::names_in))]
 pub(crate) fn find_names<'v>(
     alloc: Global,
     entry: Option<u32>,
@@ -76,7 +78,7 @@ pub(crate) fn find_names<'v>(
 {
     let found = member_of(object, "names").ok_or(LoadFault::Missing { entry })?;
     let names = found.as_array().ok_or(LoadFault::Kind { entry })?;
-    if !has_items(names) {
+    if names.is_empty() {
         return Err(LoadFault::EmptyNames { entry });
     }
     strings_of(alloc, entry, names)

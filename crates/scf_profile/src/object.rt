@@ -1,6 +1,6 @@
 //! The seccomp object.
 
-ghost use Rattle.std.specs.Prelude.{◌≡◌, ◌≤◌, ◌^◌, [], IfOk, All, vec_len};
+ghost use Rattle.std.specs.Prelude.{◌≡◌, ◌≤◌, ◌^◌, [], IfOk, All, length, vec_len};
 ghost use Rattle.std.specs.List.{list_any};
 ghost use Rattle.std.specs.Str.{bytes_eq};
 ghost use Rattle.serde_json.specs.View.{view, items_view};
@@ -8,7 +8,7 @@ ghost use Rattle.scf_profile.specs.declared.load_fault.LoadFault.TheVariants.{Me
 ghost use Rattle.scf_profile.specs.internal.EntryRanges.{IsEntry};
 ghost use Rattle.scf_profile.specs.JsonMembers.{each};
 ghost use Rattle.scf_profile.specs.References.{texts_at};
-ghost use Rattle.scf_profile.specs.StatedProfile.{seccomp_in, seccomp_of, next_entry, entries_in, architectures_in};
+ghost use Rattle.scf_profile.specs.StatedProfile.{seccomp_in, seccomp_of, entry_of, entries_in, architectures_in};
 ghost use Rattle.scf_profile.specs.StatedProfile.{x86_64};
 ghost use Rattle.scf_profile.specs.Steps.{Gives};
 ghost use Rattle.scf_profile.specs.internal.Results.{result_map};
@@ -64,12 +64,7 @@ pub(crate) fn is_x86_64(name: &str) -> bool
 fn has_x86_64(names: &[&str]) -> bool
     ensures { result ≡ list_any (bytes_eq x86_64) (texts_at names.now) }
 {
-    for name in names {
-        if is_x86_64(name) {
-            return true;
-        }
-    }
-    false
+    names.iter().any(|name| is_x86_64(name))
 }
 
 /// The architectures of the object, among which x86-64 has to be, unless there are none.
@@ -96,7 +91,7 @@ pub(crate) fn find_architectures(
 /// What the entries of an array state, each with its place.
 fn entries_of<'v>(alloc: Global, items: &'v [Value]) -> Result<Vec<Entry<'v>>, LoadFault>
     ensures value { Gives Memory (result_map (λ v. v.items) result)
-        (each next_entry [] (items_view items.now)) }
+        (each (λ before. entry_of (length before)) [] (items_view items.now)) }
     ensures range { IfOk result (λ v. All IsEntry v.items) }
     ensures count { IfOk result (λ v. vec_len v ≤ 2 ^ 32) }
 {

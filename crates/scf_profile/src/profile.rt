@@ -102,12 +102,7 @@ impl Profile {
 fn are_plain(rules: &[Rule]) -> bool
     ensures { IsTrue result ↔ All IsPlainRule rules.now }
 {
-    for rule in rules {
-        if !rule.is_plain() {
-            return false;
-        }
-    }
-    true
+    rules.iter().all(|rule| rule.is_plain())
 }
 
 /// Whether a call is one of x86-64, with a number that x32 calls don't have.

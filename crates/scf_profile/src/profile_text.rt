@@ -1,16 +1,18 @@
 //! From a text and a call table to a profile.
 
-ghost use Rattle.std.specs.Prelude.{◌≡◌, ◌≢◌, ◌<◌, ◌^◌, length, Ok, Err, IfOk, IfErr};
+ghost use Rattle.std.specs.Prelude.{◌≡◌, ◌<◌, ◌^◌, length, Err, IfOk, IfErr};
 ghost use Rattle.serde_json.specs.View.{view};
 ghost use Rattle.scf_profile.specs.declared.load_fault.LoadFault.TheVariants.{Memory, TooMany};
 ghost use Rattle.scf_profile.specs.internal.EntryRanges.{AreStatedRules};
 ghost use Rattle.scf_profile.specs.Limits.{max_text_len};
 ghost use Rattle.scf_profile.specs.Loading.{IsText, Loads, Refuses};
 ghost use Rattle.scf_profile.specs.internal.Refusals.{NamesLeastConflict, ParseRefuses};
+ghost use Rattle.scf_profile.specs.internal.Results.{result_map};
 ghost use Rattle.scf_profile.specs.internal.Stated.{loaded_of, IsLoaded};
+ghost use Rattle.scf_profile.specs.Steps.{Gives};
 ghost use Rattle.scf_profile.specs.StatedProfile.{object_states};
 
-use crate::action::{find_action, find_answer};
+use crate::action::find_answer;
 use crate::conflict::least_conflict;
 use crate::expand::{Expanded, expand, other_architectures};
 use crate::forms::check_no_engine_form;
@@ -54,13 +56,11 @@ struct Stated {
 /// What the seccomp object and a table state, or the first test that fails.
 #[tactic(auto, unfolding(crate::specs::StatedProfile::object_states))]
 fn read_object(alloc: Global, table: &CallTable, object: &Value) -> Result<Stated, LoadFault>
-    ensures ok { IfOk result (λ s. object_states table.now (view object.now) ≡ Ok (loaded_of s)) }
-    ensures err { IfErr result (λ e. e ≢ Memory → object_states table.now (view object.now) ≡ Err e) }
+    ensures value { Gives Memory (result_map loaded_of result) (object_states table.now (view object.now)) }
     ensures range { IfOk result (λ s. AreStatedRules s.rules.items) }
     ensures default_range { IfOk result (λ s. s.default_answer.0 < 2 ^ 32) }
 {
-    let action = find_action(None, "defaultAction", object)?;
-    let default_answer = find_answer(None, action, "defaultErrnoRet", object)?;
+    let default_answer = find_answer(None, "defaultAction", "defaultErrnoRet", object)?;
     let architectures = find_architectures(alloc, object)?;
     check_no_engine_form(None, "archMap", object)?;
     let entries = find_entries(alloc, object)?;

@@ -7,7 +7,7 @@ ghost use Rattle.std.specs.Str.Lines.{lines, strip_carriage_return as without_ca
 ghost use Rattle.scf_insn.specs.Kernel.{x32_syscall_bit};
 ghost use Rattle.scf_profile.specs.declared.table_fault.TableFault.TheVariants.{Memory};
 ghost use Rattle.scf_profile.specs.internal.Results.{result_map};
-ghost use Rattle.scf_profile.specs.Table.{is_blank as blank, fields, begins_name as name_begins, is_in_name as in_name};
+ghost use Rattle.scf_profile.specs.Table.{is_blank as blank, fields, is_in_name as in_name};
 ghost use Rattle.scf_profile.specs.Table.{is_name as name_is, call_number as number_stated, entry_in};
 
 use crate::table_fault::TableFault;
@@ -73,16 +73,10 @@ fn first_field(text: &[u8]) -> (&[u8], &[u8])
     (rest, &[])
 }
 
-fn begins_name(byte: u8) -> bool
-    ensures { result ≡ name_begins byte }
-{
-    byte.is_ascii_alphabetic() || byte == b'_'
-}
-
 fn is_in_name(byte: u8) -> bool
     ensures { result ≡ in_name byte }
 {
-    begins_name(byte) || byte.is_ascii_digit()
+    byte.is_ascii_alphanumeric() || byte == b'_'
 }
 
 fn are_in_name(text: &[u8]) -> bool
@@ -91,11 +85,11 @@ fn are_in_name(text: &[u8]) -> bool
     text.iter().all(|byte| is_in_name(*byte))
 }
 
-/// A letter or an underscore, and then letters, digits and underscores.
+/// Letters, digits and underscores, of which the first is no digit.
 fn is_name(text: &[u8]) -> bool
     ensures { result ≡ name_is text.now }
 {
-    !text.is_empty() && begins_name(text[0]) && are_in_name(text)
+    !text.is_empty() && !text[0].is_ascii_digit() && are_in_name(text)
 }
 
 /// The value of decimal digits, where it is a call number.

@@ -1,8 +1,8 @@
 -- The order of clashes, by which the least conflict is found.
-use Rattle.std.specs.Prelude.{◌≡◌, ◌<◌, ◌≤◌, List, Option, Some, None, Contains}
+use Rattle.std.specs.Prelude.{◌≡◌, ◌≤◌, Option, Some, None}
 use Rattle.scf_profile.specs.declared.conflict.Clash.{Clash}
 use Rattle.scf_profile.specs.declared.rule.Rule.{Rule}
-use Rattle.scf_profile.specs.Rule.{Conflicts}
+use Rattle.scf_profile.specs.Loading.{IsClash}
 
 -- by the second entry, then by the first, then by the number
 pub record IsAtMost (a b : Clash) : Type 0 where
@@ -15,16 +15,10 @@ abbrev pub IsBoundedBy : Option Clash → Clash → Type 0
 IsBoundedBy None c = ⊥
 IsBoundedBy (Some least) c = IsAtMost least c
 
--- the clash of a rule and one of a later entry that conflict
-pub record IsClash (rule later : Rule) (c : Clash) : Type 0 where
-  pub first : rule.entry ≡ c.first
-  pub second : later.entry ≡ c.second
-  pub order : rule.entry < later.entry
-  pub number : rule.number ≡ c.number
-  pub conflict : Conflicts rule later
+-- the clash of a rule and a later one
+abbrev pub IsClashOf : Rule → Rule → Clash → Type 0
+IsClashOf rule later c = IsClash rule later c.first c.second c.number
 
--- the clash of some rule and the later one
-pub record IsClashAmong (rules : List Rule) (later : Rule) (c : Clash) : Type 0 where
-  pub rule : Rule
-  pub has_rule : Contains rules rule
-  pub clash : IsClash rule later c
+-- it is bounded, where they have one
+abbrev pub IsClashBounded : Option Clash → Rule → Rule → Type 0
+IsClashBounded least later rule = (c : Clash) → IsClashOf rule later c → IsBoundedBy least c

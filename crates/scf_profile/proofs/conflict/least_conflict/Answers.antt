@@ -1,9 +1,12 @@
-use Rattle.std.proofs.Common.{◌≡◌}
+use Rattle.std.proofs.Common.{◌≡◌, All, subst, sym}
+use Rattle.std.proofs.lemmas.List.{take_all}
+use Rattle.std.proofs.lemmas.List.Elements.{All-more, All-same, All-weaker}
+use Rattle.scf_profile.specs.declared.rule.Rule.{Rule}
 use Rattle.scf_profile.specs.ByNumber.{rules_at}
+use Rattle.scf_profile.specs.internal.Clashes.{IsClashBounded}
 use Rattle.scf_profile.specs.Rule.{IsRule}
 use Rattle.scf_profile.specs.RulesByNumber.{rules_of}
-use Rattle.scf_profile.proofs.LeastClash.{all_own, later_more, conflict_more, least_found, none_found}
-use Rattle.scf_profile.proofs.LeastClash.{to_the_end}
+use Rattle.scf_profile.proofs.LeastClash.{all_own, all_bounded, conflict_more, least_found, none_found}
 use Rattle.scf_profile.proofs.conflict.least_conflict.Goals as goal
 
 pub rules_of_number-requires : goal.rules_of_number-requires
@@ -11,33 +14,39 @@ rules_of_number-requires c = rw c.deref.ensures.value c.in_ok-sorted.ensures.ris
 
 pub least_with-least-requires-clause-rules : goal.least_with-least-requires-clause-rules
 least_with-least-requires-clause-rules c =
-    let number = c.later-item.result.number in
-    all_own IsRule c.args.rules.now (rules_at c.rules_of_number.result.now) number
-    (cc (c.in_ok-sorted.ensures.kept number)) c.requires
+    all_own c.args.rules.now c.rules_of_number.result.now c.later-item.result
+    (cc (c.in_ok-sorted.ensures.kept c.later-item.result.number)) IsRule c.requires
 
 pub loop-later-preserved : goal.loop-later-preserved
 loop-later-preserved c =
     let rules = c.args.rules.now in
-    let own = rules_at c.rules_of_number.result.now in
+    let own = c.rules_of_number.result.now in
     let i = c.loop-later.later-index in
     let later = c.later-item.result in
-    let own_is : own ≡ rules_of later.number rules = cc (c.in_ok-sorted.ensures.kept later.number) in
+    let least = c.loop-later.least in
+    let more = c.least_with-least.result in
+    let own_is : rules_at own ≡ rules_of later.number rules = cc (c.in_ok-sorted.ensures.kept later.number) in
+    let Bounded : Rule → Type 0 = λ l. All (IsClashBounded more l) rules in
     record {
       one =
-          conflict_more rules own c.loop-later.least c.least_with-least.result i later c.loop-later-test.true
-          c.later-item.is own_is c.loop-later.invariant.one c.least_with-least.ensures.one;
+          conflict_more rules own later own_is (i, c.loop-later-test.true, sym c.later-item.is) least more
+          c.loop-later.invariant.one c.least_with-least.ensures.one;
       bounds =
-          later_more rules own c.loop-later.least c.least_with-least.result i later c.loop-later-test.true
-          c.later-item.is own_is c.loop-later.invariant.bounds c.least_with-least.ensures.keeps
-          c.least_with-least.ensures.bounds;
+          All-more Bounded rules i later c.loop-later-test.true
+          (All-weaker (λ l. All (IsClashBounded least l) rules) Bounded
+          (λ l h. All-weaker (IsClashBounded least l) (IsClashBounded more l)
+          (λ r b d is. c.least_with-least.ensures.keeps d (b d is)) rules h) _ c.loop-later.invariant.bounds)
+          (subst Bounded c.later-item.is (all_bounded rules own later own_is more c.least_with-least.ensures.bounds));
     }
 
 pub returns-clause-least : goal.returns-clause-least
 returns-clause-least c =
-    least_found c.args.rules.now c.loop-later.least c.loop-later.invariant.one
-    (λ d r l has_r has_l. c.loop-later.invariant.bounds d r l has_r (to_the_end _ _ l c.loop-later-test.false has_l))
+    least_found c.args.rules.now c.loop-later.least
+    (All-same (λ l. All (IsClashBounded c.loop-later.least l) c.args.rules.now) c.args.rules.now _
+    (sym (take_all _ _ c.loop-later-test.false)) c.loop-later.invariant.bounds) c.loop-later.invariant.one
 
 pub returns-clause-none : goal.returns-clause-none
 returns-clause-none c =
     none_found c.args.rules.now c.loop-later.least
-    (λ d r l has_r has_l. c.loop-later.invariant.bounds d r l has_r (to_the_end _ _ l c.loop-later-test.false has_l))
+    (All-same (λ l. All (IsClashBounded c.loop-later.least l) c.args.rules.now) c.args.rules.now _
+    (sym (take_all _ _ c.loop-later-test.false)) c.loop-later.invariant.bounds)

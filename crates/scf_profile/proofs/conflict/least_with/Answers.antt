@@ -1,25 +1,33 @@
-use Rattle.scf_profile.proofs.LeastClash.{is_rule, one_more, bounds_more, bounds_all}
+use Rattle.std.proofs.Common.{◌≡◌, ◌⊎◌, Some, subst, sym, inr, Bor}
+use Rattle.std.specs.Prelude.{Any}
+use Rattle.std.proofs.lemmas.List.Elements.{All-more, All-weaker}
+use Rattle.scf_profile.specs.declared.rule.Rule.{Rule}
+use Rattle.scf_profile.specs.internal.Clashes.{IsClashBounded, IsClashOf}
+use Rattle.scf_profile.specs.Rule.{IsRule}
+use Rattle.scf_profile.proofs.LeastClash.{one_of_two}
 use Rattle.scf_profile.proofs.conflict.least_with.Goals as goal
 
 pub clash_of-requires-clause-rule : goal.clash_of-requires-clause-rule
 clash_of-requires-clause-rule c =
-    is_rule c.args.rules.now c.loop-rule.rule-index c.rule-item.result c.loop-rule-test.true c.rule-item.is
-    c.requires.rules
+    subst (λ (r : Bor Rule). IsRule r.now) (sym c.rule-item.is)
+    (c.requires.rules c.loop-rule.rule-index c.rule-item.result c.loop-rule-test.true)
 
 pub loop-rule-preserved : goal.loop-rule-preserved
-loop-rule-preserved c = record {
-  one =
-      one_more c.args.rules.now c.loop-rule.rule-index c.rule-item.result c.loop-rule-test.true c.rule-item.is
-      c.args.later.now c.args.known c.loop-rule.least _ c.loop-rule.invariant.one c.clash_of.result
-      c.clash_of.ensures.some c.lesser-least.ensures.one;
-  bounds =
-      bounds_more c.args.rules.now c.loop-rule.rule-index c.rule-item.result c.loop-rule-test.true c.rule-item.is
-      c.args.later.now c.args.known c.loop-rule.least _ c.loop-rule.invariant.bounds c.lesser-least.ensures.keeps
-      (λ d h. c.lesser-least.ensures.bound d (c.clash_of.ensures.all d h));
-  keeps = λ d h. c.lesser-least.ensures.keeps d (c.loop-rule.invariant.keeps d h);
-}
-
-pub returns-clause-bounds : goal.returns-clause-bounds
-returns-clause-bounds c =
-    bounds_all c.args.rules.now c.args.later.now c.loop-rule.least c.loop-rule.rule-index c.loop-rule.invariant.bounds
-    c.loop-rule-test.false
+loop-rule-preserved c =
+    let rules = c.args.rules.now in
+    let later = c.args.later.now in
+    let i = c.loop-rule.rule-index in
+    let Bounded : Bor Rule → Type 0 = λ r. IsClashBounded c.lesser-least.result later r.now in
+    record {
+      one =
+          one_of_two (λ d. (c.args.known ≡ Some d) ⊎ Any (λ r. IsClashOf r.now later d) rules)
+          (IsClashOf c.rule-item.result.now later) c.loop-rule.least c.clash_of.result c.lesser-least.result
+          (λ d is. inr (i, c.rule-item.result, c.loop-rule-test.true, sym c.rule-item.is, is))
+          c.loop-rule.invariant.one c.clash_of.ensures.some c.lesser-least.ensures.one;
+      bounds =
+          All-more Bounded rules i c.rule-item.result c.loop-rule-test.true
+          (All-weaker (λ r. IsClashBounded c.loop-rule.least later r.now) Bounded
+          (λ r h d is. c.lesser-least.ensures.keeps d (h d is)) _ c.loop-rule.invariant.bounds)
+          (subst Bounded c.rule-item.is (λ d is. c.lesser-least.ensures.bound d (c.clash_of.ensures.all d is)));
+      keeps = λ d h. c.lesser-least.ensures.keeps d (c.loop-rule.invariant.keeps d h);
+    }

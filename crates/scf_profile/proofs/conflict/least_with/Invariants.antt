@@ -1,16 +1,13 @@
-use Rattle.std.proofs.Common.{◌≡◌, take, Some, ◌⊎◌}
-use Rattle.std.specs.Prelude.{Contains, IfSome}
-use Rattle.scf_profile.specs.ByNumber.{rules_at}
+use Rattle.std.proofs.Common.{◌≡◌, take, Some, ◌⊎◌, All}
+use Rattle.std.specs.Prelude.{Any, IfSome}
 use Rattle.scf_profile.specs.declared.conflict.Clash.{Clash}
-use Rattle.scf_profile.specs.declared.rule.Rule.{Rule}
-use Rattle.scf_profile.specs.internal.Clashes.{IsBoundedBy, IsClash, IsClashAmong}
+use Rattle.scf_profile.specs.internal.Clashes.{IsBoundedBy, IsClashBounded, IsClashOf}
 use Rattle.scf_profile.proofs.conflict.least_with.Given as goal
 
 -- the least so far of the one that was known and the clashes of the rules so far
 abbrev pub invariant-loop-rule : goal.invariant-loop-rule
 invariant-loop-rule l = record {
-  one : IfSome l.least (λ c. (l.fn.known ≡ Some c) ⊎ IsClashAmong (rules_at l.rules) l.later c);
-  bounds : (c : Clash) (rule : Rule) → Contains (take l.rule-index (rules_at l.rules)) rule → IsClash rule l.later c
-      → IsBoundedBy l.least c;
+  one : IfSome l.least (λ c. (l.fn.known ≡ Some c) ⊎ Any (λ r. IsClashOf r.now l.later c) l.rules);
+  bounds : All (λ r. IsClashBounded l.least l.later r.now) (take l.rule-index l.rules);
   keeps : (c : Clash) → IsBoundedBy l.fn.known c → IsBoundedBy l.least c;
 }

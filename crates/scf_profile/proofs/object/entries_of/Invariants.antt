@@ -1,15 +1,15 @@
-use Rattle.std.proofs.Common.{◌≡◌, ◌≤◌, ◌^◌, [], drop, vec_len, All}
+use Rattle.std.proofs.Common.{◌≡◌, ◌≤◌, ◌^◌, [], drop, vec_len, All, length}
 use Rattle.serde_json.specs.View.{items_view}
 use Rattle.scf_profile.specs.internal.EntryRanges.{IsEntry}
 use Rattle.scf_profile.specs.JsonMembers.{each}
-use Rattle.scf_profile.specs.StatedProfile.{next_entry}
+use Rattle.scf_profile.specs.StatedProfile.{entry_of}
 use Rattle.scf_profile.proofs.object.entries_of.Given as goal
 
 -- the entries so far and the items that are left give what all items give
 abbrev pub invariant-loop-item : goal.invariant-loop-item
 invariant-loop-item l = record {
-  so_far : each next_entry l.entries.items (items_view (drop l.item-index l.items))
-      ≡ each next_entry [] (items_view l.items);
+  so_far : each (λ before. entry_of (length before)) l.entries.items (items_view (drop l.item-index l.items))
+      ≡ each (λ before. entry_of (length before)) [] (items_view l.items);
   count : vec_len l.entries ≤ 2 ^ 32;
   range : All IsEntry l.entries.items;
 }

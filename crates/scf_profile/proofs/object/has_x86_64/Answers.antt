@@ -1,10 +1,13 @@
-use Rattle.std.proofs.Common.{sym, ◌∙◌}
+use Rattle.std.proofs.Common.{rules, tests, List, ℕ, Bor, sym, ◌∙◌}
 use Rattle.std.specs.Str.{bytes_eq}
+use Rattle.std.proofs.lemmas.Iterator.{YieldsList-from_slice}
+use Rattle.std.proofs.lemmas.Iterator.Search.{any_from_yields_List}
 use Rattle.scf_profile.specs.StatedProfile.{x86_64}
-use Rattle.scf_profile.proofs.Loops.{any_at}
+use Rattle.scf_profile.proofs.Loops.{list_any-map}
 use Rattle.scf_profile.proofs.object.has_x86_64.Goals as goal
 
-pub returns-then-is_x86_64 : goal.returns-then-is_x86_64
-returns-then-is_x86_64 c =
-    any_at (bytes_eq x86_64) c.args.names.now c.loop-name.name-index _ c.loop-name-test.true
-    (sym c.is_x86_64.ensures ∙ c.if-is_x86_64.true)
+pub returns : goal.returns
+returns c =
+    any_from_yields_List (λ (t : Bor (List ℕ)). bytes_eq x86_64 t.now) _ _ _ c.any.ensures.ran
+    (YieldsList-from_slice c.args.names.now cc) (λ x b q k. search (rules, tests))
+    ∙ sym (list_any-map (bytes_eq x86_64) (λ (t : Bor (List ℕ)). t.now) c.args.names.now)

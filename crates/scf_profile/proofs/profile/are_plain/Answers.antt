@@ -1,25 +1,15 @@
-use Rattle.std.proofs.Common.{sym, subst, refl}
+use Rattle.std.proofs.Common.{rules, tests, arith}
 use Rattle.std.proofs.lemmas.Bool.{false≢true}
-use Rattle.std.proofs.lemmas.List.Elements.{All-more, All-same, All-get_or}
-use Rattle.std.proofs.lemmas.List.{take_all}
+use Rattle.std.proofs.lemmas.Iterator.{YieldsList-from_slice, cases_from_all}
+use Rattle.std.proofs.lemmas.Iterator.Search.{true_from_All}
 use Rattle.scf_profile.specs.PlainProfile.{IsPlainRule}
 use Rattle.scf_profile.proofs.profile.are_plain.Goals as goal
 
-pub returns-then-not-is_plain : goal.returns-then-not-is_plain
-returns-then-not-is_plain c = (
-  λ h. absurd (false≢true h),
-  λ all. rw c.if-not-is_plain.true at (c.is_plain.ensures.1
-      (subst IsPlainRule (sym c.rule-item.is)
-      (All-get_or IsPlainRule c.args.rules.now c.loop-rule.rule-index c.rule-item.result c.loop-rule-test.true all))),
-)
-
-pub loop-rule-preserved : goal.loop-rule-preserved
-loop-rule-preserved c =
-    All-more IsPlainRule c.args.rules.now c.loop-rule.rule-index c.rule-item.result c.loop-rule-test.true
-    c.loop-rule.invariant (subst IsPlainRule c.rule-item.is (c.is_plain.ensures.0 c.if-not-is_plain.false))
-
 pub returns : goal.returns
-returns c = (
-  λ _. All-same IsPlainRule c.args.rules.now _ (sym (take_all _ _ c.loop-rule-test.false)) c.loop-rule.invariant,
-  λ _. refl,
-)
+returns c =
+    let told = cases_from_all _ _ _ IsPlainRule (λ r. IsPlainRule r → ⊥) c.all.ensures.ran
+    (YieldsList-from_slice c.args.rules.now cc) (λ x q k. search (rules, tests))
+    (λ x q k. search (rules, tests, false≢true)) in (
+      λ yes k d lt. (rw yes at told) k d (omega arith) lt,
+      λ all. true_from_All IsPlainRule (λ r. IsPlainRule r → ⊥) _ c.args.rules.now (λ r is not. not is) told all,
+    )

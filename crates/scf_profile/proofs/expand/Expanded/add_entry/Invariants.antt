@@ -2,7 +2,9 @@ use Rattle.std.proofs.Common.{◌≡◌, ◌≤◌, ◌++◌, drop, vec_len}
 use Rattle.std.specs.List.{filter}
 use Rattle.scf_profile.specs.Limits.{max_rules}
 use Rattle.scf_profile.specs.References.{texts_at}
-use Rattle.scf_profile.specs.StatedProfile.{rules_named, is_skipped}
+use Rattle.std.specs.FinMap.{get}
+use Rattle.std.specs.Prelude.{is_none}
+use Rattle.scf_profile.specs.StatedProfile.{rules_named}
 use Rattle.scf_profile.proofs.expand.Expanded.add_entry.Given as goal
 
 -- what was added and what is stated for the names that are left is what all names state
@@ -10,7 +12,7 @@ abbrev pub invariant-loop-name : goal.invariant-loop-name
 invariant-loop-name l = record {
   rules : l.self.rules.items ++ rules_named l.table l.place l.entry (texts_at (drop l.name-index l.name-items))
       ≡ l.fn.self.rules.items ++ rules_named l.table l.place l.entry l.entry.names;
-  skipped : l.self.skipped ++ filter (is_skipped l.table) (texts_at (drop l.name-index l.name-items))
-      ≡ l.fn.self.skipped ++ filter (is_skipped l.table) l.entry.names;
+  skipped : l.self.skipped ++ filter (λ n. is_none (get l.table n)) (texts_at (drop l.name-index l.name-items))
+      ≡ l.fn.self.skipped ++ filter (λ n. is_none (get l.table n)) l.entry.names;
   few : vec_len l.self.rules ≤ max_rules;
 }
