@@ -1,9 +1,7 @@
 -- What is put before a search makes it a filter.
 use Rattle.std.proofs.Common.{◌≡◌, ℕ, ◌+◌, ◌-◌, ◌*◌, ◌^◌, ◌<◌, ◌≤◌, Bool, true, false, eqb, ltb, List, []}
-use Rattle.std.proofs.Common.{◌∷◌, ◌++◌, length, refl, sym, ap, ◌∙◌, arith, sum_by}
+use Rattle.std.proofs.Common.{◌∷◌, ◌++◌, length, refl, ap, ◌∙◌, arith, sum_by}
 use Rattle.std.specs.Prelude.{IsTrue}
-use Rattle.std.specs.List.{AllByRecursion}
-use Rattle.std.specs.List.Sorted.{IsNonDecreasingBy}
 use Rattle.std.proofs.lemmas.Bool.{le-leb, eqb-true, eqb-false}
 use Rattle.std.proofs.lemmas.Bool.Decides.{nat_tests}
 use Rattle.scf_insn.specs.declared.insn.Insn.{Insn}
@@ -23,14 +21,14 @@ use Rattle.scf_compile.specs.SearchBound.{search_bound_of}
 use Rattle.scf_compile.specs.SizeBound.{rule_bound, size_bound_of}
 use Rattle.scf_compile.specs.internal.Insns.{jump_if, load_word, return_with}
 use Rattle.scf_compile.specs.internal.Placing.{branch_code, code_from, IsFirst, IsPut}
-use Rattle.scf_compile.specs.internal.Filters.{first_answer, ArePut, IsSearchPut, AnswersCall, IsFilterOf}
+use Rattle.scf_compile.specs.internal.Filters.{ArePut, IsSearchPut, AnswersCall, IsFilterOf}
 use Rattle.scf_compile.specs.internal.Runs.{EndsWithin}
 use Rattle.scf_compile.specs.internal.Sound.{AreSound}
-use Rattle.scf_compile.specs.internal.Stretches.{StandsFor, rules_along, rules_on, first_of, stretch_bound}
+use Rattle.scf_compile.specs.internal.Stretches.{AllRules, AreServed, first_answer, stretch_bound}
 use Rattle.scf_compile.proofs.Runs.{more, loads, jumps, load_sound, jump_sound}
 use Rattle.scf_compile.proofs.RuleCode.{return_answers, answers_put, answers_there, branch_ends, from_first}
 use Rattle.scf_compile.proofs.Searches.{stays, longer, puts_join, branch_put}
-use Rattle.scf_compile.proofs.Profiles.{first_met, stand_alike}
+use Rattle.scf_compile.proofs.Profiles.{first_met}
 
 -- only what is far is gone to by a jump of its own
 near_branch : (test : Test) (constant hit miss : ℕ) → miss ≤ 255
@@ -41,12 +39,9 @@ near_branch test constant hit miss le = rw (le-leb miss 255 le) refl
 -- bounds are kept.
 pub record Serve (p : Profile) (ss : List Stretch) : Type 0 where
   pub some : 0 < length ss
-  pub fine : AllByRecursion IsRule (rules_along ss)
-  pub plain : IsPlainProfile p → AllByRecursion IsPlainRule (rules_along ss)
-  pub rising : IsNonDecreasingBy (λ s. s.first) ss
-  pub whole : first_of ss ≡ 0
-  pub stand : (nr : ℕ) → nr < x32_syscall_bit
-      → StandsFor p.default_answer (rules_on [] ss nr) (rules_of nr p.rules)
+  pub fine : AllRules IsRule ss
+  pub plain : IsPlainProfile p → AllRules IsPlainRule ss
+  pub serve : AreServed p.default_answer (λ nr. rules_of nr p.rules) 0 ss x32_syscall_bit
   pub small : 5 + sum_by stretch_bound ss ≤ size_bound_of p
   pub below : size_bound_of p < 2 ^ 31
   pub halvings : ℕ
@@ -58,8 +53,8 @@ kill = seccomp_ret_kill_process
 
 -- an instruction that answers is put before some code, or stands there
 pub kill_put : {before after : List Insn} {place : Place} → IsPut (return_with kill ∷ []) before after place
-    → ArePut [] 1 before after place
-kill_put put = answers_put [] (return_answers kill 1 (Unit {0}) (omega arith)) (λ _. tt) put
+    → ArePut (Unit {0}) 1 before after place
+kill_put put = answers_put (Unit {0}) (return_answers kill 1 (Unit {0}) (omega arith)) (λ _. tt) put
 
 kill_there : {before after : List Insn} {place : Place} → IsPut (return_with kill ∷ []) before after place
     → (call : CallRecord) → IsRecord call → (a : ℕ) → EndsWithin (words_of call) (code_from place after) a kill 1
@@ -71,15 +66,15 @@ module _ {p : Profile} {ss : List Stretch} {searched killed ranged loaded : List
     (test : IsFirst (branch_code GreaterOrEqual x32_syscall_bit (length killed - x32.0) (length killed - search.0))
     killed ranged range)
     (load : loaded ≡ load_word 0 ∷ ranged) where
-  above_put : ArePut [] 1 searched killed x32
+  above_put : ArePut (Unit {0}) 1 searched killed x32
   above_put = kill_put above
 
-  ranged_put : ArePut (rules_along ss) (2 + (1 + found.room)) [] ranged range
+  ranged_put : ArePut (AllRules IsPlainRule ss) (2 + (1 + found.room)) [] ranged range
   ranged_put =
       let stands = above_put.near.stands in
       let stood = found.put.near.stands in
       branch_put x32 search GreaterOrEqual x32_syscall_bit (λ h m. tt)
-      (puts_join (rules_along ss) found.put above_put (λ plain. (plain, tt))) above_put.some stands found.put.some
+      (puts_join (AllRules IsPlainRule ss) found.put above_put (λ all. (all, tt))) above_put.some stands found.put.some
       (omega (arith, (longer above_put).0)) test
 
   len : (length loaded ≡ 1 + length ranged) × (length ranged ≤ 3 + found.room) × (0 < length ranged)
@@ -101,7 +96,7 @@ module _ {p : Profile} {ss : List Stretch} {searched killed ranged loaded : List
       (arch : IsFirst (branch_code Equal audit_arch_x86_64 (length answered - native.0) (length answered - other.0))
       answered tested first)
       (whole : code ≡ load_word 1 ∷ tested) where
-    beside_put : ArePut [] 1 loaded answered other
+    beside_put : ArePut (Unit {0}) 1 loaded answered other
     beside_put = kill_put beside
 
     abbrev to_native : ℕ
@@ -148,7 +143,7 @@ module _ {p : Profile} {ss : List Stretch} {searched killed ranged loaded : List
 
       -- by the number
       range_ends : (answer : ℕ) → (x32_syscall_bit ≤ call.nr → answer ≡ kill)
-          → (call.nr < x32_syscall_bit → answer ≡ first_answer call p.default_answer (rules_on [] ss call.nr))
+          → (call.nr < x32_syscall_bit → answer ≡ first_answer call p.default_answer (rules_of call.nr p.rules))
           → EndsWithin (words_of call) loaded call.arch answer
           (4 + (2 * serve.halvings + sum_by rule_bound (rules_of call.nr p.rules)))
       range_ends answer high low =
@@ -159,12 +154,9 @@ module _ {p : Profile} {ss : List Stretch} {searched killed ranged loaded : List
           (λ e. rw (high (grind (arith, nat_tests, e)))
           (more (kill_there above call fits call.nr) (omega arith)))
           (λ e. let below : call.nr < x32_syscall_bit = grind (arith, nat_tests, e) in
-          let stands = found.put.near.stands in
-          let bound = (stand_alike p.default_answer call _ _ (serve.stand call.nr below)).1 in
-          rw (stays search above_put stands, low below)
-          (more (found.ends call serve.halvings fits serve.rising (omega (arith, serve.whole)) serve.few)
-          (omega arith)))))
-          (omega arith))
+          rw (stays search above_put found.put.near.stands, low below)
+          (found.ends call (λ nr. rules_of nr p.rules) 0 x32_syscall_bit serve.halvings fits serve.serve (omega arith)
+          below serve.few)))) (omega arith))
 
       answered_of : (own below : Bool) → eqb call.arch audit_arch_x86_64 ≡ own → ltb call.nr x32_syscall_bit ≡ below
           → AnswersCall p code call
@@ -183,11 +175,10 @@ module _ {p : Profile} {ss : List Stretch} {searched killed ranged loaded : List
       }
       answered_of true true own lower =
           let below : call.nr < x32_syscall_bit = grind (arith, nat_tests, lower) in
-          let same = (stand_alike p.default_answer call _ _ (serve.stand call.nr below)).0 in
           record {
             answer = first_answer call p.default_answer (rules_of call.nr p.rules);
             of_words =
-                arch_ends _ (λ _. range_ends _ (λ le. absurd (omega arith)) (λ _. sym same)) (λ other. absurd (cc));
+                arch_ends _ (λ _. range_ends _ (λ le. absurd (omega arith)) (λ _. refl)) (λ other. absurd (cc));
             of_profile = first_met p.default_answer call p.rules (record { arch = eqb-true _ _ own; nr = below });
           }
 

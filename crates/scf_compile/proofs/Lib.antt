@@ -7,8 +7,6 @@ pub mod Searches
 pub mod Profiles
 pub mod Filters
 pub mod Sizes
-pub mod OwnRules
-pub mod Cutting
 pub mod Laying
 pub mod Counts
 pub mod Valid

@@ -1,20 +1,15 @@
 -- The first rule that a call meets gives the profile's answer.
-use Rattle.std.proofs.Common.{◌≡◌, ℕ, ◌<◌, ◌≤◌, Bool, true, false, cond, eqb, List, [], ◌∷◌, length, refl, sym, ap, ◌∙◌}
-use Rattle.std.proofs.Common.{subst, arith, inl, inr, sum_by}
-use Rattle.std.specs.List.{AllByRecursion}
+use Rattle.std.proofs.Common.{◌≡◌, ℕ, ◌<◌, Bool, true, false, eqb, List, [], ◌∷◌, refl, sym}
+use Rattle.std.proofs.Common.{subst, arith, inl, inr}
 use Rattle.std.proofs.lemmas.Bool.{and_left, and_right, and_from, eqb-true, eqb-false, eq-eqb, ne_eqb}
-use Rattle.std.proofs.lemmas.List.Sums.{sum_by-cons}
 use Rattle.scf_insn.specs.declared.answer.Answer.{Answer}
 use Rattle.scf_insn.specs.declared.record.CallRecord.{CallRecord}
-use Rattle.scf_profile.specs.declared.condition.Condition.{Condition}
 use Rattle.scf_profile.specs.declared.rule.Rule.{Rule}
 use Rattle.scf_profile.specs.Rule.{meets, all_hold}
 use Rattle.scf_profile.specs.Profile.{Profile, IsNative}
 use Rattle.scf_profile.specs.ProfileAnswers.{ProfileAnswers, foreign, by_rule, by_default}
 use Rattle.scf_profile.specs.RulesByNumber.{rules_of}
-use Rattle.scf_compile.specs.SizeBound.{rule_bound}
-use Rattle.scf_compile.specs.internal.Filters.{first_answer}
-use Rattle.scf_compile.specs.internal.Stretches.{AreAlike, StandsFor}
+use Rattle.scf_compile.specs.internal.Stretches.{first_answer}
 use Rattle.scf_compile.proofs.Lists.{behind, cases_of}
 
 module _ (default : Answer) (call : CallRecord) where
@@ -46,32 +41,3 @@ module _ (default : Answer) (call : CallRecord) where
           let same = eq-eqb call.nr x.number (sym (eqb-true x.number call.nr s)) in
           rw (s, m) (by_rule x native (0, omega arith, refl) (and_from _ _ same m))
       by_tests true false s m rest = rw (s, m) (passed x xs _ (and_right _ _ m) rest)
-
-  either_way : (met : Bool) (a b : ℕ) → a ≡ b → cond met a b ≡ b
-  either_way true a b e = e
-  either_way false a b e = refl
-
-  of_default : (rs : List Rule) → AllByRecursion (λ r. r.answer ≡ default) rs → first_answer call default rs ≡ default.0
-  of_default [] h = refl
-  of_default (r ∷ rs) h =
-      let rest = of_default rs h.1 in
-      either_way (all_hold call r.conditions) r.answer.0 (first_answer call default rs)
-      (ap (λ (answer : Answer). answer.0) h.0 ∙ sym rest) ∙ rest
-
-  of_alike : (rs ss : List Rule) → AreAlike rs ss
-      → (first_answer call default rs ≡ first_answer call default ss) × (sum_by rule_bound rs ≡ sum_by rule_bound ss)
-  of_alike [] [] h = (refl, refl)
-  of_alike [] (s ∷ ss) h = absurd h
-  of_alike (r ∷ rs) [] h = absurd h
-  of_alike (r ∷ rs) (s ∷ ss) h =
-      let rest = of_alike rs ss h.2 in (
-        rw (h.0, h.1, rest.0) refl,
-        rw (sum_by-cons rule_bound r rs, sum_by-cons rule_bound s ss, h.0, rest.1) refl,
-      )
-
-  -- Rules that stand for others answer as they do, and have no greater bound.
-  pub stand_alike : (rules others : List Rule) → StandsFor default rules others
-      → (first_answer call default rules ≡ first_answer call default others)
-      × (sum_by rule_bound rules ≤ sum_by rule_bound others)
-  stand_alike rules others (inl alike) = let is = of_alike rules others alike in (is.0, omega (arith, is.1))
-  stand_alike rules others (inr none) = rw none.0 (sym (of_default others none.1), omega arith)

@@ -24,10 +24,10 @@ use Rattle.scf_compile.specs.declared.placing.Place.{Place}
 use Rattle.scf_compile.specs.SizeBound.{rule_bound}
 use Rattle.scf_compile.specs.internal.Insns.{jump_if, jump_over, return_with}
 use Rattle.scf_compile.specs.internal.Placing.{branch_code, code_from, IsNear, IsPut}
-use Rattle.scf_compile.specs.internal.Filters.{conditions_code, behind_rule, rules_code, first_answer, ArePut}
+use Rattle.scf_compile.specs.internal.Filters.{conditions_code, behind_rule, rules_code, ArePut}
 use Rattle.scf_compile.specs.internal.Runs.{EndsWithin}
 use Rattle.scf_compile.specs.internal.Sound.{AreSound}
-use Rattle.scf_compile.specs.internal.Stretches.{rules_bound}
+use Rattle.scf_compile.specs.internal.Stretches.{first_answer, rules_bound}
 use Rattle.scf_compile.proofs.Runs.{more, past, answers, jumps, passes, jump_sound, pass_sound, return_sound}
 use Rattle.scf_compile.proofs.Tests.{conditions_tests}
 
@@ -177,10 +177,9 @@ first_near code place is = record { stands = omega arith; near = omega arith }
 
 -- code that answers is put before some code, or stands there
 pub answers_put : {block before after : List Insn} {place : Place} {most : ℕ} {p : Type 0} {f : CallRecord → ℕ}
-    (rules : List Rule) → Answers block most p f → (AllByRecursion IsPlainRule rules → p)
-    → IsPut block before after place
-    → ArePut rules (length block) before after place
-answers_put {block} {before} {after} {place} rules is plain put = by_put put.put
+    (plain : Type 0) → Answers block most p f → (plain → p) → IsPut block before after place
+    → ArePut plain (length block) before after place
+answers_put {block} {before} {after} {place} plain is simple put = by_put put.put
   where
     some : 0 < place.0
     some =
@@ -193,7 +192,7 @@ answers_put {block} {before} {after} {place} rules is plain put = by_put put.put
           length-drop (length after - place.0) after,
         )
 
-    by_put : (after ≡ before) ⊎ (after ≡ block ++ before) → ArePut rules (length block) before after place
+    by_put : (after ≡ before) ⊎ (after ≡ block ++ before) → ArePut plain (length block) before after place
     by_put (inl same) = record {
       front = [];
       whole = same;
@@ -208,7 +207,7 @@ answers_put {block} {before} {after} {place} rules is plain put = by_put put.put
       few = omega arith;
       some = some;
       near = put.near;
-      sound = λ asked e s. rw whole (is.sound asked before (λ h. plain (e h)) s);
+      sound = λ asked e s. rw whole (is.sound asked before (λ h. simple (e h)) s);
     }
 
 pub answers_there : {block before after : List Insn} {place : Place} {most : ℕ} {p : Type 0} {f : CallRecord → ℕ}

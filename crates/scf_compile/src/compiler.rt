@@ -12,7 +12,6 @@ ghost use Rattle.scf_compile.specs.internal.Filters.{IsFilterOf};
 
 use crate::fault::CompileFault;
 use crate::insns::{load_word, return_with};
-use crate::numbers::cut_by_number;
 use crate::placing::{Place, put_block, put_branch};
 use crate::search::put_search;
 use crate::stretches::stretches_of;
@@ -29,8 +28,7 @@ fn filter_of(alloc: Global, profile: &Profile) -> Result<Vec<Insn>, Memory>
 {
     let default = profile.default_answer();
     let sorted = rules_by_number(alloc, profile.rules())?;
-    let numbers = cut_by_number(alloc, &sorted)?;
-    let stretches = stretches_of(alloc, &numbers, default)?;
+    let stretches = stretches_of(alloc, &sorted, default)?;
     let mut code = VecDeque::new(alloc);
     let calls = put_search(alloc, &mut code, &stretches, default)?;
     let x32 = put_block(&mut code, &[return_with(FOREIGN_ANSWER)])?;

@@ -1,10 +1,9 @@
 //! The tests of the call number that lead to its rules: a search by halves.
 
 ghost use Rattle.std.specs.Prelude.{◌+◌, ◌^◌, ◌<◌, IfOk, length, sum_by};
-ghost use Rattle.std.specs.List.{AllByRecursion};
 ghost use Rattle.scf_profile.specs.Rule.{IsRule};
 ghost use Rattle.scf_compile.specs.internal.Filters.{IsSearchPut};
-ghost use Rattle.scf_compile.specs.internal.Stretches.{rules_along, stretch_bound};
+ghost use Rattle.scf_compile.specs.internal.Stretches.{AllRules, stretch_bound};
 
 use crate::placing::{Place, put_block, put_branch};
 use crate::rules::put_rules;
@@ -21,7 +20,7 @@ pub(crate) fn put_search(
     default: Answer,
 ) -> Result<Place, AllocError>
     requires some { 0 < length stretches.now }
-    requires rules { AllByRecursion IsRule (rules_along stretches.now) }
+    requires rules { AllRules IsRule stretches.now }
     requires small { length code.now.items + sum_by stretch_bound stretches.now < 2 ^ 32 }
     ensures { IfOk result (IsSearchPut default stretches.now code.old.items code.new.items) }
 {

@@ -1,12 +1,13 @@
 //! The rules that apply from each number on: what a profile says of a number is the same along a stretch of numbers.
 
-ghost use Rattle.std.specs.Prelude.{◌≡◌, IfOk, IsTrue, OnOk};
-ghost use Rattle.scf_insn.specs.Kernel.{x32_syscall_bit};
+ghost use Rattle.std.specs.Prelude.{◌≡◌, All, IfOk, IsTrue, OnOk};
+ghost use Rattle.std.specs.List.Sorted.{IsNonDecreasingBy};
+ghost use Rattle.scf_insn.specs.declared.answer.Answer.{Answer};
 ghost use Rattle.scf_profile.specs.ByNumber.{rules_at};
-ghost use Rattle.scf_compile.specs.internal.Numbers.{RiseBetween};
-ghost use Rattle.scf_compile.specs.internal.Stretches.{AreAlike, AreStretchesOf, AreTelling, IsLaid};
+ghost use Rattle.scf_profile.specs.Rule.{IsRule};
+ghost use Rattle.scf_compile.specs.internal.Stretches.{AreStretchesOf, AreTelling, IsLaid, StandsFor};
 
-use crate::numbers::NumberRules;
+use crate::numbers::{NumberRules, cut_lowest};
 use scf_insn::Answer;
 use scf_insn::kernel::X32_SYSCALL_BIT;
 use scf_profile::Rule;
@@ -22,7 +23,7 @@ pub(crate) struct Stretch<'a> {
 
 /// Whether two lists of rules answer alike, whatever their numbers: equal conditions and answers in the same order.
 fn are_alike(rules: &[&Rule], others: &[&Rule]) -> bool
-    ensures { IsTrue result → AreAlike (rules_at rules.now) (rules_at others.now) }
+    ensures { IsTrue result → (default : Answer) → StandsFor default (rules_at rules.now) (rules_at others.now) }
 {
     if rules.len() != others.len() {
         return false;
@@ -67,24 +68,28 @@ fn put_stretch<'a>(
     Ok(())
 }
 
-/// The stretches of rising numbers: numbers that follow one another and have like rules are one stretch, and those
-/// between them, which have no rules, are others.
+/// The stretches of rules that stand in the order of their numbers: numbers that follow one another and have like rules
+/// are one stretch, and those between them, which have no rules, are others.
 pub(crate) fn stretches_of<'a>(
     alloc: Global,
-    numbers: &[NumberRules<'a>],
+    rules: &'a [&'a Rule],
     default: Answer,
 ) -> Result<Vec<Stretch<'a>>, AllocError>
-    requires { RiseBetween 0 x32_syscall_bit numbers.now }
-    ensures { IfOk result (λ stretches. AreStretchesOf default stretches.items numbers.now) }
+    requires each { All IsRule (rules_at rules.now) }
+    requires rising { IsNonDecreasingBy (λ r. r.number) (rules_at rules.now) }
+    ensures { IfOk result (λ stretches. AreStretchesOf default stretches.items (rules_at rules.now)) }
 {
     let mut stretches = Vec::new(alloc);
     let mut next = 0;
-    for own in numbers {
+    let mut first = 0;
+    while first < rules.len() {
+        let own = cut_lowest(&rules[first..]);
         if next < own.number {
             put_stretch(&mut stretches, next, &[])?;
         }
-        put_stretch(&mut stretches, own.number, telling_rules(own, default))?;
+        put_stretch(&mut stretches, own.number, telling_rules(&own, default))?;
         next = own.number + 1;
+        first += own.rules.len();
     }
     if next < X32_SYSCALL_BIT {
         put_stretch(&mut stretches, next, &[])?;

@@ -1,8 +1,5 @@
 -- The instructions of rules, and what is put together of them: a search of the call number, and the whole filter.
 use Rattle.std.specs.Prelude.{◌≡◌, ℕ, ◌+◌, ◌*◌, ◌^◌, ◌<◌, ◌≤◌, Bool, List, [], ◌∷◌, ◌++◌, length, sum_by, IsTrue}
-use Rattle.std.specs.Prelude.{if◌then◌else◌}
-use Rattle.std.specs.List.{AllByRecursion}
-use Rattle.std.specs.List.Sorted.{IsNonDecreasingBy}
 use Rattle.scf_insn.specs.declared.insn.Insn.{Insn}
 use Rattle.scf_insn.specs.declared.answer.Answer.{Answer}
 use Rattle.scf_insn.specs.declared.record.CallRecord.{CallRecord}
@@ -12,7 +9,6 @@ use Rattle.scf_profile.specs.declared.rule.Rule.{Rule}
 use Rattle.scf_profile.specs.PlainProfile.{IsPlainProfile, IsPlainRule}
 use Rattle.scf_profile.specs.Profile.{Profile}
 use Rattle.scf_profile.specs.ProfileAnswers.{ProfileAnswers}
-use Rattle.scf_profile.specs.Rule.{all_hold}
 use Rattle.scf_compile.specs.declared.placing.Place.{Place}
 use Rattle.scf_compile.specs.declared.stretches.Stretch.{Stretch}
 use Rattle.scf_compile.specs.SearchBound.{search_bound_of}
@@ -22,7 +18,7 @@ use Rattle.scf_compile.specs.internal.Blocks.{condition_code}
 use Rattle.scf_compile.specs.internal.Placing.{code_from, IsNear}
 use Rattle.scf_compile.specs.internal.Runs.{EndsWithin}
 use Rattle.scf_compile.specs.internal.Sound.{AreSound}
-use Rattle.scf_compile.specs.internal.Stretches.{first_of, rules_along, rules_on, stretch_bound}
+use Rattle.scf_compile.specs.internal.Stretches.{AllRules, AreServed, first_answer, stretch_bound}
 
 -- the conditions of a rule, each of which passes what is left of them and one instruction more where it fails
 abbrev pub conditions_code : List Condition → List Insn
@@ -43,34 +39,26 @@ abbrev pub rules_code : Answer → List Rule → List Insn
 rules_code default [] = return_with default.0 ∷ []
 rules_code default (r ∷ rs) = rule_code r ++ behind_rule r.conditions (rules_code default rs)
 
--- the answer of the first of the rules whose conditions hold, else the default
-abbrev pub first_answer : CallRecord → Answer → List Rule → ℕ
-first_answer call default [] = default.0
-first_answer call default (r ∷ rs) =
-    (if all_hold call r.conditions then r.answer.0 else first_answer call default rs)
-
--- Some instructions are put before others, which stay sound with them, and plain where these rules are.
-pub record ArePut (rules : List Rule) (room : ℕ) (before after : List Insn) (place : Place) : Type 0 where
+-- Some instructions are put before others, which stay sound with them, and plain where this is so.
+pub record ArePut (plain : Type 0) (room : ℕ) (before after : List Insn) (place : Place) : Type 0 where
   pub front : List Insn
   pub whole : after ≡ front ++ before
   pub few : length front ≤ room
   pub some : 0 < place.0
   pub near : IsNear place after
-  pub sound : (plain : Bool) → (IsTrue plain → AllByRecursion IsPlainRule rules) → AreSound plain before
-      → AreSound plain after
+  pub sound : (asked : Bool) → (IsTrue asked → plain) → AreSound asked before → AreSound asked after
 
--- From a place on each call with a number from the first on is answered by the rules of its stretch, after two steps
--- for each halving of the stretches.
+-- From a place on each call with a number that the stretches serve is answered by the rules wanted of it, after two
+-- steps for each halving of the stretches.
 pub record IsSearchPut (default : Answer) (stretches : List Stretch) (before after : List Insn) (place : Place)
     : Type 0 where
   pub room : ℕ
   pub small : room + 2 ≤ sum_by stretch_bound stretches
-  pub put : ArePut (rules_along stretches) room before after place
-  pub ends : (call : CallRecord) (halvings : ℕ) → IsRecord call → IsNonDecreasingBy (λ s. s.first) stretches
-      → first_of stretches ≤ call.nr → length stretches ≤ 2 ^ halvings
-      → EndsWithin (words_of call) (code_from place after) call.nr
-      (first_answer call default (rules_on [] stretches call.nr))
-      (2 * halvings + (1 + sum_by rule_bound (rules_on [] stretches call.nr)))
+  pub put : ArePut (AllRules IsPlainRule stretches) room before after place
+  pub ends : (call : CallRecord) (wanted : ℕ → List Rule) (low high halvings : ℕ) → IsRecord call
+      → AreServed default wanted low stretches high → low ≤ call.nr → call.nr < high → length stretches ≤ 2 ^ halvings
+      → EndsWithin (words_of call) (code_from place after) call.nr (first_answer call default (wanted call.nr))
+      (2 * halvings + (1 + sum_by rule_bound (wanted call.nr)))
 
 -- what the filter and the profile answer to a call
 pub record AnswersCall (p : Profile) (code : List Insn) (call : CallRecord) : Type 0 where

@@ -1,49 +1,32 @@
 -- The rules that apply from each number on.
-use Rattle.std.specs.Prelude.{◌≡◌, ℕ, ◌+◌, ◌*◌, ◌<◌, ◌≤◌, ◌⊎◌, nat_le, List, [], ◌∷◌, ◌++◌, length, sum_by, Contains}
+use Rattle.std.specs.Prelude.{◌≡◌, ℕ, ◌+◌, ◌*◌, ◌<◌, ◌≤◌, ◌⊎◌, All, Contains, List, [], ◌∷◌, ◌++◌, length, sum_by}
 use Rattle.std.specs.Prelude.{if◌then◌else◌}
 use Rattle.std.specs.Borrow.{Bor}
-use Rattle.std.specs.List.{AllByRecursion}
-use Rattle.std.specs.List.Sorted.{IsNonDecreasingBy}
 use Rattle.scf_insn.specs.declared.answer.Answer.{Answer}
+use Rattle.scf_insn.specs.declared.record.CallRecord.{CallRecord}
 use Rattle.scf_insn.specs.Kernel.{x32_syscall_bit}
 use Rattle.scf_profile.specs.declared.rule.Rule.{Rule}
 use Rattle.scf_profile.specs.ByNumber.{rules_at}
+use Rattle.scf_profile.specs.Rule.{all_hold}
 use Rattle.scf_profile.specs.RulesByNumber.{rules_of}
-use Rattle.scf_compile.specs.declared.numbers.NumberRules.{NumberRules}
 use Rattle.scf_compile.specs.declared.stretches.Stretch.{Stretch}
 use Rattle.scf_compile.specs.SizeBound.{rule_bound}
-use Rattle.scf_compile.specs.internal.Numbers.{cut_rules}
 
--- The rules have equal conditions and answers, in the same order.
-abbrev pub AreAlike : List Rule → List Rule → Type 0
-AreAlike [] [] = Unit {0}
-AreAlike (r ∷ rs) (s ∷ ss) = (r.conditions ≡ s.conditions) × (r.answer ≡ s.answer) × AreAlike rs ss
-AreAlike _ _ = ⊥
+-- the answer of the first of the rules whose conditions hold, else the default
+abbrev pub first_answer : CallRecord → Answer → List Rule → ℕ
+first_answer call default [] = default.0
+first_answer call default (r ∷ rs) =
+    (if all_hold call r.conditions then r.answer.0 else first_answer call default rs)
 
--- The rules answer as others do: they are alike, or there are none and all the others answer as the default does.
-abbrev pub StandsFor : Answer → List Rule → List Rule → Type 0
-StandsFor default rules others =
-    AreAlike rules others ⊎ ((rules ≡ []) × AllByRecursion (λ r. r.answer ≡ default) others)
+-- The rules answer each call as others do, and have no greater bound.
+pub record StandsFor (default : Answer) (rules others : List Rule) : Type 0 where
+  pub answers : (call : CallRecord) → first_answer call default rules ≡ first_answer call default others
+  pub small : sum_by rule_bound rules ≤ sum_by rule_bound others
 
--- The rules of a number that tell: all of them, or none where each answers as the default does.
-abbrev pub AreTelling : Answer → List (Bor Rule) → List (Bor Rule) → Type 0
-AreTelling default telling own =
-    (telling ≡ own) ⊎ ((telling ≡ []) × AllByRecursion (λ r. r.answer ≡ default) (rules_at own))
-
--- the rules of some stretches, those of one after those of another
-abbrev pub rules_along : List Stretch → List Rule
-rules_along [] = []
-rules_along (s ∷ ss) = rules_at s.rules.now ++ rules_along ss
-
--- the rules that apply to a number: those of the last stretch that doesn't begin above it, else those `before` them all
-abbrev pub rules_on : List Rule → List Stretch → ℕ → List Rule
-rules_on before [] nr = before
-rules_on before (s ∷ ss) nr = rules_on (if nat_le s.first nr then rules_at s.rules.now else before) ss nr
-
--- the first number of some stretches
-abbrev pub first_of : List Stretch → ℕ
-first_of [] = 0
-first_of (s ∷ ss) = s.first
+-- The rules of a number that tell: they stand for all of them, and are all or none.
+pub record AreTelling (default : Answer) (telling own : List (Bor Rule)) : Type 0 where
+  pub stand : StandsFor default (rules_at telling) (rules_at own)
+  pub some : (telling ≡ own) ⊎ (telling ≡ [])
 
 -- a count of instructions that a stretch stays within: with its share of the tests of the call number
 abbrev pub rules_bound : List Rule → ℕ
@@ -53,20 +36,37 @@ rules_bound (r ∷ rs) = 1 + sum_by rule_bound (r ∷ rs)
 abbrev pub stretch_bound : Stretch → ℕ
 stretch_bound s = rules_bound (rules_at s.rules.now)
 
--- From a number on the rules apply: a stretch of them stands behind the others, or the last of these has like ones.
+-- what holds of each rule of some stretches
+abbrev pub AllRules : (Rule → Type 0) → List Stretch → Type 0
+AllRules P stretches = All (λ s. All P (rules_at s.rules.now)) stretches
+
+-- The stretch begins at the lower bound, and up to the other one its rules stand for those wanted of each number.
+pub record IsServed (default : Answer) (wanted : ℕ → List Rule) (s : Stretch) (low high : ℕ) : Type 0 where
+  pub first : s.first ≡ low
+  pub some : low < high
+  pub stand : (nr : ℕ) → low ≤ nr → nr < high → StandsFor default (rules_at s.rules.now) (wanted nr)
+
+-- the numbers from one bound up to another have a stretch each: every stretch goes on up to the next one
+abbrev pub AreServed : Answer → (ℕ → List Rule) → ℕ → List Stretch → ℕ → Type 0
+AreServed default wanted low [] high = low ≡ high
+AreServed default wanted low (s ∷ ss) high =
+    (middle : ℕ) × IsServed default wanted s low middle × AreServed default wanted middle ss high
+
+-- From a number on the rules apply: a stretch of them stands behind the others, or the last one's stand for them.
 pub data IsLaid (before : List Stretch) (first : ℕ) (rules : List (Bor Rule)) (after : List Stretch) : Type 0 where
   begins : (s : Stretch) → s.first ≡ first → s.rules.now ≡ rules → after ≡ before ++ s ∷ []
       → IsLaid before first rules after
   goes_on : (earlier : List Stretch) (last : Stretch) → before ≡ earlier ++ last ∷ []
-      → AreAlike (rules_at last.rules.now) (rules_at rules) → after ≡ before → IsLaid before first rules after
+      → ((default : Answer) → StandsFor default (rules_at last.rules.now) (rules_at rules)) → after ≡ before
+      → IsLaid before first rules after
 
--- These are the stretches of the numbers.
-pub record AreStretchesOf (default : Answer) (stretches : List Stretch) (numbers : List NumberRules) : Type 0 where
-  pub some : 0 < length stretches
-  pub whole : first_of stretches ≡ 0
-  pub rising : IsNonDecreasingBy (λ s. s.first) stretches
-  pub serve : (nr : ℕ) → nr < x32_syscall_bit
-      → StandsFor default (rules_on [] stretches nr) (rules_of nr (cut_rules numbers))
-  pub own : AllByRecursion (Contains (cut_rules numbers)) (rules_along stretches)
-  pub few : length stretches ≤ 1 + 2 * length numbers
-  pub small : sum_by stretch_bound stretches ≤ 3 + 4 * length numbers + sum_by rule_bound (cut_rules numbers)
+-- the numbers of the rules are among these
+abbrev pub AreAmong : List ℕ → List Rule → Type 0
+AreAmong numbers rules = (nr : ℕ) → Contains numbers nr ⊎ (rules_of nr rules ≡ [])
+
+-- These are the stretches of the rules: each number is served by one, and they are few and small.
+pub record AreStretchesOf (default : Answer) (stretches : List Stretch) (rules : List Rule) : Type 0 where
+  pub serve : AreServed default (λ nr. rules_of nr rules) 0 stretches x32_syscall_bit
+  pub own : AllRules (Contains rules) stretches
+  pub few : (numbers : List ℕ) → AreAmong numbers rules → (length stretches ≤ 1 + 2 * length numbers)
+      × (sum_by stretch_bound stretches ≤ 3 + 4 * length numbers + sum_by rule_bound rules)

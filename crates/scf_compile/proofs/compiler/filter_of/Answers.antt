@@ -7,38 +7,32 @@ use Rattle.scf_profile.specs.declared.rule.Rule.{Rule}
 use Rattle.scf_profile.specs.Profile.{Profile, IsProfile}
 use Rattle.scf_profile.specs.ByNumber.{IsByNumber, rules_at}
 use Rattle.scf_profile.specs.Rule.{IsRule}
-use Rattle.scf_compile.specs.declared.numbers.NumberRules.{NumberRules}
 use Rattle.scf_compile.specs.declared.stretches.Stretch.{Stretch}
 use Rattle.scf_compile.specs.internal.Insns.{load_word}
-use Rattle.scf_compile.specs.internal.Numbers.{IsCut}
 use Rattle.scf_compile.specs.internal.Stretches.{AreStretchesOf}
 use Rattle.scf_compile.proofs.Counts.{serves}
 use Rattle.scf_compile.proofs.Filters.{Serve, answered_few, filter_put, kill_put}
 use Rattle.scf_compile.proofs.Searches.{longer, put_len}
 use Rattle.scf_compile.proofs.compiler.filter_of.Goals as goal
 
-pub cut_by_number-requires-clause-each : goal.cut_by_number-requires-clause-each
-cut_by_number-requires-clause-each c =
+pub stretches_of-requires-clause-each : goal.stretches_of-requires-clause-each
+stretches_of-requires-clause-each c =
     rw c.deref.ensures.value
     (All-permutation IsRule c.args.profile.now.rules _ (rw c.rules.ensures.rules at c.in_ok-sorted.ensures.same)
     (All-from_recursion IsRule c.args.profile.now.rules c.rules.ensures.profile.each))
 
-pub stretches_of-requires : goal.stretches_of-requires
-stretches_of-requires c = rw c.deref-2.ensures.value c.in_ok-numbers.ensures.rising
-
 -- the search of the stretches that were made serves the profile, wherever they are referred to
 served : {p : Profile} {default : Answer} {rules : List Rule} {sorted kept : List (Bor Rule)}
-    {numbers cut : List NumberRules} {stretches laid : List Stretch} → IsProfile p → default ≡ p.default_answer
-    → rules ≡ p.rules → kept ≡ sorted → cut ≡ numbers → laid ≡ stretches → IsByNumber (rules_at sorted) rules
-    → IsCut numbers (rules_at kept) → AreStretchesOf default stretches cut → Serve p laid
-served {p} {default} {rules} {sorted} {kept} {numbers} {cut} {stretches} {laid} valid d r k c l by_number cuts lays =
-    rw l (serves p valid (rules_at sorted) numbers stretches (rw r at by_number) (rw k at cuts) (rw (d, c) at lays))
+    {stretches laid : List Stretch} → IsProfile p → default ≡ p.default_answer → rules ≡ p.rules → kept ≡ sorted
+    → laid ≡ stretches → IsByNumber (rules_at sorted) rules → AreStretchesOf default stretches (rules_at kept)
+    → Serve p laid
+served {p} {sorted = sorted} {stretches = stretches} valid d r k l by_number lays =
+    rw l (serves p valid (rules_at sorted) stretches (rw r at by_number) (rw (d, k) at lays))
 
 pub put_search-requires : goal.put_search-requires
 put_search-requires c =
     let serve = served c.rules.ensures.profile c.default_answer-default.ensures c.rules.ensures.rules
-    c.deref.ensures.value c.deref-2.ensures.value c.deref-3.ensures.value c.in_ok-sorted.ensures
-    c.in_ok-numbers.ensures c.in_ok-stretches.ensures in
+    c.deref.ensures.value c.deref-2.ensures.value c.in_ok-sorted.ensures c.in_ok-stretches.ensures in
     let small = serve.small in
     let below = serve.below in
     record {
@@ -50,8 +44,7 @@ put_search-requires c =
 pub put_branch-requires-clause-few : goal.put_branch-requires-clause-few
 put_branch-requires-clause-few c =
     let serve = served c.rules.ensures.profile c.default_answer-default.ensures c.rules.ensures.rules
-    c.deref.ensures.value c.deref-2.ensures.value c.deref-3.ensures.value c.in_ok-sorted.ensures
-    c.in_ok-numbers.ensures c.in_ok-stretches.ensures in
+    c.deref.ensures.value c.deref-2.ensures.value c.in_ok-sorted.ensures c.in_ok-stretches.ensures in
     let small = serve.small in
     let below = serve.below in
     omega (
@@ -64,8 +57,7 @@ put_branch-requires-clause-few c =
 pub put_branch-requires-2-clause-few : goal.put_branch-requires-2-clause-few
 put_branch-requires-2-clause-few c =
     let serve = served c.rules.ensures.profile c.default_answer-default.ensures c.rules.ensures.rules
-    c.deref.ensures.value c.deref-2.ensures.value c.deref-3.ensures.value c.in_ok-sorted.ensures
-    c.in_ok-numbers.ensures c.in_ok-stretches.ensures in
+    c.deref.ensures.value c.deref-2.ensures.value c.in_ok-sorted.ensures c.in_ok-stretches.ensures in
     let found = rw (c.default_answer-default.ensures, c.new-code.ensures.items) at c.in_ok-calls.ensures in
     let load : c.push_front.new.self.items ≡ load_word 0 ∷ c.put_branch.new.code.items = search auto_rules in
     let few = answered_few serve found (rw c.return_with.ensures at c.in_ok-x32.ensures) c.in_ok-put_branch.ensures load
@@ -75,8 +67,7 @@ put_branch-requires-2-clause-few c =
 pub returns : goal.returns
 returns c =
     let serve = served c.rules.ensures.profile c.default_answer-default.ensures c.rules.ensures.rules
-    c.deref.ensures.value c.deref-2.ensures.value c.deref-3.ensures.value c.in_ok-sorted.ensures
-    c.in_ok-numbers.ensures c.in_ok-stretches.ensures in
+    c.deref.ensures.value c.deref-2.ensures.value c.in_ok-sorted.ensures c.in_ok-stretches.ensures in
     let found = rw (c.default_answer-default.ensures, c.new-code.ensures.items) at c.in_ok-calls.ensures in
     let load : c.push_front.new.self.items ≡ load_word 0 ∷ c.put_branch.new.code.items = search auto_rules in
     let here : c.len.result ≡ length c.push_front.new.self.items = search auto_rules in

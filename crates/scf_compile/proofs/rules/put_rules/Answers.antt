@@ -1,16 +1,21 @@
-use Rattle.std.proofs.Common.{rules, ◌+◌, ◌<◌, ◌++◌, List, length, drop, sym, ap, ◌∙◌, append_assoc}
+use Rattle.std.proofs.Common.{rules, ◌+◌, ◌<◌, ◌++◌, Bor, List, length, drop, sym, ap, ◌∙◌, append_assoc, arith}
+use Rattle.std.proofs.lemmas.List.{get_or-map, length-map}
+use Rattle.scf_profile.specs.declared.rule.Rule.{Rule}
 use Rattle.scf_insn.specs.declared.insn.Insn.{Insn}
 use Rattle.scf_profile.specs.ByNumber.{rules_at}
 use Rattle.scf_compile.specs.internal.Filters.{rule_code, rules_code}
 use Rattle.scf_compile.proofs.Sizes.{rules_code_from}
-use Rattle.scf_profile.specs.Rule.{IsRule}
-use Rattle.scf_compile.proofs.Cutting.{rule_at}
 use Rattle.scf_compile.proofs.rules.put_rules.Goals as goal
 
 pub put_rule-requires : goal.put_rule-requires
 put_rule-requires c =
-    rule_at IsRule c.args.rules.now c.loop-rule.rule-index c.rule-item.result c.requires c.loop-rule-test.true
-    c.rule-item.is
+    let refs = c.args.rules.now in
+    let r = c.rule-item.result in
+    let i = c.loop-rule.rule-index in
+    let len = length-map refs (λ (s : Bor Rule). s.now) in
+    let inside : i < length (rules_at refs) = omega (arith, c.loop-rule-test.true) in
+    rw (get_or-map (λ (s : Bor Rule). s.now) refs i r r.now c.loop-rule-test.true, ← c.rule-item.is) at
+    (c.requires i r.now inside)
 
 pub loop-rule-preserved : goal.loop-rule-preserved
 loop-rule-preserved c =

@@ -1,11 +1,43 @@
-use Rattle.std.proofs.Common.{rules, ◌≡◌, true, sym, ◌∙◌}
-use Rattle.scf_profile.specs.contracts.condition.ConditionPartialEq.TheImpl.{eq-value}
+use Rattle.std.proofs.Common.{rules, ◌≡◌, ◌≤◌, true, List, [], ◌∷◌, length, refl, sym, ◌∙◌, arith}
+use Rattle.std.proofs.lemmas.Bool.{and_parts}
+use Rattle.std.proofs.lemmas.List.{drop_all}
+use Rattle.std.proofs.lemmas.List.Sums.{sum_by-cons}
 use lib.Pointwise.{pointwise}
-use Rattle.scf_compile.proofs.Laying.{alike_from, same_conditions}
+use Rattle.scf_insn.specs.declared.answer.Answer.{Answer}
+use Rattle.scf_profile.specs.declared.condition.Condition.{Condition}
+use Rattle.scf_profile.specs.contracts.condition.ConditionPartialEq.TheImpl.{eq-value}
+use Rattle.scf_profile.specs.declared.rule.Rule.{Rule}
+use Rattle.scf_compile.specs.SizeBound.{rule_bound}
+use Rattle.scf_compile.specs.internal.Stretches.{StandsFor}
+use Rattle.scf_compile.proofs.Lists.{next_at}
 use Rattle.scf_compile.proofs.stretches.are_alike.Goals as goal
+
+same_condition : (c d : Condition) → eq-value.it c d ≡ true → c ≡ d
+same_condition c d e = search rules
+
+-- conditions that `==` takes as equal are
+same_conditions : (cs ds : List Condition) → pointwise eq-value.it cs ds ≡ true → cs ≡ ds
+same_conditions [] [] e = refl
+same_conditions [] (d ∷ ds) e = absurd (cc)
+same_conditions (c ∷ cs) [] e = absurd (cc)
+same_conditions (c ∷ cs) (d ∷ ds) e =
+    let both = and_parts (eq-value.it c d) (pointwise eq-value.it cs ds) e in
+    let first = same_condition c d both.0 in
+    let rest = same_conditions cs ds both.1 in
+    cc
+
+-- one more rule in front
+one_more : {default : Answer} {rs ss : List Rule} (r s : Rule) → r.conditions ≡ s.conditions → r.answer ≡ s.answer
+    → StandsFor default rs ss → StandsFor default (r ∷ rs) (s ∷ ss)
+one_more {rs = rs} {ss = ss} r s conditions answer rest = record {
+  answers = λ call. rw (conditions, answer, rest.answers call) refl;
+  small = rw (sum_by-cons rule_bound r rs, sum_by-cons rule_bound s ss, conditions)
+      (let small = rest.small in omega arith);
+}
 
 pub loop-i-preserved : goal.loop-i-preserved
 loop-i-preserved c =
+    let i = c.loop-i.i in
     let rule = c.index-rules-i.result in
     let other = c.index-others-i.result in
     let answer : rule.now.answer ≡ other.now.answer = search rules in
@@ -15,8 +47,19 @@ loop-i-preserved c =
     ∙ c.as_slice-else-ne.ensures in
     record {
       same_len = c.loop-i.invariant.same_len;
-      alike = λ rest.
-          c.loop-i.invariant.alike
-          (alike_from c.args.rules.now c.args.others.now c.loop-i.i rule other c.loop-i-test.true
-          (search rules) c.index-rules-i.is c.index-others-i.is conditions answer rest);
+      alike = λ default rest. c.loop-i.invariant.alike default
+          (rw (
+            next_at c.args.rules.now i rule c.loop-i-test.true c.index-rules-i.is,
+            next_at c.args.others.now i other (search rules) c.index-others-i.is,
+          )
+          (one_more rule.now other.now conditions answer rest));
     }
+
+pub returns : goal.returns
+returns c = λ told default.
+    let rs = c.args.rules.now in
+    let ss = c.args.others.now in
+    let i = c.loop-i.i in
+    let end : length ss ≤ i = search rules in
+    c.loop-i.invariant.alike default (rw (drop_all i rs c.loop-i-test.false, drop_all i ss end)
+    (record { answers = λ call. refl; small = omega arith }))

@@ -1,6 +1,10 @@
-use Rattle.std.proofs.Common.{drop}
+use Rattle.std.proofs.Common.{◌-◌, drop, length}
+use Rattle.scf_profile.specs.ByNumber.{rules_at}
 use Rattle.scf_compile.proofs.Laying.{LaidUpTo}
 use Rattle.scf_compile.proofs.stretches.stretches_of.Given as goal
 
-abbrev pub invariant-loop-own : goal.invariant-loop-own
-invariant-loop-own l = LaidUpTo l.default l.numbers l.stretches.items l.next (drop l.own-index l.numbers) 0
+abbrev pub decreases-loop-first : goal.decreases-loop-first
+decreases-loop-first l = length l.rules - l.first
+
+abbrev pub invariant-loop-first : goal.invariant-loop-first
+invariant-loop-first l = LaidUpTo l.default (rules_at l.rules) l.stretches.items l.next (drop l.first l.rules) 0
