@@ -1,7 +1,20 @@
 -- The line of a fault, by what the program keeps of it.
-use Rattle.std.proofs.Common.{◌≡◌, List, ℕ, ◌++◌, codes, append_assoc}
+use Rattle.std.proofs.Common.{◌≡◌, List, [], ◌∷◌, ℕ, Option, None, Some, ◌++◌, codes, append_assoc, refl, ap}
+use Rattle.std.specs.List.{flat_map}
+use Rattle.scf_tool.specs.declared.fault_line.FaultField.{FaultField}
+use Rattle.scf_tool.specs.Faults.{number_words}
+use Rattle.scf_tool.specs.internal.Fields.{field_text, numbers_in}
 
-pub line_in_parts : (source name numbers : List ℕ)
-    → codes "fault " ++ (source ++ codes " " ++ (name ++ numbers)) ++ codes "\n"
-    ≡ (codes "fault " ++ source ++ codes " " ++ name) ++ (numbers ++ codes "\n")
-line_in_parts source name numbers = simp append_assoc
+-- the numbers are written one after another
+numbers_text : (fields : List (Option FaultField))
+    → flat_map number_words (flat_map numbers_in fields) ≡ flat_map field_text fields
+numbers_text [] = refl
+numbers_text (None ∷ fields) = numbers_text fields
+numbers_text (Some field ∷ fields) =
+    ap (λ (rest : List ℕ). number_words (field.name.now, field.number) ++ rest) (numbers_text fields)
+
+pub line_in_parts : (source name : List ℕ) (fields : List (Option FaultField))
+    → codes "fault " ++ source ++ codes " " ++ name ++ flat_map number_words (flat_map numbers_in fields) ++ codes "\n"
+    ≡ (codes "fault " ++ source ++ codes " " ++ name) ++ (flat_map field_text fields ++ codes "\n")
+line_in_parts source name fields = rw (← numbers_text fields)
+    (append_assoc (codes "fault " ++ source ++ codes " " ++ name) (flat_map number_words (flat_map numbers_in fields)) (codes "\n"))

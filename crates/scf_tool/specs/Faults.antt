@@ -27,140 +27,126 @@ use Rattle.scf_tool.specs.declared.status.Status.TheVariants.{Refused, CommandLi
 use Rattle.scf_tool.specs.declared.fault.Fault.{Fault}
 use Rattle.scf_tool.specs.declared.fault.Fault.TheVariants as faults
 
--- A kind of fault: the exit status that goes with it, and its words.
+-- A kind of fault: the exit status that goes with it, its name, and its numbers behind their names. What can't be read
+-- and memory that is refused have status 3, what is refused has status 1, and what is wrong with the words status 2.
 abbrev pub Kind : Type 0
-Kind = Status × List ℕ
+Kind = Status × List ℕ × List (List ℕ × ℕ)
+
+-- the number of an entry of a profile, and none outside of them
+abbrev pub in_entry : Option ℕ → List (List ℕ × ℕ)
+in_entry None = []
+in_entry (Some entry) = (codes "entry", entry) ∷ []
+
+-- ---- the kinds of each fault
+
+abbrev pub input_kind : InputFault → Kind
+input_kind inputs.Read = (Failed, codes "Read", [])
+input_kind inputs.TooLong = (Failed, codes "TooLong", [])
+input_kind inputs.Memory = (Failed, codes "Memory", [])
+
+abbrev pub bundle_kind : BundleFault → Kind
+bundle_kind (bundles.Header offset) = (Failed, codes "Header", (codes "offset", offset) ∷ [])
+bundle_kind (bundles.Short offset) = (Failed, codes "Short", (codes "offset", offset) ∷ [])
+bundle_kind bundles.Memory = (Failed, codes "Memory", [])
+
+abbrev pub read_kind : ReadFault → Kind
+read_kind reads.Read = (Failed, codes "Read", [])
+read_kind (reads.Truncated offset) = (Failed, codes "Truncated", (codes "offset", offset) ∷ [])
+read_kind reads.TooLong = (Failed, codes "TooLong", [])
+read_kind reads.Memory = (Failed, codes "Memory", [])
+
+abbrev pub check_kind : CheckFault → Kind
+check_kind checks.Empty = (Refused, codes "Empty", [])
+check_kind checks.TooLong = (Refused, codes "TooLong", [])
+check_kind (checks.Code at) = (Refused, codes "Code", (codes "at", at) ∷ [])
+check_kind (checks.Load at) = (Refused, codes "Load", (codes "at", at) ∷ [])
+check_kind (checks.Scratch at) = (Refused, codes "Scratch", (codes "at", at) ∷ [])
+check_kind (checks.Divisor at) = (Refused, codes "Divisor", (codes "at", at) ∷ [])
+check_kind (checks.Shift at) = (Refused, codes "Shift", (codes "at", at) ∷ [])
+check_kind (checks.Jump at) = (Refused, codes "Jump", (codes "at", at) ∷ [])
+check_kind checks.LastNotReturn = (Refused, codes "LastNotReturn", [])
+check_kind (checks.Unset at word) = (Refused, codes "Unset", (codes "at", at) ∷ (codes "word", word) ∷ [])
+check_kind checks.Memory = (Failed, codes "Memory", [])
+
+abbrev pub text_kind : TextFault → Kind
+text_kind (texts.NotAscii line) = (Refused, codes "NotAscii", (codes "line", line) ∷ [])
+text_kind (texts.Mnemonic line) = (Refused, codes "Mnemonic", (codes "line", line) ∷ [])
+text_kind (texts.Operand line) = (Refused, codes "Operand", (codes "line", line) ∷ [])
+text_kind (texts.NumberRange line) = (Refused, codes "NumberRange", (codes "line", line) ∷ [])
+text_kind (texts.Label line) = (Refused, codes "Label", (codes "line", line) ∷ [])
+text_kind (texts.JumpTooFar line) = (Refused, codes "JumpTooFar", (codes "line", line) ∷ [])
+text_kind (texts.TooLong line) = (Refused, codes "TooLong", (codes "line", line) ∷ [])
+text_kind texts.Memory = (Failed, codes "Memory", [])
+
+abbrev pub table_kind : TableFault → Kind
+table_kind (tables.Form line) = (Refused, codes "Form", (codes "line", line) ∷ [])
+table_kind (tables.Name line) = (Refused, codes "Name", (codes "line", line) ∷ [])
+table_kind (tables.Number line) = (Refused, codes "Number", (codes "line", line) ∷ [])
+table_kind (tables.Repeated line) = (Refused, codes "Repeated", (codes "line", line) ∷ [])
+table_kind tables.Memory = (Failed, codes "Memory", [])
+
+abbrev pub load_kind : LoadFault → Kind
+load_kind loads.Json = (Refused, codes "Json", [])
+load_kind (loads.Missing entry) = (Refused, codes "Missing", in_entry entry)
+load_kind (loads.Kind entry) = (Refused, codes "Kind", in_entry entry)
+load_kind (loads.Action entry) = (Refused, codes "Action", in_entry entry)
+load_kind (loads.Operator entry) = (Refused, codes "Operator", in_entry entry)
+load_kind (loads.EmptyNames entry) = (Refused, codes "EmptyNames", in_entry entry)
+load_kind (loads.Index entry) = (Refused, codes "Index", in_entry entry)
+load_kind (loads.RepeatedIndex entry) = (Refused, codes "RepeatedIndex", in_entry entry)
+load_kind (loads.Errno entry) = (Refused, codes "Errno", in_entry entry)
+load_kind (loads.ErrnoRange entry) = (Refused, codes "ErrnoRange", in_entry entry)
+load_kind (loads.NoX8664 entry) = (Refused, codes "NoX8664", in_entry entry)
+load_kind (loads.EngineForm entry) = (Refused, codes "EngineForm", in_entry entry)
+load_kind loads.TooMany = (Refused, codes "TooMany", [])
+load_kind (loads.Conflict number first second) =
+    (Refused, codes "Conflict", (codes "number", number) ∷ (codes "first", first) ∷ (codes "second", second) ∷ [])
+load_kind loads.Memory = (Failed, codes "Memory", [])
+
+abbrev pub compile_kind : CompileFault → Kind
+compile_kind compiles.TooLarge = (Refused, codes "TooLarge", [])
+compile_kind compiles.Memory = (Failed, codes "Memory", [])
+
+abbrev pub push_kind : PushFault → Kind
+push_kind (pushes.TooMany total) = (Refused, codes "TooMany", (codes "total", total) ∷ [])
+push_kind pushes.Memory = (Failed, codes "Memory", [])
+
+-- ---- what is wrong, and its kind
+
+-- what a fault is of, and its kind
+abbrev pub verify_kind : VerifyFault → List ℕ × Kind
+verify_kind (verifies.FilterRead fault) = (codes "filter", read_kind fault)
+verify_kind (verifies.Check fault) = (codes "filter", check_kind fault)
+verify_kind (verifies.Stack fault) = (codes "stack", push_kind fault)
+verify_kind (verifies.TableRead fault) = (codes "table", input_kind fault)
+verify_kind (verifies.Table fault) = (codes "table", table_kind fault)
+verify_kind (verifies.ProfileRead fault) = (codes "profile", input_kind fault)
+verify_kind (verifies.Profile fault) = (codes "profile", load_kind fault)
+verify_kind verifies.Memory = (codes "compare", (Failed, codes "Memory", []))
+
+-- the name of an option stands in place of a kind
+abbrev pub kind_of_fault : Fault → List ℕ × Kind
+kind_of_fault faults.CommandLine = (codes "command", (Failed, codes "Memory", []))
+kind_of_fault faults.NoCommand = (codes "command", (CommandLine, codes "NoCommand", []))
+kind_of_fault (faults.Number fault) = (codes "number", (CommandLine, fault.name.now, []))
+kind_of_fault faults.Flags = (codes "command", (CommandLine, codes "Flags", []))
+kind_of_fault (faults.Input fault) = (codes "input", input_kind fault)
+kind_of_fault (faults.Bundle fault) = (codes "bundle", bundle_kind fault)
+kind_of_fault faults.Parts = (codes "bundle", (Failed, codes "Parts", []))
+kind_of_fault (faults.Text fault) = (codes "text", text_kind fault)
+kind_of_fault (faults.Compile fault) = (codes "compile", compile_kind fault)
+kind_of_fault (faults.Verify fault) = verify_kind fault
 
 -- a number behind its name
 abbrev pub number_words : List ℕ × ℕ → List ℕ
 number_words number = codes " " ++ number.0 ++ codes " " ++ decimal number.1
 
-abbrev pub kind_with : Status → List ℕ → List (List ℕ × ℕ) → Kind
-kind_with status name numbers = (status, name ++ flat_map number_words numbers)
+-- the status and the line of what is wrong
+abbrev pub line_of : List ℕ × Kind → Status × List ℕ
+line_of wrong = (
+  wrong.1.0,
+  codes "fault " ++ wrong.0 ++ codes " " ++ wrong.1.1 ++ flat_map number_words wrong.1.2 ++ codes "\n",
+)
 
--- what can't be read, or memory that is refused: status 3
-abbrev pub failed : List ℕ → List (List ℕ × ℕ) → Kind
-failed = kind_with Failed
-
--- what is refused: status 1
-abbrev pub refused : List ℕ → List (List ℕ × ℕ) → Kind
-refused = kind_with Refused
-
--- what is wrong with the words: status 2
-abbrev pub wrong_words : List ℕ → Kind
-wrong_words name = kind_with CommandLine name []
-
--- one number
-abbrev pub one : List ℕ → ℕ → List (List ℕ × ℕ)
-one name number = (name, number) ∷ []
-
--- the number of an entry of a profile, and none outside of them
-abbrev pub in_entry : Option ℕ → List (List ℕ × ℕ)
-in_entry None = []
-in_entry (Some entry) = one (codes "entry") entry
-
--- ---- the kinds of each fault
-
-abbrev pub input_kind : InputFault → Kind
-input_kind inputs.Read = failed (codes "Read") []
-input_kind inputs.TooLong = failed (codes "TooLong") []
-input_kind inputs.Memory = failed (codes "Memory") []
-
-abbrev pub bundle_kind : BundleFault → Kind
-bundle_kind (bundles.Header offset) = failed (codes "Header") (one (codes "offset") offset)
-bundle_kind (bundles.Short offset) = failed (codes "Short") (one (codes "offset") offset)
-bundle_kind bundles.Memory = failed (codes "Memory") []
-
-abbrev pub read_kind : ReadFault → Kind
-read_kind reads.Read = failed (codes "Read") []
-read_kind (reads.Truncated offset) = failed (codes "Truncated") (one (codes "offset") offset)
-read_kind reads.TooLong = failed (codes "TooLong") []
-read_kind reads.Memory = failed (codes "Memory") []
-
-abbrev pub check_kind : CheckFault → Kind
-check_kind checks.Empty = refused (codes "Empty") []
-check_kind checks.TooLong = refused (codes "TooLong") []
-check_kind (checks.Code at) = refused (codes "Code") (one (codes "at") at)
-check_kind (checks.Load at) = refused (codes "Load") (one (codes "at") at)
-check_kind (checks.Scratch at) = refused (codes "Scratch") (one (codes "at") at)
-check_kind (checks.Divisor at) = refused (codes "Divisor") (one (codes "at") at)
-check_kind (checks.Shift at) = refused (codes "Shift") (one (codes "at") at)
-check_kind (checks.Jump at) = refused (codes "Jump") (one (codes "at") at)
-check_kind checks.LastNotReturn = refused (codes "LastNotReturn") []
-check_kind (checks.Unset at word) = refused (codes "Unset") (one (codes "at") at ++ one (codes "word") word)
-check_kind checks.Memory = failed (codes "Memory") []
-
-abbrev pub text_kind : TextFault → Kind
-text_kind (texts.NotAscii line) = refused (codes "NotAscii") (one (codes "line") line)
-text_kind (texts.Mnemonic line) = refused (codes "Mnemonic") (one (codes "line") line)
-text_kind (texts.Operand line) = refused (codes "Operand") (one (codes "line") line)
-text_kind (texts.NumberRange line) = refused (codes "NumberRange") (one (codes "line") line)
-text_kind (texts.Label line) = refused (codes "Label") (one (codes "line") line)
-text_kind (texts.JumpTooFar line) = refused (codes "JumpTooFar") (one (codes "line") line)
-text_kind (texts.TooLong line) = refused (codes "TooLong") (one (codes "line") line)
-text_kind texts.Memory = failed (codes "Memory") []
-
-abbrev pub table_kind : TableFault → Kind
-table_kind (tables.Form line) = refused (codes "Form") (one (codes "line") line)
-table_kind (tables.Name line) = refused (codes "Name") (one (codes "line") line)
-table_kind (tables.Number line) = refused (codes "Number") (one (codes "line") line)
-table_kind (tables.Repeated line) = refused (codes "Repeated") (one (codes "line") line)
-table_kind tables.Memory = failed (codes "Memory") []
-
-abbrev pub load_kind : LoadFault → Kind
-load_kind loads.Json = refused (codes "Json") []
-load_kind (loads.Missing entry) = refused (codes "Missing") (in_entry entry)
-load_kind (loads.Kind entry) = refused (codes "Kind") (in_entry entry)
-load_kind (loads.Action entry) = refused (codes "Action") (in_entry entry)
-load_kind (loads.Operator entry) = refused (codes "Operator") (in_entry entry)
-load_kind (loads.EmptyNames entry) = refused (codes "EmptyNames") (in_entry entry)
-load_kind (loads.Index entry) = refused (codes "Index") (in_entry entry)
-load_kind (loads.RepeatedIndex entry) = refused (codes "RepeatedIndex") (in_entry entry)
-load_kind (loads.Errno entry) = refused (codes "Errno") (in_entry entry)
-load_kind (loads.ErrnoRange entry) = refused (codes "ErrnoRange") (in_entry entry)
-load_kind (loads.NoX8664 entry) = refused (codes "NoX8664") (in_entry entry)
-load_kind (loads.EngineForm entry) = refused (codes "EngineForm") (in_entry entry)
-load_kind loads.TooMany = refused (codes "TooMany") []
-load_kind (loads.Conflict number first second) =
-    refused (codes "Conflict") (one (codes "number") number ++ one (codes "first") first ++ one (codes "second") second)
-load_kind loads.Memory = failed (codes "Memory") []
-
-abbrev pub compile_kind : CompileFault → Kind
-compile_kind compiles.TooLarge = refused (codes "TooLarge") []
-compile_kind compiles.Memory = failed (codes "Memory") []
-
-abbrev pub push_kind : PushFault → Kind
-push_kind (pushes.TooMany total) = refused (codes "TooMany") (one (codes "total") total)
-push_kind pushes.Memory = failed (codes "Memory") []
-
--- ---- what is wrong, and its kind
-
-abbrev pub with_source : List ℕ → Kind → Kind
-with_source source kind = (kind.0, source ++ codes " " ++ kind.1)
-
-abbrev pub verify_kind : VerifyFault → Kind
-verify_kind (verifies.FilterRead fault) = with_source (codes "filter") (read_kind fault)
-verify_kind (verifies.Check fault) = with_source (codes "filter") (check_kind fault)
-verify_kind (verifies.Stack fault) = with_source (codes "stack") (push_kind fault)
-verify_kind (verifies.TableRead fault) = with_source (codes "table") (input_kind fault)
-verify_kind (verifies.Table fault) = with_source (codes "table") (table_kind fault)
-verify_kind (verifies.ProfileRead fault) = with_source (codes "profile") (input_kind fault)
-verify_kind (verifies.Profile fault) = with_source (codes "profile") (load_kind fault)
-verify_kind verifies.Memory = with_source (codes "compare") (failed (codes "Memory") [])
-
--- the name of an option stands in place of a kind
-abbrev pub kind_of_fault : Fault → Kind
-kind_of_fault faults.CommandLine = with_source (codes "command") (failed (codes "Memory") [])
-kind_of_fault faults.NoCommand = with_source (codes "command") (wrong_words (codes "NoCommand"))
-kind_of_fault (faults.Number fault) = with_source (codes "number") (wrong_words fault.name.now)
-kind_of_fault faults.Flags = with_source (codes "command") (wrong_words (codes "Flags"))
-kind_of_fault (faults.Input fault) = with_source (codes "input") (input_kind fault)
-kind_of_fault (faults.Bundle fault) = with_source (codes "bundle") (bundle_kind fault)
-kind_of_fault faults.Parts = with_source (codes "bundle") (failed (codes "Parts") [])
-kind_of_fault (faults.Text fault) = with_source (codes "text") (text_kind fault)
-kind_of_fault (faults.Compile fault) = with_source (codes "compile") (compile_kind fault)
-kind_of_fault (faults.Verify fault) = verify_kind fault
-
--- the status and the line of a fault
 abbrev pub printed_fault : Fault → Status × List ℕ
-printed_fault fault = ((kind_of_fault fault).0, codes "fault " ++ (kind_of_fault fault).1 ++ codes "\n")
+printed_fault fault = line_of (kind_of_fault fault)

@@ -1,10 +1,10 @@
 //! The line that is printed of a fault.
 
-ghost use Rattle.std.specs.Prelude.{◌≡◌, ◌++◌, [], codes};
+ghost use Rattle.std.specs.Prelude.{◌≡◌, ◌++◌, ◌∷◌, [], codes};
 ghost use Rattle.std.specs.List.{flat_map};
 ghost use Rattle.scf_insn.specs.Streams.{Writes};
 ghost use Rattle.scf_tool.specs.Faults as table;
-ghost use Rattle.scf_tool.specs.internal.Fields.{field_text, kind_of, fault_line_of};
+ghost use Rattle.scf_tool.specs.internal.Fields.{field_text, numbers_in, kind_of, fault_line_of};
 
 use crate::bundle::BundleFault;
 use crate::fault::Fault;
@@ -43,7 +43,7 @@ pub(crate) struct FaultLine {
 const NONE: [Option<FaultField>; 3] = [None, None, None];
 
 fn named(name: &'static str, number: usize) -> Option<FaultField>
-    ensures { field_text result ≡ table.number_words (name.now, number) }
+    ensures { numbers_in result ≡ (name.now, number) ∷ [] }
 {
     Some(FaultField {
         name,
@@ -53,7 +53,7 @@ fn named(name: &'static str, number: usize) -> Option<FaultField>
 
 /// A kind without numbers that is a failure.
 fn failed(name: &'static str) -> FaultKind
-    ensures { kind_of result ≡ table.failed name.now [] }
+    ensures { kind_of result ≡ (Status.Failed, name.now, []) }
 {
     FaultKind {
         status: Status::Failed,
@@ -64,7 +64,7 @@ fn failed(name: &'static str) -> FaultKind
 
 /// A kind with one number that is a failure.
 fn failed_at(name: &'static str, number_name: &'static str, number: usize) -> FaultKind
-    ensures { kind_of result ≡ table.failed name.now (table.one number_name.now number) }
+    ensures { kind_of result ≡ (Status.Failed, name.now, (number_name.now, number) ∷ []) }
 {
     FaultKind {
         status: Status::Failed,
@@ -75,7 +75,7 @@ fn failed_at(name: &'static str, number_name: &'static str, number: usize) -> Fa
 
 /// A kind without numbers that is a refusal.
 fn refused(name: &'static str) -> FaultKind
-    ensures { kind_of result ≡ table.refused name.now [] }
+    ensures { kind_of result ≡ (Status.Refused, name.now, []) }
 {
     FaultKind {
         status: Status::Refused,
@@ -86,7 +86,7 @@ fn refused(name: &'static str) -> FaultKind
 
 /// A kind without numbers that is a fault of the command line.
 fn wrong_words(name: &'static str) -> FaultKind
-    ensures { kind_of result ≡ table.wrong_words name.now }
+    ensures { kind_of result ≡ (Status.CommandLine, name.now, []) }
 {
     FaultKind {
         status: Status::CommandLine,
@@ -97,7 +97,7 @@ fn wrong_words(name: &'static str) -> FaultKind
 
 /// A kind with one number that is a refusal.
 fn refused_at(name: &'static str, number_name: &'static str, number: usize) -> FaultKind
-    ensures { kind_of result ≡ table.refused name.now (table.one number_name.now number) }
+    ensures { kind_of result ≡ (Status.Refused, name.now, (number_name.now, number) ∷ []) }
 {
     FaultKind {
         status: Status::Refused,
@@ -108,7 +108,7 @@ fn refused_at(name: &'static str, number_name: &'static str, number: usize) -> F
 
 /// A kind that is a refusal, in an entry of a profile or outside of them.
 fn refused_in(name: &'static str, entry: Option<u32>) -> FaultKind
-    ensures { kind_of result ≡ table.refused name.now (table.in_entry entry) }
+    ensures { kind_of result ≡ (Status.Refused, name.now, table.in_entry entry) }
 {
     match entry {
         Some(place) => refused_at(name, "entry", place as usize),
@@ -258,7 +258,7 @@ fn push_kind(fault: PushFault) -> FaultKind
 
 /// A kind, behind the word for what is wrong.
 fn line(source: &'static str, kind: FaultKind) -> FaultLine
-    ensures { fault_line_of result ≡ table.with_source source.now (kind_of kind) }
+    ensures { fault_line_of result ≡ (source.now, kind_of kind) }
 {
     FaultLine { source, kind }
 }
