@@ -25,8 +25,6 @@ loop-call-preserved g c =
 
 pub returns-in_err-write_named : goal.returns-in_err-write_named
 returns-in_err-write_named g c =
-    let stopped = err_from_is_err_and c.from_residual.result c.from_residual.ensures.1 in
-    rw stopped.1 (
-    each_fails (named_line c.args.relation) c.args.calls.now c.loop-call.call-index c.call-item.result c.loop-call-test.true
-    c.loop-call.invariant (rw c.call-item.is at c.in_err-write_named.ensures)
-    )
+    rw (err_from_is_err_and c.from_residual.result c.from_residual.ensures.1).1
+    (each_fails (named_line c.args.relation) c.args.calls.now c.loop-call.call-index c.call-item.result
+    c.loop-call-test.true c.loop-call.invariant (rw c.call-item.is at c.in_err-write_named.ensures))

@@ -1,17 +1,13 @@
 use Rattle.std.proofs.lemmas.Result.{err_from_is_err_and}
 use Rattle.scf_insn.proofs.Written.{fails_first, writes_then}
-use Rattle.scf_tool.specs.CallReports.{verdicts_text}
-use Rattle.scf_tool.specs.Reports.{left_out_text}
 use Rattle.scf_tool.proofs.call_reporting.write_calls_outcome.Goals as goal
 
 pub returns-in_err-write_verdicts : goal.returns-in_err-write_verdicts
 returns-in_err-write_verdicts g c =
-    let stopped = err_from_is_err_and c.from_residual.result c.from_residual.ensures.1 in
-    let outcome = c.args.outcome.now in
-    let failed = rw c.deref.ensures.value at c.in_err-write_verdicts.ensures in
-    rw stopped.1 (fails_first (left_out_text outcome.skipped outcome.other_architectures) failed)
+    rw (err_from_is_err_and c.from_residual.result c.from_residual.ensures.1).1
+    (fails_first _ (rw c.deref.ensures.value at c.in_err-write_verdicts.ensures))
 
 pub returns : goal.returns
 returns g c =
-    writes_then g.S.Sink.contents g.S.Sink.failures _ _ (verdicts_text c.args.relation c.args.outcome.now.calls.items) _ _ _
+    writes_then g.S.Sink.contents g.S.Sink.failures _ _ _ _ _ _
     (rw c.deref.ensures.value at c.in_ok-write_verdicts.ensures) c.write_left_out.ensures

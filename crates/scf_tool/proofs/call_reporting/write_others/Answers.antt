@@ -6,9 +6,7 @@ use Rattle.scf_tool.proofs.call_reporting.write_others.Goals as goal
 
 pub returns-in_err-write_other : goal.returns-in_err-write_other
 returns-in_err-write_other g c =
-    let stopped = err_from_is_err_and c.from_residual.result c.from_residual.ensures.1 in
-    rw stopped.1 (
-    each_fails (λ (text : String Global). codes "," ++ string_bytes text) c.args.texts.now c.loop-text.text-index
+    rw (err_from_is_err_and c.from_residual.result c.from_residual.ensures.1).1
+    (each_fails (λ (text : String Global). codes "," ++ string_bytes text) c.args.texts.now c.loop-text.text-index
     c.text-item.result c.loop-text-test.true c.loop-text.invariant
-    (rw c.text-item.is at c.in_err-write_other.ensures)
-    )
+    (rw c.text-item.is at c.in_err-write_other.ensures))

@@ -1,16 +1,13 @@
 use Rattle.std.proofs.lemmas.Result.{err_from_is_err_and}
 use Rattle.scf_insn.proofs.Written.{fails_first, writes_then}
-use Rattle.std.specs.List.{flat_map}
-use Rattle.scf_tool.specs.CallReports.{joint_of, joint_text, named_line}
 use Rattle.scf_tool.proofs.call_reporting.write_verdicts.Goals as goal
 
 pub returns-in_err-write_joint : goal.returns-in_err-write_joint
 returns-in_err-write_joint g c =
-    let stopped = err_from_is_err_and c.from_residual.result c.from_residual.ensures.1 in
-    let failed = rw c.joint_verdict.ensures at c.in_err-write_joint.ensures in
-    rw stopped.1 (fails_first (flat_map (named_line c.args.relation) c.args.calls.now) failed)
+    rw (err_from_is_err_and c.from_residual.result c.from_residual.ensures.1).1
+    (fails_first _ (rw c.joint_verdict.ensures at c.in_err-write_joint.ensures))
 
 pub returns : goal.returns
 returns g c =
-    writes_then g.S.Sink.contents g.S.Sink.failures _ _ (joint_text c.args.relation (joint_of c.args.calls.now)) _ _ _
+    writes_then g.S.Sink.contents g.S.Sink.failures _ _ _ _ _ _
     (rw c.joint_verdict.ensures at c.in_ok-write_joint.ensures) c.write_calls.ensures

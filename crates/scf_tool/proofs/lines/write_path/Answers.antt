@@ -1,22 +1,19 @@
-use Rattle.std.proofs.Common.{◌++◌, codes}
 use Rattle.std.proofs.lemmas.Result.{err_from_is_err_and}
-use Rattle.std.specs.List.{flat_map}
 use Rattle.scf_insn.proofs.Written.{fails_first, fails_then, writes_then}
-use Rattle.scf_tool.specs.Lines.{place_text}
 use Rattle.scf_tool.proofs.lines.write_path.Goals as goal
 
 pub returns-in_err-write_whole : goal.returns-in_err-write_whole
 returns-in_err-write_whole g c =
-    let stopped = err_from_is_err_and c.from_residual.result c.from_residual.ensures.1 in
-    rw stopped.1 (fails_first (flat_map place_text c.args.places.now ++ codes "\n") c.in_err-write_whole.ensures)
+    rw (err_from_is_err_and c.from_residual.result c.from_residual.ensures.1).1
+    (fails_first _ c.in_err-write_whole.ensures)
 
 pub returns-in_err-write_places : goal.returns-in_err-write_places
 returns-in_err-write_places g c =
-    let stopped = err_from_is_err_and c.from_residual-in_err-write_places.result
-    c.from_residual-in_err-write_places.ensures.1 in
-    rw stopped.1 (fails_then c.in_ok-write_whole.ensures (fails_first (codes "\n") c.in_err-write_places.ensures))
+    rw
+    (err_from_is_err_and c.from_residual-in_err-write_places.result c.from_residual-in_err-write_places.ensures.1).1
+    (fails_then c.in_ok-write_whole.ensures (fails_first _ c.in_err-write_places.ensures))
 
 pub returns : goal.returns
-returns g c = writes_then g.S.Sink.contents g.S.Sink.failures _ _ (codes "path") _ _ _ c.in_ok-write_whole.ensures
-    (writes_then g.S.Sink.contents g.S.Sink.failures _ _ (flat_map place_text c.args.places.now) _ _ _
-    c.in_ok-write_places.ensures c.write_whole-2.ensures)
+returns g c =
+    writes_then g.S.Sink.contents g.S.Sink.failures _ _ _ _ _ _ c.in_ok-write_whole.ensures
+    (writes_then g.S.Sink.contents g.S.Sink.failures _ _ _ _ _ _ c.in_ok-write_places.ensures c.write_whole-2.ensures)

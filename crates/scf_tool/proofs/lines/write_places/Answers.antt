@@ -5,6 +5,6 @@ use Rattle.scf_tool.proofs.lines.write_places.Goals as goal
 
 pub returns-in_err-write_place : goal.returns-in_err-write_place
 returns-in_err-write_place g c =
-    let stopped = err_from_is_err_and c.from_residual.result c.from_residual.ensures.1 in
-    rw stopped.1 (each_fails place_text c.args.places.now c.loop-place.place-index _ c.loop-place-test.true
-    c.loop-place.invariant c.in_err-write_place.ensures)
+    rw (err_from_is_err_and c.from_residual.result c.from_residual.ensures.1).1
+    (each_fails place_text c.args.places.now c.loop-place.place-index _ c.loop-place-test.true c.loop-place.invariant
+    c.in_err-write_place.ensures)

@@ -1,15 +1,13 @@
-use Rattle.std.proofs.Common.{◌++◌, length}
 use Rattle.std.proofs.lemmas.Result.{err_from_is_err_and}
 use Rattle.scf_insn.proofs.Written.{fails_first, writes_then}
-use Rattle.scf_tool.specs.Lines.{answer_text, path_text, steps_text}
 use Rattle.scf_tool.proofs.lines.write_trace.Goals as goal
 
 pub returns-in_err-write_answer : goal.returns-in_err-write_answer
 returns-in_err-write_answer g c =
-    let stopped = err_from_is_err_and c.from_residual.result c.from_residual.ensures.1 in
-    let places = c.args.trace.now.places.items in
-    rw stopped.1 (fails_first (steps_text (length places) ++ path_text places) c.in_err-write_answer.ensures)
+    rw (err_from_is_err_and c.from_residual.result c.from_residual.ensures.1).1
+    (fails_first _ c.in_err-write_answer.ensures)
 
 pub returns : goal.returns
-returns g c = writes_then g.S.Sink.contents g.S.Sink.failures _ _ (answer_text c.args.trace.now.answer.0) _ _ _
-    c.in_ok-write_answer.ensures (rw c.deref.ensures.value at c.write_way.ensures)
+returns g c =
+    writes_then g.S.Sink.contents g.S.Sink.failures _ _ _ _ _ _ c.in_ok-write_answer.ensures
+    (rw c.deref.ensures.value at c.write_way.ensures)

@@ -1,14 +1,12 @@
-use Rattle.std.proofs.Common.{length}
 use Rattle.std.proofs.lemmas.Result.{err_from_is_err_and}
 use Rattle.scf_insn.proofs.Written.{fails_first, writes_then}
-use Rattle.scf_tool.specs.Lines.{path_text, steps_text}
 use Rattle.scf_tool.proofs.lines.write_way.Goals as goal
 
 pub returns-in_err-write_count : goal.returns-in_err-write_count
 returns-in_err-write_count g c =
-    let stopped = err_from_is_err_and c.from_residual.result c.from_residual.ensures.1 in
-    rw stopped.1 (fails_first (path_text c.args.places.now) c.in_err-write_count.ensures)
+    rw (err_from_is_err_and c.from_residual.result c.from_residual.ensures.1).1
+    (fails_first _ c.in_err-write_count.ensures)
 
 pub returns : goal.returns
-returns g c = writes_then g.S.Sink.contents g.S.Sink.failures _ _ (steps_text (length c.args.places.now)) _ _ _
-    c.in_ok-write_count.ensures c.write_path.ensures
+returns g c =
+    writes_then g.S.Sink.contents g.S.Sink.failures _ _ _ _ _ _ c.in_ok-write_count.ensures c.write_path.ensures

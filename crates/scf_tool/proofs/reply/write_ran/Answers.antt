@@ -1,13 +1,12 @@
 use Rattle.std.proofs.lemmas.Result.{err_from_is_err_and}
 use Rattle.scf_insn.proofs.Written.{fails_first, writes_then}
-use Rattle.scf_tool.specs.Lines.{answer_text, steps_text}
 use Rattle.scf_tool.proofs.reply.write_ran.Goals as goal
 
 pub returns-in_err-write_answer : goal.returns-in_err-write_answer
 returns-in_err-write_answer g c =
-    let stopped = err_from_is_err_and c.from_residual.result c.from_residual.ensures.1 in
-    rw stopped.1 (fails_first (steps_text c.args.ran.steps) c.in_err-write_answer.ensures)
+    rw (err_from_is_err_and c.from_residual.result c.from_residual.ensures.1).1
+    (fails_first _ c.in_err-write_answer.ensures)
 
 pub returns : goal.returns
-returns g c = writes_then g.S.Sink.contents g.S.Sink.failures _ _ (answer_text c.args.ran.answer.0) _ _ _
-    c.in_ok-write_answer.ensures c.write_steps.ensures
+returns g c =
+    writes_then g.S.Sink.contents g.S.Sink.failures _ _ _ _ _ _ c.in_ok-write_answer.ensures c.write_steps.ensures

@@ -5,6 +5,6 @@ use Rattle.scf_tool.proofs.reporting.write_arguments.Goals as goal
 
 pub returns-in_err-write_argument : goal.returns-in_err-write_argument
 returns-in_err-write_argument g c =
-    let stopped = err_from_is_err_and c.from_residual.result c.from_residual.ensures.1 in
-    rw stopped.1 (each_fails argument_text c.args.arguments.now c.loop-argument.argument-index _
-    c.loop-argument-test.true c.loop-argument.invariant c.in_err-write_argument.ensures)
+    rw (err_from_is_err_and c.from_residual.result c.from_residual.ensures.1).1
+    (each_fails argument_text c.args.arguments.now c.loop-argument.argument-index _ c.loop-argument-test.true
+    c.loop-argument.invariant c.in_err-write_argument.ensures)

@@ -1,28 +1,21 @@
 use Rattle.std.proofs.lemmas.Result.{err_from_is_err_and}
 use Rattle.scf_insn.proofs.Written.{fails_first, fails_then, writes_then}
-use Rattle.std.proofs.Common.{◌++◌, codes}
-use Rattle.std.specs.Fmt.{decimal}
-use Rattle.std.specs.List.{flat_map}
-use Rattle.scf_tool.specs.Reports.{argument_text, prefixed}
 use Rattle.scf_tool.proofs.reporting.write_call.Goals as goal
 
 pub returns-in_err-write_call_front : goal.returns-in_err-write_call_front
 returns-in_err-write_call_front g c =
-    let stopped = err_from_is_err_and c.from_residual.result c.from_residual.ensures.1 in
-    rw stopped.1 (fails_first (flat_map argument_text c.args.call.now.args ++ codes "\n")
-    c.in_err-write_call_front.ensures)
+    rw (err_from_is_err_and c.from_residual.result c.from_residual.ensures.1).1
+    (fails_first _ c.in_err-write_call_front.ensures)
 
 pub returns-in_err-write_arguments : goal.returns-in_err-write_arguments
 returns-in_err-write_arguments g c =
-    let stopped = err_from_is_err_and c.from_residual-in_err-write_arguments.result
-    c.from_residual-in_err-write_arguments.ensures.1 in
-    rw stopped.1 (fails_then c.in_ok-write_call_front.ensures
-    (fails_first (codes "\n") c.in_err-write_arguments.ensures))
+    rw
+    (err_from_is_err_and c.from_residual-in_err-write_arguments.result
+    c.from_residual-in_err-write_arguments.ensures.1).1
+    (fails_then c.in_ok-write_call_front.ensures (fails_first _ c.in_err-write_arguments.ensures))
 
 pub returns : goal.returns
-returns g c = writes_then g.S.Sink.contents g.S.Sink.failures _ _
-    (codes "call nr " ++ decimal c.args.call.now.nr ++ codes " arch " ++ prefixed c.args.call.now.arch ++ codes " ip "
-    ++ prefixed c.args.call.now.ip ++ codes " args") _ _ _ c.in_ok-write_call_front.ensures
-    (writes_then g.S.Sink.contents g.S.Sink.failures _ _ (flat_map argument_text c.args.call.now.args) _ _ _
-    c.in_ok-write_arguments.ensures
+returns g c =
+    writes_then g.S.Sink.contents g.S.Sink.failures _ _ _ _ _ _ c.in_ok-write_call_front.ensures
+    (writes_then g.S.Sink.contents g.S.Sink.failures _ _ _ _ _ _ c.in_ok-write_arguments.ensures
     c.write_whole.ensures)

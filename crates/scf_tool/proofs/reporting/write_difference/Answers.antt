@@ -1,25 +1,21 @@
 use Rattle.std.proofs.lemmas.Result.{err_from_is_err_and}
 use Rattle.scf_insn.proofs.Written.{fails_first, fails_then, writes_then}
-use Rattle.std.proofs.Common.{◌++◌, codes}
-use Rattle.scf_tool.specs.Reports.{answer_line, call_line}
 use Rattle.scf_tool.proofs.reporting.write_difference.Goals as goal
 
 pub returns-in_err-write_call : goal.returns-in_err-write_call
 returns-in_err-write_call g c =
-    let stopped = err_from_is_err_and c.from_residual.result c.from_residual.ensures.1 in
-    rw stopped.1 (fails_first
-    (answer_line (codes "filter") c.args.filter.0 ++ answer_line (codes "profile") c.args.profile.0)
-    c.in_err-write_call.ensures)
+    rw (err_from_is_err_and c.from_residual.result c.from_residual.ensures.1).1
+    (fails_first _ c.in_err-write_call.ensures)
 
 pub returns-in_err-write_answer_line : goal.returns-in_err-write_answer_line
 returns-in_err-write_answer_line g c =
-    let stopped = err_from_is_err_and c.from_residual-in_err-write_answer_line.result
-    c.from_residual-in_err-write_answer_line.ensures.1 in
-    rw stopped.1 (fails_then c.in_ok-write_call.ensures
-    (fails_first (answer_line (codes "profile") c.args.profile.0) c.in_err-write_answer_line.ensures))
+    rw
+    (err_from_is_err_and c.from_residual-in_err-write_answer_line.result
+    c.from_residual-in_err-write_answer_line.ensures.1).1
+    (fails_then c.in_ok-write_call.ensures (fails_first _ c.in_err-write_answer_line.ensures))
 
 pub returns : goal.returns
 returns g c =
-    writes_then g.S.Sink.contents g.S.Sink.failures _ _ (call_line c.args.call.now) _ _ _ c.in_ok-write_call.ensures
-    (writes_then g.S.Sink.contents g.S.Sink.failures _ _ (answer_line (codes "filter") c.args.filter.0) _ _ _
-    c.in_ok-write_answer_line.ensures c.write_answer_line-2.ensures)
+    writes_then g.S.Sink.contents g.S.Sink.failures _ _ _ _ _ _ c.in_ok-write_call.ensures
+    (writes_then g.S.Sink.contents g.S.Sink.failures _ _ _ _ _ _ c.in_ok-write_answer_line.ensures
+    c.write_answer_line-2.ensures)
