@@ -1,13 +1,13 @@
 -- Options among the matches of a command line, and among its rules.
 use Rattle.std.proofs.Common.{◌≡◌, ◌<◌, ◌+◌, ℕ, Bor, List, [], ◌∷◌, ◌++◌, Option, Some, None, true, false, append-nil, length, take, drop, get_or, map, refl, sym, ap, ◌∙◌}
 use Rattle.std.proofs.lemmas.List.{drop_more, map-append, map_more, map_push, take-append-drop}
-use Rattle.std.specs.Prelude.{is_some, option_to_list}
+use Rattle.std.specs.Prelude.{if◌then◌else◌, is_some, option_to_list}
 use Rattle.std.proofs.lemmas.List.Elements.{filter_map-append}
 use Rattle.clap.specs.Words.{App, Row, Rule, first_value, with_rule, rows_of}
 use Rattle.clap.specs.declared.parser.matches.Found.{Found}
 use Rattle.clap.proofs.WalkLemmas.{first_value-rows}
 use Rattle.scf_tool.specs.declared.options.NumberOption.{NumberOption as Kept}
-use Rattle.scf_tool.specs.Options.{NumberOption, choice_in, first_wrong, given_of, if_given, is_given, number_by, number_in, one_of}
+use Rattle.scf_tool.specs.Options.{NumberOption, choice_in, first_wrong, given_of, is_given, number_by, number_in, one_of}
 use Rattle.scf_tool.specs.Runs.{option_rule, shape_with}
 use Rattle.scf_tool.specs.internal.Parsing.{flags_in, option_of, options_kept}
 
@@ -35,6 +35,9 @@ leaf_more name options i d lt =
     ∙ map_push option_rule (options_kept (take i options)) (option_of (get_or options i d)) in
     ap (λ (rs : List Rule). let moved : App =
     record { top = record (shape_with name []) { rules = rs }; subs = [] } in moved) rules
+
+abbrev if_given : {A : Type 0} → List Row → List ℕ × A → Option A
+if_given rows flag = if is_given rows flag.0 then Some flag.1 else None
 
 -- one more flag of a group
 pub given_more : {A : Type 0} (rows : List Row) (group : List (Bor (List ℕ) × A)) (i : ℕ) (d : Bor (List ℕ) × A)

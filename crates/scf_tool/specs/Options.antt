@@ -1,6 +1,7 @@
 -- The options of the program, and the numbers that they spell.
 use Rattle.std.specs.Prelude.{◌≡◌, ℕ, Bool, false, ◌-◌, ◌^◌, List, [], ◌∷◌, codes, bytes_eq, map, find, nat_le, is_none, Option, Some, None, Result, Ok, Err, option_map, if◌then◌else◌}
 use Rattle.std.specs.List.{filter_map}
+use Rattle.std.specs.Option.{option_and_then, option_map_or}
 use Rattle.clap.specs.Words.{Row, first_of}
 use Rattle.scf_insn.specs.declared.record.CallRecord.{CallRecord}
 use Rattle.scf_insn.specs.Kernel.{audit_arch_x86_64}
@@ -17,15 +18,10 @@ pub record NumberOption : Type 0 where
   pub default : ℕ
   pub most : ℕ
 
--- a number that isn't past the most
-abbrev pub at_most : ℕ → Option ℕ → Option ℕ
-at_most most None = None
-at_most most (Some n) = if nat_le n most then Some n else None
-
 -- the number of an option by its text, and None where the text is no number in its range
 abbrev pub number_by : NumberOption → Option (List ℕ) → Option ℕ
 number_by o None = Some o.default
-number_by o (Some text) = at_most o.most (number_of text)
+number_by o (Some text) = option_and_then (λ n. if nat_le n o.most then Some n else None) (number_of text)
 
 -- the number of an option among the values that a command line gives
 abbrev pub number_in : List Row → NumberOption → Option ℕ
@@ -41,12 +37,8 @@ long_option name default = record { name = name; default = default; most = 2 ^ 6
 -- the options of a call record, in the order of its fields; without one the architecture is x86-64's
 abbrev pub call_options : List NumberOption
 call_options =
-    word_option (codes "nr") 0
-    ∷ word_option (codes "arch") audit_arch_x86_64
-    ∷ long_option (codes "ip") 0
-    ∷ long_option (codes "a0") 0 ∷ long_option (codes "a1") 0 ∷ long_option (codes "a2") 0
-    ∷ long_option (codes "a3") 0 ∷ long_option (codes "a4") 0 ∷ long_option (codes "a5") 0
-    ∷ []
+    word_option (codes "nr") 0 ∷ word_option (codes "arch") audit_arch_x86_64 ∷ map (λ name. long_option name 0)
+    (codes "ip" ∷ codes "a0" ∷ codes "a1" ∷ codes "a2" ∷ codes "a3" ∷ codes "a4" ∷ codes "a5" ∷ [])
 
 -- the most steps of a comparison
 abbrev pub limit_option : NumberOption
@@ -70,21 +62,14 @@ SpellsCall rows (Ok call) = AreSpelled call_options rows (numbers_of_record call
 SpellsCall rows (Err fault) = first_wrong call_options rows ≡ Some fault.name.now
 
 -- A flag is given where its name has the text `true`.
-abbrev pub is_true_text : Option (List ℕ) → Bool
-is_true_text None = false
-is_true_text (Some text) = bytes_eq text (codes "true")
-
 abbrev pub is_given : List Row → List ℕ → Bool
-is_given rows name = is_true_text (first_of name rows)
+is_given rows name = option_map_or (λ text. bytes_eq text (codes "true")) (first_of name rows) false
 
 -- ---- flags of which at most one may be given
 
 -- what the flags of a group stand for that are given
-abbrev pub if_given : {A : Type 0} → List Row → List ℕ × A → Option A
-if_given rows flag = if is_given rows flag.0 then Some flag.1 else None
-
 abbrev pub given_of : {A : Type 0} → List Row → List (List ℕ × A) → List A
-given_of rows group = filter_map (if_given rows) group
+given_of rows group = filter_map (λ flag. if is_given rows flag.0 then Some flag.1 else None) group
 
 -- the one of them, where none is more than one of them, and what stands without any
 abbrev pub one_of : {A : Type 0} → A → List A → Option A
