@@ -14,30 +14,25 @@ use Rattle.scf_tool.specs.Options.{NumberOption, AreSpelled, call_options, choic
 pub data Command : Type 0 where
   Ask Asm Check Compare Compile Decide Dis Run : Command
 
--- the word that names a command
+-- the words of each command: its own, those of its options, each with a number, and those of its flags
+abbrev pub words_of_command : Command → List ℕ × List NumberOption × List (List ℕ)
+words_of_command Ask = (codes "ask", call_options, [])
+words_of_command Asm = (codes "asm", [], [])
+words_of_command Check = (codes "check", [], [])
+words_of_command Compare = (codes "compare", limit_option ∷ [], flag_names scope_flags ++ flag_names relation_flags)
+words_of_command Compile = (codes "compile", [], [])
+words_of_command Decide = (codes "decide", call_options, [])
+words_of_command Dis = (codes "dis", [], [])
+words_of_command Run = (codes "run", call_options, path_flag ∷ [])
+
 abbrev pub command_word : Command → List ℕ
-command_word Ask = codes "ask"
-command_word Asm = codes "asm"
-command_word Check = codes "check"
-command_word Compare = codes "compare"
-command_word Compile = codes "compile"
-command_word Decide = codes "decide"
-command_word Dis = codes "dis"
-command_word Run = codes "run"
+command_word command = (words_of_command command).0
 
--- the options that a command takes, each with a number
 abbrev pub options_of : Command → List NumberOption
-options_of Ask = call_options
-options_of Compare = limit_option ∷ []
-options_of Decide = call_options
-options_of Run = call_options
-options_of command = []
+options_of command = (words_of_command command).1
 
--- the flags that a command takes
 abbrev pub flags_of : Command → List (List ℕ)
-flags_of Compare = flag_names scope_flags ++ flag_names relation_flags
-flags_of Run = path_flag ∷ []
-flags_of command = []
+flags_of command = (words_of_command command).2
 
 -- the command of a request, and the numbers of its options
 abbrev pub asked_by : Request → Command × List ℕ
