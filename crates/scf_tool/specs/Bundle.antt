@@ -1,5 +1,6 @@
 -- Files one after another, each behind a header.
-use Rattle.std.specs.Prelude.{◌≡◌, ◌≢◌, ℕ, ◌+◌, ◌<◌, ◌≤◌, Bool, true, false, List, [], ◌∷◌, ◌++◌, length, take, drop, codes, Some, if◌then◌else◌}
+use Rattle.std.specs.Prelude.{◌≡◌, ◌≢◌, ℕ, ◌+◌, ◌<◌, ◌≤◌, Bool, true, false, List, [], ◌∷◌, ◌++◌, length, take, drop, codes, Some, None, if◌then◌else◌}
+use Rattle.std.specs.List.{filter_map}
 use Rattle.scf_insn.specs.Numbers.{numeral}
 use Rattle.scf_tool.specs.declared.bundle.PartKind.{PartKind}
 use Rattle.scf_tool.specs.declared.bundle.PartKind.TheVariants.{Filter, Profile, Table}
@@ -93,9 +94,7 @@ is_of kind other = false
 
 -- what the parts of a kind hold, in their order
 abbrev pub held_by : PartKind → List ℕ → List Part → List (List ℕ)
-held_by kind bytes [] = []
-held_by kind bytes (part ∷ parts) =
-    if is_of kind part.kind then held bytes part ∷ held_by kind bytes parts else held_by kind bytes parts
+held_by kind bytes parts = filter_map (λ part. if is_of kind part.kind then Some (held bytes part) else None) parts
 
 -- Bytes are a bundle whose parts hold these filters, these profiles and these tables, those of each kind in order.
 pub record IsBundle (bytes : List ℕ) (filters profiles tables : List (List ℕ)) : Type 0 where
