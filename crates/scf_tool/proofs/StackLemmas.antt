@@ -1,14 +1,16 @@
 -- Readers of filters, one after another.
 use Rattle.std.proofs.Common.{◌≡◌, ℕ, ◌+◌, ◌<◌, ◌≤◌, List, [], ◌∷◌, ◌++◌, length, take, drop, set, get_or, map, Option, Some, Ok, Err, Bor, refl, subst, sym, ap, ◌∙◌, ◌≢◌, arith, add-one, length-drop}
 use Rattle.std.proofs.lemmas.List.{drop_more, take_more, take_more_set, set_split, drop-set-lt, take-append-drop, map-append, length-map}
+use Rattle.std.proofs.lemmas.List.Elements.{AllZip-push}
 use Rattle.std.proofs.lemmas.List.Sums.{sum_by_push}
+use Rattle.std.specs.List.{AllZip}
 use Rattle.scf_insn.specs.declared.insn.Insn.{Insn}
 use Rattle.scf_machine.specs.Stack.{IsPush, cost_of}
 use Rattle.scf_insn.specs.declared.encoding.ReadFault.TheVariants as reads
 use Rattle.scf_insn.specs.Streams.{HasFailed}
 use Rattle.scf_tool.specs.declared.contents.PartReader.{PartReader}
 use Rattle.scf_tool.specs.Verifying.{HasEnded, IsFilter, LeavesFilterReader}
-use Rattle.scf_tool.specs.FilterStacks.{AreFilters, HasStack, HasNoStack, IsNotPushed, HaveEnded, HaveStopped}
+use Rattle.scf_tool.specs.FilterStacks.{HasStack, HasNoStack, IsNotPushed, HaveEnded, HaveStopped}
 use Rattle.scf_tool.specs.declared.verification.VerifyFault.{VerifyFault}
 use Rattle.scf_tool.specs.declared.verification.VerifyFault.TheVariants.{FilterRead}
 use Rattle.scf_tool.specs.Bundle.{IsBundle}
@@ -18,22 +20,12 @@ use Rattle.scf_tool.specs.internal.Contents.{rest_of}
 
 -- one more filter
 one_more_filter : (filters : List (Option (List ℕ))) (stack : List (List Insn)) (bytes : Option (List ℕ))
-    (insns : List Insn) → AreFilters filters stack → IsFilter bytes insns
-    → AreFilters (filters ++ bytes ∷ []) (stack ++ insns ∷ [])
+    (insns : List Insn) → AllZip IsFilter filters stack → IsFilter bytes insns
+    → AllZip IsFilter (filters ++ bytes ∷ []) (stack ++ insns ∷ [])
 one_more_filter [] [] bytes insns h own = (own, tt)
 one_more_filter (f ∷ fs) (s ∷ ss) bytes insns h own = (h.0, one_more_filter fs ss bytes insns h.1 own)
 one_more_filter [] (s ∷ ss) bytes insns h own = absurd h
 one_more_filter (f ∷ fs) [] bytes insns h own = absurd h
-
--- one more reader
-one_more_reader : {R : Type 0} (remaining : R → Option (List ℕ)) (failures : R → ℕ) (olds news : List R) (old new : R)
-    → HaveEnded remaining failures olds news → HasEnded remaining failures old new
-    → HaveEnded remaining failures (olds ++ old ∷ []) (news ++ new ∷ [])
-one_more_reader remaining failures [] [] old new h own = (own, tt)
-one_more_reader remaining failures (o ∷ os) (n ∷ ns) old new h own =
-    (h.0, one_more_reader remaining failures os ns old new h.1 own)
-one_more_reader remaining failures [] (n ∷ ns) old new h own = absurd h
-one_more_reader remaining failures (o ∷ os) [] old new h own = absurd h
 
 -- the lists hold the same from a place on, and this stands there
 pub record SameFrom {R : Type 0} (i : ℕ) (olds news : List R) (old : R) : Type 0 where
@@ -91,7 +83,7 @@ stack_grows remaining failures i olds news old new stack pushed from upto push e
     record {
       has_stack = rw (told, push.2.1) record { accepted = accepted; total = total };
       ended = rw (olds_taken i olds news old from, take_more_set news i new from.within)
-          (one_more_reader remaining failures (take i olds) (take i news) old new upto.ended end);
+          (AllZip-push (HasEnded remaining failures) (take i olds) (take i news) old new upto.ended end);
       same = drop-set-lt (i + 1) news i new (omega arith) ∙ same_behind i olds news old from;
     }
 

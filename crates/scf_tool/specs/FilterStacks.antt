@@ -1,5 +1,6 @@
 -- The stacks of filters that readers have, the oldest first. The bytes of each reader count where it tells them.
-use Rattle.std.specs.Prelude.{◌≡◌, ◌≤◌, ◌+◌, ◌++◌, ℕ, List, [], ◌∷◌, Option, Err}
+use Rattle.std.specs.Prelude.{◌≡◌, ◌≤◌, ◌+◌, ◌++◌, ℕ, List, ◌∷◌, Option, Err}
+use Rattle.std.specs.List.{AllZip}
 use Rattle.scf_insn.specs.declared.insn.Insn.{Insn}
 use Rattle.scf_insn.specs.Kernel.{max_insns_per_path}
 use Rattle.scf_machine.specs.Stack.{IsPush, cost_of}
@@ -9,15 +10,9 @@ use Rattle.scf_tool.specs.Verifying.{HasEnded, IsFilter, IsNoFilter, LeavesFilte
 
 -- ---- the filters
 
--- these are the bytes of accepted filters, one for each
-abbrev pub AreFilters : List (Option (List ℕ)) → List (List Insn) → Type 0
-AreFilters [] [] = Unit {0}
-AreFilters (bytes ∷ rest) (insns ∷ others) = IsFilter bytes insns × AreFilters rest others
-AreFilters filters stack = ⊥
-
 -- These are the bytes of accepted filters, few enough for a stack: the 4 of the newest are no part of its total.
 pub record HasStack (filters : List (Option (List ℕ))) (stack : List (List Insn)) : Type 0 where
-  pub accepted : AreFilters filters stack
+  pub accepted : AllZip IsFilter filters stack
   pub total : cost_of stack ≤ max_insns_per_path + 4
 
 -- why a filter isn't pushed on a stack of these
@@ -40,10 +35,7 @@ pub record HasNoStack (filters : List (Option (List ℕ))) (fault : VerifyFault)
 
 -- each reader came to its end, and didn't fail
 abbrev pub HaveEnded : {R : Type 0} → (R → Option (List ℕ)) → (R → ℕ) → List R → List R → Type 0
-HaveEnded remaining failures [] [] = Unit {0}
-HaveEnded remaining failures (old ∷ olds) (new ∷ news) =
-    HasEnded remaining failures old new × HaveEnded remaining failures olds news
-HaveEnded remaining failures olds news = ⊥
+HaveEnded remaining failures olds news = AllZip (HasEnded remaining failures) olds news
 
 -- The readers before one have ended, this one is left so, and those behind it aren't asked.
 pub record HaveStopped {R : Type 0} (remaining : R → Option (List ℕ)) (failures : R → ℕ) (fault : VerifyFault)
