@@ -90,13 +90,9 @@ ReadsUnder limit bytes result = IfSome bytes (λ told. IsInput (λ (read : List 
 abbrev pub ReadsFilter : Option (List ℕ) → Result (List Insn) ReadFault → Type 0
 ReadsFilter bytes result = IfSome bytes (λ told. IsReading (λ (insns : List Insn). insns) told result)
 
--- few enough bytes of a call table or a profile
-abbrev pub IsWithinLimit : List ℕ → Type 0
-IsWithinLimit told = length told ≤ max_text_len
-
--- a call table: the bytes spell the map
+-- a call table: the bytes are few enough, and spell the map
 abbrev pub IsTable : Option (List ℕ) → Names → Type 0
-IsTable bytes names = IfSome bytes (λ told. IsWithinLimit told × (table_of told ≡ Ok names))
+IsTable bytes names = IfSome bytes (λ told. (length told ≤ max_text_len) × (table_of told ≡ Ok names))
 
 -- a profile: the JSON value of the bytes and the map state it, with what is left out of it
 abbrev pub IsLoaded : Option (List ℕ) → Names → Loaded → Type 0
@@ -139,13 +135,14 @@ IsNoFilter bytes fault = ⊥
 abbrev pub IsNoTable : Option (List ℕ) → VerifyFault → Type 0
 IsNoTable bytes (TableRead fault) = ReadsUnder max_text_len bytes (Err fault)
 IsNoTable bytes (Table fault) =
-    IfSome bytes (λ told. IsWithinLimit told × (fault ≢ tables.Memory → table_of told ≡ Err fault))
+    IfSome bytes (λ told. (length told ≤ max_text_len) × (fault ≢ tables.Memory → table_of told ≡ Err fault))
 IsNoTable bytes fault = ⊥
 
 -- why it has no profile: the bytes and the map of the table state none, for this fault first
 abbrev pub IsNoProfile : Names → Option (List ℕ) → VerifyFault → Type 0
 IsNoProfile names bytes (ProfileRead fault) = ReadsUnder max_text_len bytes (Err fault)
-IsNoProfile names bytes (Profile fault) = IfSome bytes (λ told. IsWithinLimit told × Refuses told names fault)
+IsNoProfile names bytes (Profile fault) =
+    IfSome bytes (λ told. (length told ≤ max_text_len) × Refuses told names fault)
 IsNoProfile names bytes fault = ⊥
 
 -- why a table and a profile state nothing that is compared: the first that isn't read, or want of memory behind both

@@ -4,12 +4,11 @@ use Rattle.std.proofs.lemmas.Result.{err_from_is_err_and}
 use Rattle.scf_profile.specs.declared.load_fault.LoadFault.{LoadFault}
 use Rattle.scf_profile.specs.Loading.{Refuses}
 use Rattle.scf_profile.specs.Table.{Names}
-use Rattle.scf_tool.specs.Verifying.{IsWithinLimit}
 use Rattle.scf_tool.proofs.verification.read_profile.Goals as goal
 
 refused_text : (bytes : Option (List ℕ)) (text : List ℕ) (names : Names) (fault : LoadFault)
     → IfSome bytes (λ told. (told ≡ text) × (length told ≤ 4194304)) → Refuses text names fault
-    → IfSome bytes (λ told. IsWithinLimit told × Refuses told names fault)
+    → IfSome bytes (λ told. (length told ≤ 4194304) × Refuses told names fault)
 refused_text None text names fault h refused = tt
 refused_text (Some told) text names fault h refused =
     (h.1, subst (λ (t : List ℕ). Refuses t names fault) (sym h.0) refused)
