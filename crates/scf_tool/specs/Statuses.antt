@@ -1,5 +1,6 @@
 -- Exit statuses: their numbers, and how a run of a command leaves standard input.
-use Rattle.std.specs.Prelude.{◌≡◌, ℕ, List, Option, Some, None, Result, Err}
+use Rattle.std.specs.Prelude.{◌≡◌, ℕ, List, Option, Result, Err}
+use Rattle.std.specs.Option.{option_map_or}
 use Rattle.scf_compare.specs.declared.verdict.Verdict.{Verdict}
 use Rattle.scf_compare.specs.declared.verdict.Verdict.TheVariants.{Same, Differs, Undecided, Unfinished}
 use Rattle.scf_insn.specs.declared.input.InputFault.TheVariants as inputs
@@ -27,8 +28,7 @@ verdict_status Unfinished = Open
 
 -- the exit status that goes with the verdict that speaks for calls: None is that all are the same
 abbrev pub joint_status : Option Verdict → Status
-joint_status None = Well
-joint_status (Some verdict) = verdict_status verdict
+joint_status joint = option_map_or verdict_status joint Well
 
 -- How a command leaves standard input that is one filter: it came to its end, or the filter isn't read.
 abbrev pub LeavesFilter : {R T : Type 0} → (R → Option (List ℕ)) → (R → ℕ) → R → Result T Fault → R → Type 0
