@@ -1,33 +1,30 @@
 -- The runs that come to the nodes of a filter's tree.
-use Rattle.std.proofs.Common.{◌≡◌, ℕ, ◌+◌, ◌≤◌, Bool, true, false, List, ◌∷◌, length, refl, subst, ◌∙◌, arith}
+use Rattle.std.proofs.Common.{◌≡◌, ℕ, ◌+◌, ◌/◌, ◌==◌, Bool, true, false, if◌then◌else◌, List, ◌∷◌, length, refl, ap, subst, ◌∙◌, arith}
 use Rattle.scf_insn.specs.declared.insn.Insn.{Insn}
 use Rattle.scf_insn.specs.declared.operation.Operation.{Operation}
-use Rattle.scf_machine.specs.Machine.{State, Outcome, Goes, Ends, Faults, step, effect, jumps_to, RunAnswers, RunsSafely}
-use Rattle.scf_machine.specs.Rules.{Stands, Edge}
-use Rattle.scf_machine.proofs.Runs.{step_edge}
+use Rattle.scf_insn.specs.declared.operation.Register.TheVariants.{A}
+use Rattle.scf_machine.specs.Machine.{State, Outcome, Goes, Ends, Faults, step, effect, sets, jumps_to, holds, operand_of, RunAnswers, RunsSafely}
+use Rattle.scf_machine.specs.Rules.{Stands}
 use Rattle.scf_compare.specs.declared.comparison.FilterEnd.{FilterEnd}
 use Rattle.scf_compare.specs.declared.filter.FilterNode.{FilterNode}
-use Rattle.scf_compare.specs.declared.flow.Flow.TheVariants.{Next}
+use Rattle.scf_compare.specs.declared.flow.Flow.{Flow}
+use Rattle.scf_compare.specs.declared.flow.Flow.TheVariants.{Next, Jump, Branch, DivideByIndex, ReturnConstant, ReturnAccumulator}
 use Rattle.scf_compare.specs.declared.registers.Registers.{Registers}
 use Rattle.scf_compare.specs.declared.turn.Turn.{Turn}
 use Rattle.scf_compare.specs.declared.value.Decision.{Decision}
 use Rattle.scf_compare.specs.internal.Flow.{flow_at}
-use Rattle.scf_compare.specs.internal.Trees.{Tree, GoesOn, Costs, StaysPlain}
+use Rattle.scf_compare.specs.internal.Trees.{Tree, GoesOn, StaysPlain}
 use Rattle.scf_compare.specs.internal.Values.{Describes, Decides, IsPlainDecision}
 use Rattle.scf_compare.specs.internal.Filters.{ComesTo, IsTurnOf}
-use Rattle.scf_compare.proofs.Flows.{next_never_ends, edge_next}
+use Rattle.scf_compare.proofs.Flows.{Does, does}
 
--- what is known of registers doesn't hang on the place
-pub describes_at : (registers : Registers) (words : List ℕ) (s : State) (target : ℕ) → Describes registers words s
-    → Describes registers words (jumps_to s target)
-describes_at registers words s target d = record { a = d.a; x = d.x; scratch = d.scratch }
-
-module _ (insns : List Insn) (words : List ℕ) (place : ℕ) (i : Insn) (operation : Operation) (registers : Registers)
+-- A run over the words comes to an instruction, whose values are known.
+module _ {insns : List Insn} {words : List ℕ} {place : ℕ} {i : Insn} {operation : Operation} {registers : Registers}
     (stands : Stands insns place i operation) (c : ComesTo insns place registers words) where
   step_here : step insns words c.state ≡ effect operation i words c.state
   step_here = grind arith
 
-  pub comes_on : (t : State) (next : ℕ) (after : Registers) → effect operation i words c.state ≡ Goes t → t.place ≡ next
+  comes_on : (t : State) (next : ℕ) (after : Registers) → effect operation i words c.state ≡ Goes t → t.place ≡ next
       → Describes after words t → ComesTo insns next after words
   comes_on t next after e there d =
       record {
@@ -38,38 +35,66 @@ module _ (insns : List Insn) (words : List ℕ) (place : ℕ) (i : Insn) (operat
         describes = d;
       }
 
-  pub comes_to_answer : (n : ℕ) → effect operation i words c.state ≡ Ends n → RunAnswers insns words n
-  comes_to_answer n e = (
+  answers : (n : ℕ) → effect operation i words c.state ≡ Ends n → RunAnswers insns words n
+  answers n e = (
     length c.earlier + 1,
     record { last = c.state; earlier = c.earlier; chain = c.chain; answers = step_here ∙ e; count = refl },
   )
 
-  straight_by : RunsSafely insns words → (o : Outcome) → effect operation i words c.state ≡ o → (next : ℕ)
-      → flow_at operation i place ≡ Next next → (after : Registers)
+  comes_next : RunsSafely insns words → (o : Outcome) → effect operation i words c.state ≡ o → (next : ℕ)
+      → Does (Next next) i c.state o → (after : Registers)
       → ((t : State) → effect operation i words c.state ≡ Goes t → Describes after words t)
       → ComesTo insns next after words
-  straight_by safe (Goes t) e next f after d =
-      let edge = step_edge insns words c.state t (step_here ∙ e) in
-      comes_on t next after e
-      (edge_next insns place t.place next i operation stands (subst (λ (p : ℕ). Edge insns p t.place) c.there edge)
-      f)
-      (d t e)
-  straight_by safe (Ends n) e next f after d = absurd (next_never_ends operation i words c.state place next n f e)
-  straight_by safe (Faults fault) e next f after d =
+  comes_next safe (Goes t) e next does after d = comes_on t next after e (does.1 t refl) (d t e)
+  comes_next safe (Ends n) e next does after d = absurd (does.0 n refl)
+  comes_next safe (Faults fault) e next does after d =
       absurd (safe.never_faults c.state c.earlier fault c.chain (step_here ∙ e))
 
-  -- an instruction that goes on to the next one
-  pub straight : RunsSafely insns words → (next : ℕ) → flow_at operation i place ≡ Next next → (after : Registers)
-      → ((t : State) → effect operation i words c.state ≡ Goes t → Describes after words t)
+  -- where the run goes on, with registers that describe the states after the instruction
+  abbrev pub Leads : Flow → Type 0
+  Leads (Next next) =
+      (after : Registers) → ((t : State) → effect operation i words c.state ≡ Goes t → Describes after words t)
       → ComesTo insns next after words
-  straight safe next f after d = straight_by safe (effect operation i words c.state) refl next f after d
+  Leads (Jump target) = ComesTo insns target registers words
+  Leads (Branch test operand if_true if_false) =
+      let outcome = holds test c.state.a (operand_of operand i c.state) in
+      (outcome ≡ true → ComesTo insns if_true registers words)
+      × (outcome ≡ false → ComesTo insns if_false registers words)
+  Leads (DivideByIndex next) =
+      (after : Registers) → ((t : State) → effect operation i words c.state ≡ Goes t → Describes after words t)
+      → ((c.state.x == 0) ≡ true → RunAnswers insns words 0)
+      × ((c.state.x == 0) ≡ false → ComesTo insns next after words)
+  Leads ReturnConstant = RunAnswers insns words i.k
+  Leads ReturnAccumulator = RunAnswers insns words c.state.a
+
+  leads_by : RunsSafely insns words → (flow : Flow) → Does flow i c.state (effect operation i words c.state) → Leads flow
+  leads_by safe (Next next) does = comes_next safe (effect operation i words c.state) refl next does
+  leads_by safe (Jump target) e =
+      comes_on (jumps_to c.state target) target registers e refl
+      (record { a = c.describes.a; x = c.describes.x; scratch = c.describes.scratch })
+  leads_by safe (Branch test operand if_true if_false) e =
+      let to = λ (next : ℕ) (h : (if holds test c.state.a (operand_of operand i c.state) then if_true else if_false) ≡ next).
+      comes_on _ next registers e h (record { a = c.describes.a; x = c.describes.x; scratch = c.describes.scratch }) in (
+        λ h. to if_true (ap (λ b. if b then if_true else if_false) h),
+        λ h. to if_false (ap (λ b. if b then if_true else if_false) h),
+      )
+  leads_by safe (DivideByIndex next) (there, e) = λ after d. (
+    λ zero. answers 0 (e ∙ ap (λ b. if b then Ends 0 else Goes (sets A c.state (c.state.a / c.state.x))) zero),
+    λ some.
+        let on = e ∙ ap (λ b. if b then Ends 0 else Goes (sets A c.state (c.state.a / c.state.x))) some in
+        comes_on (sets A c.state (c.state.a / c.state.x)) next after on there (d _ on),
+  )
+  leads_by safe ReturnConstant e = answers i.k e
+  leads_by safe ReturnAccumulator e = answers c.state.a e
+
+  pub leads : RunsSafely insns words → (flow : Flow) → flow_at operation i place ≡ flow → Leads flow
+  leads safe flow f =
+      leads_by safe flow
+      (subst (λ (g : Flow). Does g i c.state (effect operation i words c.state)) f
+      (subst (λ p. Does (flow_at operation i p) i c.state (effect operation i words c.state)) c.there
+      (does operation i words c.state)))
 
 -- ---- the ways on from a test
-
-pub turn_costs : (tree : Tree FilterNode) (decision : Decision) (if_true if_false : FilterNode)
-    (turn : Turn FilterNode FilterEnd) (n : ℕ) → IsTurnOf decision if_true if_false turn
-    → tree.size if_true + tree.size if_false + 1 ≤ n → Costs tree turn n
-turn_costs tree decision if_true if_false turn n e h = grind arith
 
 pub turn_leads : (tree : Tree FilterNode) (tells : FilterEnd → List ℕ → Type 0) (words : List ℕ) (decision : Decision)
     (if_true if_false : FilterNode) (turn : Turn FilterNode FilterEnd) (test : Bool)
