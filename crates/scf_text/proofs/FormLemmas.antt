@@ -1,5 +1,5 @@
 -- The forms of the codes, one by one and all together; reading by the forms in turn; no two take the same tokens.
-use Rattle.std.proofs.Common.{◌≡◌, ℕ, Bool, true, false, ◌||◌, List, [], ◌∷◌, map, Option, Some, None, refl, sym}
+use Rattle.std.proofs.Common.{◌≡◌, ℕ, Bool, true, ◌||◌, List, [], ◌∷◌, map, Option, Some, None, refl, sym}
 use Rattle.std.proofs.Common.{ap, subst, ◌∙◌, inl, inr}
 use Rattle.std.specs.Option.{option_map}
 use Rattle.std.specs.List.{AllByRecursion, list_any, find}
@@ -21,19 +21,14 @@ pub same_code : (code : ℕ) (f : Form) → form_of_code code ≡ Some f → f.c
 same_code code f h = the_form code (operation_of code) f h
 
 -- the form of a code is the first of the known ones with that code
-found_as : (code : ℕ) (row : Row) (table : List Row) (b : Bool) → (row.0 == code) ≡ b
-    → option_map (form_of code) (lookup (λ known. known == code) table)
-    ≡ find (λ (f : Form). f.code == code) (map (λ (known : Row). form_of known.0 known.1) table)
-    → option_map (form_of code) (lookup (λ known. known == code) (row ∷ table))
-    ≡ find (λ (f : Form). f.code == code) (map (λ (known : Row). form_of known.0 known.1) (row ∷ table))
-found_as code row table true here rest =
-    rw here (ap (λ (c : ℕ). Some (form_of c row.1)) (sym (eqb-true row.0 code here)))
-found_as code row table false other rest = rw other rest
-
 found_in : (code : ℕ) (table : List Row) → option_map (form_of code) (lookup (λ known. known == code) table)
     ≡ find (λ (f : Form). f.code == code) (map (λ (known : Row). form_of known.0 known.1) table)
 found_in code [] = refl
-found_in code (row ∷ table) = found_as code row table (row.0 == code) refl (found_in code table)
+found_in code (row ∷ table) =
+    elim (cases_Bool (row.0 == code)) [
+      | inl here ↦ rw here (ap (λ (c : ℕ). Some (form_of c row.1)) (sym (eqb-true row.0 code here)))
+      | inr other ↦ rw other (found_in code table)
+    ]
 
 pub find_form : (code : ℕ) → form_of_code code ≡ find (λ (f : Form). f.code == code) known_forms
 unfolding known_forms operation_of

@@ -1,22 +1,21 @@
 -- A text spells a list exactly where it has no fault, and then only one.
-use Rattle.std.proofs.Common.{◌≡◌, ℕ, suc, ◌+◌, ◌-◌, ◌<◌, ◌≤◌, ◌^◌, Bool, true, false, not, ◌||◌, cond, eqb, ltb, leb}
+use Rattle.std.proofs.Common.{◌≡◌, ℕ, suc, ◌+◌, ◌-◌, ◌<◌, ◌≤◌, ◌^◌, true, false, cond, eqb, ltb, leb}
 use Rattle.std.proofs.Common.{List, [], ◌∷◌, ◌++◌, length, Option, Some, None, refl, sym, ap, subst, ◌∙◌, zero-add}
-use Rattle.std.proofs.Common.{arith}
+use Rattle.std.proofs.Common.{arith, inl, inr}
 use Rattle.std.specs.Option.{is_some, option_or}
 use Rattle.std.specs.List.{AllByRecursion, list_any, flat_map}
-use Rattle.std.proofs.lemmas.Bool.{lt-ltb, le-ltb, ltb-true, leb-false, lt-leb}
+use Rattle.std.proofs.lemmas.Bool.{cases_Bool, lt-ltb, le-ltb, lt-leb}
+use Rattle.std.proofs.lemmas.Bool.Decides.{nat_tests}
 use Rattle.std.proofs.lemmas.List.{append-nil, length-append}
 use Rattle.scf_insn.specs.Insn.{IsInsn}
 use Rattle.scf_insn.specs.Kernel.{bpf_maxinsns}
 use Rattle.scf_insn.specs.declared.insn.Insn.{Insn}
-use Rattle.scf_text.specs.declared.fault.TextFault.{TextFault}
-use Rattle.scf_text.specs.declared.fault.TextFault.TheVariants as fault
 use Rattle.scf_text.specs.declared.form.Form.{Form}
-use Rattle.scf_text.specs.Forms.{forms, pieces_of}
-use Rattle.scf_text.specs.Drafts.{Written, Number, Label, Draft, has_mnemonic, fill_by, blank, read_by, draft_of}
+use Rattle.scf_text.specs.Forms.{forms}
+use Rattle.scf_text.specs.Drafts.{Written, Number, Label, Draft, has_mnemonic, read_by, draft_of}
 use Rattle.scf_text.specs.Drafts.{is_below, is_in_range}
 use Rattle.scf_insn.specs.Numbers.{number_of}
-use Rattle.scf_text.specs.Statements.{Statement, Labels, Places, place_of, instruction_count, label_in}
+use Rattle.scf_text.specs.Statements.{Statement, Labels, Places, place_of, places_in, instruction_count, label_in}
 use Rattle.scf_text.specs.Statements.{instruction_in, label_at, place_after, labels_from, drafts_by, drafts_in}
 use Rattle.scf_text.specs.Statements.{IsRead, statements_of, labels_of, drafts_of}
 use Rattle.scf_text.specs.Spelling.{Says, SaysInsn, SaysEach, AreNew, Spells}
@@ -31,12 +30,8 @@ both_none : {A : Type 0} (a b : Option A) → option_or a b ≡ None → (a ≡ 
 both_none None b h = (refl, h)
 both_none (Some x) b h = absurd cc
 
-none_both : {A : Type 0} (a b : Option A) → a ≡ None → b ≡ None → option_or a b ≡ None
-none_both a b h k = rw h k
-
-no_some : {A : Type 0} (b : Bool) (x : A) → cond b (Some x) None ≡ None → b ≡ false
-no_some true x h = absurd cc
-no_some false x h = refl
+none_both : {A : Type 0} {a b : Option A} → a ≡ None → b ≡ None → option_or a b ≡ None
+none_both h k = rw h k
 
 is_none : {A : Type 0} (o : Option A) → is_some o ≡ false → o ≡ None
 is_none None h = refl
@@ -44,17 +39,10 @@ is_none (Some x) h = absurd cc
 
 -- ASCII
 
-ascii_one : (t : Bool) (b line : ℕ) (rest : Option TextFault) → cond t rest (Some (fault.NotAscii line)) ≡ None
-    → (t ≡ true) × (rest ≡ None)
-ascii_one true b line rest h = (refl, h)
-ascii_one false b line rest h = absurd cc
-
 pub ascii_from : (text : List ℕ) (line : ℕ) → ascii_fault line text ≡ None → AllByRecursion (λ b. b < 128) text
 ascii_from [] line h = tt
 ascii_from (b ∷ bs) line h =
-    let next : ℕ = cond (eqb b 10) (line + 1) line in
-    let both = ascii_one (ltb b 128) b line (ascii_fault next bs) h in
-    (ltb-true b 128 both.0, ascii_from bs next both.1)
+    (grind (arith, nat_tests), ascii_from bs (cond (eqb b 10) (line + 1) line) (grind (arith, nat_tests)))
 
 pub ascii_to : (text : List ℕ) (line : ℕ) → AllByRecursion (λ b. b < 128) text → ascii_fault line text ≡ None
 ascii_to [] line h = refl
@@ -67,7 +55,7 @@ new_from : (earlier : Labels) (at line : ℕ) (o : Option (List ℕ)) (ls : Labe
     → AreNew earlier (label_at at o ++ ls)
 new_from earlier at line None ls h k = subst (λ (e : Labels). AreNew e ls) (append-nil earlier) k
 new_from earlier at line (Some name) ls h k =
-    (is_none (place_of earlier name) (no_some (is_some (place_of earlier name)) (fault.Label line) h), k)
+    (is_none (place_of earlier name) (grind (arith, nat_tests)), k)
 
 new_to : (earlier : Labels) (at line : ℕ) (o : Option (List ℕ)) (ls : Labels) → AreNew earlier (label_at at o ++ ls)
     → (label_fault (place_of earlier) line o ≡ None) × AreNew (earlier ++ label_at at o) ls
@@ -79,73 +67,48 @@ new_to earlier at line (Some name) ls h = (rw h.0 refl, h.1)
 draft_from : (at line : ℕ) (o : Option Draft)
     → draft_fault at line o ≡ None → (d : Draft) × (o ≡ Some d) × (at < bpf_maxinsns)
 draft_from at line None h = absurd cc
-draft_from at line (Some d) h = go (not (is_in_range d)) h where
-  small : (u : Bool) → leb bpf_maxinsns at ≡ u → cond u (Some (fault.TooLong line)) None ≡ None → at < bpf_maxinsns
-  small true e k = absurd cc
-  small false e k = leb-false bpf_maxinsns at e
-
-  go : (t : Bool)
-      → cond t (Some (fault.NumberRange line)) (cond (leb bpf_maxinsns at) (Some (fault.TooLong line)) None) ≡ None
-      → (e : Draft) × (Some d ≡ Some e) × (at < bpf_maxinsns)
-  go true k = absurd cc
-  go false k = (d, refl, small (leb bpf_maxinsns at) refl k)
-
-mnemonic_from : (t : Bool) (line : ℕ) (o : Option TextFault) → cond t o (Some (fault.Mnemonic line)) ≡ None → o ≡ None
-mnemonic_from true line o h = h
-mnemonic_from false line o h = absurd cc
+draft_from at line (Some d) h = (d, refl, grind (arith, nat_tests))
 
 instruction_from : (at line : ℕ) (body : List (List ℕ)) → at ≤ bpf_maxinsns → instruction_fault at line body ≡ None
     → IsRead body × (at + length (drafts_by line body) ≡ place_after at body) × (place_after at body ≤ bpf_maxinsns)
 instruction_from at line [] le h = (tt, omega arith, le)
 instruction_from at line (t ∷ ts) le h =
-    let d = draft_from at line (draft_of t ts)
-    (mnemonic_from (list_any (has_mnemonic t) forms) line (draft_fault at line (draft_of t ts)) h) in
+    let none : draft_fault at line (draft_of t ts) ≡ None = grind (arith, nat_tests) in
+    let d = draft_from at line (draft_of t ts) none in
     (rw d.1 refl, rw d.1 refl, omega (arith, d.2))
 
-later_labels : (before : List Statement) (s : Statement) (earlier : Labels) (at : ℕ) → earlier ≡ labels_from 0 before
-    → at ≡ instruction_count before
-    → earlier ++ label_at at (label_in s.tokens) ≡ labels_from 0 (before ++ s ∷ [])
-later_labels before s earlier at e n = rw (e, n, labels_more 0 before s, zero-add (instruction_count before)) refl
-
 -- no fault of a statement: the names are new, and each instruction is read, at most 4096 in all
-statements_from_none : (ss before : List Statement) (earlier : Labels) (at : ℕ) → earlier ≡ labels_from 0 before
-    → at ≡ instruction_count before → at ≤ bpf_maxinsns → statements_fault before ss ≡ None
-    → AreNew earlier (labels_from at ss) × AllByRecursion (λ (s : Statement). IsRead (instruction_in s.tokens)) ss
-    × (at + length (flat_map drafts_in ss) ≤ bpf_maxinsns)
-statements_from_none [] before earlier at e n le h = (tt, tt, omega arith)
-statements_from_none (s ∷ ss) before earlier at e n le h =
-    let next = place_after at (instruction_in s.tokens) in
-    let later : Labels = earlier ++ label_at at (label_in s.tokens) in
+statements_from_none : (ss before : List Statement) → instruction_count before ≤ bpf_maxinsns
+    → statements_fault before ss ≡ None → AreNew (labels_from 0 before) (labels_from (instruction_count before) ss)
+    × AllByRecursion (λ (s : Statement). IsRead (instruction_in s.tokens)) ss
+    × (instruction_count before + length (flat_map drafts_in ss) ≤ bpf_maxinsns)
+statements_from_none [] before le h = (tt, tt, omega arith)
+statements_from_none (s ∷ ss) before le h =
+    let at = instruction_count before in
+    let body = instruction_in s.tokens in
     let one = both_none (statement_fault before s) (statements_fault (before ++ s ∷ []) ss) h in
     let parts =
-    both_none (label_fault (place_of earlier) s.line (label_in s.tokens))
-    (instruction_fault at s.line (instruction_in s.tokens)) (rw (e, n) one.0) in
-    let read = instruction_from at s.line (instruction_in s.tokens) le parts.1 in
-    let rest = statements_from_none ss (before ++ s ∷ []) later next (later_labels before s earlier at e n)
-    (rw n (sym (count_more before s))) read.2 one.1 in (
-      new_from earlier at s.line (label_in s.tokens) (labels_from next ss) parts.0 rest.0,
+    both_none (label_fault (places_in before) s.line (label_in s.tokens)) (instruction_fault at s.line body) one.0 in
+    let read = instruction_from at s.line body le parts.1 in
+    let rest =
+    rw (labels_more, zero-add, count_more) at
+    (statements_from_none ss (before ++ s ∷ []) (rw count_more read.2) one.1) in (
+      new_from (labels_from 0 before) at s.line (label_in s.tokens) (labels_from (place_after at body) ss) parts.0
+          rest.0,
       (read.0, rest.1),
-      omega (
-        arith,
-        length-append (drafts_by s.line (instruction_in s.tokens)) (flat_map drafts_in ss),
-        read.1,
-        rest.2,
-      ),
+      omega (arith, length-append (drafts_by s.line body) (flat_map drafts_in ss), read.1, rest.2),
     )
 
 -- and back
-
-chosen_step : (b : Bool) (o rest : Option Draft) (d : Draft) (others : Bool)
-    → option_or (cond b o None) rest ≡ Some d → (rest ≡ Some d → others ≡ true) → (b || others) ≡ true
-chosen_step true o rest d others h k = refl
-chosen_step false o rest d others h k = k h
 
 chosen_form : (fs : List Form) (t : List ℕ) (ts : List (List ℕ)) (d : Draft) → read_by number_of fs t ts ≡ Some d
     → list_any (has_mnemonic t) fs ≡ true
 chosen_form [] t ts d h = absurd cc
 chosen_form (f ∷ fs) t ts d h =
-    chosen_step (has_mnemonic t f) (fill_by number_of (pieces_of f.shape) ts (blank f)) (read_by number_of fs t ts) d
-    (list_any (has_mnemonic t) fs) h (chosen_form fs t ts d)
+    elim (cases_Bool (has_mnemonic t f)) [
+      | inl here ↦ rw here refl
+      | inr other ↦ rw other (chosen_form fs t ts d (rw other at h))
+    ]
 
 has_form : (t : List ℕ) (ts : List (List ℕ)) (d : Draft) → draft_of t ts ≡ Some d
     → list_any (has_mnemonic t) forms ≡ true
@@ -163,42 +126,33 @@ front_in_range : (ds es : List (ℕ × Draft)) → InRange (ds ++ es) → InRang
 front_in_range [] es h = (tt, h)
 front_in_range (d ∷ ds) es h = let rest = front_in_range ds es h.1 in ((h.0, rest.0), rest.1)
 
-instruction_one : (at line : ℕ) (t : List ℕ) (ts : List (List ℕ)) (d : Draft) → draft_of t ts ≡ Some d
-    → InRange (drafts_by line (t ∷ ts)) → at + length (drafts_by line (t ∷ ts)) ≤ bpf_maxinsns
-    → (instruction_fault at line (t ∷ ts) ≡ None) × (place_after at (t ∷ ts) ≡ at + length (drafts_by line (t ∷ ts)))
-instruction_one at line t ts d e range few =
-    let one : drafts_by line (t ∷ ts) ≡ (line, d) ∷ [] = rw e refl in
-    let in_range = subst InRange one range in
-    let count : length (drafts_by line (t ∷ ts)) ≡ 1 = ap length one in
-    (rw (has_form t ts d e, e, in_range.0, lt-leb bpf_maxinsns at (omega arith)) refl, omega arith)
-
 instruction_to : (at line : ℕ) (body : List (List ℕ)) → IsRead body → InRange (drafts_by line body)
     → at + length (drafts_by line body) ≤ bpf_maxinsns
     → (instruction_fault at line body ≡ None) × (place_after at body ≡ at + length (drafts_by line body))
 instruction_to at line [] read range few = (refl, omega arith)
 instruction_to at line (t ∷ ts) read range few =
     let d = the_some (draft_of t ts) read in
-    instruction_one at line t ts d.0 d.1 range few
+    let in_range = rw d.1 at range in
+    let least = rw d.1 at few in (
+      rw (has_form t ts d.0 d.1, d.1, in_range.0, lt-leb bpf_maxinsns at (omega arith)) refl,
+      rw d.1 refl,
+    )
 
-statements_to_none : (ss before : List Statement) (earlier : Labels) (at : ℕ) → earlier ≡ labels_from 0 before
-    → at ≡ instruction_count before → AreNew earlier (labels_from at ss)
+statements_to_none : (ss before : List Statement)
+    → AreNew (labels_from 0 before) (labels_from (instruction_count before) ss)
     → AllByRecursion (λ (s : Statement). IsRead (instruction_in s.tokens)) ss → InRange (flat_map drafts_in ss)
-    → at + length (flat_map drafts_in ss) ≤ bpf_maxinsns → statements_fault before ss ≡ None
-statements_to_none [] before earlier at e n new read range few = refl
-statements_to_none (s ∷ ss) before earlier at e n new read range few =
+    → instruction_count before + length (flat_map drafts_in ss) ≤ bpf_maxinsns → statements_fault before ss ≡ None
+statements_to_none [] before new read range few = refl
+statements_to_none (s ∷ ss) before new read range few =
+    let at = instruction_count before in
     let body = instruction_in s.tokens in
-    let next = place_after at body in
-    let later : Labels = earlier ++ label_at at (label_in s.tokens) in
     let parts = front_in_range (drafts_by s.line body) (flat_map drafts_in ss) range in
     let count = length-append (drafts_by s.line body) (flat_map drafts_in ss) in
     let one = instruction_to at s.line body read.0 parts.0 (omega (arith, count)) in
-    let label = new_to earlier at s.line (label_in s.tokens) (labels_from next ss) new in
-    let here =
-    none_both (label_fault (place_of earlier) s.line (label_in s.tokens)) (instruction_fault at s.line body)
-    label.0 one.0 in
-    none_both (statement_fault before s) (statements_fault (before ++ s ∷ []) ss) (rw (e, n) at here)
-    (statements_to_none ss (before ++ s ∷ []) later next (later_labels before s earlier at e n)
-    (rw n (sym (count_more before s))) label.1 read.1 parts.1 (omega (arith, count, one.1)))
+    let label = new_to (labels_from 0 before) at s.line (label_in s.tokens) (labels_from (place_after at body) ss) new in
+    none_both (none_both label.0 one.0)
+    (statements_to_none ss (before ++ s ∷ []) (rw (labels_more, zero-add, count_more) label.1) read.1 parts.1
+    (rw count_more (omega (arith, count, one.1))))
 
 -- what is said
 
@@ -226,8 +180,7 @@ says_each places at (d ∷ ds) (i ∷ is) s fits =
     let one = says_insn places at d.0 d.1 i s.0 fits.0 in
     let rest = says_each places (at + 1) ds is s.1 fits.1 in (
       (one.0, rest.0),
-      none_both (targets_fault places at d.0 d.1) (all_targets_fault places (at + 1) ds) one.1
-          rest.1,
+      none_both one.1 rest.1,
       ap suc rest.2,
     )
 
@@ -236,13 +189,9 @@ pub no_fault : (text : List ℕ) (is : List Insn) → Spells text is → fault_o
 unfolding fault_of
 no_fault text is s =
     let said = says_each (place_of (labels_of text)) 0 (drafts_of text) is s.each s.fields in
-    let read = statements_to_none (statements_of text) [] [] 0 refl refl s.distinct s.read said.0
+    let read = statements_to_none (statements_of text) [] s.distinct s.read said.0
     (omega (arith, said.2, s.few)) in
-    none_both (ascii_fault 1 text)
-    (option_or (statements_fault [] (statements_of text))
-    (all_targets_fault (place_of (labels_of text)) 0 (drafts_of text))) (ascii_to text 1 s.ascii)
-    (none_both (statements_fault [] (statements_of text))
-    (all_targets_fault (place_of (labels_of text)) 0 (drafts_of text)) read said.1)
+    none_both (ascii_to text 1 s.ascii) (none_both read said.1)
 
 -- a text with no fault spells what its instructions say
 pub spelled : (text : List ℕ) (is : List Insn) → fault_of text ≡ None
@@ -257,7 +206,7 @@ spelled text is none says fits =
     both_none (statements_fault [] (statements_of text))
     (all_targets_fault (place_of (labels_of text)) 0 (drafts_of text)) outer.1 in
     let read =
-    statements_from_none (statements_of text) [] [] 0 refl refl (omega arith) inner.0 in
+    statements_from_none (statements_of text) [] (omega arith) inner.0 in
     let said = says_each (place_of (labels_of text)) 0 (drafts_of text) is says fits in
     record {
       ascii = ascii_from text 1 outer.0;

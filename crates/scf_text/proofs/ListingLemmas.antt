@@ -1,12 +1,12 @@
 -- The lines of a listing: their tokens, and that no byte or token of them ends a line, a statement or a label.
 use Rattle.std.proofs.Common.{◌≡◌, ℕ, ◌/◌, ◌%◌, ◌<◌, ◌^◌, true, false, ◌&&◌, ◌||◌, eqb, List, [], ◌∷◌, ◌++◌}
-use Rattle.std.proofs.Common.{length, Some, refl, ap, ◌∙◌, arith, inl, inr, zero, suc, ◌≤◌, Bool, ltb}
+use Rattle.std.proofs.Common.{length, Some, refl, ap, ◌∙◌, arith, ◌≤◌, Bool, ltb}
 use Rattle.std.proofs.Common.{None, not}
 use Rattle.std.specs.List.{list_all, flat_map, AllByRecursion}
 use Rattle.std.specs.Char.{is_digit, digit_value}
-use Rattle.std.specs.Fmt.{decimal, digits, digit_glyph, digits_onto}
+use Rattle.std.specs.Fmt.{decimal, digits, digit_glyph}
 use Rattle.std.specs.Str.Parse.{digits_value, AllDigits, IsNumeral}
-use Rattle.std.proofs.lemmas.Bool.{eqb-true, ne_eqb, cases_Bool, lt-ltb, agree_below_at, and_parts, and_from, and_right}
+use Rattle.std.proofs.lemmas.Bool.{eqb-true, ne_eqb, lt-ltb, agree_below_at, and_parts, and_from, and_right}
 use Rattle.std.proofs.lemmas.Bool.{ltb-true, not-true}
 use Rattle.std.proofs.lemmas.Fmt.{digits_is_IsNumeral}
 use Rattle.std.proofs.lemmas.Str.Parse.{digit_from_value}
@@ -107,25 +107,18 @@ words_wordy (b ∷ t) rest w h = let both = and_parts (is_word_byte b) (list_all
 
 -- digits
 
-digit_word : (base n : ℕ) → 2 ≤ base → base ≤ 16 → is_word_byte (digit_glyph false (n % base)) ≡ true
-digit_word base n low high = glyph_word (n % base) (omega arith)
+digit_word : (c : ℕ) → digit_value c < 16 → is_word_byte c ≡ true
+digit_word c lt = grind (arith, nat_tests)
 
-digits_word : (k base n : ℕ) (acc : List ℕ) → 2 ≤ base → base ≤ 16 → list_all is_word_byte acc ≡ true
-    → list_all is_word_byte (digits_onto k base false n acc) ≡ true
-digits_word zero base n acc low high h = h
-digits_word (suc k) base n acc low high h =
-    let more =
-    and_from (is_word_byte (digit_glyph false (n % base))) (list_all is_word_byte acc)
-    (digit_word base n low high) h in
-    elim (cases_Bool (eqb (n / base) 0)) [
-      | inl last ↦ rw last more
-      | inr other ↦ rw other (digits_word k base (n / base) (digit_glyph false (n % base) ∷ acc) low high more)
-    ]
+digits_word : (base : ℕ) (ds : List ℕ) → base ≤ 16 → AllDigits base ds → list_all is_word_byte ds ≡ true
+digits_word base [] high h = refl
+digits_word base (c ∷ cs) high h =
+    rw (digit_word c (omega (arith, h.0)), digits_word base cs high h.1) refl
 
 digits_wordy : (base n : ℕ) → 2 ≤ base → base ≤ 16 → n < base ^ 64 → IsWordy (digits base false n)
-unfolding digits
 digits_wordy base n low high lt =
-    record { some = (digits_is_IsNumeral base false low high n lt).0.0; each = digits_word 64 base n [] low high refl }
+    let numeral = (digits_is_IsNumeral base false low high n lt).0 in
+    record { some = numeral.0; each = digits_word base (digits base false n) high numeral.1 }
 
 number_wordy : (style : Style) (n : ℕ) → n < 2 ^ 32 → IsWordy (number_text style n)
 number_wordy Decimal n lt = digits_wordy 10 n (omega arith) (omega arith) (omega arith)
@@ -231,25 +224,20 @@ is_line_byte b = ltb b 128 && (not (eqb b 47) && not (eqb b 10))
 abbrev pub is_plain : List ℕ → Bool
 is_plain t = not (bytes_eq t (59 ∷ [])) && not (bytes_eq t (58 ∷ []))
 
-word_line : (b : ℕ) → is_word_byte b ≡ true → is_line_byte b ≡ true
-word_line b h = grind (arith, nat_tests)
-
 words_line : (t : List ℕ) → list_all is_word_byte t ≡ true → list_all is_line_byte t ≡ true
 words_line [] h = refl
 words_line (b ∷ t) h = let both = and_parts (is_word_byte b) (list_all is_word_byte t) h in
-    and_from (is_line_byte b) (list_all is_line_byte t) (word_line b both.0) (words_line t both.1)
-
-word_semicolon : (b : ℕ) → is_word_byte b ≡ true → eqb b 59 ≡ false
-word_semicolon b h = grind (arith, nat_tests)
-
-word_colon : (b : ℕ) → is_word_byte b ≡ true → eqb b 58 ≡ false
-word_colon b h = grind (arith, nat_tests)
+    let word = both.0 in
+    let here : is_line_byte b ≡ true = grind (arith, nat_tests) in
+    rw (here, words_line t both.1) refl
 
 pub wordy_plain : (t : List ℕ) → IsWordy t → is_plain t ≡ true
 wordy_plain [] w = absurd (omega (arith, w.some))
 wordy_plain (b ∷ t) w =
-    let h = (and_parts (is_word_byte b) (list_all is_word_byte t) w.each).0 in
-    rw (word_semicolon b h, word_colon b h) refl
+    let word = (and_parts (is_word_byte b) (list_all is_word_byte t) w.each).0 in
+    let semicolon : eqb b 59 ≡ false = grind (arith, nat_tests) in
+    let colon : eqb b 58 ≡ false = grind (arith, nat_tests) in
+    rw (semicolon, colon) refl
 
 number_line : (i : Insn) (f : Field) (style : Style) → IsInsn i
     → (list_all is_line_byte (number_text style (field_of i f)) ≡ true)
@@ -293,15 +281,6 @@ body_line i fits =
       (operands_listed i (form_for i).shape fits).0,
     ) refl
 
-line_small : (b : ℕ) → is_line_byte b ≡ true → b < 128
-line_small b h = ltb-true b 128 (and_parts (ltb b 128) (not (eqb b 47) && not (eqb b 10)) h).0
-
-line_no_slash : (b : ℕ) → is_line_byte b ≡ true → eqb b 47 ≡ false
-line_no_slash b h = grind (arith, nat_tests)
-
-line_no_end : (b : ℕ) → is_line_byte b ≡ true → eqb b 10 ≡ false
-line_no_end b h = grind (arith, nat_tests)
-
 each_byte : (P : ℕ → Type 0) → ((b : ℕ) → is_line_byte b ≡ true → P b) → (t : List ℕ) → list_all is_line_byte t ≡ true
     → AllByRecursion P t
 each_byte P f [] h = tt
@@ -312,13 +291,15 @@ pub no_comment : (t : List ℕ) → list_all is_line_byte t ≡ true → before_
 no_comment [] h = refl
 no_comment (b ∷ t) h =
     let a = and_parts (is_line_byte b) (list_all is_line_byte t) h in
-    rw (line_no_slash b a.0) (ap (λ (u : List ℕ). b ∷ u) (no_comment t a.1))
+    let byte = a.0 in
+    let no_slash : eqb b 47 ≡ false = grind (arith, nat_tests) in
+    rw no_slash (ap (λ (u : List ℕ). b ∷ u) (no_comment t a.1))
 
 pub no_end : (t : List ℕ) → list_all is_line_byte t ≡ true → AllByRecursion (λ b. eqb b 10 ≡ false) t
-no_end t h = each_byte (λ b. eqb b 10 ≡ false) line_no_end t h
+no_end t h = each_byte (λ b. eqb b 10 ≡ false) (λ b byte. grind (arith, nat_tests)) t h
 
 pub small_bytes : (t : List ℕ) → list_all is_line_byte t ≡ true → AllByRecursion (λ b. b < 128) t
-small_bytes t h = each_byte (λ b. b < 128) line_small t h
+small_bytes t h = each_byte (λ b. b < 128) (λ b byte. grind (arith, nat_tests)) t h
 
 pub no_semicolon : (ts : List (List ℕ)) → list_all is_plain ts ≡ true → AllByRecursion (λ t. is_semicolon t ≡ false) ts
 no_semicolon [] h = tt

@@ -13,6 +13,7 @@ use Rattle.std.specs.Cmp.Lexicographic.{slice_cmp}
 use Rattle.std.specs.Ordering.{nat_cmp}
 use Rattle.std.proofs.lemmas.Map.Text.{btree_map_updates_str}
 use Rattle.std.proofs.lemmas.Bool.{cases_Bool}
+use Rattle.std.proofs.lemmas.Bool.Decides.{same_from_decides}
 use Rattle.std.proofs.lemmas.Slice.Eq.{bytes_eq-Decides}
 use Rattle.std.proofs.lemmas.List.Concat.{flat_map-append}
 use Rattle.scf_text.specs.declared.numbered_draft.NumberedDraft.{NumberedDraft}
@@ -80,14 +81,9 @@ one_more o w false b e none = rw (← e) (sym (or_none o))
 
 bytes_eq_sym : (a b : List ℕ) → bytes_eq a b ≡ bytes_eq b a
 bytes_eq_sym a b =
-    elim (cases_Bool (bytes_eq a b)) [
-      | inl same ↦ let e = (bytes_eq-Decides a b).0 same in rw e refl
-      | inr other ↦
-          elim (cases_Bool (bytes_eq b a)) [
-            | inl same ↦ let e = (bytes_eq-Decides b a).0 same in rw e refl
-            | inr also ↦ other ∙ sym also
-          ]
-    ]
+    let other = bytes_eq-Decides b a in
+    same_from_decides (bytes_eq a b) (bytes_eq b a) (bytes_eq-Decides a b)
+    (λ same. sym (other.0 same), λ same. other.1 (sym same))
 
 -- a label that is new
 label_kept : (ls : Labels) (at line : ℕ) (o : Option (List ℕ)) → label_fault (place_of ls) line o ≡ None

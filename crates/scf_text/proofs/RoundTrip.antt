@@ -1,6 +1,6 @@
 -- Each form is read as it is listed, and the canonical text of instructions spells them.
 use Rattle.scf_text.specs.internal.Parts.{words_of_part}
-use Rattle.scf_text.proofs.TokenLemmas.{words_nil}
+use Rattle.scf_text.proofs.TokenLemmas.{words_nil, all_append}
 use Rattle.scf_text.proofs.ListingLemmas.{hexadecimal_is, decimal_is, decimal_no_name, four_digits_is, piece_words}
 use Rattle.scf_text.proofs.ListingLemmas.{field_small, mnemonic_wordy, line_words, is_plain, wordy_plain}
 use Rattle.scf_text.proofs.ListingLemmas.{operands_plain, body, operands, body_line, no_comment, no_end, small_bytes}
@@ -191,16 +191,11 @@ unfolding drafts
 says places at n [] = tt
 says places at n (i ∷ is) = (says_back places at i, says places (at + 1) (n + 1) is)
 
-all_append : (xs ys : List ℕ) → AllByRecursion (λ b. b < 128) xs → AllByRecursion (λ b. b < 128) ys
-    → AllByRecursion (λ b. b < 128) (xs ++ ys)
-all_append [] ys h k = k
-all_append (x ∷ xs) ys h k = (h.0, all_append xs ys h.1 k)
-
 ascii : (is : List Insn) → AllByRecursion IsInsn is → AllByRecursion (λ b. b < 128) (text_of is)
 ascii [] fits = tt
 ascii (i ∷ is) fits =
     subst (λ (t : List ℕ). AllByRecursion (λ b. b < 128) t) (sym (line_ended i (text_of is)))
-    (all_append (body i) (10 ∷ text_of is) (small_bytes (body i) (body_line i fits.0)) (omega arith, ascii is fits.1))
+    (all_append (λ b. b < 128) (body i) (10 ∷ text_of is) (small_bytes (body i) (body_line i fits.0)) (omega arith, ascii is fits.1))
 
 pub round_trip : (is : List Insn) → AllByRecursion IsInsn is → length is ≤ bpf_maxinsns → Spells (text_of is) is
 round_trip is fits few =

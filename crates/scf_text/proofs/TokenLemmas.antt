@@ -1,13 +1,15 @@
 -- The tokens of a text: reading them from the front, their slices, and the parts of a line between them.
-use Rattle.std.proofs.Common.{◌≡◌, ℕ, suc, ◌+◌, ◌-◌, ◌<◌, ◌≤◌, Bool, true, false, ◌&&◌, eqb}
+use Rattle.std.proofs.Common.{◌≡◌, ℕ, zero, suc, ◌+◌, ◌-◌, ◌<◌, ◌≤◌, Bool, true, false, ◌&&◌, eqb}
 use Rattle.std.proofs.Common.{List, [], ◌∷◌, ◌++◌, length, get_or, take, drop, refl, sym, ap, subst, ◌∙◌, append_assoc}
 use Rattle.std.proofs.Common.{append-nil, arith, inl, inr, max, map, not}
 use Rattle.std.specs.List.{prefix_len, position_or_len, list_all, All, AllByRecursion, flat_map}
 use Rattle.std.specs.List.{join_with_byte}
-use Rattle.std.proofs.lemmas.Bool.{cases_Bool, and_left, and_right, and_parts}
+use Rattle.std.proofs.lemmas.Bool.{cases_Bool, cases_lt, and_left, and_right, and_parts}
 use Rattle.std.proofs.lemmas.Bool.Decides.{nat_tests}
-use Rattle.std.proofs.lemmas.List.{drop_more, drop_all, take_more, take_rest, drop-drop, map-append}
-use Rattle.std.proofs.lemmas.List.Sums.{prefix_len_stops}
+use Rattle.std.proofs.lemmas.List.{drop_more, drop_all, take_more, take_rest, drop-drop, map-append, drop-take, take-take}
+use Rattle.std.proofs.lemmas.List.{length-take-le, length-drop}
+use Rattle.std.proofs.Math.Seq.{take-append_seam}
+use Rattle.std.proofs.lemmas.List.Sums.{prefix_len_stops, prefix_len-le-length}
 use Rattle.std.proofs.lemmas.List.Splits.{slice_split_first, length-slice_split, join_with_byte-slice_split}
 use Rattle.scf_text.specs.Statements.{is_semicolon}
 use Rattle.scf_text.specs.declared.token.Token.{Token}
@@ -221,43 +223,35 @@ words_nil = refl
 abbrev Slices : List ℕ → List Lexeme → Type 0
 Slices text ts = AllByRecursion (λ (t : Lexeme). IsSliceOf text t.start t.text) ts
 
--- the first token begins at this place
-abbrev StartsAt : ℕ → List Lexeme → Type 0
-StartsAt at [] = Unit {0}
-StartsAt at (t ∷ ts) = t.start ≡ at
+-- a slice of a slice
+slice_in : (text part bytes : List ℕ) (at n : ℕ) → IsSliceOf text at part → bytes ≡ take (length bytes) (drop n part)
+    → n + length bytes ≤ length part → IsSliceOf text (at + n) bytes
+slice_in text part bytes at n outer inner within =
+    let more : length part ≡ n + (length part - n) = omega arith in
+    let behind = drop n (drop at text) in
+    inner ∙ ap (λ (bs : List ℕ). take (length bytes) (drop n bs)) outer
+    ∙ ap (λ l. take (length bytes) (drop n (take l (drop at text)))) more
+    ∙ ap (take (length bytes)) (drop-take n (length part - n) (drop at text))
+    ∙ take-take (length bytes) (length part - n) behind (omega arith) ∙ ap (take (length bytes)) (drop-drop n at text)
 
-starts : (at : ℕ) (bs : List ℕ) → begins_in_word bs ≡ true → StartsAt at (lexemes_from at bs)
-starts at [] h = absurd cc
-starts at (c ∷ cs) h = subst (StartsAt at) (sym (word_in_front at c cs h)) refl
-
-one_slice : (text rest : List ℕ) (at b : ℕ) → drop at text ≡ b ∷ rest → IsSliceOf text at (b ∷ [])
-one_slice text rest at b h = rw h refl
-
-joined_slices : (text : List ℕ) (at b : ℕ) (ts : List Lexeme) → drop at text ≡ b ∷ drop (at + 1) text
-    → StartsAt (at + 1) ts → Slices text ts → Slices text (joined at b ts)
-joined_slices text at b [] h start slices = (one_slice text (drop (at + 1) text) at b h, tt)
-joined_slices text at b (t ∷ ts) h start slices =
-    let tail : t.text ≡ take (length t.text) (drop (at + 1) text) = slices.0
-    ∙ ap (λ n. take (length t.text) (drop n text)) start in
-    (ap (λ (bs : List ℕ). b ∷ bs) tail ∙ sym (ap (take (suc (length t.text))) h), slices.1)
-
-slices_from : (text : List ℕ) (at : ℕ) (bs rest : List ℕ) → drop at text ≡ bs ++ rest → Slices text (lexemes_from at bs)
-slices_from text at [] rest h = subst (Slices text) (sym (nothing_left at)) tt
-slices_from text at (b ∷ bs) rest h =
-    let next : drop (at + 1) text ≡ bs ++ rest = sym (drop-drop 1 at text) ∙ ap (drop 1) h in
-    let others = slices_from text (at + 1) bs rest next in
-    elim (cases_Bool (is_blank b)) [
-      | inl blank ↦ subst (Slices text) (sym (blank_in_front at b bs blank)) others
-      | inr other ↦
-          elim (cases_Bool (is_word_byte b && begins_in_word bs)) [
-            | inl more ↦
-                let both = and_parts (is_word_byte b) (begins_in_word bs) more in
-                subst (Slices text) (sym (more_in_front at b bs both.0 both.1))
-                (joined_slices text at b (lexemes_from (at + 1) bs) (h ∙ ap (λ (cs : List ℕ). b ∷ cs) (sym next))
-                (starts (at + 1) bs both.1) others)
-            | inr end ↦ subst (Slices text) (sym (one_in_front at b bs other end))
-                (one_slice text (bs ++ rest) at b h, others)
-          ]
+slices_from : (most : ℕ) (text : List ℕ) (at : ℕ) (bs : List ℕ) → length bs < most → IsSliceOf text at bs
+    → Slices text (lexemes_from at bs)
+slices_from zero text at bs lt slice = absurd (omega arith)
+slices_from (suc most) text at bs lt slice =
+    let n = prefix_len is_blank bs in
+    let m = max (prefix_len is_word_byte (drop n bs)) 1 in
+    elim (cases_lt n (length bs)) [
+      | inl some ↦
+          let fits : n + m ≤ length bs =
+          omega (arith, prefix_len-le-length is_word_byte (drop n bs), length-drop n bs) in
+          let len : length (take m (drop n bs)) ≡ m = length-take-le m (drop n bs) (omega (arith, length-drop n bs)) in
+          let rest : length (drop (n + m) bs) ≡ length bs - (n + m) = length-drop (n + m) bs in
+          rw (token_is at n m bs refl some refl) (
+            slice_in text bs (take m (drop n bs)) at n slice (rw len refl) (omega arith),
+            slices_from most text (at + (n + m)) (drop (n + m) bs) (omega arith)
+                (slice_in text bs (drop (n + m) bs) at (n + m) slice (rw (rest, take_rest) refl) (omega arith)),
+          )
+      | inr none ↦ rw (none_is at n bs refl none) tt
     ]
 
 -- a line begins with what stands before its comment
@@ -269,16 +263,22 @@ comment_of (b ∷ bs) =
       | inr other ↦ let rest = comment_of bs in (rest.0, rw other (ap (λ (cs : List ℕ). b ∷ cs) rest.1))
     ]
 
-both_slices : (text : List ℕ) (ts us : List Lexeme) → Slices text ts → Slices text us → Slices text (ts ++ us)
-both_slices text [] us h k = k
-both_slices text (t ∷ ts) us h k = (h.0, both_slices text ts us h.1 k)
+pub all_append : {A : Type 0} (P : A → Type 0) (xs ys : List A) → AllByRecursion P xs → AllByRecursion P ys
+    → AllByRecursion P (xs ++ ys)
+all_append P [] ys h k = k
+all_append P (x ∷ xs) ys h k = (h.0, all_append P xs ys h.1 k)
+
+abbrev both_slices : (text : List ℕ) (ts us : List Lexeme) → Slices text ts → Slices text us → Slices text (ts ++ us)
+both_slices text = all_append (λ (t : Lexeme). IsSliceOf text t.start t.text)
 
 line_slices : (text : List ℕ) (at : ℕ) (line rest : List ℕ) → drop at text ≡ line ++ rest
     → Slices text (lexemes_from at (before_comment line))
 line_slices text at line rest h =
     let comment = comment_of line in
-    slices_from text at (before_comment line) (comment.0 ++ rest)
-    (h ∙ ap (λ (cs : List ℕ). cs ++ rest) comment.1 ∙ append_assoc (before_comment line) comment.0 rest)
+    let front : drop at text ≡ before_comment line ++ (comment.0 ++ rest) =
+    h ∙ ap (λ (cs : List ℕ). cs ++ rest) comment.1 ∙ append_assoc (before_comment line) comment.0 rest in
+    slices_from (suc (length (before_comment line))) text at (before_comment line) (omega arith)
+    (rw front (sym (take-append_seam (before_comment line) (comment.0 ++ rest))))
 
 after_line : (text : List ℕ) (at : ℕ) (line rest : List ℕ) → drop at text ≡ line ++ 10 ∷ rest
     → drop (at + length line + 1) text ≡ rest
