@@ -1,6 +1,6 @@
 -- Chains of steps from any state: two that meet are one, and a chain inside a part of a list is one of the whole.
-use Rattle.std.proofs.Common.{◌≡◌, ℕ, ◌+◌, List, [], ◌∷◌, ◌++◌, refl, ap, sym, subst}
-use Rattle.std.proofs.Common.{arith, length, map, get_or, length-append}
+use Rattle.std.proofs.Common.{◌≡◌, ℕ, ◌+◌, List, [], ◌∷◌, ◌++◌, ap, sym, subst}
+use Rattle.std.proofs.Common.{arith, length, map, length-append}
 use Rattle.std.proofs.lemmas.Grind.{common_steps}
 use Rattle.std.proofs.lemmas.Option.{gets, slice_get_within, slice_get_read}
 use Rattle.scf_insn.specs.declared.insn.Insn.{Insn}
@@ -48,8 +48,4 @@ chain_of_part whole part n words s t (x ∷ xs) is a =
 
 -- what stands between a front and a back is a part, behind the front
 pub part_between : (front part back : List Insn) → IsPart part (length front) (front ++ part ++ back)
-part_between front part back place insn here =
-    let inside = slice_get_within part place insn here in
-    let same : insn ≡ get_or (front ++ part ++ back) (length front + place) insn = grind (arith, common_steps, gets) in
-    slice_get_read (front ++ part ++ back) (length (front ++ part ++ back)) (length front + place) insn refl
-    (omega (arith, length-append {A = Insn})) same
+part_between front part back = grind (arith, common_steps, gets, slice_get_read, slice_get_within)

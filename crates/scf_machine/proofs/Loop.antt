@@ -20,9 +20,7 @@ use Rattle.scf_machine.proofs.Runs.{run_length}
 pub at_inside : (insns : List Insn) (words : List ℕ) (registers : Registers) (earlier : List State)
     → IsValidList insns → IsAt insns words registers earlier
     → (registers.place < length insns) × (length earlier ≤ registers.place) × (length insns ≤ bpf_maxinsns)
-at_inside insns words registers earlier valid at =
-    let here = reached insns words at.state earlier valid at.chain in
-    grind (arith, at.stand.place, valid.few)
+at_inside insns words registers earlier valid at = grind (arith, reached)
 
 -- what was read at a place stands there
 pub read_here : (insns : List Insn) (p : ℕ) (i : Insn)
@@ -46,27 +44,18 @@ pub follows_at : (insns : List Insn) (words : List ℕ) (old new : Registers) (e
     (operation : Operation) (result : Option Answer) → IsFilter insns → (at : IsAt insns words old earlier)
     → Stands insns old.place i operation → Agrees (effect operation i words at.state) result new
     → Follows insns words at.state result new
-follows_at insns words old new earlier i operation result filter at stands agrees =
-    let is = step_is insns words at.state i operation (rw at.stand.place stands) in
-    follows insns words at.state (effect operation i words at.state) result new is
-    (λ fault e. never_faults insns words filter.valid filter.stored at.state earlier fault at.chain (is ∙ e)) agrees
+follows_at insns words old new earlier i operation result filter at stands agrees = grind (arith, follows, never_faults, step_is)
 
 pub at_next : (insns : List Insn) (words : List ℕ) (old new : Registers) (earlier : List State)
     → (at : IsAt insns words old earlier) → Follows insns words at.state None new
     → IsAt insns words new (at.state ∷ earlier) × (old.place < new.place)
-at_next insns words old new earlier at (t, e, stand) =
-    let edge = step_edge insns words at.state t e in
-    (record { state = t; chain = (e, at.chain); stand = stand }, grind (arith, edge_forward, at.stand.place, stand.place))
+at_next insns words old new earlier at h = grind (arith, edge_forward, step_edge)
 
 -- the state answers: the run ends there
 pub run_of : (insns : List Insn) (words : List ℕ) (registers : Registers) (earlier : List State) (answer steps : ℕ)
     → IsValidList insns → (at : IsAt insns words registers earlier) → step insns words at.state ≡ Ends answer
     → steps ≡ length earlier + 1 → IsRun insns words answer steps × (steps ≤ length insns)
-run_of insns words registers earlier answer steps valid at answers count =
-    let long = run_length insns words valid at.state earlier at.chain in (
-      record { last = at.state; earlier = earlier; chain = at.chain; answers = answers; count = count },
-      omega arith,
-    )
+run_of insns words registers earlier answer steps valid at answers count = grind (arith, run_length)
 
 -- one place more
 pub place_added : (registers : Registers) (s : State) (earlier : List State) (places more : List ℕ)

@@ -60,8 +60,7 @@ pub record FineHere (insns : List Insn) (at : ℕ) (i : Insn) (operation : Opera
 pub fine_here : (insns : List Insn) (at : ℕ) (i d : Insn) (found : Option Operation) (operation : Operation)
     → IsValidList insns → at < length insns
     → i ≡ get_or insns at d → found ≡ operation_of i.code → found ≡ Some operation → FineHere insns at i operation
-fine_here insns at i d found operation valid inside e known is =
-    let here = slice_get-get_or insns at d inside in grind (arith, fine_of, valid.each at inside)
+fine_here insns at i d found operation valid inside e known is = grind (arith, fine_of, slice_get-get_or)
 
 below_more : (bound more : ℕ) (places : List ℕ)
     → bound ≤ more → AllByRecursion (λ q. q < bound) places → AllByRecursion (λ q. q < more) places
@@ -99,16 +98,10 @@ masks_start insns masks long first others = record {
     at_path p n (q ∷ earlier) path below = absurd (omega (arith, below.0))
 
 weaker : (insns : List Insn) (bound p n : ℕ) → Unstored insns bound p n → Unstored insns (bound + 1) p n
-weaker insns bound p n u = record {
-  earlier = u.earlier;
-  path = u.path;
-  below = below_more bound (bound + 1) u.earlier (omega arith) u.below;
-  unset = u.unset;
-}
+weaker insns bound p n u = grind (arith, below_more)
 
 cleared_parts : (b : Bool) (m : ℕ) → cond b 1 m ≡ 0 → (b ≡ false) × (m ≡ 0)
-cleared_parts true m e = absurd (omega arith)
-cleared_parts false m e = (refl, e)
+cleared_parts b m e = grind arith
 
 -- what is stored at a place, by its instruction
 pub stores_is : (insns : List Insn) (p n : ℕ) (i : Insn) (operation : Operation)
@@ -172,27 +165,13 @@ module _ (insns : List Insn) (masks new : List ℕ)
       ]
 
   pub masks_next : MasksAt insns new (at + 1)
-  masks_next = record {
-    long = joins.long ∙ old.long;
-    clear = λ p n inside_p inside_n e. let long = old.long in elim (joins.only p n (omega arith) e) [
-      | inl there ↦ weaker insns at p n (old.clear p n inside_p inside_n there)
-      | inr target ↦ through p n inside_n target.0 target.1
-    ];
-    found = λ p n inside_p inside_n u. lost p n u.earlier inside_p inside_n u.path u.below u.unset;
-  }
+  masks_next = grind (arith, lost, through, weaker)
 
 -- a clear bit at a load is a path that doesn't store the word
 pub unset_here : (insns : List Insn) (masks : List ℕ) (at : ℕ) (i : Insn) (r : Register)
     → MasksAt insns masks at → at < length insns → Stands insns at i (LoadScratch r)
     → i.k < bpf_memwords → bit_at (get_or masks at 0) i.k ≡ 0 → IsUnsetAt insns at i.k
-unset_here insns masks at i r old inside stands fine e =
-    let u = old.clear at i.k inside fine e in
-    record {
-      loads = record { insn = i; register = r; stands = stands; index = refl };
-      earlier = u.earlier;
-      path = u.path;
-      unset = u.unset;
-    }
+unset_here insns masks at i r old inside stands fine e = grind arith
 
 -- no path comes to a load without its word where the word's bit is set
 pub none_here : (insns : List Insn) (masks : List ℕ) (at : ℕ) (i : Insn) (operation : Operation)

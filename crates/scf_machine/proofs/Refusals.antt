@@ -1,5 +1,5 @@
 -- A list that keeps every rule is refused for memory alone.
-use Rattle.std.proofs.Common.{◌≡◌, ◌≢◌, ◌-◌, Bool, true, false, List, length, refl, ap, arith}
+use Rattle.std.proofs.Common.{◌≡◌, ◌≢◌, ◌-◌, Bool, false, List, length, refl, ap, arith}
 use Rattle.std.specs.Prelude.{IsTrue}
 use Rattle.std.specs.List.{list_any}
 use Rattle.std.proofs.lemmas.Option.{slice_get_within}
@@ -14,8 +14,7 @@ wrong_none : (insns : List Insn) (fault : CheckFault) → IsValidList insns → 
 wrong_none insns fault v w = grind (arith, fine_of, v.each w.place, slice_get_within insns w.place w.insn w.here)
 
 true_false : (b : Bool) → IsTrue b → b ≡ false → ⊥
-true_false true t e = cc
-true_false false t e = cc
+true_false b t e = grind arith
 
 pub only_where : (insns : List Insn) (e : CheckFault)
     → IsFirstFault insns e → e ≢ Memory → IsValidList insns → KeepsScratchRule insns → ⊥

@@ -40,12 +40,7 @@ le_trans : (x y z : ℤ) → x ≤ℤ y → y ≤ℤ z → x ≤ℤ z
 le_trans x y z f g = omega (arith, ints)
 
 alone : (answer : ℕ) → IsFirstLeast (answer ∷ []) answer
-alone answer = record {
-  position = 0;
-  here = refl;
-  least = λ q other e. grind (arith, ints);
-  first = λ q other below here. absurd (omega arith);
-}
+alone answer = grind (arith, ints)
 
 wins : (newest older : ℕ) (answers : List ℕ)
     → IsFirstLeast answers older → rank_of newest ≤ℤ rank_of older → IsFirstLeast (newest ∷ answers) newest
@@ -67,8 +62,7 @@ stays newest older answers old lt = record {
 
 pub newest_decides : (newest older : ℕ) (answers : List ℕ)
     → IsDecision answers older → rank_of newest ≤ℤ rank_of older → IsDecision (newest ∷ answers) newest
-newest_decides newest older [] old le = alone newest
-newest_decides newest older (a ∷ answers) old le = wins newest older (a ∷ answers) old le
+newest_decides newest older answers old le = grind (arith, alone, wins)
 
 pub older_decides : (newest older : ℕ) (answers : List ℕ)
     → IsDecision answers older → rank_of older <ℤ rank_of newest → IsDecision (newest ∷ answers) older
@@ -99,12 +93,7 @@ answers_once (filter ∷ filters) words (x ∷ xs) (y ∷ ys) a b =
 pub alike_answers : (filters others : List (List Insn)) (words more answers : List ℕ) (m n : ℕ)
     → AreAnswers (reverse filters) words answers
     → AreAnswers (reverse others) more answers → StackAnswers filters words m → StackAnswers others more n → m ≡ n
-alike_answers filters others words more answers m n first second a b =
-    decision_once answers m n
-    (subst (λ (xs : List ℕ). IsDecision xs m)
-    (answers_once (reverse filters) words a.answers answers a.are first) a.decides)
-    (subst (λ (xs : List ℕ). IsDecision xs n)
-    (answers_once (reverse others) more b.answers answers b.are second) b.decides)
+alike_answers filters others words more answers m n first second a b = grind (arith, answers_once, decision_once)
 
 pub stack_answer_once : (filters : List (List Insn)) (words : List ℕ) (m n : ℕ)
     → StackAnswers filters words m → StackAnswers filters words n → m ≡ n

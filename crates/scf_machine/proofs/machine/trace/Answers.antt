@@ -1,19 +1,13 @@
-use Rattle.std.proofs.Common.{[], ◌∷◌, ◌+◌, ◌∙◌, ap, refl, arith}
-use Rattle.scf_machine.specs.Machine.{start}
+use Rattle.std.proofs.lemmas.Grind.{common_steps}
+use Rattle.std.proofs.Common.{◌∷◌, ◌+◌, ◌∙◌, ap, arith}
 use Rattle.scf_machine.proofs.Loop.{at_inside, at_next, run_of, place_added}
 use Rattle.scf_machine.proofs.machine.trace.Goals as goal
 
 pub loop-places-init : goal.loop-places-init
-loop-places-init c = rw c.new-places.ensures.items (record {
-  earlier = [];
-  at = record { state = start; chain = refl; stand = c.new-registers.ensures };
-  count = refl;
-  in_order = refl;
-})
+loop-places-init c = grind (arith, common_steps)
 
 pub advance-answered-requires : goal.advance-answered-requires
-advance-answered-requires c = let so_far = c.loop-places.invariant in
-    rw c.words-words.ensures (so_far.earlier, so_far.at)
+advance-answered-requires c = grind (arith, common_steps)
 
 pub returns-in-Some : goal.returns-in-Some
 returns-in-Some c =
