@@ -1,21 +1,13 @@
 -- Loops over the items of an array.
-use Rattle.std.proofs.Common.{◌≡◌, ℕ, suc, ◌+◌, ◌<◌, ◌≤◌, List, [], ◌∷◌, ◌++◌, length, get_or, drop, Result, Ok, Err}
+use Rattle.std.proofs.Common.{◌≡◌, ℕ, suc, ◌+◌, ◌<◌, ◌≤◌, List, [], ◌∷◌, length, get_or, drop}
 use Rattle.std.proofs.Common.{refl, sym, ap, ◌∙◌, add-one, String, Global, Bool, map, ◌||◌}
 use Rattle.std.proofs.Math.Seq.{drop-cons}
 use Rattle.std.specs.List.{list_any}
 use Rattle.std.proofs.lemmas.List.{drop_all}
 use Rattle.serde_json.specs.declared.value.Value.{Value}
-use Rattle.serde_json.specs.Data.{Data, item, no_items}
+use Rattle.serde_json.specs.Data.{item, no_items}
 use Rattle.serde_json.specs.View.{view, items_view, members_view}
 use Rattle.serde_json.specs.Events.{items_len, members_len}
-use Rattle.scf_profile.specs.JsonMembers.{each}
-
--- the items from a place on
-pub items_from : (vs : List Value) (i : ℕ) (v : Value) → i < length vs → v ≡ get_or vs i v
-    → items_view (drop i vs) ≡ item (view v) (items_view (drop (i + 1) vs))
-items_from vs i v lt is =
-    ap items_view (drop-cons vs i v lt) ∙ ap (λ (x : Value). item (view x) (items_view (drop (suc i) vs))) (sym is)
-    ∙ ap (λ (n : ℕ). item (view v) (items_view (drop n vs))) (sym (add-one i))
 
 -- the items from a place on, in the words that a search finds
 pub items_at : (vs : List Value) (i : ℕ) (d : Value) → i < length vs
@@ -31,26 +23,6 @@ pub items_end : (vs : List Value) (i : ℕ) → length vs ≤ i → items_view (
 items_end vs i le = ap items_view (drop_all i vs le)
 
 pub ruleset items_left = (items_at, items_end)
-
--- `so far` says that what was made of the items before a place and the items from there on give the total
-module _ {A E : Type 0} (test : List A → Data → Result A E) (vs : List Value) (total : Result (List A) E) where
-  pub goes_on : (before : List A) (i : ℕ) (v : Value) (x : A) → i < length vs → v ≡ get_or vs i v
-      → test before (view v) ≡ Ok x
-      → each test before (items_view (drop i vs)) ≡ total
-      → each test (before ++ x ∷ []) (items_view (drop (i + 1) vs)) ≡ total
-  unfolding each
-  goes_on before i v x lt is ok so_far = rw (items_from vs i v lt is, ok) at so_far
-
-  pub ends : (before : List A) (i : ℕ) (v : Value) (e : E) → i < length vs → v ≡ get_or vs i v
-      → test before (view v) ≡ Err e
-      → each test before (items_view (drop i vs)) ≡ total → total ≡ Err e
-  unfolding each
-  ends before i v e lt is err so_far = sym (rw (items_from vs i v lt is, err) at so_far)
-
-  pub is_done : (before : List A) (i : ℕ) → length vs ≤ i → each test before (items_view (drop i vs)) ≡ total
-      → total ≡ Ok before
-  unfolding each
-  is_done before i le so_far = sym (rw (drop_all i vs le) at so_far)
 
 pub list_any-map : {A B : Type 0} (p : B → Bool) (f : A → B) (xs : List A)
     → list_any p (map f xs) ≡ list_any (λ x. p (f x)) xs

@@ -1,14 +1,15 @@
 -- The names of a tree from names to numbers, under their numbers.
-use Rattle.std.specs.Prelude.{◌≡◌, ℕ, ◌==◌, List, [], map, filter, String, string_bytes, is_some}
-use Rattle.std.specs.List.{list_any}
+use Rattle.std.specs.Prelude.{◌≡◌, ℕ, ◌==◌, List, [], length, map, filter, String, is_some, nat_lt}
 use Rattle.std.specs.Borrow.{Bor}
 use Rattle.std.specs.BTreeMap.{BTreeMap, IsOrdered, get}
+use Rattle.std.specs.Map.{keys_of}
 use Rattle.std.specs.Option.{option_map_or}
 use Rattle.std.specs.Ordering.{nat_cmp}
 use Rattle.std.specs.String.{string_cmp}
 use Rattle.std.specs.declared.alloc.Global.{Global}
 use Rattle.std.specs.declared.vec.Vec.{Vec}
 use Rattle.scf_profile.specs.declared.named_call.NamedCall.{NamedCall}
+use Rattle.scf_profile.specs.Names.{named}
 use Rattle.scf_profile.specs.References.{texts_at}
 
 -- names under numbers
@@ -21,14 +22,14 @@ named_call e = record { number = e.0; names = e.1 }
 
 -- the names under a number
 abbrev pub names_under : Named → ℕ → List (List ℕ)
-names_under named number = option_map_or (λ names. texts_at names.items) (get nat_cmp named number) []
+names_under under number = option_map_or (λ names. texts_at names.items) (get nat_cmp under number) []
 
 -- the names of entries with a number
 abbrev pub names_with : ℕ → List (String Global × ℕ) → List (List ℕ)
-names_with number entries = map (λ e. string_bytes e.0) (filter (λ e. number == e.1) entries)
+names_with number entries = keys_of (filter (λ e. number == e.1) (map named entries))
 
--- The numbers of the entries stand in the other tree, each over the names that have it, and no others do.
-pub record AreByNumber (numbers : BTreeMap (String Global) ℕ) (named : Named) : Type 0 where
+-- Each number stands in the other tree over the names that have it, where there are any.
+pub record AreByNumber (numbers : BTreeMap (String Global) ℕ) (under : Named) : Type 0 where
   pub ordered : IsOrdered string_cmp numbers
-  pub names : (number : ℕ) → names_under named number ≡ names_with number numbers.entries
-  pub numbers_in : (number : ℕ) → is_some (get nat_cmp named number) ≡ list_any (λ e. number == e.1) numbers.entries
+  pub names : (number : ℕ) → names_under under number ≡ names_with number numbers.entries
+  pub numbers_in : (number : ℕ) → is_some (get nat_cmp under number) ≡ nat_lt 0 (length (names_under under number))

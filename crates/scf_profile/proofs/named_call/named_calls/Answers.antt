@@ -9,6 +9,6 @@ use Rattle.scf_profile.proofs.named_call.named_calls.Goals as goal
 pub returns : goal.returns
 returns c =
     let numbers = c.args.numbers.now in
-    let told = are_calls numbers c.in_ok-named.named c.in_ok-named.ensures c.calls_of.ensures.ordered in
+    let told = are_calls numbers c.in_ok-named.ensures.ordered _ c.in_ok-named.ensures c.calls_of.ensures.ordered in
     let AreCalls : List NamedCall → Type 0 = AreCallsOf (names_of numbers.entries) in
     IfOk-weaker c.calls_of.result _ _ (λ calls are. subst AreCalls (sym are) told) c.calls_of.ensures.calls

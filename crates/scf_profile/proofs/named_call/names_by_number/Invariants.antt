@@ -1,7 +1,6 @@
-use Rattle.std.proofs.Common.{◌≡◌, ℕ, ◌==◌, ◌||◌, ◌++◌}
+use Rattle.std.proofs.Common.{◌≡◌, ℕ, length, nat_lt, ◌++◌}
 use Rattle.std.specs.Prelude.{is_some}
 use Rattle.std.specs.BTreeMap.{get}
-use Rattle.std.specs.List.{list_any}
 use Rattle.std.specs.Ordering.{nat_cmp}
 use Rattle.scf_profile.specs.internal.NamesByNumber.{names_under, names_with}
 use Rattle.scf_profile.proofs.named_call.names_by_number.Given as goal
@@ -10,6 +9,5 @@ use Rattle.scf_profile.proofs.named_call.names_by_number.Given as goal
 abbrev pub invariant-loop-name : goal.invariant-loop-name
 invariant-loop-name l = record {
   names : (n : ℕ) → names_under l.named n ++ names_with n l.name-iterator ≡ names_with n l.numbers.entries;
-  numbers : (n : ℕ) → (is_some (get nat_cmp l.named n) || list_any (λ e. n == e.1) l.name-iterator)
-      ≡ list_any (λ e. n == e.1) l.numbers.entries;
+  numbers : (n : ℕ) → is_some (get nat_cmp l.named n) ≡ nat_lt 0 (length (names_under l.named n));
 }
