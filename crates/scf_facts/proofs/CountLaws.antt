@@ -1,97 +1,81 @@
 -- Counts at open marks, as more is learned and marks are opened and closed.
-use Rattle.std.proofs.Common.{◌≡◌, inl, inr, ℕ, zero, suc, ◌≤◌, ◌<◌, List, [], ◌∷◌, ◌++◌, length, refl, sym, subst}
+use Rattle.std.proofs.Common.{◌≡◌, ℕ, zero, suc, ◌≤◌, List, [], ◌∷◌, ◌++◌, length, take, refl}
 use Rattle.std.proofs.Common.{arith}
 use Rattle.std.specs.Prelude.{Bool, true, false, if◌then◌else◌}
-use Rattle.std.proofs.lemmas.Bool.{cases_lt}
-use Rattle.std.proofs.lemmas.List.{get_or_past, get_or_default}
-use Rattle.std.proofs.Math.Seq.{get_or-append_seam}
+use Rattle.std.proofs.lemmas.List.{get_or_past, get_or_default, length-take-le}
 use Rattle.scf_facts.specs.internal.Counts.{count_at, AreRising}
 
--- past the last mark the count is that of now
-pub count-now : (marks : List ℕ) (now level : ℕ) → length marks ≤ level → count_at marks now level ≡ now
-count-now marks now level past = get_or_past marks level now past
-
--- at a mark the count doesn't depend on the one now
-pub count-marked : (marks : List ℕ) (now other level : ℕ)
-    → level < length marks → count_at marks other level ≡ count_at marks now level
-count-marked marks now other level lt = get_or_default marks level other now lt
-
 -- a mark that is opened now changes no level's count
-pub count-opened : (marks : List ℕ) (now level : ℕ) → count_at (marks ++ now ∷ []) now level ≡ count_at marks now level
-count-opened [] now zero = refl
-count-opened [] now (suc level) = refl
-count-opened (mark ∷ marks) now zero = refl
-count-opened (mark ∷ marks) now (suc level) = count-opened marks now level
+pub count_opened : (marks : List ℕ) (now level : ℕ) → count_at (marks ++ now ∷ []) now level ≡ count_at marks now level
+count_opened [] now zero = refl
+count_opened [] now (suc level) = refl
+count_opened (mark ∷ marks) now zero = refl
+count_opened (mark ∷ marks) now (suc level) = count_opened marks now level
 
 -- what is closed is the newest mark: its count is that of now, and older marks keep theirs
-pub count-closed : (marks : List ℕ) (count now level : ℕ)
+pub count_closed : (marks : List ℕ) (count now level : ℕ)
     → level ≤ length marks → count_at marks count level ≡ count_at (marks ++ count ∷ []) now level
-count-closed [] count now zero h = refl
-count-closed [] count now (suc level) h = absurd (omega arith)
-count-closed (mark ∷ marks) count now zero h = refl
-count-closed (mark ∷ marks) count now (suc level) h = count-closed marks count now level (omega arith)
+count_closed [] count now zero h = refl
+count_closed [] count now (suc level) h = absurd (omega arith)
+count_closed (mark ∷ marks) count now zero h = refl
+count_closed (mark ∷ marks) count now (suc level) h = count_closed marks count now level (omega arith)
 
-pub rising-more : (marks : List ℕ) (now more : ℕ) → now ≤ more → AreRising marks now → AreRising marks more
-rising-more marks now more h rising earlier later le = elim (cases_lt later (length marks)) [
-  | inl lt ↦ omega (
-    arith,
-    rising earlier later le,
-    count-marked marks now more later lt,
-    count-marked marks now more earlier (omega arith),
-  )
-  | inr past ↦ omega (arith, count-now marks more later past, below)
-]
-  where
-    below : count_at marks more earlier ≤ more
-    below = elim (cases_lt earlier (length marks)) [
-      | inl lt ↦ omega (
-        arith,
-        h,
-        rising earlier (length marks) (omega arith),
-        count-now marks now (length marks) (omega arith),
-        count-marked marks now more earlier lt,
-      )
-      | inr past ↦ omega (arith, count-now marks more earlier past)
-    ]
+pub rising_more : (marks : List ℕ) (now more : ℕ) → now ≤ more → AreRising marks now → AreRising marks more
+rising_more marks now more h rising earlier later le = grind (
+  arith,
+  rising earlier later le,
+  rising earlier (length marks),
+  get_or_past marks (length marks) now,
+  get_or_past marks earlier more,
+  get_or_past marks later more,
+  get_or_default marks earlier more now,
+  get_or_default marks later more now,
+)
 
-rising-opened : (marks : List ℕ) (count now : ℕ)
-    → count ≡ now → AreRising marks now → AreRising (marks ++ count ∷ []) now
-rising-opened marks count now e rising = subst (λ n. AreRising (marks ++ n ∷ []) now) (sym e) (λ earlier later le.
-    omega (arith, rising earlier later le, count-opened marks now earlier, count-opened marks now later))
+rising_opened : (marks : List ℕ) (now : ℕ) → AreRising marks now → AreRising (marks ++ now ∷ []) now
+rising_opened marks now rising earlier later le =
+    omega (arith, rising earlier later le, count_opened marks now earlier, count_opened marks now later)
 
 -- where memory is refused, no mark is opened
-pub rising-pushed : (opened : Bool) (marks : List ℕ) (count now : ℕ)
-    → count ≡ now → AreRising marks now → AreRising (if opened then marks ++ count ∷ [] else marks) now
-rising-pushed true marks count now e rising = rising-opened marks count now e rising
-rising-pushed false marks count now e rising = rising
+pub rising_pushed : (opened : Bool) (marks new : List ℕ) (count now : ℕ) → count ≡ now
+    → new ≡ (if opened then marks ++ count ∷ [] else marks) → AreRising marks now → AreRising new now
+rising_pushed true marks new count now e same rising = rw (same, e) (rising_opened marks now rising)
+rising_pushed false marks new count now e same rising = rw same rising
 
-pub rising-closed : (marks : List ℕ) (count now : ℕ) → AreRising (marks ++ count ∷ []) now → AreRising marks count
-rising-closed marks count now rising earlier later le = elim (cases_lt (length marks) later) [
-  | inl past ↦ elim (cases_lt (length marks) earlier) [
-    | inl both ↦ omega (arith, count-now marks count earlier (omega arith), count-now marks count later (omega arith))
-    | inr within ↦ omega (
-      arith,
-      count-now marks count later (omega arith),
-      count-closed marks count now earlier within,
-      rising earlier (length marks) within,
-      get_or-append_seam marks count [] now,
-    )
-  ]
-  | inr within ↦ omega (
-    arith,
-    rising earlier later le,
-    count-closed marks count now earlier (omega arith),
-    count-closed marks count now later within,
-  )
-]
+pub rising_closed : (marks : List ℕ) (count now : ℕ) → AreRising (marks ++ count ∷ []) now → AreRising marks count
+rising_closed marks count now rising earlier later le = grind (
+  arith,
+  rising earlier later le,
+  rising earlier (length marks),
+  get_or_past marks earlier count,
+  get_or_past marks later count,
+  get_or_past marks (length marks) count,
+  count_closed marks count now earlier,
+  count_closed marks count now later,
+  count_closed marks count now (length marks),
+)
 
 -- no mark's count is above the one now
-pub count-within : (marks : List ℕ) (now level : ℕ) → AreRising marks now → count_at marks now level ≤ now
-count-within marks now level rising = elim (cases_lt level (length marks)) [
-  | inl lt ↦ omega (arith, rising level (length marks) (omega arith), count-now marks now (length marks) (omega arith))
-  | inr past ↦ omega (arith, count-now marks now level past)
-]
+pub count_within : (marks : List ℕ) (now level : ℕ) → AreRising marks now → count_at marks now level ≤ now
+count_within marks now level rising = grind (
+  arith,
+  rising level (length marks),
+  get_or_past marks (length marks) now,
+  get_or_past marks level now,
+)
 
-pub count-newest : (marks : List ℕ) (count now : ℕ) → AreRising (marks ++ count ∷ []) now → count ≤ now
-count-newest marks count now rising =
-    omega (arith, count-within (marks ++ count ∷ []) now (length marks) rising, get_or-append_seam marks count [] now)
+pub count_newest : (marks : List ℕ) (count now : ℕ) → AreRising (marks ++ count ∷ []) now → count ≤ now
+count_newest marks count now rising = omega (
+  arith,
+  count_within (marks ++ count ∷ []) now (length marks) rising,
+  count_closed marks count now (length marks) (omega arith),
+  get_or_past marks (length marks) count (omega arith),
+)
+
+-- what was added after the newest mark is cut off
+pub rising_cut : {A : Type 0} (items : List A) (marks rest : List ℕ) (count : ℕ) → marks ≡ rest ++ count ∷ []
+    → AreRising marks (length items) → AreRising rest (length (take count items))
+rising_cut items marks rest count e rising =
+    let older = rw e at rising in
+    rw (length-take-le count items (count_newest rest count (length items) older))
+    (rising_closed rest count (length items) older)

@@ -4,7 +4,7 @@ use Rattle.std.proofs.Common.{subst, arith, length-append, ◌-◌, suc}
 use Rattle.std.specs.Prelude.{Bool, IsTrue, Some, slice_set, slice_index, slice_index_or}
 use Rattle.std.specs.Prelude.{◌==◌}
 use Rattle.std.specs.List.{list_all}
-use Rattle.std.proofs.lemmas.List.{set-set, set-get_or, get_or-set_same, get_or_default, drop-append-le}
+use Rattle.std.proofs.lemmas.List.{set-set, set-get_or, get_or-set_same, get_or_default, get_or_past, drop-append-le}
 use Rattle.std.proofs.lemmas.Bool.{and_parts, and_from}
 use Rattle.std.proofs.lemmas.List.{length-take-le, take-append-drop}
 use Rattle.std.proofs.lemmas.List.Elements.{All-push, All-pop}
@@ -24,8 +24,7 @@ use Rattle.scf_facts.specs.internal.WordSets.{NumberFacts, AllowsNumber, AllowsW
 use Rattle.scf_facts.specs.internal.WordSets.{AllFacts, AllowsList, is_exact_known, known_of}
 use Rattle.scf_facts.specs.internal.AtomPairs.{NotBothTrue}
 use Rattle.scf_facts.proofs.StoreLaws.{allows_set, exact_set}
-use Rattle.scf_facts.proofs.CountLaws.{count-now, count-marked, count-opened, count-closed, count-within, count-newest}
-use Rattle.scf_facts.proofs.CountLaws.{rising-closed}
+use Rattle.scf_facts.proofs.CountLaws.{count_opened, count_closed, count_within, count_newest, rising_closed}
 
 -- the same facts allow the same lists, and are as exact
 abbrev pub IsSameKnown : AllFacts → AllFacts → Type 0
@@ -68,7 +67,7 @@ before-refuted sets pairs pair =
 pub known-past : (known : AllFacts) (trail : List Change) (marks : List ℕ) (level : ℕ)
     → length marks ≤ level → known_at known trail marks level ≡ known
 known-past known trail marks level past = ap (λ n. restored known (drop n trail))
-    (count-now marks (length trail) level past) ∙ ap (restored known) (drop-length trail)
+    (get_or_past marks level (length trail) past) ∙ ap (restored known) (drop-length trail)
 
 pub known_now : (known : AllFacts) (trail : List Change) (marks : List ℕ)
     → known_at known trail marks (length marks) ≡ known
@@ -137,8 +136,8 @@ pub known-changed : (known changed : AllFacts) (trail : List Change) (change : C
 known-changed known changed trail change marks rising same place lt =
     let n = count_at marks (length trail) place in
     ap (λ k. restored changed (drop k (trail ++ change ∷ [])))
-    (count-marked marks (length trail) (length (trail ++ change ∷ [])) place lt)
-    ∙ ap (restored changed) (drop-append-le n trail (change ∷ []) (count-within marks (length trail) place rising))
+    (get_or_default marks place (length (trail ++ change ∷ [])) (length trail) lt)
+    ∙ ap (restored changed) (drop-append-le n trail (change ∷ []) (count_within marks (length trail) place rising))
     ∙ restored-append changed (drop n trail) (change ∷ [])
     ∙ ap (λ s. restored s (drop n trail)) same
 
@@ -171,7 +170,7 @@ pub known-opened : (known : AllFacts) (trail : List Change) (marks : List ℕ) (
     → (place : ℕ) → known_at known trail (marks ++ count ∷ []) place ≡ known_at known trail marks place
 known-opened known trail marks count e place =
     ap (λ n. restored known (drop n trail))
-    (ap (λ n. count_at (marks ++ n ∷ []) (length trail) place) e ∙ count-opened marks (length trail) place)
+    (ap (λ n. count_at (marks ++ n ∷ []) (length trail) place) e ∙ count_opened marks (length trail) place)
 
 -- the newest mark is closed, and what was changed after it put back
 pub known-closed : (known : AllFacts) (trail : List Change) (marks : List ℕ) (count : ℕ)
@@ -179,15 +178,15 @@ pub known-closed : (known : AllFacts) (trail : List Change) (marks : List ℕ) (
     (restored known (drop count trail)) (take count trail) marks place ≡ known_at known trail (marks ++ count ∷ []) place
 known-closed known trail marks count rising place le =
     let left : length (take count trail) ≡ count =
-    length-take-le count trail (count-newest marks count (length trail) rising) in
+    length-take-le count trail (count_newest marks count (length trail) rising) in
     let n = count_at marks count place in
     let early : n ≤ length (take count trail) =
-    omega (arith, left, count-within marks count place (rising-closed marks count (length trail) rising)) in
+    omega (arith, left, count_within marks count place (rising_closed marks count (length trail) rising)) in
     ap (λ k. restored (restored known (drop count trail)) (drop (count_at marks k place) (take count trail))) left
     ∙ sym (restored-append known (drop n (take count trail)) (drop count trail))
     ∙ ap (restored known) (sym (drop-append-le n (take count trail) (drop count trail) early)
     ∙ ap (drop n) (take-append-drop count trail))
-    ∙ ap (λ k. restored known (drop k trail)) (count-closed marks count (length trail) place le)
+    ∙ ap (λ k. restored known (drop k trail)) (count_closed marks count (length trail) place le)
 
 -- ---- the walk back
 

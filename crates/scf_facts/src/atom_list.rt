@@ -48,17 +48,20 @@ impl WordFacts for AtomList {
         })
     }
 
+    #[tactic(auto, using(crate::proofs::AtomLaws::learned_laws))]
     fn learn(&mut self, atom: Atom, holds: bool) -> Result<(), Memory> {
         self.learned.push(Fact::Answer(Learned { atom, holds }))?;
         Ok(())
     }
 
+    #[tactic(auto, using(crate::proofs::AtomLaws::learned_laws))]
     fn learn_not_both(&mut self, first: Atom, second: Atom) -> Result<(), Memory> {
         self.learned
             .push(Fact::NotBoth(AtomPair { first, second }))?;
         Ok(())
     }
 
+    #[tactic(auto, using(crate::proofs::AtomLaws::learned_laws))]
     fn mark(&mut self) -> Result<(), Memory> {
         let count = self.learned.len();
         self.marks.push(count)?;
@@ -75,6 +78,7 @@ impl WordFacts for AtomList {
         self.marks.len()
     }
 
+    #[tactic(auto, using(crate::proofs::AtomLaws::learned_laws))]
     fn tell(&self, atom: Atom) -> Tell {
         if let Atom::Eq { mask: 0, value, .. } = atom {
             return if value == 0 {
@@ -96,6 +100,7 @@ impl WordFacts for AtomList {
         false
     }
 
+    #[tactic(auto, using(crate::proofs::AtomLaws::learned_laws))]
     fn pick(&self) -> Option<[u32; 16]> {
         let mut words = [0; 16];
         for known in &self.learned {

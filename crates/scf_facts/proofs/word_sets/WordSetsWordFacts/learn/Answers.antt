@@ -2,7 +2,7 @@ use Rattle.std.proofs.Common.{◌≡◌, ◌<◌, ◌≤◌, ◌-◌, List, arit
 use Rattle.scf_facts.specs.declared.trail.Change.{Change}
 use Rattle.scf_facts.specs.internal.Trail.{KeepsIntervals}
 use Rattle.std.specs.Prelude.{slice_index_or}
-use Rattle.scf_facts.proofs.CountLaws.{rising-more}
+use Rattle.scf_facts.proofs.CountLaws.{rising_more}
 use Rattle.scf_facts.proofs.TrailLaws.{at-learned, at-kept, allows-learned, exact-learned}
 use Rattle.scf_facts.proofs.word_sets.WordSetsWordFacts.learn.Goals as goal
 
@@ -11,7 +11,7 @@ invariant_of-self-2-clause-rising c =
     let facts = c.args.self.now in
     let more : length facts.trail.items ≤ length c.push.new.self.items =
     omega (arith, c.push.ensures.len, ap length c.reserve.ensures.items) in
-    rising-more facts.marks.items (length facts.trail.items) (length c.push.new.self.items) more facts.rising
+    rising_more facts.marks.items (length facts.trail.items) (length c.push.new.self.items) more facts.rising
 
 pub returns-clause-at_marks : goal.returns-clause-at_marks
 returns-clause-at_marks c =

@@ -1,5 +1,5 @@
 use Rattle.std.proofs.Common.{◌≤◌, length, arith, ap}
-use Rattle.scf_facts.proofs.CountLaws.{rising-more}
+use Rattle.scf_facts.proofs.CountLaws.{rising_more}
 use Rattle.scf_facts.proofs.TrailLaws.{at-refuted, allows-refuted}
 use Rattle.scf_facts.proofs.word_sets.WordSetsWordFacts.learn_not_both.Goals as goal
 
@@ -11,7 +11,7 @@ invariant_of-self-then-not-is_empty c =
     omega (arith, c.push-then-not-is_empty.ensures.len, ap length c.reserve.ensures.items) in
     record {
       sixteen = facts.sixteen;
-      rising = rising-more facts.marks.items (length facts.trail.items) (length trail) more facts.rising;
+      rising = rising_more facts.marks.items (length facts.trail.items) (length trail) more facts.rising;
     }
 
 pub returns-then-not-is_empty-clause-at_marks : goal.returns-then-not-is_empty-clause-at_marks

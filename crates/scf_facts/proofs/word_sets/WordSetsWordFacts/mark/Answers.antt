@@ -1,18 +1,16 @@
-use Rattle.std.proofs.Common.{◌≡◌, ◌+◌, ◌∷◌, ◌++◌, [], ℕ, List, length, length-append, arith, ◌∙◌, sym, subst}
-use Rattle.scf_facts.specs.internal.Counts.{AreRising}
+use Rattle.std.proofs.Common.{◌≡◌, ◌+◌, ◌∷◌, ◌++◌, [], length, length-append, arith, ◌∙◌, sym}
 use Rattle.scf_facts.specs.internal.WordSets.{known_of}
-use Rattle.scf_facts.proofs.CountLaws.{rising-pushed}
+use Rattle.scf_facts.proofs.CountLaws.{rising_pushed}
 use Rattle.scf_facts.proofs.TrailLaws.{same-known, known_now, known-past, known-opened}
 use Rattle.scf_facts.proofs.word_sets.WordSetsWordFacts.mark.Goals as goal
 
 pub invariant_of-self : goal.invariant_of-self
 invariant_of-self c =
     let facts = c.args.self.now in
-    let all : c.len-count.result ≡ length facts.trail.items = c.len-count.ensures ∙ facts.trail.ok.0 in
     record {
       sixteen = facts.sixteen;
-      rising = subst (λ (marks : List ℕ). AreRising marks (length facts.trail.items)) (sym c.push.ensures.items)
-          (rising-pushed _ facts.marks.items c.len-count.result (length facts.trail.items) all facts.rising);
+      rising = rising_pushed _ facts.marks.items _ _ _
+          (c.len-count.ensures ∙ facts.trail.ok.0) c.push.ensures.items facts.rising;
     }
 
 pub returns-clause-known : goal.returns-clause-known

@@ -1,24 +1,16 @@
-use Rattle.std.proofs.Common.{◌≡◌, ◌≤◌, ◌∷◌, ◌++◌, [], ℕ, List, arith, length, length-append, drop, ap, sym, ◌∙◌}
-use Rattle.std.proofs.Common.{subst}
-use Rattle.std.proofs.lemmas.List.{length-take-le, with_items_is}
+use Rattle.std.proofs.Common.{◌≤◌, ◌∷◌, ◌++◌, [], ℕ, List, arith, length, length-append, drop, ap, sym, ◌∙◌}
+use Rattle.std.proofs.lemmas.List.{with_items_is}
 use Rattle.scf_facts.specs.declared.trail.Change.{Change}
 use Rattle.scf_facts.specs.internal.Counts.{AreRising}
 use Rattle.scf_facts.specs.internal.Trail.{restored, known_at}
 use Rattle.scf_facts.specs.internal.WordSets.{NumberFacts, AllFacts, known_of}
-use Rattle.scf_facts.proofs.CountLaws.{count-newest, rising-closed}
+use Rattle.scf_facts.proofs.CountLaws.{rising_cut}
 use Rattle.scf_facts.proofs.TrailLaws.{same-known, known-closed}
 use Rattle.scf_facts.proofs.word_sets.WordSetsWordFacts.undo.Goals as goal
 
 pub invariant_of-self-clause-rising : goal.invariant_of-self-clause-rising
-invariant_of-self-clause-rising c =
-    let trail = c.args.self.now.trail.items in
-    let marks = c.pop.new.self.items in
-    let count = c.in-Some.count in
-    let items = c.in-Some.ensures.items in
-    let rising : AreRising (marks ++ count ∷ []) (length trail) = rw items at c.args.self.now.rising in
-    let left : length c.take_back.new.trail.items ≡ count = ap length c.take_back.ensures.trail
-    ∙ length-take-le count trail (count-newest marks count (length trail) rising) in
-    subst (AreRising marks) (sym left) (rising-closed marks count (length trail) rising)
+invariant_of-self-clause-rising c = rw c.take_back.ensures.trail
+    (rising_cut c.args.self.now.trail.items _ _ c.in-Some.count c.in-Some.ensures.items c.args.self.now.rising)
 
 pub returns-in-Some-clause-law_undo : goal.returns-in-Some-clause-law_undo
 returns-in-Some-clause-law_undo c =
