@@ -4,6 +4,7 @@ use Rattle.std.proofs.Common.{drop, length, ap, ◌∙◌, arith, inl, inr, leng
 use Rattle.std.proofs.Math.ListN.{length-drop}
 use Rattle.std.specs.Prelude.{IsTrue}
 use Rattle.std.specs.List.{AllByRecursion}
+use Rattle.std.proofs.lemmas.Bool.{cases_Bool}
 use Rattle.std.proofs.lemmas.List.Elements.{recursion_from_All}
 use Rattle.std.proofs.lemmas.List.Sums.{sum_by-cons}
 use Rattle.std.proofs.Math.Seq.{drop-append-add}
@@ -73,52 +74,39 @@ rule_answers cs answer n most others p f fine next le =
           (λ e b. rw e (more (next.ends call fits rest b) (omega arith)))) (omega arith));
     }
 
--- The code of rules answers as the first of them whose conditions hold.
+pub rules_bounded : (rs : List Rule) → (3 ≤ rules_bound rs) × (rules_bound rs ≤ 3 + sum_by rule_bound rs)
+rules_bounded [] = (omega arith, omega arith)
+rules_bounded (r ∷ rs) = (omega (arith, sum_by-cons rule_bound r rs), omega arith)
+
+-- The code of rules answers as the first of them whose conditions hold. It is fewer instructions than the bound, since
+-- nothing stands behind a rule without conditions.
 pub rules_answer : (default : Answer) (rs : List Rule) → AllByRecursion IsRule rs
-    → Answers (rules_code default rs) (1 + sum_by rule_bound rs) (AllByRecursion IsPlainRule rs)
+    → Answers (rules_code default rs) (rules_bound rs - 2) (AllByRecursion IsPlainRule rs)
     (λ call. first_answer call default rs)
 rules_answer default [] fine = return_answers default.0 _ _ (omega arith)
 rules_answer default (r ∷ rs) fine =
-    rw (sum_by-cons rule_bound r rs) (by_conditions r.conditions fine.0.conditions.each
-    (λ plain. recursion_from_All IsPlainCondition r.conditions plain.0.conditions) (rules_answer default rs fine.1))
+    by_conditions r.conditions fine.0.conditions.each
+    (λ plain. recursion_from_All IsPlainCondition r.conditions plain.0.conditions) (sum_by-cons rule_bound r rs)
+    (rules_answer default rs fine.1)
   where
     by_conditions : (cs : List Condition) → AllByRecursion IsCondition cs
         → (AllByRecursion IsPlainRule (r ∷ rs) → AllByRecursion IsPlainCondition cs)
-        → Answers (rules_code default rs) (1 + sum_by rule_bound rs) (AllByRecursion IsPlainRule rs)
+        → sum_by rule_bound (r ∷ rs) ≡ 2 + 8 * length cs + sum_by rule_bound rs
+        → Answers (rules_code default rs) (rules_bound rs - 2) (AllByRecursion IsPlainRule rs)
         (λ call. first_answer call default rs)
         → Answers ((conditions_code cs ++ return_with r.answer.0 ∷ []) ++ behind_rule cs (rules_code default rs))
-        (1 + (2 + 8 * length cs + sum_by rule_bound rs)) (AllByRecursion IsPlainRule (r ∷ rs))
+        (rules_bound (r ∷ rs) - 2) (AllByRecursion IsPlainRule (r ∷ rs))
         (λ call. cond (all_hold call cs) r.answer.0 (first_answer call default rs))
-    by_conditions [] each plain next = return_answers r.answer.0 _ _ (omega arith)
-    by_conditions (c ∷ cs) each plain next =
-        let whole = rule_answers (c ∷ cs) r.answer.0 _ (1 + (2 + 8 * length (c ∷ cs) + sum_by rule_bound rs)) _ _ _ each
-        next (omega arith) in
+    by_conditions [] each plain sum next = return_answers r.answer.0 _ _ (omega arith)
+    by_conditions (c ∷ cs) each plain sum next =
+        let bounded = rules_bounded rs in
+        let whole = rule_answers (c ∷ cs) r.answer.0 _ (rules_bound (r ∷ rs) - 2) _ _ _ each next (omega arith) in
         record {
           some = whole.some;
           len = whole.len;
           sound = λ asked rest is. whole.sound asked rest (λ e. (plain (is e), (is e).1));
           ends = whole.ends;
         }
-
--- rules are fewer instructions than their bound, since nothing stands behind one without conditions
-pub rules_in_bound : (default : Answer) (rs : List Rule) → AllByRecursion IsRule rs
-    → length (rules_code default rs) + 2 ≤ rules_bound rs
-rules_in_bound default [] fine = omega arith
-rules_in_bound default (r ∷ rs) fine =
-    rw (sum_by-cons rule_bound r rs) (by_conditions r.conditions fine.0.conditions.each)
-  where
-    by_conditions : (cs : List Condition) → AllByRecursion IsCondition cs
-        → length ((conditions_code cs ++ return_with r.answer.0 ∷ []) ++ behind_rule cs (rules_code default rs)) + 2
-        ≤ 1 + (2 + 8 * length cs + sum_by rule_bound rs)
-    by_conditions [] each = omega arith
-    by_conditions (c ∷ cs) each =
-        let few = (conditions_tests (c ∷ cs) each).len in
-        let rest = (rules_answer default rs fine.1).len in
-        omega (
-          arith,
-          length-append (conditions_code (c ∷ cs) ++ return_with r.answer.0 ∷ []) (rules_code default rs),
-          length-append (conditions_code (c ∷ cs)) (return_with r.answer.0 ∷ []),
-        )
 
 -- ---- branches
 
@@ -127,34 +115,29 @@ pub branch_ends : {words : List ℕ} {answer most : ℕ} (test : Test) (constant
     → (test_holds test a constant ≡ true → EndsWithin words (drop hit behind) a answer most)
     → (test_holds test a constant ≡ false → EndsWithin words (drop miss behind) a answer most)
     → EndsWithin words (branch_code test constant hit miss ++ behind) a answer (2 + most)
-branch_ends {words} {answer} {most} test constant hit miss a behind over under = by_distance (leb miss 255)
-  where
-    by_distance : (near : Bool) → EndsWithin words (cond near (jump_if test constant hit miss ∷ [])
-        (jump_if test constant (1 + hit) 0 ∷ jump_over miss ∷ []) ++ behind) a answer (2 + most)
-    by_distance true = more (jumps test constant hit miss a over under) (omega arith)
-    by_distance false =
-        more (jumps test constant (1 + hit) 0 a
-        (λ e. more (past (jump_over miss ∷ []) behind hit a (over e)) (omega arith)) (λ e. passes miss a (under e)))
-        (omega arith)
+branch_ends test constant hit miss a behind over under = elim (cases_Bool (leb miss 255)) [
+  | inl near ↦ rw near (more (jumps test constant hit miss a over under) (omega arith))
+  | inr far ↦ rw far (more (jumps test constant (1 + hit) 0 a
+      (λ e. more (past (jump_over miss ∷ []) behind hit a (over e)) (omega arith)) (λ e. passes miss a (under e)))
+      (omega arith))
+]
 
 pub branch_sound : (plain : Bool) (test : Test) (constant hit miss : ℕ) (behind : List Insn) → hit < length behind
     → miss < length behind → ((h m : ℕ) → IsPlainOperation (JumpIf test Constant) (jump_if test constant h m))
     → AreSound plain behind → AreSound plain (branch_code test constant hit miss ++ behind)
-branch_sound plain test constant hit miss behind h m is s = by_distance (leb miss 255)
-  where
-    by_distance : (near : Bool) → AreSound plain (cond near (jump_if test constant hit miss ∷ [])
-        (jump_if test constant (1 + hit) 0 ∷ jump_over miss ∷ []) ++ behind)
-    by_distance true = (jump_sound test constant hit miss h m (λ _. is hit miss), s)
-    by_distance false =
-        (jump_sound test constant (1 + hit) 0 (omega arith) (omega arith) (λ _. is (1 + hit) 0), (pass_sound miss m, s))
+branch_sound plain test constant hit miss behind h m is s = elim (cases_Bool (leb miss 255)) [
+  | inl near ↦ rw near (jump_sound test constant hit miss h m (λ _. is hit miss), s)
+  | inr far ↦ rw far (
+    jump_sound test constant (1 + hit) 0 (omega arith) (omega arith) (λ _. is (1 + hit) 0),
+    (pass_sound miss m, s),
+  )
+]
 
 pub branch_few : (test : Test) (constant hit miss : ℕ) → length (branch_code test constant hit miss) ≤ 2
-branch_few test constant hit miss = by_distance (leb miss 255)
-  where
-    by_distance : (near : Bool) → length (cond near (jump_if test constant hit miss ∷ [])
-        (jump_if test constant (1 + hit) 0 ∷ jump_over miss ∷ [])) ≤ 2
-    by_distance true = omega arith
-    by_distance false = omega arith
+branch_few test constant hit miss = elim (cases_Bool (leb miss 255)) [
+  | inl near ↦ rw near (omega arith)
+  | inr far ↦ rw far (omega arith)
+]
 
 -- ---- what is put before some code
 

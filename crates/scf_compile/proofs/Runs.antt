@@ -1,14 +1,20 @@
 -- What each instruction does, and that it is sound.
-use Rattle.std.proofs.Common.{◌≡◌, ℕ, zero, suc, ◌+◌, ◌*◌, ◌/◌, ◌%◌, ◌<◌, ◌≤◌, Bool, true, false}
-use Rattle.std.proofs.Common.{ltb, List, [], ◌∷◌, ◌++◌, length, map, drop, refl, ap, ◌∙◌, subst, arith, bit_and}
-use Rattle.std.specs.Prelude.{slice_get, slice_index, IsTrue}
+use Rattle.std.proofs.Common.{◌≡◌, ℕ, suc, ◌+◌, ◌*◌, ◌/◌, ◌%◌, ◌<◌, ◌≤◌, Bool, true, false}
+use Rattle.std.proofs.Common.{ltb, List, [], ◌∷◌, ◌++◌, length, map, drop, refl, subst, arith, bit_and}
+use Rattle.std.specs.Prelude.{slice_index, IsTrue}
+use Rattle.std.proofs.Common.{Some, get_or, inl, inr}
+use Rattle.std.proofs.Math.ListN.{length-drop}
 use Rattle.std.proofs.Math.Seq.{drop-append-add}
-use Rattle.std.proofs.lemmas.Bool.{lt-ltb}
+use Rattle.std.proofs.lemmas.Bool.{cases_Bool, lt-ltb}
+use Rattle.std.proofs.lemmas.Grind.{common_steps}
+use Rattle.std.proofs.lemmas.Option.{gets, slice_get_within, slice_get_read}
 use Rattle.std.proofs.lemmas.List.{length-map}
 use Rattle.scf_insn.specs.declared.insn.Insn.{Insn}
 use Rattle.scf_insn.specs.declared.operation.Test.{Test}
 use Rattle.scf_insn.specs.declared.operation.Operand.TheVariants.{Constant}
 use Rattle.scf_insn.specs.declared.operation.Arithmetic.TheVariants.{And}
+use Rattle.scf_insn.specs.Codes.{operation_of}
+use Rattle.scf_insn.specs.declared.operation.Operation.{Operation}
 use Rattle.scf_insn.specs.declared.operation.Operation.TheVariants.{LoadWord, Compute, Jump, JumpIf, ReturnConstant}
 use Rattle.scf_insn.proofs.Codes.{asks_for}
 use Rattle.scf_machine.specs.Machine.{Goes, step, holds}
@@ -18,7 +24,7 @@ use Rattle.scf_machine.proofs.Chains.{run_behind, chain_of_part, answer_of_part}
 use Rattle.scf_machine.specs.Machine.{IsRunFrom}
 use Rattle.scf_compile.specs.internal.Insns.{load_word, and_with, jump_if, jump_over, return_with}
 use Rattle.scf_compile.specs.internal.Runs.{at, EndsWithin}
-use Rattle.scf_compile.specs.internal.Sound.{IsSound}
+use Rattle.scf_compile.specs.internal.Sound.{IsSound, Keeps}
 
 pub more : {words : List ℕ} {code : List Insn} {a answer m most : ℕ} → EndsWithin words code a answer m → m ≤ most
     → EndsWithin words code a answer most
@@ -27,14 +33,10 @@ more e le = record { steps = e.steps; run = e.run; few = (let few = e.few in ome
 -- what is behind an instruction, from some place on, is a part of the whole
 behind_is_part : (i : Insn) (behind : List Insn) (count : ℕ) → IsPart (drop count behind) (1 + count) (i ∷ behind)
 behind_is_part i behind count place insn here =
-    let e : 1 + count + place ≡ suc (count + place) = omega arith in
-    ap (slice_get (i ∷ behind)) e ∙ from behind count ∙ here
-  where
-    from : (xs : List Insn) (n : ℕ) → slice_get xs (n + place) ≡ slice_get (drop n xs) place
-    from xs zero = let e : 0 + place ≡ place = omega arith in ap (slice_get xs) e
-    from [] (suc n) = refl
-    from (x ∷ xs) (suc n) = let e : suc n + place ≡ suc (n + place) = omega arith in
-        ap (slice_get (x ∷ xs)) e ∙ from xs n
+    let inside = slice_get_within (drop count behind) place insn here in
+    let same : insn ≡ get_or (i ∷ behind) (1 + count + place) insn = grind (arith, common_steps, gets) in
+    slice_get_read (i ∷ behind) (length (i ∷ behind)) (1 + count + place) insn refl
+    (omega (arith, length-drop count behind)) same
 
 module _ {words : List ℕ} {behind : List Insn} {answer most : ℕ} where
   -- an instruction, and the code where it goes on
@@ -81,14 +83,12 @@ module _ {words : List ℕ} {behind : List Insn} {answer most : ℕ} where
       → (holds test a constant ≡ true → EndsWithin words (drop hit behind) a answer most)
       → (holds test a constant ≡ false → EndsWithin words (drop miss behind) a answer most)
       → EndsWithin words (jump_if test constant hit miss ∷ behind) a answer (suc most)
-  jumps test constant hit miss a over under = by_test (holds test a constant) refl
-    where
-      by_test : (met : Bool) → holds test a constant ≡ met
-          → EndsWithin words (jump_if test constant hit miss ∷ behind) a answer (suc most)
-      by_test true e =
-          goes_on (jump_if test constant hit miss) hit a a (rw (asks_for (JumpIf test Constant), e) refl) (over e)
-      by_test false e =
-          goes_on (jump_if test constant hit miss) miss a a (rw (asks_for (JumpIf test Constant), e) refl) (under e)
+  jumps test constant hit miss a over under = elim (cases_Bool (holds test a constant)) [
+    | inl met ↦ goes_on (jump_if test constant hit miss) hit a a (rw (asks_for (JumpIf test Constant), met) refl)
+        (over met)
+    | inr unmet ↦ goes_on (jump_if test constant hit miss) miss a a (rw (asks_for (JumpIf test Constant), unmet) refl)
+        (under unmet)
+  ]
 
 pub answers : {words : List ℕ} {behind : List Insn} {most : ℕ} (answer a : ℕ)
     → EndsWithin words (return_with answer ∷ behind) a answer (suc most)
@@ -107,36 +107,27 @@ past front rest count a e = rw (drop-append-add front rest count) e
 -- ---- each of them is sound
 
 module _ {plain : Bool} {behind : ℕ} where
+  sound_of : (i : Insn) (operation : Operation) → operation_of i.code ≡ Some operation → Keeps operation i behind
+      → (IsTrue plain → IsPlainOperation operation i) → IsSound plain i behind
+  sound_of i operation known keeps is =
+      record { operation = operation; known = known; keeps = keeps; is_plain = is }
+
   pub load_sound : (word : ℕ) → word < 16 → 0 < behind → IsSound plain (load_word word) behind
-  load_sound word lt some = record {
-    operation = LoadWord;
-    known = asks_for LoadWord;
-    keeps = (omega arith, omega arith, some);
-    is_plain = λ _. tt;
-  }
+  load_sound word lt some =
+      sound_of (load_word word) LoadWord (asks_for LoadWord) (omega arith, omega arith, some) (λ _. tt)
 
   pub mask_sound : (mask : ℕ) → (IsTrue plain → ⊥) → 0 < behind → IsSound plain (and_with mask) behind
-  mask_sound mask unasked some = record {
-    operation = Compute And Constant;
-    known = asks_for (Compute And Constant);
-    keeps = some;
-    is_plain = λ asked. absurd (unasked asked);
-  }
+  mask_sound mask unasked some = sound_of (and_with mask) (Compute And Constant) (asks_for (Compute And Constant)) some
+      (λ asked. absurd (unasked asked))
 
   pub jump_sound : (test : Test) (constant hit miss : ℕ) → hit < behind → miss < behind
       → (IsTrue plain → IsPlainOperation (JumpIf test Constant) (jump_if test constant hit miss))
       → IsSound plain (jump_if test constant hit miss) behind
-  jump_sound test constant hit miss h m is = record {
-    operation = JumpIf test Constant;
-    known = asks_for (JumpIf test Constant);
-    keeps = (h, m);
-    is_plain = is;
-  }
+  jump_sound test constant hit miss h m is =
+      sound_of (jump_if test constant hit miss) (JumpIf test Constant) (asks_for (JumpIf test Constant)) (h, m) is
 
   pub pass_sound : (count : ℕ) → count < behind → IsSound plain (jump_over count) behind
-  pass_sound count lt =
-      record { operation = Jump; known = asks_for Jump; keeps = lt; is_plain = λ _. tt }
+  pass_sound count lt = sound_of (jump_over count) Jump (asks_for Jump) lt (λ _. tt)
 
   pub return_sound : (answer : ℕ) → IsSound plain (return_with answer) behind
-  return_sound answer =
-      record { operation = ReturnConstant; known = asks_for ReturnConstant; keeps = tt; is_plain = λ _. tt }
+  return_sound answer = sound_of (return_with answer) ReturnConstant (asks_for ReturnConstant) tt (λ _. tt)

@@ -29,7 +29,7 @@ use Rattle.scf_compile.specs.internal.Filters.{rules_code, ArePut, IsSearchPut}
 use Rattle.scf_compile.specs.internal.Runs.{EndsWithin}
 use Rattle.scf_compile.specs.internal.Stretches.{AllRules, AreServed, first_answer, stretch_bound}
 use Rattle.scf_compile.proofs.Runs.{more}
-use Rattle.scf_compile.proofs.RuleCode.{rules_answer, rules_in_bound, branch_ends, branch_sound, branch_few}
+use Rattle.scf_compile.proofs.RuleCode.{rules_answer, rules_bounded, branch_ends, branch_sound, branch_few}
 use Rattle.scf_compile.proofs.RuleCode.{from_behind, from_first, first_near, answers_put, answers_there}
 
 -- ---- what is put, and more before it
@@ -174,10 +174,12 @@ pub search_one : (default : Answer) (s : Stretch) (before after : List Insn) (pl
 search_one default s before after place fine put =
     let rs = rules_at s.rules.now in
     let own = recursion_from_All IsRule rs (fine 0 s (omega arith)) in
+    let bounded = rules_bounded rs in
     let code = rules_answer default rs own in
+    let len = code.len in
     record {
       room = length (rules_code default rs);
-      small = omega (arith, rules_in_bound default rs own, sum_by-cons stretch_bound s []);
+      small = omega (arith, sum_by-cons stretch_bound s []);
       put = answers_put (AllRules IsPlainRule (s ∷ [])) code
           (λ all. recursion_from_All IsPlainRule rs (all 0 s (omega arith))) put;
       ends = λ call wanted low high n fits served from below few.

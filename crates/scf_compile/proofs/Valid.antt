@@ -6,11 +6,8 @@ use Rattle.std.specs.List.{AllByRecursion}
 use Rattle.std.proofs.lemmas.List.Elements.{All-from_recursion}
 use Rattle.std.proofs.lemmas.Option.{same_Some}
 use Rattle.scf_insn.specs.declared.insn.Insn.{Insn}
-use Rattle.scf_insn.specs.declared.operation.Operand.TheVariants.{Constant}
-use Rattle.scf_insn.specs.declared.operation.Arithmetic.TheVariants.{And}
 use Rattle.scf_insn.specs.declared.operation.Operation.{Operation}
-use Rattle.scf_insn.specs.declared.operation.Operation.TheVariants.{LoadWord, LoadScratch, Compute, Jump, JumpIf}
-use Rattle.scf_insn.specs.declared.operation.Operation.TheVariants.{ReturnConstant}
+use Rattle.scf_insn.specs.declared.operation.Operation.TheVariants.{LoadScratch}
 use Rattle.scf_insn.specs.Kernel.{bpf_maxinsns}
 use Rattle.scf_machine.specs.Machine.{RunAnswers}
 use Rattle.scf_machine.specs.Plain.{IsPlainInsn, IsPlainProgram}
@@ -28,12 +25,7 @@ use Rattle.scf_compile.specs.internal.Sound.{Keeps, IsSound, AreSound}
 
 fine_of : (operation : Operation) (i : Insn) (len place behind : ℕ) → place + 1 + behind ≡ len
     → Keeps operation i behind → IsFine len place i operation
-fine_of LoadWord i len place behind e h = (h.0, h.1)
-fine_of (Compute And Constant) i len place behind e h = tt
-fine_of Jump i len place behind e h = omega arith
-fine_of (JumpIf test Constant) i len place behind e h = let hit = h.0 in let miss = h.1 in (omega arith, omega arith)
-fine_of ReturnConstant i len place behind e h = tt
-fine_of _ i len place behind e h = absurd h
+fine_of operation i len place behind e h = grind arith
 
 record Found (is : List Insn) (place : ℕ) (i : Insn) : Type 0 where
   behind : ℕ
@@ -79,12 +71,7 @@ no_scratch is h place n earlier loads path =
 
 -- nothing stands behind the last instruction, so that it can only answer
 returns_at_end : (operation : Operation) (i : Insn) → Keeps operation i 0 → IsReturn operation
-returns_at_end LoadWord i h = let some : 0 < 0 = h.2 in absurd (omega arith)
-returns_at_end (Compute And Constant) i h = let some : 0 < 0 = h in absurd (omega arith)
-returns_at_end Jump i h = let some : i.k < 0 = h in absurd (omega arith)
-returns_at_end (JumpIf test Constant) i h = let some : i.jt < 0 = h.0 in absurd (omega arith)
-returns_at_end ReturnConstant i h = tt
-returns_at_end _ i h = absurd h
+returns_at_end operation i h = grind arith
 
 last_returns : (code : List Insn) → AreSound false code → 0 < length code → (i : Insn) (operation : Operation)
     → Stands code (length code - 1) i operation → IsReturn operation
