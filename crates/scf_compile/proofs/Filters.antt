@@ -1,5 +1,5 @@
 -- What is put before a search makes it a filter.
-use Rattle.std.proofs.Common.{◌≡◌, ℕ, ◌+◌, ◌-◌, ◌*◌, ◌^◌, ◌<◌, ◌≤◌, Bool, true, false, eqb, ltb, List, []}
+use Rattle.std.proofs.Common.{◌≡◌, ℕ, ◌+◌, ◌-◌, ◌*◌, ◌^◌, ◌<◌, ◌≤◌, Bool, true, false, cond, eqb, ltb, List, []}
 use Rattle.std.proofs.Common.{◌∷◌, ◌++◌, length, refl, ap, ◌∙◌, arith, sum_by}
 use Rattle.std.specs.Prelude.{IsTrue}
 use Rattle.std.proofs.lemmas.Bool.{le-leb, eqb-true, eqb-false}
@@ -13,7 +13,7 @@ use Rattle.scf_insn.specs.Words.{words_of, IsRecord}
 use Rattle.scf_profile.specs.PlainProfile.{IsPlainProfile, IsPlainRule}
 use Rattle.scf_profile.specs.Profile.{Profile}
 use Rattle.scf_profile.specs.Rule.{IsRule}
-use Rattle.scf_profile.specs.ProfileAnswers.{foreign}
+use Rattle.scf_profile.specs.ProfileAnswers.{ProfileAnswers, foreign}
 use Rattle.scf_profile.specs.RulesByNumber.{rules_of}
 use Rattle.scf_compile.specs.declared.placing.Place.{Place}
 use Rattle.scf_compile.specs.declared.stretches.Stretch.{Stretch}
@@ -21,7 +21,7 @@ use Rattle.scf_compile.specs.SearchBound.{search_bound_of}
 use Rattle.scf_compile.specs.SizeBound.{rule_bound, size_bound_of}
 use Rattle.scf_compile.specs.internal.Insns.{jump_if, load_word, return_with}
 use Rattle.scf_compile.specs.internal.Placing.{branch_code, code_from, IsFirst, IsPut}
-use Rattle.scf_compile.specs.internal.Filters.{ArePut, IsSearchPut, AnswersCall, IsFilterOf}
+use Rattle.scf_compile.specs.internal.Filters.{ArePut, IsSearchPut, IsFilterOf}
 use Rattle.scf_compile.specs.internal.Runs.{EndsWithin}
 use Rattle.scf_compile.specs.internal.Sound.{AreSound}
 use Rattle.scf_compile.specs.internal.Stretches.{AllRules, AreServed, first_answer, stretch_bound}
@@ -127,60 +127,46 @@ module _ {p : Profile} {ss : List Stretch} {searched killed ranged loaded : List
         )
 
     module _ (call : CallRecord) (fits : IsRecord call) where
-      -- by the architecture
-      arch_ends : (answer : ℕ)
-          → (eqb call.arch audit_arch_x86_64 ≡ true → EndsWithin (words_of call) loaded call.arch answer
-          (4 + (2 * serve.halvings + sum_by rule_bound (rules_of call.nr p.rules))))
-          → (eqb call.arch audit_arch_x86_64 ≡ false → answer ≡ kill)
-          → EndsWithin (words_of call) code 0 answer (search_bound_of p)
-      arch_ends answer own foreigner =
-          let quick = serve.quick call.nr in
-          rw is_tested (more (loads 1 0 (omega arith) refl (jumps
-          {most = 4 + (2 * serve.halvings + sum_by rule_bound (rules_of call.nr p.rules))} Equal audit_arch_x86_64
-          to_native to_other call.arch
-          (λ e. rw (stays native beside_put (omega arith) ∙ from_first loaded native here) (own e))
-          (λ e. rw (foreigner e) (more (kill_there beside call fits call.arch) (omega arith))))) (omega arith))
+      abbrev native_answer : ℕ
+      native_answer =
+          cond (ltb call.nr x32_syscall_bit) (first_answer call p.default_answer (rules_of call.nr p.rules)) kill
+
+      abbrev search_most : ℕ
+      search_most = 2 * serve.halvings + (1 + sum_by rule_bound (rules_of call.nr p.rules))
 
       -- by the number
-      range_ends : (answer : ℕ) → (x32_syscall_bit ≤ call.nr → answer ≡ kill)
-          → (call.nr < x32_syscall_bit → answer ≡ first_answer call p.default_answer (rules_of call.nr p.rules))
-          → EndsWithin (words_of call) loaded call.arch answer
-          (4 + (2 * serve.halvings + sum_by rule_bound (rules_of call.nr p.rules)))
-      range_ends answer high low =
+      range_ends : EndsWithin (words_of call) loaded call.arch native_answer (3 + search_most)
+      range_ends =
           rw (load ∙ ap (λ (l : List Insn). load_word 0 ∷ l) test.whole)
           (more (loads 0 call.arch (omega arith) refl
-          (branch_ends {most = 2 * serve.halvings + (1 + sum_by rule_bound (rules_of call.nr p.rules))} GreaterOrEqual
-          x32_syscall_bit (length killed - x32.0) (length killed - search.0) call.nr killed
-          (λ e. rw (high (grind (arith, nat_tests, e)))
-          (more (kill_there above call fits call.nr) (omega arith)))
-          (λ e. let below : call.nr < x32_syscall_bit = grind (arith, nat_tests, e) in
-          rw (stays search above_put found.put.near.stands, low below)
+          (branch_ends {most = search_most} GreaterOrEqual x32_syscall_bit (length killed - x32.0)
+          (length killed - search.0) call.nr killed
+          (λ e. let high : ltb call.nr x32_syscall_bit ≡ false = grind (arith, nat_tests, e) in
+          rw high (more (kill_there above call fits call.nr) (omega arith)))
+          (λ e. let low : ltb call.nr x32_syscall_bit ≡ true = grind (arith, nat_tests, e) in
+          rw (low, stays search above_put found.put.near.stands)
           (found.ends call (λ nr. rules_of nr p.rules) 0 x32_syscall_bit serve.halvings fits serve.serve (omega arith)
-          below serve.few)))) (omega arith))
+          (grind (arith, nat_tests, low)) serve.few)))) (omega arith))
 
-      answered_of : (own below : Bool) → eqb call.arch audit_arch_x86_64 ≡ own → ltb call.nr x32_syscall_bit ≡ below
-          → AnswersCall p code call
-      answered_of false below other e = record {
-        answer = kill;
-        of_words = arch_ends kill (λ own. absurd (cc)) (λ _. refl);
-        of_profile = foreign (λ native. eqb-false _ _ other native.arch);
-      }
-      answered_of true false own above = record {
-        answer = kill;
-        of_words = arch_ends kill
-            (λ _. range_ends kill (λ _. refl) (λ lt. absurd (grind (arith, nat_tests, above, lt))))
-            (λ other. absurd (cc));
-        of_profile = foreign (λ native. let lt : call.nr < x32_syscall_bit = native.nr in
-            absurd (grind (arith, nat_tests, above, lt)));
-      }
-      answered_of true true own lower =
+      -- by the architecture
+      arch_ends : EndsWithin (words_of call) code 0 (cond (eqb call.arch audit_arch_x86_64) native_answer kill)
+          (search_bound_of p)
+      arch_ends =
+          let quick = serve.quick call.nr in
+          rw is_tested (more (loads 1 0 (omega arith) refl
+          (jumps {most = 3 + search_most} Equal audit_arch_x86_64 to_native to_other call.arch
+          (λ e. rw (e, stays native beside_put (omega arith) ∙ from_first loaded native here) range_ends)
+          (λ e. rw e (more (kill_there beside call fits call.arch) (omega arith))))) (omega arith))
+
+      of_profile : (own below : Bool) → eqb call.arch audit_arch_x86_64 ≡ own → ltb call.nr x32_syscall_bit ≡ below
+          → ProfileAnswers p call
+          (cond own (cond below (first_answer call p.default_answer (rules_of call.nr p.rules)) kill) kill)
+      of_profile false below other e = foreign (λ native. eqb-false _ _ other native.arch)
+      of_profile true false own above =
+          foreign (λ native. let lt = native.nr in absurd (grind (arith, nat_tests, above, lt)))
+      of_profile true true own lower =
           let below : call.nr < x32_syscall_bit = grind (arith, nat_tests, lower) in
-          record {
-            answer = first_answer call p.default_answer (rules_of call.nr p.rules);
-            of_words =
-                arch_ends _ (λ _. range_ends _ (λ le. absurd (omega arith)) (λ _. refl)) (λ other. absurd (cc));
-            of_profile = first_met p.default_answer call p.rules (record { arch = eqb-true _ _ own; nr = below });
-          }
+          first_met p.default_answer call p.rules (record { arch = eqb-true _ _ own; nr = below })
 
     -- The code is the profile's filter.
     pub filter_put : IsFilterOf p code
@@ -189,6 +175,9 @@ module _ {p : Profile} {ss : List Stretch} {searched killed ranged loaded : List
       small = let small = serve.small in let fits = found.small in
           omega (arith, ap (λ (l : List Insn). length l) is_tested, (longer beside_put).1, len.0, len.1);
       sound = filter_sound;
-      answered = λ call fits.
-          answered_of call fits (eqb call.arch audit_arch_x86_64) (ltb call.nr x32_syscall_bit) refl refl;
+      answered = λ call fits. record {
+        answer = cond (eqb call.arch audit_arch_x86_64) (native_answer call fits) kill;
+        of_words = arch_ends call fits;
+        of_profile = of_profile call fits (eqb call.arch audit_arch_x86_64) (ltb call.nr x32_syscall_bit) refl refl;
+      };
     }
