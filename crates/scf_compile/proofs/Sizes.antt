@@ -1,16 +1,16 @@
 -- How long the code of a filter is.
-use Rattle.std.proofs.Common.{◌≡◌, ℕ, ◌+◌, ◌*◌, ◌<◌, ◌≤◌, ◌⊎◌, Bool, true, false, not, cond, eqb, Bor, List}
-use Rattle.std.proofs.Common.{[], ◌∷◌, ◌++◌, length, map, get_or, take, drop, refl, sym, ap, ◌∙◌, subst, append-nil}
+use Rattle.std.proofs.Common.{◌≡◌, ℕ, ◌+◌, ◌<◌, ◌≤◌, ◌⊎◌, Bool, true, false, not, cond, eqb, Bor, List}
+use Rattle.std.proofs.Common.{[], ◌∷◌, ◌++◌, length, map, get_or, take, drop, refl, sym, ap, ◌∙◌}
 use Rattle.std.proofs.Common.{arith, inl, inr, length-append, sum_by}
 use Rattle.std.specs.Prelude.{Contains}
 use Rattle.std.specs.List.{AllByRecursion, IsDistinct, list_any}
-use Rattle.std.proofs.lemmas.Bool.{cases_eq, ne_eqb}
+use Rattle.std.proofs.lemmas.Bool.{cases_Bool, cases_eq, ne_eqb, not_from_false}
+use Rattle.std.proofs.lemmas.List.Elements.{Contains-append_right}
 use Rattle.std.proofs.lemmas.List.{drop_more, length-map, take_more}
 use Rattle.std.proofs.lemmas.List.Sums.{sum_by-cons, sum_by-append}
 use Rattle.std.proofs.lemmas.Map.Steps.{length-le_from_distinct_below}
 use Rattle.scf_insn.specs.declared.answer.Answer.{Answer}
 use Rattle.scf_insn.specs.declared.insn.Insn.{Insn}
-use Rattle.scf_insn.specs.declared.operation.Test.TheVariants.{CommonBit}
 use Rattle.scf_insn.specs.Masks.{mask_kind}
 use Rattle.scf_insn.specs.Words.{low, high}
 use Rattle.scf_profile.specs.declared.condition.Condition.{Condition}
@@ -20,18 +20,14 @@ use Rattle.scf_profile.specs.Rule.{IsCondition, AreConditions, HaveDistinctIndic
 use Rattle.scf_profile.specs.RulesByNumber.{numbers_of, rules_of}
 use Rattle.scf_insn.specs.declared.mask.MaskKind.{MaskKind}
 use Rattle.scf_insn.specs.declared.mask.MaskKind.TheVariants.{Empty, OneBit, Full, Mixed}
-use Rattle.scf_compile.specs.internal.Blocks.{word_code, half_code_of, half_code}
+use Rattle.scf_compile.specs.SizeBound.{rule_bound}
+use Rattle.scf_compile.specs.internal.Blocks.{half_code_of, half_code}
 use Rattle.scf_compile.specs.internal.Blocks.{masked_code, condition_code}
 use Rattle.scf_compile.specs.internal.Filters.{conditions_code, rule_code, behind_rule, rules_code}
-use Rattle.scf_compile.proofs.Lists.{next_at, behind}
-use Rattle.scf_profile.proofs.Numbers.{numbers_of-contains, numbers_of-push, has_number}
+use Rattle.scf_compile.proofs.Lists.{next_at}
+use Rattle.scf_profile.proofs.Numbers.{contains_filtered, numbers_of-push, has_number}
 
 -- ---- conditions
-
-bit_len : (none : Bool) (word mask out : ℕ)
-    → length (cond none (word_code CommonBit word mask out 0) (word_code CommonBit word mask 0 out)) ≡ 2
-bit_len true word mask out = refl
-bit_len false word mask out = refl
 
 -- the code of a half is as long as the kind of its mask says
 abbrev pub kind_len : MaskKind → ℕ
@@ -43,7 +39,7 @@ kind_len Mixed = 3
 half_len_of : (kind : MaskKind) (word mask wanted out : ℕ)
     → length (half_code_of kind word mask wanted out) ≡ kind_len kind
 half_len_of Empty word mask wanted out = refl
-half_len_of OneBit word mask wanted out = bit_len _ word mask out
+half_len_of OneBit word mask wanted out = elim (cases_Bool (eqb wanted 0)) [ inl e ↦ rw e refl | inr e ↦ rw e refl ]
 half_len_of Full word mask wanted out = refl
 half_len_of Mixed word mask wanted out = refl
 
@@ -122,60 +118,37 @@ rules_code_from default refs i r lt is some =
 
 -- ---- the distinct numbers
 
--- a rule has the number, or no rule does
-some_of_number : (nr : ℕ) (rs : List Rule) → ((r : Rule) × Contains rs r × (r.number ≡ nr)) ⊎ (rules_of nr rs ≡ [])
-some_of_number nr [] = inr refl
-some_of_number nr (r ∷ rs) =
+-- the number is that of a rule, or no rule has it
+pub number_there : (nr : ℕ) (rs : List Rule) → Contains (numbers_of rs) nr ⊎ (rules_of nr rs ≡ [])
+number_there nr [] = inr refl
+number_there nr (r ∷ rs) =
     elim (cases_eq r.number nr) [
-      | inl same ↦ inl (r, (0, omega arith, refl), same)
-      | inr apart ↦ elim (some_of_number nr rs) [
-        | inl later ↦ inl (later.0, behind r rs later.0 later.1, later.2)
+      | inl same ↦ inl (0, omega arith, same)
+      | inr apart ↦ elim (number_there nr rs) [
+        | inl later ↦ inl (Contains-append_right (r.number ∷ []) _ nr
+            (contains_filtered (λ number. not (eqb number r.number)) (numbers_of rs) nr
+            (not_from_false _ (ne_eqb nr r.number (λ e. apart (sym e)))) later))
         | inr none ↦ inr (rw (ne_eqb r.number nr apart) none)
       ]
     ]
 
-pub number_there : (nr : ℕ) (rs : List Rule) → Contains (numbers_of rs) nr ⊎ (rules_of nr rs ≡ [])
-number_there nr rs =
-    elim (some_of_number nr rs) [
-      | inl some ↦ inl (subst (λ (n : ℕ). Contains (numbers_of rs) n) some.2 (numbers_of-contains rs some.0 some.1))
-      | inr none ↦ inr none
-    ]
-
-added : (before : List ℕ) (number : ℕ) (there : Bool)
-    → before ++ cond there [] (number ∷ []) ≡ cond (not there) (before ++ number ∷ []) before
-added before number true = append-nil before
-added before number false = refl
-
--- the numbers of the rules up to a place: that of the last one is new, or stands there
-pub numbers_up_to : (rules : List Rule) (i : ℕ) (r : Rule) (new : Bool) → i < length rules → r ≡ get_or rules i r
-    → new ≡ not (list_any (λ s. eqb s.number r.number) (take i rules))
-    → numbers_of (take (i + 1) rules) ≡ cond new (numbers_of (take i rules) ++ r.number ∷ [])
-    (numbers_of (take i rules))
-numbers_up_to rules i r new lt is h =
-    let more : take (i + 1) rules ≡ take i rules ++ r ∷ [] =
-    take_more rules i r lt ∙ ap (λ (s : Rule). take i rules ++ s ∷ []) (sym is) in
-    ap numbers_of more ∙ numbers_of-push (take i rules) r
-    ∙ added (numbers_of (take i rules)) r.number (has_number r.number (take i rules))
-    ∙ ap (λ (b : Bool). cond b (numbers_of (take i rules) ++ r.number ∷ []) (numbers_of (take i rules))) (sym h)
-
 -- ---- the bound, rule by rule
 
-abbrev pub bound_up_to : List Rule → ℕ
-bound_up_to rules = 8 + 4 * length (numbers_of rules) + sum_by (λ r. 2 + 8 * length r.conditions) rules
-
-pub bound_with : (rules : List Rule) (i : ℕ) (r : Rule) (new : Bool) (bound : ℕ) → i < length rules
-    → r ≡ get_or rules i r → new ≡ not (list_any (λ s. eqb s.number r.number) (take i rules))
-    → bound ≡ bound_up_to (take i rules)
-    → bound + cond new 4 0 + (2 + 8 * length r.conditions) ≡ bound_up_to (take (i + 1) rules)
-bound_with rules i r new bound lt is h e =
-    let f : Rule → ℕ = λ s. 2 + 8 * length s.conditions in
-    let more : take (i + 1) rules ≡ take i rules ++ r ∷ [] =
-    take_more rules i r lt ∙ ap (λ (s : Rule). take i rules ++ s ∷ []) (sym is) in
-    let sums : sum_by f (take (i + 1) rules) ≡ sum_by f (take i rules) + sum_by f (r ∷ []) =
-    ap (sum_by f) more ∙ sum_by-append f (take i rules) (r ∷ []) in
-    let numbers = ap (λ (ns : List ℕ). length ns) (numbers_up_to rules i r new lt is h) in
-    omega (arith, sums, numbers, sum_by-cons f r [], counted (numbers_of (take i rules)) r.number new)
+-- the bound of the rules up to a place: that of the last one has a new number, or one that stands there
+pub bound_with : (rules : List Rule) (i : ℕ) (r : Rule) (new : Bool) → i < length rules → r ≡ get_or rules i r
+    → new ≡ not (list_any (λ s. eqb s.number r.number) (take i rules))
+    → (length (numbers_of (take (i + 1) rules)) ≡ length (numbers_of (take i rules)) + cond new 1 0)
+    × (sum_by rule_bound (take (i + 1) rules) ≡ sum_by rule_bound (take i rules) + rule_bound r)
+bound_with rules i r new lt is h =
+    let front = take i rules in
+    let more : take (i + 1) rules ≡ front ++ r ∷ [] =
+    take_more rules i r lt ∙ ap (λ (s : Rule). front ++ s ∷ []) (sym is) in
+    rw (more, h) (
+      ap (λ (ns : List ℕ). length ns) (numbers_of-push front r) ∙ counted (has_number r.number front),
+      omega (arith, sum_by-append rule_bound front (r ∷ []), sum_by-cons rule_bound r []),
+    )
   where
-    counted : (ns : List ℕ) (n : ℕ) (b : Bool) → 4 * length (cond b (ns ++ n ∷ []) ns) ≡ 4 * length ns + cond b 4 0
-    counted ns n true = omega (arith, length-append ns (n ∷ []))
-    counted ns n false = omega arith
+    counted : (there : Bool) → length (numbers_of (take i rules) ++ cond there [] (r.number ∷ []))
+        ≡ length (numbers_of (take i rules)) + cond (not there) 1 0
+    counted true = length-append (numbers_of (take i rules)) []
+    counted false = length-append (numbers_of (take i rules)) (r.number ∷ [])

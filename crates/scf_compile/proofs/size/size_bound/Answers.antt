@@ -16,12 +16,13 @@ loop-i-preserved c =
     let rule : IsRule r =
     subst IsRule (sym c.index-rules-i.is) (All-from_recursion IsRule rules valid c.loop-i.i r c.loop-i-test.true) in
     let few = few_conditions r.conditions rule.conditions in
-    let sum = bound_with rules c.loop-i.i r c.is_new.result c.loop-i.bound c.loop-i-test.true c.index-rules-i.is
-    c.is_new.ensures c.loop-i.invariant.bound in
-    let before = c.loop-i.invariant.few in
+    let more = bound_with rules c.loop-i.i r c.is_new.result c.loop-i-test.true c.index-rules-i.is c.is_new.ensures in
+    let before = c.loop-i.invariant in
     elim c.if-is_new.branch [
-      | then-is_new w ↦ let one = rw w.if-is_new.true at sum in let now =
-          w.bound-is in record { bound = omega (arith, one, len, now); few = omega (arith, few, len, before, now) }
-      | else-is_new w ↦ let one = rw w.if-is_new.false at sum in let now =
-          w.bound-is in record { bound = omega (arith, one, len, now); few = omega (arith, few, len, before, now) }
+      | then-is_new w ↦
+          let one = rw w.if-is_new.true at more in
+          record { bound = omega (arith, len, w.bound-is); few = omega (arith, few, len, w.bound-is) }
+      | else-is_new w ↦
+          let one = rw w.if-is_new.false at more in
+          record { bound = omega (arith, len, w.bound-is); few = omega (arith, few, len, w.bound-is) }
     ]
