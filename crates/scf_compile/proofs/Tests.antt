@@ -163,19 +163,18 @@ module _ (index : ℕ) (lt : index < 6) where
   abbrev n : CallRecord → ℕ
   n call = argument call index
 
-  low_tests : (test : Test) (constant hit miss : ℕ)
-      → Tests (word_code test word constant hit miss) hit miss 2
-      (IsPlainOperation (JumpIf test Constant) (jump_if test constant hit miss))
-      (λ call. test_holds test (low (n call)) constant)
-  low_tests test constant hit miss = word_tests word (λ call. low (n call)) test constant hit miss (omega arith)
-      (λ call. argument_low call index)
+  module _ (test : Test) (constant hit miss : ℕ) where
+    low_tests : Tests (word_code test word constant hit miss) hit miss 2
+        (IsPlainOperation (JumpIf test Constant) (jump_if test constant hit miss))
+        (λ call. test_holds test (low (n call)) constant)
+    low_tests =
+        word_tests word (λ call. low (n call)) test constant hit miss (omega arith) (λ call. argument_low call index)
 
-  high_tests : (test : Test) (constant hit miss : ℕ)
-      → Tests (word_code test (word + 1) constant hit miss) hit miss 2
-      (IsPlainOperation (JumpIf test Constant) (jump_if test constant hit miss))
-      (λ call. test_holds test (high (n call)) constant)
-  high_tests test constant hit miss = word_tests (word + 1) (λ call. high (n call)) test constant hit miss (omega arith)
-      (λ call. argument_high call index)
+    high_tests : Tests (word_code test (word + 1) constant hit miss) hit miss 2
+        (IsPlainOperation (JumpIf test Constant) (jump_if test constant hit miss))
+        (λ call. test_holds test (high (n call)) constant)
+    high_tests = word_tests (word + 1) (λ call. high (n call)) test constant hit miss (omega arith)
+        (λ call. argument_high call index)
 
   equal_tests : (q : Type 0) (value hit miss : ℕ)
       → Tests (equal_code word value hit miss) hit miss 6 q (λ call. eqb (n call) value)
@@ -221,16 +220,8 @@ module _ (index : ℕ) (lt : index < 6) where
         (λ y. more (past last rest miss _ (under (met_of false (rw (x, y) refl)) _)) (omega arith))))) (omega arith);
   }
 
-  above_tests : (q : Type 0) (value hit miss : ℕ)
-      → Tests (order_code Above word value hit miss) hit miss 6 q (λ call. ltb value (n call))
-  above_tests q value hit miss =
-      order_tests q Above value hit miss (λ call. ltb value (n call)) tt (λ call. sym (ltb_split value (n call)))
-
-  at_least_tests : (q : Type 0) (value hit miss : ℕ)
-      → Tests (order_code AtLeast word value hit miss) hit miss 6 q (λ call. leb value (n call))
-  at_least_tests q value hit miss =
-      order_tests q AtLeast value hit miss (λ call. leb value (n call)) tt
-      (λ call. grind (arith, nat_tests, leb_split value (n call)))
+  at_least : (value : ℕ) (call : CallRecord) → by_words AtLeast value call ≡ leb value (n call)
+  at_least value call = grind (arith, nat_tests, leb_split value (n call))
 
   masked_tests : (mask wanted out : ℕ) → bit_and wanted mask ≡ wanted
       → Tests (masked_code word mask wanted out) 0 out 6 (IsSimpleMask (high mask) × IsSimpleMask (low mask))
@@ -253,12 +244,16 @@ module _ (index : ℕ) (lt : index < 6) where
   operator_tests NotEqual value value_two out =
       opposite (λ call. not (eqb (n call) value)) (equal_tests _ value out 0) (λ call. refl)
   operator_tests Less value value_two out =
-      opposite (λ call. ltb (n call) value) (at_least_tests _ value out 0) (λ call. grind (arith, nat_tests))
+      opposite (λ call. ltb (n call) value) (order_tests _ AtLeast value out 0 _ tt (at_least value))
+      (λ call. grind (arith, nat_tests))
   operator_tests LessOrEqual value value_two out =
-      opposite (λ call. leb (n call) value) (above_tests _ value out 0) (λ call. grind (arith, nat_tests))
+      opposite (λ call. leb (n call) value)
+      (order_tests _ Above value out 0 _ tt (λ call. sym (ltb_split value (n call))))
+      (λ call. grind (arith, nat_tests))
   operator_tests Equal value value_two out = equal_tests _ value 0 out
-  operator_tests GreaterOrEqual value value_two out = at_least_tests _ value 0 out
-  operator_tests Greater value value_two out = above_tests _ value 0 out
+  operator_tests GreaterOrEqual value value_two out = order_tests _ AtLeast value 0 out _ tt (at_least value)
+  operator_tests Greater value value_two out =
+      order_tests _ Above value 0 out _ tt (λ call. sym (ltb_split value (n call)))
   operator_tests MaskedEqual value value_two out =
       tests_as 6 6 _ _
       (masked_tests value (bit_and value_two value) out
