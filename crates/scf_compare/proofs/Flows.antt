@@ -121,5 +121,6 @@ IsForward place (DivideByIndex next) = place < next
 IsForward place ReturnConstant = Unit {0}
 IsForward place ReturnAccumulator = Unit {0}
 
-pub forward_at : (operation : Operation) (i : Insn) (place : ℕ) → IsForward place (flow_at operation i place)
-forward_at operation i place = grind arith
+pub forward_at : {insns : List Insn} {place : ℕ} {i : Insn} {operation : Operation} → Stands insns place i operation
+    → IsForward place (flow_at operation i place)
+forward_at {place = place} {i = i} {operation = operation} stands = grind arith

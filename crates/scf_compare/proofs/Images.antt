@@ -137,7 +137,8 @@ scaled : (y j k t : ℕ) → j + k ≡ t → y * 2 ^ j * 2 ^ k ≡ y * 2 ^ t
 scaled y j k t e = grind (arith, pow-add)
 
 -- an image shifted to the right
-pub image_right : (x m c k : ℕ) → bit_xor (bit_and x m) c / 2 ^ k ≡ bit_xor (bit_and (x / 2 ^ k) (m / 2 ^ k)) (c / 2 ^ k)
+pub image_right : (x m c k : ℕ)
+    → bit_xor (bit_and x m) c / 2 ^ k ≡ bit_xor (bit_and (x / 2 ^ k) (m / 2 ^ k)) (c / 2 ^ k)
 image_right x m c k = xor_shr (bit_and x m) c k ∙ ap (λ n. bit_xor n (c / 2 ^ k)) (and_shr x m k)
 
 -- by less than it was shifted to the left

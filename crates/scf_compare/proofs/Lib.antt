@@ -1,6 +1,5 @@
 pub mod Branches
 pub mod Bits
-pub mod Effects
 pub mod Firsts
 pub mod Flows
 pub mod Halves

@@ -13,7 +13,8 @@ not_less : (a b : ℕ) → (a < b → ⊥) → nat_lt a b ≡ false
 not_less a b h = le-ltb a b (omega (arith, h))
 
 -- A word `w` shifted to the right and left, under a mask `m` that has, shifted back, all bits from the `k`th on.
-module _ (w s t m c k : ℕ) (none : c ≡ 0) (below : w < 2 ^ 32) (within : k < 32) (high : m / 2 ^ t * 2 ^ s ≡ 2 ^ 32 - 2 ^ k) where
+module _ (w s t m c k : ℕ) (none : c ≡ 0) (below : w < 2 ^ 32) (within : k < 32)
+    (high : m / 2 ^ t * 2 ^ s ≡ 2 ^ 32 - 2 ^ k) where
   -- the number that the word's bits under the mask are
   number_of_bits : bit_xor (bit_and (w / 2 ^ s * 2 ^ t) m) c ≡ bit_and (w / 2 ^ s) (m / 2 ^ t) * 2 ^ t
   number_of_bits = grind (arith, xor_zero_r, under_mask (w / 2 ^ s) t m)

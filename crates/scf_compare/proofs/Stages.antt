@@ -104,10 +104,7 @@ module _ {F K N : Type 0} (store : Store F) (compared : Compared) (tree : K → 
   ended here from there found next seen costs taken = record {
     frontier = taken.frontier;
     node = taken.node;
-    words = λ words ahead. elim ahead [
-      | inl inside ↦ inr (taken.words words inside)
-      | inr now ↦ inl (seen words now.0 now.1)
-    ];
+    words = λ words ahead. grind (arith, taken.words words, seen words);
     size = omega (arith, taken.size, costs);
     exact = λ all. taken.exact all.branches;
   }

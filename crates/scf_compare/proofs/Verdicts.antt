@@ -1,19 +1,15 @@
 -- A verdict on words is one on call records.
-use Rattle.std.proofs.Common.{◌≡◌, ℕ, List, [], ◌∷◌, sym, ap, ◌∙◌, subst}
+use Rattle.std.proofs.Common.{◌≡◌, ℕ, List, subst, arith}
 use Rattle.std.specs.Prelude.{Option}
 use Rattle.scf_insn.specs.declared.answer.Answer.{Answer}
 use Rattle.scf_insn.specs.declared.insn.Insn.{Insn}
-use Rattle.scf_insn.specs.declared.operation.Arithmetic.TheVariants.{Div}
-use Rattle.scf_insn.specs.declared.operation.Operand.TheVariants.{Index}
 use Rattle.scf_insn.specs.declared.operation.Operation.{Operation}
-use Rattle.scf_insn.specs.declared.operation.Operation.TheVariants.{Compute, Jump as Jumps, JumpIf, ReturnConstant, ReturnAccumulator}
 use Rattle.scf_insn.specs.declared.record.CallRecord.{CallRecord}
 use Rattle.scf_insn.specs.Words.{words_of, call_of}
 use Rattle.scf_insn.proofs.CallWords.{call_of-words_of, words_of-call_of, IsWords-words_of, IsRecord-call_of}
 use Rattle.scf_profile.specs.Profile.{Profile}
 use Rattle.scf_profile.specs.ProfileAnswers.{ProfileAnswers}
 use Rattle.scf_profile.specs.SameAnswers.{SameAnswers}
-use Rattle.scf_compare.specs.declared.comparison.FilterEnd.{FilterEnd}
 use Rattle.scf_compare.specs.declared.relation.Relation.{Relation}
 use Rattle.scf_compare.specs.declared.scope.Scope.{Scope}
 use Rattle.scf_compare.specs.declared.scope.Scope.TheVariants.{All}
@@ -32,10 +28,7 @@ use Rattle.scf_compare.specs.internal.Stacks.{IsStackEnd}
 -- a verdict that decides a claim decides another that holds exactly where the first one does
 pub decided_same : (claim other : Type 0) (limit size : ℕ) (verdict : Verdict) → (claim → other) → (other → claim)
     → IsDecided claim limit size verdict → IsDecided other limit size verdict
-decided_same claim other limit size (Same steps) to from h = to h
-decided_same claim other limit size (Differs call filter profile) to from h = λ holds. h (from holds)
-decided_same claim other limit size (Undecided at) to from h = h
-decided_same claim other limit size Unfinished to from h = h
+decided_same claim other limit size verdict to from h = grind arith
 
 module _ (relation : Relation) (scope : Scope) (is_place : ℕ → Type 0) (answers : List ℕ → ℕ → Type 0) (p : Profile) where
   -- where the answers to the words of all records of a scope are related, those to the records are
@@ -100,19 +93,11 @@ all_of_same answers p same = λ call is_record in_scope. same call is_record
 pub placed : (related : ℕ → ℕ → Type 0) (in_scope : CallRecord → Type 0) (is_place other : ℕ → Type 0)
     (answers : List ℕ → ℕ → Type 0) (p : Profile) (verdict : Verdict) → ((at : ℕ) → is_place at → other at)
     → IsTrueBy related in_scope is_place answers p verdict → IsTrueBy related in_scope other answers p verdict
-placed related in_scope is_place other answers p (Same steps) at h = h
-placed related in_scope is_place other answers p (Differs call filter profile) at h = h
-placed related in_scope is_place other answers p (Undecided place) at h = at place h
-placed related in_scope is_place other answers p Unfinished at h = h
+placed related in_scope is_place other answers p verdict at h = grind arith
 
 ending : (operation : Operation) (i : Insn) (at : ℕ) (answer : Option Answer)
     → EndsWith (flow_at operation i at) i answer → CanEnd operation
-ending Jumps i at answer ends = ends
-ending (JumpIf test operand) i at answer ends = ends
-ending ReturnConstant i at answer ends = tt
-ending ReturnAccumulator i at answer ends = tt
-ending (Compute Div Index) i at answer ends = tt
-ending operation i at answer ends = ends
+ending operation i at answer ends = grind arith
 
 -- a place of an end is one where a run can end
 pub end_place : (insns : List Insn) (at : ℕ) → IsPlaceOf (IsFilterEnd insns) at → IsEndPlace insns at
@@ -127,6 +112,4 @@ end_place insns at (end, is_end, same) =
 
 pub stack_end_place : (filters : List (List Insn)) (at : ℕ) → IsPlaceOf (IsStackEnd filters) at
     → IsStackEndPlace filters at
-stack_end_place [] at (end, is_end, same) = sym same ∙ ap (λ (e : FilterEnd). e.at) is_end
-stack_end_place (filter ∷ filters) at (end, is_end, same) =
-    (is_end.0, is_end.1, end_place is_end.0 at (end, is_end.2, same))
+stack_end_place filters at end = grind (arith, end_place)

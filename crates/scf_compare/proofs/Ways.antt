@@ -67,14 +67,17 @@ module _ {insns : List Insn} {words : List ℕ} {place : ℕ} {i : Insn} {operat
   Leads ReturnConstant = RunAnswers insns words i.k
   Leads ReturnAccumulator = RunAnswers insns words c.state.a
 
-  leads_by : RunsSafely insns words → (flow : Flow) → Does flow i c.state (effect operation i words c.state) → Leads flow
+  leads_by : RunsSafely insns words → (flow : Flow) → Does flow i c.state (effect operation i words c.state)
+      → Leads flow
   leads_by safe (Next next) does = comes_next safe (effect operation i words c.state) refl next does
   leads_by safe (Jump target) e =
       comes_on (jumps_to c.state target) target registers e refl
       (record { a = c.describes.a; x = c.describes.x; scratch = c.describes.scratch })
   leads_by safe (Branch test operand if_true if_false) e =
-      let to = λ (next : ℕ) (h : (if holds test c.state.a (operand_of operand i c.state) then if_true else if_false) ≡ next).
-      comes_on _ next registers e h (record { a = c.describes.a; x = c.describes.x; scratch = c.describes.scratch }) in (
+      let outcome = holds test c.state.a (operand_of operand i c.state) in
+      let to = λ (next : ℕ) (h : (if outcome then if_true else if_false) ≡ next).
+      comes_on _ next registers e h
+      (record { a = c.describes.a; x = c.describes.x; scratch = c.describes.scratch }) in (
         λ h. to if_true (ap (λ b. if b then if_true else if_false) h),
         λ h. to if_false (ap (λ b. if b then if_true else if_false) h),
       )

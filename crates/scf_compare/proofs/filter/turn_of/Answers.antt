@@ -43,7 +43,8 @@ pub returns-else-if_true-if_false-clause-leads : goal.returns-else-if_true-if_fa
 returns-else-if_true-if_false-clause-leads c = λ words w r.
     let on = leads c.requires.stands r (c.requires.safe words) _ (sym c.of.ensures.flow ∙ c.in-Branch.is) in
     let operand = c.operand.ensures.stands words r.state r.describes in
-    turn_leads (filter_tree c.args.insns.now c.args.registers.now) _ words c.decide-decision.result _ _ c.turn_by.result _ c.turn_by.ensures
+    turn_leads (filter_tree c.args.insns.now c.args.registers.now) _ words c.decide-decision.result _ _
+    c.turn_by.result _ c.turn_by.ensures
     (c.decide-decision.ensures.decides words r.state.a _ w r.describes.a operand) on.0 on.1
 
 pub returns-else-if_true-if_false-clause-costs : goal.returns-else-if_true-if_false-clause-costs
@@ -70,7 +71,8 @@ returns-in-ReturnConstant-clause-costs c = grind (arith, size_by_flow c.requires
 
 pub returns-in-ReturnAccumulator-clause-leads : goal.returns-in-ReturnAccumulator-clause-leads
 returns-in-ReturnAccumulator-clause-leads c = λ words w r.
-    let answered = leads c.requires.stands r (c.requires.safe words) _ (sym c.of.ensures.flow ∙ c.in-ReturnAccumulator.is) in
+    let answered =
+    leads c.requires.stands r (c.requires.safe words) _ (sym c.of.ensures.flow ∙ c.in-ReturnAccumulator.is) in
     IfSome_then c.answer.result (c.answer.ensures words r.state.a r.describes.a)
     (λ (answer : Answer) same. subst (RunAnswers c.args.insns.now words) same answered)
 
@@ -80,7 +82,8 @@ returns-in-ReturnAccumulator-clause-costs c = grind (arith, size_by_flow c.requi
 pub returns-else-if_true-if_false-clause-plain : goal.returns-else-if_true-if_false-clause-plain
 returns-else-if_true-if_false-clause-plain c = λ plain value.
     let branch = rw (sym c.of.ensures.flow ∙ c.in-Branch.is) at (plain_flow _ _ _ _ plain c.requires.stands) in
-    turn_plain (filter_tree c.args.insns.now c.args.registers.now) _ c.decide-decision.result _ _ c.turn_by.result c.turn_by.ensures
+    turn_plain (filter_tree c.args.insns.now c.args.registers.now) _ c.decide-decision.result _ _
+    c.turn_by.result c.turn_by.ensures
     (c.decide-decision.ensures.plain c.args.insn.k value (c.operand.ensures.constant branch.0) branch.1) (plain, value)
     (plain, value)
 
