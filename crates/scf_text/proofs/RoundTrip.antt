@@ -5,22 +5,23 @@ use Rattle.scf_text.proofs.ListingLemmas.{hexadecimal_is, decimal_is, decimal_no
 use Rattle.scf_text.proofs.ListingLemmas.{field_small, mnemonic_wordy, line_words, is_plain, wordy_plain}
 use Rattle.scf_text.proofs.ListingLemmas.{operands_plain, body, operands, body_line, no_comment, no_end, small_bytes}
 use Rattle.scf_text.proofs.ListingLemmas.{no_semicolon, no_label}
-use Rattle.std.proofs.Common.{◌≡◌, ℕ, Bool, true, false, ◌||◌, ◌&&◌, cond, eqb, Option, None, Some, refl, sym, inl, inr}
+use Rattle.std.proofs.Common.{◌≡◌, ℕ, true, false, eqb, Option, None, Some, refl, sym, inl, inr}
 use Rattle.std.proofs.Common.{◌+◌, ◌<◌, ◌≤◌, List, [], ◌∷◌, ◌++◌, length, map, ap, subst, ◌∙◌, append_assoc, arith}
 use Rattle.std.specs.Prelude.{if◌then◌else◌}
 use Rattle.std.specs.List.{list_any, flat_map, AllByRecursion, list_all, slice_split}
-use Rattle.std.proofs.lemmas.Bool.{cases_Bool, eqb-true, and_parts, and_from}
+use Rattle.std.proofs.lemmas.Bool.{cases_Bool, and_from}
+use Rattle.std.proofs.lemmas.Bool.Decides.{nat_tests}
 use Rattle.scf_insn.specs.Insn.{IsInsn}
 use Rattle.scf_insn.specs.declared.insn.Insn.{Insn}
 use Rattle.scf_text.specs.declared.form.Mnemonic.{Mnemonic}
 use Rattle.scf_text.specs.declared.form.Shape.{Shape}
 use Rattle.scf_text.specs.declared.form.Field.TheVariants.{Code, Jt, Jf, K}
 use Rattle.scf_text.specs.declared.form.Form.{Form}
-use Rattle.scf_text.specs.Forms.{mnemonic_text, pieces_of, raw, form_of_code, names, is_named_or_zero, tells_all}
+use Rattle.scf_text.specs.Forms.{mnemonic_text, pieces_of, raw, form_of_code, names, tells_all}
 use Rattle.scf_text.specs.Forms.{full_form, form_for, forms, known_forms}
 use Rattle.scf_text.specs.Drafts.{Number, Draft, draft_of}
 use Rattle.scf_text.specs.Statements.{Places, Statement, place_of, is_semicolon, tokens_of_statements, statements_from}
-use Rattle.scf_text.specs.Statements.{label_in, instruction_in, labels_from, labels_of, drafts_in, drafts_of, IsRead}
+use Rattle.scf_text.specs.Statements.{label_in, instruction_in, labels_from, drafts_in, IsRead}
 use Rattle.scf_text.specs.Spelling.{SaysInsn, SaysEach, Spells}
 use Rattle.scf_text.proofs.FormLemmas.{same_code, all_to_one}
 use Rattle.scf_insn.specs.Codes.{code_table}
@@ -71,12 +72,13 @@ each_same f g (x ∷ xs) e =
 abbrev pub IsReadBack : Insn → Form → Type 0
 IsReadBack i f = read_back i f ≡ Some (draft_in f i)
 
-full_back : (i : Insn) (o : Option Form) → IsReadBack i raw → ((f : Form) → o ≡ Some f → IsReadBack i f)
-    → IsReadBack i (full_form i o)
-full_back i None first known = first
-full_back i (Some f) first known =
+-- of what an instruction is listed in
+full_one : (P : Form → Type 0) (i : Insn) (o : Option Form) → P raw
+    → ((f : Form) → o ≡ Some f → tells_all i f ≡ true → P f) → P (full_form i o)
+full_one P i None first known = first
+full_one P i (Some f) first known =
     elim (cases_Bool (tells_all i f)) [
-      | inl all ↦ rw all (known f refl)
+      | inl all ↦ rw all (known f refl all)
       | inr other ↦ rw other first
     ]
 
@@ -84,43 +86,24 @@ pub reads_back : (i : Insn) → IsInsn i → IsReadBack i (form_for i)
 unfolding form_for
 reads_back i h =
     let each = each_same (read_back i) (λ f. Some (draft_in f i)) forms (all_back i h) in
-    full_back i (form_of_code i.code) each.0 (all_to_one (IsReadBack i) each.1 i.code)
-
-named : (b : Bool) (v : ℕ) → (b || eqb v 0) ≡ true → v ≡ cond b v 0
-named true v h = refl
-named false v h = eqb-true v 0 h
-
-code_is : (b : Bool) (v w : ℕ) → w ≡ v → v ≡ cond b v w
-code_is true v w h = refl
-code_is false v w h = sym h
+    full_one (IsReadBack i) i (form_of_code i.code) each.0 (λ f is _. all_to_one (IsReadBack i) each.1 i.code f is)
 
 tells_says : (places : Places) (at : ℕ) (i : Insn) (f : Form) → f.code ≡ i.code → tells_all i f ≡ true
     → SaysInsn places at (draft_in f i) i
 tells_says places at i f code h =
-    let a = and_parts (is_named_or_zero f i Jt) (is_named_or_zero f i Jf && is_named_or_zero f i K) h in
-    let b = and_parts (is_named_or_zero f i Jf) (is_named_or_zero f i K) a.1 in
     record {
-      code = code_is (list_any (names Code) (pieces_of f.shape)) i.code f.code code;
-      jt = named (list_any (names Jt) (pieces_of f.shape)) i.jt a.0;
-      jf = named (list_any (names Jf) (pieces_of f.shape)) i.jf b.0;
-      k = named (list_any (names K) (pieces_of f.shape)) i.k b.1;
+      code = grind (arith, nat_tests);
+      jt = grind (arith, nat_tests);
+      jf = grind (arith, nat_tests);
+      k = grind (arith, nat_tests);
     }
 
-raw_says : (places : Places) (at : ℕ) (i : Insn) → SaysInsn places at (draft_in raw i) i
-raw_says places at i = record { code = refl; jt = refl; jf = refl; k = refl }
-
-full_says : (places : Places) (at : ℕ) (i : Insn) (o : Option Form) → ((f : Form) → o ≡ Some f → f.code ≡ i.code)
-    → SaysInsn places at (draft_in (full_form i o) i) i
-full_says places at i None code = raw_says places at i
-full_says places at i (Some f) code =
-    elim (cases_Bool (tells_all i f)) [
-      | inl all ↦ rw all (tells_says places at i f (code f refl) all)
-      | inr other ↦ rw other (raw_says places at i)
-    ]
-
-pub says_back : (places : Places) (at : ℕ) (i : Insn) → SaysInsn places at (draft_in (form_for i) i) i
+says_back : (places : Places) (at : ℕ) (i : Insn) → SaysInsn places at (draft_in (form_for i) i) i
 unfolding form_for
-says_back places at i = full_says places at i (form_of_code i.code) (same_code i.code)
+says_back places at i =
+    full_one (λ f. SaysInsn places at (draft_in f i) i) i (form_of_code i.code)
+    (record { code = refl; jt = refl; jf = refl; k = refl })
+    (λ f is all. tells_says places at i f (same_code i.code f is) all)
 
 abbrev name_of : Insn → List ℕ
 name_of i = mnemonic_text (form_for i).mnemonic
@@ -166,30 +149,14 @@ statements_are n (i ∷ is) fits =
 unlabeled : (i : Insn) → IsInsn i → label_in (name_of i ∷ operands i) ≡ None
 unlabeled i fits = no_label (name_of i) (operands i) (operands_plain i fits)
 
-labels_are : (at n : ℕ) (is : List Insn) → AllByRecursion IsInsn is → labels_from at (listing n is) ≡ []
-labels_are at n [] fits = refl
-labels_are at n (i ∷ is) fits = rw (unlabeled i fits.0) (labels_are (at + 1) (n + 1) is fits.1)
-
-are_read : (n : ℕ) (is : List Insn) → AllByRecursion IsInsn is
-    → AllByRecursion (λ (s : Statement). IsRead (instruction_in s.tokens)) (listing n is)
-are_read n [] fits = (tt, tt)
-are_read n (i ∷ is) fits = (rw (unlabeled i fits.0, reads_back i fits.0) refl, are_read (n + 1) is fits.1)
-
-drafts : ℕ → List Insn → List (ℕ × Draft)
-drafts n [] = []
-drafts n (i ∷ is) = (n, draft_in (form_for i) i) ∷ drafts (n + 1) is
-
-drafts_are : (n : ℕ) (is : List Insn) → AllByRecursion IsInsn is → flat_map drafts_in (listing n is) ≡ drafts n is
-unfolding drafts
-drafts_are n [] fits = refl
-drafts_are n (i ∷ is) fits =
-    rw (unlabeled i fits.0, reads_back i fits.0)
-    (ap (λ (ds : List (ℕ × Draft)). (n, draft_in (form_for i) i) ∷ ds) (drafts_are (n + 1) is fits.1))
-
-says : (places : Places) (at n : ℕ) (is : List Insn) → SaysEach places at (drafts n is) is
-unfolding drafts
-says places at n [] = tt
-says places at n (i ∷ is) = (says_back places at i, says places (at + 1) (n + 1) is)
+-- no statement has a label, and each says its instruction
+listed : (places : Places) (at n : ℕ) (is : List Insn) → AllByRecursion IsInsn is → (labels_from at (listing n is) ≡ [])
+    × AllByRecursion (λ (s : Statement). IsRead (instruction_in s.tokens)) (listing n is)
+    × SaysEach places at (flat_map drafts_in (listing n is)) is
+listed places at n [] fits = (refl, (tt, tt), tt)
+listed places at n (i ∷ is) fits =
+    let rest = listed places (at + 1) (n + 1) is fits.1 in
+    rw (unlabeled i fits.0, reads_back i fits.0) (rest.0, (refl, rest.1), (says_back places at i, rest.2))
 
 ascii : (is : List Insn) → AllByRecursion IsInsn is → AllByRecursion (λ b. b < 128) (text_of is)
 ascii [] fits = tt
@@ -200,13 +167,12 @@ ascii (i ∷ is) fits =
 pub round_trip : (is : List Insn) → AllByRecursion IsInsn is → length is ≤ bpf_maxinsns → Spells (text_of is) is
 round_trip is fits few =
     let statements = statements_are 1 is fits in
-    let no_labels : labels_of (text_of is) ≡ [] = ap (labels_from 0) statements ∙ labels_are 0 1 is fits in
-    let all_drafts : drafts_of (text_of is) ≡ drafts 1 is = ap (flat_map drafts_in) statements ∙ drafts_are 1 is fits in
+    let told = listed (place_of []) 0 1 is fits in
     record {
       ascii = ascii is fits;
-      distinct = rw no_labels tt;
+      distinct = rw (statements, told.0) tt;
       few = few;
       fields = fits;
-      read = rw statements (are_read 1 is fits);
-      each = rw (no_labels, all_drafts) (says (place_of []) 0 1 is);
+      read = rw statements told.1;
+      each = rw (statements, told.0) told.2;
     }

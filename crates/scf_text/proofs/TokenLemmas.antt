@@ -154,16 +154,17 @@ token_is at n m bs e lt k =
 abbrev pub words_from : ℕ → List ℕ → List (List ℕ)
 words_from at bs = map (λ (l : Lexeme). l.text) (lexemes_from at bs)
 
-joined_text : (a b c : ℕ) (ls ms : List Lexeme) → map (λ (l : Lexeme). l.text) ls ≡ map (λ (l : Lexeme). l.text) ms
-    → map (λ (l : Lexeme). l.text) (joined a c ls) ≡ map (λ (l : Lexeme). l.text) (joined b c ms)
-joined_text a b c [] [] h = refl
-joined_text a b c [] (m ∷ ms) h = absurd cc
-joined_text a b c (l ∷ ls) [] h = absurd cc
-joined_text a b c (l ∷ ls) (m ∷ ms) h =
-    let k : l.text ∷ map (λ (x : Lexeme). x.text) ls ≡ m.text ∷ map (λ (x : Lexeme). x.text) ms = h in cc
+unfoldable pub onto_word : ℕ → List (List ℕ) → List (List ℕ)
+onto_word b [] = (b ∷ []) ∷ []
+onto_word b (w ∷ ws) = (b ∷ w) ∷ ws
+
+joined_words : (at b : ℕ) (ls : List Lexeme)
+    → map (λ (l : Lexeme). l.text) (joined at b ls) ≡ onto_word b (map (λ (l : Lexeme). l.text) ls)
+unfolding onto_word
+joined_words at b [] = refl
+joined_words at b (l ∷ ls) = refl
 
 -- words do not depend on where the text begins
-
 pub words_at : (a b : ℕ) (bs : List ℕ) → words_from a bs ≡ words_from b bs
 unfolding lexemes_from
 words_at a b [] = refl
@@ -173,7 +174,8 @@ words_at a b (c ∷ cs) =
       | inl blank ↦ rw blank rest
       | inr other ↦
           elim (cases_Bool (is_word_byte c && begins_in_word cs)) [
-            | inl more ↦ rw (other, more) (joined_text a b c (lexemes_from (a + 1) cs) (lexemes_from (b + 1) cs) rest)
+            | inl more ↦ rw (other, more) (joined_words a c (lexemes_from (a + 1) cs) ∙ ap (onto_word c) rest
+                ∙ sym (joined_words b c (lexemes_from (b + 1) cs)))
             | inr end ↦ rw (other, end) (ap (λ (ws : List (List ℕ)). (c ∷ []) ∷ ws) rest)
           ]
     ]
@@ -191,20 +193,10 @@ pub words_mark : (b : ℕ) (bs : List ℕ) → is_blank b ≡ false → is_word_
     → words_of_part (b ∷ bs) ≡ (b ∷ []) ∷ words_of_part bs
 words_mark b bs h k = words_one b bs h (and_left (is_word_byte b) (begins_in_word bs) k)
 
-unfoldable pub onto_word : ℕ → List (List ℕ) → List (List ℕ)
-onto_word b [] = (b ∷ []) ∷ []
-onto_word b (w ∷ ws) = (b ∷ w) ∷ ws
-
-joined_words : (b : ℕ) (ls : List Lexeme)
-    → map (λ (l : Lexeme). l.text) (joined 0 b ls) ≡ onto_word b (map (λ (l : Lexeme). l.text) ls)
-unfolding onto_word
-joined_words b [] = refl
-joined_words b (l ∷ ls) = refl
-
 pub words_more : (b c : ℕ) (bs : List ℕ) → is_word_byte b ≡ true → is_word_byte c ≡ true
     → words_of_part (b ∷ c ∷ bs) ≡ onto_word b (words_of_part (c ∷ bs))
 words_more b c bs h k = ap (map (λ (l : Lexeme). l.text)) (more_in_front 0 b (c ∷ bs) h k)
-    ∙ joined_words b (lexemes_from 1 (c ∷ bs)) ∙ ap (onto_word b) (words_at 1 0 (c ∷ bs))
+    ∙ joined_words 0 b (lexemes_from 1 (c ∷ bs)) ∙ ap (onto_word b) (words_at 1 0 (c ∷ bs))
 
 -- a word in front of something else
 pub words_word : (b : ℕ) (w rest : List ℕ) → is_word_byte b ≡ true → list_all is_word_byte w ≡ true
