@@ -6,7 +6,6 @@ use Rattle.std.specs.Borrow.{Bor}
 use Rattle.std.specs.List.{filter, AllByRecursion}
 use Rattle.std.specs.List.Sorted.{ties, IsStableByKey, IsNonDecreasingBy, IsPartitionPoint}
 use Rattle.std.specs.Ordering.{is_lt, nat_cmp}
-use Rattle.std.specs.declared.cmp.Ordering.TheVariants.{Less, Equal, Greater}
 use Rattle.std.proofs.lemmas.List.{get_or-drop, get_or-map, get_or-take, length-map, take-append-drop}
 use Rattle.std.proofs.lemmas.List.Elements.{recursion_from_All}
 use Rattle.std.proofs.lemmas.Bool.Decides.{nat_tests}
@@ -14,17 +13,9 @@ use Rattle.scf_profile.specs.declared.rule.Rule.{Rule}
 use Rattle.scf_profile.specs.RulesByNumber.{rules_of}
 use Rattle.scf_profile.specs.ByNumber.{rules_at}
 
-below : (n m : ℕ) → is_lt (nat_cmp n m) ≡ ltb n m
-below n m = by_tests (ltb n m) (eqb n m)
-  where
-    by_tests : (a b : Bool) → is_lt (cond a Less (cond b Equal Greater)) ≡ a
-    by_tests true b = refl
-    by_tests false true = refl
-    by_tests false false = refl
-
 -- neither of two numbers is below the other where they are equal
 ties_are_equal : (n m : ℕ) → (not (is_lt (nat_cmp n m)) && not (is_lt (nat_cmp m n))) ≡ eqb m n
-ties_are_equal n m = rw (below n m, below m n) (grind (arith, nat_tests))
+ties_are_equal n m = grind (arith, nat_tests)
 
 abbrev by_number : Bor Rule → Bor Rule → Bool
 by_number x y = is_lt (nat_cmp x.now.number y.now.number)

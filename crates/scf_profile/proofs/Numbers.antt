@@ -27,12 +27,12 @@ pub numbers_of-push : (rules : List Rule) (r : Rule)
     → numbers_of (rules ++ r ∷ []) ≡ numbers_of rules ++ cond (has_number r.number rules) [] (r.number ∷ [])
 numbers_of-push [] r = refl
 numbers_of-push (x ∷ xs) r =
-    ap (λ (ns : List ℕ). x.number ∷ filter (λ number. not (eqb number x.number)) ns) (numbers_of-push xs r)
-    ∙ ap (λ (ns : List ℕ). x.number ∷ ns)
-    (filter-append (λ number. not (eqb number x.number)) (numbers_of xs)
-    (cond (has_number r.number xs) [] (r.number ∷ [])))
-    ∙ ap (λ (ns : List ℕ). x.number ∷ filter (λ number. not (eqb number x.number)) (numbers_of xs) ++ ns)
-    (last_kept x.number r.number (has_number r.number xs))
+    let kept = λ (number : ℕ). not (eqb number x.number) in
+    rw (
+      numbers_of-push xs r,
+      filter-append kept (numbers_of xs) (cond (has_number r.number xs) [] (r.number ∷ [])),
+      last_kept x.number r.number (has_number r.number xs),
+    ) refl
 
 contains_cons_cases : {A : Type 0} (y : A) (ys : List A) (x : A) → Contains (y ∷ ys) x → (y ≡ x) ⊎ Contains ys x
 contains_cons_cases y ys x (zero, lt, e) = inl e

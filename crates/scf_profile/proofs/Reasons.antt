@@ -1,10 +1,11 @@
 -- The reason of an answer.
-use Rattle.std.proofs.Common.{◌≡◌, ℕ, zero, suc, ◌≤◌, inl, inr, true, false, List, [], ◌∷◌, Some, refl}
-use Rattle.std.proofs.Common.{subst, arith, min, All, map, Bool, cond}
+use Rattle.std.proofs.Common.{◌≡◌, ℕ, zero, suc, ◌≤◌, ◌<◌, inl, inr, true, List, [], ◌∷◌, Some, refl, ap}
+use Rattle.std.proofs.Common.{arith, min, All, length}
 use Rattle.std.specs.Prelude.{Contains}
-use Rattle.std.specs.List.{filter, fold, reduce}
+use Rattle.std.specs.List.{filter, fold, reduce, AllByRecursion}
 use Rattle.std.proofs.lemmas.Bool.{cases_lt, both_ways}
-use Rattle.std.proofs.lemmas.List.Elements.{All-cons, All-nil, All-head, All-tail, All-contains}
+use Rattle.std.proofs.lemmas.List.{length-map}
+use Rattle.std.proofs.lemmas.List.Elements.{All-from_recursion}
 use Rattle.scf_insn.specs.declared.record.CallRecord.{CallRecord}
 use Rattle.scf_insn.specs.Words.{IsRecord}
 use Rattle.scf_profile.specs.declared.reason.Reason.{Reason}
@@ -15,29 +16,15 @@ use Rattle.scf_profile.specs.Profile.{Profile, HaveNoConflict}
 use Rattle.scf_profile.specs.ProfileAnswers.{ProfileAnswers, foreign, by_rule, by_default}
 use Rattle.scf_profile.specs.Reasons.{entries_met, IsReason, IsAnswerOf}
 use Rattle.scf_profile.proofs.Answering.{same_answer}
+use Rattle.scf_profile.proofs.Numbers.{contains_filtered}
 
--- The least of numbers.
-pub record IsLeast (numbers : List ℕ) (least : ℕ) : Type 0 where
-  pub among : Contains numbers least
-  pub bound : All (λ other. least ≤ other) numbers
-
-least_of_fold : (n : ℕ) (numbers : List ℕ) → IsLeast (n ∷ numbers) (fold min n numbers)
-least_of_fold n [] = record {
-  among = (0, omega arith, refl);
-  bound = All-cons (λ other. n ≤ other) n [] (omega arith) (All-nil (λ other. n ≤ other));
-}
+least_of_fold : (n : ℕ) (numbers : List ℕ) → Contains (n ∷ numbers) (fold min n numbers)
+    × AllByRecursion (λ other. fold min n numbers ≤ other) (n ∷ numbers)
+least_of_fold n [] = ((0, omega arith, refl), (omega arith, tt))
 least_of_fold n (m ∷ numbers) =
     let rest = least_of_fold (min n m) numbers in
-    let l = fold min (min n m) numbers in
-    let IsBound : ℕ → Type 0 = λ other. l ≤ other in
-    let first : l ≤ min n m = All-head IsBound (min n m) numbers rest.bound in
-    let before : l ≤ n = omega arith in
-    let after : l ≤ m = omega arith in
-    record {
-      among = among l rest.among;
-      bound = All-cons IsBound n (m ∷ numbers) before
-          (All-cons IsBound m numbers after (All-tail IsBound (min n m) numbers rest.bound));
-    }
+    let below : fold min (min n m) numbers ≤ min n m = rest.1.0 in
+    (among (fold min (min n m) numbers) rest.0, (omega arith, (omega arith, rest.1.1)))
   where
     among : (l : ℕ) → Contains (min n m ∷ numbers) l → Contains (n ∷ m ∷ numbers) l
     among l (zero, inside, is) = elim (cases_lt n m) [
@@ -46,24 +33,23 @@ least_of_fold n (m ∷ numbers) =
     ]
     among l (suc k, inside, is) = (suc (suc k), omega (arith, inside), is)
 
-pub least_of : (numbers : List ℕ) (least : ℕ) → reduce min numbers ≡ Some least → IsLeast numbers least
+-- the least of numbers is one of them, and none is below it
+pub least_of : (numbers : List ℕ) (least : ℕ) → reduce min numbers ≡ Some least
+    → Contains numbers least × All (λ other. least ≤ other) numbers
 least_of [] least e = absurd (cc)
-least_of (n ∷ numbers) least e = let same : fold min n numbers ≡ least = cc in
-    subst (IsLeast (n ∷ numbers)) same (least_of_fold n numbers)
+least_of (n ∷ numbers) least e =
+    let same : fold min n numbers ≡ least = cc in
+    let found = least_of_fold n numbers in
+    rw (← same) (found.0, All-from_recursion (λ other. fold min n numbers ≤ other) (n ∷ numbers) found.1)
 
-unmet_first : (r : Rule) (rules : List Rule) (call : CallRecord) (b : Bool) → meets r call ≡ b
-    → map (λ s. s.entry) (cond b (r ∷ filter (λ s. meets s call) rules) (filter (λ s. meets s call) rules)) ≡ []
-    → (b ≡ false) × (entries_met rules call ≡ [])
-unmet_first r rules call true met none = absurd (cc)
-unmet_first r rules call false met none = (refl, none)
-
--- no entry is met where no rule is
-pub unmet : (rules : List Rule) (call : CallRecord)
-    → entries_met rules call ≡ [] → All (λ r. meets r call ≡ false) rules
-unmet [] call none = All-nil (λ r. meets r call ≡ false)
-unmet (r ∷ rules) call none =
-    let first = unmet_first r rules call (meets r call) refl none in
-    All-cons (λ s. meets s call ≡ false) r rules first.0 (unmet rules call first.1)
+-- a rule that is met has its entry among those that are
+met_by_none : (rules : List Rule) (call : CallRecord) (r : Rule) → entries_met rules call ≡ [] → Contains rules r
+    → meets r call ≡ true → ⊥
+met_by_none rules call r none has met =
+    let among = contains_filtered (λ s. meets s call) rules r met has in
+    let inside : among.0 < length (filter (λ s. meets s call) rules) = among.1 in
+    let empty = simp length-map at (ap length none) in
+    omega arith
 
 -- the answer is that of its reason
 pub answer_of_reason : (p : Profile) (call : CallRecord) (reason : Reason) (answer : ℕ) → HaveNoConflict p.rules
@@ -78,5 +64,5 @@ answer_of_reason p call (Entry place) answer none fits reason (by_default native
     λ r has stated met. absurd (both_ways _ (no_rule r has) met)
 answer_of_reason p call Default answer none fits reason (foreign h) = absurd (h reason.0)
 answer_of_reason p call Default answer none fits reason (by_rule s native has met) =
-    absurd (both_ways _ (All-contains (λ r. meets r call ≡ false) p.rules s (unmet p.rules call reason.1) has) met)
+    absurd (met_by_none p.rules call s reason.1 has met)
 answer_of_reason p call Default answer none fits reason (by_default native no_rule) = refl

@@ -6,7 +6,7 @@ use Rattle.std.specs.List.{cons_option, filter}
 use Rattle.std.specs.FinMap.{get}
 use Rattle.std.proofs.lemmas.Bool.{cases_order}
 use Rattle.std.proofs.lemmas.List.Elements.{recursion_from_All, All-nil, All-cons, All-append, All-head, All-tail}
-use Rattle.std.proofs.lemmas.List.Elements.{All-contains, All-weaker, filter-append}
+use Rattle.std.proofs.lemmas.List.Elements.{All-contains, All-same, All-weaker, filter-append}
 use Rattle.std.proofs.lemmas.List.Elements.{filter_map-append}
 use Rattle.scf_profile.specs.declared.entry.Entry.{Entry}
 use Rattle.scf_profile.specs.declared.rule.Rule.{Rule}
@@ -33,43 +33,31 @@ module _ (P : Rule → Type 0) (table : Names) (place : ℕ) (e : Entry)
             (each name number is) (all_named names)
       ] refl
 
-pub all_rules : (table : Names) → AreCallNumbers table → (place : ℕ) (es : List Entry) → All IsEntry es
-    → All IsRule (rules_from table place es)
-all_rules table below place [] h = All-nil IsRule
-all_rules table below place (e ∷ es) h =
+-- a rule is within its ranges, and has the answer of the entry at its place, where these are those from a place on
+abbrev IsStated : ℕ → List Answer → Rule → Type 0
+IsStated place answers r =
+    (k : ℕ) × IsRule r × (r.entry ≡ place + k) × (r.answer ≡ get_or answers k (record { 0 = 0 }))
+
+all_stated : (table : Names) → AreCallNumbers table → (place : ℕ) (es : List Entry) → All IsEntry es
+    → All (IsStated place (map (λ e. e.answer) es)) (rules_from table place es)
+all_stated table below place [] h = All-nil (IsStated place [])
+all_stated table below place (e ∷ es) h =
     let here : IsEntry e = All-head IsEntry e es h in
-    All-append IsRule (rules_named table place e e.names) (rules_from table (place + 1) es)
-    (all_named IsRule table place e
-    (λ name number is. record { number = below name number is; answer = here.answer; conditions = here.conditions })
-    e.names)
-    (all_rules table below (place + 1) es (All-tail IsEntry e es h))
-
--- a rule has the answer of the entry at its place, where these are the answers of the entries from a place on
-abbrev HasItsAnswer : ℕ → List Answer → Rule → Type 0
-HasItsAnswer place answers r =
-    (k : ℕ) × (r.entry ≡ place + k) × (r.answer ≡ get_or answers k (record { 0 = 0 }))
-
-have_their_answers : (table : Names) (place : ℕ) (es : List Entry)
-    → All (HasItsAnswer place (map (λ e. e.answer) es)) (rules_from table place es)
-have_their_answers table place [] = All-nil (HasItsAnswer place [])
-have_their_answers table place (e ∷ es) =
     let answers = map (λ (x : Entry). x.answer) es in
-    let P = HasItsAnswer place (e.answer ∷ answers) in
+    let P = IsStated place (e.answer ∷ answers) in
     All-append P (rules_named table place e e.names) (rules_from table (place + 1) es)
-    (all_named P table place e (λ name number is. (0, omega arith, refl)) e.names)
-    (All-weaker (HasItsAnswer (place + 1) answers) P (λ r h. (suc h.0, omega (arith, h.1), h.2))
-    (rules_from table (place + 1) es) (have_their_answers table (place + 1) es))
-
-pub one_answer_each : (table : Names) (place : ℕ) (es : List Entry) (r s : Rule)
-    → Contains (rules_from table place es) r → Contains (rules_from table place es) s → r.entry ≡ s.entry
-    → r.answer ≡ s.answer
-one_answer_each table place es r s has_r has_s same =
-    let answers = map (λ (e : Entry). e.answer) es in
-    let all = have_their_answers table place es in
-    let one = All-contains (HasItsAnswer place answers) (rules_from table place es) r all has_r in
-    let two = All-contains (HasItsAnswer place answers) (rules_from table place es) s all has_s in
-    let at : one.0 ≡ two.0 = omega (arith, one.1, two.1) in
-    one.2 ∙ ap (λ (k : ℕ). get_or answers k (record { 0 = 0 })) at ∙ sym two.2
+    (all_named P table place e (λ name number is. (
+      0,
+      record {
+        number = below name number is;
+        answer = here.answer;
+        conditions = here.conditions;
+      },
+      omega arith,
+      refl,
+    )) e.names)
+    (All-weaker (IsStated (place + 1) answers) P (λ r h. (suc h.0, h.1, omega (arith, h.2), h.3))
+    (rules_from table (place + 1) es) (all_stated table below (place + 1) es (All-tail IsEntry e es h)))
 
 -- ---- one name after another
 
@@ -89,8 +77,17 @@ pub ruleset names_first = (rules_first, skipped_first)
 pub stated_rules : (table : Names) (es : List Entry) (rules : List Rule) → AreCallNumbers table → All IsEntry es
     → rules ≡ rules_from table 0 es → length rules ≤ max_rules → AreStatedRules rules
 stated_rules table es rules below each is few =
-    let fewer = rw is at few in
-    rw is (record { few = fewer; each = all_rules table below 0 es each; one_answer = one_answer_each table 0 es })
+    let answers = map (λ (e : Entry). e.answer) es in
+    let all = All-same (IsStated 0 answers) rules (rules_from table 0 es) is (all_stated table below 0 es each) in
+    record {
+      few = few;
+      each = All-weaker (IsStated 0 answers) IsRule (λ r h. h.1) rules all;
+      one_answer = λ r s has_r has_s same.
+          let one = All-contains (IsStated 0 answers) rules r all has_r in
+          let two = All-contains (IsStated 0 answers) rules s all has_s in
+          let at : one.0 ≡ two.0 = omega (arith, one.2, two.2) in
+          one.3 ∙ ap (λ (k : ℕ). get_or answers k (record { 0 = 0 })) at ∙ sym two.3;
+    }
 
 -- ---- conflicts
 
