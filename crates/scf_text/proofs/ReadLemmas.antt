@@ -1,5 +1,5 @@
 -- Reading one statement after another.
-use Rattle.std.proofs.Common.{◌≡◌, ◌≢◌, ℕ, suc, ◌+◌, Bool, List, [], ◌∷◌, ◌++◌, length, Option, Some, None, Result, Ok}
+use Rattle.std.proofs.Common.{◌≡◌, ◌≢◌, ℕ, ◌+◌, Bool, List, [], ◌∷◌, ◌++◌, length, Option, Some, None, Result, Ok}
 use Rattle.std.proofs.Common.{Err, refl, sym, ap, ◌∙◌, append_assoc, append-nil, arith, inl, inr, zero-add}
 use Rattle.std.proofs.Math.Path.{fun_ext}
 use Rattle.std.specs.List.{flat_map}
@@ -16,7 +16,6 @@ use Rattle.std.proofs.lemmas.Bool.{cases_Bool}
 use Rattle.std.proofs.lemmas.Bool.Decides.{same_from_decides}
 use Rattle.std.proofs.lemmas.Slice.Eq.{bytes_eq-Decides}
 use Rattle.std.proofs.lemmas.List.Concat.{flat_map-append}
-use Rattle.scf_text.specs.declared.numbered_draft.NumberedDraft.{NumberedDraft}
 use Rattle.scf_text.specs.declared.fault.TextFault.{TextFault}
 use Rattle.scf_text.specs.declared.fault.TextFault.TheVariants as fault
 use Rattle.scf_text.specs.Tokens.{before_comment, lines_of}
@@ -26,7 +25,7 @@ use Rattle.scf_text.specs.Statements.{instruction_count, label_at, place_after, 
 use Rattle.scf_text.specs.Statements.{statements_from}
 use Rattle.scf_text.specs.Faults.{IsFault, label_fault, instruction_fault, statement_fault, statements_fault}
 use Rattle.scf_text.specs.internal.Results.{AddsInstruction}
-use Rattle.scf_text.specs.internal.Reading.{places_view, drafts_view, with_label, IsLeft, Leaves, HaveTokens}
+use Rattle.scf_text.specs.internal.Reading.{places_view, with_label, IsLeft, Leaves, HaveTokens}
 use Rattle.scf_text.specs.internal.Reading.{line_statements}
 use Rattle.scf_text.proofs.TokenLemmas.{statements_are}
 
@@ -142,10 +141,6 @@ statement_leaves (Err e) s all rest p q ds es left new kept h some =
     statement_refused e s all rest p ds left some
     (fault_then e (label_fault p s.line (label_in s.tokens))
     (instruction_fault (length ds) s.line (instruction_in s.tokens)) new h)
-
-pub drafts_length : (kept : List NumberedDraft) → length (drafts_view kept) ≡ length kept
-drafts_length [] = refl
-drafts_length (l ∷ kept) = ap suc (drafts_length kept)
 
 -- a label that a map had no place for
 pub label_added : (m n : BTreeMap (Bor (List ℕ)) ℕ) (name : List ℕ) (at line : ℕ) (old : Option ℕ)

@@ -2,6 +2,7 @@
 use Rattle.std.proofs.Common.{◌≡◌, ◌≢◌, ℕ, List, [], Option, Some, None, Result, Ok, Err, refl, sym, ap, ◌∙◌}
 use Rattle.std.proofs.Common.{append-nil}
 use Rattle.std.specs.List.{flat_map}
+use Rattle.std.specs.Option.{option_or}
 use Rattle.std.specs.Prelude.{IfOk, IfErr}
 use Rattle.std.specs.Global.{Vec}
 use Rattle.std.specs.Borrow.{Bor}
@@ -34,14 +35,11 @@ statements_fail x text h =
     fault_first x (statements_fault [] (statements_of text))
     (all_targets_fault (place_of (labels_of text)) 0 (drafts_of text)) h
 
-targets_tell : (text : List ℕ) (r : Result (Vec Insn) TextFault) → statements_fault [] (statements_of text) ≡ None
-    → TellsInsns (place_of (labels_of text)) (drafts_of text) r
-    → TellsText (fault_in text) text r
-unfolding fault_in
-targets_tell text (Ok v) none h = (rw none h.0, h.1, h.2)
-targets_tell text (Err e) none h =
-    fault_then e (statements_fault [] (statements_of text))
-    (all_targets_fault (place_of (labels_of text)) 0 (drafts_of text)) none h
+tells_then : (a b : Option TextFault) (places : Places) (written : List (ℕ × drafts.Draft))
+    (r : Result (Vec Insn) TextFault) → a ≡ None → TellsInsns b places written r
+    → TellsInsns (option_or a b) places written r
+tells_then a b places written (Ok v) none h = (rw none h.0, h.1, h.2)
+tells_then a b places written (Err e) none h = fault_then e a b none h
 
 -- before the first statement
 pub nothing_read : (all : List Statement) (kept : BTreeMap (Bor (List ℕ)) ℕ) (lines : List NumberedDraft)
@@ -61,12 +59,15 @@ pub drafts_read : (all : List Statement) (places : Places) (ds : List (ℕ × dr
 drafts_read all places ds left = left.drafts ∙ rw (left.whole, append-nil) refl
 
 pub text_tells : (text : List ℕ) (places : Places) (ds : List (ℕ × drafts.Draft)) (r : Result (Vec Insn) TextFault)
-    → IsLeft (statements_of text) [] places ds → TellsInsns places ds r → TellsText (fault_in text) text r
+    → IsLeft (statements_of text) [] places ds → TellsInsns (all_targets_fault places 0 ds) places ds r
+    → TellsText (fault_in text) text r
+unfolding fault_in
 text_tells text places ds r left h =
     let named : places ≡ place_of (labels_of text) =
     left.places ∙ ap places_in (sym (left.whole ∙ append-nil left.before)) in
-    targets_tell text r left.fault
-    (rw (named, drafts_read (statements_of text) places ds left) at h)
+    tells_then (statements_fault [] (statements_of text))
+    (all_targets_fault (place_of (labels_of text)) 0 (drafts_of text)) (place_of (labels_of text)) (drafts_of text) r
+    left.fault (rw (named, drafts_read (statements_of text) places ds left) at h)
 
 pub ascii_fails : (e : TextFault) (text : List ℕ) → ascii_fault 1 text ≡ Some e → IsFault e (fault_of text)
 unfolding fault_of fault_in
@@ -75,20 +76,16 @@ ascii_fails e text h = fault_first e (ascii_fault 1 text) (fault_in text) (is_fa
 pub ascii_tells : (text : List ℕ) (r : Result (Vec Insn) TextFault) → ascii_fault 1 text ≡ None
     → TellsText (fault_in text) text r → TellsText (fault_of text) text r
 unfolding fault_of fault_in
-ascii_tells text (Ok v) none h = (rw none h.0, h.1, h.2)
-ascii_tells text (Err e) none h = fault_then e (ascii_fault 1 text) (fault_in text) none h
+ascii_tells text r none h =
+    tells_then (ascii_fault 1 text) (fault_in text) (place_of (labels_of text)) (drafts_of text) r none h
 
 pub is_spelled : (text : List ℕ) (r : Result (Vec Insn) TextFault) → TellsText (fault_of text) text r
     → IfOk r (λ insns. Spells text insns.items)
 is_spelled text (Ok v) h = spelled text v.items h.0 h.1 h.2
 is_spelled text (Err e) h = tt
 
-nothing_spelled : (text : List ℕ) (e : TextFault) → e ≢ fault.Memory → IsFault e (fault_of text) → (is : List Insn)
-    → Spells text is → ⊥
-nothing_spelled text fault.Memory other h is s = other refl
-nothing_spelled text e other h is s = let k = no_fault text is s in cc
-
 pub is_not_spelled : (text : List ℕ) (r : Result (Vec Insn) TextFault) → TellsText (fault_of text) text r
     → IfErr r (λ e. e ≢ fault.Memory → (insns : List Insn) → Spells text insns → ⊥)
 is_not_spelled text (Ok v) h = tt
-is_not_spelled text (Err e) h = λ other is s. nothing_spelled text e other h is s
+is_not_spelled text (Err fault.Memory) h = λ other is s. other refl
+is_not_spelled text (Err e) h = λ other is s. let none = no_fault text is s in cc

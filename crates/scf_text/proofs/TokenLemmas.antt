@@ -8,7 +8,7 @@ use Rattle.std.proofs.lemmas.Bool.{cases_Bool, cases_lt, and_left, and_right, an
 use Rattle.std.proofs.lemmas.Bool.Decides.{nat_tests}
 use Rattle.std.proofs.lemmas.List.{drop_more, drop_all, take_more, take_rest, drop-drop, map-append, drop-take, take-take}
 use Rattle.std.proofs.lemmas.List.{length-take-le, length-drop}
-use Rattle.std.proofs.Math.Seq.{take-append_seam}
+use Rattle.std.proofs.Math.Seq.{take-append_seam, drop-append-add}
 use Rattle.std.proofs.lemmas.List.Sums.{prefix_len_stops, prefix_len-le-length}
 use Rattle.std.proofs.lemmas.List.Splits.{slice_split_first, length-slice_split, join_with_byte-slice_split}
 use Rattle.scf_text.specs.Statements.{is_semicolon}
@@ -274,11 +274,10 @@ line_slices text at line rest h =
 
 after_line : (text : List ℕ) (at : ℕ) (line rest : List ℕ) → drop at text ≡ line ++ 10 ∷ rest
     → drop (at + length line + 1) text ≡ rest
-after_line text at [] rest h = let place : at + 0 + 1 ≡ at + 1 = omega arith in
-    rw place (sym (drop-drop 1 at text) ∙ ap (drop 1) h)
-after_line text at (b ∷ line) rest h =
-    let place : at + suc (length line) + 1 ≡ (at + 1) + length line + 1 = omega arith in
-    rw place (after_line text (at + 1) line rest (sym (drop-drop 1 at text) ∙ ap (drop 1) h))
+after_line text at line rest h =
+    let place : at + length line + 1 ≡ at + (length line + 1) = omega arith in
+    rw place (sym (drop-drop (length line + 1) at text) ∙ ap (drop (length line + 1)) h
+    ∙ drop-append-add line (10 ∷ rest) 1)
 
 lines_slices : (text : List ℕ) (at : ℕ) (lines : List (List ℕ)) → drop at text ≡ join_with_byte 10 lines
     → Slices text (lexemes_of_lines at lines)
@@ -307,27 +306,17 @@ found_slices text found e =
     All-from_recursion (λ (t : Token). IsSliceOf text t.start t.text.now) found
     (found_recursively text found (subst (Slices text) (sym e) (token_slices text)))
 
--- the tokens of the last line were found
-pub last_tokens : (text rest line : List ℕ) (start : ℕ) (found more : List Token)
-    → lexemes found ++ lexemes_of_lines start (lines_of rest) ≡ tokens_of text → lines_of rest ≡ line ∷ []
-    → lexemes more ≡ lexemes found ++ lexemes_from start (before_comment line) → lexemes more ≡ tokens_of text
-last_tokens text rest line start found more so_far last added =
-    added ∙ ap (λ (ts : List Lexeme). lexemes found ++ ts)
-    (sym (append-nil (lexemes_from start (before_comment line))))
-    ∙ ap (λ lines. lexemes found ++ lexemes_of_lines start lines) (sym last) ∙ so_far
-
--- the tokens of a line that isn't the last were found
-pub next_tokens : (text rest line next : List ℕ) (start : ℕ) (found more : List Token)
-    → lexemes found ++ lexemes_of_lines start (lines_of rest) ≡ tokens_of text → lines_of rest ≡ line ∷ lines_of next
+-- the tokens of one more line were found
+pub next_tokens : (text rest line : List ℕ) (others : List (List ℕ)) (start : ℕ) (found more : List Token)
+    → lexemes found ++ lexemes_of_lines start (lines_of rest) ≡ tokens_of text → lines_of rest ≡ line ∷ others
     → lexemes more ≡ lexemes found ++ lexemes_from start (before_comment line)
-    → lexemes more ++ lexemes_of_lines (start + (length line + 1)) (lines_of next) ≡ tokens_of text
-next_tokens text rest line next start found more so_far line_more added =
+    → lexemes more ++ lexemes_of_lines (start + (length line + 1)) others ≡ tokens_of text
+next_tokens text rest line others start found more so_far line_more added =
     let place : start + (length line + 1) ≡ start + length line + 1 = omega arith in
     rw (place, added, append_assoc)
     (ap (λ lines. lexemes found ++ lexemes_of_lines start lines) (sym line_more) ∙ so_far)
 
 -- the words of the lines, in order, are the tokens
-
 words_of_lines : (at : ℕ) (lines : List (List ℕ))
     → map (λ (t : Lexeme). t.text) (lexemes_of_lines at lines) ≡ flat_map words_of_line lines
 words_of_lines at [] = refl

@@ -35,19 +35,15 @@ TellsInsn places at line draft (Ok insn) =
     (targets_fault places at line draft ≡ None) × SaysInsn places at draft insn × IsInsn insn
 TellsInsn places at line draft (Err e) = targets_fault places at line draft ≡ Some e
 
--- the instructions that are written, the first at place 0
-abbrev pub TellsInsns : Places → List (ℕ × drafts.Draft) → Result (Vec Insn) TextFault → Type 0
-TellsInsns places written (Ok insns) =
-    (all_targets_fault places 0 written ≡ None) × SaysEach places 0 written insns.items
-    × AllByRecursion IsInsn insns.items
-TellsInsns places written (Err e) = IsFault e (all_targets_fault places 0 written)
+-- the instructions that are written, the first at place 0, where this is no fault
+abbrev pub TellsInsns : Option TextFault → Places → List (ℕ × drafts.Draft) → Result (Vec Insn) TextFault → Type 0
+TellsInsns first places written (Ok insns) =
+    (first ≡ None) × SaysEach places 0 written insns.items × AllByRecursion IsInsn insns.items
+TellsInsns first places written (Err e) = IsFault e first
 
 -- the instructions that a text without this fault says
 abbrev pub TellsText : Option TextFault → List ℕ → Result (Vec Insn) TextFault → Type 0
-TellsText first text (Ok insns) =
-    (first ≡ None) × SaysEach (place_of (labels_of text)) 0 (drafts_of text) insns.items
-    × AllByRecursion IsInsn insns.items
-TellsText first text (Err e) = IsFault e first
+TellsText first text = TellsInsns first (place_of (labels_of text)) (drafts_of text)
 
 -- This draft is what a mnemonic and its operands say, in a line and behind as many instructions.
 abbrev pub TellsDraft : {T : Type 0} → ℕ → ℕ → List ℕ → List (List ℕ) → drafts.Draft → Result T TextFault → Type 0

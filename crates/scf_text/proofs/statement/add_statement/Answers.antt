@@ -1,8 +1,9 @@
 use Rattle.std.proofs.Common.{rules, arith, ◌≡◌, ◌∙◌, sym, length}
+use Rattle.std.proofs.lemmas.List.{length-map}
 use Rattle.std.proofs.lemmas.Result.{err_from_is_err_and}
 use Rattle.scf_text.specs.internal.Parts.{words_in}
 use Rattle.scf_text.specs.internal.Reading.{places_view, drafts_view}
-use Rattle.scf_text.proofs.ReadLemmas.{drafts_length, label_refused, statement_leaves, some_mapped, some_refused}
+use Rattle.scf_text.proofs.ReadLemmas.{label_refused, statement_leaves, some_mapped, some_refused}
 use Rattle.scf_text.proofs.statement.add_statement.Goals as goal
 
 pub returns-clause-leaves : goal.returns-clause-leaves
@@ -12,7 +13,7 @@ returns-clause-leaves c = λ all rest left.
     let items : c.len.result ≡ length c.args.drafts.now.items =
     first_of (search rules, omega (arith, c.len.ensures, c.args.drafts.now.ok)) in
     let count : c.len.result ≡ length (drafts_view c.args.drafts.now.items) = items
-    ∙ sym (drafts_length c.args.drafts.now.items) in
+    ∙ sym (length-map c.args.drafts.now.items _) in
     statement_leaves c.add_instruction.result (record { line = c.args.line; tokens = words_in c.args.part.now }) all rest
     (places_view c.args.places.now) (places_view c.add_label.new.places) (drafts_view c.args.drafts.now.items)
     (drafts_view c.add_instruction.new.drafts.items) left (rw given at label.0) (rw (given, count) at label.1)

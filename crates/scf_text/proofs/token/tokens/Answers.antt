@@ -1,7 +1,7 @@
-use Rattle.scf_text.proofs.TokenLemmas.{found_slices, last_tokens, next_tokens}
-use Rattle.std.proofs.Common.{◌∙◌, arith}
+use Rattle.scf_text.proofs.TokenLemmas.{found_slices, next_tokens}
+use Rattle.std.proofs.Common.{[], ◌∙◌, sym, append-nil, arith}
 use Rattle.std.proofs.lemmas.Result.{err_from_is_err_and}
-use Rattle.scf_text.specs.Tokens.{lexemes}
+use Rattle.scf_text.specs.Tokens.{lexemes, lines_of}
 use Rattle.scf_text.proofs.ReadLemmas.{some_between}
 use Rattle.scf_text.proofs.token.tokens.Goals as goal
 
@@ -15,7 +15,8 @@ returns-in_err-push_tokens-clause-refused c =
 -- the tokens of all lines are found at the last one
 pub returns-in-None-clause-pieces : goal.returns-in-None-clause-pieces
 returns-in-None-clause-pieces c =
-    last_tokens c.args.text.now c.lines.rest.now c.first_line.result.0.now c.lines.start c.lines.found.items
+    sym (append-nil (lexemes c.push_tokens.new.found.items))
+    ∙ next_tokens c.args.text.now c.lines.rest.now c.first_line.result.0.now [] c.lines.start c.lines.found.items
     c.push_tokens.new.found.items c.lines.invariant.told (rw c.in-None.is at c.first_line.ensures.lines)
     (rw c.without_comment.ensures.value at c.in_ok-push_tokens.ensures.found)
 
@@ -28,7 +29,7 @@ lines-preserved c =
     let len = rw c.in-Some.is at c.first_line.ensures.len in
     record {
       place = omega (arith, len, c.lines.invariant.place);
-      told = next_tokens c.args.text.now c.lines.rest.now c.first_line.result.0.now c.in-Some.next.now c.lines.start
+      told = next_tokens c.args.text.now c.lines.rest.now c.first_line.result.0.now (lines_of c.in-Some.next.now) c.lines.start
           c.lines.found.items c.push_tokens.new.found.items c.lines.invariant.told
           (rw c.in-Some.is at c.first_line.ensures.lines)
           (rw c.without_comment.ensures.value at c.in_ok-push_tokens.ensures.found);
