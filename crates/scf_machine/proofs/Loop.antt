@@ -20,7 +20,7 @@ use Rattle.scf_machine.proofs.Runs.{run_length}
 pub at_inside : (insns : List Insn) (words : List ℕ) (registers : Registers) (earlier : List State)
     → IsValidList insns → IsAt insns words registers earlier
     → (registers.place < length insns) × (length earlier ≤ registers.place) × (length insns ≤ bpf_maxinsns)
-at_inside insns words registers earlier valid at = grind (arith, reached)
+at_inside insns words registers earlier h1 h2 = grind (arith, reached)
 
 -- what was read at a place stands there
 pub read_here : (insns : List Insn) (p : ℕ) (i : Insn)
@@ -44,7 +44,7 @@ pub follows_at : (insns : List Insn) (words : List ℕ) (old new : Registers) (e
     (operation : Operation) (result : Option Answer) → IsFilter insns → (at : IsAt insns words old earlier)
     → Stands insns old.place i operation → Agrees (effect operation i words at.state) result new
     → Follows insns words at.state result new
-follows_at insns words old new earlier i operation result filter at stands agrees = grind (arith, follows, never_faults, step_is)
+follows_at insns words old new earlier i operation result h1 at h2 h3 = grind (arith, follows, never_faults, step_is)
 
 pub at_next : (insns : List Insn) (words : List ℕ) (old new : Registers) (earlier : List State)
     → (at : IsAt insns words old earlier) → Follows insns words at.state None new
@@ -55,7 +55,7 @@ at_next insns words old new earlier at h = grind (arith, edge_forward, step_edge
 pub run_of : (insns : List Insn) (words : List ℕ) (registers : Registers) (earlier : List State) (answer steps : ℕ)
     → IsValidList insns → (at : IsAt insns words registers earlier) → step insns words at.state ≡ Ends answer
     → steps ≡ length earlier + 1 → IsRun insns words answer steps × (steps ≤ length insns)
-run_of insns words registers earlier answer steps valid at answers count = grind (arith, run_length)
+run_of insns words registers earlier answer steps h1 at h2 h3 = grind (arith, run_length)
 
 -- one place more
 pub place_added : (registers : Registers) (s : State) (earlier : List State) (places more : List ℕ)

@@ -60,7 +60,7 @@ pub record FineHere (insns : List Insn) (at : ℕ) (i : Insn) (operation : Opera
 pub fine_here : (insns : List Insn) (at : ℕ) (i d : Insn) (found : Option Operation) (operation : Operation)
     → IsValidList insns → at < length insns
     → i ≡ get_or insns at d → found ≡ operation_of i.code → found ≡ Some operation → FineHere insns at i operation
-fine_here insns at i d found operation valid inside e known is = grind (arith, fine_of, slice_get-get_or)
+fine_here insns at i d found operation h1 h2 h3 h4 h5 = grind (arith, fine_of, slice_get-get_or)
 
 below_more : (bound more : ℕ) (places : List ℕ)
     → bound ≤ more → AllByRecursion (λ q. q < bound) places → AllByRecursion (λ q. q < more) places
@@ -98,10 +98,10 @@ masks_start insns masks long first others = record {
     at_path p n (q ∷ earlier) path below = absurd (omega (arith, below.0))
 
 weaker : (insns : List Insn) (bound p n : ℕ) → Unstored insns bound p n → Unstored insns (bound + 1) p n
-weaker insns bound p n u = grind (arith, below_more)
+weaker insns bound p n h = grind (arith, below_more)
 
 cleared_parts : (b : Bool) (m : ℕ) → cond b 1 m ≡ 0 → (b ≡ false) × (m ≡ 0)
-cleared_parts b m e = grind arith
+cleared_parts b m h = grind arith
 
 -- what is stored at a place, by its instruction
 pub stores_is : (insns : List Insn) (p n : ℕ) (i : Insn) (operation : Operation)
@@ -171,7 +171,7 @@ module _ (insns : List Insn) (masks new : List ℕ)
 pub unset_here : (insns : List Insn) (masks : List ℕ) (at : ℕ) (i : Insn) (r : Register)
     → MasksAt insns masks at → at < length insns → Stands insns at i (LoadScratch r)
     → i.k < bpf_memwords → bit_at (get_or masks at 0) i.k ≡ 0 → IsUnsetAt insns at i.k
-unset_here insns masks at i r old inside stands fine e = grind arith
+unset_here insns masks at i r h1 h2 h3 h4 h5 = grind arith
 
 -- no path comes to a load without its word where the word's bit is set
 pub none_here : (insns : List Insn) (masks : List ℕ) (at : ℕ) (i : Insn) (operation : Operation)

@@ -29,7 +29,7 @@ answered insns words answer k (suc l) le e = elim (cases_eq k (suc l)) [
 
 run_after : (insns : List Insn) (words : List ℕ) (answer steps : ℕ)
     → IsRun insns words answer steps → after insns words steps ≡ Ends answer
-run_after insns words answer steps run = grind (arith, chain_after)
+run_after insns words answer steps h = grind (arith, chain_after)
 
 no_longer : (insns : List Insn) (words : List ℕ) (m n k l : ℕ)
     → IsRun insns words m k → IsRun insns words n l → k ≤ l → (m ≡ n) × (k ≡ l)

@@ -14,7 +14,7 @@ wrong_none : (insns : List Insn) (fault : CheckFault) → IsValidList insns → 
 wrong_none insns fault v w = grind (arith, fine_of, v.each w.place, slice_get_within insns w.place w.insn w.here)
 
 true_false : (b : Bool) → IsTrue b → b ≡ false → ⊥
-true_false b t e = grind arith
+true_false b h1 h2 = grind arith
 
 pub only_where : (insns : List Insn) (e : CheckFault)
     → IsFirstFault insns e → e ≢ Memory → IsValidList insns → KeepsScratchRule insns → ⊥

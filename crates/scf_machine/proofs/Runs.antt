@@ -58,7 +58,10 @@ pub record Reached (insns : List Insn) (s : State) (earlier : List State) : Type
 
 reached_next : (insns : List Insn) (words : List ℕ) (s t : State) (earlier : List State)
     → IsValidList insns → Reached insns s earlier → step insns words s ≡ Goes t → Reached insns t (s ∷ earlier)
-reached_next insns words s t earlier valid at e = grind (arith, edge_forward, step_edge, step_inside, step_stores)
+reached_next insns words s t earlier valid at e =
+    let edge = step_edge insns words s t e in
+    let inside = step_inside insns words s t valid at.inside e in
+    grind (arith, step_stores, edge_forward)
 
 pub reached : (insns : List Insn) (words : List ℕ) (s : State) (earlier : List State)
     → IsValidList insns → IsChain insns words start s earlier → Reached insns s earlier
@@ -75,7 +78,8 @@ never_faults insns words valid rule s earlier fault chain e =
 
 pub run_length : (insns : List Insn) (words : List ℕ) → IsValidList insns
     → (s : State) (earlier : List State) → IsChain insns words start s earlier → length earlier + 1 ≤ length insns
-run_length insns words valid s earlier chain = grind (arith, reached)
+run_length insns words valid s earlier chain =
+    let at = reached insns words s earlier valid chain in omega arith
 
 -- ---- each run ends
 ends_from : (insns : List Insn) (words : List ℕ) → IsValidList insns → KeepsScratchRule insns → (fuel : ℕ) (s : State)

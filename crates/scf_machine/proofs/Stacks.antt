@@ -62,7 +62,7 @@ stays newest older answers old lt = record {
 
 pub newest_decides : (newest older : ℕ) (answers : List ℕ)
     → IsDecision answers older → rank_of newest ≤ℤ rank_of older → IsDecision (newest ∷ answers) newest
-newest_decides newest older answers old le = grind (arith, alone, wins)
+newest_decides newest older answers h1 h2 = grind (arith, alone, wins)
 
 pub older_decides : (newest older : ℕ) (answers : List ℕ)
     → IsDecision answers older → rank_of older <ℤ rank_of newest → IsDecision (newest ∷ answers) older
@@ -93,7 +93,7 @@ answers_once (filter ∷ filters) words (x ∷ xs) (y ∷ ys) a b =
 pub alike_answers : (filters others : List (List Insn)) (words more answers : List ℕ) (m n : ℕ)
     → AreAnswers (reverse filters) words answers
     → AreAnswers (reverse others) more answers → StackAnswers filters words m → StackAnswers others more n → m ≡ n
-alike_answers filters others words more answers m n first second a b = grind (arith, answers_once, decision_once)
+alike_answers filters others words more answers m n h1 h2 h3 h4 = grind (arith, answers_once, decision_once)
 
 pub stack_answer_once : (filters : List (List Insn)) (words : List ℕ) (m n : ℕ)
     → StackAnswers filters words m → StackAnswers filters words n → m ≡ n

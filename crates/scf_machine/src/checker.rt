@@ -223,6 +223,7 @@ fn find_unset(insns: &[Insn], masks: &mut [u16]) -> Result<(), CheckFault>
 
 /// Looks at each load of a scratch word. The mask of a place has the words that each path to it stores; no path
 /// was seen at first but the one to place 0.
+#[tactic(auto, using(crate::proofs::Masks::masks_made))]
 fn check_scratch(alloc: Global, insns: &[Insn]) -> Result<(), CheckFault>
     requires { IsValidList insns.now }
     ensures ok { OnOk result (KeepsScratchRule insns.now) }

@@ -128,6 +128,7 @@ impl Registers {
 
     /// Computes with the index register, whose low five bits a shift takes. A division by 0 answers 0.
     #[inline(always)]
+    #[tactic(auto, using(crate::proofs::Steps::computes_by_index))]
     fn compute_by_index(&mut self, arithmetic: Arithmetic) -> Option<Answer>
         requires { self.old.place < bpf_maxinsns }
         ensures { (i : Insn) (s : State) → StandFor self.old s

@@ -1,14 +1,7 @@
-use Rattle.std.proofs.lemmas.Grind.{common_steps}
 use Rattle.std.proofs.Common.{◌∷◌, ◌+◌, ap, arith, rules}
 use Rattle.scf_machine.proofs.Loop.{at_inside, at_next, run_of}
 use Rattle.scf_machine.proofs.Runs.{runs_safely}
 use Rattle.scf_machine.proofs.machine.run.Goals as goal
-
-pub loop-answer-init : goal.loop-answer-init
-loop-answer-init c = grind (arith, common_steps)
-
-pub advance-answered-requires : goal.advance-answered-requires
-advance-answered-requires c = grind (arith, common_steps)
 
 pub overflow_add-steps : goal.overflow_add-steps
 overflow_add-steps c =

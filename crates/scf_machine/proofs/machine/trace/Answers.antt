@@ -1,13 +1,6 @@
-use Rattle.std.proofs.lemmas.Grind.{common_steps}
 use Rattle.std.proofs.Common.{◌∷◌, ◌+◌, ◌∙◌, ap, arith}
 use Rattle.scf_machine.proofs.Loop.{at_inside, at_next, run_of, place_added}
 use Rattle.scf_machine.proofs.machine.trace.Goals as goal
-
-pub loop-places-init : goal.loop-places-init
-loop-places-init c = grind (arith, common_steps)
-
-pub advance-answered-requires : goal.advance-answered-requires
-advance-answered-requires c = grind (arith, common_steps)
 
 pub returns-in-Some : goal.returns-in-Some
 returns-in-Some c =

@@ -1,7 +1,9 @@
-use Rattle.std.proofs.lemmas.Grind.{common_steps}
-use Rattle.std.proofs.Common.{arith}
+use Rattle.std.proofs.Common.{◌∙◌, vec_len, arith}
 use Rattle.std.proofs.lemmas.Bool.{ne_eqb}
 use Rattle.scf_machine.proofs.program.Program.is_empty.Goals as goal
 
 pub returns : goal.returns
-returns c = grind (arith, common_steps, ne_eqb)
+returns c =
+    c.is_empty.ensures
+    ∙ ne_eqb (vec_len c.self.inside.list) 0
+    (λ e. omega (arith, c.self.invariant.valid.some, c.self.inside.list.ok, e))
