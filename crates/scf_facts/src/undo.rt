@@ -1,12 +1,16 @@
 //! How changes are taken back.
 
-ghost use Rattle.std.specs.Prelude.{◌≡◌, ◌≤◌, IsTrue, length, take, drop};
-ghost use Rattle.scf_facts.specs.internal.Trail.{HasIntervals, KeepsIntervals, known_before, restored};
-ghost use Rattle.scf_facts.specs.internal.WordSets.{known_of};
+ghost use Rattle.std.specs.Prelude.{◌≡◌, ◌<◌, ◌≤◌, ◌++◌, ◌∷◌, [], ℕ, List, IsTrue, IsOk, OnOk, length, take, drop};
+ghost use Rattle.std.specs.Vec.{vec_capacity, vec_len};
+ghost use Rattle.scf_facts.specs.declared.trail.Change.{Change};
+ghost use Rattle.scf_facts.specs.internal.Counts.{AreRising};
+ghost use Rattle.scf_facts.specs.internal.Trail.{Covers, HasIntervals, known_at, known_before, restored};
+ghost use Rattle.scf_facts.specs.internal.WordSets.{AllFacts, known_of};
 
 use crate::atom_pair::AtomPair;
 use crate::trail::{Change, Former};
 use crate::word_set::WordSet;
+use scf_insn::Memory;
 
 impl Former {
     /// Whether these are intervals.
@@ -28,6 +32,19 @@ impl Change {
             Change::Refuted => {
                 pairs.pop();
             }
+        }
+    }
+
+    /// Whether this brings back all that the later change would, which need not be kept then: both are of the intervals
+    /// of one word.
+    fn covers(&self, later: &Change) -> bool
+        ensures { IsTrue result → Covers self.now later.now }
+    {
+        match (self, later) {
+            (Change::OfWord(first), Change::OfWord(second)) if first.word == second.word => {
+                first.former.has_intervals() && second.former.has_intervals()
+            }
+            _ => false,
         }
     }
 }
@@ -52,25 +69,44 @@ pub(crate) fn take_back(
     }
 }
 
-/// Whether the last change past a count of them is one of the word's intervals. Taken back, it brings back what they
-/// were before those that follow, so one of them that follows at once need not be kept.
-fn keeps_intervals(trail: &[Change], count: usize, word: u8) -> bool
-    ensures { IsTrue result → KeepsIntervals trail.now count word }
+/// Whether the last change past a count of them covers one that follows.
+fn is_covered(trail: &[Change], count: usize, change: &Change) -> bool
+    ensures { IsTrue result → (rest : List Change) × (last : Change)
+        × (trail.now ≡ rest ++ last ∷ []) × (count ≤ length rest) × Covers last change.now }
 {
-    if trail.len() <= count {
-        return false;
-    }
-    match &trail[trail.len() - 1] {
-        Change::OfWord(last) => last.word == word && last.former.has_intervals(),
-        Change::Refuted => false,
+    match trail.split_last() {
+        Some((last, rest)) => count <= rest.len() && last.covers(change),
+        None => false,
     }
 }
 
-/// Whether a change need not be put on the trail: the one before it, past a count of them, is of the same word, and
-/// both are of intervals.
-pub(crate) fn is_kept(trail: &[Change], count: usize, word: u8, former: &Former) -> bool
-    ensures kept { IsTrue result → KeepsIntervals trail.now count word }
-    ensures intervals { IsTrue result → HasIntervals former.now }
+/// Makes room for a change, where a mark is open.
+pub(crate) fn make_room(trail: &mut Vec<Change>, marks: &[usize]) -> Result<(), Memory>
+    ensures items { trail.new.items ≡ trail.old.items }
+    ensures room { OnOk result (0 < length marks.now → vec_len trail.new < vec_capacity trail.new) }
 {
-    former.has_intervals() && keeps_intervals(trail, count, word)
+    if !marks.is_empty() {
+        trail.reserve(1)?;
+    }
+    Ok(())
+}
+
+/// Puts a change on the trail, where a mark is open and the last change past it doesn't cover this one.
+pub(crate) fn note(trail: &mut Vec<Change>, marks: &[usize], change: Change) -> Result<(), Memory>
+    requires { AreRising marks.now (length trail.old.items) }
+    ensures room { (0 < length marks.now → vec_len trail.old < vec_capacity trail.old) → IsOk result }
+    ensures rising { AreRising marks.now (length trail.new.items) }
+    ensures marked { OnOk result ((known : AllFacts) → length known.sets ≡ 16 → (place : ℕ) → place < length marks.now
+        → known_at known trail.new.items marks.now place
+        ≡ known_at (known_before change known) trail.old.items marks.now place) }
+{
+    if marks.is_empty() {
+        return Ok(());
+    }
+    let newest = marks[marks.len() - 1];
+    if is_covered(trail, newest, &change) {
+        return Ok(());
+    }
+    trail.push(change)?;
+    Ok(())
 }

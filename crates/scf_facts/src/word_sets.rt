@@ -10,7 +10,7 @@ use crate::atom_pair::AtomPair;
 use crate::by_pair::{all_agree, is_known_empty, part_pairs, tell_known};
 use crate::by_word::pick_by_word;
 use crate::trail::{Change, WordChange};
-use crate::undo::{is_kept, take_back};
+use crate::undo::{make_room, note, take_back};
 use crate::word_facts::WordFacts;
 use crate::word_set::WordSet;
 use scf_insn::Memory;
@@ -68,33 +68,22 @@ impl WordFacts for WordSets {
 
     fn learn(&mut self, atom: Atom, holds: bool) -> Result<(), Memory> {
         let word = atom.word();
-        if self.marks.is_empty() {
-            self.sets[word as usize].learn(self.alloc, atom, holds)?;
-            return Ok(());
-        }
-        self.trail.reserve(1)?;
+        make_room(&mut self.trail, &self.marks)?;
         let former = self.sets[word as usize].learn(self.alloc, atom, holds)?;
-        let newest = self.marks[self.marks.len() - 1];
-        if is_kept(&self.trail, newest, word, &former) {
-            return Ok(());
-        }
         let change = Change::OfWord(WordChange { word, former });
-        self.trail.push(change)?;
+        note(&mut self.trail, &self.marks, change)?;
         Ok(())
     }
 
     fn learn_not_both(&mut self, first: Atom, second: Atom) -> Result<(), Memory> {
         let pair = AtomPair { first, second };
-        if !self.marks.is_empty() {
-            self.trail.reserve(1)?;
-            self.pairs.push(pair)?;
-            self.trail.push(Change::Refuted)?;
-            return Ok(());
-        }
+        make_room(&mut self.trail, &self.marks)?;
         self.pairs.push(pair)?;
+        note(&mut self.trail, &self.marks, Change::Refuted)?;
         Ok(())
     }
 
+    #[tactic(auto, using(crate::proofs::TrailLaws::opened_laws))]
     fn mark(&mut self) -> Result<(), Memory> {
         let count = self.trail.len();
         self.marks.push(count)?;

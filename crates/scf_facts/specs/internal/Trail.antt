@@ -1,10 +1,10 @@
 -- Changes of what is known, and what was known before them.
-use Rattle.std.specs.Prelude.{◌≡◌, ◌-◌, ◌<◌, ℕ, List, [], ◌∷◌, length, take, drop, slice_set, slice_index_or}
+use Rattle.std.specs.Prelude.{◌≡◌, ◌-◌, ℕ, List, [], ◌∷◌, length, take, drop, slice_set, slice_index_or}
 use Rattle.scf_facts.specs.declared.trail.Change.{Change}
 use Rattle.scf_facts.specs.declared.trail.Change.TheVariants.{OfWord, Refuted}
 use Rattle.scf_facts.specs.declared.trail.Former.{Former}
 use Rattle.scf_facts.specs.declared.trail.Former.TheVariants.{Same, Intervals, Known, Unrefuted}
-use Rattle.scf_facts.specs.declared.trail.WordChange.{WordChange}
+use Rattle.scf_facts.specs.declared.interval.Interval.{Interval}
 use Rattle.scf_facts.specs.internal.Counts.{count_at}
 use Rattle.scf_facts.specs.internal.WordSets.{NumberFacts, AllFacts, no_facts}
 
@@ -34,13 +34,9 @@ known_at known trail marks level = restored known (drop (count_at marks (length 
 
 -- what was known of a word differs in the intervals
 abbrev pub HasIntervals : Former → Type 0
-HasIntervals Same = ⊥
-HasIntervals (Intervals intervals) = Unit {0}
-HasIntervals (Known known) = ⊥
-HasIntervals Unrefuted = ⊥
+HasIntervals former = (intervals : List Interval) × (former ≡ Intervals intervals)
 
--- the last of the changes past a count of them is one of the word's intervals
-abbrev pub KeepsIntervals : List Change → ℕ → ℕ → Type 0
-KeepsIntervals trail count word = (kept : WordChange)
-    × (OfWord kept ≡ slice_index_or trail (length trail - 1) (OfWord kept)) × (count < length trail)
-    × (kept.word ≡ word) × HasIntervals kept.former
+-- the first change brings back the same, whether the later one is taken back before or not
+abbrev pub Covers : Change → Change → Type 0
+Covers first later = (known : AllFacts) → length known.sets ≡ 16
+    → known_before first (known_before later known) ≡ known_before first known

@@ -3,7 +3,7 @@ use Rattle.std.proofs.Math.Seq.{take-append_seam}
 use Rattle.std.proofs.lemmas.List.{take-take}
 use Rattle.scf_facts.specs.internal.Trail.{restored, known_before}
 use Rattle.scf_facts.specs.internal.WordSets.{AllFacts, known_of}
-use Rattle.scf_facts.proofs.TrailLaws.{taken-before}
+use Rattle.scf_facts.proofs.TrailLaws.{taken_before}
 use Rattle.scf_facts.proofs.undo.take_back.Goals as goal
 
 pub loop-trail-preserved-in-Some : goal.loop-trail-preserved-in-Some
@@ -16,7 +16,7 @@ loop-trail-preserved-in-Some c =
     let items = c.in-Some.ensures.items in
     let counted : length trail ≡ length rest + 1 = ap length items ∙ length-append rest (change ∷ []) in
     let before : restored (known_before change known) (drop c.args.count rest) ≡ restored known (drop c.args.count trail) =
-    taken-before known trail rest change c.args.count items
+    taken_before known trail rest change c.args.count items
     (omega (arith, counted, c.len.ensures, c.loop-trail-test.true)) in
     record {
       sixteen = c.take_back.auto.sets ∙ inv.sixteen;
