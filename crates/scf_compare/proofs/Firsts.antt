@@ -106,3 +106,6 @@ module _ (firsts : List FirstRule) (rules : List Rule) (h : AreFirstRules firsts
 pub all_past : (firsts : List FirstRule) (rules : List Rule) → AreFirstRules firsts rules → (place : ℕ)
     → length firsts ≤ place → length (numbers_of rules) ≤ place
 all_past firsts rules h place past = grind (arith, length-map)
+
+-- what is said of the sizes of first rules
+pub ruleset first_sizes = (size_at, sum_at, within_sum, slice_get-get_or)

@@ -16,6 +16,7 @@ use Rattle.scf_compare.specs.declared.flow.Flow.{Flow}
 use Rattle.scf_compare.specs.declared.flow.Flow.TheVariants.{Next, Jump, Branch, DivideByIndex, ReturnConstant, ReturnAccumulator}
 use Rattle.scf_compare.specs.Paths.{size_of_insn, tree_sizes, tree_size}
 use Rattle.scf_compare.specs.internal.Flow.{flow_at, UsesScratch, IsInside, size_of_flow}
+use Rattle.std.proofs.lemmas.Option.{slice_get-get_or}
 
 -- ---- places inside the program
 
@@ -124,3 +125,6 @@ IsForward place ReturnAccumulator = Unit {0}
 pub forward_at : {insns : List Insn} {place : ℕ} {i : Insn} {operation : Operation} → Stands insns place i operation
     → IsForward place (flow_at operation i place)
 forward_at {place = place} {i = i} {operation = operation} stands = grind arith
+
+-- the instruction that is read has an operation
+pub ruleset operations = (has_operation, slice_get-get_or)

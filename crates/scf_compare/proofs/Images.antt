@@ -15,6 +15,7 @@ use Rattle.scf_facts.proofs.MaskLaws.{beyond_rest}
 use Rattle.std.proofs.lemmas.Bool.{ne_eqb}
 use Rattle.std.proofs.lemmas.Nat.{shr-shr}
 use Rattle.scf_compare.proofs.Bits.{each_bit}
+use Rattle.std.proofs.lemmas.Nat.{and_le_l}
 
 -- to flip bits twice changes nothing
 pub flipped_twice : (a c : ℕ) → bit_xor (bit_xor a c) c ≡ a
@@ -215,3 +216,19 @@ left_past y t m c far fits =
 -- an image is a number of 32 bits
 pub image_fits : (x m c : ℕ) → m < 2 ^ 32 → c < 2 ^ 32 → bit_xor (bit_and x m) c < 2 ^ 32
 image_fits x m c h k = xor_lt 32 (bit_and x m) c (omega (arith, h, and_le_r x m)) k
+
+-- ---- what functions cite
+
+pub ruleset image_ands = (and_le_l, mask_within, image_and)
+
+pub ruleset right_shifts = (
+  image_right,
+  right_within,
+  right_past,
+  mask_right_within,
+  mask_right_past,
+  none_past,
+  no_bit,
+)
+
+pub ruleset left_shifts = (image_left, left_past, mask_left_shifted)

@@ -56,6 +56,18 @@ pub same_fit : (image other : Image) → AreShiftedAlike image other
     → other.mask / 2 ^ other.left * 2 ^ other.right < 2 ^ 32 → other.mask / 2 ^ image.left * 2 ^ image.right < 2 ^ 32
 same_fit image other alike fits = grind arith
 
+-- what is said of images that are joined
+pub ruleset joined_images = (
+  same_shift,
+  same_fit,
+  joined_and,
+  joined_or,
+  joined_xor,
+  and_mask_fits,
+  or_mask_fits,
+  xor_mask_fits,
+)
+
 -- ---- where numbers are 0
 
 -- a test for 0 as a question of a word under a mask

@@ -125,3 +125,17 @@ unflipped_sum x m c h k none = grind (arith, and_le_r, apart, sum_by_bits, witho
 pub flipped_difference : (x m c : ℕ) → m < 2 ^ 32 → c < 2 ^ 32 → bit_and c m ≡ m
     → bit_xor (bit_and x m) c ≡ signed_sum true (bit_xor (bit_and x m) 0) c
 flipped_difference x m c h k all = grind (arith, and_le_r, difference_by_bits, inside, without_flips, xor_zero_r)
+
+-- ---- what functions cite
+
+pub ruleset equal_offsets = (number_fits, sum_is, difference_is)
+
+pub ruleset sums_above = (image_within, sum_above, sum_above_all)
+
+pub ruleset differences_above = (
+  number_fits,
+  image_within,
+  difference_on_arc,
+  difference_above,
+  difference_above_none,
+)

@@ -8,6 +8,7 @@ use Rattle.std.proofs.lemmas.Nat.{pow_pos, shr_split}
 use Rattle.std.proofs.Math.Nat.{div-lt_iff_lt-mul, le-div_iff_mul-le, lt_of_mul-lt-mul_right, mod-eq_of_lt, mul-lt-mul_of_pos_right}
 use Rattle.scf_facts.proofs.HighMasks.{one_more, of_multiple, beyond_mask}
 use Rattle.scf_compare.proofs.Images.{shifted_back, under_mask}
+use Rattle.scf_insn.proofs.CallWords.{word_below}
 
 not_less : (a b : ℕ) → (a < b → ⊥) → nat_lt a b ≡ false
 not_less a b h = le-ltb a b (omega (arith, h))
@@ -52,3 +53,5 @@ module _ (w s t m c k : ℕ) (none : c ≡ 0) (below : w < 2 ^ 32) (within : k <
       → nat_lt v (bit_xor (bit_and (w / 2 ^ s * 2 ^ t) m) c) ≡ false
   image_not_above v past =
       grind (arith, above_quotient, div-lt_iff_lt-mul, not_less, number_of_bits, pow_pos, shr_split)
+
+pub ruleset image_orders = (image_above, image_not_above, word_below, mod-eq_of_lt)

@@ -10,6 +10,7 @@ use Rattle.scf_profile.specs.RulesByNumber.{numbers_of}
 use Rattle.scf_profile.proofs.Numbers.{has_number, numbers_of-push}
 use Rattle.scf_compare.specs.Effort.{conditions_size, saturated}
 use Rattle.scf_compare.proofs.Rules.{take_here, conditions_more}
+use Rattle.scf_compare.specs.internal.Laws.{paths_count, spread_counts}
 
 pub added : (a b x y : ℕ) → a ≡ saturated x → b ≡ saturated y → saturated (a + b) ≡ saturated (x + y)
 added a b x y e f = omega arith
@@ -58,3 +59,5 @@ pub conditions_added : (size fails twice first second third x behind : ℕ) → 
     → fails ≡ saturated behind → twice ≡ saturated (fails + fails) → first ≡ saturated (size + size)
     → second ≡ saturated (first + twice) → third ≡ saturated (second + 3) → third ≡ saturated (3 + 2 * x + 2 * behind)
 conditions_added size fails twice first second third x behind a b c d e f = omega arith
+
+pub ruleset products = (multiplied, paths_count, spread_counts)

@@ -30,9 +30,11 @@ pub decided_same : (claim other : Type 0) (limit size : ℕ) (verdict : Verdict)
     → IsDecided claim limit size verdict → IsDecided other limit size verdict
 decided_same claim other limit size verdict to from h = grind arith
 
-module _ (relation : Relation) (scope : Scope) (is_place : ℕ → Type 0) (answers : List ℕ → ℕ → Type 0) (p : Profile) where
+module _ (relation : Relation) (scope : Scope) (is_place : ℕ → Type 0) (answers : List ℕ → ℕ → Type 0)
+    (p : Profile) where
   -- where the answers to the words of all records of a scope are related, those to the records are
-  pub related_of : AllRelated (compared_in relation scope is_place answers p) → RelatedAnswersIn relation scope answers p
+  pub related_of : AllRelated (compared_in relation scope is_place answers p)
+      → RelatedAnswersIn relation scope answers p
   related_of h =
       λ call is_record in_scope.
       let same = call_of-words_of call is_record in
@@ -50,7 +52,8 @@ module _ (relation : Relation) (scope : Scope) (is_place : ℕ → Type 0) (answ
       }
 
   -- and where those to the records are, those to their words are
-  pub words_related : RelatedAnswersIn relation scope answers p → AllRelated (compared_in relation scope is_place answers p)
+  pub words_related : RelatedAnswersIn relation scope answers p
+      → AllRelated (compared_in relation scope is_place answers p)
   words_related related =
       λ words within.
       let both = related (call_of words) (IsRecord-call_of words within.0) within.1 in (
@@ -67,11 +70,12 @@ module _ (relation : Relation) (scope : Scope) (is_place : ℕ → Type 0) (answ
       → IsDecided (RelatedAnswersIn relation scope answers p) limit size verdict
   decided_in limit size verdict = decided_same _ _ limit size verdict related_of words_related
 
-  -- a verdict that is true of the words is true of the records
-  pub true_by : (verdict : Verdict) → IsTrueVerdict (compared_in relation scope is_place answers p) verdict
-      → IsTrueBy (IsRelated relation) (IsInScope scope) is_place answers p verdict
-  true_by (Same steps) h = related_of h
-  true_by (Differs call filter profile) h =
+  -- a verdict that is true of the words is true of the records, with all places among which those are
+  pub true_by : (other : ℕ → Type 0) → ((at : ℕ) → is_place at → other at) → (verdict : Verdict)
+      → IsTrueVerdict (compared_in relation scope is_place answers p) verdict
+      → IsTrueBy (IsRelated relation) (IsInScope scope) other answers p verdict
+  true_by other among (Same steps) h = related_of h
+  true_by other among (Differs call filter profile) h =
       let same = call_of-words_of call h.0 in (
         h.0,
         subst (IsInScope scope) same h.1.1,
@@ -79,8 +83,8 @@ module _ (relation : Relation) (scope : Scope) (is_place : ℕ → Type 0) (answ
         subst (λ (record_of : CallRecord). ProfileAnswers p record_of profile.0) same h.3,
         h.4,
       )
-  true_by (Undecided at) h = h
-  true_by Unfinished h = tt
+  true_by other among (Undecided at) h = among at h
+  true_by other among Unfinished h = tt
 
 -- all call records are answered alike where they are in the scope of all
 pub same_of_all : (answers : List ℕ → ℕ → Type 0) (p : Profile) → SameAnswersIn All answers p → SameAnswers answers p
@@ -88,12 +92,6 @@ same_of_all answers p same = λ call is_record. same call is_record tt
 
 pub all_of_same : (answers : List ℕ → ℕ → Type 0) (p : Profile) → SameAnswers answers p → SameAnswersIn All answers p
 all_of_same answers p same = λ call is_record in_scope. same call is_record
-
--- a verdict that is true with some places is true with all among which they are
-pub placed : (related : ℕ → ℕ → Type 0) (in_scope : CallRecord → Type 0) (is_place other : ℕ → Type 0)
-    (answers : List ℕ → ℕ → Type 0) (p : Profile) (verdict : Verdict) → ((at : ℕ) → is_place at → other at)
-    → IsTrueBy related in_scope is_place answers p verdict → IsTrueBy related in_scope other answers p verdict
-placed related in_scope is_place other answers p verdict at h = grind arith
 
 ending : (operation : Operation) (i : Insn) (at : ℕ) (answer : Option Answer)
     → EndsWith (flow_at operation i at) i answer → CanEnd operation

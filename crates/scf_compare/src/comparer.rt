@@ -71,7 +71,7 @@ pub fn compare_stack<F: WordFacts>(
         (SameAnswersIn scope (StackAnswers stack.now) profile.now)
         limit (effort_of_stack stack.now profile.now)) }
 {
-    compare_party::<FilterStack, F>(alloc, stack, profile, scope, Relation::Same, limit)
+    compare_by::<F>(alloc, stack, profile, scope, Relation::Same, limit)
 }
 
 /// Compares what a stack of filters answers with a profile over the calls of a scope by a relation, in at most `limit`

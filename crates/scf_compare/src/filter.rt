@@ -68,6 +68,7 @@ impl FilterTree for Program {
 }
 
 /// What comes next at the instruction of a place, and what is known of the registers there.
+#[tactic(auto, using(crate::proofs::Flows::operations))]
 fn turn_at(insns: &[Insn], place: usize, registers: &mut Registers) -> Turn<FilterNode, FilterEnd>
     requires place { place < length insns.now }
     requires valid { IsValidList insns.now }
@@ -89,6 +90,7 @@ fn turn_at(insns: &[Insn], place: usize, registers: &mut Registers) -> Turn<Filt
 }
 
 /// What comes next at an instruction with this operation.
+#[tactic(auto, using(crate::proofs::Flows::load_fits, crate::proofs::Flows::scratch_fits))]
 fn turn_of(
     insns: &[Insn],
     place: usize,

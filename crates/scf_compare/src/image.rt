@@ -56,6 +56,7 @@ impl Image {
     }
 
     /// It AND a number.
+    #[tactic(auto, using(crate::proofs::Images::image_ands))]
     pub(crate) fn and(self, v: u32) -> Image
         requires { IsImage self }
         ensures image { IsImage result }
@@ -72,6 +73,7 @@ impl Image {
     }
 
     /// It OR a number.
+    #[tactic(auto, using(crate::proofs::Images::image_or))]
     pub(crate) fn or(self, v: u32) -> Image
         requires { IsImage self }
         ensures image { IsImage result }
@@ -105,6 +107,7 @@ impl Image {
 
     /// It AND, OR or XOR another image that is shifted alike: what comes of a bit of their word that is 0, and of one
     /// that is 1, tells all.
+    #[tactic(auto, using(crate::proofs::Joins::joined_images))]
     pub(crate) fn joined(self, arithmetic: Arithmetic, other: Image) -> Value
         requires first { IsImage self }
         requires second { IsImage other }
@@ -143,6 +146,7 @@ impl Image {
     }
 
     /// It shifted to the right. It is a known number where no bit of its word is left.
+    #[tactic(auto, using(crate::proofs::Images::right_shifts))]
     pub(crate) fn shifted_right(self, count: u32) -> Value
         requires image { IsImage self }
         requires count { count < 32 }
@@ -173,6 +177,7 @@ impl Image {
     }
 
     /// It shifted to the left. It is a known number where no bit of its word is left.
+    #[tactic(auto, using(crate::proofs::Images::left_shifts))]
     pub(crate) fn shifted_left(self, count: u32) -> Value
         requires image { IsImage self }
         requires count { count < 32 }
@@ -193,6 +198,7 @@ impl Image {
     }
 
     /// Whether it is a number, as an atom about its word.
+    #[tactic(auto, using(crate::proofs::Images::image_is))]
     pub(crate) fn is(self, v: u32) -> Decision
         requires { IsImage self }
         ensures asks { IsTestDecision result }
@@ -216,6 +222,7 @@ impl Image {
     }
 
     /// Whether it is above a number, as an atom about its word, where its mask has all bits of the word from one on.
+    #[tactic(auto, using(crate::proofs::Orders::image_orders))]
     pub(crate) fn is_above(self, v: u32) -> Decision
         requires { IsImage self }
         ensures asks { IsTestDecision result }

@@ -20,6 +20,7 @@ pub(crate) struct Offset {
 
 impl Offset {
     /// An image. Where all bits under its mask are flipped or none is, it is an offset of the image without flips.
+    #[tactic(auto, using(crate::proofs::Offsets::unflipped_sum, crate::proofs::Offsets::flipped_difference))]
     pub(crate) fn of(image: Image) -> Offset
         requires { IsImage image }
         ensures image { IsImage result.image }
@@ -54,6 +55,7 @@ impl Offset {
     }
 
     /// A number added to it.
+    #[tactic(auto, using(crate::proofs::Offsets::number_fits, crate::proofs::Offsets::plus_number))]
     pub(crate) fn plus(self, v: u32) -> Offset
         ensures image { result.image ≡ self.image }
         ensures number { (words : List ℕ) → (offset_number self words + v) % 2 ^ 32 ≡ offset_number result words }
@@ -65,6 +67,7 @@ impl Offset {
     }
 
     /// A number taken from it.
+    #[tactic(auto, using(crate::proofs::Offsets::minus_number, crate::proofs::Offsets::number_fits))]
     pub(crate) fn minus(self, v: u32) -> Offset
         ensures image { result.image ≡ self.image }
         ensures number { (words : List ℕ)
@@ -77,6 +80,7 @@ impl Offset {
     }
 
     /// It taken from a number.
+    #[tactic(auto, using(crate::proofs::Offsets::number_fits, crate::proofs::Offsets::taken_number))]
     pub(crate) fn taken_from(self, v: u32) -> Offset
         ensures image { result.image ≡ self.image }
         ensures number { (words : List ℕ)
@@ -108,6 +112,7 @@ impl Offset {
     }
 
     /// Whether it is a number, as an atom about its word.
+    #[tactic(auto, using(crate::proofs::Offsets::equal_offsets))]
     pub(crate) fn is(self, v: u32) -> Decision
         requires { IsImage self.image }
         ensures asks { IsTestDecision result }
@@ -140,6 +145,7 @@ impl Offset {
 
 /// Whether the sum of an image and a number is above another number, where sums may pass the greatest number for a
 /// whole word alone.
+#[tactic(auto, using(crate::proofs::Offsets::sums_above))]
 fn sum_is_above(image: Image, added: u32, v: u32) -> Decision
     requires image { IsImage image }
     requires least { v < 2 ^ 32 - 1 }
@@ -157,6 +163,7 @@ fn sum_is_above(image: Image, added: u32, v: u32) -> Decision
 }
 
 /// Whether an image taken from a number is above another number, where differences may pass 0 for a whole word alone.
+#[tactic(auto, using(crate::proofs::Offsets::differences_above))]
 fn difference_is_above(image: Image, from: u32, v: u32) -> Decision
     requires image { IsImage image }
     requires least { v < 2 ^ 32 - 1 }

@@ -88,6 +88,7 @@ impl ProfileTree for ProfileNumbers<'_> {
         ProfileNode::Architecture
     }
 
+    #[tactic(auto, using(scf_profile::specs::ProfileAnswers::foreign, crate::proofs::Bits::whole_words))]
     fn turn<F: WordFacts>(&self, facts: &F, node: &ProfileNode) -> Turn<ProfileNode, Answer> {
         let rules = self.profile.rules();
         let default_answer = self.profile.default_answer();
@@ -137,6 +138,7 @@ impl ProfileTree for ProfileNumbers<'_> {
 /// The question about one of the distinct numbers, or the default answer past the last one.
 ///
 /// Where the facts tell the number of the call, its rules are asked at once.
+#[tactic(auto, using(crate::proofs::Firsts::first_sizes))]
 fn ask_number<F: WordFacts>(
     facts: &F,
     default_answer: Answer,
@@ -196,6 +198,7 @@ fn told_number<F: WordFacts>(facts: &F) -> Option<u32>
 }
 
 /// What is asked of calls with a number: its first rule, or the default answer where it has none.
+#[tactic(auto, using(crate::proofs::Firsts::first_sizes))]
 fn ask_rules_of(
     default_answer: Answer,
     rules: &[Rule],
@@ -224,6 +227,7 @@ fn ask_rules_of(
 }
 
 /// What is asked first of the rules of a number from a place on: a condition, or else what is answered.
+#[tactic(auto, using(crate::proofs::Rules::read_here, crate::proofs::Rules::rules_kept))]
 fn next_rule(default_answer: Answer, rules: &[Rule], number: u32, from: usize) -> ProfileNode
     requires { from ≤ length rules.now }
     ensures node { profile_is_node (profile_with default_answer rules.now) result }
@@ -306,6 +310,7 @@ fn ask_condition(
 }
 
 /// Where a way on from a condition leads.
+#[tactic(auto, using(std::proofs::lemmas::Option::slice_get_within, crate::proofs::Rules::conditions_count))]
 fn follow(
     default_answer: Answer,
     rules: &[Rule],

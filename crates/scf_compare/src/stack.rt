@@ -95,6 +95,7 @@ pub(crate) fn filter_of(stack: &FilterStack, place: usize) -> &Program
 
 /// The end at which filters decide with one more, the newest: the one whose answer isn't known, the oldest of several,
 /// or whose answer wins.
+#[tactic(auto, using(crate::proofs::Stacks::first_decides))]
 fn decided_at(older: Option<FilterEnd>, newest: FilterEnd) -> FilterEnd
     ensures end { (filters : List (List Insn)) (place : ℕ) → IsOlder filters place older → IsStackEnd filters newest
         → IsStackEnd filters result }
@@ -122,6 +123,7 @@ fn decided_at(older: Option<FilterEnd>, newest: FilterEnd) -> FilterEnd
 
 /// What comes next at a node of a filter, and what is known of its registers there. At an end of a filter the next
 /// newer one begins.
+#[tactic(auto, using(crate::specs::internal::Laws::paths_count, crate::specs::internal::Laws::scaled_costs))]
 fn turn_from(
     stack: &FilterStack,
     registers: &mut Registers,

@@ -30,6 +30,7 @@ pub fn effort(program: &Program, profile: &Profile) -> u64
 
 /// How many steps a comparison of a stack takes at most, or 2^64-1 where they are more: the product of the sizes of the
 /// filters' trees of paths, 1 for no filter, times the spread of the profile.
+#[tactic(auto, using(crate::proofs::Saturated::products))]
 pub fn effort_stack(stack: &FilterStack, profile: &Profile) -> u64
     ensures { result ≡ saturated (effort_of_stack stack.now profile.now) }
 {
@@ -77,6 +78,7 @@ fn fill_sizes(insns: &[Insn], sizes: &mut [u64])
 }
 
 /// The size of the tree of paths from a place on, where those from the later places on are given.
+#[tactic(auto, using(crate::proofs::Flows::operations))]
 fn size_at(insns: &[Insn], place: usize, sizes: &[u64]) -> u64
     requires valid { IsValidList insns.now }
     requires place { place < length insns.now }
@@ -173,6 +175,7 @@ fn size_with_rule(rule: &Rule, number: u32, size: u64) -> u64
 }
 
 /// The size of the tree of conditions, where the one behind a condition that fails has this size.
+#[tactic(auto, using(crate::proofs::Saturated::conditions_added, crate::proofs::Saturated::conditions_step))]
 fn size_of_conditions(conditions: &[Condition], fails: u64) -> u64
     ensures { (behind : ℕ) → fails ≡ saturated behind → result ≡ saturated (conditions_size conditions.now behind) }
 {

@@ -112,6 +112,7 @@ impl Value {
     }
 
     /// Where it is 0, of all that is known of it.
+    #[tactic(auto, using(crate::proofs::Offsets::number_fits))]
     fn zeros(self) -> Value
         requires { IsValue self }
         ensures value { IsValue result }
@@ -216,6 +217,7 @@ impl Value {
     }
 
     /// How a test of a known number against it comes out.
+    #[tactic(auto, using(std::proofs::lemmas::Nat::and_comm))]
     fn decide_turned(self, a: u32, test: Test) -> Decision
         requires { IsValue self }
         ensures asks { IsTestDecision result }

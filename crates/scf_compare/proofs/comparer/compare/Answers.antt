@@ -2,23 +2,18 @@ use Rattle.std.proofs.lemmas.Result.{IfOk-weaker}
 use Rattle.scf_machine.specs.Machine.{RunAnswers}
 use Rattle.scf_compare.specs.declared.relation.Relation.TheVariants as relations
 use Rattle.scf_compare.specs.declared.scope.Scope.TheVariants.{All}
-use Rattle.scf_compare.specs.Relation.{IsRelated}
-use Rattle.scf_compare.specs.Scope.{IsInScope}
 use Rattle.scf_compare.specs.Verdicts.{IsEndPlace}
 use Rattle.scf_compare.specs.internal.Ends.{IsPlaceOf}
 use Rattle.scf_compare.specs.internal.Filters.{IsFilterEnd}
-use Rattle.scf_compare.proofs.Verdicts.{true_by, decided_in, decided_same, same_of_all, all_of_same, placed, end_place}
+use Rattle.scf_compare.proofs.Verdicts.{true_by, decided_in, decided_same, same_of_all, all_of_same, end_place}
 use Rattle.scf_compare.proofs.comparer.compare.Goals as goal
 
 pub returns-clause-holds : goal.returns-clause-holds
 returns-clause-holds g c =
     let insns = c.args.program.now in
-    let p = c.args.profile.now in
-    let place = IsPlaceOf (IsFilterEnd insns) in
     IfOk-weaker c.compare_party.result _ _
-    (λ verdict h.
-    placed (IsRelated relations.Same) (IsInScope All) place (IsEndPlace insns) (RunAnswers insns) p verdict (end_place insns)
-    (true_by relations.Same All place (RunAnswers insns) p verdict h))
+    (true_by relations.Same All (IsPlaceOf (IsFilterEnd insns)) (RunAnswers insns) c.args.profile.now (IsEndPlace insns)
+    (end_place insns))
     c.compare_party.ensures.holds
 
 pub returns-clause-decided : goal.returns-clause-decided

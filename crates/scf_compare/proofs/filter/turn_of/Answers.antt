@@ -5,16 +5,10 @@ use Rattle.std.proofs.lemmas.Option.{IfSome_then}
 use Rattle.scf_insn.specs.declared.answer.Answer.{Answer}
 use Rattle.scf_machine.specs.Machine.{RunAnswers}
 use Rattle.scf_compare.specs.internal.Filters.{filter_tree}
-use Rattle.scf_compare.proofs.Flows.{load_fits, scratch_fits, size_by_flow}
+use Rattle.scf_compare.proofs.Flows.{size_by_flow}
 use Rattle.scf_compare.proofs.PlainFlows.{plain_flow}
 use Rattle.scf_compare.proofs.Ways.{leads, turn_leads, turn_plain}
 use Rattle.scf_compare.proofs.filter.turn_of.Goals as goal
-
-pub apply-requires-clause-load : goal.apply-requires-clause-load
-apply-requires-clause-load c = grind (arith, common_steps, load_fits)
-
-pub apply-requires-clause-scratch : goal.apply-requires-clause-scratch
-apply-requires-clause-scratch c = grind (arith, common_steps, scratch_fits)
 
 pub returns-in-Next-clause-leads : goal.returns-in-Next-clause-leads
 returns-in-Next-clause-leads c = λ words w r.

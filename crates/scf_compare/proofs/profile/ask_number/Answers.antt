@@ -1,12 +1,11 @@
-use Rattle.std.proofs.lemmas.Grind.{common_steps}
-use Rattle.std.proofs.Common.{slice_index_or, arith}
+use Rattle.std.proofs.Common.{slice_index_or}
 use Rattle.std.proofs.lemmas.Option.{slice_get-get_or}
 use Rattle.scf_insn.specs.Words.{call_of}
 use Rattle.scf_profile.specs.RulesByNumber.{numbers_of}
 use Rattle.scf_profile.specs.ProfileAnswers.{by_default}
 use Rattle.scf_compare.specs.declared.profile_numbers.FirstRule.{FirstRule}
 use Rattle.scf_compare.proofs.Bits.{word_is, word_isnt}
-use Rattle.scf_compare.proofs.Firsts.{number_at, unmet_at, size_at, sum_at, all_past}
+use Rattle.scf_compare.proofs.Firsts.{number_at, unmet_at, all_past}
 use Rattle.scf_compare.proofs.Rules.{unmet_numbers, apart_more}
 use Rattle.scf_compare.proofs.profile.ask_number.Goals as goal
 
@@ -36,6 +35,3 @@ returns-clause-leads g c =
             (number_at firsts rules c.requires place first here) r.1 (word_isnt words 0 first.number w e),
       ),
     )
-
-pub returns-clause-costs : goal.returns-clause-costs
-returns-clause-costs g c = grind (arith, common_steps, size_at, slice_get-get_or, sum_at)

@@ -1,17 +1,13 @@
-use Rattle.std.proofs.lemmas.Grind.{common_steps}
-use Rattle.std.proofs.Common.{◌≢◌, slice_index_or, take, sym, subst, arith}
+use Rattle.std.proofs.Common.{◌≢◌, slice_index_or, take, sym, subst}
 use Rattle.std.specs.Prelude.{All}
 use Rattle.std.proofs.lemmas.Option.{slice_get-get_or}
 use Rattle.scf_insn.specs.Words.{call_of}
 use Rattle.scf_profile.specs.RulesByNumber.{numbers_of}
 use Rattle.scf_profile.specs.ProfileAnswers.{by_default}
 use Rattle.scf_compare.specs.declared.profile_numbers.FirstRule.{FirstRule}
-use Rattle.scf_compare.proofs.Firsts.{number_at, size_at, within_sum, all_past}
+use Rattle.scf_compare.proofs.Firsts.{number_at, all_past}
 use Rattle.scf_compare.proofs.Rules.{apart_more, unmet_numbers}
 use Rattle.scf_compare.proofs.profile.ask_rules_of.Goals as goal
-
-pub returns-then-first-number-clause-costs : goal.returns-then-first-number-clause-costs
-returns-then-first-number-clause-costs c = grind (arith, common_steps, size_at, slice_get-get_or, within_sum)
 
 pub loop-place-preserved : goal.loop-place-preserved
 loop-place-preserved c =

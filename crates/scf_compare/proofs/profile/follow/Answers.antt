@@ -1,5 +1,4 @@
 -- Where the ways on from a condition lead.
-use Rattle.std.proofs.lemmas.Grind.{common_steps}
 use Rattle.std.proofs.Common.{◌≡◌, ◌≢◌, ◌+◌, ◌<◌, ◌≤◌, ℕ, suc, List, get_or, length, take, drop, slice_index_or, true, sym, ap, subst, ◌∙◌, arith}
 use Rattle.std.specs.Prelude.{slice_get, Some}
 use Rattle.std.proofs.lemmas.List.{take_all}
@@ -14,7 +13,7 @@ use Rattle.scf_profile.specs.RulesByNumber.{rules_of}
 use Rattle.scf_compare.specs.declared.question.ConditionPart.TheVariants.{High}
 use Rattle.scf_compare.specs.Effort.{rules_size}
 use Rattle.scf_compare.specs.internal.Profiles.{profile_with, StandsAt, IsAtCondition}
-use Rattle.scf_compare.proofs.Rules.{read_here, same_here, contains_here, met_by, held_more, fails_by, unmet_failing, unmet_more, knows, size_at_condition, conditions_count}
+use Rattle.scf_compare.proofs.Rules.{read_here, same_here, contains_here, met_by, held_more, fails_by, unmet_failing, unmet_more, knows, size_at_condition}
 use Rattle.scf_compare.proofs.profile.follow.Goals as goal
 
 none : Condition
@@ -52,12 +51,6 @@ overflow_add-result c =
     let within : index < length a.conditions = slice_get_within a.conditions index read.0 read.1.condition_here in
     omega (arith, within, ap length c.as_slice-conditions.ensures, c.as_slice-conditions.type_inv.0)
 
-pub overflow_add-place : goal.overflow_add-place
-overflow_add-place c = grind (arith, common_steps, slice_get_within)
-
-pub next_rule-requires : goal.next_rule-requires
-next_rule-requires c = grind (arith, common_steps, slice_get_within)
-
 pub returns-then-index-conditions-clause-reached : goal.returns-then-index-conditions-clause-reached
 returns-then-index-conditions-clause-reached c =
     let rules = c.args.rules.now in
@@ -78,9 +71,6 @@ returns-then-index-conditions-clause-reached c =
     subst (λ (r : Rule). ProfileAnswers (profile_with c.args.default_answer rules) (call_of words) r.answer.0) same
     (by_rule rule at.native (contains_here rules place rule stands.rule_here)
     (met_by (call_of words) rule at.number hold)))
-
-pub returns-then-index-conditions-clause-size : goal.returns-then-index-conditions-clause-size
-returns-then-index-conditions-clause-size c = grind (arith, common_steps, conditions_count)
 
 pub returns-else-index-conditions-clause-node : goal.returns-else-index-conditions-clause-node
 returns-else-index-conditions-clause-node c =

@@ -1,9 +1,8 @@
-use Rattle.std.proofs.lemmas.Grind.{common_steps}
-use Rattle.std.proofs.Common.{◌≡◌, refl, sym, ap, ◌∙◌, arith}
+use Rattle.std.proofs.Common.{◌≡◌, refl, sym, ap, ◌∙◌}
 use Rattle.scf_insn.specs.Words.{call_of}
 use Rattle.scf_profile.specs.declared.rule.Rule.{Rule}
 use Rattle.scf_profile.specs.ProfileAnswers.{by_default}
-use Rattle.scf_compare.proofs.Rules.{read_here, rules_kept, unmet_all}
+use Rattle.scf_compare.proofs.Rules.{read_here, unmet_all}
 use Rattle.scf_compare.proofs.profile.next_rule.Goals as goal
 
 pub returns-then-rules-place-clause-reached : goal.returns-then-rules-place-clause-reached
@@ -22,9 +21,6 @@ returns-then-rules-place-clause-reached c =
       unmet = c.loop-place.invariant.unmet (call_of words) number unmet;
       held = refl;
     })
-
-pub returns-then-rules-place-clause-size : goal.returns-then-rules-place-clause-size
-returns-then-rules-place-clause-size c = grind (arith, common_steps, read_here, rules_kept)
 
 pub returns-clause-reached : goal.returns-clause-reached
 returns-clause-reached c =

@@ -1,14 +1,10 @@
-use Rattle.std.proofs.lemmas.Grind.{common_steps}
 use Rattle.std.proofs.Common.{◌+◌, ◌<ℤ◌, ◌≤ℤ◌, [], subst, take, arith}
 use Rattle.std.proofs.lemmas.Int.{ints}
 use Rattle.scf_insn.specs.Answers.{rank_of}
 use Rattle.scf_machine.specs.Precedence.{StackAnswers}
 use Rattle.scf_machine.proofs.Stacks.{one_more}
-use Rattle.scf_compare.proofs.Stacks.{first_decides, lesser_wins, other_wins}
+use Rattle.scf_compare.proofs.Stacks.{lesser_wins, other_wins}
 use Rattle.scf_compare.proofs.stack.decided_at.Goals as goal
-
-pub returns-in_default-clause-decides : goal.returns-in_default-clause-decides
-returns-in_default-clause-decides c = grind (arith, common_steps, first_decides)
 
 pub returns-then-rank-clause-decides : goal.returns-then-rank-clause-decides
 returns-then-rank-clause-decides c =

@@ -1,5 +1,4 @@
 -- The turns of the filter that is asked are turns of the stack, and where it ends the next one begins.
-use Rattle.std.proofs.lemmas.Grind.{common_steps}
 use Rattle.std.proofs.Common.{◌≡◌, ◌+◌, ◌*◌, ◌<◌, ◌≤◌, ℕ, List, length, drop, sym, subst, ap, ◌∙◌, arith}
 use Rattle.std.proofs.lemmas.List.{take_all}
 use Rattle.std.proofs.Math.Nat.{mul-le-mul_left}
@@ -19,9 +18,6 @@ filter_of-requires c = c.loop-next.invariant.node.0
 
 pub turn-requires : goal.turn-requires
 turn-requires c = rw c.filter_of.ensures c.loop-next.invariant.node.1
-
-pub returns-in-Go-clause-costs : goal.returns-in-Go-clause-costs
-returns-in-Go-clause-costs c = grind (arith, common_steps, paths_count, scaled_costs)
 
 -- a turn's costs in the tree of a filter, with the newer filters behind each of its ends
 whole_costs : (filters : List (List Insn)) (place a b n whole : ℕ) → a + b + 1 ≤ n

@@ -1,8 +1,7 @@
-use Rattle.std.proofs.lemmas.Grind.{common_steps}
 use Rattle.std.proofs.Common.{arith}
 use Rattle.std.specs.Prelude.{slice_index}
 use Rattle.std.proofs.lemmas.Nat.{xor_lt}
-use Rattle.scf_compare.proofs.Images.{image_is, image_isnt, image_below}
+use Rattle.scf_compare.proofs.Images.{image_isnt, image_below}
 use Rattle.scf_compare.proofs.image.Image.is.Goals.{then-value-mask-via-then-value-mask, then-value-mask-via-else-value-mask+then-value-self}
 use Rattle.scf_compare.proofs.image.Image.is.Goals as goal
 
@@ -16,6 +15,3 @@ returns-then-value-mask-clause-decides c = let image = c.args.self in
           image_below (slice_index words image.word) image.right image.left image.mask image.flipped c.args.v
           (xor_lt 32 c.args.v image.flipped (omega arith) (omega arith)) w.if-value-self.true
     ]
-
-pub returns-clause-decides : goal.returns-clause-decides
-returns-clause-decides c = grind (arith, common_steps, image_is)

@@ -1,6 +1,4 @@
-use Rattle.std.proofs.lemmas.Grind.{common_steps}
-use Rattle.std.proofs.Common.{arith}
-use Rattle.scf_compare.proofs.Images.{image_or, mask_within, mask_left}
+use Rattle.scf_compare.proofs.Images.{mask_within, mask_left}
 use Rattle.scf_compare.proofs.image.Image.or.Goals as goal
 
 pub returns-clause-image : goal.returns-clause-image
@@ -10,6 +8,3 @@ returns-clause-image c = let image = c.args.self in record {
   left = c.requires.left;
   mask = mask_within image.mask _ image.left image.right c.requires.mask (mask_left image.mask c.args.v);
 }
-
-pub returns-clause-number : goal.returns-clause-number
-returns-clause-number c = grind (arith, common_steps, image_or)

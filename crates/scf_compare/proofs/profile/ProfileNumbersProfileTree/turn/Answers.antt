@@ -1,14 +1,4 @@
-use Rattle.std.proofs.lemmas.Grind.{common_steps}
-use Rattle.std.proofs.Common.{arith}
-use Rattle.scf_profile.specs.ProfileAnswers.{foreign}
-use Rattle.scf_compare.proofs.Bits.{word_is, word_isnt, at_least, below}
 use Rattle.scf_compare.proofs.profile.ProfileNumbersProfileTree.turn.Goals as goal
-
-pub returns-in-Architecture-clause-leads : goal.returns-in-Architecture-clause-leads
-returns-in-Architecture-clause-leads g c = grind (arith, common_steps, foreign, word_is, word_isnt)
-
-pub returns-in-Range-clause-leads : goal.returns-in-Range-clause-leads
-returns-in-Range-clause-leads g c = grind (arith, common_steps, at_least, below, foreign)
 
 pub returns-in-Number-clause-leads : goal.returns-in-Number-clause-leads
 returns-in-Number-clause-leads g c =

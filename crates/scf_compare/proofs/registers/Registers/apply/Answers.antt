@@ -49,7 +49,9 @@ returns-in-Compute-clause-describes c = λ words s t w d e.
 
 pub returns-in-Negate-clause-describes : goal.returns-in-Negate-clause-describes
 returns-in-Negate-clause-describes c = λ words s t w d e.
-    let set = c.set-in-Negate.ensures.describes words s _ d (c.negated-negated.ensures.stands words s.a d.a) in grind arith
+    let negated = c.negated-negated.ensures.stands words s.a d.a in
+    let set = c.set-in-Negate.ensures.describes words s _ d negated in
+    grind arith
 
 pub returns-in-CopyToIndex-clause-describes : goal.returns-in-CopyToIndex-clause-describes
 returns-in-CopyToIndex-clause-describes c = λ words s t w d e.
