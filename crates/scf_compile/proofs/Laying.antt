@@ -33,26 +33,11 @@ module _ (default : Answer) (wanted : ℕ → List Rule) where
   served_push low middle high (t ∷ ts) s before is =
       (before.0, before.1, served_push before.0 middle high ts s before.2 is)
 
-  served_on : (low middle high : ℕ) (ss : List Stretch) (s : Stretch)
-      → AreServed default wanted low (ss ++ s ∷ []) middle → middle < high
-      → ((nr : ℕ) → middle ≤ nr → nr < high → StandsFor default (rules_at s.rules.now) (wanted nr))
-      → AreServed default wanted low (ss ++ s ∷ []) high
-  served_on low middle high [] s before lt stand =
-      let some = before.1.some in
-      let end = before.2 in (
-        high,
-        record {
-          first = before.1.first;
-          some = omega arith;
-          stand = λ nr from below. elim (cases_lt nr middle) [
-            | inl inside ↦ before.1.stand nr from (omega arith)
-            | inr past ↦ stand nr past below
-          ];
-        },
-        refl,
-      )
-  served_on low middle high (t ∷ ts) s before lt stand =
-      (before.0, before.1, served_on before.0 middle high ts s before.2 lt stand)
+  pub served_parts : (low high : ℕ) (ss ts : List Stretch) → AreServed default wanted low (ss ++ ts) high
+      → (middle : ℕ) × AreServed default wanted low ss middle × AreServed default wanted middle ts high
+  served_parts low high [] ts served = (low, refl, served)
+  served_parts low high (s ∷ ss) ts served =
+      let rest = served_parts served.0 high ss ts served.2 in (rest.0, (served.0, served.1, rest.1), rest.2)
 
   served_more : (before after : List Stretch) (next limit : ℕ) (rules : List (Bor Rule))
       → IsLaid before next rules after → AreServed default wanted 0 before next → next < limit
@@ -62,12 +47,22 @@ module _ (default : Answer) (wanted : ℕ → List Rule) where
       rw put (served_push 0 next limit before s served
       (record { first = first; some = lt; stand = λ nr from below. rw is (stand nr from below) }))
   served_more before after next limit rules (goes_on earlier last is alike same) served lt stand =
-      rw (same, is) (served_on 0 next limit earlier last (rw is at served) lt (λ nr from below.
-      let own = alike default in
-      let rest = stand nr from below in
-      record {
-        answers = λ call. own.answers call ∙ rest.answers call;
-        small = let m = own.small in let n = rest.small in omega arith;
+      let parts = served_parts 0 next earlier (last ∷ []) (rw is at served) in
+      let own = parts.2.1 in
+      let end = parts.2.2 in
+      rw (same, is) (served_push 0 parts.0 limit earlier last parts.1 (record {
+        first = own.first;
+        some = let some = own.some in omega arith;
+        stand = λ nr from below. elim (cases_lt nr next) [
+          | inl inside ↦ own.stand nr from (omega arith)
+          | inr past ↦
+              let first = alike default in
+              let rest = stand nr past below in
+              record {
+                answers = λ call. first.answers call ∙ rest.answers call;
+                small = let m = first.small in let n = rest.small in omega arith;
+              }
+        ];
       }))
 
 all_rules_more : {before after : List Stretch} {first : ℕ} {rules : List (Bor Rule)} (P : Rule → Type 0)
@@ -90,14 +85,11 @@ pub goes_on_last : (before : List Stretch) (first : ℕ) (last : Stretch) (rules
     → last ≡ get_or before (length before - 1) last
     → ((default : Answer) → StandsFor default (rules_at last.rules.now) (rules_at rules))
     → IsLaid before first rules before
-goes_on_last before first last rules some is alike = goes_on (take (length before - 1) before) last ends alike refl
-  where
-    ends : before ≡ take (length before - 1) before ++ last ∷ []
-    ends =
-        let len : (length before - 1) + 1 ≡ length before = omega arith in
-        sym (take_all (length before) before (omega arith)) ∙ ap (λ (n : ℕ). take n before) (sym len)
-        ∙ take_more before (length before - 1) last (omega arith)
-        ∙ ap (λ (s : Stretch). take (length before - 1) before ++ s ∷ []) (sym is)
+goes_on_last before first last rules some is alike =
+    let k = length before - 1 in
+    goes_on (take k before) last
+    (sym (take_all (k + 1) before (omega arith)) ∙ take_more before k last (omega arith)
+    ∙ ap (λ (s : Stretch). take k before ++ s ∷ []) (sym is)) alike refl
 
 -- ---- the numbers one after another
 

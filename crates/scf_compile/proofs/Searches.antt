@@ -1,6 +1,6 @@
 -- The search of stretches finds that of each number.
 use Rattle.std.proofs.Common.{◌≡◌, ℕ, zero, suc, ◌+◌, ◌-◌, ◌*◌, ◌^◌, ◌<◌, ◌≤◌}
-use Rattle.std.proofs.Common.{All, List, [], ◌∷◌, ◌++◌, length, get_or, take, drop, refl, sym, ap, ◌∙◌, arith}
+use Rattle.std.proofs.Common.{All, List, [], ◌∷◌, ◌++◌, length, get_or, take, drop, sym, ap, ◌∙◌, arith}
 use Rattle.std.proofs.Common.{length-append, append_assoc, sum_by}
 use Rattle.std.proofs.Math.ListN.{length-take, length-drop}
 use Rattle.std.proofs.lemmas.Bool.Decides.{nat_tests}
@@ -28,6 +28,7 @@ use Rattle.scf_compile.specs.internal.Placing.{branch_code, code_from, IsFirst, 
 use Rattle.scf_compile.specs.internal.Filters.{rules_code, ArePut, IsSearchPut}
 use Rattle.scf_compile.specs.internal.Runs.{EndsWithin}
 use Rattle.scf_compile.specs.internal.Stretches.{AllRules, AreServed, first_answer, stretch_bound}
+use Rattle.scf_compile.proofs.Laying.{served_parts}
 use Rattle.scf_compile.proofs.Runs.{more}
 use Rattle.scf_compile.proofs.RuleCode.{rules_answer, rules_bounded, branch_ends, branch_sound, branch_few}
 use Rattle.scf_compile.proofs.RuleCode.{from_behind, from_first, first_near, answers_put, answers_there}
@@ -71,18 +72,16 @@ branch_put {before} {both} {after} {q} {place} hit miss test constant is put som
     let to_hit = length both - hit.0 in
     let to_miss = length both - miss.0 in
     let branch = branch_code test constant to_hit to_miss in
-    record {
-      front = branch ++ put.front;
-      whole = first.whole ∙ ap (λ (l : List Insn). branch ++ l) put.whole ∙ sym (append_assoc branch put.front before);
-      few = let few = put.few in
-          omega (arith, length-append branch put.front, branch_few test constant to_hit to_miss);
+    puts_join {s = Unit {0}} _ put (record {
+      front = branch;
+      whole = first.whole;
+      few = branch_few test constant to_hit to_miss;
       some = let all = first.first in
           omega (arith, ap (λ (l : List Insn). length l) first.whole, length-append branch both);
       near = first_near after place first.first;
-      sound = λ asked plain s. rw first.whole
-          (branch_sound asked test constant to_hit to_miss both (omega arith) (omega arith) is
-          (put.sound asked plain s));
-    }
+      sound = λ asked none s. rw first.whole
+          (branch_sound asked test constant to_hit to_miss both (omega arith) (omega arith) is s);
+    }) (λ e. (e, tt))
 
 -- ---- the search
 
@@ -96,14 +95,6 @@ begins_at : (default : Answer) (wanted : ℕ → List Rule) (low high : ℕ) (ss
 begins_at default wanted low high [] s some is served = absurd (omega arith)
 begins_at default wanted low high (t ∷ ss) s some is served =
     ap (λ (u : Stretch). u.first) is ∙ served.1.first
-
-served_parts : (default : Answer) (wanted : ℕ → List Rule) (low high : ℕ) (ss ts : List Stretch)
-    → AreServed default wanted low (ss ++ ts) high
-    → (middle : ℕ) × AreServed default wanted low ss middle × AreServed default wanted middle ts high
-served_parts default wanted low high [] ts served = (low, refl, served)
-served_parts default wanted low high (s ∷ ss) ts served =
-    let rest = served_parts default wanted served.0 high ss ts served.2 in
-    (rest.0, (served.0, served.1, rest.1), rest.2)
 
 pub halves_sum : (k : ℕ) (ss : List Stretch)
     → sum_by stretch_bound (take k ss) + sum_by stretch_bound (drop k ss) ≡ sum_by stretch_bound ss
