@@ -1,7 +1,7 @@
 -- The first rule that a call meets gives the profile's answer.
-use Rattle.std.proofs.Common.{◌≡◌, ℕ, ◌<◌, Bool, true, false, eqb, List, [], ◌∷◌, refl, sym}
+use Rattle.std.proofs.Common.{◌≡◌, ℕ, ◌<◌, false, List, [], ◌∷◌, refl, sym}
 use Rattle.std.proofs.Common.{subst, arith, inl, inr}
-use Rattle.std.proofs.lemmas.Bool.{and_left, and_right, and_from, eqb-true, eqb-false, eq-eqb, ne_eqb}
+use Rattle.std.proofs.lemmas.Bool.{cases_Bool, cases_eq, and_left, and_right, and_from, eq-eqb, ne_eqb}
 use Rattle.scf_insn.specs.declared.answer.Answer.{Answer}
 use Rattle.scf_insn.specs.declared.record.CallRecord.{CallRecord}
 use Rattle.scf_profile.specs.declared.rule.Rule.{Rule}
@@ -29,15 +29,13 @@ module _ (default : Answer) (call : CallRecord) where
       → ProfileAnswers (with_rules rs) call (first_answer call default (rules_of call.nr rs))
   first_met [] native = by_default native (λ r h. absurd (let lt : h.0 < 0 = h.1 in omega arith))
   first_met (x ∷ xs) native =
-      by_tests (eqb x.number call.nr) (all_hold call x.conditions) refl refl (first_met xs native)
-    where
-      by_tests : (same met : Bool) → eqb x.number call.nr ≡ same → all_hold call x.conditions ≡ met
-          → ProfileAnswers (with_rules xs) call (first_answer call default (rules_of call.nr xs))
-          → ProfileAnswers (with_rules (x ∷ xs)) call (first_answer call default (rules_of call.nr (x ∷ xs)))
-      by_tests false met s m rest =
-          let other = ne_eqb call.nr x.number (λ e. eqb-false x.number call.nr s (sym e)) in
-          rw s (passed x xs _ (and_left _ _ other) rest)
-      by_tests true true s m rest =
-          let same = eq-eqb call.nr x.number (sym (eqb-true x.number call.nr s)) in
-          rw (s, m) (by_rule x native (0, omega arith, refl) (and_from _ _ same m))
-      by_tests true false s m rest = rw (s, m) (passed x xs _ (and_right _ _ m) rest)
+      let rest = first_met xs native in
+      elim (cases_eq x.number call.nr) [
+        | inr other ↦ rw (ne_eqb x.number call.nr other)
+            (passed x xs _ (and_left _ _ (ne_eqb call.nr x.number (λ e. other (sym e)))) rest)
+        | inl same ↦ elim (cases_Bool (all_hold call x.conditions)) [
+          | inl met ↦ rw (eq-eqb x.number call.nr same, met)
+              (by_rule x native (0, omega arith, refl) (and_from _ _ (eq-eqb call.nr x.number (sym same)) met))
+          | inr unmet ↦ rw (eq-eqb x.number call.nr same, unmet) (passed x xs _ (and_right _ _ unmet) rest)
+        ]
+      ]

@@ -51,6 +51,14 @@ pub record Tests (code : List Insn) (hit miss most : ℕ) (plain : Type 0) (met 
       → (met call ≡ false → (b : ℕ) → EndsWithin (words_of call) (drop miss rest) b answer left)
       → EndsWithin (words_of call) (code ++ rest) a answer (most + left)
 
+-- no code is a test that is always met
+no_tests : (miss : ℕ) (plain : Type 0) → Tests [] 0 miss 0 plain (λ _. true)
+no_tests miss plain = record {
+  len = omega arith;
+  sound = λ asked rest is h m s. s;
+  ends = λ call fits rest answer left a over under. more (over refl a) (omega arith);
+}
+
 -- the same test, said in other words
 tests_as : {code : List Insn} {hit miss : ℕ} {p : Type 0} {f : CallRecord → Bool} (most n : ℕ) (q : Type 0)
     (g : CallRecord → Bool) → Tests code hit miss most p f → most ≤ n → (q → p)
@@ -128,12 +136,9 @@ module _ (word : ℕ) (n : CallRecord → ℕ) (lt : word < 16)
 
   by_kind : (kind : MaskKind) → IsOfKind kind mask
       → Tests (half_code_of kind word mask wanted out) 0 out 3 (IsSimpleMask mask) kept
-  by_kind Empty kind = record {
-    len = omega arith;
-    sound = λ asked rest plain h m s. s;
-    ends = λ call h rest answer left a over under.
-        more (over (under_empty (n call) mask wanted kind within) a) (omega arith);
-  }
+  by_kind Empty kind =
+      tests_as 0 3 (IsSimpleMask mask) kept (no_tests out (IsSimpleMask mask)) (omega arith) (λ s. s)
+      (λ call h. sym (under_empty (n call) mask wanted kind within))
   by_kind OneBit kind =
       tests_as 2 3 (IsSimpleMask mask) kept (bit_tests (eqb wanted 0) refl kind) (omega arith) (λ s. s) (λ call h. refl)
   by_kind Full kind =
@@ -263,11 +268,7 @@ module _ (index : ℕ) (lt : index < 6) where
 -- Conditions one after another pass one instruction more where one of them fails.
 pub conditions_tests : (cs : List Condition) → AllByRecursion IsCondition cs
     → Tests (conditions_code cs) 0 1 (6 * length cs) (AllByRecursion IsPlainCondition cs) (λ call. all_hold call cs)
-conditions_tests [] fine = record {
-  len = omega arith;
-  sound = λ asked rest plain h m s. s;
-  ends = λ call fits rest answer left a over under. more (over refl a) (omega arith);
-}
+conditions_tests [] fine = no_tests 1 _
 conditions_tests (c ∷ cs) fine =
     let index = fine.0.index in
     tests_as _ _ _ _

@@ -1,5 +1,6 @@
-use Rattle.std.proofs.Common.{rules, ◌≡◌, ℕ, Bool, true, false, cond, Bor, List, [], ◌∷◌, refl, sym, ap, ◌∙◌, inr, arith}
+use Rattle.std.proofs.Common.{rules, ◌≡◌, Bor, List, [], ◌∷◌, refl, sym, ap, inl, inr, arith}
 use Rattle.std.specs.List.{AllByRecursion}
+use Rattle.std.proofs.lemmas.Bool.{cases_Bool}
 use Rattle.std.proofs.lemmas.List.Elements.{All-map, recursion_from_All}
 use Rattle.scf_insn.specs.declared.answer.Answer.{Answer}
 use Rattle.scf_insn.specs.declared.record.CallRecord.{CallRecord}
@@ -9,17 +10,14 @@ use Rattle.scf_profile.specs.Rule.{all_hold}
 use Rattle.scf_compile.specs.internal.Stretches.{first_answer}
 use Rattle.scf_compile.proofs.stretches.telling_rules.Goals as goal
 
-either_way : (met : Bool) (a b : ℕ) → a ≡ b → cond met a b ≡ b
-either_way true a b e = e
-either_way false a b e = refl
-
 of_default : (default : Answer) (call : CallRecord) (rs : List Rule) → AllByRecursion (λ r. r.answer ≡ default) rs
     → first_answer call default rs ≡ default.0
 of_default default call [] h = refl
 of_default default call (r ∷ rs) h =
-    let rest = of_default default call rs h.1 in
-    either_way (all_hold call r.conditions) r.answer.0 (first_answer call default rs)
-    (ap (λ (answer : Answer). answer.0) h.0 ∙ sym rest) ∙ rest
+    elim (cases_Bool (all_hold call r.conditions)) [
+      | inl met ↦ rw met (ap (λ (answer : Answer). answer.0) h.0)
+      | inr unmet ↦ rw unmet (of_default default call rs h.1)
+    ]
 
 pub returns-then-all : goal.returns-then-all
 returns-then-all c =
