@@ -5,7 +5,8 @@ use Rattle.std.proofs.Common.{arith, inl, inr, length-append, sum_by}
 use Rattle.std.specs.Prelude.{Contains}
 use Rattle.std.specs.List.{AllByRecursion, IsDistinct, list_any}
 use Rattle.std.proofs.lemmas.Bool.{cases_Bool, cases_eq, ne_eqb, not_from_false}
-use Rattle.std.proofs.lemmas.List.Elements.{Contains-append_right}
+use Rattle.std.proofs.Common.{◌≢◌}
+use Rattle.std.proofs.lemmas.List.Elements.{All-from_recursion, All-map, Contains-append_right, recursion_from_All}
 use Rattle.std.proofs.lemmas.List.{drop_more, length-map, take_more}
 use Rattle.std.proofs.lemmas.List.Sums.{sum_by-cons, sum_by-append}
 use Rattle.std.proofs.lemmas.Map.Steps.{length-le_from_distinct_below}
@@ -78,12 +79,11 @@ conditions_len_from cs i len d lt h =
 distinct : (cs : List Condition) → HaveDistinctIndices cs → IsDistinct eqb (map (λ c. c.index) cs)
 unfolding IsDistinct
 distinct [] h = tt
-distinct (c ∷ cs) h = (apart cs h.0, distinct cs h.1)
-  where
-    apart : (ds : List Condition) → AllByRecursion (λ d. c.index ≡ d.index → ⊥) ds
-        → AllByRecursion (λ i. eqb c.index i ≡ false) (map (λ d. d.index) ds)
-    apart [] h = tt
-    apart (d ∷ ds) h = (ne_eqb c.index d.index h.0, apart ds h.1)
+distinct (c ∷ cs) h =
+    let P : ℕ → Type 0 = λ i. eqb c.index i ≡ false in
+    let apart = All-map P (λ (d : Condition). d.index) cs
+    (λ k d lt. ne_eqb c.index _ (All-from_recursion (λ d. c.index ≢ d.index) cs h.0 k d lt)) in
+    (recursion_from_All P (map (λ d. d.index) cs) apart, distinct cs h.1)
 
 below_six : (cs : List Condition) (i : ℕ) → AllByRecursion IsCondition cs
     → list_any (eqb i) (map (λ c. c.index) cs) ≡ true → i < 6
@@ -112,9 +112,8 @@ pub rules_code_from : (default : Answer) (refs : List (Bor Rule)) (i : ℕ) (r :
     → r ≡ get_or refs i r → 0 < length r.now.conditions
     → rules_code default (rules_at (drop i refs)) ≡ rule_code r.now ++ rules_code default (rules_at (drop (i + 1) refs))
 rules_code_from default refs i r lt is some =
-    ap (λ (l : List (Bor Rule)). rules_code default (rules_at l)) (next_at refs i r lt is)
-    ∙ ap (λ (others : List Insn). rule_code r.now ++ others)
-    (behind_some r.now.conditions (rules_code default (rules_at (drop (i + 1) refs))) some)
+    rw (next_at refs i r lt is)
+    (rw (behind_some r.now.conditions (rules_code default (rules_at (drop (i + 1) refs))) some) refl)
 
 -- ---- the distinct numbers
 

@@ -38,6 +38,6 @@ loop-i-preserved c =
     let code = c.args.code.now.items in
     let i = c.loop-i.i in
     let inside : i < length code = search rules in
-    let apart : get_or code i c.args.wanted ≢ c.args.wanted = λ same. grind (arith, common_steps) in
     rw (take_more code i c.args.wanted inside)
-    (All-push (λ insn. insn ≢ c.args.wanted) (take i code) (get_or code i c.args.wanted) c.loop-i.invariant apart)
+    (All-push (λ insn. insn ≢ c.args.wanted) (take i code) (get_or code i c.args.wanted) c.loop-i.invariant
+    (λ same. grind (arith, common_steps)))

@@ -1,28 +1,18 @@
-use Rattle.std.proofs.Common.{rules, ◌≡◌, ◌++◌, ◌∷◌, ◌-◌, ◌+◌, ◌<◌, List, drop, get_or, length, sym, ap, ◌∙◌, subst}
+use Rattle.std.proofs.Common.{rules, ◌≡◌, ◌++◌, ◌-◌, List, drop, get_or, length, ap, ◌∙◌, subst}
 use Rattle.std.proofs.Common.{arith, inr}
-use Rattle.std.proofs.lemmas.List.{drop_all, drop_more}
+use Rattle.std.proofs.lemmas.Grind.{common_steps}
+use Rattle.std.proofs.lemmas.List.{drop_more}
 use Rattle.scf_insn.specs.declared.insn.Insn.{Insn}
 use Rattle.scf_compile.specs.internal.Placing.{IsOutOfReach}
 use Rattle.scf_compile.proofs.RuleCode.{first_near, from_first}
 use Rattle.scf_compile.proofs.placing.put_block.Goals as goal
 use Rattle.scf_compile.proofs.placing.put_block.Goals.{then-block-eq1+in_default, else-block-eq1}
 
-pub loop-i-init : goal.loop-i-init
-loop-i-init c =
-    let block = c.args.block.now in
-    ap (λ (l : List Insn). l ++ c.args.code.now.items) (sym (drop_all (length block) block (omega arith)))
-
 pub loop-i-preserved : goal.loop-i-preserved
 loop-i-preserved c =
     let block = c.args.block.now in
-    let i = c.loop-i.i - 1 in
-    let inside : i < length block = search rules in
-    let more : i + 1 ≡ c.loop-i.i = search rules in
-    let old = c.args.code.now.items in
-    let here : List Insn → List Insn = λ rest. get_or block i (record { code = 0; jt = 0; jf = 0; k = 0 }) ∷ rest in
-    c.in_ok-push_front.ensures.items
-    ∙ ap here (c.loop-i.invariant ∙ ap (λ n. drop n block ++ old) (sym more))
-    ∙ ap (λ (l : List Insn). l ++ old) (sym (drop_more block i (record { code = 0; jt = 0; jf = 0; k = 0 }) inside))
+    let more = drop_more block (c.loop-i.i - 1) (record { code = 0; jt = 0; jf = 0; k = 0 }) (search rules) in
+    grind (arith, common_steps, more)
 
 pub returns : goal.returns
 returns c =

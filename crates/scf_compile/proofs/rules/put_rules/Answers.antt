@@ -1,7 +1,6 @@
-use Rattle.std.proofs.Common.{rules, ◌+◌, ◌<◌, ◌++◌, Bor, List, length, drop, sym, ap, ◌∙◌, append_assoc, arith}
+use Rattle.std.proofs.Common.{rules, ◌+◌, ◌<◌, Bor, length, drop, append_assoc, arith}
 use Rattle.std.proofs.lemmas.List.{get_or-map, length-map}
 use Rattle.scf_profile.specs.declared.rule.Rule.{Rule}
-use Rattle.scf_insn.specs.declared.insn.Insn.{Insn}
 use Rattle.scf_profile.specs.ByNumber.{rules_at}
 use Rattle.scf_compile.specs.internal.Filters.{rule_code, rules_code}
 use Rattle.scf_compile.proofs.Sizes.{rules_code_from}
@@ -21,10 +20,10 @@ pub loop-rule-preserved : goal.loop-rule-preserved
 loop-rule-preserved c =
     let r = c.rule-item.result in
     let some : 0 < length r.now.conditions = search rules in
-    let rest = rules_code c.args.default (rules_at (drop (c.loop-rule.rule-index + 1) c.args.rules.now)) in
-    ap (λ (code : List Insn). code ++ rest) c.in_ok-put_rule.ensures
-    ∙ append_assoc c.loop-rule.code.items (rule_code r.now) rest
-    ∙ ap (λ (code : List Insn). c.loop-rule.code.items ++ code)
-    (sym (rules_code_from c.args.default c.args.rules.now c.loop-rule.rule-index r c.loop-rule-test.true
-    c.rule-item.is some))
-    ∙ c.loop-rule.invariant
+    let refs = c.args.rules.now in
+    let rest = rules_code c.args.default (rules_at (drop (c.loop-rule.rule-index + 1) refs)) in
+    rw (
+      c.in_ok-put_rule.ensures,
+      append_assoc c.loop-rule.code.items (rule_code r.now) rest,
+      ← rules_code_from c.args.default refs c.loop-rule.rule-index r c.loop-rule-test.true c.rule-item.is some,
+    ) c.loop-rule.invariant

@@ -1,8 +1,7 @@
-use Rattle.std.proofs.Common.{rules, ◌≡◌, ◌≤◌, true, List, [], ◌∷◌, length, refl, sym, ◌∙◌, arith}
-use Rattle.std.proofs.lemmas.Bool.{and_parts}
+use Rattle.std.proofs.Common.{rules, ◌≡◌, ◌≤◌, true, List, ◌∷◌, length, refl, sym, ◌∙◌, arith}
 use Rattle.std.proofs.lemmas.List.{drop_all}
 use Rattle.std.proofs.lemmas.List.Sums.{sum_by-cons}
-use lib.Pointwise.{pointwise}
+use lib.Pointwise.{pointwise, pointwise_decides}
 use Rattle.scf_insn.specs.declared.answer.Answer.{Answer}
 use Rattle.scf_profile.specs.declared.condition.Condition.{Condition}
 use Rattle.scf_profile.specs.contracts.condition.ConditionPartialEq.TheImpl.{eq-value}
@@ -12,19 +11,9 @@ use Rattle.scf_compile.specs.internal.Stretches.{StandsFor}
 use Rattle.scf_compile.proofs.Lists.{next_at}
 use Rattle.scf_compile.proofs.stretches.are_alike.Goals as goal
 
-same_condition : (c d : Condition) → eq-value.it c d ≡ true → c ≡ d
-same_condition c d e = search rules
-
 -- conditions that `==` takes as equal are
 same_conditions : (cs ds : List Condition) → pointwise eq-value.it cs ds ≡ true → cs ≡ ds
-same_conditions [] [] e = refl
-same_conditions [] (d ∷ ds) e = absurd (cc)
-same_conditions (c ∷ cs) [] e = absurd (cc)
-same_conditions (c ∷ cs) (d ∷ ds) e =
-    let both = and_parts (eq-value.it c d) (pointwise eq-value.it cs ds) e in
-    let first = same_condition c d both.0 in
-    let rest = same_conditions cs ds both.1 in
-    cc
+same_conditions cs ds = (pointwise_decides {E = eq-value.it} (λ c d. (λ e. search rules, λ e. search rules)) cs ds).0
 
 -- one more rule in front
 one_more : {default : Answer} {rs ss : List Rule} (r s : Rule) → r.conditions ≡ s.conditions → r.answer ≡ s.answer
