@@ -1,10 +1,10 @@
 -- The first line of a text, and the first field of a line.
 use Rattle.std.proofs.Common.{◌≡◌, ℕ, ◌+◌, ◌<◌, Bool, true, false, cond, eqb, ltb, List, [], ◌∷◌, ◌++◌, length, get_or}
-use Rattle.std.proofs.Common.{take, drop, All, refl, sym, ap, ◌∙◌, arith, add-one, inl, inr, ◌⊎◌}
+use Rattle.std.proofs.Common.{take, drop, All, refl, sym, ap, ◌∙◌, arith, add-one, zero, suc}
 use Rattle.std.specs.List.{slice_split, filter}
 use Rattle.std.specs.Str.Lines.{lines, lines_of_parts, strip_carriage_return}
 use Rattle.std.proofs.Math.Seq.{drop-cons}
-use Rattle.std.proofs.lemmas.Bool.{lt-ltb, ne_eqb, cond-true, cases_eq, both_ways}
+use Rattle.std.proofs.lemmas.Bool.{lt-ltb, ne_eqb, both_ways}
 use Rattle.std.proofs.lemmas.List.{take-append-drop, length-take}
 use Rattle.std.proofs.lemmas.List.Splits.{slice_split_at, slice_split_none, slice_split-cons_yes, length-slice_split}
 use Rattle.scf_profile.specs.Table.{is_blank, fields}
@@ -58,26 +58,10 @@ field_ends xs i pos lt none here =
     ∙ kept (take i xs) (slice_split is_blank (drop (i + 1) xs)) (omega (arith, length-take i xs))
     ∙ ap (λ (fs : List (List ℕ)). take i xs ∷ fs) (sym rest)
 
-pub last_field : (xs : List ℕ) → 0 < length xs → All (λ b. is_blank b ≡ false) xs → fields xs ≡ xs ∷ []
-last_field xs h none = ap (filter (λ part. ltb 0 (length part))) (slice_split_none is_blank xs none) ∙ kept xs [] h
-
--- the words of the contract of `first_field`
-pub first_or_none : (fs : List (List ℕ)) (x rest : List ℕ) → fs ≡ x ∷ fields rest → 0 < length x
-    → fs ≡ cond (ltb 0 (length x)) (x ∷ fields rest) []
-first_or_none fs x rest e h = e ∙ sym (cond-true (ltb 0 (length x)) (x ∷ fields rest) [] (lt-ltb 0 (length x) h))
-
-all_or_none_at : (xs : List ℕ) → (length xs ≡ 0) ⊎ (length xs ≡ 0 → ⊥) → All (λ b. is_blank b ≡ false) xs
-    → fields xs ≡ cond (ltb 0 (length xs)) (xs ∷ []) []
-all_or_none_at [] h none = refl
-all_or_none_at (b ∷ bs) h none = first_or_none _ (b ∷ bs) [] (last_field (b ∷ bs) (omega arith) none) (omega arith)
-
 pub all_or_none : (xs : List ℕ) → All (λ b. is_blank b ≡ false) xs → fields xs ≡ cond (ltb 0 (length xs)) (xs ∷ []) []
-all_or_none xs none = all_or_none_at xs (cases_eq (length xs) 0) none
+all_or_none xs none = ap (filter (λ part. ltb 0 (length part))) (slice_split_none is_blank xs none)
 
 -- the first byte is no blank, so a blank stands later
 pub first_passes : (xs : List ℕ) (i : ℕ) → is_blank (get_or xs 0 0) ≡ false → is_blank (get_or xs i 0) ≡ true → 0 < i
-first_passes xs i first here =
-    elim (cases_eq i 0) [
-      | inl e ↦ absurd (both_ways _ first (ap (λ (n : ℕ). is_blank (get_or xs n 0)) (sym e) ∙ here))
-      | inr h ↦ omega arith
-    ]
+first_passes xs zero first here = absurd (both_ways _ first here)
+first_passes xs (suc i) first here = omega arith

@@ -1,16 +1,16 @@
 -- The least of clashes, rule by rule.
 use Rattle.std.proofs.Common.{◌≡◌, ℕ, ◌<◌, length, List, Option, Some, None, All, ◌⊎◌, inl, inr, sym, subst, eqb, arith, Bor, refl}
 use Rattle.std.proofs.Common.{get_or}
-use Rattle.std.specs.Prelude.{Any, IfSome, IfNone, Contains}
+use Rattle.std.specs.Prelude.{Any, IfSome, Contains}
 use Rattle.std.proofs.lemmas.Bool.{eq-eqb}
 use Rattle.std.proofs.lemmas.Bool.Decides.{nat_tests}
 use Rattle.std.proofs.lemmas.List.{get_or-map, length-map}
 use Rattle.std.proofs.lemmas.List.Elements.{All-contains, All-contains_itself, All-filter, All-same, All-map}
 use Rattle.scf_profile.specs.declared.conflict.Clash.{Clash}
 use Rattle.scf_profile.specs.declared.rule.Rule.{Rule}
-use Rattle.scf_profile.specs.internal.Clashes.{IsBoundedBy, IsClashBounded, IsClashOf}
+use Rattle.scf_profile.specs.internal.Clashes.{IsBoundedBy, IsClashBounded, IsClashOf, IsLeastClash}
 use Rattle.scf_profile.specs.ByNumber.{rules_at}
-use Rattle.scf_profile.specs.Loading.{EntriesConflict, IsLeastConflict}
+use Rattle.scf_profile.specs.Loading.{EntriesConflict}
 use Rattle.scf_profile.specs.Rule.{Conflicts}
 use Rattle.scf_profile.specs.RulesByNumber.{rules_of}
 use Rattle.scf_profile.proofs.Numbers.{contains_filtered}
@@ -70,17 +70,11 @@ bounded rules least all first second number (i, rule, i_lt, rule_is, (j, later, 
     All-contains (IsClashBounded least later) rules rule with_later (i, i_lt, rule_is) _ clash
 
 pub least_found : (rules : List Rule) (least : Option Clash) → AreBounded rules least
-    → IfSome least (λ c. EntriesConflict rules c.first c.second c.number)
-    → IfSome least (λ c. IsLeastConflict rules c.number c.first c.second)
-least_found rules None all found = tt
+    → IfSome least (λ c. EntriesConflict rules c.first c.second c.number) → IsLeastClash rules least
+least_found rules None all found = bounded rules None all
 least_found rules (Some c) all found = record {
   conflict = found;
   least_second = λ f s n e. (bounded rules (Some c) all f s n e).second;
   least_first = λ f n e. (bounded rules (Some c) all f c.second n e).first refl;
   least_number = λ n e. (bounded rules (Some c) all c.first c.second n e).number refl refl;
 }
-
-pub none_found : (rules : List Rule) (least : Option Clash) → AreBounded rules least
-    → IfNone least ((first second number : ℕ) → EntriesConflict rules first second number → ⊥)
-none_found rules None all = bounded rules None all
-none_found rules (Some c) all = tt

@@ -1,9 +1,8 @@
 //! Conflicts among rules: the least one, among all pairs of one number.
 
-ghost use Rattle.std.specs.Prelude.{◌≡◌, ◌⊎◌, ℕ, IfOk, IfSome, IfNone, All, Any, Some};
+ghost use Rattle.std.specs.Prelude.{◌≡◌, ◌⊎◌, IfOk, IfSome, All, Any, Some};
 ghost use Rattle.scf_profile.specs.declared.conflict.Clash.{Clash};
-ghost use Rattle.scf_profile.specs.internal.Clashes.{IsBoundedBy, IsClashBounded, IsClashOf};
-ghost use Rattle.scf_profile.specs.Loading.{IsLeastConflict, EntriesConflict};
+ghost use Rattle.scf_profile.specs.internal.Clashes.{IsBoundedBy, IsClashBounded, IsClashOf, IsLeastClash};
 ghost use Rattle.scf_profile.specs.Rule.{IsRule};
 
 use crate::by_number::{rules_by_number, rules_of_number};
@@ -71,9 +70,7 @@ fn least_with(rules: &[&Rule], later: &Rule, known: Option<Clash>) -> Option<Cla
 /// The least conflict among rules, each of which is tested with those of its number. `Err`: a growth was refused.
 pub(crate) fn least_conflict(alloc: Global, rules: &[Rule]) -> Result<Option<Clash>, Memory>
     requires { All IsRule rules.now }
-    ensures least { IfOk result (λ least. IfSome least (λ c. IsLeastConflict rules.now c.number c.first c.second)) }
-    ensures none { IfOk result (λ least. IfNone least
-        ((first second number : ℕ) → EntriesConflict rules.now first second number → ⊥)) }
+    ensures { IfOk result (λ least. IsLeastClash rules.now least) }
 {
     let sorted = rules_by_number(alloc, rules)?;
     let mut least = None;

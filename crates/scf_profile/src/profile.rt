@@ -69,7 +69,7 @@ impl Profile {
     pub fn is_plain(&self) -> bool
         ensures { IsTrue result ↔ IsPlainProfile self.now }
     {
-        are_plain(&self.rules)
+        are_plain(self.rules())
     }
 
     /// What the profile answers to a call: KILL_PROCESS where the call isn't one of x86-64, else the answer of any rule
@@ -91,7 +91,7 @@ impl Profile {
         if !is_native(call) {
             return Reason::Foreign;
         }
-        match first_entry_met(&self.rules, call) {
+        match first_entry_met(self.rules(), call) {
             Some(entry) => Reason::Entry(entry),
             None => Reason::Default,
         }

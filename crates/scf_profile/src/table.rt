@@ -43,6 +43,7 @@ impl CallTable {
     /// The table that a text states: on each line a name and a decimal number, divided by blanks; blank lines and those
     /// that begin with `#` aside. The first fault of the first faulty line is answered, and `Memory` where a growth was
     /// refused. Memory is wanted from the first name on.
+    #[tactic(auto, unfolding(crate::specs::Table::with_lines))]
     pub fn read(alloc: Global, text: &[u8]) -> Result<CallTable, TableFault>
         ensures table { Gives faults.Memory result (table_of text.now) }
         ensures memory { result ≡ Err faults.Memory → BeginWithCall (lines text.now) }
@@ -88,7 +89,7 @@ impl CallTable {
     fn add_line(&mut self, alloc: Global, line: usize, text: &[u8]) -> Result<(), TableFault>
         ensures ok { OnOk result (with_line line self.old text.now ≡ Ok self.new) }
         ensures err { IfErr result (λ e. e ≢ faults.Memory → with_line line self.old text.now ≡ Err e) }
-        ensures memory { result ≡ Err faults.Memory → HasCall text.now }
+        ensures memory { IfErr result (λ e. e ≡ faults.Memory → HasCall text.now) }
     {
         let Some((name, number)) = entry_on(line, text)? else {
             return Ok(());

@@ -6,7 +6,7 @@ use Rattle.scf_profile.specs.ByNumber.{rules_at}
 use Rattle.scf_profile.specs.internal.Clashes.{IsClashBounded}
 use Rattle.scf_profile.specs.Rule.{IsRule}
 use Rattle.scf_profile.specs.RulesByNumber.{rules_of}
-use Rattle.scf_profile.proofs.LeastClash.{all_own, all_bounded, conflict_more, least_found, none_found}
+use Rattle.scf_profile.proofs.LeastClash.{all_own, all_bounded, conflict_more, least_found}
 use Rattle.scf_profile.proofs.conflict.least_conflict.Goals as goal
 
 pub rules_of_number-requires : goal.rules_of_number-requires
@@ -39,14 +39,8 @@ loop-later-preserved c =
           (subst Bounded c.later-item.is (all_bounded rules own later own_is more c.least_with-least.ensures.bounds));
     }
 
-pub returns-clause-least : goal.returns-clause-least
-returns-clause-least c =
+pub returns : goal.returns
+returns c =
     least_found c.args.rules.now c.loop-later.least
     (All-same (λ l. All (IsClashBounded c.loop-later.least l) c.args.rules.now) c.args.rules.now _
     (sym (take_all _ _ c.loop-later-test.false)) c.loop-later.invariant.bounds) c.loop-later.invariant.one
-
-pub returns-clause-none : goal.returns-clause-none
-returns-clause-none c =
-    none_found c.args.rules.now c.loop-later.least
-    (All-same (λ l. All (IsClashBounded c.loop-later.least l) c.args.rules.now) c.args.rules.now _
-    (sym (take_all _ _ c.loop-later-test.false)) c.loop-later.invariant.bounds)

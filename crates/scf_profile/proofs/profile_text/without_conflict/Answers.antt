@@ -8,7 +8,7 @@ pub new-requires : goal.new-requires
 new-requires c =
     profile_of_rules c.args.stated.default_answer c.args.stated.rules.items c.requires.default_answer c.requires.rules
     (subst (λ (rules : List Rule). (first second number : ℕ) → EntriesConflict rules first second number → ⊥)
-    c.deref.ensures.value (rw c.in-None.is at c.in_ok-clash.ensures.none))
+    c.deref.ensures.value (rw c.in-None.is at c.in_ok-clash.ensures))
 
 pub returns-in-None-clause-ok : goal.returns-in-None-clause-ok
 returns-in-None-clause-ok c =
@@ -16,5 +16,5 @@ returns-in-None-clause-ok c =
       refl,
       have_no_conflict c.args.stated.rules.items c.requires.rules
           (subst (λ (rules : List Rule). (first second number : ℕ) → EntriesConflict rules first second number → ⊥)
-          c.deref.ensures.value (rw c.in-None.is at c.in_ok-clash.ensures.none)),
+          c.deref.ensures.value (rw c.in-None.is at c.in_ok-clash.ensures)),
     )

@@ -1,8 +1,9 @@
-use Rattle.std.proofs.Common.{◌≡◌, ◌<◌, take, drop, get_or, true, false, sym, ◌∙◌, arith}
+use Rattle.std.proofs.Common.{◌≡◌, ◌<◌, length, take, get_or, true, false, sym, ◌∙◌, arith}
+use Rattle.std.proofs.lemmas.Bool.{lt-ltb}
 use Rattle.std.proofs.lemmas.List.{take_all, length-take}
 use Rattle.std.proofs.lemmas.List.Elements.{All-more, All-same}
 use Rattle.scf_profile.specs.Table.{is_blank as blank}
-use Rattle.scf_profile.proofs.Cuts.{field_ends, first_or_none, all_or_none, first_passes}
+use Rattle.scf_profile.proofs.Cuts.{field_ends, all_or_none, first_passes}
 use Rattle.scf_profile.proofs.table_line.first_field.Goals as goal
 
 pub returns-then-is_blank : goal.returns-then-is_blank
@@ -10,11 +11,10 @@ returns-then-is_blank c =
     let xs = c.trimmed-rest.result.now in
     let here : blank (get_or xs c.loop-i.i 0) ≡ true = sym c.is_blank.ensures ∙ c.if-is_blank.true in
     let pos : 0 < c.loop-i.i = first_passes xs c.loop-i.i (c.trimmed-rest.ensures.begins (omega arith)) here in
-    rw (c.split_at.ensures.front, c.split_at.ensures.back)
+    let some : 0 < length (take c.loop-i.i xs) = omega (arith, length-take c.loop-i.i xs) in
+    rw (c.split_at.ensures.front, c.split_at.ensures.back, lt-ltb 0 (length (take c.loop-i.i xs)) some)
     (sym c.trimmed-rest.ensures.fields
-    ∙ first_or_none _ (take c.loop-i.i xs) (drop c.loop-i.i xs)
-    (field_ends xs c.loop-i.i pos c.loop-i-test.true c.loop-i.invariant here)
-    (omega (arith, length-take c.loop-i.i xs)))
+    ∙ field_ends xs c.loop-i.i pos c.loop-i-test.true c.loop-i.invariant here)
 
 pub loop-i-preserved : goal.loop-i-preserved
 loop-i-preserved c =

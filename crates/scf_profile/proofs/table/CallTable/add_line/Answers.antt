@@ -3,9 +3,7 @@ use Rattle.std.specs.Prelude.{is_some}
 use Rattle.std.specs.FinMap.{get, insert}
 use Rattle.scf_profile.specs.Names.{names_of}
 use Rattle.scf_profile.specs.Table.{Names, fields, entry_in, with_line}
-use Rattle.std.proofs.lemmas.Result.{err_from_is_err_and}
 use Rattle.scf_profile.proofs.NamesOf.{found_named, insert_named, call_numbers_updated}
-use Rattle.scf_profile.proofs.TableLines.{same_fault}
 use Rattle.scf_profile.proofs.table.CallTable.add_line.Goals as goal
 
 pub invariant_of-self-then-is_some : goal.invariant_of-self-then-is_some
@@ -17,11 +15,6 @@ pub invariant_of-self-2 : goal.invariant_of-self-2
 invariant_of-self-2 c =
     call_numbers_updated c.self.inside.numbers c.insert.new.self c.in_ok-key.key c.in-Some.number
     c.in_ok-insert.ensures.updates c.self.invariant (rw c.in-Some.is at c.in_ok-name.ensures.range)
-
-pub returns-in_err-name-clause-memory : goal.returns-in_err-name-clause-memory
-returns-in_err-name-clause-memory c =
-    let p = err_from_is_err_and c.from_residual.result c.from_residual.ensures.1 in
-    λ e. absurd (c.in_err-name.ensures.err (same_fault _ _ _ p.1 p.2 e))
 
 pub returns-then-is_some-clause-err : goal.returns-then-is_some-clause-err
 unfolding with_line

@@ -1,7 +1,6 @@
 use Rattle.std.proofs.Common.{◌≡◌, ◌+◌, ◌≤◌, length}
 use Rattle.std.specs.Str.Lines.{lines}
-use Rattle.scf_profile.specs.Table.{with_lines, table_of}
-use Rattle.scf_profile.proofs.TableLines.{WantsFrom}
+use Rattle.scf_profile.specs.Table.{BeginWithCall, with_lines, table_of}
 use Rattle.scf_profile.proofs.table.CallTable.read.Given as goal
 
 -- what was read and what is left give what the text states
@@ -9,7 +8,7 @@ abbrev pub invariant-loop-rest : goal.invariant-loop-rest
 invariant-loop-rest l = record {
   so_far : with_lines (l.number + 1) l.table (lines l.rest) ≡ table_of l.text;
   counted : l.number + length l.rest ≤ length l.text;
-  wants : WantsFrom (lines l.rest) (lines l.text);
+  wants : BeginWithCall (lines l.rest) → BeginWithCall (lines l.text);
 }
 
 abbrev pub decreases-loop-rest : goal.decreases-loop-rest
