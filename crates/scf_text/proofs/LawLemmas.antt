@@ -1,8 +1,8 @@
 -- A text spells a list exactly where it has no fault, and then only one.
-use Rattle.std.proofs.Common.{◌≡◌, ℕ, suc, ◌+◌, ◌-◌, ◌<◌, ◌≤◌, ◌^◌, true, false, cond, eqb, ltb, leb}
+use Rattle.std.proofs.Common.{◌≡◌, ℕ, suc, ◌+◌, ◌-◌, ◌<◌, ◌≤◌, ◌^◌, true, cond, eqb, ltb, leb}
 use Rattle.std.proofs.Common.{List, [], ◌∷◌, ◌++◌, length, Option, Some, None, refl, sym, ap, subst, ◌∙◌, zero-add}
 use Rattle.std.proofs.Common.{arith, inl, inr}
-use Rattle.std.specs.Option.{is_some, option_or}
+use Rattle.std.specs.Option.{IsSome, option_or, option_map, option_to_list}
 use Rattle.std.specs.List.{AllByRecursion, list_any, flat_map}
 use Rattle.std.proofs.lemmas.Bool.{cases_Bool, lt-ltb, le-ltb, lt-leb}
 use Rattle.std.proofs.lemmas.Bool.Decides.{nat_tests}
@@ -19,7 +19,7 @@ use Rattle.scf_text.specs.Statements.{Statement, Labels, Places, place_of, place
 use Rattle.scf_text.specs.Statements.{instruction_in, label_at, place_after, labels_from, drafts_by, drafts_in}
 use Rattle.scf_text.specs.Statements.{IsRead, statements_of, labels_of, drafts_of}
 use Rattle.scf_text.specs.Spelling.{Says, SaysInsn, SaysEach, AreNew, Spells}
-use Rattle.scf_text.proofs.ReadLemmas.{count_more, labels_more}
+use Rattle.scf_text.proofs.ReadLemmas.{count_more, labels_more, is_none}
 use Rattle.scf_text.specs.Faults.{ascii_fault, label_fault, draft_fault, instruction_fault, statement_fault}
 use Rattle.scf_text.specs.Faults.{statements_fault, target_fault, targets_fault, all_targets_fault}
 use Rattle.scf_text.specs.Faults.{fault_of}
@@ -32,10 +32,6 @@ both_none (Some x) b h = absurd cc
 
 none_both : {A : Type 0} {a b : Option A} → a ≡ None → b ≡ None → option_or a b ≡ None
 none_both h k = rw h k
-
-is_none : {A : Type 0} (o : Option A) → is_some o ≡ false → o ≡ None
-is_none None h = refl
-is_none (Some x) h = absurd cc
 
 -- ASCII
 
@@ -64,18 +60,19 @@ new_to earlier at line (Some name) ls h = (rw h.0 refl, h.1)
 
 -- the instruction of a statement
 
-draft_from : (at line : ℕ) (o : Option Draft)
-    → draft_fault at line o ≡ None → (d : Draft) × (o ≡ Some d) × (at < bpf_maxinsns)
+abbrev numbered : ℕ → Option Draft → List (ℕ × Draft)
+numbered line o = option_to_list (option_map (λ d. (line, d)) o)
+
+draft_from : (at line : ℕ) (o : Option Draft) → draft_fault at line o ≡ None → IsSome o
+    × (at + length (numbered line o) ≡ at + 1) × (at + 1 ≤ bpf_maxinsns)
 draft_from at line None h = absurd cc
-draft_from at line (Some d) h = (d, refl, grind (arith, nat_tests))
+draft_from at line (Some d) h =
+    let few : at < bpf_maxinsns = grind (arith, nat_tests) in (refl, refl, omega arith)
 
 instruction_from : (at line : ℕ) (body : List (List ℕ)) → at ≤ bpf_maxinsns → instruction_fault at line body ≡ None
     → IsRead body × (at + length (drafts_by line body) ≡ place_after at body) × (place_after at body ≤ bpf_maxinsns)
 instruction_from at line [] le h = (tt, omega arith, le)
-instruction_from at line (t ∷ ts) le h =
-    let none : draft_fault at line (draft_of t ts) ≡ None = grind (arith, nat_tests) in
-    let d = draft_from at line (draft_of t ts) none in
-    (rw d.1 refl, rw d.1 refl, omega (arith, d.2))
+instruction_from at line (t ∷ ts) le h = draft_from at line (draft_of t ts) (grind (arith, nat_tests))
 
 -- no fault of a statement: the names are new, and each instruction is read, at most 4096 in all
 statements_from_none : (ss before : List Statement) → instruction_count before ≤ bpf_maxinsns
@@ -101,23 +98,18 @@ statements_from_none (s ∷ ss) before le h =
 
 -- and back
 
-chosen_form : (fs : List Form) (t : List ℕ) (ts : List (List ℕ)) (d : Draft) → read_by number_of fs t ts ≡ Some d
+chosen_form : (fs : List Form) (t : List ℕ) (ts : List (List ℕ)) → IsSome (read_by number_of fs t ts)
     → list_any (has_mnemonic t) fs ≡ true
-chosen_form [] t ts d h = absurd cc
-chosen_form (f ∷ fs) t ts d h =
+chosen_form [] t ts h = absurd cc
+chosen_form (f ∷ fs) t ts h =
     elim (cases_Bool (has_mnemonic t f)) [
       | inl here ↦ rw here refl
-      | inr other ↦ rw other (chosen_form fs t ts d (rw other at h))
+      | inr other ↦ rw other (chosen_form fs t ts (rw other at h))
     ]
 
-has_form : (t : List ℕ) (ts : List (List ℕ)) (d : Draft) → draft_of t ts ≡ Some d
-    → list_any (has_mnemonic t) forms ≡ true
+has_form : (t : List ℕ) (ts : List (List ℕ)) → IsSome (draft_of t ts) → list_any (has_mnemonic t) forms ≡ true
 unfolding draft_of
-has_form t ts d h = chosen_form forms t ts d h
-
-the_some : {A : Type 0} (o : Option A) → is_some o ≡ true → (x : A) × (o ≡ Some x)
-the_some None h = absurd cc
-the_some (Some x) h = (x, refl)
+has_form t ts h = chosen_form forms t ts h
 
 abbrev InRange : List (ℕ × Draft) → Type 0
 InRange ds = AllByRecursion (λ (d : ℕ × Draft). is_in_range d.1 ≡ true) ds
@@ -126,17 +118,18 @@ front_in_range : (ds es : List (ℕ × Draft)) → InRange (ds ++ es) → InRang
 front_in_range [] es h = (tt, h)
 front_in_range (d ∷ ds) es h = let rest = front_in_range ds es h.1 in ((h.0, rest.0), rest.1)
 
+draft_to : (at line : ℕ) (o : Option Draft) → IsSome o
+    → InRange (numbered line o)
+    → at + length (numbered line o) ≤ bpf_maxinsns
+    → (draft_fault at line o ≡ None) × (at + 1 ≡ at + length (numbered line o))
+draft_to at line None read range few = absurd cc
+draft_to at line (Some d) read range few = (rw (range.0, lt-leb bpf_maxinsns at (omega arith)) refl, refl)
+
 instruction_to : (at line : ℕ) (body : List (List ℕ)) → IsRead body → InRange (drafts_by line body)
     → at + length (drafts_by line body) ≤ bpf_maxinsns
     → (instruction_fault at line body ≡ None) × (place_after at body ≡ at + length (drafts_by line body))
 instruction_to at line [] read range few = (refl, omega arith)
-instruction_to at line (t ∷ ts) read range few =
-    let d = the_some (draft_of t ts) read in
-    let in_range = rw d.1 at range in
-    let least = rw d.1 at few in (
-      rw (has_form t ts d.0 d.1, d.1, in_range.0, lt-leb bpf_maxinsns at (omega arith)) refl,
-      rw d.1 refl,
-    )
+instruction_to at line (t ∷ ts) read range few = rw (has_form t ts read) (draft_to at line (draft_of t ts) read range few)
 
 statements_to_none : (ss before : List Statement)
     → AreNew (labels_from 0 before) (labels_from (instruction_count before) ss)

@@ -6,8 +6,8 @@ use Rattle.std.specs.List.{list_all, flat_map, AllByRecursion}
 use Rattle.std.specs.Char.{is_digit, digit_value}
 use Rattle.std.specs.Fmt.{decimal, digits, digit_glyph}
 use Rattle.std.specs.Str.Parse.{digits_value, AllDigits, IsNumeral}
-use Rattle.std.proofs.lemmas.Bool.{eqb-true, ne_eqb, lt-ltb, agree_below_at, and_parts, and_from, and_right}
-use Rattle.std.proofs.lemmas.Bool.{ltb-true, not-true}
+use Rattle.std.proofs.lemmas.Bool.{eqb-true, ne_eqb, lt-ltb, agree_below_at, and_parts, and_right}
+use Rattle.std.proofs.lemmas.Bool.{ltb-true}
 use Rattle.std.proofs.lemmas.Fmt.{digits_is_IsNumeral}
 use Rattle.std.proofs.lemmas.Str.Parse.{digit_from_value}
 use Rattle.scf_text.specs.Characters.{is_word_byte}
@@ -43,14 +43,9 @@ glyph_is d lt =
     eqb-true (digit_value (digit_glyph false d)) d
     (agree_below_at (λ n. eqb (digit_value (digit_glyph false n)) n) (λ n. true) 16 d refl lt)
 
-pub glyph_word : (d : ℕ) → d < 16 → is_word_byte (digit_glyph false d) ≡ true
-glyph_word d lt = agree_below_at (λ n. is_word_byte (digit_glyph false n)) (λ n. true) 16 d refl lt
-
 all_digits : (radix : ℕ) (ds : List ℕ) → AllDigits radix ds → list_all (λ c. is_digit c radix) ds ≡ true
 all_digits radix [] h = refl
-all_digits radix (c ∷ cs) h =
-    and_from (is_digit c radix) (list_all (λ c. is_digit c radix) cs) (lt-ltb (digit_value c) radix h.0)
-    (all_digits radix cs h.1)
+all_digits radix (c ∷ cs) h = rw (lt-ltb (digit_value c) radix h.0, all_digits radix cs h.1) refl
 
 numeral_is : (radix : ℕ) (ds : List ℕ) (n : ℕ) → IsNumeral radix ds × (digits_value radix ds ≡ n)
     → numeral radix ds ≡ Some n
@@ -75,17 +70,21 @@ decimal_is n lt =
     let h = digits_is_IsNumeral 10 false (omega arith) (omega arith) n (omega arith) in
     rw (no_prefix (decimal n) h.0.1) (numeral_is 10 (decimal n) n h)
 
-pub four_digits_is : (n : ℕ) → n < 2 ^ 16 → number_of (48 ∷ 120 ∷ four_digits n) ≡ Some n
-unfolding number_of
-four_digits_is n lt =
+four_values : (n : ℕ) → AllDigits 16 (four_digits n)
+    × (n < 2 ^ 16 → digits_value 16 (four_digits n) ≡ n)
+four_values n =
     let a = glyph_is (n / 4096 % 16) (omega arith) in
     let b = glyph_is (n / 256 % 16) (omega arith) in
     let c = glyph_is (n / 16 % 16) (omega arith) in
-    let d = glyph_is (n % 16) (omega arith) in
-    numeral_is 16 (four_digits n) n (
-      (omega arith, (omega (arith, a), (omega (arith, b), (omega (arith, c), (omega (arith, d), tt))))),
-      rw (a, b, c, d) (omega arith),
+    let d = glyph_is (n % 16) (omega arith) in (
+      (omega (arith, a), (omega (arith, b), (omega (arith, c), (omega (arith, d), tt)))),
+      λ lt. rw (a, b, c, d) (omega arith),
     )
+
+pub four_digits_is : (n : ℕ) → n < 2 ^ 16 → number_of (48 ∷ 120 ∷ four_digits n) ≡ Some n
+unfolding number_of
+four_digits_is n lt =
+    let values = four_values n in numeral_is 16 (four_digits n) n ((omega arith, values.0), values.1 lt)
 
 digits_no_name : (ds : List ℕ) → AllDigits 10 ds → is_name ds ≡ false
 digits_no_name [] h = refl
@@ -125,17 +124,7 @@ number_wordy Decimal n lt = digits_wordy 10 n (omega arith) (omega arith) (omega
 number_wordy Hexadecimal n lt =
     record { some = omega arith; each = (digits_wordy 16 n (omega arith) (omega arith) (omega arith)).each }
 number_wordy FourDigits n lt =
-    record {
-      some = omega arith;
-      each =
-          rw (
-            glyph_word (n / 4096 % 16) (omega arith),
-            glyph_word (n / 256 % 16) (omega arith),
-            glyph_word (n / 16 % 16)
-                (omega arith),
-            glyph_word (n % 16) (omega arith),
-          ) refl;
-    }
+    record { some = omega arith; each = digits_word 16 (four_digits n) (omega arith) (four_values n).0 }
 
 pub field_small : (i : Insn) (f : Field) → IsInsn i → field_of i f < 2 ^ 32
 field_small i Code h = omega (arith, h.code)
@@ -157,33 +146,22 @@ piece_words i p.Index = codes "x" ∷ []
 piece_words i (p.Number f style) = number_text style (field_of i f) ∷ []
 piece_words i (p.Target f) = decimal (field_of i f) ∷ []
 
-words_hexadecimal : (n : ℕ) (rest : List ℕ) → n < 2 ^ 32 → begins_in_word rest ≡ false
-    → words_of_part (48 ∷ 120 ∷ (digits 16 false n ++ rest)) ≡ (48 ∷ 120 ∷ digits 16 false n) ∷ words_of_part rest
-words_hexadecimal n rest lt h = words_wordy (48 ∷ 120 ∷ digits 16 false n) rest (number_wordy Hexadecimal n lt) h
-
-words_decimal : (n : ℕ) (rest : List ℕ) → n < 2 ^ 32 → begins_in_word rest ≡ false
-    → words_of_part (decimal n ++ rest) ≡ decimal n ∷ words_of_part rest
-words_decimal n rest lt h = words_wordy (decimal n) rest (number_wordy Decimal n lt) h
-
-words_code : (n : ℕ) (rest : List ℕ) → n < 2 ^ 32 → begins_in_word rest ≡ false
-    → words_of_part (48 ∷ 120 ∷ (four_digits n ++ rest)) ≡ (48 ∷ 120 ∷ four_digits n) ∷ words_of_part rest
-words_code n rest lt h = words_wordy (48 ∷ 120 ∷ four_digits n) rest (number_wordy FourDigits n lt) h
+words_number : (i : Insn) (f : Field) (style : Style) (rest : List ℕ) → IsInsn i → begins_in_word rest ≡ false
+    → words_of_part (number_text style (field_of i f) ++ rest) ≡ number_text style (field_of i f) ∷ words_of_part rest
+words_number i f style rest h k =
+    words_wordy (number_text style (field_of i f)) rest (piece_wordy i f style h) k
 
 operands_words : (i : Insn) (shape : Shape) → IsInsn i
     → words_of_part (operands_text i (pieces_of shape)) ≡ flat_map (piece_words i) (pieces_of shape)
 unfolding onto_word
 operands_words i s.Nothing h = words_nil
 operands_words i shape h =
-    let code = field_small i Code h in
-    let jt = field_small i Jt h in
-    let jf = field_small i Jf h in
     simp (
-      words_code i.code,
-      words_hexadecimal i.k,
-      words_decimal i.k,
-      h.k,
-      words_decimal i.jt,
-      words_decimal i.jf,
+      words_number i Code FourDigits,
+      words_number i K Hexadecimal,
+      words_number i K Decimal,
+      words_number i Jt Decimal,
+      words_number i Jf Decimal,
       words_blank,
       words_mark,
       words_one,
@@ -305,15 +283,15 @@ pub no_semicolon : (ts : List (List ℕ)) → list_all is_plain ts ≡ true → 
 no_semicolon [] h = tt
 no_semicolon (t ∷ ts) h =
     let a = and_parts (is_plain t) (list_all is_plain ts) h in
-    let c = and_parts (not (bytes_eq t (59 ∷ []))) (not (bytes_eq t (58 ∷ []))) a.0 in
-    (not-true (bytes_eq t (59 ∷ [])) c.0, no_semicolon ts a.1)
+    let plain = a.0 in (grind (arith, nat_tests), no_semicolon ts a.1)
 
 pub no_label : (t : List ℕ) (ts : List (List ℕ)) → list_all is_plain ts ≡ true → label_in (t ∷ ts) ≡ None
 no_label t [] h = refl
 no_label t (u ∷ ts) h =
     let a = and_parts (is_plain u) (list_all is_plain ts) h in
-    let c = and_parts (not (bytes_eq u (59 ∷ []))) (not (bytes_eq u (58 ∷ []))) a.0 in
-    rw (and_right (is_name t) (bytes_eq u (58 ∷ [])) (not-true (bytes_eq u (58 ∷ [])) c.1)) refl
+    let plain = a.0 in
+    let none : bytes_eq u (58 ∷ []) ≡ false = grind (arith, nat_tests) in
+    rw (and_right (is_name t) (bytes_eq u (58 ∷ [])) none) refl
 
 pub operands_plain : (i : Insn) → IsInsn i → list_all is_plain (operands i) ≡ true
 operands_plain i fits = (operands_listed i (form_for i).shape fits).1

@@ -13,7 +13,7 @@ use Rattle.std.specs.Cmp.Lexicographic.{slice_cmp}
 use Rattle.std.specs.Ordering.{nat_cmp}
 use Rattle.std.proofs.lemmas.Map.Text.{btree_map_updates_str}
 use Rattle.std.proofs.lemmas.Bool.{cases_Bool}
-use Rattle.std.proofs.lemmas.Bool.Decides.{same_from_decides}
+use Rattle.std.proofs.lemmas.Bool.Decides.{same_from_decides, nat_tests}
 use Rattle.std.proofs.lemmas.Slice.Eq.{bytes_eq-Decides}
 use Rattle.std.proofs.lemmas.List.Concat.{flat_map-append}
 use Rattle.scf_text.specs.declared.fault.TextFault.{TextFault}
@@ -84,18 +84,18 @@ bytes_eq_sym a b =
     same_from_decides (bytes_eq a b) (bytes_eq b a) (bytes_eq-Decides a b)
     (λ same. sym (other.0 same), λ same. other.1 (sym same))
 
+pub is_none : {A : Type 0} (o : Option A) → is_some o ≡ false → o ≡ None
+is_none None h = refl
+is_none (Some x) h = absurd cc
+
 -- a label that is new
 label_kept : (ls : Labels) (at line : ℕ) (o : Option (List ℕ)) → label_fault (place_of ls) line o ≡ None
     → with_label (place_of ls) at o ≡ place_of (ls ++ label_at at o)
 label_kept ls at line None new = ap place_of (sym (append-nil ls))
 label_kept ls at line (Some name) new = fun_ext λ q.
     one_more (place_of ls q) (Some at) (bytes_eq name q) (bytes_eq q name) (bytes_eq_sym name q)
-    (λ same. ap (place_of ls) (sym ((bytes_eq-Decides name q).0 same)) ∙ none (place_of ls name) new)
+    (λ same. ap (place_of ls) (sym ((bytes_eq-Decides name q).0 same)) ∙ is_none (place_of ls name) (grind (arith, nat_tests)))
     ∙ sym (lookup_push (bytes_eq q) ls (name, at))
-  where
-    none : (o : Option ℕ) → label_fault (λ n. o) line (Some name) ≡ None → o ≡ None
-    none None h = refl
-    none (Some x) h = absurd cc
 
 -- a statement is read
 statement_read : (s : Statement) (all rest : List Statement) (p q : Places) (ds es : List (ℕ × drafts.Draft))
