@@ -9,20 +9,19 @@ use Rattle.scf_facts.specs.internal.Intervals.{part_within, part_below, part_abo
 
 -- ---- one list after another
 
-lies_left : (is js : List Interval) (x : ℕ) → LiesInOne is x → LiesInOne (is ++ js) x
-lies_left [] js x h = absurd h
-lies_left (i ∷ is) js x h = elim h [ inl here ↦ inl here | inr later ↦ inr (lies_left is js x later) ]
-
-lies_right : (is js : List Interval) (x : ℕ) → LiesInOne js x → LiesInOne (is ++ js) x
-lies_right [] js x h = h
-lies_right (i ∷ is) js x h = inr (lies_right is js x h)
-
-lies_either : (is js : List Interval) (x : ℕ) → LiesInOne (is ++ js) x → LiesInOne is x ⊎ LiesInOne js x
-lies_either [] js x h = inr h
-lies_either (i ∷ is) js x h = elim h [
-  | inl here ↦ inl (inl here)
-  | inr later ↦ elim (lies_either is js x later) [ inl l ↦ inl (inr l) | inr r ↦ inr r ]
-]
+lies_append : (is js : List Interval) (x : ℕ) → LiesInOne (is ++ js) x ↔ (LiesInOne is x ⊎ LiesInOne js x)
+lies_append [] js x = (inr, λ h. elim h [ inl none ↦ absurd none | inr there ↦ there ])
+lies_append (i ∷ is) js x =
+    let more = lies_append is js x in (
+      λ h. elim h [
+        | inl here ↦ inl (inl here)
+        | inr later ↦ elim (more.0 later) [ inl l ↦ inl (inr l) | inr r ↦ inr r ]
+      ],
+      λ h. elim h [
+        | inl l ↦ elim l [ inl here ↦ inl here | inr later ↦ inr (more.1 (inl later)) ]
+        | inr r ↦ inr (more.1 (inr r))
+      ],
+    )
 
 lies_under : (range : Interval) (is : List Interval) (x : ℕ)
     → All (λ i. i.high < range.low) is → LiesInOne is x → x < range.low
@@ -209,16 +208,7 @@ beside range is filled a =
     let l = parts_of (λ x. x < range.low) (part_below range.low) (below_part range.low) 0 is a in
     let u = parts_of (λ x. range.high < x) (part_above range.high) (above_part range.high) 0 is a in (
       apart_append 0 below above l.0 u.0 (λ x y h k. omega (arith, ((l.1 x).0 h).1, ((u.1 y).0 k).1)),
-      λ x. (
-        λ h. elim (lies_either below above x h) [
-          | inl b ↦ let r = (l.1 x).0 b in (r.0, inl r.1)
-          | inr b ↦ let r = (u.1 x).0 b in (r.0, inr r.1)
-        ],
-        λ h. elim h.1 [
-          | inl b ↦ lies_left below above x ((l.1 x).1 (h.0, b))
-          | inr b ↦ lies_right below above x ((u.1 x).1 (h.0, b))
-        ],
-      ),
+      λ x. grind (arith, lies_append below above x, l.1 x, u.1 x),
     )
 
 -- ---- intervals of which some lie below a range and some above it
@@ -235,15 +225,13 @@ module _ (range : Interval) (is js ks : List Interval) (apart : AreApart (is ++ 
   split_within =
       let here = parts_of (LiesIn range) (part_within range) (within_part range) 0 js right.0 in (
         here.0,
-        λ x. (
-          λ h. let r = (here.1 x).0 h in (lies_right is (js ++ ks) x (lies_left js ks x r.0), r.1),
-          λ h. elim (lies_either is (js ++ ks) x h.0) [
-            | inl l ↦ absurd (omega (arith, lies_under range is x below l, h.1))
-            | inr r ↦ elim (lies_either js ks x r) [
-              | inl t ↦ (here.1 x).1 (t, h.1)
-              | inr u ↦ absurd (omega (arith, lies_over range ks x above u, h.1))
-            ]
-          ],
+        λ x. grind (
+          arith,
+          lies_append is (js ++ ks) x,
+          lies_append js ks x,
+          here.1 x,
+          lies_under range is x below,
+          lies_over range ks x above,
         ),
       )
 
@@ -253,27 +241,21 @@ module _ (range : Interval) (is js ks : List Interval) (apart : AreApart (is ++ 
       let cut = parts_beside range js in
       let here = beside range js filled right.0 in (
         apart_append 0 (is ++ cut) ks
-            (apart_append 0 is cut left.0 here.0 (λ x y h k. left.2 x y h (lies_left js ks y ((here.1 y).0 k).0)))
-            right.1
-            (λ x y h k. elim (lies_either is cut x h) [
-              | inl l ↦ left.2 x y l (lies_right js ks y k)
+            (apart_append 0 is cut left.0 here.0
+            (λ x y h k. left.2 x y h ((lies_append js ks y).1 (inl ((here.1 y).0 k).0)))) right.1
+            (λ x y h k. elim ((lies_append is cut x).0 h) [
+              | inl l ↦ left.2 x y l ((lies_append js ks y).1 (inr k))
               | inr c ↦ right.2 x y ((here.1 x).0 c).0 k
             ]),
-        λ x. (
-          λ h. elim (lies_either (is ++ cut) ks x h) [
-            | inl l ↦ elim (lies_either is cut x l) [
-              | inl a ↦ (lies_left is (js ++ ks) x a, inl (lies_under range is x below a))
-              | inr c ↦ let r = (here.1 x).0 c in (lies_right is (js ++ ks) x (lies_left js ks x r.0), r.1)
-            ]
-            | inr u ↦ (lies_right is (js ++ ks) x (lies_right js ks x u), inr (lies_over range ks x above u))
-          ],
-          λ h. elim (lies_either is (js ++ ks) x h.0) [
-            | inl a ↦ lies_left (is ++ cut) ks x (lies_left is cut x a)
-            | inr r ↦ elim (lies_either js ks x r) [
-              | inl t ↦ lies_left (is ++ cut) ks x (lies_right is cut x ((here.1 x).1 (t, h.1)))
-              | inr u ↦ lies_right (is ++ cut) ks x u
-            ]
-          ],
+        λ x. grind (
+          arith,
+          lies_append (is ++ cut) ks x,
+          lies_append is cut x,
+          lies_append is (js ++ ks) x,
+          lies_append js ks x,
+          here.1 x,
+          lies_under range is x below,
+          lies_over range ks x above,
         ),
       )
 

@@ -1,11 +1,11 @@
 -- Numbers that share a wrong bit.
-use Rattle.std.proofs.Common.{◌≡◌, ◌≢◌, inl, inr, ℕ, suc, ◌+◌, ◌-◌, ◌*◌, ◌/◌, ◌%◌, ◌<◌, ◌≤◌, ◌^◌, sym, ap, subst, ◌∙◌}
+use Rattle.std.proofs.Common.{◌≡◌, ◌≢◌, inl, inr, ℕ, suc, ◌-◌, ◌*◌, ◌/◌, ◌%◌, ◌<◌, ◌≤◌, ◌^◌, sym, ap, subst}
 use Rattle.std.proofs.Common.{arith}
-use Rattle.std.specs.Prelude.{bit_and, bit_xor, min}
+use Rattle.std.specs.Prelude.{bit_and, bit_xor}
 use Rattle.std.specs.Int.{bit_at}
 use Rattle.std.specs.Int.Count.{count_leading_zeros}
 use Rattle.std.proofs.lemmas.Nat.{le-div, div_below, leading_top}
-use Rattle.std.proofs.lemmas.Nat.Bits.{bit_at_and, bit_at_xor, bit_at-lt}
+use Rattle.scf_facts.proofs.MaskLaws.{each_bit}
 use Rattle.std.proofs.lemmas.Nat.{pow_pos}
 use Rattle.std.proofs.lemmas.Bool.{cases_lt}
 use Rattle.std.proofs.Math.Nat.{pow-succ'}
@@ -14,13 +14,7 @@ use Rattle.std.proofs.Math.Nat.{pow-succ'}
 pub mismatch : (x y known value place : ℕ)
     → bit_at (bit_xor (bit_and x known) value) place ≡ 1 → y / 2 ^ place ≡ x / 2 ^ place → bit_and y known ≢ value
 mismatch x y known value place wrong same e =
-    let bit : bit_at y place ≡ bit_at x place = ap (λ q. q % 2) same in
-    let masked : bit_at (bit_and x known) place ≡ bit_at value place =
-    bit_at_and x known place ∙ ap (λ b. min b (bit_at known place)) (sym bit)
-    ∙ sym (bit_at_and y known place) ∙ ap (λ n. bit_at n place) e in
-    let both : (bit_at (bit_and x known) place + bit_at value place) % 2 ≡ 1 =
-    sym (bit_at_xor (bit_and x known) value place) ∙ wrong in
-    omega (arith, masked, both, bit_at-lt value place)
+    grind (arith, each_bit, ap (λ q. q % 2) same, ap (λ n. bit_at n place) e)
 
 top-digit : (n power : ℕ) → 0 < power → power ≤ n → n < 2 * power → n / power ≡ 1
 top-digit n power p a b =

@@ -1,8 +1,9 @@
 -- What a change of the facts of a word leaves.
-use Rattle.std.proofs.Common.{◌≡◌, ℕ, ◌<◌, ◌^◌, ◌↔◌, [], ◌∷◌, ◌++◌, inl, inr, refl, sym, ap}
+use Rattle.std.proofs.Common.{◌≡◌, ℕ, ◌<◌, ◌^◌, ◌↔◌, [], ◌∷◌, ◌++◌, inl, inr, sym, ap}
 use Rattle.std.proofs.Common.{◌∙◌, arith}
 use Rattle.std.specs.Prelude.{Bool, true, false, Some, bit_and}
 use Rattle.std.specs.Int.Bits.{and_zero_r}
+use Rattle.std.proofs.lemmas.Bool.{false_from_ne_true, true_from_ne_false}
 use Rattle.std.proofs.lemmas.List.Elements.{All-push, All-pop}
 use Rattle.scf_facts.specs.declared.bits.Bits.{Bits}
 use Rattle.scf_facts.specs.declared.interval.Interval.{Interval}
@@ -43,21 +44,13 @@ has_closed x m v none within =
 
 -- ---- numbers with both answers
 
-false_else : (answer : Bool) → (answer ≡ true → ⊥) → answer ≡ false
-false_else true h = absurd (h refl)
-false_else false h = refl
-
-true_else : (answer : Bool) → (answer ≡ false → ⊥) → answer ≡ true
-true_else true h = refl
-true_else false h = absurd (h refl)
-
 module _ (s : NumberFacts) (asked : ℕ → Bool) where
   pub both_by_bits : (bits : Bits) → ((x : ℕ) → HasBits bits x ↔ (asked x ≡ true))
       → SomeNumber s (HasBits bits) × SomeNumber s (LacksBits bits)
       → SomeNumber s (λ x. asked x ≡ true) × SomeNumber s (λ x. asked x ≡ false)
   both_by_bits bits asks (has, lacks) = (
     (has.0, has.1, has.2, (asks has.0).0 has.3),
-    (lacks.0, lacks.1, lacks.2, false_else (asked lacks.0) (λ e. lacks.3 ((asks lacks.0).1 e))),
+    (lacks.0, lacks.1, lacks.2, false_from_ne_true (asked lacks.0) (λ e. lacks.3 ((asks lacks.0).1 e))),
   )
 
   outside_not_in : (range : Interval) (x : ℕ) → LiesOutside range x → LiesIn range x → ⊥
@@ -74,7 +67,7 @@ module _ (s : NumberFacts) (asked : ℕ → Bool) where
       out.0,
       out.1,
       out.2,
-      false_else (asked out.0) (λ e. outside_not_in range out.0 out.3 ((asks out.0 out.1).1 e)),
+      false_from_ne_true (asked out.0) (λ e. outside_not_in range out.0 out.3 ((asks out.0 out.1).1 e)),
     ),
   )
   both_by_range range false asks (inside, out) = (
@@ -82,7 +75,7 @@ module _ (s : NumberFacts) (asked : ℕ → Bool) where
       out.0,
       out.1,
       out.2,
-      true_else (asked out.0) (λ e. outside_not_in range out.0 out.3 ((asks out.0 out.1).1 e)),
+      true_from_ne_false (asked out.0) (λ e. outside_not_in range out.0 out.3 ((asks out.0 out.1).1 e)),
     ),
     (inside.0, inside.1, inside.2, (asks inside.0 inside.1).0 inside.3),
   )

@@ -10,6 +10,7 @@ use crate::interval::Interval;
 use crate::intervals::first_reaching;
 
 /// The place of the highest bit that is set.
+#[tactic(auto, using(crate::proofs::LeastNumber::highest))]
 fn highest_bit(n: u32) -> Option<u32>
     ensures none { IfNone result (n ≡ 0) }
     ensures some { IfSome result (λ place. (place < 32) × (bit_at n place ≡ 1)) }
