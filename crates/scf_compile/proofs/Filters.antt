@@ -1,12 +1,11 @@
 -- What is put before a search makes it a filter.
 use Rattle.std.proofs.Common.{◌≡◌, ℕ, ◌+◌, ◌-◌, ◌*◌, ◌^◌, ◌<◌, ◌≤◌, Bool, true, false, cond, eqb, ltb, List, []}
-use Rattle.std.proofs.Common.{◌∷◌, ◌++◌, length, refl, ap, ◌∙◌, arith, sum_by}
+use Rattle.std.proofs.Common.{◌∷◌, length, refl, ap, ◌∙◌, arith, sum_by}
 use Rattle.std.specs.Prelude.{IsTrue}
 use Rattle.std.proofs.lemmas.Bool.{le-leb, eqb-true, eqb-false}
 use Rattle.std.proofs.lemmas.Bool.Decides.{nat_tests}
 use Rattle.scf_insn.specs.declared.insn.Insn.{Insn}
 use Rattle.scf_insn.specs.declared.record.CallRecord.{CallRecord}
-use Rattle.scf_insn.specs.declared.operation.Test.{Test}
 use Rattle.scf_insn.specs.declared.operation.Test.TheVariants.{Equal, GreaterOrEqual}
 use Rattle.scf_insn.specs.Kernel.{audit_arch_x86_64, x32_syscall_bit, seccomp_ret_kill_process}
 use Rattle.scf_insn.specs.Words.{words_of, IsRecord}
@@ -29,11 +28,6 @@ use Rattle.scf_compile.proofs.Runs.{more, loads, jumps, load_sound, jump_sound}
 use Rattle.scf_compile.proofs.RuleCode.{return_answers, answers_put, answers_there, branch_ends, from_first}
 use Rattle.scf_compile.proofs.Searches.{stays, longer, puts_join, branch_put}
 use Rattle.scf_compile.proofs.Profiles.{first_met}
-
--- only what is far is gone to by a jump of its own
-near_branch : (test : Test) (constant hit miss : ℕ) → miss ≤ 255
-    → branch_code test constant hit miss ≡ jump_if test constant hit miss ∷ []
-near_branch test constant hit miss le = rw (le-leb miss 255 le) refl
 
 -- The search of the stretches serves a profile: each number has rules that stand for those of the profile, and both
 -- bounds are kept.
@@ -108,8 +102,7 @@ module _ {p : Profile} {ss : List Stretch} {searched killed ranged loaded : List
     is_tested : code ≡ load_word 1 ∷ jump_if Equal audit_arch_x86_64 to_native to_other ∷ answered
     is_tested =
         let near = beside_put.near.near in
-        whole ∙ ap (λ (l : List Insn). load_word 1 ∷ l) (arch.whole
-        ∙ ap (λ (l : List Insn). l ++ answered) (near_branch Equal audit_arch_x86_64 to_native to_other (omega arith)))
+        whole ∙ ap (λ (l : List Insn). load_word 1 ∷ l) (rw (le-leb to_other 255 (omega arith)) at arch.whole)
 
     filter_sound : (asked : Bool) → (IsTrue asked → IsPlainProfile p) → AreSound asked code
     filter_sound asked is =

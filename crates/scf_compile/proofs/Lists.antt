@@ -10,9 +10,6 @@ pub next_at : {A : Type 0} (xs : List A) (i : ℕ) (x : A) → i < length xs →
 next_at {A} xs i x lt is = drop_more xs i x lt ∙ ap (λ (y : A). y ∷ drop (i + 1) xs) (sym is)
 
 -- an element of a list is the first one, or stands behind it
-pub behind : {A : Type 0} (x : A) (xs : List A) (y : A) → Contains xs y → Contains (x ∷ xs) y
-behind x xs y h = (suc h.0, omega (arith, h.1), h.2)
-
 pub cases_of : {A : Type 0} (x : A) (xs : List A) (y : A) → Contains (x ∷ xs) y → (x ≡ y) ⊎ Contains xs y
 cases_of x xs y (zero, lt, e) = inl e
 cases_of x xs y (suc k, lt, e) = inr (k, omega arith, e)

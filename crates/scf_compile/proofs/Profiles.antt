@@ -2,6 +2,7 @@
 use Rattle.std.proofs.Common.{◌≡◌, ℕ, ◌<◌, false, List, [], ◌∷◌, refl, sym}
 use Rattle.std.proofs.Common.{subst, arith, inl, inr}
 use Rattle.std.proofs.lemmas.Bool.{cases_Bool, cases_eq, and_left, and_right, and_from, eq-eqb, ne_eqb}
+use Rattle.std.proofs.lemmas.List.Elements.{Contains-append_right}
 use Rattle.scf_insn.specs.declared.answer.Answer.{Answer}
 use Rattle.scf_insn.specs.declared.record.CallRecord.{CallRecord}
 use Rattle.scf_profile.specs.declared.rule.Rule.{Rule}
@@ -10,7 +11,7 @@ use Rattle.scf_profile.specs.Profile.{Profile, IsNative}
 use Rattle.scf_profile.specs.ProfileAnswers.{ProfileAnswers, foreign, by_rule, by_default}
 use Rattle.scf_profile.specs.RulesByNumber.{rules_of}
 use Rattle.scf_compile.specs.internal.Stretches.{first_answer}
-use Rattle.scf_compile.proofs.Lists.{behind, cases_of}
+use Rattle.scf_compile.proofs.Lists.{cases_of}
 
 module _ (default : Answer) (call : CallRecord) where
   abbrev with_rules : List Rule → Profile
@@ -19,7 +20,7 @@ module _ (default : Answer) (call : CallRecord) where
   passed : (x : Rule) (xs : List Rule) (n : ℕ) → meets x call ≡ false → ProfileAnswers (with_rules xs) call n
       → ProfileAnswers (with_rules (x ∷ xs)) call n
   passed x xs n unmet (foreign other) = foreign other
-  passed x xs n unmet (by_rule r native among met) = by_rule r native (behind x xs r among) met
+  passed x xs n unmet (by_rule r native among met) = by_rule r native (Contains-append_right (x ∷ []) xs r among) met
   passed x xs n unmet (by_default native none) = by_default native (λ r among. elim (cases_of x xs r among) [
     | inl e ↦ subst (λ (s : Rule). meets s call ≡ false) e unmet
     | inr rest ↦ none r rest

@@ -66,13 +66,9 @@ pub conditions_len_from : (cs : List Condition) (i len : ℕ) (d : Condition) �
     → ((out : ℕ) → length (condition_code (get_or cs i d) out) ≡ len)
     → length (conditions_code (drop i cs)) ≡ len + length (conditions_code (drop (i + 1) cs))
 conditions_len_from cs i len d lt h =
-    let c = get_or cs i d in
-    let rest = drop (i + 1) cs in
-    let out = length (conditions_code rest) + 1 in
-    let split : drop i cs ≡ c ∷ rest = drop_more cs i d lt in
-    ap (λ (l : List Condition). length (conditions_code l)) split
-    ∙ length-append (condition_code c out) (conditions_code rest)
-    ∙ ap (λ (n : ℕ). n + length (conditions_code rest)) (h out)
+    let rest = conditions_code (drop (i + 1) cs) in
+    let out = length rest + 1 in
+    rw (drop_more cs i d lt) (omega (arith, length-append (condition_code (get_or cs i d) out) rest, h out))
 
 -- ---- no more than six conditions
 
