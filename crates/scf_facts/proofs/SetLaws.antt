@@ -1,5 +1,5 @@
 -- What a change of the facts of a word leaves.
-use Rattle.std.proofs.Common.{◌≡◌, ℕ, ◌<◌, ◌^◌, ◌↔◌, [], ◌∷◌, ◌++◌, inl, inr, sym, ap}
+use Rattle.std.proofs.Common.{◌≡◌, ℕ, ◌<◌, ◌^◌, ◌↔◌, [], ◌∷◌, ◌++◌, sym, ap}
 use Rattle.std.proofs.Common.{◌∙◌, arith}
 use Rattle.std.specs.Prelude.{Bool, true, false, Some, bit_and}
 use Rattle.std.specs.Int.Bits.{and_zero_r}
@@ -48,34 +48,20 @@ module _ (s : NumberFacts) (asked : ℕ → Bool) where
   pub both_by_bits : (bits : Bits) → ((x : ℕ) → HasBits bits x ↔ (asked x ≡ true))
       → SomeNumber s (HasBits bits) × SomeNumber s (LacksBits bits)
       → SomeNumber s (λ x. asked x ≡ true) × SomeNumber s (λ x. asked x ≡ false)
-  both_by_bits bits asks (has, lacks) = (
-    (has.0, has.1, has.2, (asks has.0).0 has.3),
-    (lacks.0, lacks.1, lacks.2, false_from_ne_true (asked lacks.0) (λ e. lacks.3 ((asks lacks.0).1 e))),
+  both_by_bits bits asks ((x, fits, allowed, has), (y, below, other, lacks)) = (
+    (x, fits, allowed, (asks x).0 has),
+    (y, below, other, false_from_ne_true (asked y) (λ e. lacks ((asks y).1 e))),
   )
-
-  outside_not_in : (range : Interval) (x : ℕ) → LiesOutside range x → LiesIn range x → ⊥
-  outside_not_in range x (inl below) h = omega (arith, h.0)
-  outside_not_in range x (inr above) h = omega (arith, h.1)
 
   pub both_by_range : (range : Interval) (answer : Bool)
       → ((x : ℕ) → x < 2 ^ 32 → LiesIn range x ↔ (asked x ≡ answer))
       → SomeNumber s (LiesIn range) × SomeNumber s (LiesOutside range)
       → SomeNumber s (λ x. asked x ≡ true) × SomeNumber s (λ x. asked x ≡ false)
-  both_by_range range true asks (inside, out) = (
-    (inside.0, inside.1, inside.2, (asks inside.0 inside.1).0 inside.3),
-    (
-      out.0,
-      out.1,
-      out.2,
-      false_from_ne_true (asked out.0) (λ e. outside_not_in range out.0 out.3 ((asks out.0 out.1).1 e)),
-    ),
+  both_by_range range true asks ((x, fits, allowed, inside), (y, below, other, out)) = (
+    (x, fits, allowed, (asks x fits).0 inside),
+    (y, below, other, false_from_ne_true (asked y) (λ e. omega (arith, out, (asks y below).1 e))),
   )
-  both_by_range range false asks (inside, out) = (
-    (
-      out.0,
-      out.1,
-      out.2,
-      true_from_ne_false (asked out.0) (λ e. outside_not_in range out.0 out.3 ((asks out.0 out.1).1 e)),
-    ),
-    (inside.0, inside.1, inside.2, (asks inside.0 inside.1).0 inside.3),
+  both_by_range range false asks ((x, fits, allowed, inside), (y, below, other, out)) = (
+    (y, below, other, true_from_ne_false (asked y) (λ e. omega (arith, out, (asks y below).1 e))),
+    (x, fits, allowed, (asks x fits).0 inside),
   )
