@@ -1,13 +1,13 @@
 -- The code of a filter keeps the rules of the checker, and answers within its bounds.
 use Rattle.std.proofs.Common.{◌≡◌, ℕ, zero, suc, ◌+◌, ◌-◌, ◌<◌, ◌≤◌, true, false, List, [], ◌∷◌}
-use Rattle.std.proofs.Common.{length, Some, refl, sym, ◌∙◌, subst, arith}
-use Rattle.std.specs.Prelude.{slice_get}
+use Rattle.std.proofs.Common.{length, refl, sym, ap, ◌∙◌, arith}
 use Rattle.std.specs.List.{AllByRecursion}
 use Rattle.std.proofs.lemmas.List.Elements.{All-from_recursion}
 use Rattle.std.proofs.lemmas.Option.{same_Some}
 use Rattle.scf_insn.specs.declared.insn.Insn.{Insn}
 use Rattle.scf_insn.specs.declared.operation.Operation.{Operation}
 use Rattle.scf_insn.specs.declared.operation.Operation.TheVariants.{LoadScratch}
+use Rattle.scf_insn.specs.Codes.{operation_of}
 use Rattle.scf_insn.specs.Kernel.{bpf_maxinsns}
 use Rattle.scf_machine.specs.Machine.{RunAnswers}
 use Rattle.scf_machine.specs.Plain.{IsPlainInsn, IsPlainProgram}
@@ -19,7 +19,7 @@ use Rattle.scf_profile.specs.PlainProfile.{IsPlainProfile}
 use Rattle.scf_profile.specs.SameAnswers.{SameAnswers}
 use Rattle.scf_compile.specs.SearchBound.{AnswersWithin, search_bound_of}
 use Rattle.scf_compile.specs.internal.Filters.{IsFilterOf}
-use Rattle.scf_compile.specs.internal.Sound.{Keeps, IsSound, AreSound}
+use Rattle.scf_compile.specs.internal.Sound.{Keeps, AreSound}
 
 -- ---- the rules of the checker
 
@@ -27,47 +27,40 @@ fine_of : (operation : Operation) (i : Insn) (len place behind : ℕ) → place 
     → Keeps operation i behind → IsFine len place i operation
 fine_of operation i len place behind e h = grind arith
 
-record Found (is : List Insn) (place : ℕ) (i : Insn) : Type 0 where
-  behind : ℕ
-  count : place + 1 + behind ≡ length is
-  sound : IsSound false i behind
+-- what is kept at a place, with so many instructions behind it
+kept_at : (is : List Insn) (place : ℕ) (i : Insn) (operation : Operation) → AreSound false is
+    → Stands is place i operation → (behind : ℕ) × (place + 1 + behind ≡ length is) × Keeps operation i behind
+kept_at [] place i operation h stands = absurd (let here = stands.here in cc)
+kept_at (x ∷ xs) zero i operation h stands =
+    let same = same_Some x i stands.here in
+    let known = same_Some _ _ (sym h.0.known ∙ ap (λ (j : Insn). operation_of j.code) same ∙ stands.known) in
+    (length xs, omega arith, rw (known, same) at h.0.keeps)
+kept_at (x ∷ xs) (suc place) i operation h stands =
+    let f = kept_at xs place i operation h.1 (record { here = stands.here; known = stands.known }) in
+    (f.0, omega (arith, f.1), f.2)
 
-sound_at : (is : List Insn) (place : ℕ) (i : Insn) → AreSound false is → slice_get is place ≡ Some i
-    → Found is place i
-sound_at [] place i h e = absurd (cc)
-sound_at (x ∷ xs) zero i h e =
-    record {
-      behind = length xs;
-      count = omega arith;
-      sound = subst (λ (j : Insn). IsSound false j (length xs)) (same_Some x i e) h.0;
-    }
-sound_at (x ∷ xs) (suc place) i h e = let f = sound_at xs place i h.1 e in let count =
-    f.count in record { behind = f.behind; count = omega arith; sound = f.sound }
-
-insn_at : (is : List Insn) (place : ℕ) → place < length is → (i : Insn) × (slice_get is place ≡ Some i)
-insn_at [] place lt = absurd (omega arith)
-insn_at (x ∷ xs) zero lt = (x, refl)
-insn_at (x ∷ xs) (suc place) lt = insn_at xs place (omega arith)
+insn_at : (is : List Insn) (place : ℕ) → AreSound false is → place < length is
+    → (i : Insn) × (operation : Operation) × Stands is place i operation
+insn_at [] place h lt = absurd (omega arith)
+insn_at (x ∷ xs) zero h lt = (x, h.0.operation, record { here = refl; known = h.0.known })
+insn_at (x ∷ xs) (suc place) h lt =
+    let f = insn_at xs place h.1 (omega arith) in (f.0, f.1, record { here = f.2.here; known = f.2.known })
 
 fine_at : (is : List Insn) (place : ℕ) → AreSound false is → place < length is → IsFineAt is place
 fine_at is place h lt =
-    let there = insn_at is place lt in
-    let f = sound_at is place there.0 h there.1 in
-    let count = f.count in
+    let there = insn_at is place h lt in
+    let kept = kept_at is place there.0 there.1 h there.2 in
     record {
       insn = there.0;
-      operation = f.sound.operation;
-      stands = record { here = there.1; known = f.sound.known };
-      fine = fine_of f.sound.operation there.0 (length is) place f.behind (omega arith) f.sound.keeps;
+      operation = there.1;
+      stands = there.2;
+      fine = fine_of there.1 there.0 (length is) place kept.0 kept.1 kept.2;
     }
 
 -- no instruction loads a scratch word
 no_scratch : (is : List Insn) → AreSound false is → KeepsScratchRule is
 no_scratch is h place n earlier loads path =
-    let f = sound_at is place loads.insn h loads.stands.here in
-    let same : f.sound.operation ≡ LoadScratch loads.register =
-    same_Some _ _ (sym f.sound.known ∙ loads.stands.known) in
-    absurd (subst (λ (o : Operation). Keeps o loads.insn f.behind) same f.sound.keeps)
+    absurd (kept_at is place loads.insn (LoadScratch loads.register) h loads.stands).2
 
 -- nothing stands behind the last instruction, so that it can only answer
 returns_at_end : (operation : Operation) (i : Insn) → Keeps operation i 0 → IsReturn operation
@@ -76,12 +69,9 @@ returns_at_end operation i h = grind arith
 last_returns : (code : List Insn) → AreSound false code → 0 < length code → (i : Insn) (operation : Operation)
     → Stands code (length code - 1) i operation → IsReturn operation
 last_returns code h some i operation stands =
-    let f = sound_at code (length code - 1) i h stands.here in
-    let count = f.count in
-    let last : f.behind ≡ 0 = omega arith in
-    let same : f.sound.operation ≡ operation = same_Some _ _ (sym f.sound.known ∙ stands.known) in
-    subst IsReturn same
-    (returns_at_end f.sound.operation i (subst (λ (n : ℕ). Keeps f.sound.operation i n) last f.sound.keeps))
+    let kept = kept_at code (length code - 1) i operation h stands in
+    let last : kept.0 ≡ 0 = omega (arith, kept.1) in
+    returns_at_end operation i (rw last at kept.2)
 
 -- ---- what a filter promises
 
