@@ -3,13 +3,16 @@ use Rattle.std.proofs.Common.{◌≡◌, ℕ, ◌*◌, ◌-◌, ◌%◌, ◌<◌
 use Rattle.std.specs.Prelude.{bit_and}
 use Rattle.std.specs.Int.{w32, IsPowerOfTwo}
 use Rattle.std.specs.Int.Count.{count_trailing_zeros}
-use Rattle.std.proofs.lemmas.Nat.{one_shl, and_assoc}
+use Rattle.std.proofs.lemmas.Nat.{one_shl, pow_pos, and_assoc}
 use Rattle.std.proofs.lemmas.Nat.Bits.{and_pow, bit_at-trailing_zeros, ones_shl}
 use Rattle.scf_facts.specs.HighMask.{IsHighMask}
 use Rattle.scf_facts.proofs.MaskLaws.{and_twice}
 
 pub lowest_power : (m : ℕ) → 0 < m → m < 2 ^ 32 → IsPowerOfTwo (1 * 2 ^ count_trailing_zeros 32 m % 2 ^ 32)
 lowest_power m some fits = (count_trailing_zeros 32 m, one_shl _ 32 (bit_at-trailing_zeros w32 m some fits).0)
+
+pub lowest_some : (m : ℕ) → 0 < m → m < 2 ^ 32 → 0 < 1 * 2 ^ count_trailing_zeros 32 m % 2 ^ 32
+lowest_some m some fits = rw (one_shl _ 32 (bit_at-trailing_zeros w32 m some fits).0) (pow_pos _)
 
 -- it is one of the mask's bits
 pub lowest_among : (m : ℕ) → 0 < m → m < 2 ^ 32
@@ -27,4 +30,4 @@ high_mask m some fits e =
     let place = (bit_at-trailing_zeros w32 m some fits).0 in
     (count_trailing_zeros 32 m, place, e ∙ ones_shl 32 _ (omega arith))
 
-pub ruleset lowest = (lowest_power, lowest_among, lowest_part, and_twice)
+pub ruleset lowest = (lowest_power, lowest_some, lowest_among, lowest_part, and_twice)

@@ -1,6 +1,6 @@
 //! Bits of a number under a mask.
 
-ghost use Rattle.std.specs.Prelude.{◌≡◌, ◌+◌, ◌↔◌, ◌⊎◌, ℕ, IsTrue, false, IfSome, IfNone, bit_and};
+ghost use Rattle.std.specs.Prelude.{◌≡◌, ◌+◌, ◌<◌, ◌↔◌, ◌⊎◌, ℕ, IsTrue, false, IfSome, IfNone, bit_and};
 ghost use Rattle.std.specs.Int.{IsPowerOfTwo};
 ghost use Rattle.scf_facts.specs.internal.Bits.{HasBits, LacksBits, SomeLack};
 
@@ -93,6 +93,7 @@ impl Bits {
     pub(crate) fn lowest(self) -> Option<Bits>
         ensures none { IfNone result (self.mask ≡ 0) }
         ensures one { IfSome result (λ bit. IsPowerOfTwo bit.mask) }
+        ensures some { IfSome result (λ bit. 0 < bit.mask) }
         ensures within { IfSome result (λ bit. bit_and bit.value bit.mask ≡ bit.value) }
         ensures part { IfSome result (λ bit. (x : ℕ) → HasBits self x → HasBits bit x) }
         ensures among { IfSome result (λ bit. bit_and self.mask bit.mask ≡ bit.mask) }

@@ -1,7 +1,6 @@
-use Rattle.std.proofs.Common.{inl, inr, arith}
+use Rattle.std.proofs.Common.{inl, inr}
 use Rattle.std.specs.Prelude.{bit_and}
 use Rattle.std.proofs.lemmas.Bool.{cases_eq}
-use Rattle.std.proofs.lemmas.Nat.{pow_pos}
 use Rattle.scf_facts.proofs.word_set.WordSet.has_none_without.Goals as goal
 
 -- a number that lacks the bit lacks the bits
@@ -14,11 +13,6 @@ returns-then-not-has_none_with-clause-some c = λ _ exact.
       λ has. (c.flipped.ensures some.0).0 some.3
           (c.in-Some.ensures.part some.0 (c.loop-bit.invariant.some some.0 has)),
     )
-
-pub loop-bit-smaller : goal.loop-bit-smaller
-loop-bit-smaller c =
-    let one = c.in-Some.ensures.one in
-    omega (arith, c.beyond-left.ensures.rest, c.in-Some.ensures.among, one.1, pow_pos one.0)
 
 pub loop-bit-preserved : goal.loop-bit-preserved
 loop-bit-preserved c =
