@@ -5,6 +5,7 @@ use Rattle.std.proofs.lemmas.List.Elements.{AllZip-push}
 use Rattle.std.proofs.lemmas.List.Sums.{sum_by_push}
 use Rattle.std.specs.List.{AllZip}
 use Rattle.scf_insn.specs.declared.insn.Insn.{Insn}
+use Rattle.scf_insn.specs.Kernel.{max_insns_per_path}
 use Rattle.scf_machine.specs.Stack.{IsPush, cost_of}
 use Rattle.scf_insn.specs.declared.encoding.ReadFault.TheVariants as reads
 use Rattle.scf_insn.specs.Streams.{HasFailed}
@@ -76,7 +77,7 @@ pub stack_grows : {R : Type 0} (remaining : R → Option (List ℕ)) (failures :
 stack_grows remaining failures i olds news old new stack pushed from upto push end =
     let accepted = one_more_filter (map remaining (take i olds)) stack (remaining old) push.0
     upto.has_stack.accepted push.1 in
-    let total : cost_of (stack ++ push.0 ∷ []) ≤ 32768 + 4 =
+    let total : cost_of (stack ++ push.0 ∷ []) ≤ max_insns_per_path + 4 =
     omega (arith, push.2.0, sum_by_push (λ filter. length filter + 4) stack push.0) in
     let told : map remaining (take (i + 1) olds) ≡ map remaining (take i olds) ++ remaining old ∷ [] =
     ap (map remaining) (olds_taken i olds news old from) ∙ map-append remaining (take i olds) (old ∷ []) in

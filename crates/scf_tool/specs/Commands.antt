@@ -6,6 +6,7 @@ use Rattle.scf_insn.specs.declared.input.InputFault.{InputFault}
 use Rattle.scf_insn.specs.declared.input.InputFault.TheVariants as inputs
 use Rattle.scf_insn.specs.declared.insn.Insn.{Insn}
 use Rattle.scf_insn.specs.declared.record.CallRecord.{CallRecord}
+use Rattle.scf_insn.specs.Kernel.{bpf_maxinsns}
 use Rattle.scf_insn.specs.Insn.{program_bytes}
 use Rattle.scf_insn.specs.Words.{words_of}
 use Rattle.scf_machine.specs.Machine.{IsRun, RunAnswers}
@@ -164,7 +165,7 @@ abbrev pub Compiles : List ℕ → List ℕ → Result Reply Fault → Type 0
 Compiles profile table (Ok (Bytes bytes)) = IsFilterOfProfile profile table bytes.items
 Compiles profile table (Err (faults.Verify fault)) = CantLoad profile table fault
 Compiles profile table (Err (faults.Compile fault)) = (loaded : Loaded) × IsStated profile table loaded
-    × (fault ≡ compiles.TooLarge → 4096 < size_bound_of loaded.profile)
+    × (fault ≡ compiles.TooLarge → bpf_maxinsns < size_bound_of loaded.profile)
 Compiles profile table ending = ⊥
 
 -- `ask`: the answer of the profile to the call, and why

@@ -2,10 +2,11 @@ use Rattle.std.proofs.Common.{◌≡◌, ◌≤◌, ℕ, List, length, Option, S
 use Rattle.std.specs.Prelude.{IfSome}
 use Rattle.scf_insn.specs.declared.insn.Insn.{Insn}
 use Rattle.scf_insn.specs.Insn.{program_bytes}
+use Rattle.scf_insn.specs.Kernel.{max_filter_len}
 use Rattle.scf_tool.proofs.filter.read_filter.Goals as goal
 
 encoded : (bytes : Option (List ℕ)) (insns : List Insn)
-    → IfSome bytes (λ told. (told ≡ program_bytes insns) × (length told ≤ 32768))
+    → IfSome bytes (λ told. (told ≡ program_bytes insns) × (length told ≤ max_filter_len))
     → IfSome bytes (λ told. told ≡ program_bytes insns)
 encoded None insns h = tt
 encoded (Some told) insns h = h.0
