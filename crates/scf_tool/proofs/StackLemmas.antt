@@ -1,14 +1,12 @@
 -- Readers of filters, one after another.
-use Rattle.std.proofs.Common.{◌≡◌, ℕ, ◌+◌, ◌<◌, ◌≤◌, List, [], ◌∷◌, ◌++◌, length, take, drop, set, get_or, map, Option, Some, Ok, Err, Bor, refl, subst, sym, ap, ◌∙◌, ◌≢◌, arith, add-one, length-drop}
+use Rattle.std.proofs.Common.{◌≡◌, ℕ, ◌+◌, ◌<◌, ◌≤◌, List, [], ◌∷◌, ◌++◌, length, take, drop, set, get_or, map, Option, Some, Ok, Err, Bor, refl, sym, ap, ◌∙◌, ◌≢◌, arith, add-one, length-drop}
 use Rattle.std.proofs.lemmas.List.{drop_more, take_more, take_more_set, set_split, drop-set-lt, take-append-drop, map-append, length-map}
-use Rattle.std.proofs.lemmas.List.Elements.{AllZip-push}
 use Rattle.std.proofs.lemmas.List.Sums.{sum_by_push}
 use Rattle.std.specs.List.{AllZip}
 use Rattle.scf_insn.specs.declared.insn.Insn.{Insn}
 use Rattle.scf_insn.specs.Kernel.{max_insns_per_path}
 use Rattle.scf_machine.specs.Stack.{IsPush, cost_of}
 use Rattle.scf_insn.specs.declared.encoding.ReadFault.TheVariants as reads
-use Rattle.scf_insn.specs.Streams.{HasFailed}
 use Rattle.scf_tool.specs.declared.contents.PartReader.{PartReader}
 use Rattle.scf_tool.specs.Verifying.{HasEnded, IsFilter, LeavesFilterReader}
 use Rattle.scf_tool.specs.FilterStacks.{HasStack, HasNoStack, IsNotPushed, HaveEnded, HaveStopped}
@@ -19,14 +17,13 @@ use Rattle.scf_tool.specs.Commands.{HoldsBundle, ReadsInput}
 use Rattle.scf_profile.specs.References.{texts_at}
 use Rattle.scf_tool.specs.internal.Contents.{rest_of}
 
--- one more filter
-one_more_filter : (filters : List (Option (List ℕ))) (stack : List (List Insn)) (bytes : Option (List ℕ))
-    (insns : List Insn) → AllZip IsFilter filters stack → IsFilter bytes insns
-    → AllZip IsFilter (filters ++ bytes ∷ []) (stack ++ insns ∷ [])
-one_more_filter [] [] bytes insns h own = (own, tt)
-one_more_filter (f ∷ fs) (s ∷ ss) bytes insns h own = (h.0, one_more_filter fs ss bytes insns h.1 own)
-one_more_filter [] (s ∷ ss) bytes insns h own = absurd h
-one_more_filter (f ∷ fs) [] bytes insns h own = absurd h
+-- one more on both sides
+pub AllZip-more : {A B : Type 0} (R : A → B → Type 0) (xs : List A) (ys : List B) (x : A) (y : B) → AllZip R xs ys
+    → R x y → AllZip R (xs ++ x ∷ []) (ys ++ y ∷ [])
+AllZip-more R [] [] x y h own = (own, tt)
+AllZip-more R (a ∷ xs) (b ∷ ys) x y h own = (h.0, AllZip-more R xs ys x y h.1 own)
+AllZip-more R [] (b ∷ ys) x y h own = absurd h
+AllZip-more R (a ∷ xs) [] x y h own = absurd h
 
 -- the lists hold the same from a place on, and this stands there
 pub record SameFrom {R : Type 0} (i : ℕ) (olds news : List R) (old : R) : Type 0 where
@@ -39,12 +36,7 @@ module _ {R : Type 0} (i : ℕ) (olds news : List R) (old : R) (from : SameFrom 
   within_olds = omega (arith, from.within, ap length from.same, length-drop i news, length-drop i olds)
 
   old_here : old ≡ get_or olds i old
-  old_here =
-      let behind = from.here in
-      let new = drop_more news i old from.within in
-      let was = drop_more olds i old within_olds in
-      let same = from.same in
-      cc
+  old_here = grind (arith, drop_more, within_olds)
 
   same_behind : drop (i + 1) news ≡ drop (i + 1) olds
   same_behind =
@@ -52,11 +44,7 @@ module _ {R : Type 0} (i : ℕ) (olds news : List R) (old : R) (from : SameFrom 
       (sym (drop_more news i old from.within) ∙ from.same ∙ drop_more olds i old within_olds)
 
   olds_split : olds ≡ take i olds ++ old ∷ drop (i + 1) news
-  olds_split =
-      sym (take-append-drop i olds)
-      ∙ ap (λ xs. take i olds ++ xs)
-      (drop_more olds i old within_olds ∙ ap (λ x. x ∷ drop (i + 1) olds) (sym old_here)
-      ∙ ap (λ xs. old ∷ xs) (sym same_behind))
+  olds_split = grind (arith, drop_more, old_here, same_behind, take-append-drop, within_olds)
 
   olds_taken : take (i + 1) olds ≡ take i olds ++ old ∷ []
   olds_taken = take_more olds i old within_olds ∙ ap (λ x. take i olds ++ x ∷ []) (sym old_here)
@@ -75,7 +63,7 @@ pub stack_grows : {R : Type 0} (remaining : R → Option (List ℕ)) (failures :
     → ((insns : List Insn) × IsFilter (remaining old) insns × IsPush stack insns (Ok tt) pushed)
     → HasEnded remaining failures old new → IsStackUpTo remaining failures (i + 1) olds (set news i new) pushed
 stack_grows remaining failures i olds news old new stack pushed from upto push end =
-    let accepted = one_more_filter (map remaining (take i olds)) stack (remaining old) push.0
+    let accepted = AllZip-more IsFilter (map remaining (take i olds)) stack (remaining old) push.0
     upto.has_stack.accepted push.1 in
     let total : cost_of (stack ++ push.0 ∷ []) ≤ max_insns_per_path + 4 =
     omega (arith, push.2.0, sum_by_push (λ filter. length filter + 4) stack push.0) in
@@ -84,7 +72,7 @@ stack_grows remaining failures i olds news old new stack pushed from upto push e
     record {
       has_stack = rw (told, push.2.1) record { accepted = accepted; total = total };
       ended = rw (olds_taken i olds news old from, take_more_set news i new from.within)
-          (AllZip-push (HasEnded remaining failures) (take i olds) (take i news) old new upto.ended end);
+          (AllZip-more (HasEnded remaining failures) (take i olds) (take i news) old new upto.ended end);
       same = drop-set-lt (i + 1) news i new (omega arith) ∙ same_behind i olds news old from;
     }
 
@@ -131,11 +119,7 @@ told_of_parts (reader ∷ readers) = ap (λ told. Some (rest_of reader) ∷ told
 -- a reader that never fails isn't why there is no stack
 pub never_fails : {R : Type 0} (remaining : R → Option (List ℕ)) (fault : VerifyFault) (olds news : List R)
     → HaveStopped remaining (λ _. 0) fault olds news → fault ≢ FilterRead reads.Read
-never_fails {R} remaining fault olds news stopped is =
-    let leaves = subst (λ (f : VerifyFault).
-    LeavesFilterReader {T = List Insn} remaining (λ (_ : R). 0) stopped.old (Err f) stopped.new) is stopped.left in
-    let failed : HasFailed 0 0 = leaves.0 refl in
-    cc
+never_fails remaining fault olds news h = grind arith
 
 -- a bundle of filters, a profile and a table of which this holds
 pub bundle_compared : (told : Option (List ℕ)) (bytes : List ℕ) (readers : List PartReader)
@@ -146,11 +130,4 @@ pub bundle_compared : (told : Option (List ℕ)) (bytes : List ℕ) (readers : L
     → holds (map rest_of readers) profile table
     → (filters : List (List ℕ)) × (one other : List ℕ) × (1 ≤ length filters)
     × HoldsBundle told filters (one ∷ []) (other ∷ []) × holds filters one other
-bundle_compared told bytes readers profiles tables profile table holds read bundle one other some h = (
-  map rest_of readers,
-  profile,
-  table,
-  omega (arith, length-map readers rest_of),
-  (bytes, read, rw (← one, ← other) bundle),
-  h,
-)
+bundle_compared told bytes readers profiles tables profile table holds h1 h2 h3 h4 h5 h6 = grind (arith, length-map)

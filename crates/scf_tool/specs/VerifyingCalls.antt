@@ -1,6 +1,7 @@
 -- What is known of a stack of filters, a call table and a profile once they are read and compared call by call. The
 -- bytes of each reader count where the reader tells them.
-use Rattle.std.specs.Prelude.{◌≡◌, ℕ, List, All, map, Option, Result, Ok, Err}
+use Rattle.std.specs.Prelude.{◌≡◌, ℕ, List, Option, Result, Ok, Err}
+use Rattle.std.specs.List.{AllZip}
 use Rattle.scf_insn.specs.declared.insn.Insn.{Insn}
 use Rattle.scf_profile.specs.NamedCalls.{AreCallsOf}
 use Rattle.scf_profile.specs.References.{texts_at}
@@ -14,25 +15,20 @@ use Rattle.scf_tool.specs.declared.call_verification.CallsOutcome.{CallsOutcome}
 use Rattle.scf_tool.specs.declared.verification.VerifyFault.{VerifyFault}
 use Rattle.scf_tool.specs.VerifyingStacks.{AreComparedParties, IsComparison, IsRefusedStack}
 
--- a call by its number and its names, as a table has it
-abbrev pub call_with_names : NamedCall → ℕ × List (List ℕ)
-call_with_names call = (call.number, texts_at call.names.items)
-
--- and as the outcome tells it
-abbrev pub told_of : CallVerdict → ℕ × List (List ℕ)
-told_of call = (call.number, call.names)
-
--- the verdict on a call is one on the stack and the profile over the records of its number, under the whole limit
-abbrev pub IsVerdictOnCall : Relation → List (List Insn) → Profile → ℕ → CallVerdict → Type 0
-IsVerdictOnCall relation stack p limit call = IsComparison relation stack p (Call call.number) limit call.verdict
+-- A call of a table is told by its number and its names. The verdict on it is one on the stack and the profile over the
+-- records of its number, under the whole limit.
+pub record IsVerdictOnCall (relation : Relation) (stack : List (List Insn)) (p : Profile) (limit : ℕ)
+    (of_table : NamedCall) (call : CallVerdict) : Type 0 where
+  pub number : call.number ≡ of_table.number
+  pub names : call.names ≡ texts_at of_table.names.items
+  pub compared : IsComparison relation stack p (Call call.number) limit call.verdict
 
 -- These are the calls of a table, and each is compared by itself.
 pub record AreComparedCalls (relation : Relation) (stack : List (List Insn)) (names : Names) (p : Profile) (limit : ℕ)
     (calls : List CallVerdict) : Type 0 where
   pub of_table : List NamedCall
   pub are_calls : AreCallsOf names of_table
-  pub told : map told_of calls ≡ map call_with_names of_table
-  pub compared : All (IsVerdictOnCall relation stack p limit) calls
+  pub compared : AllZip (IsVerdictOnCall relation stack p limit) of_table calls
 
 -- The bytes are a stack of filters, a call table and a profile, and the calls are those of that table, compared with
 -- that stack and that profile by a relation.

@@ -8,8 +8,6 @@ ghost use Rattle.scf_tool.specs.VerifyingCalls.{
   AreVerifiedCalls,
   IsVerdictOnCall,
   VerifiesCallsBy,
-  call_with_names,
-  told_of,
 };
 ghost use Rattle.scf_tool.specs.VerifyingStacks.{LeavesFilterReaders};
 ghost use Rattle.scf_tool.specs.internal.Verification.{AreParties};
@@ -64,8 +62,7 @@ fn compare_call(
     relation: Relation,
     limit: u64,
 ) -> Result<CallVerdict, Memory>
-    ensures call { IfOk result (λ own. told_of own ≡ call_with_names call.now) }
-    ensures compared { IfOk result (IsVerdictOnCall relation stack.now profile.now limit) }
+    ensures { IfOk result (IsVerdictOnCall relation stack.now profile.now limit call.now) }
 {
     let verdict = compare_by::<WordSets>(
         alloc,
