@@ -1,10 +1,9 @@
 -- Parts of a bundle: one list of them at most is spelled, and a fault stands where none is.
-use Rattle.std.proofs.Common.{◌≡◌, ◌≢◌, ℕ, zero, suc, get_or, Option, None, Some, ◌+◌, ◌-◌, ◌<◌, ◌≤◌, List, [], ◌∷◌, ◌++◌, length, take, drop, refl, sym, ap, subst, ◌∙◌, append_assoc, append-nil, arith, length-append, length-drop}
+use Rattle.std.proofs.Common.{◌≡◌, ◌≢◌, ℕ, zero, suc, get_or, Option, ◌+◌, ◌-◌, ◌<◌, ◌≤◌, List, [], ◌∷◌, ◌++◌, length, take, drop, refl, sym, ap, ◌∙◌, append_assoc, append-nil, arith, length-append, length-drop}
 use Rattle.std.proofs.lemmas.List.{append_cancel_left, take_all, take-append-drop, length-take-le}
 use Rattle.std.proofs.Math.Seq.{take-append_seam, take-add}
 use Rattle.std.specs.Option.{IfNone}
 use Rattle.scf_tool.specs.declared.bundle.Part.{Part}
-use Rattle.scf_tool.specs.declared.bundle.PartKind.{PartKind}
 use Rattle.scf_tool.specs.declared.bundle.BundleFault.{BundleFault}
 use Rattle.scf_tool.specs.declared.bundle.BundleFault.TheVariants.{Header, Short, Memory}
 use Rattle.scf_tool.specs.Bundle.{IsHeader, IsBundlePart, SpellsFrom, SpellsBundle, IsFaultAt, BreaksAt, IsBundleFault}
@@ -13,18 +12,14 @@ use Rattle.scf_tool.proofs.HeaderLemmas.{same_header, header_some}
 -- ---- one part
 
 pub part_some : (o : ℕ) (p : Part) (a : List ℕ) → IsBundlePart o p a → 0 < length a
-part_some o p a h = let some = header_some h.header p.kind (length h.content) h.is_header in rw
-    (h.whole, length-append) (omega (arith, some))
+part_some o p a h = grind (arith, header_some)
 
 same_front : (a b r s : List ℕ) → length a ≡ length b → a ++ r ≡ b ++ s → a ≡ b
 same_front a b r s long e = sym (take-append_seam a r) ∙ ap (λ (n : ℕ). take n (a ++ r)) long
     ∙ ap (λ (xs : List ℕ). take (length b) xs) e ∙ take-append_seam b s
 
 same_fields : (p q : Part) → p.kind ≡ q.kind → p.start ≡ q.start → p.length ≡ q.length → p ≡ q
-same_fields p q k s l =
-    ap (λ (kind : PartKind). let moved : Part = record { kind = kind; start = p.start; length = p.length } in moved) k
-    ∙ ap (λ (start : ℕ). let moved : Part = record { kind = q.kind; start = start; length = p.length } in moved) s
-    ∙ ap (λ (long : ℕ). let moved : Part = record { kind = q.kind; start = q.start; length = long } in moved) l
+same_fields p q h1 h2 h3 = grind arith
 
 pub record SamePart (p q : Part) (a b r s : List ℕ) : Type 0 where
   pub part : p ≡ q
@@ -54,10 +49,7 @@ same_part o p q a b r s h g e =
 -- ---- lists of parts
 
 nothing_more : (o : ℕ) (p : Part) (a r : List ℕ) → IsBundlePart o p a → a ++ r ≡ [] → ⊥
-nothing_more o p a r h e =
-    let none : length (a ++ r) ≡ 0 = ap (λ (xs : List ℕ). length xs) e in
-    let some = part_some o p a h in
-    absurd (omega (arith, none, some, length-append a r))
+nothing_more o p a r h1 h2 = grind (arith, part_some)
 
 pub one_spelling : (o : ℕ) (bs : List ℕ) (ps qs : List Part) → SpellsFrom o bs ps → SpellsFrom o bs qs → ps ≡ qs
 one_spelling o bs [] [] h g = refl
@@ -150,9 +142,7 @@ breaks_no_parts bs fault ps breaks h =
 
 pub fault_no_parts : (bs : List ℕ) (fault : BundleFault) → IsBundleFault bs fault → fault ≢ Memory → (ps : List Part)
     → SpellsBundle bs ps → ⊥
-fault_no_parts bs (Header offset) h other ps g = breaks_no_parts bs (Header offset) ps h g
-fault_no_parts bs (Short offset) h other ps g = breaks_no_parts bs (Short offset) ps h g
-fault_no_parts bs Memory h other ps g = other refl
+fault_no_parts bs fault h1 h2 ps h3 = grind (arith, breaks_no_parts)
 
 -- ---- the part that a header in front begins
 
@@ -172,8 +162,7 @@ part_in_front o bs p n inside fits header start =
     }
 
 pub if_none : {T : Type 0} (o : Option T) (P : Type 0) → P → IfNone o P
-if_none None P p = p
-if_none (Some x) P p = tt
+if_none o P h = grind arith
 
 pub some_left : (o : ℕ) (bs : List ℕ) → o < length bs → drop o bs ≢ []
 some_left o bs lt e =
@@ -183,9 +172,7 @@ some_left o bs lt e =
 -- whole parts, and what stands behind them, are why bytes are refused
 pub breaks : (bs : List ℕ) (o : ℕ) (ps : List Part) (fault : BundleFault) → SpellsBundle (take o bs) ps
     → IsFaultAt (drop o bs) o fault → IsBundleFault bs fault
-breaks bs o ps (Header offset) before here = record { offset = o; parts = ps; before = before; here = here }
-breaks bs o ps (Short offset) before here = record { offset = o; parts = ps; before = before; here = here }
-breaks bs o ps Memory before here = tt
+breaks bs o ps fault h1 h2 = grind arith
 
 -- the next part
 pub next_part : (bs : List ℕ) (o n : ℕ) (ps : List Part) (p : Part) → o ≤ length bs → o ≤ n → SpellsBundle (take o bs) ps
@@ -247,10 +234,4 @@ one_fault bs Memory other h g = absurd h
 -- a fault behind whole parts is that of the front, where there is one
 pub first_fault : (bs : List ℕ) (o : ℕ) (ps : List Part) (fault first : BundleFault) → o < length bs
     → SpellsBundle (take o bs) ps → IsFaultAt (drop o bs) o fault → IsFaultAt bs 0 first → fault ≡ first
-first_fault bs zero ps fault first lt before here bad = one_fault bs fault first here bad
-first_fault bs (suc o) ps fault first lt before here bad =
-    let none : take (suc o) bs ≡ [] = subst (λ (qs : List Part). SpellsBundle (take (suc o) bs) qs)
-    (none_before bs (suc o) ps first bad before) before in
-    let long : length (take (suc o) bs) ≡ suc o = length-take-le (suc o) bs (omega arith) in
-    let empty : length (take (suc o) bs) ≡ 0 = ap (λ (xs : List ℕ). length xs) none in
-    absurd (omega (arith, long, empty))
+first_fault bs o ps fault first h1 h2 h3 h4 = grind (arith, length-take-le, none_before, one_fault)

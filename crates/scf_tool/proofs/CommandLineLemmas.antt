@@ -11,13 +11,11 @@ use Rattle.clap.specs.Words.{AddsSubcommand, App, Shape, app_of, is_simple_and_f
 use Rattle.clap.specs.declared.builder.command.Command.{Command}
 use Rattle.clap.proofs.OnLiterals.{clap_on_literals}
 use Rattle.scf_tool.specs.Requests.{Command as Asked, command_word}
-use Rattle.scf_tool.specs.Requests.Command.{Ask, Asm, Check, Compare, Compile, Decide, Dis, Run}
 use Rattle.scf_tool.specs.Runs.{scf, scf_shape, shape_for}
 use Rattle.scf_tool.specs.internal.Parsing.{ReadsAsProgram, scf_with}
 
 third : (a b g rest : Bool) → (a && (not b && (not g && rest))) ≡ true → g ≡ false
-third a b g rest h = not-true g (and_parts (not g) rest
-    (and_parts (not b) (not g && rest) (and_parts a (not b && (not g && rest)) h).1).1).0
+third a b g rest h = grind (arith, and_parts, not-true)
 
 abbrev pub alone : Shape → App
 alone own = record { top = own; subs = [] }
@@ -25,9 +23,7 @@ alone own = record { top = own; subs = [] }
 -- one more command
 pub one_more_command : (old sub new : Command) (before : App) (own : Shape) → AddsSubcommand old sub new
     → app_of old ≡ before → app_of sub ≡ alone own → own.is_plain ≡ true → app_of new ≡ with_subcommand before own
-one_more_command old sub new before own h is_before is_own plain =
-    h.shape (third _ _ _ _ (ap (λ (a : App). a.top.is_plain) is_own ∙ plain))
-    ∙ ap₂ with_subcommand is_before (ap (λ (a : App). a.top) is_own)
+one_more_command old sub new before own h1 h2 h3 h4 = grind (arith, third)
 
 -- the program without its commands
 abbrev pub bare : App
@@ -72,9 +68,7 @@ record Enters (a : App) (word : Text) (leaf : Shape) : Type 0 where
 
 walk_of : (a : App) (word : Text) (leaf : Shape) (words : List Text) → Enters a word leaf
     → walk a.top.rules (names_of a) nothing_held (word ∷ words) ≡ stopped_at word words
-walk_of a word leaf words e =
-    ap (λ (w : Walk). fold (walked a.top.rules (names_of a)) w words) e.step
-    ∙ walk_behind a.top.rules (names_of a) word [] words
+walk_of a word leaf words h = grind (arith, walk_behind)
 
 entered_rows : (a : App) (word : Text) (leaf : Shape) (words : List Text) → Enters a word leaf
     → entered a (stop_after a.top.rules (names_of a) (word ∷ words)) ≡ Some (rows_at leaf words)
@@ -115,36 +109,15 @@ leaf_of command = built_leaf (inherited (with_leaf_noted (marked_built scf_shape
 
 enters_scf : (command : Asked) → Enters (built scf) (command_word command) (leaf_of command)
 unfolding clap_on_literals
-enters_scf Ask = record { step = refl; fault = refl; found = refl }
-enters_scf Asm = record { step = refl; fault = refl; found = refl }
-enters_scf Check = record { step = refl; fault = refl; found = refl }
-enters_scf Compare = record { step = refl; fault = refl; found = refl }
-enters_scf Compile = record { step = refl; fault = refl; found = refl }
-enters_scf Decide = record { step = refl; fault = refl; found = refl }
-enters_scf Dis = record { step = refl; fault = refl; found = refl }
-enters_scf Run = record { step = refl; fault = refl; found = refl }
+enters_scf command = grind arith
 
 enters_alone : (command : Asked) → Enters (built (scf_with command)) (command_word command) (leaf_of command)
 unfolding clap_on_literals
-enters_alone Ask = record { step = refl; fault = refl; found = refl }
-enters_alone Asm = record { step = refl; fault = refl; found = refl }
-enters_alone Check = record { step = refl; fault = refl; found = refl }
-enters_alone Compare = record { step = refl; fault = refl; found = refl }
-enters_alone Compile = record { step = refl; fault = refl; found = refl }
-enters_alone Decide = record { step = refl; fault = refl; found = refl }
-enters_alone Dis = record { step = refl; fault = refl; found = refl }
-enters_alone Run = record { step = refl; fault = refl; found = refl }
+enters_alone command = grind arith
 
 with_is_free : (command : Asked) → is_simple_and_free (scf_with command) ≡ true
 unfolding clap_on_literals
-with_is_free Ask = refl
-with_is_free Asm = refl
-with_is_free Check = refl
-with_is_free Compare = refl
-with_is_free Compile = refl
-with_is_free Decide = refl
-with_is_free Dis = refl
-with_is_free Run = refl
+with_is_free command = grind arith
 
 -- words that begin with a command's come to the same by the definition that has that command alone
 pub reads_with : (command : Asked) (name : Text) (words : List Text)

@@ -1,5 +1,5 @@
 -- A header ends at the first line end, so bytes begin with at most one.
-use Rattle.std.proofs.Common.{◌≡◌, ◌≢◌, ℕ, zero, suc, ◌+◌, ◌<◌, ◌≤◌, ◌^◌, true, false, List, [], ◌∷◌, ◌++◌, ◌&&◌, nat_lt, not, eqb, length, get_or, take, drop, codes, Option, Some, None, Err, unwrap_or, refl, sym, ap, subst, ◌∙◌, append_assoc, arith, length-append}
+use Rattle.std.proofs.Common.{◌≡◌, ◌≢◌, ℕ, zero, suc, ◌+◌, ◌<◌, ◌≤◌, ◌^◌, true, false, List, [], ◌∷◌, ◌++◌, not, eqb, length, get_or, take, drop, codes, Option, Some, Err, unwrap_or, refl, sym, ap, subst, ◌∙◌, append_assoc, arith, length-append}
 use Rattle.std.specs.List.{list_all}
 use Rattle.std.specs.Option.{MatchOption}
 use Rattle.std.proofs.lemmas.List.Folds.{list_all-append}
@@ -12,7 +12,6 @@ use Rattle.std.proofs.lemmas.Int.Digits.{digits_value-lt}
 use Rattle.std.proofs.Math.Nat.{pow-le-pow_right}
 use Rattle.scf_insn.specs.Numbers.{numeral, ReadsNumber}
 use Rattle.scf_insn.specs.declared.number.NumeralFault.{NumeralFault}
-use Rattle.scf_insn.specs.declared.number.NumeralFault.TheVariants.{Malformed, TooLarge}
 use Rattle.scf_tool.specs.declared.bundle.PartKind.{PartKind}
 use Rattle.scf_tool.specs.declared.bundle.PartKind.TheVariants.{Filter, Profile, Table}
 use Rattle.scf_tool.specs.Bundle.{kind_word, IsCount, IsHeader, HasHeader}
@@ -27,16 +26,10 @@ all_digits (d ∷ ds) h = let both = and_parts (is_digit d 10) (list_all (λ e. 
 -- a numeral has digits alone, and their value
 numeral_parts : (ds : List ℕ) (n : ℕ) → numeral 10 ds ≡ Some n
     → (list_all (λ d. is_digit d 10) ds ≡ true) × (digits_value 10 ds ≡ n)
-numeral_parts ds n e =
-    let parts = cond_some (nat_lt 0 (length ds) && list_all (λ d. is_digit d 10) ds) (digits_value 10 ds) n e in
-    ((and_parts (nat_lt 0 (length ds)) (list_all (λ d. is_digit d 10) ds) parts.0).1, parts.1)
+numeral_parts ds n h = grind (arith, and_parts, cond_some)
 
 pub count_is_small : (ds : List ℕ) (n : ℕ) → IsCount ds n → n < 2 ^ 64
-count_is_small ds n count =
-    let parts = numeral_parts ds n count.1 in
-    let below : digits_value 10 ds < 10 ^ length ds = digits_value-lt 10 ds (all_digits ds parts.0) in
-    let wide : 10 ^ length ds ≤ 10 ^ 8 = pow-le-pow_right (omega arith) count.0 in
-    omega (arith, below, wide, parts.1)
+count_is_small ds n h = grind (arith, all_digits, digits_value-lt, numeral_parts, pow-le-pow_right)
 
 -- ---- lines
 
@@ -57,14 +50,11 @@ digits_are_line (d ∷ ds) h =
     and_from (not (eqb d 10)) _ (rw other refl) (digits_are_line ds both.1)
 
 word_is_line : (kind : PartKind) → IsLine (kind_word kind)
-word_is_line Filter = refl
-word_is_line Profile = refl
-word_is_line Table = refl
+word_is_line kind = grind arith
 
 header_is_line : (kind : PartKind) (digits : List ℕ) (n : ℕ) → IsCount digits n
     → IsLine (kind_word kind ++ (codes " " ++ digits))
-header_is_line kind digits n count = line_join (kind_word kind) (codes " " ++ digits) (word_is_line kind)
-    (line_join (codes " ") digits refl (digits_are_line digits (numeral_parts digits n count.1).0))
+header_is_line kind digits n h = grind (arith, digits_are_line, line_join, numeral_parts, word_is_line)
 
 -- bytes begin with at most one line
 pub same_line : (a b r s : List ℕ) → IsLine a → IsLine b → a ++ 10 ∷ r ≡ b ++ 10 ∷ s → a ≡ b
@@ -97,15 +87,7 @@ line_before (b ∷ bs) (suc n) le h =
 
 same_word : (k l : PartKind) (a b : List ℕ) → kind_word k ++ (codes " " ++ a) ≡ kind_word l ++ (codes " " ++ b)
     → (k ≡ l) × (a ≡ b)
-same_word Filter Filter a b e = (refl, append_cancel_left (codes "filter ") a b e)
-same_word Profile Profile a b e = (refl, append_cancel_left (codes "profile ") a b e)
-same_word Table Table a b e = (refl, append_cancel_left (codes "table ") a b e)
-same_word Filter Profile a b e = absurd (false≢true (ap (λ (l : List ℕ). eqb (get_or l 0 0) 112) e))
-same_word Filter Table a b e = absurd (false≢true (ap (λ (l : List ℕ). eqb (get_or l 0 0) 116) e))
-same_word Profile Filter a b e = absurd (false≢true (ap (λ (l : List ℕ). eqb (get_or l 0 0) 102) e))
-same_word Profile Table a b e = absurd (false≢true (ap (λ (l : List ℕ). eqb (get_or l 0 0) 116) e))
-same_word Table Filter a b e = absurd (false≢true (ap (λ (l : List ℕ). eqb (get_or l 0 0) 102) e))
-same_word Table Profile a b e = absurd (false≢true (ap (λ (l : List ℕ). eqb (get_or l 0 0) 112) e))
+same_word k l a b h = grind (arith, append_cancel_left, false≢true)
 
 some_value : (m n : ℕ) → Some m ≡ Some n → m ≡ n
 some_value m n e = ap (λ (o : Option ℕ). unwrap_or o 0) e
@@ -160,22 +142,14 @@ header_by_line bs k n end inside here before found =
 -- ---- what a header's reader asks
 
 pub no_count : (ds : List ℕ) (n : ℕ) (e : NumeralFault) → ReadsNumber (numeral 10 ds) (Err e) → IsCount ds n → ⊥
-no_count ds n TooLarge reads count = let past : 2 ^ 64 ≤ n = rw count.1 at reads in let small : n < 2 ^ 64 =
-    count_is_small ds n count in absurd (omega arith)
-no_count ds n Malformed reads count = rw count.1 at reads
+no_count ds n e h1 h2 = grind (arith, count_is_small)
 
 -- what is said of the digits of a line is said of the header that it ends
 pub header_by_count : (kind : PartKind) (line digits : List ℕ) (counted : Option ℕ)
     → line ≡ kind_word kind ++ (codes " " ++ digits)
     → MatchOption counted ((n : ℕ) → IsCount digits n → ⊥) (IsCount digits)
     → MatchOption counted ((n : ℕ) → IsHeader (line ++ codes "\n") kind n → ⊥) (IsHeader (line ++ codes "\n") kind)
-header_by_count kind line digits None is none = λ n header.
-    let others : line ≡ kind_word kind ++ (codes " " ++ header.digits) =
-    append_cancel_right line (kind_word kind ++ (codes " " ++ header.digits)) (codes "\n") header.text in
-    let same = (same_word kind kind header.digits digits (sym others ∙ is)).1 in
-    none n (subst (λ (ds : List ℕ). IsCount ds n) same header.is_count)
-header_by_count kind line digits (Some n) is count =
-    record { digits = digits; is_count = count; text = ap (λ (xs : List ℕ). xs ++ codes "\n") is }
+header_by_count kind line digits counted h1 h2 = grind (arith, append_cancel_right, same_word)
 
 pub no_kind : (h : List ℕ) → ((n : ℕ) → IsHeader h Filter n → ⊥) → ((n : ℕ) → IsHeader h Profile n → ⊥)
     → ((n : ℕ) → IsHeader h Table n → ⊥) → (k : PartKind) (n : ℕ) → IsHeader h k n → ⊥
