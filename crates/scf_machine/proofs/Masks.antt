@@ -1,6 +1,6 @@
 -- Masks of scratch words, and the paths that they stand for.
-use Rattle.std.proofs.Common.{◌≡◌, ℕ, zero, suc, ◌+◌, ◌*◌, ◌%◌, ◌^◌, ◌<◌, ◌≤◌, inl, inr, min, Bool, true}
-use Rattle.std.proofs.Common.{false, cond, nat_eq, List, [], ◌∷◌, Option, Some, refl, ap, sym, subst, ◌∙◌, arith}
+use Rattle.std.proofs.Common.{◌≡◌, ℕ, zero, suc, ◌+◌, ◌*◌, ◌%◌, ◌^◌, ◌<◌, ◌≤◌, inl, inr, min, Bool}
+use Rattle.std.proofs.Common.{false, cond, nat_eq, List, [], ◌∷◌, Some, refl, ap, sym, subst, ◌∙◌, arith}
 use Rattle.std.proofs.Common.{length, get_or, set, replicate, bit_and, bit_or, length-set, get_or-set_same}
 use Rattle.std.proofs.Common.{get_or-set_other}
 use Rattle.std.specs.Int.{bit_at, w16}
@@ -10,15 +10,14 @@ use Rattle.std.proofs.lemmas.Nat.Bits.{bit_at_and, bit_at_ones, bit_at-zero, bit
 use Rattle.std.proofs.lemmas.Bool.{cases_eq, or_parts, or_from, true_from_ne_false}
 use Rattle.std.proofs.lemmas.List.{get_or-replicate}
 use Rattle.std.proofs.Math.ListN.{length-replicate}
-use Rattle.std.proofs.lemmas.Option.{slice_get_within, slice_get-get_or}
-use Rattle.scf_insn.specs.Codes.{operation_of}
+use Rattle.std.proofs.lemmas.Option.{slice_get_within}
 use Rattle.scf_insn.specs.Kernel.{bpf_memwords}
 use Rattle.scf_insn.specs.declared.insn.Insn.{Insn}
 use Rattle.scf_insn.specs.declared.operation.Register.{Register}
 use Rattle.scf_insn.specs.declared.operation.Operation.{Operation}
 use Rattle.scf_insn.specs.declared.operation.Operation.TheVariants.{LoadScratch}
 use Rattle.scf_machine.specs.internal.Masks.{Joins, Unstored, MasksAt}
-use Rattle.scf_machine.specs.Rules.{IsFine, IsValidList, GoesTo, Edge, Stands, stores_word}
+use Rattle.scf_machine.specs.Rules.{IsValidList, GoesTo, Edge, Stands, stores_word}
 use Rattle.scf_machine.specs.Rules.{stores_at, IsPath, IsUnsetAt, KeepsScratchRule}
 use Rattle.scf_machine.proofs.Runs.{edge_forward, fine_of}
 
@@ -52,16 +51,6 @@ bit_set mask k n inside inside_n =
     grind (arith, nat_tests, bit_at_set_same w16 mask k fits, bit_at_set_other w16 mask k fits n)
 
 -- ---- the invariant
--- what was read at a place stands there, and keeps the rules
-pub record FineHere (insns : List Insn) (at : ℕ) (i : Insn) (operation : Operation) : Type 0 where
-  pub stands : Stands insns at i operation
-  pub fine : IsFine (length insns) at i operation
-
-pub fine_here : (insns : List Insn) (at : ℕ) (i d : Insn) (found : Option Operation) (operation : Operation)
-    → IsValidList insns → at < length insns
-    → i ≡ get_or insns at d → found ≡ operation_of i.code → found ≡ Some operation → FineHere insns at i operation
-fine_here insns at i d found operation h1 h2 h3 h4 h5 = grind (arith, fine_of, slice_get-get_or)
-
 below_more : (bound more : ℕ) (places : List ℕ)
     → bound ≤ more → AllByRecursion (λ q. q < bound) places → AllByRecursion (λ q. q < more) places
 below_more bound more [] le h = tt
@@ -167,12 +156,6 @@ module _ (insns : List Insn) (masks new : List ℕ)
   pub masks_next : MasksAt insns new (at + 1)
   masks_next = grind (arith, lost, through, weaker)
 
--- a clear bit at a load is a path that doesn't store the word
-pub unset_here : (insns : List Insn) (masks : List ℕ) (at : ℕ) (i : Insn) (r : Register)
-    → MasksAt insns masks at → at < length insns → Stands insns at i (LoadScratch r)
-    → i.k < bpf_memwords → bit_at (get_or masks at 0) i.k ≡ 0 → IsUnsetAt insns at i.k
-unset_here insns masks at i r h1 h2 h3 h4 h5 = grind arith
-
 -- no path comes to a load without its word where the word's bit is set
 pub none_here : (insns : List Insn) (masks : List ℕ) (at : ℕ) (i : Insn) (operation : Operation)
     → IsValidList insns → MasksAt insns masks at → at < length insns
@@ -206,10 +189,6 @@ keeps_rule insns none place n earlier loads path =
     let inside = slice_get_within insns place loads.insn loads.stands.here in
     true_from_ne_false _
     (λ unset. none place n inside (record { loads = loads; earlier = earlier; path = path; unset = unset }))
-
-pub stored_index : (operation : Operation) (len at : ℕ) (i : Insn)
-    → IsFine len at i operation → stores_word operation i.k i.k ≡ true → i.k < bpf_memwords
-stored_index operation len at i fine e = grind arith
 
 -- at first each mask is full, and that of place 0 is empty
 pub masks_made : (insns : List Insn) (masks : List ℕ)

@@ -191,6 +191,20 @@ fn join(masks: &mut [u16], at: usize, insn: Insn, operation: Operation, mask: u1
     }
 }
 
+/// The instruction at a place of a valid list, and its operation.
+fn known_at(insns: &[Insn], at: usize) -> (Insn, Operation)
+    requires valid { IsValidList insns.now }
+    requires inside { at < length insns.now }
+    ensures stands { Stands insns.now at result.0 result.1 }
+    ensures fine { IsFine (length insns.now) at result.0 result.1 }
+{
+    let insn = insns[at];
+    let Some(operation) = insn.operation() else {
+        unreachable!();
+    };
+    (insn, operation)
+}
+
 /// Refuses the first load of a scratch word that some path to it doesn't store.
 fn find_unset(insns: &[Insn], masks: &mut [u16]) -> Result<(), CheckFault>
     requires valid { IsValidList insns.now }
@@ -199,10 +213,7 @@ fn find_unset(insns: &[Insn], masks: &mut [u16]) -> Result<(), CheckFault>
     ensures err { IfErr result (IsFirstFault insns.now) }
 {
     for at in 0..insns.len() {
-        let insn = insns[at];
-        let Some(operation) = insn.operation() else {
-            unreachable!();
-        };
+        let (insn, operation) = known_at(insns, at);
         let mask = masks[at];
         if let Operation::LoadScratch(_) = operation {
             if !is_stored(mask, insn.k) {

@@ -1,0 +1,14 @@
+use Rattle.std.proofs.Common.{arith}
+use Rattle.std.proofs.lemmas.Grind.{common_steps}
+use Rattle.std.proofs.lemmas.Option.{slice_get-get_or}
+use Rattle.scf_machine.proofs.Loop.{always_known}
+use Rattle.scf_machine.proofs.Runs.{fine_of}
+use Rattle.scf_machine.proofs.checker.known_at.Goals as goal
+
+pub unreachable-requires : goal.unreachable-requires
+unreachable-requires c =
+    always_known c.args.insns.now c.args.at _ c.operation.result (c.requires.valid.each _ c.requires.inside)
+    (slice_get-get_or _ _ _ c.requires.inside) c.operation.ensures c.in_default.is
+
+pub returns-clause-fine : goal.returns-clause-fine
+returns-clause-fine c = grind (arith, common_steps, fine_of, slice_get-get_or, c.requires.valid.each _ c.requires.inside)
