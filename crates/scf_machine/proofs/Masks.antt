@@ -123,6 +123,14 @@ module _ (insns : List Insn) (masks new : List ℕ)
         unset = or_from _ _ (stores_is insns at n i operation stands ∙ parts.0) here.unset;
       }
 
+  lost_here : (p n : ℕ) (earlier : List ℕ) → p < length insns → n < bpf_memwords → Edge insns at p
+      → IsPath insns at earlier → stores_at insns n at ≡ false → list_any (stores_at insns n) earlier ≡ false
+      → bit_at (get_or new p 0) n ≡ 0
+  lost_here p n earlier inside_p inside_n edge path unset before =
+      let u : Unstored insns at at n =
+      record { earlier = earlier; path = path; below = path_below insns at earlier path; unset = before } in
+      grind (arith, goes_of, stores_is, old.found at n inside inside_n u, old.long, joins.cleared p n, bits n inside_n)
+
   lost : (p n : ℕ) (earlier : List ℕ)
       → p < length insns → n < bpf_memwords → IsPath insns p earlier → AllByRecursion (λ q. q < at + 1) earlier
       → list_any (stores_at insns n) earlier ≡ false → bit_at (get_or new p 0) n ≡ 0
@@ -135,15 +143,7 @@ module _ (insns : List Insn) (masks new : List ℕ)
       let parts = or_parts (stores_at insns n q) (list_any (stores_at insns n) earlier) unset in
       let first = below.0 in
       elim (cases_eq q at) [
-        | inl e ↦
-            let path_at : IsPath insns at earlier = subst (λ (k : ℕ). IsPath insns k earlier) e path.1 in
-            let edge_at : Edge insns at p = subst (λ (k : ℕ). Edge insns k p) e path.0 in
-            let unset_at : stores_at insns n at ≡ false = subst (λ (k : ℕ). stores_at insns n k ≡ false) e parts.0 in
-            let here = old.found at n inside inside_n (record
-            { earlier = earlier; path = path_at; below = path_below insns at earlier path_at; unset = parts.1 }) in
-            joins.cleared p n (omega arith) (goes_of insns at p i operation edge_at stands)
-            (bits n inside_n ∙ ap (λ (b : Bool). cond b 1 (bit_at (get_or masks at 0) n))
-            (sym (stores_is insns at n i operation stands) ∙ unset_at) ∙ here)
+        | inl e ↦ lost_here p n earlier inside_p inside_n (rw e at path.0) (rw e at path.1) (rw e at parts.0) parts.1
         | inr ne ↦
             joins.kept p n (omega arith) (old.found p n inside_p inside_n (record {
               earlier = q ∷ earlier;
@@ -162,16 +162,13 @@ pub none_here : (insns : List Insn) (masks : List ℕ) (at : ℕ) (i : Insn) (op
     → Stands insns at i operation → ((r : Register) → operation ≡ LoadScratch r → bit_at (get_or masks at 0) i.k ≡ 1)
     → (n : ℕ) → IsUnsetAt insns at n → ⊥
 none_here insns masks at i operation valid old inside stands set_bit n u =
-    let same = stands_once insns at i u.loads.insn operation (LoadScratch u.loads.register) stands u.loads.stands in
-    let index : i.k ≡ n = ap (λ (j : Insn). j.k) same.0 ∙ u.loads.index in
-    let fine : u.loads.insn.k < bpf_memwords =
-    fine_of insns at u.loads.insn (LoadScratch u.loads.register) (valid.each at inside) u.loads.stands in
-    let is_n = u.loads.index in
-    let zero_bit = old.found at n inside (omega arith) (record
-    { earlier = u.earlier; path = u.path; below = path_below insns at u.earlier u.path; unset = u.unset }) in
-    let one_bit = set_bit u.loads.register same.1 in
-    let same_bit = ap (λ (k : ℕ). bit_at (get_or masks at 0) k) index in
-    absurd (omega (arith, one_bit, zero_bit, same_bit))
+    let v : Unstored insns at at n = record {
+      earlier = u.earlier;
+      path = u.path;
+      below = path_below insns at u.earlier u.path;
+      unset = u.unset;
+    } in
+    grind (arith, stands_once, fine_of, valid.each at inside, old.found at n inside, set_bit)
 
 -- the places that were passed load no word that a path may leave unstored
 abbrev pub NoneBelow : List Insn → ℕ → Type 0
@@ -186,9 +183,8 @@ none_more insns at before here p n below u = elim (cases_eq p at) [
 
 pub keeps_rule : (insns : List Insn) → NoneBelow insns (length insns) → KeepsScratchRule insns
 keeps_rule insns none place n earlier loads path =
-    let inside = slice_get_within insns place loads.insn loads.stands.here in
-    true_from_ne_false _
-    (λ unset. none place n inside (record { loads = loads; earlier = earlier; path = path; unset = unset }))
+    true_from_ne_false _ (λ unset. none place n (slice_get_within insns place loads.insn loads.stands.here)
+    (record { loads = loads; earlier = earlier; path = path; unset = unset }))
 
 -- at first each mask is full, and that of place 0 is empty
 pub masks_made : (insns : List Insn) (masks : List ℕ)
