@@ -64,13 +64,7 @@ sum_split : (f : ℕ → ℕ) (xs : List ℕ) (place x : ℕ) → slice_get xs p
     → sum_by f (drop place xs) ≡ f x + sum_by f (drop (place + 1) xs)
 sum_split f xs place x here =
     let one : suc place ≡ place + 1 = omega arith in
-    let split : sum_by f (drop place xs) ≡ sum_by f (x ∷ drop (suc place) xs) =
-    ap (sum_by f) (drop_here xs place x here) in
-    let rest : sum_by f (drop (suc place) xs) ≡ sum_by f (drop (place + 1) xs) = ap (λ n. sum_by f (drop n xs)) one in
-    let cons : sum_by f (x ∷ drop (suc place) xs) ≡ sum_by f (x ∷ []) + sum_by f (drop (suc place) xs) =
-    sum_by-append f (x ∷ []) (drop (suc place) xs) in
-    let alone : sum_by f (x ∷ []) ≡ f x = omega arith in
-    omega (arith, split, rest, cons, alone)
+    grind (arith, drop_here xs place x here, sum_by-append f (x ∷ []) (drop (suc place) xs))
 
 -- ---- the first rule at a place
 

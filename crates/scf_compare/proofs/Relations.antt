@@ -26,7 +26,8 @@ one_fate : (fate other : Fate) → degree_of fate ≤ degree_of other → degree
 one_fate fate other most least = grind arith
 
 -- the relation holds of the two answers to a call, of which there are no others
-pub related_here : (relation : Relation) (filters : List (List Insn)) (p : Profile) (call : CallRecord) (filter profile : ℕ)
+pub related_here : (relation : Relation) (filters : List (List Insn)) (p : Profile) (call : CallRecord)
+    (filter profile : ℕ)
     → HaveNoConflict p.rules → IsRecord call
     → AnswersRelated (IsRelated relation) (StackAnswers filters) p call
     → StackAnswers filters (words_of call) filter → ProfileAnswers p call profile → IsRelated relation filter profile
@@ -41,7 +42,8 @@ pub same_fate : (filters : List (List Insn)) (p : Profile) (scope : Scope) (call
     → RelatedAnswersIn NoMore scope (StackAnswers filters) p → RelatedAnswersIn NoLess scope (StackAnswers filters) p
     → IsRecord call → IsInScope scope call
     → StackAnswers filters (words_of call) filter → ProfileAnswers p call profile → fate_of filter ≡ fate_of profile
-same_fate filters p scope call filter profile none no_more no_less is_record in_scope of_words of_profile =
+same_fate filters p scope call filter profile none is_no_more is_no_less is_record in_scope of_words of_profile =
+    let here = λ (relation : Relation). related_here relation filters p call filter profile none is_record in
     one_fate (fate_of filter) (fate_of profile)
-    (related_here NoMore filters p call filter profile none is_record (no_more call is_record in_scope) of_words of_profile)
-    (related_here NoLess filters p call filter profile none is_record (no_less call is_record in_scope) of_words of_profile)
+    (here NoMore (is_no_more call is_record in_scope) of_words of_profile)
+    (here NoLess (is_no_less call is_record in_scope) of_words of_profile)

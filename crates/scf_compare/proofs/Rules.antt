@@ -80,8 +80,7 @@ pub unmet_more : (call : CallRecord) (rules : List Rule) (place : ℕ) (r : Rule
     → All (λ earlier. meets earlier call ≡ false) (take (place + 1) rules)
 unmet_more call rules place r here before unmet =
     let one : place + 1 ≡ suc place = omega arith in
-    subst (λ (xs : List Rule). All (λ earlier. meets earlier call ≡ false) xs)
-    (sym (ap (λ n. take n rules) one ∙ take_here rules place r here))
+    rw (one, take_here rules place r here)
     (All-push (λ earlier. meets earlier call ≡ false) (take place rules) r before unmet)
 
 -- where every rule up to the end is unmet, every rule is
@@ -104,9 +103,7 @@ pub apart_more : (nr : ℕ) (numbers : List ℕ) (place number : ℕ) → slice_
     → All (λ n. nr ≢ n) (take place numbers) → nr ≢ number → All (λ n. nr ≢ n) (take (place + 1) numbers)
 apart_more nr numbers place number here before apart =
     let one : place + 1 ≡ suc place = omega arith in
-    subst (λ (xs : List ℕ). All (λ n. nr ≢ n) xs)
-    (sym (ap (λ n. take n numbers) one ∙ take_here numbers place number here))
-    (All-push (λ n. nr ≢ n) (take place numbers) number before apart)
+    rw (one, take_here numbers place number here) (All-push (λ n. nr ≢ n) (take place numbers) number before apart)
 
 -- ---- the rules of a number
 

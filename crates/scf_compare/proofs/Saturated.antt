@@ -1,5 +1,5 @@
 -- Numbers that are cut at 2^64-1.
-use Rattle.std.proofs.Common.{◌≡◌, ℕ, suc, ◌+◌, ◌*◌, ◌-◌, ◌<◌, ◌≤◌, cond, Bool, List, [], ◌∷◌, ◌++◌, length, drop, take, slice_index_or, ap, ◌∙◌, arith}
+use Rattle.std.proofs.Common.{◌≡◌, ℕ, suc, ◌+◌, ◌*◌, ◌-◌, ◌<◌, ◌≤◌, cond, Bool, List, [], ◌∷◌, ◌++◌, length, drop, take, ap, ◌∙◌, arith}
 use Rattle.std.specs.Prelude.{Some, slice_get, sum_by}
 use Rattle.std.proofs.lemmas.List.Sums.{sum_by-append}
 use Rattle.std.proofs.lemmas.Option.{slice_get-get_or}
@@ -11,9 +11,6 @@ use Rattle.scf_profile.proofs.Numbers.{has_number, numbers_of-push}
 use Rattle.scf_compare.specs.Effort.{conditions_size, saturated}
 use Rattle.scf_compare.proofs.Rules.{take_here, conditions_more}
 use Rattle.scf_compare.specs.internal.Laws.{paths_count, spread_counts}
-
-pub added : (a b x y : ℕ) → a ≡ saturated x → b ≡ saturated y → saturated (a + b) ≡ saturated (x + y)
-added a b x y e f = omega arith
 
 pub multiplied : (a b x y : ℕ) → 0 < x → 0 < y → a ≡ saturated x → b ≡ saturated y
     → saturated (a * b) ≡ saturated (x * y)
@@ -40,8 +37,7 @@ pub numbers_grow : (rules : List Rule) (place : ℕ) (r : Rule) → slice_get ru
     ++ cond (has_number r.number (take place rules)) [] (r.number ∷ [])
 numbers_grow rules place r here =
     let one : place + 1 ≡ suc place = omega arith in
-    ap (λ n. numbers_of (take n rules)) one ∙ ap numbers_of (take_here rules place r here)
-    ∙ numbers_of-push (take place rules) r
+    rw (one, take_here rules place r here) (numbers_of-push (take place rules) r)
 
 -- the conditions from one on, by those behind it
 pub conditions_step : (conditions : List Condition) (place behind : ℕ) → 0 < place → place ≤ length conditions
@@ -49,11 +45,8 @@ pub conditions_step : (conditions : List Condition) (place behind : ℕ) → 0 <
     ≡ 3 + 2 * conditions_size (drop place conditions) behind + 2 * behind
 conditions_step conditions place behind some within =
     let none : Condition = record { index = 0; op = Equal; value = 0; value_two = 0 } in
-    let one : place - 1 + 1 ≡ place = omega arith in
     let inside : place - 1 < length conditions = omega arith in
-    conditions_more conditions (place - 1) (slice_index_or conditions (place - 1) none) behind
-    (slice_get-get_or conditions (place - 1) none inside)
-    ∙ ap (λ n. 3 + 2 * conditions_size (drop n conditions) behind + 2 * behind) one
+    grind (arith, conditions_more conditions (place - 1) _ behind (slice_get-get_or conditions (place - 1) none inside))
 
 pub conditions_added : (size fails twice first second third x behind : ℕ) → size ≡ saturated x
     → fails ≡ saturated behind → twice ≡ saturated (fails + fails) → first ≡ saturated (size + size)

@@ -1,5 +1,5 @@
 -- The filters of a stack by their places.
-use Rattle.std.proofs.Common.{◌≡◌, ℕ, suc, ◌+◌, ◌*◌, ◌<◌, List, [], ◌∷◌, length, take, drop, refl, ap, ◌∙◌, arith}
+use Rattle.std.proofs.Common.{◌≡◌, ℕ, ◌+◌, ◌*◌, ◌<◌, List, [], ◌∷◌, length, take, drop, refl, arith}
 use Rattle.std.proofs.Common.{ℤ, ◌<ℤ◌, ◌≤ℤ◌, int_lt, Bool, cond}
 use Rattle.std.specs.Prelude.{Option, Some, All, IfSome, slice_get}
 use Rattle.std.proofs.lemmas.Option.{slice_get-get_or, slice_get_within}
@@ -41,9 +41,7 @@ is_stack_end (filter ∷ filters) place end inside of_filter = (
 pub paths_from : (filters : List (List Insn)) (place : ℕ) → place < length filters
     → stack_paths (drop place filters) ≡ tree_size (filter_at filters place) 0 * stack_paths (drop (place + 1) filters)
 paths_from filters place inside =
-    let one : suc place ≡ place + 1 = omega arith in
-    ap stack_paths (drop_here filters place (filter_at filters place) (here filters place inside))
-    ∙ ap (λ n. tree_size (filter_at filters place) 0 * stack_paths (drop n filters)) one
+    grind (arith, drop_here filters place (filter_at filters place) (here filters place inside))
 
 pub plain_at : (filters : List (List Insn)) (place : ℕ) → All IsPlainProgram filters → place < length filters
     → IsPlainProgram (filter_at filters place)

@@ -9,7 +9,7 @@ use Rattle.scf_profile.specs.declared.condition.Condition.{Condition}
 use Rattle.scf_profile.specs.declared.rule.Rule.{Rule}
 use Rattle.scf_profile.specs.ProfileAnswers.{by_rule}
 use Rattle.scf_compare.specs.declared.question.ConditionPart.TheVariants.{High}
-use Rattle.scf_compare.specs.internal.Profiles.{StandsAt, IsAtCondition}
+use Rattle.scf_compare.specs.internal.Profiles.{StandsAt}
 use Rattle.scf_compare.proofs.Rules.{read_here, same_here, none_of, some_of, contains_here, met_by, knows, size_at_condition, conditions_count}
 use Rattle.scf_compare.proofs.profile.first_of_rule.Goals as goal
 
@@ -31,23 +31,16 @@ first_stands rules place a conditions inside is same some = grind (arith, no_con
 
 pub returns-else-is_empty-clause-node : goal.returns-else-is_empty-clause-node
 returns-else-is_empty-clause-node c =
-    let a = c.index-rules-place.result in
     let some = some_of _ _ c.is_empty.ensures c.if-is_empty.false in
-    let stands =
-    first_stands c.args.rules.now c.args.place a _ c.requires c.index-rules-place.is c.as_slice.ensures some in
-    (a, slice_index_or a.conditions 0 no_condition, stands)
+    (c.index-rules-place.result, _, first_stands _ _ _ _ c.requires c.index-rules-place.is c.as_slice.ensures some)
 
 pub returns-else-is_empty-clause-reached : goal.returns-else-is_empty-clause-reached
 returns-else-is_empty-clause-reached c =
-    let rules = c.args.rules.now in
-    let place = c.args.place in
-    let a = c.index-rules-place.result in
     let some = some_of _ _ c.is_empty.ensures c.if-is_empty.false in
-    let stands = first_stands rules place a _ c.requires c.index-rules-place.is c.as_slice.ensures some in
+    let stands = first_stands _ _ _ _ c.requires c.index-rules-place.is c.as_slice.ensures some in
     λ words rule at h.
-    let same = same_here rules place rule a at stands.rule_here in
-    knows rules place 0 (call_of words) High a (slice_index_or a.conditions 0 no_condition) stands
-    (subst (λ (r : Rule). IsAtCondition rules place 0 r (call_of words)) same h) tt
+    let same = same_here c.args.rules.now c.args.place rule _ at stands.rule_here in
+    knows c.args.rules.now c.args.place 0 (call_of words) High _ _ stands (rw same at h) tt
 
 pub returns-else-is_empty-clause-size : goal.returns-else-is_empty-clause-size
 returns-else-is_empty-clause-size c =

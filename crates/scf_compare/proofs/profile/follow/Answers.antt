@@ -1,6 +1,6 @@
 -- Where the ways on from a condition lead.
-use Rattle.std.proofs.Common.{◌≡◌, ◌≢◌, ◌+◌, ◌<◌, ◌≤◌, ℕ, suc, List, get_or, length, take, drop, slice_index_or, true, sym, ap, subst, ◌∙◌, arith}
-use Rattle.std.specs.Prelude.{slice_get, Some}
+use Rattle.std.proofs.Common.{◌≡◌, ◌≢◌, ◌+◌, ◌≤◌, ℕ, suc, List, get_or, length, take, slice_index_or, true, sym, ap, subst, ◌∙◌, arith}
+use Rattle.std.specs.Prelude.{slice_get}
 use Rattle.std.proofs.lemmas.List.{take_all}
 use Rattle.std.proofs.lemmas.Option.{slice_get-get_or, slice_get_within}
 use Rattle.scf_insn.specs.Words.{call_of}
@@ -8,11 +8,9 @@ use Rattle.scf_profile.specs.declared.condition.Operator.TheVariants.{Equal}
 use Rattle.scf_profile.specs.declared.condition.Condition.{Condition}
 use Rattle.scf_profile.specs.declared.rule.Rule.{Rule}
 use Rattle.scf_profile.specs.Rule.{all_hold}
-use Rattle.scf_profile.specs.ProfileAnswers.{ProfileAnswers, by_rule}
-use Rattle.scf_profile.specs.RulesByNumber.{rules_of}
+use Rattle.scf_profile.specs.ProfileAnswers.{by_rule}
 use Rattle.scf_compare.specs.declared.question.ConditionPart.TheVariants.{High}
-use Rattle.scf_compare.specs.Effort.{rules_size}
-use Rattle.scf_compare.specs.internal.Profiles.{profile_with, StandsAt, IsAtCondition}
+use Rattle.scf_compare.specs.internal.Profiles.{StandsAt, IsAtCondition}
 use Rattle.scf_compare.proofs.Rules.{read_here, same_here, contains_here, met_by, held_more, fails_by, unmet_failing, unmet_more, knows, size_at_condition}
 use Rattle.scf_compare.proofs.profile.follow.Goals as goal
 
@@ -33,55 +31,35 @@ next_stands rules place index count a read counts apart = grind (arith, none, sl
 
 pub overflow_add-index : goal.overflow_add-index
 overflow_add-index c =
-    let rules = c.args.rules.now in
-    let place = c.args.place in
-    let index = c.args.index in
-    let a = c.index-rules-place.result in
-    let read = rule_read rules place index a c.requires.node c.index-rules-place.is in
-    let within : index < length a.conditions = slice_get_within a.conditions index read.0 read.1.condition_here in
+    let read = rule_read _ _ _ _ c.requires.node c.index-rules-place.is in
+    let within = slice_get_within _ c.args.index read.0 read.1.condition_here in
     omega (arith, within, ap length c.as_slice-conditions.ensures, c.as_slice-conditions.type_inv.0)
 
 pub overflow_add-result : goal.overflow_add-result
 overflow_add-result c =
-    let rules = c.args.rules.now in
-    let place = c.args.place in
-    let index = c.args.index in
-    let a = c.index-rules-place.result in
-    let read = rule_read rules place index a c.requires.node c.index-rules-place.is in
-    let within : index < length a.conditions = slice_get_within a.conditions index read.0 read.1.condition_here in
+    let read = rule_read _ _ _ _ c.requires.node c.index-rules-place.is in
+    let within = slice_get_within _ c.args.index read.0 read.1.condition_here in
     omega (arith, within, ap length c.as_slice-conditions.ensures, c.as_slice-conditions.type_inv.0)
 
 pub returns-then-index-conditions-clause-reached : goal.returns-then-index-conditions-clause-reached
 returns-then-index-conditions-clause-reached c =
-    let rules = c.args.rules.now in
-    let place = c.args.place in
-    let index = c.args.index in
-    let a = c.index-rules-place.result in
-    let read = rule_read rules place index a c.requires.node c.index-rules-place.is in
-    let here = read.1.rule_here in
-    let all : length a.conditions ≤ suc index =
+    let read = rule_read _ _ _ _ c.requires.node c.index-rules-place.is in
+    let all : length c.index-rules-place.result.conditions ≤ suc c.args.index =
     omega (arith, c.if-index-conditions.true, ap length c.as_slice-conditions.ensures) in
     λ words rule condition stands at. rw c.in-Holds.is (λ way.
-    let same = same_here rules place rule a stands.rule_here here in
-    let whole : take (suc index) rule.conditions ≡ rule.conditions =
-    take_all (suc index) rule.conditions (subst (λ (r : Rule). length r.conditions ≤ suc index) (sym same) all) in
-    let hold : all_hold (call_of words) rule.conditions ≡ true =
-    subst (λ (cs : List Condition). all_hold (call_of words) cs ≡ true) whole
-    (held_more (call_of words) rule.conditions index condition stands.condition_here at.held way) in
-    subst (λ (r : Rule). ProfileAnswers (profile_with c.args.default_answer rules) (call_of words) r.answer.0) same
-    (by_rule rule at.native (contains_here rules place rule stands.rule_here)
-    (met_by (call_of words) rule at.number hold)))
+    let same = same_here c.args.rules.now c.args.place rule _ stands.rule_here read.1.rule_here in
+    let held = held_more (call_of words) rule.conditions c.args.index condition stands.condition_here at.held way in
+    let whole = take_all (suc c.args.index) rule.conditions (rw (← same) at all) in
+    let meets = met_by (call_of words) rule at.number (rw whole at held) in
+    rw (← same) (by_rule rule at.native (contains_here c.args.rules.now c.args.place rule stands.rule_here) meets))
 
 pub returns-else-index-conditions-clause-node : goal.returns-else-index-conditions-clause-node
 returns-else-index-conditions-clause-node c =
-    let rules = c.args.rules.now in
-    let place = c.args.place in
-    let index = c.args.index in
-    let a = c.index-rules-place.result in
-    let read = rule_read rules place index a c.requires.node c.index-rules-place.is in
-    let behind =
-    next_stands rules place index _ a read (ap length c.as_slice-conditions.ensures) c.if-index-conditions.false in
-    (a, slice_index_or a.conditions (index + 1) none, behind)
+    let read = rule_read _ _ _ _ c.requires.node c.index-rules-place.is in (
+      c.index-rules-place.result,
+      _,
+      next_stands _ _ _ _ _ read (ap length c.as_slice-conditions.ensures) c.if-index-conditions.false,
+    )
 
 pub returns-else-index-conditions-clause-reached : goal.returns-else-index-conditions-clause-reached
 returns-else-index-conditions-clause-reached c =
@@ -110,44 +88,27 @@ returns-else-index-conditions-clause-reached c =
 
 pub returns-else-index-conditions-clause-size : goal.returns-else-index-conditions-clause-size
 returns-else-index-conditions-clause-size c =
-    let rules = c.args.rules.now in
-    let place = c.args.place in
-    let index = c.args.index in
-    let a = c.index-rules-place.result in
-    let read = rule_read rules place index a c.requires.node c.index-rules-place.is in
+    let read = rule_read _ _ _ _ c.requires.node c.index-rules-place.is in
     let behind =
-    next_stands rules place index _ a read (ap length c.as_slice-conditions.ensures) c.if-index-conditions.false in
+    next_stands _ _ _ _ _ read (ap length c.as_slice-conditions.ensures) c.if-index-conditions.false in
     λ rule at. rw c.in-Holds.is (
-    let same = same_here rules place rule a at read.1.rule_here in
-    size_at_condition rules place (index + 1) rule (slice_index_or a.conditions (index + 1) none)
-    at (subst (λ (r : Rule). slice_get r.conditions (index + 1) ≡ Some (slice_index_or a.conditions (index + 1) none))
-    (sym same) behind.condition_here))
+    let same = same_here c.args.rules.now c.args.place rule _ at read.1.rule_here in
+    size_at_condition c.args.rules.now c.args.place (c.args.index + 1) rule _ at
+    (ap (λ (r : Rule). slice_get r.conditions (c.args.index + 1)) same ∙ behind.condition_here))
 
 pub returns-in-Fails-clause-reached : goal.returns-in-Fails-clause-reached
 returns-in-Fails-clause-reached c =
-    let rules = c.args.rules.now in
-    let place = c.args.place in
-    let index = c.args.index in
-    let a = c.index-rules-place.result in
-    let read = rule_read rules place index a c.requires.node c.index-rules-place.is in
-    let here = read.1.rule_here in
+    let read = rule_read _ _ _ _ c.requires.node c.index-rules-place.is in
     λ words rule condition stands at. rw c.in-Fails.is (λ way.
-    let same = same_here rules place rule a stands.rule_here here in
+    let same = same_here c.args.rules.now c.args.place rule _ stands.rule_here read.1.rule_here in
+    let fails = fails_by (call_of words) rule.conditions c.args.index condition stands.condition_here way in
     c.next_rule.ensures.reached words at.native (at.number ∙ ap (λ (r : Rule). r.number) same)
-    (unmet_more (call_of words) rules place rule stands.rule_here at.unmet
-    (unmet_failing (call_of words) rule
-    (fails_by (call_of words) rule.conditions index condition stands.condition_here way))))
+    (unmet_more (call_of words) c.args.rules.now c.args.place rule stands.rule_here at.unmet
+    (unmet_failing (call_of words) rule fails)))
 
 pub returns-in-Fails-clause-size : goal.returns-in-Fails-clause-size
 returns-in-Fails-clause-size c =
-    let rules = c.args.rules.now in
-    let place = c.args.place in
-    let a = c.index-rules-place.result in
-    let read = rule_read rules place c.args.index a c.requires.node c.index-rules-place.is in
-    let here = read.1.rule_here in
+    let read = rule_read _ _ _ _ c.requires.node c.index-rules-place.is in
     λ rule at. rw c.in-Fails.is (
-    let same = same_here rules place rule a at here in
-    let named : rules_size (rules_of rule.number (drop (place + 1) rules))
-    ≡ rules_size (rules_of a.number (drop (place + 1) rules)) =
-    ap (λ (r : Rule). rules_size (rules_of r.number (drop (place + 1) rules))) same in
-    omega (arith, named, c.next_rule.ensures.size))
+    let same = same_here c.args.rules.now c.args.place rule _ at read.1.rule_here in
+    rw same c.next_rule.ensures.size)
