@@ -229,9 +229,6 @@ IsListed i ps = (list_all is_line_byte (operands_text i ps) ≡ true)
 
 operands_listed : (i : Insn) (shape : Shape) → IsInsn i → IsListed i (pieces_of shape)
 operands_listed i s.Nothing h = (refl, refl)
-operands_listed i s.Length h = (refl, refl)
-operands_listed i s.Accumulator h = (refl, refl)
-operands_listed i s.Index h = (refl, refl)
 operands_listed i shape h =
     let code = number_line i Code FourDigits h in
     let hex = number_line i K Hexadecimal h in

@@ -8,7 +8,6 @@ use Rattle.scf_text.specs.declared.form.Piece.{Piece}
 use Rattle.scf_text.specs.declared.form.Piece.TheVariants.{Mark, Len, Memory, Accumulator, Index, Number, Target}
 use Rattle.scf_text.specs.declared.form.Style.{Style}
 use Rattle.scf_text.specs.declared.form.Style.TheVariants.{Decimal, Hexadecimal, FourDigits}
-use Rattle.scf_text.specs.declared.form.Form.{Form}
 use Rattle.scf_text.specs.Forms.{mnemonic_text, pieces_of, field_of, form_for}
 
 -- the last four hexadecimal digits
@@ -40,12 +39,11 @@ abbrev pub operands_text : Insn → List Piece → List ℕ
 operands_text i [] = []
 operands_text i (p ∷ ps) = code " " ∷ flat_map (piece_text i) (p ∷ ps)
 
-abbrev pub line_in : Form → Insn → List ℕ
-line_in form i = mnemonic_text form.mnemonic ++ (operands_text i (pieces_of form.shape) ++ codes "\n")
-
 -- a line, with its end
 abbrev pub line_of : Insn → List ℕ
-line_of i = line_in (form_for i) i
+line_of i =
+    let form = form_for i in
+    mnemonic_text form.mnemonic ++ (operands_text i (pieces_of form.shape) ++ codes "\n")
 
 -- the canonical text
 abbrev pub text_of : List Insn → List ℕ
