@@ -20,7 +20,10 @@ QUALIFIED = re.compile(rf"{NAME}(?:\.{NAME})*")
 # An import of a definition, or of a module by another name, in a file of definitions or of code.
 USE = re.compile(r"^[ \t]*(?:ghost |pub )?use Rattle\.(?P<path>[\w.]+?)(?:\.\{(?P<names>[^}]*)\})?"
                  r"(?: as (?P<as>\w+))?;?[ \t]*$", re.M)
-DEFINITION = re.compile(r"^(?:(?:abbrev|unfoldable|opaque) )?pub (?:record |data )?(?!mod\b)(?P<name>[^\s(:]+)", re.M)
+# A definition, also one below the line `module _ (..) where`, by which several have the same parameters.
+DEFINITION = re.compile(r"^(?:  (?=\w+ pub |pub (?:record|data) ))?(?:(?:abbrev|unfoldable|opaque) )?"
+                        r"pub (?:record |data )?(?!mod\b)(?P<name>[^\s(:]+)", re.M)
+PARAMETERS = re.compile(r"^module _ ", re.M)
 CONSTRUCTOR = re.compile(r"^  (?:pub )?(?P<name>[^\s:]+) :", re.M)
 TYPE = re.compile(r"^(?:pub(?:\([^)]*\))? )?(?:struct|enum|trait|type) (?P<name>\w+)", re.M)
 RUST_USE = re.compile(r"^(?:pub )?use (?P<path>[\w:]+?)(?:::\{(?P<names>[^}]*)\}|::(?P<one>\w+))?(?: as \w+)?;", re.M)
@@ -187,14 +190,16 @@ class File:
         text = self.text[start:end].rstrip()
         first = line_of(self.text, start)
         last = first + text.count("\n")
-        while first > 1 and re.match(r"--|///|#\[", self.lines[first - 2]):
+        while first > 1 and re.match(r" *(?:--|///|#\[)", self.lines[first - 2]):
             first -= 1
         return Definition(self.crate, name, self.path, first, last, text)
 
     def _definitions(self) -> Iterator[tuple[str, Definition]]:
         starts = [found for found in DEFINITION.finditer(self.text)]
         for found, after in zip(starts, [*starts[1:], None]):
-            made = self._made(found["name"], found.start(), after.start() if after else len(self.text))
+            end = after.start() if after else len(self.text)
+            parameters = PARAMETERS.search(self.text, found.end(), end)
+            made = self._made(found["name"], found.start(), parameters.start() if parameters else end)
             yield made.name, made
             if re.match(r"pub data\b", made.text):
                 for constructor in CONSTRUCTOR.finditer(made.text):

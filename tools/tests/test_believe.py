@@ -149,6 +149,13 @@ class Believe(Case):
         status, out, _ = self.believe("stored")
         self.assertEqual((status, out.splitlines()[0]), (0, "crates/top/src/calls.rt:3-8 Store"))
 
+    def test_definitions_with_parameters_in_common(self):
+        text = ("use Rattle.low.specs.Fine.{IsFine}\n\nabbrev pub Alike : Type 0\nAlike = Inside 1\n\n"
+                "module _ (n : ℕ) where\n  -- the number is fine\n  abbrev pub Inside : Type 0\n  Inside = IsFine n\n")
+        status, out, err = self.believe("top::made", **{"crates/top/specs/Alike.antt": text})
+        self.assertEqual((status, err), (0, ""))
+        self.assertEqual(out.splitlines()[3:5], [f"{ALIKE}:3-4 Alike", f"{ALIKE}:7-9 Inside"])
+
     def test_wrong_words(self):
         for words, said in ((["none"], "there is no public call 'none'"),
                             (["made"], "'made' is one of low::made, top::made"),
