@@ -1,7 +1,7 @@
-use Rattle.std.proofs.Common.{◌≡◌, ◌+◌, ◌∷◌, [], length, length-append, take, drop, arith, sym, ap, ◌∙◌}
+use Rattle.std.proofs.Common.{◌≡◌, ◌≤◌, ◌+◌, ◌∷◌, [], length, length-append, take, drop, arith, sym, ap, ◌∙◌}
 use Rattle.std.proofs.Math.Seq.{take-append_seam}
 use Rattle.std.proofs.lemmas.List.{take-take}
-use Rattle.scf_facts.specs.internal.Trail.{restored, known_before}
+use Rattle.scf_facts.specs.internal.Trail.{restored}
 use Rattle.scf_facts.specs.internal.WordSets.{AllFacts, known_of}
 use Rattle.scf_facts.proofs.TrailLaws.{taken_before}
 use Rattle.scf_facts.proofs.undo.take_back.Goals as goal
@@ -15,13 +15,12 @@ loop-trail-preserved-in-Some c =
     let change = c.in-Some.change in
     let items = c.in-Some.ensures.items in
     let counted : length trail ≡ length rest + 1 = ap length items ∙ length-append rest (change ∷ []) in
-    let before : restored (known_before change known) (drop c.args.count rest) ≡ restored known (drop c.args.count trail) =
-    taken_before known trail rest change c.args.count items
-    (omega (arith, counted, c.len.ensures, c.loop-trail-test.true)) in
+    let le : c.args.count ≤ length rest = omega (arith, counted, c.len.ensures, c.loop-trail-test.true) in
     record {
       sixteen = c.take_back.auto.sets ∙ inv.sixteen;
-      within = omega (arith, counted, c.len.ensures, c.loop-trail-test.true);
+      within = le;
       older = sym (take-take (length rest) (length trail) c.args.trail.now.items (omega (arith, counted)))
           ∙ ap (take (length rest)) (inv.older ∙ items) ∙ take-append_seam rest (change ∷ []);
-      rest = ap (λ (k : AllFacts). restored k (drop c.args.count rest)) c.take_back.ensures ∙ before ∙ inv.rest;
+      rest = ap (λ (k : AllFacts). restored k (drop c.args.count rest)) c.take_back.ensures
+          ∙ taken_before known trail rest change c.args.count items le ∙ inv.rest;
     }
