@@ -30,7 +30,8 @@ pub learned_pushed : (facts : List Fact) (x : Fact) (marks : List ℕ) (place : 
     → place < length marks → learned_at (facts ++ x ∷ []) marks place ≡ learned_at facts marks place
 learned_pushed facts x marks place rising lt =
     ap (λ n. take n (facts ++ x ∷ [])) (get_or_default marks place (length (facts ++ x ∷ [])) (length facts) lt)
-    ∙ take-append-le (count_at marks (length facts) place) facts (x ∷ []) (count_within marks (length facts) place rising)
+    ∙ take-append-le (count_at marks (length facts) place) facts (x ∷ [])
+    (count_within marks (length facts) place rising)
 
 -- a mark that is opened leaves the levels up to it
 pub learned_opened : (facts : List Fact) (marks : List ℕ) (count place : ℕ) → count ≡ length facts

@@ -83,7 +83,8 @@ module _ (sets : List NumberFacts) (place : ℕ) (old : NumberFacts)
   )
 
   pub exact_word : IsTrue (list_all is_exact_set sets) → IsTrue (is_exact_set old)
-  exact_word all = subst (λ s. IsTrue (is_exact_set s)) (sym read) (AllPass-from_list_all is_exact_set sets all place old lt)
+  exact_word all =
+      subst (λ s. IsTrue (is_exact_set s)) (sym read) (AllPass-from_list_all is_exact_set sets all place old lt)
 
   pub exact_set : (new : NumberFacts) → (IsTrue (is_exact_set old) → IsTrue (is_exact_set new))
       → IsTrue (list_all is_exact_set sets) → IsTrue (list_all is_exact_set (slice_set sets place new))

@@ -169,7 +169,8 @@ module _ (sets : List NumberFacts) (pairs : List AtomPair) where
           (λ h. let r = same.0 h.0 in ((r.0, h.1), r.1), λ h. (same.1 (h.0.0, h.1), h.0.1))
 
       pub exact_learned : (IsTrue (is_exact_set old) → IsTrue (is_exact_set new))
-          → IsTrue (is_exact_known (known_of sets pairs)) → IsTrue (is_exact_known (known_of (slice_set sets word new) pairs))
+          → IsTrue (is_exact_known (known_of sets pairs))
+          → IsTrue (is_exact_known (known_of (slice_set sets word new) pairs))
       exact_learned exact all =
           let parts = and_parts (list_all is_exact_set sets) (length pairs == 0) all in
           and_from _ (length pairs == 0) (exact_set sets word old within read new exact parts.0) parts.1

@@ -12,7 +12,8 @@ loop-other-preserved c =
     below_more
     (λ k. (default : Bits) → HasBits bits bits.value → SomeLack bits (get_or c.args.refuted.now k default))
     place c.loop-other.invariant (λ default shown. subst (SomeLack bits)
-    (get_or_default c.args.refuted.now place (record { mask = 0; value = 0 }) default c.loop-other-test.true) (c.imply.ensures.some c.if-imply.false shown))
+    (get_or_default c.args.refuted.now place (record { mask = 0; value = 0 }) default c.loop-other-test.true)
+    (c.imply.ensures.some c.if-imply.false shown))
 
 pub returns-clause-some : goal.returns-clause-some
 returns-clause-some c = λ _ shown k d lt. c.loop-other.invariant k (omega (arith, lt, c.loop-other-test.false)) d shown

@@ -14,4 +14,5 @@ returns-clause-rising c = rising_more c.args.marks.now _ _ (omega (arith, c.push
 
 pub returns-clause-marked : goal.returns-clause-marked
 returns-clause-marked c = λ known sixteen place.
-    known_pushed known c.args.trail.now.items _ c.args.change c.args.marks.now place c.requires c.in_ok-push.ensures.items
+    known_pushed known c.args.trail.now.items _ c.args.change c.args.marks.now place c.requires
+    c.in_ok-push.ensures.items
