@@ -11,4 +11,5 @@ unreachable-requires c =
     (slice_get-get_or _ _ _ c.requires.inside) c.operation.ensures c.in_default.is
 
 pub returns-clause-fine : goal.returns-clause-fine
-returns-clause-fine c = grind (arith, common_steps, fine_of, slice_get-get_or, c.requires.valid.each _ c.requires.inside)
+returns-clause-fine c =
+    grind (arith, common_steps, fine_of, slice_get-get_or, c.requires.valid.each _ c.requires.inside)
