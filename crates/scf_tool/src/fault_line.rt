@@ -4,7 +4,7 @@ ghost use Rattle.std.specs.Prelude.{◌≡◌, ◌++◌, ◌∷◌, [], codes};
 ghost use Rattle.std.specs.List.{flat_map};
 ghost use Rattle.scf_insn.specs.Streams.{Writes};
 ghost use Rattle.scf_tool.specs.Faults as table;
-ghost use Rattle.scf_tool.specs.internal.Fields.{field_text, numbers_in, kind_of, fault_line_of};
+ghost use Rattle.scf_tool.specs.internal.Fields.{field_text, numbers_of_field, kind_of, fault_line_of};
 
 use crate::bundle::BundleFault;
 use crate::fault::Fault;
@@ -43,7 +43,7 @@ pub(crate) struct FaultLine {
 const NONE: [Option<FaultField>; 3] = [None, None, None];
 
 fn named(name: &'static str, number: usize) -> Option<FaultField>
-    ensures { numbers_in result ≡ (name.now, number) ∷ [] }
+    ensures { numbers_of_field result ≡ (name.now, number) ∷ [] }
 {
     Some(FaultField {
         name,

@@ -12,12 +12,12 @@ field_text None = []
 field_text (Some field) = number_words (field.name.now, field.number)
 
 -- the number, where there is one
-abbrev pub numbers_in : Option FaultField → List (List ℕ × ℕ)
-numbers_in None = []
-numbers_in (Some field) = (field.name.now, field.number) ∷ []
+abbrev pub numbers_of_field : Option FaultField → List (List ℕ × ℕ)
+numbers_of_field None = []
+numbers_of_field (Some field) = (field.name.now, field.number) ∷ []
 
 abbrev pub kind_of : FaultKind → Kind
-kind_of kind = (kind.status, kind.name.now, flat_map numbers_in kind.fields)
+kind_of kind = (kind.status, kind.name.now, flat_map numbers_of_field kind.fields)
 
 abbrev pub fault_line_of : FaultLine → List ℕ × Kind
 fault_line_of line = (line.source.now, kind_of line.kind)
