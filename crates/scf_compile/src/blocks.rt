@@ -2,7 +2,7 @@
 //! Where the condition holds the filter goes on behind them, and where it fails it passes more instructions.
 
 ghost use Rattle.std.specs.Prelude.{◌≡◌, ◌++◌, ◌<◌, ◌≤◌, ℕ, OnOk, length};
-ghost use Rattle.scf_profile.specs.Limits.{arguments};
+ghost use Rattle.scf_insn.specs.Kernel.{seccomp_data_args};
 ghost use Rattle.scf_compile.specs.internal.Blocks.{equal_code, order_code, half_code, masked_code, condition_code};
 
 use crate::insns::{and_with, jump_if, load_word};
@@ -138,7 +138,7 @@ pub(crate) fn put_condition(
     condition: &Condition,
     out: u8,
 ) -> Result<(), AllocError>
-    requires index { condition.now.index < arguments }
+    requires index { condition.now.index < seccomp_data_args }
     requires out { out < 253 }
     ensures { OnOk result (code.new.items ≡ code.old.items ++ condition_code condition.now out) }
 {

@@ -1,8 +1,8 @@
 //! The instructions of rules.
 
 ghost use Rattle.std.specs.Prelude.{◌≡◌, ◌++◌, ◌<◌, ◌≤◌, OnOk, length, All};
+ghost use Rattle.scf_insn.specs.Kernel.{seccomp_data_args};
 ghost use Rattle.scf_profile.specs.ByNumber.{rules_at};
-ghost use Rattle.scf_profile.specs.Limits.{arguments};
 ghost use Rattle.scf_profile.specs.Rule.{IsRule};
 ghost use Rattle.scf_compile.specs.internal.Filters.{conditions_code, rule_code, rules_code};
 
@@ -14,7 +14,7 @@ use std::alloc::AllocError;
 
 /// How many instructions test some conditions.
 fn conditions_len(conditions: &[Condition]) -> u8
-    requires { length conditions.now ≤ arguments }
+    requires { length conditions.now ≤ seccomp_data_args }
     ensures len { result ≡ length (conditions_code conditions.now) }
     ensures few { result ≤ 36 }
 {
@@ -27,8 +27,8 @@ fn conditions_len(conditions: &[Condition]) -> u8
 
 /// Tests conditions. Where one fails, what is left of them and one instruction more are passed.
 fn put_conditions(code: &mut Vec<Insn>, conditions: &[Condition]) -> Result<(), AllocError>
-    requires few { length conditions.now ≤ arguments }
-    requires indices { All (λ c. c.index < arguments) conditions.now }
+    requires few { length conditions.now ≤ seccomp_data_args }
+    requires indices { All (λ c. c.index < seccomp_data_args) conditions.now }
     ensures { OnOk result (code.new.items ≡ code.old.items ++ conditions_code conditions.now) }
 {
     for i in 0..conditions.len() {

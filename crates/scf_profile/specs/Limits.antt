@@ -1,10 +1,5 @@
 -- The limits of texts, of their numbers and of profiles.
 use Rattle.std.specs.Prelude.{ℕ, ℤ, pos, negsuc, Option, Some, None, nat_lt, if◌then◌else◌}
-use Rattle.scf_insn.specs.Kernel.{seccomp_data_args}
-
--- how many arguments a call has
-abbrev pub arguments : ℕ
-arguments = seccomp_data_args
 
 -- the greatest errno: the data of an answer have 16 bits
 abbrev pub max_errno : ℕ

@@ -36,8 +36,7 @@ abbrev pub EntriesConflict : List Rule → ℕ → ℕ → ℕ → Type 0
 EntriesConflict rules first second number =
     Any (λ rule. Any (λ later. IsClash rule later first second number) rules) rules
 
--- second is the least entry that conflicts with an earlier one, first the least entry that it conflicts with, and
--- number the least on which these two do
+-- second is the least entry in conflict with an earlier one, first the least of these, number the least where they are
 pub record IsLeastConflict (rules : List Rule) (number first second : ℕ) : Type 0 where
   pub conflict : EntriesConflict rules first second number
   pub least_second : (f s n : ℕ) → EntriesConflict rules f s n → second ≤ s

@@ -2,12 +2,11 @@
 use Rattle.std.specs.Prelude.{◌≡◌, ◌≢◌, ◌<◌, ◌^◌, Bool, true, ◌&&◌, ◌==◌, List, [], ◌∷◌}
 use Rattle.std.specs.List.{list_all, AllByRecursion}
 use Rattle.scf_insn.specs.declared.record.CallRecord.{CallRecord}
-use Rattle.scf_insn.specs.Kernel.{x32_syscall_bit}
+use Rattle.scf_insn.specs.Kernel.{x32_syscall_bit, seccomp_data_args}
 use Rattle.scf_insn.specs.Words.{IsRecord, argument}
 use Rattle.scf_profile.specs.declared.condition.Condition.{Condition}
 use Rattle.scf_profile.specs.declared.rule.Rule.{Rule}
 use Rattle.scf_profile.specs.Condition.{holds}
-use Rattle.scf_profile.specs.Limits.{arguments}
 
 -- each condition holds of the argument at its index
 abbrev pub all_hold : CallRecord → List Condition → Bool
@@ -26,7 +25,7 @@ pub record Conflicts (r s : Rule) : Type 0 where
   pub answer : r.answer ≢ s.answer
 
 pub record IsCondition (c : Condition) : Type 0 where
-  pub index : c.index < arguments
+  pub index : c.index < seccomp_data_args
   pub value : c.value < 2 ^ 64
   pub value_two : c.value_two < 2 ^ 64
 

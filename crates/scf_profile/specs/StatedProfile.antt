@@ -8,6 +8,7 @@ use Rattle.std.specs.Map.{lookup}
 use Rattle.std.specs.Str.{bytes_eq}
 use Rattle.std.specs.FinMap.{get}
 use Rattle.std.specs.Option.{option_map_or}
+use Rattle.scf_insn.specs.Kernel.{seccomp_data_args}
 use Rattle.scf_insn.specs.declared.answer.Answer.{Answer}
 use Rattle.scf_insn.specs.declared.answer.Action.{Action}
 use Rattle.scf_insn.specs.declared.answer.Action.TheVariants as actions
@@ -25,7 +26,7 @@ use Rattle.scf_profile.specs.declared.load_fault.LoadFault.TheVariants as faults
 use Rattle.scf_profile.specs.declared.loaded.Loaded.{Loaded}
 use Rattle.scf_profile.specs.Steps.{◌>>=◌, some_or, refused_if}
 use Rattle.scf_profile.specs.JsonMembers.{member, whole_number, unsigned_number, each}
-use Rattle.scf_profile.specs.Limits.{arguments, max_errno, max_rules, number_below}
+use Rattle.scf_profile.specs.Limits.{max_errno, max_rules, number_below}
 use Rattle.scf_profile.specs.Table.{Names}
 
 -- ---- members
@@ -103,7 +104,7 @@ operator_named name = lookup (bytes_eq name) (
 
 unfoldable pub index_in : Option ℕ → Data → Result ℕ LoadFault
 index_in entry d =
-    required entry (codes "index") whole_number d >>= λ n. some_or (number_below arguments n) (faults.Index entry)
+    required entry (codes "index") whole_number d >>= λ n. some_or (number_below seccomp_data_args n) (faults.Index entry)
 
 unfoldable pub operator_in : Option ℕ → Data → Result Operator LoadFault
 operator_in entry d =

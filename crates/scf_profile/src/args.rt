@@ -3,9 +3,9 @@
 ghost use Rattle.std.specs.Prelude.{◌≡◌, ◌<◌, ◌==◌, [], IfOk, codes, false};
 ghost use Rattle.std.specs.List.{list_any};
 ghost use Rattle.serde_json.specs.View.{view, items_view};
+ghost use Rattle.scf_insn.specs.Kernel.{seccomp_data_args};
 ghost use Rattle.scf_profile.specs.declared.load_fault.LoadFault.TheVariants.{Memory};
 ghost use Rattle.scf_profile.specs.JsonMembers.{each, unsigned_number};
-ghost use Rattle.scf_profile.specs.Limits.{arguments};
 ghost use Rattle.scf_profile.specs.Rule.{IsCondition, AreConditions};
 ghost use Rattle.scf_profile.specs.StatedProfile.{required, optional, operator_named, index_in, operator_in};
 ghost use Rattle.scf_profile.specs.StatedProfile.{condition_of as condition_stated, conditions_in};
@@ -37,7 +37,7 @@ fn operator_of(name: &str) -> Option<Operator>
 #[tactic(auto, unfolding(crate::specs::StatedProfile::index_in))]
 fn find_index(entry: Option<u32>, object: &Value) -> Result<u8, LoadFault>
     ensures value { result ≡ index_in entry (view object.now) }
-    ensures range { IfOk result (λ index. index < arguments) }
+    ensures range { IfOk result (λ index. index < seccomp_data_args) }
 {
     let found = member_of(object, "index").ok_or(LoadFault::Missing { entry })?;
     if let Some(index) = found.as_u64() {

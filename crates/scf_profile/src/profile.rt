@@ -2,7 +2,7 @@
 
 ghost use Rattle.std.specs.Prelude.{◌≡◌, ◌<◌, ◌↔◌, IsTrue, All, min, option_map};
 ghost use Rattle.std.specs.List.{find, reduce};
-ghost use Rattle.scf_profile.specs.Limits.{arguments};
+ghost use Rattle.scf_insn.specs.Kernel.{seccomp_data_args};
 ghost use Rattle.scf_profile.specs.Profile.{IsProfile, IsNative};
 ghost use Rattle.scf_profile.specs.PlainProfile.{IsPlainProfile, IsPlainRule};
 ghost use Rattle.scf_profile.specs.ProfileAnswers.{ProfileAnswers};
@@ -127,7 +127,7 @@ fn answer_of(default_answer: Answer, rules: &[Rule], call: &CallRecord) -> Answe
 
 /// The first rule that a call meets.
 fn first_met<'r>(rules: &'r [Rule], call: &CallRecord) -> Option<&'r Rule>
-    requires { All (λ r. All (λ c. c.index < arguments) r.conditions) rules.now }
+    requires { All (λ r. All (λ c. c.index < seccomp_data_args) r.conditions) rules.now }
     ensures { option_map (λ r. r.now) result ≡ find (λ r. meets r call.now) rules.now }
 {
     rules.iter().find(|rule| rule.is_met(call))
@@ -135,7 +135,7 @@ fn first_met<'r>(rules: &'r [Rule], call: &CallRecord) -> Option<&'r Rule>
 
 /// The least place of an entry of which a call meets a rule.
 fn first_entry_met(rules: &[Rule], call: &CallRecord) -> Option<u32>
-    requires { All (λ r. All (λ c. c.index < arguments) r.conditions) rules.now }
+    requires { All (λ r. All (λ c. c.index < seccomp_data_args) r.conditions) rules.now }
     ensures { result ≡ reduce min (entries_met rules.now call.now) }
 {
     rules

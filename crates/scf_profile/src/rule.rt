@@ -1,7 +1,7 @@
 //! Rules: which calls one meets, and what it answers.
 
 ghost use Rattle.std.specs.Prelude.{◌≡◌, ◌<◌, ◌↔◌, IsTrue, All};
-ghost use Rattle.scf_profile.specs.Limits.{arguments};
+ghost use Rattle.scf_insn.specs.Kernel.{seccomp_data_args};
 ghost use Rattle.scf_profile.specs.PlainProfile.{IsPlainRule};
 ghost use Rattle.scf_profile.specs.Rule.{Conflicts, IsRule, all_hold as all_conditions_hold, meets};
 
@@ -29,7 +29,7 @@ impl Rule {
 
     /// Whether a call meets it.
     pub(crate) fn is_met(&self, call: &CallRecord) -> bool
-        requires { All (λ c. c.index < arguments) self.now.conditions }
+        requires { All (λ c. c.index < seccomp_data_args) self.now.conditions }
         ensures { result ≡ meets self.now call.now }
     {
         call.nr == self.number && all_hold(self.conditions.as_slice(), call)
@@ -49,7 +49,7 @@ impl Rule {
 
 /// Whether each condition holds of the argument at its index.
 fn all_hold(conditions: &[Condition], call: &CallRecord) -> bool
-    requires { All (λ c. c.index < arguments) conditions.now }
+    requires { All (λ c. c.index < seccomp_data_args) conditions.now }
     ensures { result ≡ all_conditions_hold call.now conditions.now }
 {
     conditions

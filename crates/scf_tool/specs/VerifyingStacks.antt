@@ -52,8 +52,7 @@ IsVerifiedBy relation filters table profile scope limit outcome =
 
 -- Why nothing is compared: all that is read and looked at before is accepted, and this is why the next isn't.
 abbrev pub IsRefusedStack : List (Option (List ℕ)) → Option (List ℕ) → Option (List ℕ) → VerifyFault → Type 0
-IsRefusedStack filters table profile fault =
-    IsRefusedBehind (HasNoStack filters) (HasStack filters) table profile fault
+IsRefusedStack filters = IsRefusedBehind (HasNoStack filters) (HasStack filters)
 
 -- What the comparison of a stack with a profile by a relation, from the bytes of their readers, answers.
 abbrev pub VerifiesBy : Relation → List (Option (List ℕ)) → Option (List ℕ) → Option (List ℕ) → Scope → ℕ

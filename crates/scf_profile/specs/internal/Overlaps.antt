@@ -1,8 +1,8 @@
 -- Conditions of two rules that hold together.
 use Rattle.std.specs.Prelude.{◌≡◌, ℕ, ◌<◌, ◌^◌, true, List, All}
+use Rattle.scf_insn.specs.Kernel.{seccomp_data_args}
 use Rattle.scf_profile.specs.declared.condition.Condition.{Condition}
 use Rattle.scf_profile.specs.Condition.{holds}
-use Rattle.scf_profile.specs.Limits.{arguments}
 
 -- the conditions on an argument hold of a number
 abbrev pub HoldAt : List Condition → ℕ → ℕ → Type 0
@@ -17,4 +17,4 @@ pub record OverlapAt (cs ds : List Condition) (index : ℕ) : Type 0 where
 
 -- they do on each argument
 abbrev pub Overlap : List Condition → List Condition → Type 0
-Overlap cs ds = (index : ℕ) → index < arguments → OverlapAt cs ds index
+Overlap cs ds = (index : ℕ) → index < seccomp_data_args → OverlapAt cs ds index
