@@ -31,7 +31,6 @@ pub record IsClash (rule later : Rule) (first second number : ℕ) : Type 0 wher
   pub rule_number : rule.number ≡ number
   pub conflict : Conflicts rule later
 
--- two of the rules do
 abbrev pub EntriesConflict : List Rule → ℕ → ℕ → ℕ → Type 0
 EntriesConflict rules first second number =
     Any (λ rule. Any (λ later. IsClash rule later first second number) rules) rules

@@ -104,7 +104,8 @@ operator_named name = lookup (bytes_eq name) (
 
 unfoldable pub index_in : Option ℕ → Data → Result ℕ LoadFault
 index_in entry d =
-    required entry (codes "index") whole_number d >>= λ n. some_or (number_below seccomp_data_args n) (faults.Index entry)
+    required entry (codes "index") whole_number d
+    >>= λ n. some_or (number_below seccomp_data_args n) (faults.Index entry)
 
 unfoldable pub operator_in : Option ℕ → Data → Result Operator LoadFault
 operator_in entry d =
