@@ -1,12 +1,5 @@
 -- Words under masks.
-use Rattle.std.proofs.Common.{◌≡◌, ◌≢◌, ℕ, ◌<◌, ◌≤◌, ◌^◌, true, false, eqb, leb, List, sym, ◌∙◌, arith, bit_and}
-use Rattle.std.specs.Prelude.{slice_index}
-use Rattle.std.proofs.lemmas.Bool.{eq-eqb, eqb-true}
-use Rattle.std.proofs.lemmas.Nat.{and_mask}
-use Rattle.std.proofs.lemmas.Nat.Bits.{bit_at_and, bit_at_or, bit_at_xor, bit_at-lt, bit_at-zero}
-use Rattle.std.proofs.Math.Nat.{mod-eq_of_lt}
-use Rattle.scf_insn.specs.Words.{IsWords}
-use Rattle.scf_insn.proofs.CallWords.{word_below}
+use Rattle.scf_compare.proofs.Common.{◌≡◌, ◌≢◌, ℕ, ◌<◌, ◌≤◌, ◌^◌, true, false, eqb, leb, List, sym, ◌∙◌, arith, bit_and, slice_index, eq-eqb, eqb-true, and_mask, bit_at_and, bit_at_or, bit_at_xor, bit_at-lt, bit_at-zero, mod-eq_of_lt, IsWords, word_below}
 
 -- what each bit is of numbers that are joined
 pub ruleset each_bit = (bit_at_and, bit_at_or, bit_at_xor, bit_at-lt, bit_at-zero)

@@ -1,17 +1,6 @@
 -- Open branches, as one is opened and one is taken.
-use Rattle.std.proofs.Common.{◌≡◌, ℕ, zero, suc, ◌+◌, ◌<◌, ◌≤◌, ◌↔◌, ◌⊎◌, inl, inr, List, [], ◌∷◌, ◌++◌, Bool, length, refl, sym, ap, subst, ◌∙◌, arith, length-append}
-use Rattle.std.proofs.Math.Nat.{eq-or-lt_of_le}
-use Rattle.std.specs.Prelude.{Some, IsTrue, slice_get}
-use Rattle.std.proofs.lemmas.Option.{slice_get_within}
-use Rattle.std.proofs.lemmas.List.Sums.{sum_by-append}
-use Rattle.scf_facts.specs.declared.word_facts.WordFacts.{Ghosts as Store}
-use Rattle.scf_facts.specs.Levels.{IsSameLevel}
+use Rattle.scf_compare.proofs.Common.{◌≡◌, ℕ, zero, suc, ◌+◌, ◌<◌, ◌≤◌, ◌↔◌, ◌⊎◌, inl, inr, List, [], ◌∷◌, ◌++◌, Bool, length, refl, sym, ap, subst, ◌∙◌, arith, length-append, eq-or-lt_of_le, Some, IsTrue, slice_get, slice_get_within, sum_by-append, Store, IsSameLevel, Frontier, Compared, GivesLearned, LearnsExactly, IsBranch, IsInBranch, IsFrontier, IsExactBranch, AreExact, open_size, IsTaken, Tree}
 use Rattle.scf_compare.specs.declared.frontier.Branch.{Branch}
-use Rattle.scf_compare.specs.declared.frontier.Frontier.{Frontier}
-use Rattle.scf_compare.specs.internal.Compared.{Compared}
-use Rattle.scf_compare.specs.internal.Frontier.{GivesLearned, LearnsExactly, IsBranch, IsInBranch, IsFrontier, IsExactBranch, AreExact, open_size}
-use Rattle.scf_compare.specs.internal.Stages.{IsTaken}
-use Rattle.scf_compare.specs.internal.Trees.{Tree}
 
 -- ---- places in a list with one more at its end
 

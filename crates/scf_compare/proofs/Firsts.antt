@@ -1,19 +1,5 @@
 -- The first rules of numbers, and what it says of a call that no rule before one has its number.
-use Rattle.std.proofs.Common.{◌≡◌, ◌≢◌, ℕ, zero, suc, ◌+◌, ◌≤◌, ◌||◌, Bool, true, false, cond, eqb, List, [], ◌∷◌, ◌++◌, length, take, drop, get_or, refl, sym, ap, subst, ◌∙◌, arith}
-use Rattle.std.specs.Prelude.{All, map, slice_get, sum_by, Some}
-use Rattle.std.specs.List.{list_any}
-use Rattle.std.proofs.lemmas.Bool.{eq-eqb}
-use Rattle.std.proofs.lemmas.List.Sums.{get_or-le-sum_by, sum_by-append}
-use Rattle.std.proofs.lemmas.List.{length-map}
-use Rattle.std.proofs.lemmas.Option.{slice_get-map, slice_get-get_or, slice_get_within}
-use Rattle.std.proofs.lemmas.List.Elements.{All-nil, All-cons, All-push}
-use Rattle.scf_insn.specs.declared.record.CallRecord.{CallRecord}
-use Rattle.scf_profile.specs.declared.rule.Rule.{Rule}
-use Rattle.scf_profile.specs.Rule.{meets}
-use Rattle.scf_profile.specs.RulesByNumber.{numbers_of, rules_of}
-use Rattle.scf_compare.specs.declared.profile_numbers.FirstRule.{FirstRule}
-use Rattle.scf_compare.specs.Effort.{rules_size, number_size}
-use Rattle.scf_compare.specs.internal.Numbers.{AreFirstRules}
+use Rattle.scf_compare.proofs.Common.{◌≡◌, ◌≢◌, ℕ, zero, suc, ◌+◌, ◌≤◌, ◌||◌, Bool, true, false, cond, eqb, List, [], ◌∷◌, ◌++◌, length, take, drop, get_or, refl, sym, ap, subst, ◌∙◌, arith, All, map, slice_get, sum_by, Some, list_any, eq-eqb, get_or-le-sum_by, sum_by-append, length-map, slice_get-map, slice_get-get_or, slice_get_within, All-nil, All-cons, All-push, CallRecord, Rule, meets, numbers_of, rules_of, FirstRule, rules_size, number_size, AreFirstRules}
 use Rattle.scf_compare.proofs.Rules.{unmet_apart, contains_here, drop_here}
 
 neither : (b c : Bool) → (b || c) ≡ false → (b ≡ false) × (c ≡ false)

@@ -1,22 +1,5 @@
 -- What follows from how an instruction goes on.
-use Rattle.std.proofs.Common.{◌≡◌, ℕ, zero, suc, ◌+◌, ◌-◌, ◌<◌, ◌/◌, ◌==◌, List, [], ◌∷◌, Option, None, Some, length, drop, slice_index_or, if◌then◌else◌, refl, sym, ap, subst, ◌∙◌, arith, zero-add}
-use Rattle.std.specs.Prelude.{slice_get}
-use Rattle.std.proofs.lemmas.Option.{slice_get_within}
-use Rattle.std.proofs.Math.Nat.{eq-or-lt_of_le}
-use Rattle.scf_insn.specs.declared.insn.Insn.{Insn}
-use Rattle.scf_insn.specs.declared.operation.Register.TheVariants.{A}
-use Rattle.scf_insn.specs.declared.operation.Operation.{Operation}
-use Rattle.scf_insn.specs.declared.operation.Operation.TheVariants.{LoadWord}
-use Rattle.scf_insn.specs.Codes.{operation_of}
-use Rattle.scf_insn.specs.Kernel.{bpf_memwords}
-use Rattle.scf_machine.specs.Machine.{State, Outcome, Goes, Ends, sets, jumps_to, holds, operand_of, effect}
-use Rattle.scf_machine.specs.Rules.{Stands, IsFine, IsValidList, IsReturn}
-use Rattle.scf_machine.proofs.Runs.{fine_of, same_insn}
-use Rattle.scf_compare.specs.declared.flow.Flow.{Flow}
-use Rattle.scf_compare.specs.declared.flow.Flow.TheVariants.{Next, Jump, Branch, DivideByIndex, ReturnConstant, ReturnAccumulator}
-use Rattle.scf_compare.specs.Paths.{size_of_insn, tree_sizes, tree_size}
-use Rattle.scf_compare.specs.internal.Flow.{flow_at, UsesScratch, IsInside, size_of_flow}
-use Rattle.std.proofs.lemmas.Option.{slice_get-get_or}
+use Rattle.scf_compare.proofs.Common.{◌≡◌, ℕ, zero, suc, ◌+◌, ◌-◌, ◌<◌, ◌/◌, ◌==◌, List, [], ◌∷◌, Option, None, Some, length, drop, slice_index_or, if◌then◌else◌, refl, sym, ap, subst, ◌∙◌, arith, zero-add, slice_get, slice_get_within, eq-or-lt_of_le, Insn, A, Operation, LoadWord, operation_of, bpf_memwords, State, Outcome, Goes, Ends, sets, jumps_to, holds, operand_of, effect, Stands, IsFine, IsValidList, IsReturn, fine_of, same_insn, Flow, Next, Jump, Branch, DivideByIndex, ReturnConstant, ReturnAccumulator, size_of_insn, tree_sizes, tree_size, flow_at, UsesScratch, IsInside, size_of_flow, slice_get-get_or}
 
 -- ---- places inside the program
 

@@ -1,10 +1,5 @@
 -- A condition on a 64-bit number by the halves of the number.
-use Rattle.std.proofs.Common.{◌≡◌, ℕ, ◌+◌, ◌*◌, Bool, true, false, cond, eqb, List, sym, ap, ◌∙◌, bit_and}
-use Rattle.std.specs.Prelude.{slice_index}
-use Rattle.std.proofs.lemmas.Bool.{eq-eqb, eqb-true}
-use Rattle.scf_insn.specs.Words.{IsWords, low, high, call_of, argument}
-use Rattle.scf_insn.proofs.CallWords.{words_of-call_of}
-use Rattle.scf_insn.proofs.Halves.{masked_split, argument_low, argument_high}
+use Rattle.scf_compare.proofs.Common.{◌≡◌, ℕ, ◌+◌, ◌*◌, Bool, true, false, cond, eqb, List, sym, ap, ◌∙◌, bit_and, slice_index, eq-eqb, eqb-true, IsWords, low, high, call_of, argument, words_of-call_of, masked_split, argument_low, argument_high}
 
 -- ---- the words of an argument
 

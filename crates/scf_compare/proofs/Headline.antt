@@ -1,8 +1,5 @@
 -- The headline follows from what verdicts claim, since a stack and a profile have one answer each to a call record.
-use Rattle.std.proofs.Common.{arith}
-use Rattle.scf_insn.specs.Words.{words_of}
-use Rattle.scf_machine.proofs.Runs.{run_length, runs_safely}
-use Rattle.scf_compare.specs.Headline.{DiffersIsShown, EveryRunEnds, SameIsTrue}
+use Rattle.scf_compare.proofs.Common.{arith, words_of, run_length, runs_safely, DiffersIsShown, EveryRunEnds, SameIsTrue}
 use Rattle.scf_compare.proofs.Relations.{related_here}
 
 pub every_run_ends : EveryRunEnds

@@ -1,21 +1,6 @@
 -- Images of a word, bit by bit.
-use Rattle.std.proofs.Common.{◌≡◌, ◌≢◌, ℕ, ◌+◌, ◌-◌, ◌*◌, ◌/◌, ◌%◌, ◌<◌, ◌≤◌, ◌^◌, ◌↔◌, true, false, eqb, refl, sym, ap, ◌∙◌, arith}
-use Rattle.std.proofs.Common.{bit_and, bit_or, bit_xor}
-use Rattle.std.specs.Prelude.{List, slice_index}
-use Rattle.std.proofs.lemmas.Bool.{eq-eqb, eqb-true}
-use Rattle.std.specs.Int.Bits.{and_zero_r, xor_zero_l, xor_zero_r}
-use Rattle.std.proofs.lemmas.Nat.{and_shr, xor_shr, xor_lt, xor_mod, and_block, xor_block, and_comm, and_le_r, and_assoc, and_mask}
-use Rattle.std.proofs.lemmas.Nat.{shl-shr, pow-add, pow_pos, div-add-mod'}
-use Rattle.std.proofs.lemmas.Nat.Bits.{same_from_bits}
-use Rattle.std.proofs.Math.Nat.{div-eq_of_lt, div-mul-le_self, div-one, mod-eq_of_lt, mod-le, mod-lt, mul-le-mul_left}
-use Rattle.std.proofs.Math.Pow.{pow_mono, shr_mono}
-use Rattle.scf_compare.specs.declared.image.Image.{Image}
-use Rattle.scf_compare.specs.internal.Images.{IsWhole, image_number}
-use Rattle.scf_facts.proofs.MaskLaws.{beyond_rest}
-use Rattle.std.proofs.lemmas.Bool.{ne_eqb}
-use Rattle.std.proofs.lemmas.Nat.{shr-shr}
+use Rattle.scf_compare.proofs.Common.{◌≡◌, ◌≢◌, ℕ, ◌+◌, ◌-◌, ◌*◌, ◌/◌, ◌%◌, ◌<◌, ◌≤◌, ◌^◌, ◌↔◌, true, false, eqb, refl, sym, ap, ◌∙◌, arith, bit_and, bit_or, bit_xor, List, slice_index, eq-eqb, eqb-true, and_zero_r, xor_zero_l, xor_zero_r, and_shr, xor_shr, xor_lt, xor_mod, and_block, xor_block, and_comm, and_le_r, and_assoc, and_mask, shl-shr, pow-add, pow_pos, div-add-mod', same_from_bits, div-eq_of_lt, div-mul-le_self, div-one, mod-eq_of_lt, mod-le, mod-lt, mul-le-mul_left, pow_mono, shr_mono, Image, IsWhole, image_number, beyond_rest, ne_eqb, shr-shr, and_le_l}
 use Rattle.scf_compare.proofs.Bits.{each_bit}
-use Rattle.std.proofs.lemmas.Nat.{and_le_l}
 
 -- to flip bits twice changes nothing
 pub flipped_twice : (a c : ℕ) → bit_xor (bit_xor a c) c ≡ a

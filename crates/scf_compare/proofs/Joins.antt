@@ -1,13 +1,5 @@
 -- Images of one word that are joined.
-use Rattle.std.proofs.Common.{◌≡◌, ℕ, ◌*◌, ◌/◌, ◌<◌, ◌^◌, ◌↔◌, true, false, eqb, sym, ◌∙◌, arith}
-use Rattle.std.proofs.Common.{bit_and, bit_or, bit_xor}
-use Rattle.std.specs.Prelude.{List, nat_lt, not}
-use Rattle.std.specs.Int.Bits.{and_zero_r}
-use Rattle.std.proofs.lemmas.Bool.{eq-eqb}
-use Rattle.std.proofs.lemmas.Nat.{and_le_r, or_block, or_lt, or_shr, le_or_l, le_or_r, pow_pos}
-use Rattle.std.proofs.lemmas.Nat.Bits.{same_from_bits}
-use Rattle.scf_compare.specs.declared.image.Image.{Image}
-use Rattle.scf_compare.specs.internal.Images.{AreShiftedAlike, shifted_word}
+use Rattle.scf_compare.proofs.Common.{◌≡◌, ℕ, ◌*◌, ◌/◌, ◌<◌, ◌^◌, ◌↔◌, true, false, eqb, sym, ◌∙◌, arith, bit_and, bit_or, bit_xor, List, nat_lt, not, and_zero_r, eq-eqb, and_le_r, or_block, or_lt, or_shr, le_or_l, le_or_r, pow_pos, same_from_bits, Image, AreShiftedAlike, shifted_word}
 use Rattle.scf_compare.proofs.Images.{mask_within}
 use Rattle.scf_compare.proofs.Bits.{each_bit}
 

@@ -1,5 +1,6 @@
-pub mod Branches
 pub mod Bits
+pub mod Branches
+pub mod Common
 pub mod Firsts
 pub mod Flows
 pub mod Halves
@@ -10,9 +11,9 @@ pub mod Offsets
 pub mod Orders
 pub mod PlainFlows
 pub mod Relations
-pub mod Ways
 pub mod Rules
-pub mod Verdicts
 pub mod Saturated
 pub mod Stacks
 pub mod Stages
+pub mod Verdicts
+pub mod Ways

@@ -1,15 +1,5 @@
 -- Sums and differences of a number and an image of a word.
-use Rattle.std.proofs.Common.{◌≡◌, ℕ, ◌+◌, ◌-◌, ◌%◌, ◌<◌, ◌≤◌, ◌^◌, Bool, true, false, eqb, sym, ◌∙◌, arith}
-use Rattle.std.proofs.Common.{bit_and, bit_or, bit_xor}
-use Rattle.std.specs.Prelude.{List, nat_lt, nat_le, not}
-use Rattle.std.specs.Int.Bits.{xor_disjoint, xor_zero_r}
-use Rattle.std.proofs.lemmas.Nat.{and_le_r, xor_comm, xor_lt}
-use Rattle.std.proofs.lemmas.Nat.Bits.{same_from_bits}
-use Rattle.std.proofs.Math.Nat.{mod-eq_of_lt}
-use Rattle.scf_facts.specs.Atoms.{steps_from}
-use Rattle.scf_compare.specs.declared.image.Image.{Image}
-use Rattle.scf_compare.specs.internal.Images.{shifted_word, image_number}
-use Rattle.scf_compare.specs.internal.Offsets.{signed_sum}
+use Rattle.scf_compare.proofs.Common.{◌≡◌, ℕ, ◌+◌, ◌-◌, ◌%◌, ◌<◌, ◌≤◌, ◌^◌, Bool, true, false, eqb, sym, ◌∙◌, arith, bit_and, bit_or, bit_xor, List, nat_lt, nat_le, not, xor_disjoint, xor_zero_r, and_le_r, xor_comm, xor_lt, same_from_bits, mod-eq_of_lt, steps_from, Image, shifted_word, image_number, signed_sum}
 use Rattle.scf_compare.proofs.Bits.{each_bit, whole_word}
 use Rattle.scf_compare.proofs.Images.{flipped_twice, image_fits}
 

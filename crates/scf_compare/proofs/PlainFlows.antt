@@ -1,16 +1,5 @@
 -- How the instructions of a plain program go on.
-use Rattle.std.proofs.Common.{◌≡◌, ℕ, List, arith}
-use Rattle.std.proofs.lemmas.List.Elements.{All-contains}
-use Rattle.scf_insn.specs.SimpleMask.{IsSimpleMask}
-use Rattle.scf_insn.specs.declared.insn.Insn.{Insn}
-use Rattle.scf_insn.specs.declared.operation.Operand.TheVariants.{Constant}
-use Rattle.scf_insn.specs.declared.operation.Test.TheVariants.{CommonBit}
-use Rattle.scf_insn.specs.declared.operation.Operation.{Operation}
-use Rattle.scf_machine.specs.Plain.{IsPlainProgram, IsPlainInsn}
-use Rattle.scf_machine.specs.Rules.{Stands}
-use Rattle.scf_compare.specs.declared.flow.Flow.{Flow}
-use Rattle.scf_compare.specs.declared.flow.Flow.TheVariants.{Branch, DivideByIndex, ReturnAccumulator}
-use Rattle.scf_compare.specs.internal.Flow.{flow_at}
+use Rattle.scf_compare.proofs.Common.{◌≡◌, ℕ, List, arith, All-contains, IsSimpleMask, Insn, Constant, CommonBit, Operation, IsPlainProgram, IsPlainInsn, Stands, Flow, Branch, DivideByIndex, ReturnAccumulator, flow_at}
 use Rattle.scf_compare.proofs.Rules.{contains_here}
 
 -- a plain instruction tests against a constant, with a simple mask, divides nothing and returns no register

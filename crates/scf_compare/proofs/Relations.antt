@@ -1,21 +1,5 @@
 -- What follows from one relation for another.
-use Rattle.std.proofs.Common.{◌≡◌, ◌≤◌, ℕ, List, arith, subst}
-use Rattle.scf_insn.specs.declared.answer.Fate.{Fate}
-use Rattle.scf_insn.specs.declared.insn.Insn.{Insn}
-use Rattle.scf_insn.specs.declared.record.CallRecord.{CallRecord}
-use Rattle.scf_insn.specs.Answers.{degree_of, fate_of}
-use Rattle.scf_insn.specs.Words.{IsRecord, words_of}
-use Rattle.scf_machine.specs.Precedence.{StackAnswers}
-use Rattle.scf_machine.proofs.Stacks.{stack_answer_once}
-use Rattle.scf_profile.specs.Profile.{Profile, HaveNoConflict}
-use Rattle.scf_profile.specs.ProfileAnswers.{ProfileAnswers}
-use Rattle.scf_profile.specs.SameAnswers.{AnswersRelated}
-use Rattle.scf_profile.proofs.Answering.{one_answer}
-use Rattle.scf_compare.specs.declared.relation.Relation.{Relation}
-use Rattle.scf_compare.specs.declared.relation.Relation.TheVariants.{Same, NoMore, NoLess}
-use Rattle.scf_compare.specs.declared.scope.Scope.{Scope}
-use Rattle.scf_compare.specs.Relation.{IsRelated}
-use Rattle.scf_compare.specs.Scope.{IsInScope, RelatedAnswersIn}
+use Rattle.scf_compare.proofs.Common.{◌≡◌, ◌≤◌, ℕ, List, arith, subst, Fate, Insn, CallRecord, degree_of, fate_of, IsRecord, words_of, StackAnswers, stack_answer_once, Profile, HaveNoConflict, ProfileAnswers, AnswersRelated, one_answer, Relation, Same, NoMore, NoLess, Scope, IsRelated, IsInScope, RelatedAnswersIn}
 
 pub all_related : (relation : Relation) (filters : List (List Insn)) (p : Profile) (scope : Scope)
     → RelatedAnswersIn Same scope (StackAnswers filters) p → RelatedAnswersIn relation scope (StackAnswers filters) p

@@ -1,23 +1,6 @@
 -- The rules of a profile and their conditions, one after another.
-use Rattle.std.proofs.Common.{◌≡◌, ◌≢◌, ℕ, zero, suc, ◌+◌, ◌*◌, ◌<◌, ◌≤◌, ◌&&◌, Bool, true, false, eqb, List, [], ◌∷◌, ◌++◌, Some, length, take, drop, get_or, refl, sym, ap, subst, ◌∙◌, arith}
-use Rattle.std.specs.Prelude.{slice_get, All, Contains}
-use Rattle.std.proofs.lemmas.Bool.{eq-eqb, ne_eqb, and_parts}
-use Rattle.std.proofs.lemmas.List.{take_all}
-use Rattle.std.proofs.lemmas.List.Elements.{All-push, All-contains}
-use Rattle.std.proofs.lemmas.Option.{slice_get-get_or, slice_get_within}
-use Rattle.scf_insn.specs.declared.record.CallRecord.{CallRecord}
-use Rattle.scf_insn.specs.Words.{argument}
-use Rattle.scf_profile.specs.declared.condition.Condition.{Condition}
-use Rattle.scf_profile.specs.declared.rule.Rule.{Rule}
+use Rattle.scf_compare.proofs.Common.{◌≡◌, ◌≢◌, ℕ, zero, suc, ◌+◌, ◌*◌, ◌<◌, ◌≤◌, ◌&&◌, Bool, true, false, eqb, List, [], ◌∷◌, ◌++◌, Some, length, take, drop, get_or, refl, sym, ap, subst, ◌∙◌, arith, slice_get, All, Contains, eq-eqb, ne_eqb, and_parts, take_all, All-push, All-contains, slice_get-get_or, slice_get_within, CallRecord, argument, Condition, Rule, all_hold, meets, numbers_of, rules_of, numbers_of-contains, ConditionPart, High, IsAtPart, conditions_size, StandsAt, IsAtCondition, KnowsRule, condition_size, size_behind}
 use Rattle.scf_profile.specs.Condition.{holds}
-use Rattle.scf_profile.specs.Rule.{all_hold, meets}
-use Rattle.scf_profile.specs.RulesByNumber.{numbers_of, rules_of}
-use Rattle.scf_profile.proofs.Numbers.{numbers_of-contains}
-use Rattle.scf_compare.specs.declared.question.ConditionPart.{ConditionPart}
-use Rattle.scf_compare.specs.declared.question.ConditionPart.TheVariants.{High}
-use Rattle.scf_compare.specs.internal.Conditions.{IsAtPart}
-use Rattle.scf_compare.specs.Effort.{conditions_size}
-use Rattle.scf_compare.specs.internal.Profiles.{StandsAt, IsAtCondition, KnowsRule, condition_size, size_behind}
 
 -- ---- which rules a call meets
 

@@ -1,16 +1,6 @@
 -- Numbers that are cut at 2^64-1.
-use Rattle.std.proofs.Common.{◌≡◌, ℕ, suc, ◌+◌, ◌*◌, ◌-◌, ◌<◌, ◌≤◌, cond, Bool, List, [], ◌∷◌, ◌++◌, length, drop, take, ap, ◌∙◌, arith}
-use Rattle.std.specs.Prelude.{Some, slice_get, sum_by}
-use Rattle.std.proofs.lemmas.List.Sums.{sum_by-append}
-use Rattle.std.proofs.lemmas.Option.{slice_get-get_or}
-use Rattle.scf_profile.specs.declared.condition.Operator.TheVariants.{Equal}
-use Rattle.scf_profile.specs.declared.condition.Condition.{Condition}
-use Rattle.scf_profile.specs.declared.rule.Rule.{Rule}
-use Rattle.scf_profile.specs.RulesByNumber.{numbers_of}
-use Rattle.scf_profile.proofs.Numbers.{has_number, numbers_of-push}
-use Rattle.scf_compare.specs.Effort.{conditions_size, saturated}
+use Rattle.scf_compare.proofs.Common.{◌≡◌, ℕ, suc, ◌+◌, ◌*◌, ◌-◌, ◌<◌, ◌≤◌, cond, Bool, List, [], ◌∷◌, ◌++◌, length, drop, take, ap, ◌∙◌, arith, Some, slice_get, sum_by, sum_by-append, slice_get-get_or, Equal, Condition, Rule, numbers_of, has_number, numbers_of-push, conditions_size, saturated, paths_count, spread_counts}
 use Rattle.scf_compare.proofs.Rules.{take_here, conditions_more}
-use Rattle.scf_compare.specs.internal.Laws.{paths_count, spread_counts}
 
 pub multiplied : (a b x y : ℕ) → 0 < x → 0 < y → a ≡ saturated x → b ≡ saturated y
     → saturated (a * b) ≡ saturated (x * y)

@@ -1,20 +1,5 @@
 -- The filters of a stack by their places.
-use Rattle.std.proofs.Common.{◌≡◌, ℕ, ◌+◌, ◌*◌, ◌<◌, List, [], ◌∷◌, length, take, drop, refl, arith}
-use Rattle.std.proofs.Common.{ℤ, ◌<ℤ◌, ◌≤ℤ◌, int_lt, Bool, cond}
-use Rattle.std.specs.Prelude.{Option, Some, All, IfSome, slice_get}
-use Rattle.std.proofs.lemmas.Option.{slice_get-get_or, slice_get_within}
-use Rattle.scf_insn.specs.declared.answer.Answer.{Answer}
-use Rattle.scf_insn.specs.declared.insn.Insn.{Insn}
-use Rattle.scf_insn.specs.Answers.{rank_of}
-use Rattle.scf_machine.specs.Machine.{RunAnswers}
-use Rattle.scf_machine.specs.Plain.{IsPlainProgram}
-use Rattle.scf_machine.specs.Precedence.{StackAnswers, with_newest}
-use Rattle.scf_machine.proofs.Stacks.{one_answers}
-use Rattle.scf_compare.specs.Effort.{stack_paths}
-use Rattle.scf_compare.specs.Paths.{tree_size}
-use Rattle.scf_compare.specs.declared.comparison.FilterEnd.{FilterEnd}
-use Rattle.scf_compare.specs.internal.Filters.{IsFilterEnd}
-use Rattle.scf_compare.specs.internal.Stacks.{IsStackEnd, filter_at}
+use Rattle.scf_compare.proofs.Common.{◌≡◌, ℕ, ◌+◌, ◌*◌, ◌<◌, List, [], ◌∷◌, length, take, drop, refl, arith, ℤ, ◌<ℤ◌, ◌≤ℤ◌, int_lt, Bool, cond, Option, Some, All, IfSome, slice_get, slice_get-get_or, slice_get_within, Answer, Insn, rank_of, RunAnswers, IsPlainProgram, StackAnswers, with_newest, one_answers, stack_paths, tree_size, FilterEnd, IsFilterEnd, IsStackEnd, filter_at}
 use Rattle.scf_compare.proofs.Rules.{contains_here, drop_here}
 
 here : (filters : List (List Insn)) (place : ℕ) → place < length filters

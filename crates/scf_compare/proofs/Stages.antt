@@ -1,20 +1,6 @@
 -- From one stage of an exploration to the next.
-use Rattle.std.proofs.Common.{◌≡◌, ◌∙◌, ℕ, ◌≤◌, ◌↔◌, inl, inr, List, true, false, arith}
-use Rattle.std.specs.Prelude.{Option, Some, None, IsTrue}
-use Rattle.std.proofs.lemmas.Bool.{cases_Bool}
-use Rattle.scf_facts.specs.declared.word_facts.WordFacts.{Ghosts as Store}
-use Rattle.scf_compare.specs.declared.asking.Atoms.{Atoms}
-use Rattle.scf_compare.specs.declared.comparison.BothEnds.{BothEnds}
+use Rattle.scf_compare.proofs.Common.{◌≡◌, ◌∙◌, ℕ, ◌≤◌, ◌↔◌, inl, inr, List, true, false, arith, Option, Some, None, IsTrue, cases_Bool, Store, Atoms, BothEnds, Frontier, Turn, Ask, Fork, AsksOfWords, atoms_answer, StaysExact, KeepsEither, Compared, Tells, KnowsBoth, WereSeen, IsFrontier, LeadsTo, IsTaken, GoesOver, Tree, GoesOn, StaysPlain, Costs}
 use Rattle.scf_compare.specs.declared.frontier.Branch.{Branch}
-use Rattle.scf_compare.specs.declared.frontier.Frontier.{Frontier}
-use Rattle.scf_compare.specs.declared.turn.Turn.{Turn}
-use Rattle.scf_compare.specs.declared.turn.Turn.TheVariants.{Ask, Fork}
-use Rattle.scf_compare.specs.internal.Asking.{AsksOfWords, atoms_answer, StaysExact, KeepsEither}
-use Rattle.scf_compare.specs.internal.Compared.{Compared}
-use Rattle.scf_compare.specs.internal.Ends.{Tells, KnowsBoth, WereSeen}
-use Rattle.scf_compare.specs.internal.Frontier.{IsFrontier}
-use Rattle.scf_compare.specs.internal.Stages.{LeadsTo, IsTaken, GoesOver}
-use Rattle.scf_compare.specs.internal.Trees.{Tree, GoesOn, StaysPlain, Costs}
 use Rattle.scf_compare.proofs.Branches.{HasOpened, still_in_branch, in_opened, frontier_opened, size_opened, exact_opened}
 
 module _ {F K N : Type 0} (store : Store F) (compared : Compared) (tree : K → Tree N) (old new : Frontier F K N)

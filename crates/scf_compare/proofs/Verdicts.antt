@@ -1,29 +1,7 @@
 -- A verdict on words is one on call records.
-use Rattle.std.proofs.Common.{◌≡◌, ℕ, List, subst, arith}
-use Rattle.std.specs.Prelude.{Option}
-use Rattle.scf_insn.specs.declared.answer.Answer.{Answer}
-use Rattle.scf_insn.specs.declared.insn.Insn.{Insn}
-use Rattle.scf_insn.specs.declared.operation.Operation.{Operation}
-use Rattle.scf_insn.specs.declared.record.CallRecord.{CallRecord}
-use Rattle.scf_insn.specs.Words.{words_of, call_of}
-use Rattle.scf_insn.proofs.CallWords.{call_of-words_of, words_of-call_of, IsWords-words_of, IsRecord-call_of}
-use Rattle.scf_profile.specs.Profile.{Profile}
-use Rattle.scf_profile.specs.ProfileAnswers.{ProfileAnswers}
-use Rattle.scf_profile.specs.SameAnswers.{SameAnswers}
-use Rattle.scf_compare.specs.declared.relation.Relation.{Relation}
-use Rattle.scf_compare.specs.declared.scope.Scope.{Scope}
+use Rattle.scf_compare.proofs.Common.{◌≡◌, ℕ, List, subst, arith, Option, Answer, Insn, Operation, CallRecord, words_of, call_of, call_of-words_of, words_of-call_of, IsWords-words_of, IsRecord-call_of, Profile, ProfileAnswers, SameAnswers, Relation, Scope, Verdict, Differs, Undecided, Unfinished, IsRelated, IsInScope, RelatedAnswersIn, SameAnswersIn, CanEnd, IsEndPlace, IsStackEndPlace, IsTrueBy, IsDecided, AllRelated, IsTrueVerdict, IsPlaceOf, EndsWith, IsFilterEnd, flow_at, compared_in, IsStackEnd}
 use Rattle.scf_compare.specs.declared.scope.Scope.TheVariants.{All}
-use Rattle.scf_compare.specs.declared.verdict.Verdict.{Verdict}
-use Rattle.scf_compare.specs.declared.verdict.Verdict.TheVariants.{Same, Differs, Undecided, Unfinished}
-use Rattle.scf_compare.specs.Relation.{IsRelated}
-use Rattle.scf_compare.specs.Scope.{IsInScope, RelatedAnswersIn, SameAnswersIn}
-use Rattle.scf_compare.specs.Verdicts.{CanEnd, IsEndPlace, IsStackEndPlace, IsTrueBy, IsDecided}
-use Rattle.scf_compare.specs.internal.Compared.{AllRelated, IsTrueVerdict}
-use Rattle.scf_compare.specs.internal.Ends.{IsPlaceOf}
-use Rattle.scf_compare.specs.internal.Filters.{EndsWith, IsFilterEnd}
-use Rattle.scf_compare.specs.internal.Flow.{flow_at}
-use Rattle.scf_compare.specs.internal.Scopes.{compared_in}
-use Rattle.scf_compare.specs.internal.Stacks.{IsStackEnd}
+use Rattle.scf_compare.specs.declared.verdict.Verdict.TheVariants.{Same}
 
 -- a verdict that decides a claim decides another that holds exactly where the first one does
 pub decided_same : (claim other : Type 0) (limit size : ℕ) (verdict : Verdict) → (claim → other) → (other → claim)

@@ -1,21 +1,5 @@
 -- The runs that come to the nodes of a filter's tree.
-use Rattle.std.proofs.Common.{◌≡◌, ℕ, ◌+◌, ◌/◌, ◌==◌, Bool, true, false, if◌then◌else◌, List, ◌∷◌, length, refl, ap, subst, ◌∙◌, arith}
-use Rattle.scf_insn.specs.declared.insn.Insn.{Insn}
-use Rattle.scf_insn.specs.declared.operation.Operation.{Operation}
-use Rattle.scf_insn.specs.declared.operation.Register.TheVariants.{A}
-use Rattle.scf_machine.specs.Machine.{State, Outcome, Goes, Ends, Faults, step, effect, sets, jumps_to, holds, operand_of, RunAnswers, RunsSafely}
-use Rattle.scf_machine.specs.Rules.{Stands}
-use Rattle.scf_compare.specs.declared.comparison.FilterEnd.{FilterEnd}
-use Rattle.scf_compare.specs.declared.filter.FilterNode.{FilterNode}
-use Rattle.scf_compare.specs.declared.flow.Flow.{Flow}
-use Rattle.scf_compare.specs.declared.flow.Flow.TheVariants.{Next, Jump, Branch, DivideByIndex, ReturnConstant, ReturnAccumulator}
-use Rattle.scf_compare.specs.declared.registers.Registers.{Registers}
-use Rattle.scf_compare.specs.declared.turn.Turn.{Turn}
-use Rattle.scf_compare.specs.declared.value.Decision.{Decision}
-use Rattle.scf_compare.specs.internal.Flow.{flow_at}
-use Rattle.scf_compare.specs.internal.Trees.{Tree, GoesOn, StaysPlain}
-use Rattle.scf_compare.specs.internal.Values.{Describes, Decides, IsPlainDecision}
-use Rattle.scf_compare.specs.internal.Filters.{ComesTo, IsTurnOf}
+use Rattle.scf_compare.proofs.Common.{◌≡◌, ℕ, ◌+◌, ◌/◌, ◌==◌, Bool, true, false, if◌then◌else◌, List, ◌∷◌, length, refl, ap, subst, ◌∙◌, arith, Insn, Operation, A, State, Outcome, Goes, Ends, Faults, step, effect, sets, jumps_to, holds, operand_of, RunAnswers, RunsSafely, Stands, FilterEnd, FilterNode, Flow, Next, Jump, Branch, DivideByIndex, ReturnConstant, ReturnAccumulator, Registers, Turn, Decision, flow_at, Tree, GoesOn, StaysPlain, Describes, Decides, IsPlainDecision, ComesTo, IsTurnOf}
 use Rattle.scf_compare.proofs.Flows.{Does, does}
 
 -- A run over the words comes to an instruction, whose values are known.

@@ -1,28 +1,5 @@
 -- The distinct numbers of a profile's rules: how many there are, and the bounds that their search keeps.
-use Rattle.std.proofs.Common.{◌≡◌, ℕ, zero, suc, ◌+◌, ◌*◌, ◌/◌, ◌^◌, ◌<◌, ◌≤◌, Bool, not, eqb}
-use Rattle.std.proofs.Common.{List, [], ◌∷◌}
-use Rattle.std.proofs.Common.{length, get_or, map, All, refl, ap, subst, arith, inl, inr}
-use Rattle.std.proofs.Common.{sum_by}
-use Rattle.std.specs.Prelude.{Contains}
-use Rattle.std.proofs.lemmas.Bool.{cases_eq, eq-eqb, ne_eqb}
-use Rattle.std.proofs.lemmas.List.Filters.{length-filter_both}
-use Rattle.std.proofs.lemmas.List.Elements.{All-contains}
-use Rattle.std.proofs.lemmas.List.Elements.{All-from_recursion}
-use Rattle.std.proofs.lemmas.List.Sorted.{All-permutation}
-use Rattle.std.proofs.lemmas.List.Sorted.{sum_by-IsPermutation}
-use Rattle.std.proofs.lemmas.List.Sums.{sum_by-le}
-use Rattle.scf_insn.specs.Kernel.{x32_syscall_bit}
-use Rattle.scf_profile.specs.declared.rule.Rule.{Rule}
-use Rattle.scf_profile.specs.ByNumber.{IsByNumber}
-use Rattle.scf_profile.specs.PlainProfile.{IsPlainRule}
-use Rattle.scf_profile.specs.Profile.{Profile, IsProfile}
-use Rattle.scf_profile.specs.Rule.{IsRule}
-use Rattle.scf_profile.specs.RulesByNumber.{numbers_of, rules_of}
-use Rattle.scf_insn.specs.declared.answer.Answer.{Answer}
-use Rattle.scf_compile.specs.declared.stretches.Stretch.{Stretch}
-use Rattle.scf_compile.specs.SearchBound.{digits_within, binary_digits, greatest}
-use Rattle.scf_compile.specs.SizeBound.{rule_bound}
-use Rattle.scf_compile.specs.internal.Stretches.{AllRules, AreServed, AreStretchesOf}
+use Rattle.scf_compile.proofs.Common.{◌≡◌, ℕ, zero, suc, ◌+◌, ◌*◌, ◌/◌, ◌^◌, ◌<◌, ◌≤◌, Bool, not, eqb, List, [], ◌∷◌, length, get_or, map, All, refl, ap, subst, arith, inl, inr, sum_by, Contains, cases_eq, eq-eqb, ne_eqb, length-filter_both, All-contains, All-from_recursion, All-permutation, sum_by-IsPermutation, sum_by-le, x32_syscall_bit, Rule, IsByNumber, IsPlainRule, Profile, IsProfile, IsRule, numbers_of, rules_of, Answer, Stretch, digits_within, binary_digits, greatest, rule_bound, AllRules, AreServed, AreStretchesOf}
 use Rattle.scf_compile.proofs.Filters.{Serve}
 use Rattle.scf_compile.proofs.Sizes.{few_conditions, number_there}
 

@@ -1,29 +1,5 @@
 -- What is put before a search makes it a filter.
-use Rattle.std.proofs.Common.{◌≡◌, ℕ, ◌+◌, ◌-◌, ◌*◌, ◌^◌, ◌<◌, ◌≤◌, Bool, true, false, cond, eqb, ltb, List, []}
-use Rattle.std.proofs.Common.{◌∷◌, length, refl, ap, ◌∙◌, arith, sum_by}
-use Rattle.std.specs.Prelude.{IsTrue}
-use Rattle.std.proofs.lemmas.Bool.{le-leb, eqb-true, eqb-false}
-use Rattle.std.proofs.lemmas.Bool.Decides.{nat_tests}
-use Rattle.scf_insn.specs.declared.insn.Insn.{Insn}
-use Rattle.scf_insn.specs.declared.record.CallRecord.{CallRecord}
-use Rattle.scf_insn.specs.declared.operation.Test.TheVariants.{Equal, GreaterOrEqual}
-use Rattle.scf_insn.specs.Kernel.{audit_arch_x86_64, x32_syscall_bit, seccomp_ret_kill_process}
-use Rattle.scf_insn.specs.Words.{words_of, IsRecord}
-use Rattle.scf_profile.specs.PlainProfile.{IsPlainProfile, IsPlainRule}
-use Rattle.scf_profile.specs.Profile.{Profile}
-use Rattle.scf_profile.specs.Rule.{IsRule}
-use Rattle.scf_profile.specs.ProfileAnswers.{ProfileAnswers, foreign}
-use Rattle.scf_profile.specs.RulesByNumber.{rules_of}
-use Rattle.scf_compile.specs.declared.placing.Place.{Place}
-use Rattle.scf_compile.specs.declared.stretches.Stretch.{Stretch}
-use Rattle.scf_compile.specs.SearchBound.{search_bound_of}
-use Rattle.scf_compile.specs.SizeBound.{rule_bound, size_bound_of}
-use Rattle.scf_compile.specs.internal.Insns.{jump_if, load_word, return_with}
-use Rattle.scf_compile.specs.internal.Placing.{branch_code, code_from, IsFirst, IsPut}
-use Rattle.scf_compile.specs.internal.Filters.{ArePut, IsSearchPut, IsFilterOf}
-use Rattle.scf_compile.specs.internal.Runs.{EndsWithin}
-use Rattle.scf_compile.specs.internal.Sound.{AreSound}
-use Rattle.scf_compile.specs.internal.Stretches.{AllRules, AreServed, first_answer, stretch_bound}
+use Rattle.scf_compile.proofs.Common.{◌≡◌, ℕ, ◌+◌, ◌-◌, ◌*◌, ◌^◌, ◌<◌, ◌≤◌, Bool, true, false, cond, eqb, ltb, List, [], ◌∷◌, length, refl, ap, ◌∙◌, arith, sum_by, IsTrue, le-leb, eqb-true, eqb-false, nat_tests, Insn, CallRecord, Equal, GreaterOrEqual, audit_arch_x86_64, x32_syscall_bit, seccomp_ret_kill_process, words_of, IsRecord, IsPlainProfile, IsPlainRule, Profile, IsRule, ProfileAnswers, foreign, rules_of, Place, Stretch, search_bound_of, rule_bound, size_bound_of, jump_if, load_word, return_with, branch_code, code_from, IsFirst, IsPut, ArePut, IsSearchPut, IsFilterOf, EndsWithin, AreSound, AllRules, AreServed, first_answer, stretch_bound}
 use Rattle.scf_compile.proofs.Runs.{more, loads, jumps, load_sound, jump_sound}
 use Rattle.scf_compile.proofs.RuleCode.{return_answers, answers_put, answers_there, branch_ends, from_first}
 use Rattle.scf_compile.proofs.Searches.{stays, longer, puts_join, branch_put}

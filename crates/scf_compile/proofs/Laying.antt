@@ -1,27 +1,5 @@
 -- Stretches are put one behind another until each number has its rules.
-use Rattle.std.proofs.Common.{◌≡◌, ℕ, zero, suc, get_or, take, ◌+◌, ◌-◌, ◌*◌, ◌<◌, ◌≤◌, cond, ltb}
-use Rattle.std.proofs.Common.{Bor, All, List, [], ◌∷◌, ◌++◌, length, refl, sym, ap, ◌∙◌, subst, arith, inl, inr, eqb}
-use Rattle.std.proofs.Common.{length-append, sum_by}
-use Rattle.std.specs.Prelude.{Contains}
-use Rattle.std.specs.List.{AllByRecursion}
-use Rattle.std.specs.List.Sorted.{IsNonDecreasingBy}
-use Rattle.std.proofs.lemmas.Bool.{cases_lt, ne_eqb}
-use Rattle.std.proofs.lemmas.Bool.Decides.{nat_tests}
-use Rattle.std.proofs.lemmas.List.{length-map, map-append, take_all, take_more}
-use Rattle.std.proofs.lemmas.List.Elements.{All-contains_itself, All-filter, All-push, recursion_from_All}
-use Rattle.std.proofs.lemmas.List.Sums.{sum_by-cons, sum_by-append}
-use Rattle.scf_insn.specs.declared.answer.Answer.{Answer}
-use Rattle.scf_insn.specs.Kernel.{x32_syscall_bit}
-use Rattle.scf_profile.specs.declared.rule.Rule.{Rule}
-use Rattle.scf_profile.specs.ByNumber.{rules_at}
-use Rattle.scf_profile.specs.RulesByNumber.{rules_of}
-use Rattle.scf_profile.specs.Rule.{IsRule}
-use Rattle.scf_compile.specs.declared.numbers.NumberRules.{NumberRules}
-use Rattle.scf_compile.specs.declared.stretches.Stretch.{Stretch}
-use Rattle.scf_compile.specs.SizeBound.{rule_bound}
-use Rattle.scf_compile.specs.internal.Numbers.{IsCut}
-use Rattle.scf_compile.specs.internal.Stretches.{StandsFor, AreTelling, rules_bound, stretch_bound, AllRules, IsServed}
-use Rattle.scf_compile.specs.internal.Stretches.{AreServed, IsLaid, begins, goes_on, AreAmong, AreStretchesOf}
+use Rattle.scf_compile.proofs.Common.{◌≡◌, ℕ, zero, suc, get_or, take, ◌+◌, ◌-◌, ◌*◌, ◌<◌, ◌≤◌, cond, ltb, Bor, All, List, [], ◌∷◌, ◌++◌, length, refl, sym, ap, ◌∙◌, subst, arith, inl, inr, eqb, length-append, sum_by, Contains, AllByRecursion, IsNonDecreasingBy, cases_lt, ne_eqb, nat_tests, length-map, map-append, take_all, take_more, All-contains_itself, All-filter, All-push, recursion_from_All, sum_by-cons, sum_by-append, Answer, x32_syscall_bit, Rule, rules_at, rules_of, IsRule, NumberRules, Stretch, rule_bound, IsCut, StandsFor, AreTelling, rules_bound, stretch_bound, AllRules, IsServed, AreServed, IsLaid, begins, goes_on, AreAmong, AreStretchesOf}
 
 -- ---- one stretch more
 

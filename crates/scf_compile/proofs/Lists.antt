@@ -1,8 +1,5 @@
 -- Lists, from a place on, and their elements.
-use Rattle.std.proofs.Common.{◌≡◌, ◌⊎◌, ℕ, zero, suc, arith, inl, inr, ◌+◌, ◌<◌, List, ◌∷◌, length, get_or}
-use Rattle.std.proofs.Common.{drop, sym, ap, ◌∙◌}
-use Rattle.std.proofs.lemmas.List.{drop_more}
-use Rattle.std.specs.Prelude.{Contains}
+use Rattle.scf_compile.proofs.Common.{◌≡◌, ◌⊎◌, ℕ, zero, suc, arith, inl, inr, ◌+◌, ◌<◌, List, ◌∷◌, length, get_or, drop, sym, ap, ◌∙◌, drop_more, Contains}
 
 -- what stands from a place on is the element there, and what stands behind it
 pub next_at : {A : Type 0} (xs : List A) (i : ℕ) (x : A) → i < length xs → x ≡ get_or xs i x

@@ -1,12 +1,5 @@
 -- What a word has under a mask, by the kind of the mask.
-use Rattle.std.proofs.Common.{◌≡◌, ℕ, ◌*◌, ◌-◌, ◌<◌, ◌^◌, ◌≢◌, true, eqb}
-use Rattle.std.proofs.Common.{not, sym, ap, ◌∙◌, arith, inl, inr, ◌⊎◌, bit_and}
-use Rattle.std.specs.Int.{IsPowerOfTwo, bit_at}
-use Rattle.std.specs.Int.Bits.{and_zero_r}
-use Rattle.std.proofs.lemmas.Bool.{cases_eq, eq-eqb}
-use Rattle.std.proofs.lemmas.Bool.Decides.{nat_tests}
-use Rattle.std.proofs.lemmas.Nat.{and_mask}
-use Rattle.std.proofs.lemmas.Nat.Bits.{and_pow, bit_at-lt}
+use Rattle.scf_compile.proofs.Common.{◌≡◌, ℕ, ◌*◌, ◌-◌, ◌<◌, ◌^◌, ◌≢◌, true, eqb, not, sym, ap, ◌∙◌, arith, inl, inr, ◌⊎◌, bit_and, IsPowerOfTwo, bit_at, and_zero_r, cases_eq, eq-eqb, nat_tests, and_mask, and_pow, bit_at-lt}
 
 -- under no bit each word has what is wanted
 pub under_empty : (n mask wanted : ℕ) → mask ≡ 0 → bit_and wanted mask ≡ wanted → eqb (bit_and n mask) wanted ≡ true

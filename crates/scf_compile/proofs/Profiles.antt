@@ -1,16 +1,5 @@
 -- The first rule that a call meets gives the profile's answer.
-use Rattle.std.proofs.Common.{◌≡◌, ℕ, ◌<◌, false, List, [], ◌∷◌, refl, sym}
-use Rattle.std.proofs.Common.{subst, arith, inl, inr}
-use Rattle.std.proofs.lemmas.Bool.{cases_Bool, cases_eq, and_left, and_right, and_from, eq-eqb, ne_eqb}
-use Rattle.std.proofs.lemmas.List.Elements.{Contains-append_right}
-use Rattle.scf_insn.specs.declared.answer.Answer.{Answer}
-use Rattle.scf_insn.specs.declared.record.CallRecord.{CallRecord}
-use Rattle.scf_profile.specs.declared.rule.Rule.{Rule}
-use Rattle.scf_profile.specs.Rule.{meets, all_hold}
-use Rattle.scf_profile.specs.Profile.{Profile, IsNative}
-use Rattle.scf_profile.specs.ProfileAnswers.{ProfileAnswers, foreign, by_rule, by_default}
-use Rattle.scf_profile.specs.RulesByNumber.{rules_of}
-use Rattle.scf_compile.specs.internal.Stretches.{first_answer}
+use Rattle.scf_compile.proofs.Common.{◌≡◌, ℕ, ◌<◌, false, List, [], ◌∷◌, refl, sym, subst, arith, inl, inr, cases_Bool, cases_eq, and_left, and_right, and_from, eq-eqb, ne_eqb, Contains-append_right, Answer, CallRecord, Rule, meets, all_hold, Profile, IsNative, ProfileAnswers, foreign, by_rule, by_default, rules_of, first_answer}
 use Rattle.scf_compile.proofs.Lists.{cases_of}
 
 module _ (default : Answer) (call : CallRecord) where

@@ -1,34 +1,5 @@
 -- The code of rules, and what is put before some code.
-use Rattle.std.proofs.Common.{◌≡◌, ◌⊎◌, ℕ, ◌+◌, ◌-◌, ◌*◌, ◌<◌, ◌≤◌, Bool, true, false, cond, leb, List, [], ◌∷◌, ◌++◌}
-use Rattle.std.proofs.Common.{drop, length, ap, ◌∙◌, arith, inl, inr, length-append, append_assoc, sum_by}
-use Rattle.std.proofs.Math.ListN.{length-drop}
-use Rattle.std.specs.Prelude.{IsTrue}
-use Rattle.std.specs.List.{AllByRecursion}
-use Rattle.std.proofs.lemmas.Bool.{cases_Bool}
-use Rattle.std.proofs.lemmas.List.Elements.{recursion_from_All}
-use Rattle.std.proofs.lemmas.List.Sums.{sum_by-cons}
-use Rattle.std.proofs.Math.Seq.{drop-append-add}
-use Rattle.scf_insn.specs.declared.insn.Insn.{Insn}
-use Rattle.scf_insn.specs.declared.answer.Answer.{Answer}
-use Rattle.scf_insn.specs.declared.record.CallRecord.{CallRecord}
-use Rattle.scf_insn.specs.declared.operation.Test.{Test}
-use Rattle.scf_insn.specs.declared.operation.Operation.TheVariants.{JumpIf}
-use Rattle.scf_insn.specs.declared.operation.Operand.TheVariants.{Constant}
-use Rattle.scf_insn.specs.Words.{words_of, IsRecord}
-use Rattle.scf_machine.specs.Machine.{holds as test_holds}
-use Rattle.scf_machine.specs.Plain.{IsPlainOperation}
-use Rattle.scf_profile.specs.declared.condition.Condition.{Condition}
-use Rattle.scf_profile.specs.declared.rule.Rule.{Rule}
-use Rattle.scf_profile.specs.PlainProfile.{IsPlainCondition, IsPlainRule}
-use Rattle.scf_profile.specs.Rule.{all_hold, IsCondition, IsRule}
-use Rattle.scf_compile.specs.declared.placing.Place.{Place}
-use Rattle.scf_compile.specs.SizeBound.{rule_bound}
-use Rattle.scf_compile.specs.internal.Insns.{jump_if, jump_over, return_with}
-use Rattle.scf_compile.specs.internal.Placing.{branch_code, code_from, IsNear, IsPut}
-use Rattle.scf_compile.specs.internal.Filters.{conditions_code, behind_rule, rules_code, ArePut}
-use Rattle.scf_compile.specs.internal.Runs.{EndsWithin}
-use Rattle.scf_compile.specs.internal.Sound.{AreSound}
-use Rattle.scf_compile.specs.internal.Stretches.{first_answer, rules_bound}
+use Rattle.scf_compile.proofs.Common.{◌≡◌, ◌⊎◌, ℕ, ◌+◌, ◌-◌, ◌*◌, ◌<◌, ◌≤◌, Bool, true, false, cond, leb, List, [], ◌∷◌, ◌++◌, drop, length, ap, ◌∙◌, arith, inl, inr, length-append, append_assoc, sum_by, length-drop, IsTrue, AllByRecursion, cases_Bool, recursion_from_All, sum_by-cons, drop-append-add, Insn, Answer, CallRecord, Test, JumpIf, Constant, words_of, IsRecord, test_holds, IsPlainOperation, Condition, Rule, IsPlainCondition, IsPlainRule, all_hold, IsCondition, IsRule, Place, rule_bound, jump_if, jump_over, return_with, branch_code, code_from, IsNear, IsPut, conditions_code, behind_rule, rules_code, ArePut, EndsWithin, AreSound, first_answer, rules_bound}
 use Rattle.scf_compile.proofs.Runs.{more, past, answers, jumps, passes, jump_sound, pass_sound, return_sound}
 use Rattle.scf_compile.proofs.Tests.{conditions_tests}
 

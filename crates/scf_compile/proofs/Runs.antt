@@ -1,30 +1,5 @@
 -- What each instruction does, and that it is sound.
-use Rattle.std.proofs.Common.{◌≡◌, ℕ, suc, ◌+◌, ◌*◌, ◌/◌, ◌%◌, ◌<◌, ◌≤◌, Bool, true, false}
-use Rattle.std.proofs.Common.{ltb, List, [], ◌∷◌, ◌++◌, length, map, drop, refl, subst, arith, bit_and}
-use Rattle.std.specs.Prelude.{slice_index, IsTrue}
-use Rattle.std.proofs.Common.{Some, get_or, inl, inr}
-use Rattle.std.proofs.Math.ListN.{length-drop}
-use Rattle.std.proofs.Math.Seq.{drop-append-add}
-use Rattle.std.proofs.lemmas.Bool.{cases_Bool, lt-ltb}
-use Rattle.std.proofs.lemmas.Grind.{common_steps}
-use Rattle.std.proofs.lemmas.Option.{gets, slice_get_within, slice_get_read}
-use Rattle.std.proofs.lemmas.List.{length-map}
-use Rattle.scf_insn.specs.declared.insn.Insn.{Insn}
-use Rattle.scf_insn.specs.declared.operation.Test.{Test}
-use Rattle.scf_insn.specs.declared.operation.Operand.TheVariants.{Constant}
-use Rattle.scf_insn.specs.declared.operation.Arithmetic.TheVariants.{And}
-use Rattle.scf_insn.specs.Codes.{operation_of}
-use Rattle.scf_insn.specs.declared.operation.Operation.{Operation}
-use Rattle.scf_insn.specs.declared.operation.Operation.TheVariants.{LoadWord, Compute, Jump, JumpIf, ReturnConstant}
-use Rattle.scf_insn.proofs.Codes.{asks_for}
-use Rattle.scf_machine.specs.Machine.{Goes, step, holds}
-use Rattle.scf_machine.specs.Parts.{IsPart, moved}
-use Rattle.scf_machine.specs.Plain.{IsPlainOperation}
-use Rattle.scf_machine.proofs.Chains.{run_behind, chain_of_part, answer_of_part}
-use Rattle.scf_machine.specs.Machine.{IsRunFrom}
-use Rattle.scf_compile.specs.internal.Insns.{load_word, and_with, jump_if, jump_over, return_with}
-use Rattle.scf_compile.specs.internal.Runs.{at, EndsWithin}
-use Rattle.scf_compile.specs.internal.Sound.{IsSound, Keeps}
+use Rattle.scf_compile.proofs.Common.{◌≡◌, ℕ, suc, ◌+◌, ◌*◌, ◌/◌, ◌%◌, ◌<◌, ◌≤◌, Bool, true, false, ltb, List, [], ◌∷◌, ◌++◌, length, map, drop, refl, subst, arith, bit_and, slice_index, IsTrue, Some, get_or, inl, inr, length-drop, drop-append-add, cases_Bool, lt-ltb, common_steps, gets, slice_get_within, slice_get_read, length-map, Insn, Test, Constant, And, operation_of, Operation, LoadWord, Compute, Jump, JumpIf, ReturnConstant, asks_for, Goes, step, holds, IsPart, moved, IsPlainOperation, run_behind, chain_of_part, answer_of_part, IsRunFrom, load_word, and_with, jump_if, jump_over, return_with, at, EndsWithin, IsSound, Keeps}
 
 pub more : {words : List ℕ} {code : List Insn} {a answer m most : ℕ} → EndsWithin words code a answer m → m ≤ most
     → EndsWithin words code a answer most

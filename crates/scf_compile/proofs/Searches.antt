@@ -1,33 +1,5 @@
 -- The search of stretches finds that of each number.
-use Rattle.std.proofs.Common.{◌≡◌, ℕ, zero, suc, ◌+◌, ◌-◌, ◌*◌, ◌^◌, ◌<◌, ◌≤◌}
-use Rattle.std.proofs.Common.{All, List, [], ◌∷◌, ◌++◌, length, get_or, take, drop, sym, ap, ◌∙◌, arith}
-use Rattle.std.proofs.Common.{length-append, append_assoc, sum_by}
-use Rattle.std.proofs.Math.ListN.{length-take, length-drop}
-use Rattle.std.proofs.lemmas.Bool.Decides.{nat_tests}
-use Rattle.std.proofs.lemmas.List.{take-append-drop}
-use Rattle.std.proofs.lemmas.List.Elements.{All-take, All-drop, recursion_from_All}
-use Rattle.std.proofs.lemmas.List.Sums.{sum_by-cons, sum_by-append}
-use Rattle.scf_insn.specs.declared.answer.Answer.{Answer}
-use Rattle.scf_insn.specs.declared.insn.Insn.{Insn}
-use Rattle.scf_insn.specs.declared.record.CallRecord.{CallRecord}
-use Rattle.scf_insn.specs.declared.operation.Test.{Test}
-use Rattle.scf_insn.specs.declared.operation.Test.TheVariants.{GreaterOrEqual}
-use Rattle.scf_insn.specs.declared.operation.Operation.TheVariants.{JumpIf}
-use Rattle.scf_insn.specs.declared.operation.Operand.TheVariants.{Constant}
-use Rattle.scf_insn.specs.Words.{words_of}
-use Rattle.scf_machine.specs.Plain.{IsPlainOperation}
-use Rattle.scf_profile.specs.declared.rule.Rule.{Rule}
-use Rattle.scf_profile.specs.ByNumber.{rules_at}
-use Rattle.scf_profile.specs.PlainProfile.{IsPlainRule}
-use Rattle.scf_profile.specs.Rule.{IsRule}
-use Rattle.scf_compile.specs.declared.placing.Place.{Place}
-use Rattle.scf_compile.specs.declared.stretches.Stretch.{Stretch}
-use Rattle.scf_compile.specs.SizeBound.{rule_bound}
-use Rattle.scf_compile.specs.internal.Insns.{jump_if}
-use Rattle.scf_compile.specs.internal.Placing.{branch_code, code_from, IsFirst, IsPut}
-use Rattle.scf_compile.specs.internal.Filters.{rules_code, ArePut, IsSearchPut}
-use Rattle.scf_compile.specs.internal.Runs.{EndsWithin}
-use Rattle.scf_compile.specs.internal.Stretches.{AllRules, AreServed, first_answer, stretch_bound}
+use Rattle.scf_compile.proofs.Common.{◌≡◌, ℕ, zero, suc, ◌+◌, ◌-◌, ◌*◌, ◌^◌, ◌<◌, ◌≤◌, All, List, [], ◌∷◌, ◌++◌, length, get_or, take, drop, sym, ap, ◌∙◌, arith, length-append, append_assoc, sum_by, length-take, length-drop, nat_tests, take-append-drop, All-take, All-drop, recursion_from_All, sum_by-cons, sum_by-append, Answer, Insn, CallRecord, Test, GreaterOrEqual, JumpIf, Constant, words_of, IsPlainOperation, Rule, rules_at, IsPlainRule, IsRule, Place, Stretch, rule_bound, jump_if, branch_code, code_from, IsFirst, IsPut, rules_code, ArePut, IsSearchPut, EndsWithin, AllRules, AreServed, first_answer, stretch_bound}
 use Rattle.scf_compile.proofs.Laying.{served_parts}
 use Rattle.scf_compile.proofs.Runs.{more}
 use Rattle.scf_compile.proofs.RuleCode.{rules_answer, rules_bounded, branch_ends, branch_sound, branch_few}

@@ -1,32 +1,7 @@
 -- How long the code of a filter is.
-use Rattle.std.proofs.Common.{◌≡◌, ℕ, ◌+◌, ◌<◌, ◌≤◌, ◌⊎◌, Bool, true, false, not, cond, eqb, Bor, List}
-use Rattle.std.proofs.Common.{[], ◌∷◌, ◌++◌, length, map, get_or, take, drop, refl, sym, ap, ◌∙◌}
-use Rattle.std.proofs.Common.{arith, inl, inr, length-append, sum_by}
-use Rattle.std.specs.Prelude.{Contains}
-use Rattle.std.specs.List.{AllByRecursion, IsDistinct, list_any}
-use Rattle.std.proofs.lemmas.Bool.{cases_Bool, cases_eq, ne_eqb, not_from_false}
-use Rattle.std.proofs.Common.{◌≢◌}
-use Rattle.std.proofs.lemmas.List.Elements.{All-from_recursion, All-map, Contains-append_right, recursion_from_All}
-use Rattle.std.proofs.lemmas.List.{drop_more, length-map, take_more}
-use Rattle.std.proofs.lemmas.List.Sums.{sum_by-cons, sum_by-append}
-use Rattle.std.proofs.lemmas.Map.Steps.{length-le_from_distinct_below}
-use Rattle.scf_insn.specs.declared.answer.Answer.{Answer}
-use Rattle.scf_insn.specs.declared.insn.Insn.{Insn}
-use Rattle.scf_insn.specs.Masks.{mask_kind}
-use Rattle.scf_insn.specs.Words.{low, high}
-use Rattle.scf_profile.specs.declared.condition.Condition.{Condition}
-use Rattle.scf_profile.specs.declared.rule.Rule.{Rule}
-use Rattle.scf_profile.specs.ByNumber.{rules_at}
-use Rattle.scf_profile.specs.Rule.{IsCondition, AreConditions, HaveDistinctIndices}
-use Rattle.scf_profile.specs.RulesByNumber.{numbers_of, rules_of}
-use Rattle.scf_insn.specs.declared.mask.MaskKind.{MaskKind}
-use Rattle.scf_insn.specs.declared.mask.MaskKind.TheVariants.{Empty, OneBit, Full, Mixed}
-use Rattle.scf_compile.specs.SizeBound.{rule_bound}
-use Rattle.scf_compile.specs.internal.Blocks.{half_code_of, half_code}
-use Rattle.scf_compile.specs.internal.Blocks.{masked_code, condition_code}
-use Rattle.scf_compile.specs.internal.Filters.{conditions_code, rule_code, behind_rule, rules_code}
+use Rattle.scf_compile.proofs.Common.{◌≡◌, ℕ, ◌+◌, ◌<◌, ◌≤◌, ◌⊎◌, Bool, true, false, not, cond, eqb, Bor, List, [], ◌∷◌, ◌++◌, length, map, get_or, take, drop, refl, sym, ap, ◌∙◌, arith, inl, inr, length-append, sum_by, Contains, AllByRecursion, list_any, cases_Bool, cases_eq, ne_eqb, not_from_false, ◌≢◌, All-from_recursion, All-map, Contains-append_right, recursion_from_All, drop_more, length-map, take_more, sum_by-cons, sum_by-append, length-le_from_distinct_below, Answer, Insn, mask_kind, low, high, Condition, Rule, rules_at, IsCondition, AreConditions, HaveDistinctIndices, numbers_of, rules_of, MaskKind, Empty, OneBit, Full, Mixed, rule_bound, half_code_of, half_code, masked_code, condition_code, conditions_code, rule_code, behind_rule, rules_code, contains_filtered, numbers_of-push, has_number}
+use Rattle.std.specs.List.{IsDistinct}
 use Rattle.scf_compile.proofs.Lists.{next_at}
-use Rattle.scf_profile.proofs.Numbers.{contains_filtered, numbers_of-push, has_number}
 
 -- ---- conditions
 

@@ -1,42 +1,7 @@
 -- The code of a condition: how long it is, that it is sound, and how it goes on.
-use Rattle.std.proofs.Common.{◌≡◌, ℕ, ◌+◌, ◌*◌, ◌<◌, ◌≤◌, ◌^◌, Bool, true, false, cond, eqb, ltb, leb, not, List, []}
-use Rattle.std.proofs.Common.{◌∷◌}
-use Rattle.std.proofs.Common.{◌++◌, drop, length, refl, sym, ap, ◌∙◌, arith, append_assoc, bit_and, length-append}
-use Rattle.std.specs.Prelude.{slice_index, IsTrue}
-use Rattle.std.specs.List.{AllByRecursion}
-use Rattle.std.proofs.lemmas.Bool.{eqb-true, eqb-false}
-use Rattle.std.proofs.lemmas.Bool.Decides.{nat_tests}
-use Rattle.std.proofs.lemmas.Nat.{and_shr, and_mod, and_assoc}
-use Rattle.std.specs.Int.Bits.{and_self}
-use Rattle.scf_insn.specs.declared.insn.Insn.{Insn}
-use Rattle.scf_insn.specs.declared.record.CallRecord.{CallRecord}
-use Rattle.scf_insn.specs.declared.operation.Test.{Test}
-use Rattle.scf_insn.specs.declared.operation.Test.TheVariants.{Equal as SameWord, Greater as Above}
-use Rattle.scf_insn.specs.declared.operation.Test.TheVariants.{GreaterOrEqual as AtLeast, CommonBit}
-use Rattle.scf_insn.specs.declared.operation.Operation.TheVariants.{JumpIf}
-use Rattle.scf_insn.specs.declared.operation.Operand.TheVariants.{Constant}
-use Rattle.scf_insn.specs.declared.mask.MaskKind.{MaskKind}
-use Rattle.scf_insn.specs.declared.mask.MaskKind.TheVariants.{Empty, OneBit, Full, Mixed}
-use Rattle.scf_insn.specs.Masks.{mask_kind}
-use Rattle.scf_insn.specs.SimpleMask.{IsSimpleMask}
-use Rattle.scf_insn.specs.Words.{low, high, words_of, argument, IsRecord}
-use Rattle.scf_insn.proofs.Halves.{eqb_split, ltb_split, leb_split, masked_split, argument_low, argument_high}
-use Rattle.scf_insn.proofs.Masks.{IsOfKind, is_of_kind}
-use Rattle.scf_machine.specs.Machine.{holds as test_holds}
-use Rattle.scf_machine.specs.Plain.{IsPlainOperation}
-use Rattle.scf_profile.specs.declared.condition.Operator.{Operator}
-use Rattle.scf_profile.specs.declared.condition.Operator.TheVariants.{NotEqual, Less, LessOrEqual, Equal}
-use Rattle.scf_profile.specs.declared.condition.Operator.TheVariants.{GreaterOrEqual, Greater, MaskedEqual}
-use Rattle.scf_profile.specs.declared.condition.Condition.{Condition}
-use Rattle.scf_profile.specs.Condition.{compares}
-use Rattle.scf_profile.specs.PlainProfile.{IsPlainCondition}
-use Rattle.scf_profile.specs.Rule.{all_hold, IsCondition}
-use Rattle.scf_compile.specs.internal.Insns.{jump_if}
-use Rattle.scf_compile.specs.internal.Blocks.{word_code, equal_code, order_code, half_code_of, half_code}
-use Rattle.scf_compile.specs.internal.Blocks.{masked_code, operator_code, argument_word}
-use Rattle.scf_compile.specs.internal.Filters.{conditions_code}
-use Rattle.scf_compile.specs.internal.Runs.{EndsWithin}
-use Rattle.scf_compile.specs.internal.Sound.{AreSound}
+use Rattle.scf_compile.proofs.Common.{◌≡◌, ℕ, ◌+◌, ◌*◌, ◌<◌, ◌≤◌, ◌^◌, Bool, true, false, cond, eqb, ltb, leb, not, List, [], ◌∷◌, ◌++◌, drop, length, refl, sym, ap, ◌∙◌, arith, append_assoc, bit_and, length-append, slice_index, IsTrue, AllByRecursion, eqb-true, eqb-false, nat_tests, and_shr, and_mod, and_assoc, and_self, Insn, CallRecord, Test, SameWord, Above, AtLeast, CommonBit, JumpIf, Constant, MaskKind, Empty, OneBit, Full, Mixed, mask_kind, IsSimpleMask, low, high, words_of, argument, IsRecord, eqb_split, ltb_split, leb_split, masked_split, argument_low, argument_high, IsOfKind, is_of_kind, test_holds, IsPlainOperation, Operator, NotEqual, Less, LessOrEqual, Greater, MaskedEqual, Condition, compares, IsPlainCondition, all_hold, IsCondition, jump_if, word_code, equal_code, order_code, half_code_of, half_code, masked_code, operator_code, argument_word, conditions_code, EndsWithin, AreSound}
+use Rattle.scf_profile.specs.declared.condition.Operator.TheVariants.{Equal}
+use Rattle.scf_profile.specs.declared.condition.Operator.TheVariants.{GreaterOrEqual}
 use Rattle.scf_compile.proofs.Masks.{under_empty, under_full, wanted_of_power}
 use Rattle.scf_compile.proofs.Runs.{more, past, loads, masks, jumps, load_sound, mask_sound, jump_sound}
 

@@ -1,25 +1,5 @@
 -- The code of a filter keeps the rules of the checker, and answers within its bounds.
-use Rattle.std.proofs.Common.{◌≡◌, ℕ, zero, suc, ◌+◌, ◌-◌, ◌<◌, ◌≤◌, true, false, List, [], ◌∷◌}
-use Rattle.std.proofs.Common.{length, refl, sym, ap, ◌∙◌, arith}
-use Rattle.std.specs.List.{AllByRecursion}
-use Rattle.std.proofs.lemmas.List.Elements.{All-from_recursion}
-use Rattle.std.proofs.lemmas.Option.{same_Some}
-use Rattle.scf_insn.specs.declared.insn.Insn.{Insn}
-use Rattle.scf_insn.specs.declared.operation.Operation.{Operation}
-use Rattle.scf_insn.specs.declared.operation.Operation.TheVariants.{LoadScratch}
-use Rattle.scf_insn.specs.Codes.{operation_of}
-use Rattle.scf_insn.specs.Kernel.{bpf_maxinsns}
-use Rattle.scf_machine.specs.Machine.{RunAnswers}
-use Rattle.scf_machine.specs.Plain.{IsPlainInsn, IsPlainProgram}
-use Rattle.scf_machine.specs.Rules.{Stands, IsFine, IsFineAt, IsReturn, IsValidList, KeepsScratchRule}
-use Rattle.scf_machine.proofs.Meets.{run_once}
-use Rattle.scf_insn.specs.Words.{words_of}
-use Rattle.scf_profile.specs.Profile.{Profile}
-use Rattle.scf_profile.specs.PlainProfile.{IsPlainProfile}
-use Rattle.scf_profile.specs.SameAnswers.{SameAnswers}
-use Rattle.scf_compile.specs.SearchBound.{AnswersWithin, search_bound_of}
-use Rattle.scf_compile.specs.internal.Filters.{IsFilterOf}
-use Rattle.scf_compile.specs.internal.Sound.{Keeps, AreSound}
+use Rattle.scf_compile.proofs.Common.{◌≡◌, ℕ, zero, suc, ◌+◌, ◌-◌, ◌<◌, ◌≤◌, true, false, List, [], ◌∷◌, length, refl, sym, ap, ◌∙◌, arith, AllByRecursion, All-from_recursion, same_Some, Insn, Operation, LoadScratch, operation_of, bpf_maxinsns, RunAnswers, IsPlainInsn, IsPlainProgram, Stands, IsFine, IsFineAt, IsReturn, IsValidList, KeepsScratchRule, run_once, words_of, Profile, IsPlainProfile, SameAnswers, AnswersWithin, search_bound_of, IsFilterOf, Keeps, AreSound}
 
 -- ---- the rules of the checker
 

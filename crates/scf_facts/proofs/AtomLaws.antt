@@ -1,12 +1,5 @@
 -- What is learned at a level, as facts are learned and marks are opened and closed.
-use Rattle.std.proofs.Common.{◌≡◌, ℕ, ◌≤◌, ◌<◌, ◌↔◌, List, [], ◌∷◌, ◌++◌, length, take, refl, ◌∙◌, ap}
-use Rattle.std.proofs.Common.{arith, length-append}
-use Rattle.std.specs.Prelude.{Some}
-use Rattle.std.proofs.lemmas.List.{take-append-le, take-take, length-take-le, take_all, get_or_past, get_or_default}
-use Rattle.std.proofs.lemmas.List.Elements.{All-push, All-pop}
-use Rattle.scf_facts.specs.declared.fact.Fact.{Fact}
-use Rattle.scf_facts.specs.internal.Counts.{count_at, AreRising}
-use Rattle.scf_facts.specs.internal.Learned.{IsFactOfWords, AllowsByFacts, learned_at}
+use Rattle.scf_facts.proofs.Common.{◌≡◌, ℕ, ◌≤◌, ◌<◌, ◌↔◌, List, [], ◌∷◌, ◌++◌, length, take, refl, ◌∙◌, ap, arith, length-append, Some, take-append-le, take-take, length-take-le, take_all, get_or_past, get_or_default, All-push, All-pop, Fact, count_at, AreRising, IsFactOfWords, AllowsByFacts, learned_at}
 use Rattle.scf_facts.proofs.CountLaws.{count_opened, count_closed, count_within, count_newest, rising_closed}
 
 -- past the last mark all the facts are learned

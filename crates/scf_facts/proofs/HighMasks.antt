@@ -1,10 +1,5 @@
 -- Masks of all bits from one on.
-use Rattle.std.proofs.Common.{◌≡◌, ℕ, ◌+◌, ◌-◌, ◌*◌, ◌/◌, ◌<◌, ◌≤◌, ◌^◌, ◌↔◌, true, eqb, sym, ap, ◌∙◌, arith, bit_and}
-use Rattle.std.proofs.lemmas.Bool.{eq-eqb, eqb-true}
-use Rattle.std.proofs.lemmas.Nat.{and_le_r, pow_pos, shr_split}
-use Rattle.std.proofs.lemmas.Nat.Bits.{and_high_mask}
-use Rattle.std.proofs.Math.Nat.{add-mul, div-lt_iff_lt-mul, le-div_iff_mul-le, mod-lt}
-use Rattle.std.proofs.Math.Pow.{pow_mono}
+use Rattle.scf_facts.proofs.Common.{◌≡◌, ℕ, ◌+◌, ◌-◌, ◌*◌, ◌/◌, ◌<◌, ◌≤◌, ◌^◌, ◌↔◌, true, eqb, sym, ap, ◌∙◌, arith, bit_and, eq-eqb, eqb-true, and_le_r, pow_pos, shr_split, and_high_mask, add-mul, div-lt_iff_lt-mul, le-div_iff_mul-le, mod-lt, pow_mono}
 
 pub one_more : (q d : ℕ) → (q + 1) * d ≡ q * d + d
 one_more q d = add-mul q 1 d ∙ (let once : q * d + 1 * d ≡ q * d + d = omega arith in once)

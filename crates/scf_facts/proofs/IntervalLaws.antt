@@ -1,11 +1,5 @@
 -- Laws of intervals and their parts.
-use Rattle.std.proofs.Common.{◌≡◌, ◌⊎◌, inl, inr, ℕ, zero, suc, refl, sym, ◌+◌, ◌<◌, ◌≤◌, ◌↔◌, List, [], ◌∷◌, ◌++◌, get_or, length, arith}
-use Rattle.std.specs.Prelude.{All, IfSome, IfNone, Option, Some, None, nat_le, nat_lt, min, max, slice_get}
-use Rattle.std.specs.List.{filter_map, cons_option, AllWithin}
-use Rattle.std.proofs.lemmas.Bool.{leb-true, leb-false, ltb-true, ltb-false, cond_both}
-use Rattle.scf_facts.specs.declared.interval.Interval.{Interval}
-use Rattle.scf_facts.specs.internal.Intervals.{LiesIn, LiesOutside, LiesInOne, AreApartFrom, AreApart, ArePartsOf}
-use Rattle.scf_facts.specs.internal.Intervals.{part_within, part_below, part_above}
+use Rattle.scf_facts.proofs.Common.{◌≡◌, ◌⊎◌, inl, inr, ℕ, zero, suc, refl, sym, ◌+◌, ◌<◌, ◌≤◌, ◌↔◌, List, [], ◌∷◌, ◌++◌, get_or, length, arith, All, IfSome, IfNone, Option, Some, None, nat_le, nat_lt, min, max, slice_get, filter_map, cons_option, AllWithin, leb-true, leb-false, ltb-true, ltb-false, cond_both, Interval, LiesIn, LiesOutside, LiesInOne, AreApartFrom, AreApart, ArePartsOf, part_within, part_below, part_above}
 
 -- ---- one list after another
 

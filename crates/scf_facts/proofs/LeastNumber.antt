@@ -1,14 +1,6 @@
 -- Numbers that share a wrong bit.
-use Rattle.std.proofs.Common.{◌≡◌, ◌≢◌, inl, inr, ℕ, suc, ◌-◌, ◌*◌, ◌/◌, ◌%◌, ◌<◌, ◌≤◌, ◌^◌, sym, ap, subst}
-use Rattle.std.proofs.Common.{arith}
-use Rattle.std.specs.Prelude.{bit_and, bit_xor}
-use Rattle.std.specs.Int.{bit_at}
-use Rattle.std.specs.Int.Count.{count_leading_zeros}
-use Rattle.std.proofs.lemmas.Nat.{le-div, div_below, leading_top}
+use Rattle.scf_facts.proofs.Common.{◌≡◌, ◌≢◌, inl, inr, ℕ, suc, ◌-◌, ◌*◌, ◌/◌, ◌%◌, ◌<◌, ◌≤◌, ◌^◌, sym, ap, subst, arith, bit_and, bit_xor, bit_at, count_leading_zeros, le-div, div_below, leading_top, pow_pos, cases_lt, pow-succ'}
 use Rattle.scf_facts.proofs.MaskLaws.{each_bit}
-use Rattle.std.proofs.lemmas.Nat.{pow_pos}
-use Rattle.std.proofs.lemmas.Bool.{cases_lt}
-use Rattle.std.proofs.Math.Nat.{pow-succ'}
 
 -- a number whose bits from a place on are those of x has the same wrong bit there
 pub mismatch : (x y known value place : ℕ)

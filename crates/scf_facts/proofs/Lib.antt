@@ -1,4 +1,5 @@
 pub mod AtomLaws
+pub mod Common
 pub mod CountLaws
 pub mod HighMasks
 pub mod IntervalLaws

@@ -1,11 +1,5 @@
 -- The lowest bit of a mask.
-use Rattle.std.proofs.Common.{◌≡◌, ℕ, ◌*◌, ◌-◌, ◌%◌, ◌<◌, ◌^◌, ◌∙◌, ap, sym, arith}
-use Rattle.std.specs.Prelude.{bit_and}
-use Rattle.std.specs.Int.{w32, IsPowerOfTwo}
-use Rattle.std.specs.Int.Count.{count_trailing_zeros}
-use Rattle.std.proofs.lemmas.Nat.{one_shl, pow_pos, and_assoc}
-use Rattle.std.proofs.lemmas.Nat.Bits.{and_pow, bit_at-trailing_zeros, ones_shl}
-use Rattle.scf_facts.specs.HighMask.{IsHighMask}
+use Rattle.scf_facts.proofs.Common.{◌≡◌, ℕ, ◌*◌, ◌-◌, ◌%◌, ◌<◌, ◌^◌, ◌∙◌, ap, sym, arith, bit_and, w32, IsPowerOfTwo, count_trailing_zeros, one_shl, pow_pos, and_assoc, and_pow, bit_at-trailing_zeros, ones_shl, IsHighMask}
 use Rattle.scf_facts.proofs.MaskLaws.{and_twice}
 
 pub lowest_power : (m : ℕ) → 0 < m → m < 2 ^ 32 → IsPowerOfTwo (1 * 2 ^ count_trailing_zeros 32 m % 2 ^ 32)

@@ -1,14 +1,5 @@
 -- Laws of numbers under masks.
-use Rattle.std.proofs.Common.{◌≡◌, ◌≢◌, ◌⊎◌, inl, inr, ℕ, ◌+◌, ◌*◌, ◌<◌, ◌^◌, ◌↔◌, refl, sym}
-use Rattle.std.proofs.Common.{ap, ◌∙◌, arith}
-use Rattle.std.specs.Prelude.{bit_and, bit_or, bit_xor, count_ones, Bool, true, false, IsTrue}
-use Rattle.std.specs.Int.{bit_at, IsPowerOfTwo, is_power_of_two}
-use Rattle.scf_facts.specs.internal.Bits.{SomeLack}
-use Rattle.std.proofs.lemmas.Bool.{cases_eq, eqb-true, eqb-false}
-use Rattle.std.proofs.lemmas.Nat.{and_comm, or_disjoint, pow_pos, xor_lt}
-use Rattle.scf_insn.proofs.Masks.{power_from_one_bit, one_bit_of_power}
-use Rattle.std.proofs.lemmas.Nat.Bits.{bit_at_and, bit_at_or, bit_at_xor, bit_at-lt, bit_at-zero, and_pow}
-use Rattle.std.proofs.lemmas.Nat.Bits.{same_from_bits}
+use Rattle.scf_facts.proofs.Common.{◌≡◌, ◌≢◌, ◌⊎◌, inl, inr, ℕ, ◌+◌, ◌*◌, ◌<◌, ◌^◌, ◌↔◌, refl, sym, ap, ◌∙◌, arith, bit_and, bit_or, bit_xor, count_ones, Bool, true, false, IsTrue, bit_at, IsPowerOfTwo, is_power_of_two, SomeLack, cases_eq, eqb-true, eqb-false, and_comm, or_disjoint, pow_pos, xor_lt, power_from_one_bit, one_bit_of_power, bit_at_and, bit_at_or, bit_at_xor, bit_at-lt, bit_at-zero, and_pow, same_from_bits}
 
 -- what is said of each bit of a number that is made of others
 pub ruleset each_bit = (bit_at_and, bit_at_or, bit_at_xor, bit_at-lt, bit_at-zero)

@@ -1,17 +1,5 @@
 -- What is known, with pairs or without.
-use Rattle.std.proofs.Common.{◌≡◌, ◌∷◌, ℕ, List, [], length, arith, refl}
-use Rattle.std.specs.Prelude.{All, Bool, true, false, IsTrue, ◌==◌, if◌then◌else◌}
-use Rattle.std.specs.List.{list_all}
-use Rattle.std.proofs.lemmas.Bool.{and_parts, both_ways}
-use Rattle.std.proofs.lemmas.Bool.Decides.{nat_tests}
-use Rattle.scf_facts.specs.declared.atom.Atom.{Atom}
-use Rattle.scf_facts.specs.declared.atom.Tell.{Tell}
-use Rattle.scf_facts.specs.declared.atom.Tell.TheVariants.{Always, Never, Maybe}
-use Rattle.scf_facts.specs.declared.atom_pair.AtomPair.{AtomPair}
-use Rattle.scf_facts.specs.Atoms.{atom_answer}
-use Rattle.scf_facts.specs.internal.AtomPairs.{NotBothTrue}
-use Rattle.scf_facts.specs.internal.WordSets.{NumberFacts, AllowsWords, AllowsList, is_exact_set}
-use Rattle.scf_facts.specs.internal.WordSets.{is_exact_known, known_of}
+use Rattle.scf_facts.proofs.Common.{◌≡◌, ◌∷◌, ℕ, List, [], length, arith, refl, All, Bool, true, false, IsTrue, ◌==◌, if◌then◌else◌, list_all, and_parts, both_ways, nat_tests, Atom, Tell, Always, Never, Maybe, AtomPair, atom_answer, NotBothTrue, NumberFacts, AllowsWords, AllowsList, is_exact_set, is_exact_known, known_of}
 
 none_of : (pairs : List AtomPair) → IsTrue (length pairs == 0)
     → (words : List ℕ) → All (λ pair. NotBothTrue pair.first pair.second words) pairs

@@ -1,15 +1,5 @@
 -- What a change of the facts of a word leaves.
-use Rattle.std.proofs.Common.{◌≡◌, ℕ, ◌<◌, ◌^◌, ◌↔◌, [], ◌∷◌, ◌++◌, sym, ap}
-use Rattle.std.proofs.Common.{◌∙◌, arith}
-use Rattle.std.specs.Prelude.{Bool, true, false, Some, bit_and}
-use Rattle.std.specs.Int.Bits.{and_zero_r}
-use Rattle.std.proofs.lemmas.Bool.{false_from_ne_true, true_from_ne_false}
-use Rattle.std.proofs.lemmas.List.Elements.{All-push, All-pop}
-use Rattle.scf_facts.specs.declared.bits.Bits.{Bits}
-use Rattle.scf_facts.specs.declared.interval.Interval.{Interval}
-use Rattle.scf_facts.specs.internal.Intervals.{LiesIn, LiesOutside, ArePartsOf}
-use Rattle.scf_facts.specs.internal.WordSets.{NumberFacts, AllowsNumber, SomeNumber}
-use Rattle.scf_facts.specs.internal.Bits.{HasBits, LacksBits}
+use Rattle.scf_facts.proofs.Common.{◌≡◌, ℕ, ◌<◌, ◌^◌, ◌↔◌, [], ◌∷◌, ◌++◌, sym, ap, ◌∙◌, arith, Bool, true, false, Some, bit_and, and_zero_r, false_from_ne_true, true_from_ne_false, All-push, All-pop, Bits, Interval, LiesIn, LiesOutside, ArePartsOf, NumberFacts, AllowsNumber, SomeNumber, HasBits, LacksBits}
 
 -- other intervals
 pub allows_cut : (s new : NumberFacts) (P : ℕ → Type 0) (x : ℕ) → new.known ≡ s.known → new.refuted ≡ s.refuted

@@ -1,19 +1,5 @@
 -- What facts of each word say of lists of words.
-use Rattle.std.proofs.Common.{◌≡◌, ◌≢◌, inl, inr, ℕ, zero, suc, ◌<◌, ◌^◌, ◌↔◌, List, [], ◌∷◌, refl, sym}
-use Rattle.std.proofs.Common.{ap, subst, ◌∙◌, arith, length, get_or}
-use Rattle.std.specs.Prelude.{All, Bool, IsTrue, slice_index, slice_set, replicate}
-use Rattle.std.specs.List.{list_all, AllByRecursion}
-use Rattle.std.specs.Int.Bits.{and_zero_r}
-use Rattle.std.proofs.lemmas.Bool.{cases_eq}
-use Rattle.std.proofs.lemmas.List.{get_or-set_same, get_or-set_other, get_or_read, get_or-replicate, length-set}
-use Rattle.std.proofs.lemmas.List.{length-replicate}
-use Rattle.std.proofs.lemmas.List.Elements.{All-set}
-use Rattle.std.proofs.lemmas.List.Sums.{AllPass-from_list_all, list_all-from_AllPass}
-use Rattle.scf_insn.specs.Words.{IsWords}
-use Rattle.scf_facts.specs.declared.atom.Atom.{Atom}
-use Rattle.scf_facts.specs.Atoms.{answer_at, atom_answer, word_of}
-use Rattle.scf_facts.specs.internal.WordSets.{NumberFacts, AllowsNumber, EachNumber, SomeNumber, AllowsWords}
-use Rattle.scf_facts.specs.internal.WordSets.{no_facts, is_exact_set}
+use Rattle.scf_facts.proofs.Common.{◌≡◌, ◌≢◌, inl, inr, ℕ, zero, suc, ◌<◌, ◌^◌, ◌↔◌, List, [], ◌∷◌, refl, sym, ap, subst, ◌∙◌, arith, length, get_or, All, Bool, IsTrue, slice_index, slice_set, replicate, list_all, AllByRecursion, and_zero_r, cases_eq, get_or-set_same, get_or-set_other, get_or_read, get_or-replicate, length-set, length-replicate, All-set, AllPass-from_list_all, list_all-from_AllPass, IsWords, Atom, answer_at, atom_answer, word_of, NumberFacts, AllowsNumber, EachNumber, SomeNumber, AllowsWords, no_facts, is_exact_set}
 
 -- each of the words is a number of 32 bits
 fits_at : (words : List ℕ) → AllByRecursion (λ word. word < 2 ^ 32) words → (k : ℕ) → slice_index words k < 2 ^ 32

@@ -1,24 +1,5 @@
 -- What was known at a level, as more is learned and marks are opened and closed.
-use Rattle.std.proofs.Common.{◌≡◌, ◌^◌, ℕ, ◌≤◌, ◌<◌, ◌↔◌, List, [], ◌∷◌, ◌++◌, length, take, drop, refl, sym, ◌∙◌, ap}
-use Rattle.std.proofs.Common.{subst, arith, length-append, ◌-◌}
-use Rattle.std.specs.Prelude.{Bool, IsTrue, Some, slice_set, slice_index, slice_index_or}
-use Rattle.std.specs.Prelude.{◌==◌}
-use Rattle.std.specs.List.{list_all}
-use Rattle.std.proofs.lemmas.List.{set-set, set-get_or, get_or-set_same, get_or_default, get_or_past, drop-append-le}
-use Rattle.std.proofs.lemmas.Bool.{and_parts, and_from}
-use Rattle.std.proofs.lemmas.List.{length-set, length-take-le, take-append-drop, drop_all}
-use Rattle.std.proofs.lemmas.List.Elements.{All-push, All-pop}
-use Rattle.scf_facts.specs.declared.atom.Atom.{Atom}
-use Rattle.scf_facts.specs.declared.atom_pair.AtomPair.{AtomPair}
-use Rattle.scf_facts.specs.declared.trail.Change.{Change}
-use Rattle.scf_facts.specs.declared.trail.Change.TheVariants.{OfWord}
-use Rattle.scf_facts.specs.declared.trail.WordChange.{WordChange}
-use Rattle.scf_facts.specs.Atoms.{answer_at, atom_answer, word_of}
-use Rattle.scf_facts.specs.internal.Counts.{count_at, AreRising}
-use Rattle.scf_facts.specs.internal.Trail.{facts_before, known_before, restored, known_at, Covers, HasIntervals}
-use Rattle.scf_facts.specs.internal.WordSets.{NumberFacts, AllowsNumber, AllowsWords, is_exact_set, no_facts}
-use Rattle.scf_facts.specs.internal.WordSets.{AllFacts, AllowsList, is_exact_known, known_of}
-use Rattle.scf_facts.specs.internal.AtomPairs.{NotBothTrue}
+use Rattle.scf_facts.proofs.Common.{◌≡◌, ◌^◌, ℕ, ◌≤◌, ◌<◌, ◌↔◌, List, [], ◌∷◌, ◌++◌, length, take, drop, refl, sym, ◌∙◌, ap, subst, arith, length-append, ◌-◌, Bool, IsTrue, Some, slice_set, slice_index, slice_index_or, ◌==◌, list_all, set-set, set-get_or, get_or-set_same, get_or_default, get_or_past, drop-append-le, and_parts, and_from, length-set, length-take-le, take-append-drop, drop_all, All-push, All-pop, Atom, AtomPair, Change, OfWord, WordChange, answer_at, atom_answer, word_of, count_at, AreRising, facts_before, known_before, restored, known_at, Covers, HasIntervals, NumberFacts, AllowsNumber, AllowsWords, is_exact_set, no_facts, AllFacts, AllowsList, is_exact_known, known_of, NotBothTrue}
 use Rattle.scf_facts.proofs.StoreLaws.{allows_set, exact_set}
 use Rattle.scf_facts.proofs.CountLaws.{count_opened, count_closed, count_within, count_newest, rising_closed}
 

@@ -1,11 +1,5 @@
 -- Bytes are those of one list of instructions.
-use Rattle.std.proofs.Common.{◌≡◌, ℕ, zero, suc, ◌*◌, ◌<◌, ◌++◌, List, [], ◌∷◌, take, drop, length, get_or, ap}
-use Rattle.std.proofs.Common.{sym, refl, ◌∙◌, arith}
-use Rattle.std.specs.List.{AllByRecursion}
-use Rattle.std.specs.Int.{w16, w32, to_le_bytes, from_le_bytes}
-use Rattle.std.proofs.lemmas.Nat.{from_le_bytes-to_le_bytes_2, from_le_bytes-to_le_bytes_4, le_bytes_2, le_bytes_4}
-use Rattle.scf_insn.specs.declared.insn.Insn.{Insn}
-use Rattle.scf_insn.specs.Insn.{IsInsn, insn_bytes, program_bytes}
+use Rattle.scf_insn.proofs.Common.{◌≡◌, ℕ, zero, suc, ◌*◌, ◌<◌, ◌++◌, List, [], ◌∷◌, take, drop, length, get_or, ap, sym, refl, ◌∙◌, arith, AllByRecursion, w16, w32, to_le_bytes, from_le_bytes, from_le_bytes-to_le_bytes_2, from_le_bytes-to_le_bytes_4, le_bytes_2, le_bytes_4, Insn, IsInsn, insn_bytes, program_bytes}
 
 -- the instruction in front of bytes
 abbrev insn_in : List ℕ → Insn

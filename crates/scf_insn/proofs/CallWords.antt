@@ -1,10 +1,5 @@
 -- A record and its sixteen words.
-use Rattle.std.proofs.Common.{◌≡◌, ℕ, ◌+◌, ◌*◌, ◌<◌, ◌^◌, List, [], ◌∷◌, ◌++◌, length, zero, suc, lit<, refl, arith}
-use Rattle.std.specs.Prelude.{slice_index}
-use Rattle.std.specs.List.{flat_map, AllByRecursion}
-use Rattle.scf_insn.specs.declared.record.CallRecord.{CallRecord}
-use Rattle.scf_insn.specs.Kernel.{seccomp_data_args}
-use Rattle.scf_insn.specs.Words.{IsRecord, IsWords, low, high, halves, words_of, number_at, call_of}
+use Rattle.scf_insn.proofs.Common.{◌≡◌, ℕ, ◌+◌, ◌*◌, ◌<◌, ◌^◌, List, [], ◌∷◌, ◌++◌, length, zero, suc, lit<, refl, arith, slice_index, flat_map, AllByRecursion, CallRecord, seccomp_data_args, IsRecord, IsWords, low, high, halves, words_of, number_at, call_of}
 
 low_joined : (a b : ℕ) → a < 2 ^ 32 → low (a + 2 ^ 32 * b) ≡ a
 low_joined a b h = omega arith

@@ -1,20 +1,5 @@
 -- Codes and operations.
-use Rattle.std.proofs.Common.{◌≡◌, ℕ, ◌∙◌, eqb, inl, inr, List, [], ◌∷◌, map, Some, refl, sym, ap}
-use Rattle.std.specs.Map.{lookup}
-use Rattle.std.proofs.lemmas.Bool.{cases_eq, eq-eqb, ne_eqb}
-use Rattle.scf_insn.specs.declared.operation.Register.TheVariants.{A, X}
-use Rattle.scf_insn.specs.declared.operation.Operand.{Operand}
-use Rattle.scf_insn.specs.declared.operation.Operand.TheVariants.{Constant, Index}
-use Rattle.scf_insn.specs.declared.operation.Arithmetic.{Arithmetic}
-use Rattle.scf_insn.specs.declared.operation.Arithmetic.TheVariants.{Add, Sub, Mul, Div, Or, And, Lsh, Rsh, Xor}
-use Rattle.scf_insn.specs.declared.operation.Test.{Test}
-use Rattle.scf_insn.specs.declared.operation.Test.TheVariants.{Equal, Greater, GreaterOrEqual, CommonBit}
-use Rattle.scf_insn.specs.declared.operation.Operation.{Operation}
-use Rattle.scf_insn.specs.declared.operation.Operation.TheVariants.{LoadWord, LoadLength, LoadConstant, LoadScratch}
-use Rattle.scf_insn.specs.declared.operation.Operation.TheVariants.{StoreScratch, Compute, Negate, Jump, JumpIf}
-use Rattle.scf_insn.specs.declared.operation.Operation.TheVariants.{ReturnConstant, ReturnAccumulator, CopyToIndex}
-use Rattle.scf_insn.specs.declared.operation.Operation.TheVariants.{CopyToAccumulator}
-use Rattle.scf_insn.specs.Codes.{code_of, operations, code_table, operation_of}
+use Rattle.scf_insn.proofs.Common.{◌≡◌, ℕ, ◌∙◌, eqb, inl, inr, List, [], ◌∷◌, map, Some, refl, sym, ap, lookup, cases_eq, eq-eqb, ne_eqb, A, X, Operand, Constant, Index, Arithmetic, Add, Sub, Mul, Div, Or, And, Lsh, Rsh, Xor, Test, Equal, Greater, GreaterOrEqual, CommonBit, Operation, LoadWord, LoadLength, LoadConstant, LoadScratch, StoreScratch, Compute, Negate, Jump, JumpIf, ReturnConstant, ReturnAccumulator, CopyToIndex, CopyToAccumulator, code_of, operations, code_table, operation_of}
 
 computes : (arithmetic : Arithmetic) (operand : Operand)
     → operation_of (code_of (Compute arithmetic operand)) ≡ Some (Compute arithmetic operand)

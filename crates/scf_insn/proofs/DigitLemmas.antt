@@ -1,9 +1,6 @@
 -- Digits from the last to the first.
-use Rattle.std.proofs.Common.{◌≡◌, ℕ, suc, ◌+◌, ◌-◌, ◌/◌, ◌%◌, ◌^◌, ◌<◌, ◌≤◌, false, cond, eqb, List, []}
-use Rattle.std.proofs.Common.{◌∷◌, refl, arith}
-use Rattle.std.specs.Fmt.{digits, digits_onto, digit_glyph}
-use Rattle.std.proofs.lemmas.Bool.{ne_eqb}
-use Rattle.std.proofs.Math.Nat.{mul-le-mul_left, div-lt_iff_lt-mul, pow-suc}
+use Rattle.scf_insn.proofs.Common.{◌≡◌, ℕ, suc, ◌+◌, ◌-◌, ◌/◌, ◌%◌, ◌^◌, ◌<◌, ◌≤◌, false, cond, eqb, List, [], ◌∷◌, refl, arith, digits_onto, digit_glyph, ne_eqb, mul-le-mul_left, div-lt_iff_lt-mul, pow-suc}
+use Rattle.std.specs.Fmt.{digits}
 
 -- what is still written of a number in front of these digits, at the place in the bytes
 unfoldable pub with_front : ℕ → ℕ → ℕ → List ℕ → List ℕ

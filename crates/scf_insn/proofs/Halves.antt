@@ -1,13 +1,5 @@
 -- Comparing numbers of 64 bits by their halves, and the words of a record.
-use Rattle.std.proofs.Common.{◌≡◌, ℕ, zero, suc, ◌+◌, ◌*◌, ◌<◌, ◌^◌, true, false, cond, eqb, ltb, leb, List, [], ◌∷◌}
-use Rattle.std.proofs.Common.{get_or, refl, arith, bit_and}
-use Rattle.std.specs.Prelude.{slice_index}
-use Rattle.std.specs.List.{flat_map}
-use Rattle.std.proofs.lemmas.Bool.{cases_eq, eq-eqb, ne_eqb}
-use Rattle.std.proofs.lemmas.Bool.Decides.{nat_tests}
-use Rattle.std.proofs.lemmas.Nat.{and_shr, and_mod}
-use Rattle.scf_insn.specs.declared.record.CallRecord.{CallRecord}
-use Rattle.scf_insn.specs.Words.{low, high, halves, words_of, argument}
+use Rattle.scf_insn.proofs.Common.{◌≡◌, ℕ, zero, suc, ◌+◌, ◌*◌, ◌<◌, ◌^◌, true, false, cond, eqb, ltb, leb, List, [], ◌∷◌, get_or, refl, arith, bit_and, slice_index, flat_map, cases_eq, eq-eqb, ne_eqb, nat_tests, and_shr, and_mod, CallRecord, low, high, halves, words_of, argument}
 
 -- a number is its halves
 whole : (n : ℕ) → n ≡ 2 ^ 32 * high n + low n

@@ -1,6 +1,7 @@
 pub mod Bijection
 pub mod CallWords
 pub mod Codes
+pub mod Common
 pub mod DigitLemmas
 pub mod Halves
 pub mod Masks

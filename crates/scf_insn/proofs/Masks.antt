@@ -1,16 +1,6 @@
 -- What the kind of a mask says of it.
-use Rattle.std.proofs.Common.{◌≡◌, ℕ, zero, suc, ◌+◌, ◌*◌, ◌/◌, ◌%◌, ◌-◌, ◌<◌, ◌≤◌, ◌^◌, cond, eqb, Bool}
-use Rattle.std.proofs.Common.{ap, ◌∙◌, arith, inl, inr, ◌⊎◌, refl, sym, subst}
-use Rattle.std.specs.Prelude.{count_ones}
-use Rattle.std.specs.Int.{IsPowerOfTwo}
-use Rattle.std.specs.Int.Count.{ones, ones_step, ones_cat}
-use Rattle.std.proofs.Math.Nat.{pow-suc}
-use Rattle.std.proofs.lemmas.Bool.{cases_eq, cases_lt, eqb-true, eqb-false}
-use Rattle.std.proofs.lemmas.Nat.{zero_from_ones, ones_le_self, pow_pos, pow_below}
-use Rattle.scf_insn.specs.SimpleMask.{IsSimpleMask}
-use Rattle.scf_insn.specs.declared.mask.MaskKind.{MaskKind}
-use Rattle.scf_insn.specs.declared.mask.MaskKind.TheVariants.{Empty, OneBit, Full, Mixed}
-use Rattle.scf_insn.specs.Masks.{mask_kind}
+use Rattle.scf_insn.proofs.Common.{◌≡◌, ℕ, zero, suc, ◌+◌, ◌*◌, ◌/◌, ◌%◌, ◌-◌, ◌<◌, ◌≤◌, ◌^◌, cond, eqb, Bool, ap, ◌∙◌, arith, inl, inr, ◌⊎◌, refl, sym, subst, count_ones, IsPowerOfTwo, ones_step, ones_cat, pow-suc, cases_eq, cases_lt, eqb-true, eqb-false, zero_from_ones, ones_le_self, pow_pos, pow_below, IsSimpleMask, MaskKind, Empty, OneBit, Full, Mixed, mask_kind}
+use Rattle.std.specs.Int.Count.{ones}
 
 -- a number with one bit is a power of two
 power_from_one : (d n : ℕ) → n ≤ d → count_ones n ≡ 1 → IsPowerOfTwo n

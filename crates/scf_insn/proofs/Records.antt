@@ -1,13 +1,5 @@
 -- A record's bytes, piece by piece.
-use Rattle.std.proofs.Common.{◌≡◌, ℕ, ◌+◌, ◌*◌, ◌<◌, ◌≤◌, ◌^◌, ◌++◌, List, [], ◌∷◌, drop, take, length, get_or}
-use Rattle.std.proofs.Common.{ap, sym, ◌∙◌, append-nil, arith, length-drop, length-append, length-take}
-use Rattle.std.proofs.lemmas.List.{take-append-drop, drop-drop, drop_all, take_all, take_more}
-use Rattle.std.specs.Int.{w32, to_le_bytes}
-use Rattle.std.specs.List.{flat_map}
-use Rattle.std.proofs.lemmas.List.Concat.{flat_map-append}
-use Rattle.std.proofs.lemmas.Slice.{take-put_mid}
-use borrow.Rule.Slice.PartMut.{put_mid}
-use Rattle.scf_insn.specs.Words.{low, high}
+use Rattle.scf_insn.proofs.Common.{◌≡◌, ℕ, ◌+◌, ◌*◌, ◌<◌, ◌≤◌, ◌^◌, ◌++◌, List, [], ◌∷◌, drop, take, length, get_or, ap, sym, ◌∙◌, append-nil, arith, length-drop, length-append, length-take, take-append-drop, drop-drop, drop_all, take_all, take_more, w32, to_le_bytes, flat_map, flat_map-append, take-put_mid, put_mid, low, high}
 
 -- eight bytes are four and four
 pub eight : (xs : List ℕ) → take 8 xs ≡ take 4 xs ++ take 4 (drop 4 xs)

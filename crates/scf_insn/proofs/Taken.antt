@@ -1,8 +1,5 @@
 -- What was taken from a reader by one read after others.
-use Rattle.std.proofs.Common.{ℕ, ◌+◌, ◌<◌, ◌≤◌, ◌++◌, List, length, Option, arith, length-append}
-use Rattle.std.specs.Io.KnownBytes.{Consumes}
-use Rattle.std.proofs.KnownBytes.{Consumes-trans}
-use Rattle.scf_insn.specs.Streams.{GivesAtMost, GivesSome}
+use Rattle.scf_insn.proofs.Common.{ℕ, ◌+◌, ◌<◌, ◌≤◌, ◌++◌, List, length, Option, arith, length-append, Consumes, Consumes-trans, GivesAtMost, GivesSome}
 
 -- what was taken before, and the bytes of the last read
 pub gives_bounded : (old mid new : Option (List ℕ)) (before given : List ℕ) (limit : ℕ) → Consumes old mid before

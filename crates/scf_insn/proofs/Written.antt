@@ -1,12 +1,5 @@
 -- One write after another.
-use Rattle.std.proofs.Common.{◌≡◌, ℕ, ◌+◌, ◌-◌, ◌<◌, ◌++◌, List, [], length, get_or, take, drop, Option, Result}
-use Rattle.std.proofs.Common.{Ok, Err, refl, sym, ap, ◌∙◌, append_assoc, arith, length-drop}
-use Rattle.std.specs.List.{flat_map}
-use Rattle.std.specs.Io.KnownBytes.{Appends}
-use Rattle.std.proofs.KnownBytes.{Appends-nil, Appends-trans}
-use Rattle.std.proofs.lemmas.List.{take_all, drop_more, take-append-drop}
-use Rattle.std.proofs.lemmas.List.Concat.{flat_map-append}
-use Rattle.scf_insn.specs.Streams.{TakesAll, TakesBeginning, Writes}
+use Rattle.scf_insn.proofs.Common.{◌≡◌, ℕ, ◌+◌, ◌-◌, ◌<◌, ◌++◌, List, [], length, get_or, take, drop, Option, Result, Ok, Err, refl, sym, ap, ◌∙◌, append_assoc, arith, length-drop, flat_map, Appends, Appends-nil, Appends-trans, take_all, drop_more, take-append-drop, flat_map-append, TakesAll, TakesBeginning, Writes}
 
 -- a write that fails is a beginning of all that was to come
 pub fails_first : {old new : Option (List ℕ)} {a : List ℕ} {m n : ℕ} (b : List ℕ) → TakesBeginning old a new m n

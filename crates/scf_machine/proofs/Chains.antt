@@ -1,12 +1,5 @@
 -- Chains of steps from any state: two that meet are one, and a chain inside a part of a list is one of the whole.
-use Rattle.std.proofs.Common.{◌≡◌, ℕ, ◌+◌, List, [], ◌∷◌, ◌++◌, ap, sym, subst}
-use Rattle.std.proofs.Common.{arith, length, map, length-append}
-use Rattle.std.proofs.lemmas.Grind.{common_steps}
-use Rattle.std.proofs.lemmas.Option.{gets, slice_get_within, slice_get_read}
-use Rattle.scf_insn.specs.declared.insn.Insn.{Insn}
-use Rattle.scf_machine.specs.Machine.{State, Outcome, Goes, Ends, Faults, Fault, step}
-use Rattle.scf_machine.specs.Machine.{IsChain, IsRunFrom}
-use Rattle.scf_machine.specs.Parts.{IsPart, moved}
+use Rattle.scf_machine.proofs.Common.{◌≡◌, ℕ, ◌+◌, List, [], ◌∷◌, ◌++◌, ap, sym, subst, arith, length, map, length-append, common_steps, gets, slice_get_within, slice_get_read, Insn, State, Outcome, Goes, Ends, Faults, Fault, step, IsChain, IsRunFrom, IsPart, moved}
 use Rattle.scf_machine.proofs.Moves.{moved_outcome, effect_moves}
 
 -- two chains that meet are one

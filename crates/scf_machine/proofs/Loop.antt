@@ -1,19 +1,5 @@
 -- The loop of a run.
-use Rattle.std.proofs.Common.{◌≡◌, ℕ, ◌+◌, ◌<◌, ◌≤◌, List, ◌∷◌, ◌∙◌, Option, None, Some, refl, get_or}
-use Rattle.std.proofs.Common.{arith, length, length-append, reverse, [], ◌++◌, ap, sym}
-use Rattle.std.proofs.lemmas.List.{reverse-append}
-use Rattle.std.specs.List.{slice_get}
-use Rattle.std.proofs.lemmas.Option.{slice_get_read}
-use Rattle.scf_insn.specs.Codes.{operation_of}
-use Rattle.scf_insn.specs.Kernel.{bpf_maxinsns}
-use Rattle.scf_insn.specs.declared.insn.Insn.{Insn}
-use Rattle.scf_insn.specs.declared.answer.Answer.{Answer}
-use Rattle.scf_insn.specs.declared.operation.Operation.{Operation}
-use Rattle.scf_machine.specs.declared.machine.Registers.{Registers}
-use Rattle.scf_machine.specs.Machine.{State, Outcome, Ends, Faults, Fault, effect, step, IsRun}
-use Rattle.scf_machine.specs.Path.{places_of}
-use Rattle.scf_machine.specs.Rules.{IsValidList, IsFine, IsFineAt, IsFilter, Stands}
-use Rattle.scf_machine.specs.internal.Registers.{StandFor, Agrees, IsAt, Follows}
+use Rattle.scf_machine.proofs.Common.{◌≡◌, ℕ, ◌+◌, ◌<◌, ◌≤◌, List, ◌∷◌, ◌∙◌, Option, None, Some, refl, get_or, arith, length, length-append, reverse, [], ◌++◌, ap, sym, reverse-append, slice_get, slice_get_read, operation_of, bpf_maxinsns, Insn, Answer, Operation, Registers, State, Outcome, Ends, Faults, Fault, effect, step, IsRun, places_of, IsValidList, IsFine, IsFineAt, IsFilter, Stands, StandFor, Agrees, IsAt, Follows}
 use Rattle.scf_machine.proofs.Runs.{reached, step_is, step_edge, edge_forward, never_faults}
 use Rattle.scf_machine.proofs.Runs.{run_length}
 

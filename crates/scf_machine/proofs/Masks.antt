@@ -1,24 +1,5 @@
 -- Masks of scratch words, and the paths that they stand for.
-use Rattle.std.proofs.Common.{◌≡◌, ℕ, zero, suc, ◌+◌, ◌*◌, ◌%◌, ◌^◌, ◌<◌, ◌≤◌, inl, inr, min, Bool}
-use Rattle.std.proofs.Common.{false, cond, nat_eq, List, [], ◌∷◌, Some, refl, ap, sym, subst, ◌∙◌, arith}
-use Rattle.std.proofs.Common.{length, get_or, set, replicate, bit_and, bit_or, length-set, get_or-set_same}
-use Rattle.std.proofs.Common.{get_or-set_other}
-use Rattle.std.specs.Int.{bit_at, w16}
-use Rattle.std.specs.List.{list_any, AllByRecursion}
-use Rattle.std.proofs.lemmas.Bool.Decides.{nat_tests}
-use Rattle.std.proofs.lemmas.Nat.Bits.{bit_at_and, bit_at_ones, bit_at-zero, bit_at_set_same, bit_at_set_other}
-use Rattle.std.proofs.lemmas.Bool.{cases_eq, or_parts, or_from, true_from_ne_false}
-use Rattle.std.proofs.lemmas.List.{get_or-replicate}
-use Rattle.std.proofs.Math.ListN.{length-replicate}
-use Rattle.std.proofs.lemmas.Option.{slice_get_within}
-use Rattle.scf_insn.specs.Kernel.{bpf_memwords}
-use Rattle.scf_insn.specs.declared.insn.Insn.{Insn}
-use Rattle.scf_insn.specs.declared.operation.Register.{Register}
-use Rattle.scf_insn.specs.declared.operation.Operation.{Operation}
-use Rattle.scf_insn.specs.declared.operation.Operation.TheVariants.{LoadScratch}
-use Rattle.scf_machine.specs.internal.Masks.{Joins, Unstored, MasksAt}
-use Rattle.scf_machine.specs.Rules.{IsValidList, GoesTo, Edge, Stands, stores_word}
-use Rattle.scf_machine.specs.Rules.{stores_at, IsPath, IsUnsetAt, KeepsScratchRule}
+use Rattle.scf_machine.proofs.Common.{◌≡◌, ℕ, zero, suc, ◌+◌, ◌*◌, ◌%◌, ◌^◌, ◌<◌, ◌≤◌, inl, inr, min, Bool, false, cond, nat_eq, List, [], ◌∷◌, Some, refl, ap, sym, subst, ◌∙◌, arith, length, get_or, set, replicate, bit_and, bit_or, length-set, get_or-set_same, get_or-set_other, bit_at, w16, list_any, AllByRecursion, nat_tests, bit_at_and, bit_at_ones, bit_at-zero, bit_at_set_same, bit_at_set_other, cases_eq, or_parts, or_from, true_from_ne_false, get_or-replicate, length-replicate, slice_get_within, bpf_memwords, Insn, Register, Operation, LoadScratch, Joins, Unstored, MasksAt, IsValidList, GoesTo, Edge, Stands, stores_word, stores_at, IsPath, IsUnsetAt, KeepsScratchRule}
 use Rattle.scf_machine.proofs.Runs.{edge_forward, fine_of}
 
 edge_of : (insns : List Insn) (p t : ℕ) (i : Insn) (operation : Operation)

@@ -1,13 +1,5 @@
 -- What one step of the machine does to a state, and when it doesn't fault.
-use Rattle.std.proofs.Common.{◌≡◌, ◌≢◌, ℕ, ◌⊎◌, true, List, None, Some, arith}
-use Rattle.std.proofs.lemmas.Bool.Decides.{nat_tests}
-use Rattle.scf_insn.specs.declared.insn.Insn.{Insn}
-use Rattle.scf_insn.specs.declared.operation.Register.{Register}
-use Rattle.scf_insn.specs.declared.operation.Operation.{Operation}
-use Rattle.scf_insn.specs.declared.operation.Operation.TheVariants.{LoadScratch}
-use Rattle.scf_machine.specs.Machine.{State, word_at, Outcome, Goes, Ends, Faults, Fault, effect, step}
-use Rattle.scf_machine.specs.Parts.{moved}
-use Rattle.scf_machine.specs.Rules.{IsFine, IsReturn, GoesTo, Stands, stores_word, stores_at}
+use Rattle.scf_machine.proofs.Common.{◌≡◌, ◌≢◌, ℕ, ◌⊎◌, true, List, None, Some, arith, nat_tests, Insn, Register, Operation, LoadScratch, State, word_at, Outcome, Goes, Ends, Faults, Fault, effect, step, moved, IsFine, IsReturn, GoesTo, Stands, stores_word, stores_at}
 
 -- a scratch word is stored
 abbrev pub IsStored : State → ℕ → Type 0

@@ -1,13 +1,5 @@
 -- A list that keeps every rule is refused for memory alone.
-use Rattle.std.proofs.Common.{◌≡◌, ◌≢◌, ◌-◌, Bool, false, List, length, refl, ap, arith}
-use Rattle.std.specs.Prelude.{IsTrue}
-use Rattle.std.specs.List.{list_any}
-use Rattle.std.proofs.lemmas.Option.{slice_get_within}
-use Rattle.scf_insn.specs.declared.insn.Insn.{Insn}
-use Rattle.scf_machine.specs.declared.checker.CheckFault.{CheckFault}
-use Rattle.scf_machine.specs.declared.checker.CheckFault.TheVariants.{Empty, TooLong, LastNotReturn, Unset, Memory}
-use Rattle.scf_machine.specs.Rules.{IsValidList, KeepsScratchRule, stores_at}
-use Rattle.scf_machine.specs.Checks.{IsFirstFault, IsFirstWrong}
+use Rattle.scf_machine.proofs.Common.{◌≡◌, ◌≢◌, ◌-◌, Bool, false, List, length, refl, ap, arith, IsTrue, list_any, slice_get_within, Insn, CheckFault, Empty, TooLong, LastNotReturn, Unset, Memory, IsValidList, KeepsScratchRule, stores_at, IsFirstFault, IsFirstWrong}
 use Rattle.scf_machine.proofs.Runs.{fine_of}
 
 wrong_none : (insns : List Insn) (fault : CheckFault) → IsValidList insns → IsFirstWrong insns fault → ⊥

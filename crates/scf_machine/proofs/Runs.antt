@@ -1,13 +1,5 @@
 -- Chains of steps are paths, and end.
-use Rattle.std.proofs.Common.{◌≡◌, ℕ, zero, suc, ◌+◌, ◌<◌, ◌≤◌, true, List, [], ◌∷◌, Some, refl, arith, length}
-use Rattle.std.specs.List.{slice_get, list_any}
-use Rattle.scf_insn.specs.declared.insn.Insn.{Insn}
-use Rattle.scf_insn.specs.declared.operation.Operation.{Operation}
-use Rattle.scf_machine.specs.Machine.{State, Outcome, Goes, Ends, Faults, Fault, effect, step, IsChain, RunAnswers}
-use Rattle.scf_machine.specs.Machine.{RunsSafely, start}
-use Rattle.scf_machine.specs.Path.{places_of}
-use Rattle.scf_machine.specs.Rules.{IsFine, IsFineAt, IsValidList, GoesTo, Edge, Stands, stores_at, IsPath}
-use Rattle.scf_machine.specs.Rules.{KeepsScratchRule}
+use Rattle.scf_machine.proofs.Common.{◌≡◌, ℕ, zero, suc, ◌+◌, ◌<◌, ◌≤◌, true, List, [], ◌∷◌, Some, refl, arith, length, slice_get, list_any, Insn, Operation, State, Outcome, Goes, Ends, Faults, Fault, effect, step, IsChain, RunAnswers, RunsSafely, start, places_of, IsFine, IsFineAt, IsValidList, GoesTo, Edge, Stands, stores_at, IsPath, KeepsScratchRule}
 use Rattle.scf_machine.proofs.Moves.{IsStored, step_facts, effect_continues, effect_goes, effect_passes, step_stores}
 
 pub step_is : (insns : List Insn) (words : List ℕ) (s : State) (i : Insn) (operation : Operation)

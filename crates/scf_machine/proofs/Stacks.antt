@@ -1,19 +1,7 @@
 -- What a stack answers, one filter after another.
-use Rattle.std.proofs.Common.{◌≡◌, ◌↔◌, ℕ, zero, suc, ◌+◌, ◌<◌, ◌≤◌, ◌≤ℤ◌, ◌<ℤ◌, ℤ}
-use Rattle.std.proofs.Common.{List, [], ◌∷◌, ◌++◌, Some, refl, ap, sym, subst, ◌∙◌, arith, length, get_or}
-use Rattle.std.proofs.Common.{take, reverse, All}
-use Rattle.std.specs.List.{slice_get}
-use Rattle.std.proofs.lemmas.Int.{ints}
-use Rattle.std.proofs.lemmas.List.{take_more, take_all, reverse-append, length-reverse, get_or-reverse}
-use Rattle.std.specs.Prelude.{Contains, ◌-◌}
-use Rattle.scf_insn.specs.declared.insn.Insn.{Insn}
-use Rattle.scf_insn.specs.Answers.{rank_of, LetsThroughNoMore}
-use Rattle.scf_insn.specs.Kernel.{seccomp_ret_allow}
-use Rattle.scf_machine.specs.Machine.{RunAnswers}
-use Rattle.scf_machine.specs.Rules.{IsFilter}
+use Rattle.scf_machine.proofs.Common.{◌≡◌, ◌↔◌, ℕ, zero, suc, ◌+◌, ◌<◌, ◌≤◌, ◌≤ℤ◌, ◌<ℤ◌, ℤ, List, [], ◌∷◌, ◌++◌, Some, refl, ap, sym, subst, ◌∙◌, arith, length, get_or, take, reverse, All, slice_get, ints, take_more, take_all, reverse-append, length-reverse, get_or-reverse, Contains, ◌-◌, Insn, rank_of, LetsThroughNoMore, seccomp_ret_allow, RunAnswers, IsFilter, IsFirstLeast, IsDecision, AreAnswers, StackAnswers, with_newest}
 use Rattle.scf_machine.proofs.Meets.{run_once}
 use Rattle.scf_machine.proofs.Runs.{runs_safely}
-use Rattle.scf_machine.specs.Precedence.{IsFirstLeast, IsDecision, AreAnswers, StackAnswers, with_newest}
 
 some_same : (a b : ℕ) → Some a ≡ Some b → a ≡ b
 some_same a b e = cc

@@ -1,17 +1,5 @@
 -- One step of the running machine.
-use Rattle.std.proofs.Common.{◌≡◌, ℕ, ◌%◌, ◌<◌, nat_lt, nat_eq, ◌&&◌, Bool, true, None, arith}
-use Rattle.std.proofs.lemmas.Bool.Decides.{nat_tests}
-use Rattle.scf_insn.specs.Kernel.{bpf_maxinsns, seccomp_data_len}
-use Rattle.scf_insn.specs.declared.insn.Insn.{Insn}
-use Rattle.scf_insn.specs.declared.operation.Register.TheVariants.{A}
-use Rattle.scf_insn.specs.declared.operation.Operand.TheVariants.{Constant, Index}
-use Rattle.scf_insn.specs.declared.operation.Arithmetic.{Arithmetic}
-use Rattle.scf_insn.specs.declared.operation.Arithmetic.TheVariants.{Div, Lsh, Rsh}
-use Rattle.scf_insn.specs.declared.operation.Operation.TheVariants.{Compute}
-use Rattle.scf_machine.specs.declared.machine.Registers.{Registers}
-use Rattle.scf_machine.specs.Machine.{State, sets, Goes, Fault, unless, computation, value_computed}
-use Rattle.scf_machine.specs.internal.Registers.{StandFor, Agrees}
-use Rattle.scf_machine.specs.Rules.{IsFine}
+use Rattle.scf_machine.proofs.Common.{◌≡◌, ℕ, ◌%◌, ◌<◌, nat_lt, nat_eq, ◌&&◌, Bool, true, None, arith, nat_tests, bpf_maxinsns, seccomp_data_len, Insn, A, Constant, Index, Arithmetic, Div, Lsh, Rsh, Compute, Registers, State, sets, Goes, Fault, unless, computation, value_computed, StandFor, Agrees, IsFine}
 
 pub agrees_unless : (b : Bool) (f : Fault) (t : State) (new : Registers)
     → b ≡ true → StandFor new t → Agrees (unless b f (Goes t)) None new

@@ -1,19 +1,5 @@
 -- A profile has an answer to every call, and one only.
-use Rattle.std.proofs.Common.{◌≡◌, ℕ, suc, ◌<◌, ◌⊎◌, Bool, true, false, cond, List, [], ◌∷◌, All, refl}
-use Rattle.std.proofs.Common.{Option, Some, None, sym, ap, arith, inl, inr}
-use Rattle.std.specs.Prelude.{Contains}
-use Rattle.std.specs.List.{find}
-use Rattle.std.specs.Option.{option_map_or}
-use Rattle.std.proofs.lemmas.Bool.{cases_eq, cases_lt, both_ways}
-use Rattle.std.proofs.lemmas.List.Elements.{All-contains, All-nil, All-cons}
-use Rattle.scf_insn.specs.declared.answer.Answer.{Answer}
-use Rattle.scf_insn.specs.declared.record.CallRecord.{CallRecord}
-use Rattle.scf_insn.specs.Kernel.{audit_arch_x86_64, seccomp_ret_kill_process, x32_syscall_bit}
-use Rattle.scf_insn.specs.Words.{IsRecord}
-use Rattle.scf_profile.specs.declared.rule.Rule.{Rule}
-use Rattle.scf_profile.specs.Rule.{meets, Conflicts}
-use Rattle.scf_profile.specs.Profile.{Profile, IsNative, HaveNoConflict}
-use Rattle.scf_profile.specs.ProfileAnswers.{ProfileAnswers, foreign, by_rule, by_default}
+use Rattle.scf_profile.proofs.Common.{◌≡◌, ℕ, suc, ◌<◌, ◌⊎◌, Bool, true, false, cond, List, [], ◌∷◌, All, refl, Option, Some, None, sym, ap, arith, inl, inr, Contains, find, option_map_or, cases_eq, cases_lt, both_ways, All-contains, All-nil, All-cons, Answer, CallRecord, audit_arch_x86_64, seccomp_ret_kill_process, x32_syscall_bit, IsRecord, Rule, meets, Conflicts, Profile, IsNative, HaveNoConflict, ProfileAnswers, foreign, by_rule, by_default}
 
 pub conflicts_both_ways : (r s : Rule) → Conflicts r s → Conflicts s r
 conflicts_both_ways r s h =

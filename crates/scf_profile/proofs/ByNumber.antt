@@ -1,17 +1,7 @@
 -- A stable sort by the numbers of rules keeps the rules of each number, and they stand together.
-use Rattle.std.proofs.Common.{◌≡◌, ℕ, Bool, true, false, not, ◌&&◌, eqb, ltb, leb, ◌+◌, ◌<◌, ◌≤◌, length, List, [], ◌∷◌}
-use Rattle.std.proofs.Common.{◌++◌, All, get_or, take, drop, refl, sym, ap, ◌∙◌, cond, arith, append-nil}
-use Rattle.std.proofs.Math.ListN.{length-take, length-drop}
+use Rattle.scf_profile.proofs.Common.{◌≡◌, ℕ, Bool, true, false, not, ◌&&◌, eqb, ltb, leb, ◌+◌, ◌<◌, ◌≤◌, length, List, [], ◌∷◌, ◌++◌, All, get_or, take, drop, refl, sym, ap, ◌∙◌, cond, arith, append-nil, length-drop, filter, AllByRecursion, ties, IsStableByKey, IsNonDecreasingBy, IsPartitionPoint, is_lt, nat_cmp, get_or-drop, get_or-map, get_or-take, length-map, take-append-drop, recursion_from_All, nat_tests, Rule, rules_of, rules_at}
+use Rattle.std.proofs.Math.ListN.{length-take}
 use Rattle.std.specs.Borrow.{Bor}
-use Rattle.std.specs.List.{filter, AllByRecursion}
-use Rattle.std.specs.List.Sorted.{ties, IsStableByKey, IsNonDecreasingBy, IsPartitionPoint}
-use Rattle.std.specs.Ordering.{is_lt, nat_cmp}
-use Rattle.std.proofs.lemmas.List.{get_or-drop, get_or-map, get_or-take, length-map, take-append-drop}
-use Rattle.std.proofs.lemmas.List.Elements.{recursion_from_All}
-use Rattle.std.proofs.lemmas.Bool.Decides.{nat_tests}
-use Rattle.scf_profile.specs.declared.rule.Rule.{Rule}
-use Rattle.scf_profile.specs.RulesByNumber.{rules_of}
-use Rattle.scf_profile.specs.ByNumber.{rules_at}
 
 -- neither of two numbers is below the other where they are equal
 ties_are_equal : (n m : ℕ) → (not (is_lt (nat_cmp n m)) && not (is_lt (nat_cmp m n))) ≡ eqb m n

@@ -1,9 +1,5 @@
 -- Lists of conditions, each on an argument of its own.
-use Rattle.std.proofs.Common.{◌≡◌, ◌≢◌, false, List, [], ◌∷◌, ◌++◌, eqb}
-use Rattle.std.specs.List.{list_any, AllByRecursion}
-use Rattle.std.proofs.lemmas.Bool.{or_parts, eqb-false}
-use Rattle.scf_profile.specs.declared.condition.Condition.{Condition}
-use Rattle.scf_profile.specs.Rule.{IsCondition, HaveDistinctIndices, AreConditions}
+use Rattle.scf_profile.proofs.Common.{◌≡◌, ◌≢◌, false, List, [], ◌∷◌, ◌++◌, eqb, list_any, AllByRecursion, or_parts, eqb-false, Condition, IsCondition, HaveDistinctIndices, AreConditions}
 
 all_push : (P : Condition → Type 0) (cs : List Condition) (c : Condition) → AllByRecursion P cs → P c
     → AllByRecursion P (cs ++ c ∷ [])

@@ -1,13 +1,5 @@
 -- The first line of a text, and the first field of a line.
-use Rattle.std.proofs.Common.{◌≡◌, ℕ, ◌+◌, ◌<◌, Bool, true, false, cond, eqb, ltb, List, [], ◌∷◌, ◌++◌, length, get_or}
-use Rattle.std.proofs.Common.{take, drop, All, refl, sym, ap, ◌∙◌, arith, add-one, zero, suc}
-use Rattle.std.specs.List.{slice_split, filter}
-use Rattle.std.specs.Str.Lines.{lines, lines_of_parts, strip_carriage_return}
-use Rattle.std.proofs.Math.Seq.{drop-cons}
-use Rattle.std.proofs.lemmas.Bool.{lt-ltb, ne_eqb, both_ways}
-use Rattle.std.proofs.lemmas.List.{take-append-drop, length-take}
-use Rattle.std.proofs.lemmas.List.Splits.{slice_split_at, slice_split_none, slice_split-cons_yes, length-slice_split}
-use Rattle.scf_profile.specs.Table.{is_blank, fields}
+use Rattle.scf_profile.proofs.Common.{◌≡◌, ℕ, ◌+◌, ◌<◌, Bool, true, false, cond, eqb, ltb, List, [], ◌∷◌, ◌++◌, length, get_or, take, drop, All, refl, sym, ap, ◌∙◌, arith, add-one, zero, suc, slice_split, filter, lines, lines_of_parts, strip_carriage_return, drop-cons, lt-ltb, ne_eqb, both_ways, take-append-drop, length-take, slice_split_at, slice_split_none, slice_split-cons_yes, length-slice_split, is_blank, fields}
 
 -- a list cut at a place
 pub cut_at : (xs : List ℕ) (i : ℕ) → i < length xs → xs ≡ take i xs ++ get_or xs i 0 ∷ drop (i + 1) xs

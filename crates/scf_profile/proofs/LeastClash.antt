@@ -1,18 +1,5 @@
 -- The least of clashes, rule by rule.
-use Rattle.std.proofs.Common.{◌≡◌, ℕ, ◌<◌, length, List, Option, Some, None, All, ◌⊎◌, inl, inr, sym, subst, eqb, arith, Bor, refl}
-use Rattle.std.proofs.Common.{get_or}
-use Rattle.std.specs.Prelude.{Any, IfSome, Contains}
-use Rattle.std.proofs.lemmas.Bool.{eq-eqb}
-use Rattle.std.proofs.lemmas.Bool.Decides.{nat_tests}
-use Rattle.std.proofs.lemmas.List.{get_or-map, length-map}
-use Rattle.std.proofs.lemmas.List.Elements.{All-contains, All-contains_itself, All-filter, All-same, All-map}
-use Rattle.scf_profile.specs.declared.conflict.Clash.{Clash}
-use Rattle.scf_profile.specs.declared.rule.Rule.{Rule}
-use Rattle.scf_profile.specs.internal.Clashes.{IsBoundedBy, IsClashBounded, IsClashOf, IsLeastClash}
-use Rattle.scf_profile.specs.ByNumber.{rules_at}
-use Rattle.scf_profile.specs.Loading.{EntriesConflict}
-use Rattle.scf_profile.specs.Rule.{Conflicts}
-use Rattle.scf_profile.specs.RulesByNumber.{rules_of}
+use Rattle.scf_profile.proofs.Common.{◌≡◌, ℕ, ◌<◌, length, List, Option, Some, None, All, ◌⊎◌, inl, inr, sym, subst, eqb, arith, Bor, refl, get_or, Any, IfSome, Contains, eq-eqb, nat_tests, get_or-map, length-map, All-contains, All-contains_itself, All-filter, All-same, All-map, Clash, Rule, IsBoundedBy, IsClashBounded, IsClashOf, IsLeastClash, rules_at, EntriesConflict, Conflicts, rules_of}
 use Rattle.scf_profile.proofs.Numbers.{contains_filtered}
 
 -- one of two

@@ -1,5 +1,6 @@
 pub mod Answering
 pub mod ByNumber
+pub mod Common
 pub mod ConditionLists
 pub mod Cuts
 pub mod LeastClash

@@ -1,13 +1,5 @@
 -- Loops over the items of an array.
-use Rattle.std.proofs.Common.{◌≡◌, ℕ, suc, ◌+◌, ◌<◌, ◌≤◌, List, [], ◌∷◌, length, get_or, drop}
-use Rattle.std.proofs.Common.{refl, sym, ap, ◌∙◌, add-one, String, Global, Bool, map, ◌||◌}
-use Rattle.std.proofs.Math.Seq.{drop-cons}
-use Rattle.std.specs.List.{list_any}
-use Rattle.std.proofs.lemmas.List.{drop_all}
-use Rattle.serde_json.specs.declared.value.Value.{Value}
-use Rattle.serde_json.specs.Data.{item, no_items}
-use Rattle.serde_json.specs.View.{view, items_view, members_view}
-use Rattle.serde_json.specs.Events.{items_len, members_len}
+use Rattle.scf_profile.proofs.Common.{◌≡◌, ℕ, suc, ◌+◌, ◌<◌, ◌≤◌, List, [], ◌∷◌, length, get_or, drop, refl, sym, ap, ◌∙◌, add-one, String, Global, Bool, map, ◌||◌, drop-cons, list_any, drop_all, Value, item, no_items, view, items_view, members_view, items_len, members_len}
 
 -- the items from a place on, in the words that a search finds
 pub items_at : (vs : List Value) (i : ℕ) (d : Value) → i < length vs

@@ -1,34 +1,9 @@
 -- The names under the numbers of a table are the calls of the table.
-use Rattle.std.proofs.Common.{◌≡◌, ℕ, Bool, true, false, cond, eqb, List, [], ◌∷◌, map, Option, None, Some, String}
-use Rattle.std.proofs.Common.{Global, BTreeMap, Bor, Vec, refl, sym, ap, ◌∙◌, subst, get_or, string_cmp}
-use Rattle.std.proofs.Common.{nat_cmp, ltb, length, ◌<◌, arith}
-use Rattle.std.specs.Prelude.{◌↔◌, IsSome, Contains, is_some}
-use Rattle.std.specs.BTreeMap.{IsOrdered}
+use Rattle.scf_profile.proofs.Common.{◌≡◌, ℕ, Bool, true, false, cond, eqb, List, [], ◌∷◌, map, Option, None, Some, String, Global, BTreeMap, Bor, Vec, refl, sym, ap, ◌∙◌, subst, get_or, string_cmp, ltb, length, ◌<◌, arith, ◌↔◌, IsSome, Contains, is_some, IsOrdered, eq_by_cmp_equiv, slice_cmp, nat_list_cmp_total, get, get-from_entries, AllByRecursion, filter, IsStrictlyIncreasing, keys_of, lookup, eq_by_cmp, Ordering, Less, eqb-true, eq-eqb, lt-ltb, nat_tests, nat_cmp_total, All-map, Contains-get_or, IsStrictlySortedBy-filter, option_filter, lookup-filter-values, IsDistinct-from_sorted, IsStrictlyIncreasing-from_sorted, exact_bytes, exact_unsigned, All-found, Contains-keys_from_lookup, IsSome-lookup_from_Contains, btree_map_contains_key_iff, tells_apart, HasItsNames, AreCallsOf, named, names_of, texts_at, Names, Named, named_call, names_under, names_with, AreByNumber}
+use Rattle.std.proofs.Common.{nat_cmp}
 use Rattle.std.specs.BTreeMap as tree
-use Rattle.std.specs.Cmp.{eq_by_cmp_equiv}
-use Rattle.std.specs.Cmp.Lexicographic.{slice_cmp, nat_list_cmp_total}
-use Rattle.std.specs.FinMap.{get, find, get-from_entries}
-use Rattle.std.specs.List.{AllByRecursion, filter}
-use Rattle.std.specs.List.Sorted.{IsStrictlyIncreasing, IsStrictlySortedBy}
-use Rattle.std.specs.Map.{keys_of, lookup}
-use Rattle.std.specs.Ordering.{eq_by_cmp}
-use Rattle.std.specs.declared.cmp.Ordering.{Ordering}
-use Rattle.std.specs.declared.cmp.Ordering.TheVariants.{Less}
-use Rattle.std.proofs.lemmas.Bool.{eqb-true, eq-eqb, lt-ltb}
-use Rattle.std.proofs.lemmas.Bool.Decides.{nat_tests}
-use Rattle.std.proofs.lemmas.Cmp.{nat_cmp_total}
-use Rattle.std.proofs.lemmas.List.Elements.{All-map, Contains-get_or}
-use Rattle.std.proofs.lemmas.List.Kept.{IsStrictlySortedBy-filter}
-use Rattle.std.proofs.lemmas.Map.Entries.{option_filter, lookup-filter-values}
-use Rattle.std.proofs.lemmas.Map.Keys.{IsDistinct-from_sorted, IsStrictlyIncreasing-from_sorted}
-use Rattle.std.proofs.lemmas.Map.Lookups.{exact_bytes, exact_unsigned}
-use Rattle.std.proofs.lemmas.Map.Views.{All-found, Contains-keys_from_lookup, IsSome-lookup_from_Contains}
-use Rattle.std.proofs.lemmas.Map.Views.{btree_map_contains_key_iff, tells_apart}
-use Rattle.scf_profile.specs.NamedCalls.{HasItsNames, AreCallsOf}
-use Rattle.scf_profile.specs.Names.{named, names_of}
-use Rattle.scf_profile.specs.References.{texts_at}
-use Rattle.scf_profile.specs.Table.{Names}
-use Rattle.scf_profile.specs.internal.NamesByNumber.{Named, named_call, names_under, names_with, AreByNumber}
+use Rattle.std.specs.FinMap.{find}
+use Rattle.std.specs.List.Sorted.{IsStrictlySortedBy}
 
 -- keys are in order where the elements are in the order of their keys
 module _ {X K : Type 0} (c : K → K → Ordering) (key : X → K) where

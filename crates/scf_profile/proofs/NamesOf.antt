@@ -1,24 +1,7 @@
 -- The map behind a tree from texts to numbers, and names as text.
-use Rattle.std.proofs.Common.{◌≡◌, ℕ, zero, suc, ◌<◌, inl, inr, Option, None, true, cond, List, [], ◌∷◌, map, Some}
-use Rattle.std.proofs.Common.{String, string_bytes, Global, BTreeMap, refl, sym, ap, ◌∙◌, subst, arith, string_cmp}
+use Rattle.scf_profile.proofs.Common.{◌≡◌, ℕ, zero, suc, ◌<◌, inl, inr, Option, None, true, cond, List, [], ◌∷◌, map, Some, String, string_bytes, Global, BTreeMap, refl, sym, ap, ◌∙◌, subst, arith, string_cmp, IsAscii, IfSome, IsUtf8, list_all, lookup, get, insert, get-from_entries, get-empty, get-insert, same_map, value_of, is_at, Updates, UpdatesBy, slice_cmp, nat_list_cmp_total, eq_by_cmp, is_eq, eq_by_cmp_equiv, and_parts, cases_cond, nat_tests, IsUtf8-from_ascii, exact_bytes, btree_map_updates_text, is_eq-slice_cmp, x32_syscall_bit, Names, AreCallNumbers, is_name, is_in_name, named, names_of}
 use Rattle.std.proofs.Common.{nat_cmp}
-use Rattle.std.specs.Prelude.{IsAscii, IfSome}
-use Rattle.std.specs.Str.{IsUtf8}
-use Rattle.std.specs.List.{list_all}
-use Rattle.std.specs.Map.{lookup}
-use Rattle.std.specs.FinMap.{get, insert, find, get-from_entries, get-empty, get-insert, same_map}
-use Rattle.std.specs.BTreeMap.{get as value_of, is_at, Updates, UpdatesBy}
-use Rattle.std.specs.Cmp.Lexicographic.{slice_cmp, nat_list_cmp_total}
-use Rattle.std.specs.Ordering.{eq_by_cmp, is_eq}
-use Rattle.std.specs.Cmp.{eq_by_cmp_equiv}
-use Rattle.std.proofs.lemmas.Bool.{and_parts, cases_cond}
-use Rattle.std.proofs.lemmas.Bool.Decides.{nat_tests}
-use Rattle.std.proofs.lemmas.Str.{IsUtf8-from_ascii}
-use Rattle.std.proofs.lemmas.Map.Lookups.{exact_bytes}
-use Rattle.std.proofs.lemmas.Map.Text.{btree_map_updates_text, is_eq-slice_cmp}
-use Rattle.scf_insn.specs.Kernel.{x32_syscall_bit}
-use Rattle.scf_profile.specs.Table.{Names, AreCallNumbers, is_name, is_in_name}
-use Rattle.scf_profile.specs.Names.{named, names_of}
+use Rattle.std.specs.FinMap.{find}
 
 find_named : (es : List (String Global × ℕ)) (q : List ℕ)
     → find (slice_cmp nat_cmp) q (map named es) ≡ lookup (is_at (λ k. slice_cmp nat_cmp q (string_bytes k))) es

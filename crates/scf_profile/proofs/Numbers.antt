@@ -1,12 +1,5 @@
 -- The distinct numbers of rules.
-use Rattle.std.proofs.Common.{◌≡◌, ℕ, zero, suc, ◌<◌, ◌++◌, Bool, true, false, not, cond, eqb, ◌||◌}
-use Rattle.std.proofs.Common.{◌⊎◌, List, [], ◌∷◌, refl, sym, ap, ◌∙◌, arith, inl, inr}
-use Rattle.std.specs.Prelude.{Contains}
-use Rattle.std.specs.List.{filter, list_any}
-use Rattle.std.proofs.lemmas.Bool.{cases_eq, cases_Bool, eq-eqb, ne_eqb, cond-true, not_from_false, or_right}
-use Rattle.std.proofs.lemmas.List.Elements.{Contains-append_right, filter-append}
-use Rattle.scf_profile.specs.declared.rule.Rule.{Rule}
-use Rattle.scf_profile.specs.RulesByNumber.{numbers_of}
+use Rattle.scf_profile.proofs.Common.{◌≡◌, ℕ, zero, suc, ◌<◌, ◌++◌, Bool, true, false, not, cond, eqb, ◌||◌, ◌⊎◌, List, [], ◌∷◌, refl, sym, ap, ◌∙◌, arith, inl, inr, Contains, filter, list_any, cases_eq, cases_Bool, eq-eqb, ne_eqb, cond-true, not_from_false, or_right, Contains-append_right, filter-append, Rule, numbers_of}
 
 -- whether some rule has the number
 abbrev pub has_number : ℕ → List Rule → Bool

@@ -1,19 +1,5 @@
 -- Conditions on one argument.
-use Rattle.std.proofs.Common.{◌≡◌, ◌≢◌, ℕ, zero, suc, ◌<◌, ◌^◌, ◌↔◌, Bool, true, ◌&&◌, List, [], ◌∷◌, eqb, get_or}
-use Rattle.std.proofs.Common.{Option, Some, None, refl, sym, ap, ◌∙◌, subst, arith, inl, inr}
-use Rattle.std.specs.List.{AllByRecursion, find}
-use Rattle.std.proofs.lemmas.Bool.{and_parts, cases_eq, cases_lt, eq-eqb, ne_eqb}
-use Rattle.std.proofs.lemmas.List.{get_or_past}
-use Rattle.std.proofs.lemmas.List.Elements.{All-cons, All-from_recursion, All-head, All-nil, All-tail}
-use Rattle.std.proofs.lemmas.List.Sums.{AllPass-from_list_all, list_all-from_AllPass}
-use Rattle.scf_insn.specs.declared.record.CallRecord.{CallRecord}
-use Rattle.scf_insn.specs.Words.{IsRecord, argument}
-use Rattle.scf_profile.specs.declared.condition.Condition.{Condition}
-use Rattle.scf_profile.specs.declared.rule.Rule.{Rule}
-use Rattle.scf_profile.specs.Condition.{holds}
-use Rattle.scf_profile.specs.Limits.{arguments}
-use Rattle.scf_profile.specs.Rule.{Conflicts, HaveDistinctIndices, IsCondition, IsRule, all_hold}
-use Rattle.scf_profile.specs.internal.Overlaps.{HoldAt, Overlap}
+use Rattle.scf_profile.proofs.Common.{◌≡◌, ◌≢◌, ℕ, zero, suc, ◌<◌, ◌^◌, ◌↔◌, Bool, true, ◌&&◌, List, [], ◌∷◌, eqb, get_or, Option, Some, None, refl, sym, ap, ◌∙◌, subst, arith, inl, inr, AllByRecursion, find, and_parts, cases_eq, cases_lt, eq-eqb, ne_eqb, get_or_past, All-cons, All-from_recursion, All-head, All-nil, All-tail, AllPass-from_list_all, list_all-from_AllPass, CallRecord, IsRecord, argument, Condition, Rule, holds, arguments, Conflicts, HaveDistinctIndices, IsCondition, IsRule, all_hold, HoldAt, Overlap}
 
 -- what holds of a condition where it is on the argument
 abbrev HoldsOn : ℕ → ℕ → Condition → Type 0

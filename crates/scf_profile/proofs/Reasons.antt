@@ -1,20 +1,5 @@
 -- The reason of an answer.
-use Rattle.std.proofs.Common.{◌≡◌, ℕ, zero, suc, ◌≤◌, ◌<◌, inl, inr, true, List, [], ◌∷◌, Some, refl, ap}
-use Rattle.std.proofs.Common.{arith, min, All, length}
-use Rattle.std.specs.Prelude.{Contains}
-use Rattle.std.specs.List.{filter, fold, reduce, AllByRecursion}
-use Rattle.std.proofs.lemmas.Bool.{cases_lt, both_ways}
-use Rattle.std.proofs.lemmas.List.{length-map}
-use Rattle.std.proofs.lemmas.List.Elements.{All-from_recursion}
-use Rattle.scf_insn.specs.declared.record.CallRecord.{CallRecord}
-use Rattle.scf_insn.specs.Words.{IsRecord}
-use Rattle.scf_profile.specs.declared.reason.Reason.{Reason}
-use Rattle.scf_profile.specs.declared.reason.Reason.TheVariants.{Foreign, Entry, Default}
-use Rattle.scf_profile.specs.declared.rule.Rule.{Rule}
-use Rattle.scf_profile.specs.Rule.{meets}
-use Rattle.scf_profile.specs.Profile.{Profile, HaveNoConflict}
-use Rattle.scf_profile.specs.ProfileAnswers.{ProfileAnswers, foreign, by_rule, by_default}
-use Rattle.scf_profile.specs.Reasons.{entries_met, IsReason, IsAnswerOf}
+use Rattle.scf_profile.proofs.Common.{◌≡◌, ℕ, zero, suc, ◌≤◌, ◌<◌, inl, inr, true, List, [], ◌∷◌, Some, refl, ap, arith, min, All, length, Contains, filter, fold, reduce, AllByRecursion, cases_lt, both_ways, length-map, All-from_recursion, CallRecord, IsRecord, Reason, Foreign, Entry, Default, Rule, meets, Profile, HaveNoConflict, ProfileAnswers, foreign, by_rule, by_default, entries_met, IsReason, IsAnswerOf}
 use Rattle.scf_profile.proofs.Answering.{same_answer}
 use Rattle.scf_profile.proofs.Numbers.{contains_filtered}
 

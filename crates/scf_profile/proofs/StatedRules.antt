@@ -1,24 +1,7 @@
 -- The rules that entries state: their ranges, and one answer for each entry.
-use Rattle.std.proofs.Common.{◌≡◌, ℕ, suc, Bool, ◌+◌, ◌<◌, ◌≤◌, ◌^◌, List, [], ◌∷◌, ◌++◌, length, get_or, map}
-use Rattle.std.proofs.Common.{Some, None, All, refl, sym, ap, ◌∙◌, arith, inl, inr}
-use Rattle.std.specs.Prelude.{Contains, option_map}
-use Rattle.std.specs.List.{cons_option, filter}
-use Rattle.std.specs.FinMap.{get}
-use Rattle.std.proofs.lemmas.Bool.{cases_order}
-use Rattle.std.proofs.lemmas.List.Elements.{recursion_from_All, All-nil, All-cons, All-append, All-head, All-tail}
-use Rattle.std.proofs.lemmas.List.Elements.{All-contains, All-same, All-weaker, filter-append}
-use Rattle.std.proofs.lemmas.List.Elements.{filter_map-append}
+use Rattle.scf_profile.proofs.Common.{◌≡◌, ℕ, suc, Bool, ◌+◌, ◌<◌, ◌≤◌, ◌^◌, List, [], ◌∷◌, ◌++◌, length, get_or, map, Some, None, All, refl, sym, ap, ◌∙◌, arith, inl, inr, Contains, option_map, cons_option, filter, get, cases_order, recursion_from_All, All-nil, All-cons, All-append, All-head, All-tail, All-contains, All-same, All-weaker, filter-append, filter_map-append, Rule, IsEntry, AreStatedRules, Answer, EntriesConflict, max_rules, IsProfile, HaveNoConflict, Conflicts, IsRule, Names, AreCallNumbers, rule_for, rules_named, rules_from}
 use Rattle.scf_profile.specs.declared.entry.Entry.{Entry}
-use Rattle.scf_profile.specs.declared.rule.Rule.{Rule}
-use Rattle.scf_profile.specs.internal.EntryRanges.{IsEntry, AreStatedRules}
-use Rattle.scf_insn.specs.declared.answer.Answer.{Answer}
-use Rattle.scf_profile.specs.Loading.{EntriesConflict}
-use Rattle.scf_profile.specs.Limits.{max_rules}
-use Rattle.scf_profile.specs.Profile.{IsProfile, HaveNoConflict}
-use Rattle.scf_profile.specs.Rule.{Conflicts, IsRule}
 use Rattle.scf_profile.proofs.Answering.{conflicts_both_ways}
-use Rattle.scf_profile.specs.Table.{Names, AreCallNumbers}
-use Rattle.scf_profile.specs.StatedProfile.{rule_for, rules_named, rules_from}
 
 -- what holds of the rule for each number that a name has
 module _ (P : Rule → Type 0) (table : Names) (place : ℕ) (e : Entry)

@@ -1,11 +1,6 @@
 -- One line of a table after the other.
-use Rattle.std.proofs.Common.{◌≡◌, ℕ, inl, inr, List, ◌∷◌, Option, None, Some, Result}
-use Rattle.std.proofs.Common.{Ok, Err, refl, sym, ◌∙◌}
-use Rattle.scf_profile.specs.declared.table_fault.TableFault.{TableFault}
+use Rattle.scf_profile.proofs.Common.{◌≡◌, ℕ, inl, inr, List, ◌∷◌, Option, None, Some, Result, Ok, Err, refl, sym, ◌∙◌, TableFault, ◌>>=◌, Names, with_line, with_entry, fields, entry_in, BeginWithCall}
 use Rattle.scf_profile.specs.declared.table_fault.TableFault.TheVariants as faults
-use Rattle.scf_profile.specs.Steps.{◌>>=◌}
-use Rattle.scf_profile.specs.Table.{Names, with_line, with_entry, fields, entry_in}
-use Rattle.scf_profile.specs.Table.{BeginWithCall}
 
 pub same_fault : {A : Type 0} (result : Result A TableFault) (p e : TableFault) → result ≡ Err p → p ≡ e
     → result ≡ Err faults.Memory → e ≡ faults.Memory

@@ -1,21 +1,6 @@
 -- The tests of a value give neither `Json` nor `Conflict`, and not `Memory`.
-use Rattle.std.proofs.Common.{◌≡◌, ◌≢◌, ℕ, Bool, true, false, cond, List, [], ◌∷◌}
-use Rattle.std.proofs.Common.{◌++◌, Option, Some, None, Result, Ok, Err, inr}
-use Rattle.std.specs.Prelude.{IfErr}
-use Rattle.std.specs.Option.{option_map_or}
-use Rattle.std.proofs.lemmas.Result.{IfErr-at_err}
-use Rattle.serde_json.specs.Data.{Data, Items, no_items, item}
-use Rattle.scf_profile.specs.declared.load_fault.LoadFault.{LoadFault}
+use Rattle.scf_profile.proofs.Common.{◌≡◌, ◌≢◌, ℕ, Bool, true, false, cond, List, [], ◌∷◌, ◌++◌, Option, Some, None, Result, Ok, Err, inr, IfErr, option_map_or, IfErr-at_err, Data, Items, no_items, item, LoadFault, Loaded, IsText, TestsGive, Refuses, NamesLeastConflict, Names, ◌>>=◌, some_or, each, action_in, errno_of, answer_in, no_engine_form, index_in, operator_in, condition_of, conditions_in, names_in, entry_of, entries_in, architectures_in, seccomp_in, seccomp_of, object_states, profile_of}
 use Rattle.scf_profile.specs.declared.load_fault.LoadFault.TheVariants as faults
-use Rattle.scf_profile.specs.declared.loaded.Loaded.{Loaded}
-use Rattle.scf_profile.specs.Loading.{IsText, TestsGive, Refuses}
-use Rattle.scf_profile.specs.internal.Refusals.{NamesLeastConflict}
-use Rattle.scf_profile.specs.Table.{Names}
-use Rattle.scf_profile.specs.Steps.{◌>>=◌, some_or}
-use Rattle.scf_profile.specs.JsonMembers.{each}
-use Rattle.scf_profile.specs.StatedProfile.{action_in, errno_of, answer_in, no_engine_form, index_in, operator_in}
-use Rattle.scf_profile.specs.StatedProfile.{condition_of, conditions_in, names_in, entry_of, entries_in}
-use Rattle.scf_profile.specs.StatedProfile.{architectures_in, seccomp_in, seccomp_of, object_states, profile_of}
 
 abbrev pub IsTestFault : LoadFault → Type 0
 IsTestFault faults.Json = ⊥

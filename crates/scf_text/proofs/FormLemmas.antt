@@ -1,16 +1,5 @@
 -- The forms of the codes, one by one and all together; reading by the forms in turn; no two take the same tokens.
-use Rattle.std.proofs.Common.{◌≡◌, ℕ, Bool, true, ◌||◌, List, [], ◌∷◌, map, Option, Some, None, refl, sym}
-use Rattle.std.proofs.Common.{ap, subst, ◌∙◌, inl, inr}
-use Rattle.std.specs.Option.{option_map}
-use Rattle.std.specs.List.{AllByRecursion, list_any, find}
-use Rattle.std.specs.Prelude.{◌==◌}
-use Rattle.std.specs.Map.{lookup}
-use Rattle.std.proofs.lemmas.Bool.{cases_Bool, eqb-true}
-use Rattle.scf_insn.specs.Codes.{Row, code_table, operation_of}
-use Rattle.scf_insn.specs.declared.operation.Operation.{Operation}
-use Rattle.scf_text.specs.declared.form.Form.{Form}
-use Rattle.scf_text.specs.Forms.{form_of, known_forms, form_of_code, forms}
-use Rattle.scf_text.specs.Drafts.{has_mnemonic, read_by}
+use Rattle.scf_text.proofs.Common.{◌≡◌, ℕ, Bool, ◌||◌, List, [], ◌∷◌, map, Option, Some, None, refl, sym, ap, subst, ◌∙◌, inl, inr, option_map, AllByRecursion, list_any, find, ◌==◌, lookup, cases_Bool, eqb-true, Row, code_table, operation_of, Operation, Form, form_of, known_forms, form_of_code, forms, has_mnemonic, read_by}
 
 the_form : (code : ℕ) (o : Option Operation) (f : Form) → option_map (form_of code) o ≡ Some f → f.code ≡ code
 the_form code None f h = absurd cc

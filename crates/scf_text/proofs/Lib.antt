@@ -1,9 +1,10 @@
-pub mod TokenLemmas
-pub mod WriteLemmas
+pub mod Common
 pub mod FormLemmas
-pub mod ReadLemmas
 pub mod LawLemmas
-pub mod TextLemmas
-pub mod WantedLemmas
 pub mod ListingLemmas
+pub mod ReadLemmas
 pub mod RoundTrip
+pub mod TextLemmas
+pub mod TokenLemmas
+pub mod WantedLemmas
+pub mod WriteLemmas

@@ -1,37 +1,6 @@
 -- The lines of a listing: their tokens, and that no byte or token of them ends a line, a statement or a label.
-use Rattle.std.proofs.Common.{◌≡◌, ℕ, ◌/◌, ◌%◌, ◌<◌, ◌^◌, true, false, ◌&&◌, ◌||◌, eqb, List, [], ◌∷◌, ◌++◌}
-use Rattle.std.proofs.Common.{length, Some, refl, ap, ◌∙◌, arith, ◌≤◌, Bool, ltb}
-use Rattle.std.proofs.Common.{None, not}
-use Rattle.std.specs.List.{list_all, flat_map, AllByRecursion}
-use Rattle.std.specs.Char.{is_digit, digit_value}
-use Rattle.std.specs.Fmt.{decimal, digits, digit_glyph}
-use Rattle.std.specs.Str.Parse.{digits_value, AllDigits, IsNumeral}
-use Rattle.std.proofs.lemmas.Bool.{eqb-true, ne_eqb, lt-ltb, agree_below_at, and_parts, and_right}
-use Rattle.std.proofs.lemmas.Bool.{ltb-true}
-use Rattle.std.proofs.lemmas.Fmt.{digits_is_IsNumeral}
-use Rattle.std.proofs.lemmas.Str.Parse.{digit_from_value}
-use Rattle.scf_text.specs.Characters.{is_word_byte}
-use Rattle.scf_text.specs.Tokens.{begins_in_word, before_comment}
-use Rattle.scf_insn.specs.Numbers.{number_of, numeral, has_hex_prefix}
-use Rattle.scf_text.specs.Drafts.{is_name}
-use Rattle.std.proofs.lemmas.Bool.Decides.{nat_tests}
-use Rattle.scf_text.specs.Listing.{four_digits, number_text, operands_text}
-use Rattle.scf_text.specs.internal.Parts.{words_of_part}
+use Rattle.scf_text.proofs.Common.{◌≡◌, ℕ, ◌/◌, ◌%◌, ◌<◌, ◌^◌, true, false, ◌&&◌, ◌||◌, eqb, List, [], ◌∷◌, ◌++◌, length, Some, refl, ap, ◌∙◌, arith, ◌≤◌, Bool, ltb, None, not, list_all, flat_map, AllByRecursion, is_digit, digit_value, decimal, digits, digit_glyph, digits_value, AllDigits, IsNumeral, eqb-true, ne_eqb, lt-ltb, agree_below_at, and_parts, and_right, ltb-true, digits_is_IsNumeral, digit_from_value, is_word_byte, begins_in_word, before_comment, number_of, numeral, has_hex_prefix, is_name, nat_tests, four_digits, number_text, operands_text, words_of_part, codes, IsInsn, Insn, Mnemonic, Piece, Field, Code, Jt, Jf, K, Style, Decimal, Hexadecimal, FourDigits, mnemonic_text, field_of, pieces_of, form_for, bytes_eq, Shape, is_semicolon, label_in, list_all-append}
 use Rattle.scf_text.proofs.TokenLemmas.{words_nil, words_blank, words_mark, words_word, words_one, words_more, onto_word}
-use Rattle.std.specs.Prelude.{codes}
-use Rattle.scf_insn.specs.Insn.{IsInsn}
-use Rattle.scf_insn.specs.declared.insn.Insn.{Insn}
-use Rattle.scf_text.specs.declared.form.Mnemonic.{Mnemonic}
-use Rattle.scf_text.specs.declared.form.Piece.{Piece}
-use Rattle.scf_text.specs.declared.form.Field.{Field}
-use Rattle.scf_text.specs.declared.form.Field.TheVariants.{Code, Jt, Jf, K}
-use Rattle.scf_text.specs.declared.form.Style.{Style}
-use Rattle.scf_text.specs.declared.form.Style.TheVariants.{Decimal, Hexadecimal, FourDigits}
-use Rattle.scf_text.specs.Forms.{mnemonic_text, field_of, pieces_of, form_for}
-use Rattle.std.specs.Str.{bytes_eq}
-use Rattle.scf_text.specs.declared.form.Shape.{Shape}
-use Rattle.scf_text.specs.Statements.{is_semicolon, label_in}
-use Rattle.std.proofs.lemmas.List.Folds.{list_all-append}
 use Rattle.scf_text.specs.declared.form.Mnemonic.TheVariants as m
 use Rattle.scf_text.specs.declared.form.Piece.TheVariants as p
 use Rattle.scf_text.specs.declared.form.Shape.TheVariants as s

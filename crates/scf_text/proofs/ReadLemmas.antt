@@ -1,32 +1,7 @@
 -- Reading one statement after another.
-use Rattle.std.proofs.Common.{◌≡◌, ◌≢◌, ℕ, ◌+◌, Bool, List, [], ◌∷◌, ◌++◌, length, Option, Some, None, Result, Ok}
-use Rattle.std.proofs.Common.{Err, refl, sym, ap, ◌∙◌, append_assoc, append-nil, arith, inl, inr, zero-add}
-use Rattle.std.proofs.Math.Path.{fun_ext}
-use Rattle.std.specs.List.{flat_map}
-use Rattle.std.specs.Map.{lookup}
-use Rattle.std.specs.Option.{is_some, option_or, IsSome, option_map}
-use Rattle.std.specs.Str.{bytes_eq}
-use Rattle.std.specs.Prelude.{OnErr, cond, true, false}
-use Rattle.std.specs.Borrow.{Bor}
-use Rattle.std.specs.BTreeMap.{BTreeMap, UpdatesBy}
-use Rattle.std.specs.Cmp.Lexicographic.{slice_cmp}
-use Rattle.std.specs.Ordering.{nat_cmp}
-use Rattle.std.proofs.lemmas.Map.Text.{btree_map_updates_str}
-use Rattle.std.proofs.lemmas.Bool.{cases_Bool}
-use Rattle.std.proofs.lemmas.Bool.Decides.{same_from_decides, nat_tests}
-use Rattle.std.proofs.lemmas.Slice.Eq.{bytes_eq-Decides}
-use Rattle.std.proofs.lemmas.List.Concat.{flat_map-append}
-use Rattle.scf_text.specs.declared.fault.TextFault.{TextFault}
+use Rattle.scf_text.proofs.Common.{◌≡◌, ◌≢◌, ℕ, ◌+◌, Bool, List, [], ◌∷◌, ◌++◌, length, Option, Some, None, Result, Ok, Err, refl, sym, ap, ◌∙◌, append_assoc, append-nil, arith, inl, inr, zero-add, fun_ext, flat_map, lookup, is_some, option_or, IsSome, option_map, bytes_eq, OnErr, cond, true, false, Bor, BTreeMap, UpdatesBy, slice_cmp, nat_cmp, btree_map_updates_str, cases_Bool, same_from_decides, nat_tests, bytes_eq-Decides, flat_map-append, TextFault, before_comment, lines_of, Statement, Labels, Places, place_of, label_in, instruction_in, instruction_count, label_at, place_after, labels_from, drafts_in, statements_from, IsFault, label_fault, instruction_fault, statement_fault, statements_fault, AddsInstruction, places_view, with_label, IsLeft, Leaves, HaveTokens, line_statements}
 use Rattle.scf_text.specs.declared.fault.TextFault.TheVariants as fault
-use Rattle.scf_text.specs.Tokens.{before_comment, lines_of}
 use Rattle.scf_text.specs.Drafts as drafts
-use Rattle.scf_text.specs.Statements.{Statement, Labels, Places, place_of, label_in, instruction_in}
-use Rattle.scf_text.specs.Statements.{instruction_count, label_at, place_after, labels_from, drafts_in}
-use Rattle.scf_text.specs.Statements.{statements_from}
-use Rattle.scf_text.specs.Faults.{IsFault, label_fault, instruction_fault, statement_fault, statements_fault}
-use Rattle.scf_text.specs.internal.Results.{AddsInstruction}
-use Rattle.scf_text.specs.internal.Reading.{places_view, with_label, IsLeft, Leaves, HaveTokens}
-use Rattle.scf_text.specs.internal.Reading.{line_statements}
 use Rattle.scf_text.proofs.TokenLemmas.{statements_are}
 
 pub fault_first : (e : TextFault) (a b : Option TextFault) → IsFault e a → IsFault e (option_or a b)

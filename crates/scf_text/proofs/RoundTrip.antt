@@ -1,35 +1,11 @@
 -- Each form is read as it is listed, and the canonical text of instructions spells them.
-use Rattle.scf_text.specs.internal.Parts.{words_of_part}
+use Rattle.scf_text.proofs.Common.{words_of_part, ◌≡◌, ℕ, true, false, eqb, Option, None, Some, refl, sym, inl, inr, ◌+◌, ◌<◌, ◌≤◌, List, [], ◌∷◌, ◌++◌, length, map, ap, subst, ◌∙◌, append_assoc, arith, if◌then◌else◌, list_any, flat_map, AllByRecursion, list_all, slice_split, cases_Bool, and_from, nat_tests, IsInsn, Insn, Mnemonic, Shape, Code, Jt, Jf, K, Form, mnemonic_text, pieces_of, raw, form_of_code, names, tells_all, full_form, form_for, forms, known_forms, Number, Draft, draft_of, Places, Statement, place_of, is_semicolon, tokens_of_statements, statements_from, label_in, instruction_in, labels_from, drafts_in, IsRead, SaysInsn, SaysEach, Spells, code_table, All-from_recursion, slice_split_at, slice_split_none, bpf_maxinsns, Lexeme, lines_of, before_comment, lexemes_from, operands_text, line_of, text_of}
 use Rattle.scf_text.proofs.TokenLemmas.{words_nil, all_append}
 use Rattle.scf_text.proofs.ListingLemmas.{hexadecimal_is, decimal_is, decimal_no_name, four_digits_is, piece_words}
 use Rattle.scf_text.proofs.ListingLemmas.{field_small, mnemonic_wordy, line_words, is_plain, wordy_plain}
 use Rattle.scf_text.proofs.ListingLemmas.{operands_plain, body, operands, body_line, no_comment, no_end, small_bytes}
 use Rattle.scf_text.proofs.ListingLemmas.{no_semicolon, no_label}
-use Rattle.std.proofs.Common.{◌≡◌, ℕ, true, false, eqb, Option, None, Some, refl, sym, inl, inr}
-use Rattle.std.proofs.Common.{◌+◌, ◌<◌, ◌≤◌, List, [], ◌∷◌, ◌++◌, length, map, ap, subst, ◌∙◌, append_assoc, arith}
-use Rattle.std.specs.Prelude.{if◌then◌else◌}
-use Rattle.std.specs.List.{list_any, flat_map, AllByRecursion, list_all, slice_split}
-use Rattle.std.proofs.lemmas.Bool.{cases_Bool, and_from}
-use Rattle.std.proofs.lemmas.Bool.Decides.{nat_tests}
-use Rattle.scf_insn.specs.Insn.{IsInsn}
-use Rattle.scf_insn.specs.declared.insn.Insn.{Insn}
-use Rattle.scf_text.specs.declared.form.Mnemonic.{Mnemonic}
-use Rattle.scf_text.specs.declared.form.Shape.{Shape}
-use Rattle.scf_text.specs.declared.form.Field.TheVariants.{Code, Jt, Jf, K}
-use Rattle.scf_text.specs.declared.form.Form.{Form}
-use Rattle.scf_text.specs.Forms.{mnemonic_text, pieces_of, raw, form_of_code, names, tells_all}
-use Rattle.scf_text.specs.Forms.{full_form, form_for, forms, known_forms}
-use Rattle.scf_text.specs.Drafts.{Number, Draft, draft_of}
-use Rattle.scf_text.specs.Statements.{Places, Statement, place_of, is_semicolon, tokens_of_statements, statements_from}
-use Rattle.scf_text.specs.Statements.{label_in, instruction_in, labels_from, drafts_in, IsRead}
-use Rattle.scf_text.specs.Spelling.{SaysInsn, SaysEach, Spells}
 use Rattle.scf_text.proofs.FormLemmas.{same_code, all_to_one}
-use Rattle.scf_insn.specs.Codes.{code_table}
-use Rattle.std.proofs.lemmas.List.Elements.{All-from_recursion}
-use Rattle.std.proofs.lemmas.List.Splits.{slice_split_at, slice_split_none}
-use Rattle.scf_insn.specs.Kernel.{bpf_maxinsns}
-use Rattle.scf_text.specs.Tokens.{Lexeme, lines_of, before_comment, lexemes_from}
-use Rattle.scf_text.specs.Listing.{operands_text, line_of, text_of}
 
 -- what the listing of an instruction in this form says
 abbrev pub draft_in : Form → Insn → Draft

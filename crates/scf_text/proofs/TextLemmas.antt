@@ -1,26 +1,7 @@
 -- What reading a text gives.
-use Rattle.std.proofs.Common.{◌≡◌, ◌≢◌, ℕ, List, [], Option, Some, None, Result, Ok, Err, refl, sym, ap, ◌∙◌}
-use Rattle.std.proofs.Common.{append-nil}
-use Rattle.std.specs.List.{flat_map}
-use Rattle.std.specs.Option.{option_or}
-use Rattle.std.specs.Prelude.{IfOk, IfErr}
-use Rattle.std.specs.Global.{Vec}
-use Rattle.std.specs.Borrow.{Bor}
-use Rattle.std.specs.BTreeMap.{BTreeMap, IsEmpty, is_at}
-use Rattle.std.specs.Cmp.Lexicographic.{slice_cmp}
-use Rattle.std.specs.Map.{lookup}
-use Rattle.std.specs.Ordering.{nat_cmp}
-use Rattle.std.proofs.Math.Path.{fun_ext}
-use Rattle.scf_insn.specs.declared.insn.Insn.{Insn}
-use Rattle.scf_text.specs.declared.fault.TextFault.{TextFault}
+use Rattle.scf_text.proofs.Common.{◌≡◌, ◌≢◌, ℕ, List, [], Option, Some, None, Result, Ok, Err, refl, sym, ap, ◌∙◌, append-nil, flat_map, option_or, IfOk, IfErr, Vec, Bor, BTreeMap, IsEmpty, is_at, slice_cmp, lookup, nat_cmp, fun_ext, Insn, TextFault, Statement, Places, place_of, places_in, statements_of, labels_of, drafts_in, drafts_of, Spells, ascii_fault, statements_fault, all_targets_fault, fault_of, IsFault, NumberedDraft, TellsInsns, TellsText, fault_in, places_view, drafts_view, IsLeft}
 use Rattle.scf_text.specs.declared.fault.TextFault.TheVariants as fault
 use Rattle.scf_text.specs.Drafts as drafts
-use Rattle.scf_text.specs.Statements.{Statement, Places, place_of, places_in, statements_of, labels_of, drafts_in, drafts_of}
-use Rattle.scf_text.specs.Spelling.{Spells}
-use Rattle.scf_text.specs.Faults.{ascii_fault, statements_fault, all_targets_fault, fault_of, IsFault}
-use Rattle.scf_text.specs.declared.numbered_draft.NumberedDraft.{NumberedDraft}
-use Rattle.scf_text.specs.internal.Results.{TellsInsns, TellsText, fault_in}
-use Rattle.scf_text.specs.internal.Reading.{places_view, drafts_view, IsLeft}
 use Rattle.scf_text.proofs.ReadLemmas.{fault_first, fault_then}
 use Rattle.scf_text.proofs.LawLemmas.{no_fault, spelled}
 

@@ -1,23 +1,5 @@
 -- The tokens of a text: reading them from the front, their slices, and the parts of a line between them.
-use Rattle.std.proofs.Common.{◌≡◌, ℕ, zero, suc, ◌+◌, ◌-◌, ◌<◌, ◌≤◌, Bool, true, false, ◌&&◌, eqb}
-use Rattle.std.proofs.Common.{List, [], ◌∷◌, ◌++◌, length, get_or, take, drop, refl, sym, ap, subst, ◌∙◌, append_assoc}
-use Rattle.std.proofs.Common.{append-nil, arith, inl, inr, max, map, not}
-use Rattle.std.specs.List.{prefix_len, position_or_len, list_all, All, AllByRecursion, flat_map}
-use Rattle.std.specs.List.{join_with_byte}
-use Rattle.std.proofs.lemmas.Bool.{cases_Bool, cases_lt, and_left, and_right, and_parts}
-use Rattle.std.proofs.lemmas.Bool.Decides.{nat_tests}
-use Rattle.std.proofs.lemmas.List.{drop_more, drop_all, take_more, take_rest, drop-drop, map-append, drop-take, take-take}
-use Rattle.std.proofs.lemmas.List.{length-take-le, length-drop}
-use Rattle.std.proofs.Math.Seq.{take-append_seam, drop-append-add}
-use Rattle.std.proofs.lemmas.List.Sums.{prefix_len_stops, prefix_len-le-length}
-use Rattle.std.proofs.lemmas.List.Splits.{slice_split_first, length-slice_split, join_with_byte-slice_split}
-use Rattle.scf_text.specs.Statements.{is_semicolon}
-use Rattle.scf_text.specs.declared.token.Token.{Token}
-use Rattle.scf_text.specs.Characters.{is_blank, is_word_byte}
-use Rattle.scf_text.specs.Tokens.{Lexeme, begins_comment, before_comment, begins_in_word, joined, lexemes_from}
-use Rattle.scf_text.specs.Tokens.{lexemes, IsSliceOf, lines_of, lexemes_of_lines, tokens_of, words_of_line}
-use Rattle.scf_text.specs.internal.Parts.{words_of_part, words_in, others_in, statements_in, first_statement}
-use Rattle.std.proofs.lemmas.List.Elements.{All-from_recursion}
+use Rattle.scf_text.proofs.Common.{◌≡◌, ℕ, zero, suc, ◌+◌, ◌-◌, ◌<◌, ◌≤◌, Bool, true, false, ◌&&◌, eqb, List, [], ◌∷◌, ◌++◌, length, get_or, take, drop, refl, sym, ap, subst, ◌∙◌, append_assoc, append-nil, arith, inl, inr, max, map, not, prefix_len, position_or_len, list_all, All, AllByRecursion, flat_map, join_with_byte, cases_Bool, cases_lt, and_left, and_right, and_parts, nat_tests, drop_more, drop_all, take_more, take_rest, drop-drop, map-append, drop-take, take-take, length-take-le, length-drop, take-append_seam, drop-append-add, prefix_len_stops, prefix_len-le-length, slice_split_first, length-slice_split, join_with_byte-slice_split, is_semicolon, Token, is_blank, is_word_byte, Lexeme, begins_comment, before_comment, begins_in_word, joined, lexemes_from, lexemes, IsSliceOf, lines_of, lexemes_of_lines, tokens_of, words_of_line, words_of_part, words_in, others_in, statements_in, first_statement, All-from_recursion}
 
 pub word_not_blank : (b : ℕ) → is_word_byte b ≡ true → is_blank b ≡ false
 word_not_blank b h = grind (arith, nat_tests)

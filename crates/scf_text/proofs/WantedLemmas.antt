@@ -1,13 +1,5 @@
 -- Which texts have a token, so that memory may be wanted for them.
-use Rattle.std.proofs.Common.{◌≡◌, ◌≢◌, ℕ, ◌+◌, ◌<◌, List, [], ◌∷◌, length, map, Result, Ok, Err, refl, sym, ap}
-use Rattle.std.proofs.Common.{◌∙◌}
-use Rattle.std.proofs.Common.{arith}
-use Rattle.std.specs.Prelude.{OnErr}
-use Rattle.std.specs.List.{flat_map}
-use Rattle.scf_text.specs.declared.numbered_draft.NumberedDraft.{NumberedDraft}
-use Rattle.scf_text.specs.Tokens.{Lexeme, lines_of, words_of_line, tokens_of}
-use Rattle.scf_text.specs.Statements.{Statement, statements_of, statements_from, drafts_in}
-use Rattle.scf_text.specs.internal.Reading.{HaveTokens, drafts_view}
+use Rattle.scf_text.proofs.Common.{◌≡◌, ◌≢◌, ℕ, ◌+◌, ◌<◌, List, [], ◌∷◌, length, map, Result, Ok, Err, refl, sym, ap, ◌∙◌, arith, OnErr, flat_map, NumberedDraft, Lexeme, lines_of, words_of_line, tokens_of, Statement, statements_of, statements_from, drafts_in, HaveTokens, drafts_view}
 use Rattle.scf_text.proofs.TokenLemmas.{words_are_tokens}
 use Rattle.scf_text.proofs.ReadLemmas.{none_in_front}
 

@@ -1,12 +1,5 @@
 -- Parts of a bundle: one list of them at most is spelled, and a fault stands where none is.
-use Rattle.std.proofs.Common.{◌≡◌, ◌≢◌, ℕ, zero, suc, get_or, Option, ◌+◌, ◌-◌, ◌<◌, ◌≤◌, List, [], ◌∷◌, ◌++◌, length, take, drop, refl, sym, ap, ◌∙◌, append_assoc, append-nil, arith, length-append, length-drop}
-use Rattle.std.proofs.lemmas.List.{append_cancel_left, take_all, take-append-drop, length-take-le}
-use Rattle.std.proofs.Math.Seq.{take-append_seam, take-add}
-use Rattle.std.specs.Option.{IfNone}
-use Rattle.scf_tool.specs.declared.bundle.Part.{Part}
-use Rattle.scf_tool.specs.declared.bundle.BundleFault.{BundleFault}
-use Rattle.scf_tool.specs.declared.bundle.BundleFault.TheVariants.{Header, Short, Memory}
-use Rattle.scf_tool.specs.Bundle.{IsHeader, IsBundlePart, SpellsFrom, SpellsBundle, IsFaultAt, BreaksAt, IsBundleFault}
+use Rattle.scf_tool.proofs.Common.{◌≡◌, ◌≢◌, ℕ, zero, suc, get_or, Option, ◌+◌, ◌-◌, ◌<◌, ◌≤◌, List, [], ◌∷◌, ◌++◌, length, take, drop, refl, sym, ap, ◌∙◌, append_assoc, append-nil, arith, length-append, length-drop, append_cancel_left, take_all, take-append-drop, length-take-le, take-append_seam, take-add, IfNone, Part, BundleFault, Header, Short, Memory, IsHeader, IsBundlePart, SpellsFrom, SpellsBundle, IsFaultAt, BreaksAt, IsBundleFault}
 use Rattle.scf_tool.proofs.HeaderLemmas.{same_header, header_some}
 
 -- ---- one part

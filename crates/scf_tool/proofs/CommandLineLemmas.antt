@@ -1,18 +1,6 @@
 -- The command line, as its reader sees it.
-use Rattle.std.proofs.Common.{◌≡◌, ◌&&◌, ◌∙◌, Bool, codes, true, false, not, List, [], ◌∷◌, ◌++◌, Option, Some, ◌<◌, append-nil, append_assoc, arith, get_or, length, map, option_map, refl, sym, ap, ap₂}
-use Rattle.std.proofs.lemmas.Bool.{and_parts, not-true}
-use Rattle.std.specs.Prelude.{find, fold, is_some}
-use Rattle.std.specs.Option.{option_map_or}
-use Rattle.clap.specs.Faults.{built_fault, check_fault, defaults_fault, entered_fault, level_fault, settle_fault, turn_fault, walk_fault}
-use Rattle.clap.specs.Kinds.{Kinds, or_else}
-use Rattle.clap.specs.Simple.{built, entered, inherited, built_leaf, label_of, marked_built, names_of, rows_at, with_leaf_noted}
-use Rattle.clap.specs.Walk.{Names, Rule, Text, Walk, answers_to, finished, idle, nothing_held, settled, stop_after, walk, walk_from, walked}
-use Rattle.clap.specs.Words.{AddsSubcommand, App, Shape, app_of, is_simple_and_free, new_app, with_subcommand}
-use Rattle.clap.specs.declared.builder.command.Command.{Command}
-use Rattle.clap.proofs.OnLiterals.{clap_on_literals}
-use Rattle.scf_tool.specs.Requests.{Command as Asked, command_word}
-use Rattle.scf_tool.specs.Runs.{scf, scf_shape, shape_for}
-use Rattle.scf_tool.specs.internal.Parsing.{ReadsAsProgram, scf_with}
+use Rattle.scf_tool.proofs.Common.{◌≡◌, ◌&&◌, ◌∙◌, Bool, codes, true, false, not, List, [], ◌∷◌, ◌++◌, Option, Some, ◌<◌, append-nil, append_assoc, arith, get_or, length, map, option_map, refl, sym, ap, ap₂, and_parts, not-true, find, fold, is_some, option_map_or, built_fault, check_fault, defaults_fault, entered_fault, level_fault, settle_fault, turn_fault, walk_fault, Kinds, or_else, built, entered, inherited, built_leaf, label_of, marked_built, names_of, rows_at, with_leaf_noted, Rule, Walk, answers_to, finished, idle, nothing_held, settled, stop_after, walk, walk_from, walked, AddsSubcommand, App, Shape, app_of, is_simple_and_free, new_app, with_subcommand, Command, clap_on_literals, Asked, command_word, scf, scf_shape, shape_for, ReadsAsProgram, scf_with}
+use Rattle.clap.specs.Walk.{Names, Text}
 
 third : (a b g rest : Bool) → (a && (not b && (not g && rest))) ≡ true → g ≡ false
 third a b g rest h = grind (arith, and_parts, not-true)

@@ -1,13 +1,5 @@
 -- What the parts of a bundle hold, part by part.
-use Rattle.std.proofs.Common.{◌≡◌, ◌<◌, ◌+◌, ◌++◌, ℕ, Bool, true, false, List, [], ◌∷◌, length, take, get_or, Some, None, append-nil, refl, sym, ap, ap₂, ◌∙◌}
-use Rattle.std.specs.Prelude.{if◌then◌else◌}
-use Rattle.std.proofs.lemmas.List.{take_more}
-use Rattle.std.proofs.lemmas.List.Elements.{filter_map-append}
-use Rattle.std.specs.List.{filter_map}
-use Rattle.scf_tool.specs.declared.bundle.Part.{Part}
-use Rattle.scf_tool.specs.declared.bundle.PartKind.{PartKind}
-use Rattle.scf_tool.specs.Bundle.{held, held_by, is_of}
-use Rattle.scf_tool.specs.internal.Contents.{with_one}
+use Rattle.scf_tool.proofs.Common.{◌≡◌, ◌<◌, ◌+◌, ◌++◌, ℕ, Bool, true, false, List, [], ◌∷◌, length, take, get_or, Some, None, append-nil, refl, sym, ap, ap₂, ◌∙◌, if◌then◌else◌, take_more, filter_map-append, filter_map, Part, PartKind, held, held_by, is_of, with_one}
 
 one_held : (b : Bool) (texts : List (List ℕ)) (own : List ℕ)
     → texts ++ filter_map (λ (text : List ℕ). if b then Some text else None) (own ∷ [])

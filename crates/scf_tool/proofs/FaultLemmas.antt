@@ -1,9 +1,5 @@
 -- The line of a fault, by what the program keeps of it.
-use Rattle.std.proofs.Common.{◌≡◌, List, [], ◌∷◌, ℕ, Option, None, Some, ◌++◌, codes, append_assoc, refl, ap}
-use Rattle.std.specs.List.{flat_map}
-use Rattle.scf_tool.specs.declared.fault_line.FaultField.{FaultField}
-use Rattle.scf_tool.specs.Faults.{number_words}
-use Rattle.scf_tool.specs.internal.Fields.{field_text, numbers_of_field}
+use Rattle.scf_tool.proofs.Common.{◌≡◌, List, [], ◌∷◌, ℕ, Option, None, Some, ◌++◌, codes, append_assoc, refl, ap, flat_map, FaultField, number_words, field_text, numbers_of_field}
 
 -- the numbers are written one after another
 numbers_text : (fields : List (Option FaultField))

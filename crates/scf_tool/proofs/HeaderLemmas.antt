@@ -1,20 +1,5 @@
 -- A header ends at the first line end, so bytes begin with at most one.
-use Rattle.std.proofs.Common.{◌≡◌, ◌≢◌, ℕ, zero, suc, ◌+◌, ◌<◌, ◌≤◌, ◌^◌, true, false, List, [], ◌∷◌, ◌++◌, not, eqb, length, get_or, take, drop, codes, Option, Some, Err, unwrap_or, refl, sym, ap, subst, ◌∙◌, append_assoc, arith, length-append}
-use Rattle.std.specs.List.{list_all}
-use Rattle.std.specs.Option.{MatchOption}
-use Rattle.std.proofs.lemmas.List.Folds.{list_all-append}
-use Rattle.std.specs.Char.{is_digit}
-use Rattle.std.specs.Str.Parse.{digits_value, AllDigits}
-use Rattle.std.proofs.lemmas.Bool.{and_from, and_parts, eqb-false, false≢true, ltb-true, ne_eqb, not-true}
-use Rattle.std.proofs.lemmas.Option.{cond_some}
-use Rattle.std.proofs.lemmas.List.{append_cancel_left, append_cancel_right, drop_more, take-append-drop}
-use Rattle.std.proofs.lemmas.Int.Digits.{digits_value-lt}
-use Rattle.std.proofs.Math.Nat.{pow-le-pow_right}
-use Rattle.scf_insn.specs.Numbers.{numeral, ReadsNumber}
-use Rattle.scf_insn.specs.declared.number.NumeralFault.{NumeralFault}
-use Rattle.scf_tool.specs.declared.bundle.PartKind.{PartKind}
-use Rattle.scf_tool.specs.declared.bundle.PartKind.TheVariants.{Filter, Profile, Table}
-use Rattle.scf_tool.specs.Bundle.{kind_word, IsCount, IsHeader, HasHeader}
+use Rattle.scf_tool.proofs.Common.{◌≡◌, ◌≢◌, ℕ, zero, suc, ◌+◌, ◌<◌, ◌≤◌, ◌^◌, true, false, List, [], ◌∷◌, ◌++◌, not, eqb, length, get_or, take, drop, codes, Option, Some, Err, unwrap_or, refl, sym, ap, subst, ◌∙◌, append_assoc, arith, length-append, list_all, MatchOption, list_all-append, is_digit, digits_value, AllDigits, and_from, and_parts, eqb-false, false≢true, ltb-true, ne_eqb, not-true, cond_some, append_cancel_left, append_cancel_right, drop_more, take-append-drop, digits_value-lt, pow-le-pow_right, numeral, ReadsNumber, NumeralFault, PartKind, Filter, Profile, Table, kind_word, IsCount, IsHeader, HasHeader}
 
 -- ---- the digits of a header
 

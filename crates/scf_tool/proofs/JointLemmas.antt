@@ -1,9 +1,5 @@
 -- The first of a list that a test takes, as the list is walked.
-use Rattle.std.proofs.Common.{◌≡◌, ◌+◌, ◌<◌, ◌++◌, ℕ, Bool, true, List, [], ◌∷◌, Some, None, length, take, drop, get_or, map, sym, refl, ap, ◌∙◌}
-use Rattle.std.specs.Prelude.{find}
-use Rattle.std.specs.Option.{option_or}
-use Rattle.std.proofs.lemmas.List.{map_more, map-append, drop_more, take-append-drop}
-use Rattle.std.proofs.lemmas.List.Folds.{find-append}
+use Rattle.scf_tool.proofs.Common.{◌≡◌, ◌+◌, ◌<◌, ◌++◌, ℕ, Bool, true, List, [], ◌∷◌, Some, None, length, take, drop, get_or, map, sym, refl, ap, ◌∙◌, find, option_or, map_more, map-append, drop_more, take-append-drop, find-append}
 
 -- what is found with one more
 pub found_more : {X Y : Type 0} (p : Y → Bool) (f : X → Y) (xs : List X) (i : ℕ) (d : X) → i < length xs

@@ -1,9 +1,10 @@
 pub mod BundleLemmas
+mod CommandLineLemmas
+pub mod Common
 mod ContentLemmas
 mod FaultLemmas
-mod JointLemmas
 pub mod HeaderLemmas
+mod JointLemmas
 mod OptionLemmas
 mod PartyLemmas
 pub mod StackLemmas
-mod CommandLineLemmas

@@ -1,15 +1,6 @@
 -- Options among the matches of a command line, and among its rules.
-use Rattle.std.proofs.Common.{◌≡◌, ◌<◌, ◌+◌, ℕ, Bor, List, [], ◌∷◌, ◌++◌, Option, Some, None, true, false, append-nil, length, take, drop, get_or, map, refl, sym, ap, ◌∙◌}
-use Rattle.std.proofs.lemmas.List.{drop_more, map-append, map_more, map_push, take-append-drop}
-use Rattle.std.specs.Prelude.{if◌then◌else◌, is_some, option_to_list}
-use Rattle.std.proofs.lemmas.List.Elements.{filter_map-append}
-use Rattle.clap.specs.Words.{App, Row, Rule, first_value, with_rule, rows_of}
-use Rattle.clap.specs.declared.parser.matches.Found.{Found}
-use Rattle.clap.proofs.WalkLemmas.{first_value-rows}
-use Rattle.scf_tool.specs.declared.options.NumberOption.{NumberOption as Kept}
-use Rattle.scf_tool.specs.Options.{NumberOption, choice_in, first_wrong, given_of, is_given, number_by, number_in, one_of}
-use Rattle.scf_tool.specs.Runs.{option_rule, shape_with}
-use Rattle.scf_tool.specs.internal.Parsing.{flags_in, option_of, options_kept}
+use Rattle.scf_tool.proofs.Common.{◌≡◌, ◌<◌, ◌+◌, ℕ, Bor, List, [], ◌∷◌, ◌++◌, Option, Some, None, true, false, append-nil, length, take, drop, get_or, map, refl, sym, ap, ◌∙◌, drop_more, map-append, map_more, map_push, take-append-drop, if◌then◌else◌, is_some, option_to_list, filter_map-append, App, Row, first_value, with_rule, rows_of, Found, first_value-rows, Kept, NumberOption, choice_in, first_wrong, given_of, is_given, number_by, number_in, one_of, option_rule, shape_with, flags_in, option_of, options_kept}
+use Rattle.clap.specs.Words.{Rule}
 
 pub by_value : (f : Found) (o : NumberOption) → number_in (rows_of f) o ≡ number_by o (first_value f o.name)
 by_value f o = ap (number_by o) (sym (first_value-rows f o.name))

@@ -1,13 +1,6 @@
 -- The parties of a comparison.
-use Rattle.std.proofs.Common.{inr, refl}
-use Rattle.std.specs.Prelude.{ℕ, List, Option}
-use Rattle.scf_insn.specs.declared.insn.Insn.{Insn}
-use Rattle.scf_profile.specs.Profile.{Profile as Answering}
-use Rattle.scf_profile.specs.Table.{Names}
-use Rattle.scf_tool.specs.declared.parties.Parties.{Parties}
+use Rattle.scf_tool.proofs.Common.{inr, refl, ℕ, List, Option, Insn, Answering, Names, Parties, AreComparedParties, IsRefusedStack, AreParties}
 use Rattle.scf_tool.specs.declared.verification.VerifyFault.TheVariants.{Memory}
-use Rattle.scf_tool.specs.VerifyingStacks.{AreComparedParties, IsRefusedStack}
-use Rattle.scf_tool.specs.internal.Verification.{AreParties}
 
 module _ (filters : List (Option (List ℕ))) (table profile : Option (List ℕ)) where
   -- once they are read, only memory can be refused

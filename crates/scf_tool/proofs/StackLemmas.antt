@@ -1,21 +1,6 @@
 -- Readers of filters, one after another.
-use Rattle.std.proofs.Common.{◌≡◌, ℕ, ◌+◌, ◌<◌, ◌≤◌, List, [], ◌∷◌, ◌++◌, length, take, drop, set, get_or, map, Option, Some, Ok, Err, Bor, refl, sym, ap, ◌∙◌, ◌≢◌, arith, add-one, length-drop}
-use Rattle.std.proofs.lemmas.List.{drop_more, take_more, take_more_set, set_split, drop-set-lt, take-append-drop, map-append, length-map}
-use Rattle.std.proofs.lemmas.List.Sums.{sum_by_push}
-use Rattle.std.specs.List.{AllZip}
-use Rattle.scf_insn.specs.declared.insn.Insn.{Insn}
-use Rattle.scf_insn.specs.Kernel.{max_insns_per_path}
-use Rattle.scf_machine.specs.Stack.{IsPush, cost_of}
+use Rattle.scf_tool.proofs.Common.{◌≡◌, ℕ, ◌+◌, ◌<◌, ◌≤◌, List, [], ◌∷◌, ◌++◌, length, take, drop, set, get_or, map, Option, Some, Ok, Err, Bor, refl, sym, ap, ◌∙◌, ◌≢◌, arith, add-one, length-drop, drop_more, take_more, take_more_set, set_split, drop-set-lt, take-append-drop, map-append, length-map, sum_by_push, AllZip, Insn, max_insns_per_path, IsPush, cost_of, PartReader, HasEnded, IsFilter, LeavesFilterReader, HasStack, HasNoStack, IsNotPushed, HaveEnded, HaveStopped, VerifyFault, FilterRead, IsBundle, HoldsBundle, ReadsInput, texts_at, rest_of}
 use Rattle.scf_insn.specs.declared.encoding.ReadFault.TheVariants as reads
-use Rattle.scf_tool.specs.declared.contents.PartReader.{PartReader}
-use Rattle.scf_tool.specs.Verifying.{HasEnded, IsFilter, LeavesFilterReader}
-use Rattle.scf_tool.specs.FilterStacks.{HasStack, HasNoStack, IsNotPushed, HaveEnded, HaveStopped}
-use Rattle.scf_tool.specs.declared.verification.VerifyFault.{VerifyFault}
-use Rattle.scf_tool.specs.declared.verification.VerifyFault.TheVariants.{FilterRead}
-use Rattle.scf_tool.specs.Bundle.{IsBundle}
-use Rattle.scf_tool.specs.Commands.{HoldsBundle, ReadsInput}
-use Rattle.scf_profile.specs.References.{texts_at}
-use Rattle.scf_tool.specs.internal.Contents.{rest_of}
 
 -- one more on both sides
 pub AllZip-more : {A B : Type 0} (R : A → B → Type 0) (xs : List A) (ys : List B) (x : A) (y : B) → AllZip R xs ys

@@ -1,10 +1,6 @@
-use Rattle.std.proofs.lemmas.Result.{IfOk-weaker}
-use Rattle.scf_machine.specs.Machine.{RunAnswers}
+use Rattle.scf_compare.proofs.Common.{IfOk-weaker, RunAnswers, IsEndPlace, IsPlaceOf, IsFilterEnd}
 use Rattle.scf_compare.specs.declared.relation.Relation.TheVariants as relations
 use Rattle.scf_compare.specs.declared.scope.Scope.TheVariants.{All}
-use Rattle.scf_compare.specs.Verdicts.{IsEndPlace}
-use Rattle.scf_compare.specs.internal.Ends.{IsPlaceOf}
-use Rattle.scf_compare.specs.internal.Filters.{IsFilterEnd}
 use Rattle.scf_compare.proofs.Verdicts.{true_by, decided_in, decided_same, same_of_all, all_of_same, end_place}
 use Rattle.scf_compare.proofs.comparer.compare.Goals as goal
 

@@ -1,8 +1,4 @@
-use Rattle.std.proofs.lemmas.Result.{IfOk-weaker}
-use Rattle.scf_machine.specs.Precedence.{StackAnswers}
-use Rattle.scf_compare.specs.Verdicts.{IsStackEndPlace}
-use Rattle.scf_compare.specs.internal.Ends.{IsPlaceOf}
-use Rattle.scf_compare.specs.internal.Stacks.{IsStackEnd}
+use Rattle.scf_compare.proofs.Common.{IfOk-weaker, StackAnswers, IsStackEndPlace, IsPlaceOf, IsStackEnd}
 use Rattle.scf_compare.proofs.Verdicts.{true_by, decided_in, stack_end_place}
 use Rattle.scf_compare.proofs.comparer.compare_by.Goals as goal
 

@@ -1,9 +1,4 @@
-use Rattle.std.proofs.Common.{subst}
-use Rattle.std.specs.Prelude.{IfOk}
-use Rattle.scf_profile.specs.Profile.{Profile}
-use Rattle.scf_compare.specs.internal.Compared.{IsTrueVerdict}
-use Rattle.scf_compare.specs.internal.Ends.{IsPlaceOf}
-use Rattle.scf_compare.specs.internal.Scopes.{compared_in}
+use Rattle.scf_compare.proofs.Common.{subst, IfOk, Profile, IsTrueVerdict, IsPlaceOf, compared_in}
 use Rattle.scf_compare.proofs.comparer.compare_party.Goals as goal
 
 pub returns-clause-holds : goal.returns-clause-holds

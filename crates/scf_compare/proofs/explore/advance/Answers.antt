@@ -1,4 +1,4 @@
-use Rattle.scf_compare.specs.declared.turn.Turn.TheVariants.{Ask}
+use Rattle.scf_compare.proofs.Common.{Ask}
 use Rattle.scf_compare.proofs.Stages.{led, ended}
 use Rattle.scf_compare.proofs.explore.advance.Goals as goal
 

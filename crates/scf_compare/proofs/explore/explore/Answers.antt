@@ -1,9 +1,4 @@
-use Rattle.std.proofs.Common.{◌≡◌, ◌⊎◌, ◌∙◌, ℕ, List, inl, inr, arith}
-use Rattle.std.specs.Prelude.{Option, None, IfSome, IsSome}
-use Rattle.scf_compare.specs.Verdicts.{IsDecided}
-use Rattle.scf_compare.specs.internal.Compared.{Compared, AllRelated, IsTrueVerdict}
-use Rattle.scf_compare.specs.internal.Ends.{WereSeen, WereAllSeen}
-use Rattle.scf_compare.specs.internal.Stages.{verdict_of_all}
+use Rattle.scf_compare.proofs.Common.{◌≡◌, ◌⊎◌, ◌∙◌, ℕ, List, inl, inr, arith, Option, None, IfSome, IsSome, IsDecided, Compared, AllRelated, IsTrueVerdict, WereSeen, WereAllSeen, verdict_of_all}
 use Rattle.scf_compare.proofs.explore.explore.Goals as goal
 
 -- what was seen stays so

@@ -1,7 +1,4 @@
-use Rattle.std.proofs.Common.{◌≡◌, ◌+◌, ◌≤◌, ◌⊎◌, ℕ, List}
-use Rattle.std.specs.Prelude.{IsTrue, IfSome, None}
-use Rattle.scf_compare.specs.internal.Ends.{WereSeen}
-use Rattle.scf_compare.specs.internal.Frontier.{IsAhead, IsFrontier, IsExact, open_size}
+use Rattle.scf_compare.proofs.Common.{◌≡◌, ◌+◌, ◌≤◌, ◌⊎◌, ℕ, List, IsTrue, IfSome, None, WereSeen, IsAhead, IsFrontier, IsExact, open_size}
 use Rattle.scf_compare.proofs.explore.explore.Given as goal
 
 abbrev pub invariant-loop-steps : goal.invariant-loop-steps

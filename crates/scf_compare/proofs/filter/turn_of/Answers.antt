@@ -1,10 +1,5 @@
 -- The ways on from an instruction follow the runs that come to it, and their sizes are within its size.
-use Rattle.std.proofs.Common.{refl, sym, subst, ◌∙◌, arith}
-use Rattle.std.proofs.lemmas.Grind.{common_steps}
-use Rattle.std.proofs.lemmas.Option.{IfSome_then}
-use Rattle.scf_insn.specs.declared.answer.Answer.{Answer}
-use Rattle.scf_machine.specs.Machine.{RunAnswers}
-use Rattle.scf_compare.specs.internal.Filters.{filter_tree}
+use Rattle.scf_compare.proofs.Common.{refl, sym, subst, ◌∙◌, arith, common_steps, IfSome_then, Answer, RunAnswers, filter_tree}
 use Rattle.scf_compare.proofs.Flows.{size_by_flow}
 use Rattle.scf_compare.proofs.PlainFlows.{plain_flow}
 use Rattle.scf_compare.proofs.Ways.{leads, turn_leads, turn_plain}

@@ -1,4 +1,4 @@
-use Rattle.std.proofs.Common.{sym, subst}
+use Rattle.scf_compare.proofs.Common.{sym, subst}
 use Rattle.scf_compare.proofs.Stages.{forked}
 use Rattle.scf_compare.proofs.frontier.fork.Goals as goal
 

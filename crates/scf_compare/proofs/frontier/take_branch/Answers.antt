@@ -1,6 +1,4 @@
-use Rattle.std.proofs.Common.{◌≡◌, ◌<◌, ◌↔◌, sym, subst, ◌∙◌, arith}
-use Rattle.std.specs.Prelude.{IsTrue}
-use Rattle.scf_compare.specs.internal.Frontier.{GivesLearned}
+use Rattle.scf_compare.proofs.Common.{◌≡◌, ◌<◌, ◌↔◌, sym, subst, ◌∙◌, arith, IsTrue, GivesLearned}
 use Rattle.scf_compare.proofs.Branches.{same_then, newest_is_branch, taken}
 use Rattle.scf_compare.proofs.frontier.take_branch.Goals as goal
 

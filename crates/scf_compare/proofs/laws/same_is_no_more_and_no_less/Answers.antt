@@ -1,4 +1,4 @@
-use Rattle.scf_compare.specs.declared.relation.Relation.TheVariants.{NoMore, NoLess}
+use Rattle.scf_compare.proofs.Common.{NoMore, NoLess}
 use Rattle.scf_compare.proofs.Relations.{all_related}
 use Rattle.scf_compare.proofs.laws.same_is_no_more_and_no_less.Goals as goal
 

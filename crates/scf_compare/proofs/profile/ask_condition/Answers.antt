@@ -1,5 +1,4 @@
-use Rattle.std.proofs.lemmas.List.Elements.{All-contains}
-use Rattle.scf_profile.specs.PlainProfile.{IsPlainRule, IsPlainCondition}
+use Rattle.scf_compare.proofs.Common.{All-contains, IsPlainRule, IsPlainCondition}
 use Rattle.scf_compare.proofs.Rules.{contains_here}
 use Rattle.scf_compare.proofs.profile.ask_condition.Goals as goal
 

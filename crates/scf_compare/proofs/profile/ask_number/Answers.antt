@@ -1,9 +1,4 @@
-use Rattle.std.proofs.Common.{slice_index_or}
-use Rattle.std.proofs.lemmas.Option.{slice_get-get_or}
-use Rattle.scf_insn.specs.Words.{call_of}
-use Rattle.scf_profile.specs.RulesByNumber.{numbers_of}
-use Rattle.scf_profile.specs.ProfileAnswers.{by_default}
-use Rattle.scf_compare.specs.declared.profile_numbers.FirstRule.{FirstRule}
+use Rattle.scf_compare.proofs.Common.{slice_index_or, slice_get-get_or, call_of, numbers_of, by_default, FirstRule}
 use Rattle.scf_compare.proofs.Bits.{word_is, word_isnt}
 use Rattle.scf_compare.proofs.Firsts.{number_at, unmet_at, all_past}
 use Rattle.scf_compare.proofs.Rules.{unmet_numbers, apart_more}

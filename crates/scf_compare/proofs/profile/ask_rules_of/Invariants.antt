@@ -1,6 +1,4 @@
-use Rattle.std.proofs.Common.{◌≢◌, take}
-use Rattle.std.specs.Prelude.{All}
-use Rattle.scf_profile.specs.RulesByNumber.{numbers_of}
+use Rattle.scf_compare.proofs.Common.{◌≢◌, take, All, numbers_of}
 use Rattle.scf_compare.proofs.profile.ask_rules_of.Given as goal
 
 abbrev pub invariant-loop-place : goal.invariant-loop-place

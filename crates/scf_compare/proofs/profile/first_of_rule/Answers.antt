@@ -1,15 +1,4 @@
-use Rattle.std.proofs.lemmas.Grind.{common_steps}
-use Rattle.std.proofs.Common.{arith}
-use Rattle.std.proofs.Common.{◌≡◌, ◌<◌, ℕ, List, get_or, length, slice_index_or, sym, subst}
-use Rattle.std.proofs.lemmas.Option.{slice_get-get_or}
-use Rattle.std.specs.Prelude.{slice_get, Some}
-use Rattle.scf_insn.specs.Words.{call_of}
-use Rattle.scf_profile.specs.declared.condition.Operator.TheVariants.{Equal}
-use Rattle.scf_profile.specs.declared.condition.Condition.{Condition}
-use Rattle.scf_profile.specs.declared.rule.Rule.{Rule}
-use Rattle.scf_profile.specs.ProfileAnswers.{by_rule}
-use Rattle.scf_compare.specs.declared.question.ConditionPart.TheVariants.{High}
-use Rattle.scf_compare.specs.internal.Profiles.{StandsAt}
+use Rattle.scf_compare.proofs.Common.{common_steps, arith, ◌≡◌, ◌<◌, ℕ, List, get_or, length, slice_index_or, sym, subst, slice_get-get_or, slice_get, Some, call_of, Equal, Condition, Rule, by_rule, High, StandsAt}
 use Rattle.scf_compare.proofs.Rules.{read_here, same_here, none_of, some_of, contains_here, met_by, knows, size_at_condition, conditions_count}
 use Rattle.scf_compare.proofs.profile.first_of_rule.Goals as goal
 

@@ -1,16 +1,5 @@
 -- Where the ways on from a condition lead.
-use Rattle.std.proofs.Common.{◌≡◌, ◌≢◌, ◌+◌, ◌≤◌, ℕ, suc, List, get_or, length, take, slice_index_or, true, sym, ap, subst, ◌∙◌, arith}
-use Rattle.std.specs.Prelude.{slice_get}
-use Rattle.std.proofs.lemmas.List.{take_all}
-use Rattle.std.proofs.lemmas.Option.{slice_get-get_or, slice_get_within}
-use Rattle.scf_insn.specs.Words.{call_of}
-use Rattle.scf_profile.specs.declared.condition.Operator.TheVariants.{Equal}
-use Rattle.scf_profile.specs.declared.condition.Condition.{Condition}
-use Rattle.scf_profile.specs.declared.rule.Rule.{Rule}
-use Rattle.scf_profile.specs.Rule.{all_hold}
-use Rattle.scf_profile.specs.ProfileAnswers.{by_rule}
-use Rattle.scf_compare.specs.declared.question.ConditionPart.TheVariants.{High}
-use Rattle.scf_compare.specs.internal.Profiles.{StandsAt, IsAtCondition}
+use Rattle.scf_compare.proofs.Common.{◌≡◌, ◌≢◌, ◌+◌, ◌≤◌, ℕ, suc, List, get_or, length, take, slice_index_or, true, sym, ap, subst, ◌∙◌, arith, slice_get, take_all, slice_get-get_or, slice_get_within, call_of, Equal, Condition, Rule, all_hold, by_rule, High, StandsAt, IsAtCondition}
 use Rattle.scf_compare.proofs.Rules.{read_here, same_here, contains_here, met_by, held_more, fails_by, unmet_failing, unmet_more, knows, size_at_condition}
 use Rattle.scf_compare.proofs.profile.follow.Goals as goal
 

@@ -1,7 +1,4 @@
-use Rattle.std.proofs.Common.{◌≡◌, refl, sym, ap, ◌∙◌}
-use Rattle.scf_insn.specs.Words.{call_of}
-use Rattle.scf_profile.specs.declared.rule.Rule.{Rule}
-use Rattle.scf_profile.specs.ProfileAnswers.{by_default}
+use Rattle.scf_compare.proofs.Common.{◌≡◌, refl, sym, ap, ◌∙◌, call_of, Rule, by_default}
 use Rattle.scf_compare.proofs.Rules.{read_here, unmet_all}
 use Rattle.scf_compare.proofs.profile.next_rule.Goals as goal
 

@@ -1,8 +1,4 @@
-use Rattle.std.proofs.Common.{◌≡◌, ◌≤◌, ◌-◌, length, take, drop, false}
-use Rattle.std.specs.Prelude.{All}
-use Rattle.scf_insn.specs.declared.record.CallRecord.{CallRecord}
-use Rattle.scf_profile.specs.Rule.{meets}
-use Rattle.scf_profile.specs.RulesByNumber.{rules_of}
+use Rattle.scf_compare.proofs.Common.{◌≡◌, ◌≤◌, ◌-◌, length, take, drop, false, All, CallRecord, meets, rules_of}
 use Rattle.scf_compare.proofs.profile.next_rule.Given as goal
 
 abbrev pub invariant-loop-place : goal.invariant-loop-place

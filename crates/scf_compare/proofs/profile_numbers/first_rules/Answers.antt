@@ -1,10 +1,4 @@
-use Rattle.std.proofs.Common.{◌≡◌, ◌≤◌, ◌+◌, ◌==◌, ◌++◌, ◌∷◌, [], ℕ, List, Bool, false, cond, take, length, length-take, slice_index_or, sym, ap, subst, ◌∙◌, arith}
-use Rattle.std.specs.Prelude.{All, map}
-use Rattle.std.specs.List.{list_any}
-use Rattle.std.proofs.lemmas.Option.{slice_get-get_or}
-use Rattle.scf_profile.specs.declared.rule.Rule.{Rule}
-use Rattle.scf_profile.proofs.Numbers.{has_number}
-use Rattle.scf_compare.specs.declared.profile_numbers.FirstRule.{FirstRule}
+use Rattle.scf_compare.proofs.Common.{◌≡◌, ◌≤◌, ◌+◌, ◌==◌, ◌++◌, ◌∷◌, [], ℕ, List, Bool, false, cond, take, length, length-take, slice_index_or, sym, ap, subst, ◌∙◌, arith, All, map, list_any, slice_get-get_or, Rule, has_number, FirstRule}
 use Rattle.scf_compare.proofs.Firsts.{all_with, numbers_with}
 use Rattle.scf_compare.proofs.Saturated.{numbers_grow}
 use Rattle.scf_compare.proofs.profile_numbers.first_rules.Goals as goal

@@ -1,7 +1,4 @@
-use Rattle.std.proofs.Common.{◌≡◌, ◌≤◌, ◌==◌, false, take}
-use Rattle.std.specs.Prelude.{All, map}
-use Rattle.std.specs.List.{list_any}
-use Rattle.scf_profile.specs.RulesByNumber.{numbers_of}
+use Rattle.scf_compare.proofs.Common.{◌≡◌, ◌≤◌, ◌==◌, false, take, All, map, list_any, numbers_of}
 use Rattle.scf_compare.proofs.profile_numbers.first_rules.Given as goal
 
 abbrev pub invariant-loop-place : goal.invariant-loop-place

@@ -1,5 +1,4 @@
-use Rattle.std.proofs.Common.{bit_and, rules}
-use Rattle.scf_insn.specs.Words.{argument, call_of}
+use Rattle.scf_compare.proofs.Common.{bit_and, rules, argument, call_of}
 use Rattle.scf_compare.proofs.Halves.{masked_same, masked_apart}
 use Rattle.scf_compare.proofs.question.at_high.Goals as goal
 

@@ -1,5 +1,4 @@
-use Rattle.std.proofs.Common.{bit_and, sym, ◌∙◌}
-use Rattle.scf_insn.specs.Words.{argument, call_of}
+use Rattle.scf_compare.proofs.Common.{bit_and, sym, ◌∙◌, argument, call_of}
 use Rattle.scf_compare.proofs.Halves.{masked_by_low}
 use Rattle.scf_compare.proofs.question.at_low.Goals as goal
 

@@ -1,12 +1,4 @@
-use Rattle.std.proofs.Common.{◌≡◌, ◌↔◌, ℕ, List, Bool, true, false, arith}
-use Rattle.scf_insn.proofs.CallWords.{word_below}
-use Rattle.scf_insn.specs.Kernel.{x32_syscall_bit}
-use Rattle.scf_facts.specs.declared.atom.Atom.{Atom}
-use Rattle.scf_facts.specs.declared.atom.Atom.TheVariants.{Eq, Ge}
-use Rattle.scf_facts.specs.declared.word_facts.WordFacts.{Ghosts as Store}
-use Rattle.scf_facts.specs.Atoms.{atom_answer}
-use Rattle.scf_compare.specs.declared.scope.Scope.TheVariants.{Native, Call}
-use Rattle.scf_compare.specs.internal.Scopes.{AreWordsOf, AreWordsOfX86_64}
+use Rattle.scf_compare.proofs.Common.{◌≡◌, ◌↔◌, ℕ, List, Bool, true, false, arith, word_below, x32_syscall_bit, Atom, Eq, Ge, Store, atom_answer, Native, Call, AreWordsOf, AreWordsOfX86_64}
 use Rattle.scf_compare.proofs.Bits.{whole_word, word_is}
 use Rattle.scf_compare.proofs.scope.facts_of.Goals as goal
 

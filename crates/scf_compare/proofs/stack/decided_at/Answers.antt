@@ -1,7 +1,4 @@
-use Rattle.std.proofs.Common.{◌+◌, ◌<ℤ◌, ◌≤ℤ◌, [], subst, take, arith}
-use Rattle.std.proofs.lemmas.Int.{ints}
-use Rattle.scf_insn.specs.Answers.{rank_of}
-use Rattle.scf_machine.specs.Precedence.{StackAnswers}
+use Rattle.scf_compare.proofs.Common.{◌+◌, ◌<ℤ◌, ◌≤ℤ◌, [], subst, take, arith, ints, rank_of, StackAnswers}
 use Rattle.scf_machine.proofs.Stacks.{one_more}
 use Rattle.scf_compare.proofs.Stacks.{lesser_wins, other_wins}
 use Rattle.scf_compare.proofs.stack.decided_at.Goals as goal

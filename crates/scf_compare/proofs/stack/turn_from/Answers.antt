@@ -1,15 +1,5 @@
 -- The turns of the filter that is asked are turns of the stack, and where it ends the next one begins.
-use Rattle.std.proofs.Common.{◌≡◌, ◌+◌, ◌*◌, ◌<◌, ◌≤◌, ℕ, List, length, drop, sym, subst, ap, ◌∙◌, arith}
-use Rattle.std.proofs.lemmas.List.{take_all}
-use Rattle.std.proofs.Math.Nat.{mul-le-mul_left}
-use Rattle.scf_insn.specs.declared.insn.Insn.{Insn}
-use Rattle.scf_machine.specs.Precedence.{StackAnswers}
-use Rattle.scf_compare.specs.Effort.{stack_paths}
-use Rattle.scf_compare.specs.Paths.{tree_size}
-use Rattle.scf_compare.specs.internal.Ends.{FilterTells}
-use Rattle.scf_compare.specs.internal.Filters.{filter_size}
-use Rattle.scf_compare.specs.internal.Laws.{scaled_costs, paths_count}
-use Rattle.scf_compare.specs.internal.Stacks.{filter_at}
+use Rattle.scf_compare.proofs.Common.{◌≡◌, ◌+◌, ◌*◌, ◌<◌, ◌≤◌, ℕ, List, length, drop, sym, subst, ap, ◌∙◌, arith, take_all, mul-le-mul_left, Insn, StackAnswers, stack_paths, tree_size, FilterTells, filter_size, scaled_costs, paths_count, filter_at}
 use Rattle.scf_compare.proofs.Stacks.{is_stack_end, paths_from, plain_at}
 use Rattle.scf_compare.proofs.stack.turn_from.Goals as goal
 

@@ -1,7 +1,4 @@
-use Rattle.std.proofs.Common.{◌-◌, ◌≤◌, ℕ, List, length}
-use Rattle.scf_insn.specs.Words.{IsWords}
-use Rattle.scf_compare.specs.declared.stack.StackNode.TheVariants.{At}
-use Rattle.scf_compare.specs.internal.Stacks.{stack_is_node, stack_reaches, stack_size, stack_is_plain}
+use Rattle.scf_compare.proofs.Common.{◌-◌, ◌≤◌, ℕ, List, length, IsWords, At, stack_is_node, stack_reaches, stack_size, stack_is_plain}
 use Rattle.scf_compare.proofs.stack.turn_from.Given as goal
 
 abbrev pub invariant-loop-next : goal.invariant-loop-next

@@ -1,7 +1,4 @@
-use Rattle.std.proofs.Common.{◌≡◌, ◌≤◌, ◌<◌, ℕ, length}
-use Rattle.std.specs.Prelude.{slice_index}
-use Rattle.scf_compare.specs.Effort.{saturated}
-use Rattle.scf_compare.specs.Paths.{tree_size}
+use Rattle.scf_compare.proofs.Common.{◌≡◌, ◌≤◌, ◌<◌, ℕ, length, slice_index, saturated, tree_size}
 use Rattle.scf_compare.proofs.tree_sizes.fill_sizes.Given as goal
 
 abbrev pub invariant-loop-place : goal.invariant-loop-place

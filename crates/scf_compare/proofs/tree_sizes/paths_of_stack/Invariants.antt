@@ -1,5 +1,4 @@
-use Rattle.std.proofs.Common.{◌≡◌, ◌≤◌, length, drop}
-use Rattle.scf_compare.specs.Effort.{stack_paths, saturated}
+use Rattle.scf_compare.proofs.Common.{◌≡◌, ◌≤◌, length, drop, stack_paths, saturated}
 use Rattle.scf_compare.proofs.tree_sizes.paths_of_stack.Given as goal
 
 abbrev pub invariant-loop-place : goal.invariant-loop-place

@@ -1,4 +1,4 @@
-use Rattle.std.proofs.Common.{arith}
+use Rattle.scf_compare.proofs.Common.{arith}
 use Rattle.scf_compare.proofs.Flows.{forward_at, size_by_flow}
 use Rattle.scf_compare.proofs.tree_sizes.size_of.Goals as goal
 

@@ -1,5 +1,4 @@
-use Rattle.std.proofs.Common.{◌≡◌, ◌≤◌, ℕ, length, drop}
-use Rattle.scf_compare.specs.Effort.{conditions_size, saturated}
+use Rattle.scf_compare.proofs.Common.{◌≡◌, ◌≤◌, ℕ, length, drop, conditions_size, saturated}
 use Rattle.scf_compare.proofs.tree_sizes.size_of_conditions.Given as goal
 
 abbrev pub invariant-loop-place : goal.invariant-loop-place

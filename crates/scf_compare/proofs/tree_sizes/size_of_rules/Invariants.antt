@@ -1,6 +1,4 @@
-use Rattle.std.proofs.Common.{◌≡◌, ◌≤◌, length, drop}
-use Rattle.scf_profile.specs.RulesByNumber.{rules_of}
-use Rattle.scf_compare.specs.Effort.{rules_size, saturated}
+use Rattle.scf_compare.proofs.Common.{◌≡◌, ◌≤◌, length, drop, rules_of, rules_size, saturated}
 use Rattle.scf_compare.proofs.tree_sizes.size_of_rules.Given as goal
 
 abbrev pub invariant-loop-place : goal.invariant-loop-place

@@ -1,7 +1,4 @@
-use Rattle.std.proofs.Common.{[], slice_index_or, arith}
-use Rattle.std.proofs.lemmas.Option.{slice_get-get_or}
-use Rattle.scf_profile.specs.declared.rule.Rule.{Rule}
-use Rattle.scf_compare.specs.Effort.{number_size}
+use Rattle.scf_compare.proofs.Common.{[], slice_index_or, arith, slice_get-get_or, Rule, number_size}
 use Rattle.scf_compare.proofs.Saturated.{sum_grows}
 use Rattle.scf_compare.proofs.tree_sizes.spread_of.Goals as goal
 

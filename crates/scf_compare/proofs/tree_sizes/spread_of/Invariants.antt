@@ -1,7 +1,4 @@
-use Rattle.std.proofs.Common.{◌≡◌, ◌+◌, take}
-use Rattle.std.specs.Prelude.{sum_by}
-use Rattle.scf_profile.specs.RulesByNumber.{numbers_of}
-use Rattle.scf_compare.specs.Effort.{number_size, saturated}
+use Rattle.scf_compare.proofs.Common.{◌≡◌, ◌+◌, take, sum_by, numbers_of, number_size, saturated}
 use Rattle.scf_compare.proofs.tree_sizes.spread_of.Given as goal
 
 abbrev pub invariant-loop-place : goal.invariant-loop-place

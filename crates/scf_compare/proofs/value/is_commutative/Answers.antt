@@ -1,7 +1,4 @@
-use Rattle.std.proofs.lemmas.Grind.{common_steps}
-use Rattle.std.proofs.Common.{arith}
-use Rattle.std.proofs.lemmas.Nat.{and_comm, or_comm, xor_comm}
-use Rattle.std.proofs.Math.Nat.{add_comm, mul_comm}
+use Rattle.scf_compare.proofs.Common.{common_steps, arith, and_comm, or_comm, xor_comm, add_comm, mul_comm}
 use Rattle.scf_compare.proofs.value.is_commutative.Goals as goal
 
 pub returns-in-Add : goal.returns-in-Add

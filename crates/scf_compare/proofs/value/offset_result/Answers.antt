@@ -1,6 +1,4 @@
-use Rattle.std.proofs.Common.{◌∙◌, subst, sym}
-use Rattle.scf_compare.specs.internal.Images.{image_number}
-use Rattle.scf_compare.specs.internal.Values.{StandsFor}
+use Rattle.scf_compare.proofs.Common.{◌∙◌, subst, sym, image_number, StandsFor}
 use Rattle.scf_compare.proofs.Offsets.{complement}
 use Rattle.scf_compare.proofs.value.offset_result.Goals as goal
 

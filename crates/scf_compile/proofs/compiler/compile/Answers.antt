@@ -1,5 +1,4 @@
-use Rattle.std.proofs.Common.{List, length, ap, arith}
-use Rattle.scf_insn.specs.declared.insn.Insn.{Insn}
+use Rattle.scf_compile.proofs.Common.{List, length, ap, arith, Insn}
 use Rattle.scf_compile.proofs.Valid.{answers_same, answers_within, is_plain, keeps_scratch_rule, sound_is_valid}
 use Rattle.scf_compile.proofs.compiler.compile.Goals as goal
 

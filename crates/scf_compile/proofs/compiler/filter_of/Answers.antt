@@ -1,15 +1,4 @@
-use Rattle.std.proofs.Common.{rules as auto_rules, ◌≡◌, Bor, List, ◌∷◌, length, ap, arith}
-use Rattle.std.proofs.lemmas.List.Elements.{All-from_recursion}
-use Rattle.std.proofs.lemmas.List.Sorted.{All-permutation}
-use Rattle.scf_insn.specs.declared.answer.Answer.{Answer}
-use Rattle.scf_insn.specs.declared.insn.Insn.{Insn}
-use Rattle.scf_profile.specs.declared.rule.Rule.{Rule}
-use Rattle.scf_profile.specs.Profile.{Profile, IsProfile}
-use Rattle.scf_profile.specs.ByNumber.{IsByNumber, rules_at}
-use Rattle.scf_profile.specs.Rule.{IsRule}
-use Rattle.scf_compile.specs.declared.stretches.Stretch.{Stretch}
-use Rattle.scf_compile.specs.internal.Insns.{load_word}
-use Rattle.scf_compile.specs.internal.Stretches.{AreStretchesOf}
+use Rattle.scf_compile.proofs.Common.{auto_rules, ◌≡◌, Bor, List, ◌∷◌, length, ap, arith, All-from_recursion, All-permutation, Answer, Insn, Rule, Profile, IsProfile, IsByNumber, rules_at, IsRule, Stretch, load_word, AreStretchesOf}
 use Rattle.scf_compile.proofs.Counts.{serves}
 use Rattle.scf_compile.proofs.Filters.{Serve, answered_few, filter_put, kill_put}
 use Rattle.scf_compile.proofs.Searches.{longer, put_len}

@@ -1,17 +1,4 @@
-use Rattle.std.proofs.Common.{rules, ◌≡◌, ◌≢◌, ℕ, zero, suc, ◌+◌, ◌<◌, ◌≤◌, true, false, leb, Bor, List, [], ◌∷◌, length, get_or}
-use Rattle.std.proofs.Common.{take, drop, refl, sym, ap, ◌∙◌, arith, inl, inr}
-use Rattle.std.proofs.Math.ListN.{length-take, length-drop}
-use Rattle.std.specs.List.{AllByRecursion}
-use Rattle.std.specs.List.Sorted.{IsPartitionPoint}
-use Rattle.std.proofs.lemmas.Bool.{cases_lt, eq-eqb, ne_eqb}
-use Rattle.std.proofs.lemmas.Bool.Decides.{nat_tests}
-use Rattle.std.proofs.lemmas.List.{get_or-drop, get_or_default, take-append-drop}
-use Rattle.std.proofs.lemmas.List.Elements.{recursion_from_All}
-use Rattle.std.proofs.lemmas.List.Sorted.{IsNonDecreasingBy-drop, IsPartitionedBy-leb, IsPartitionPoint-from_clause}
-use Rattle.scf_profile.specs.declared.rule.Rule.{Rule}
-use Rattle.scf_profile.specs.ByNumber.{rules_at}
-use Rattle.scf_profile.specs.RulesByNumber.{rules_of}
-use Rattle.scf_profile.proofs.ByNumber.{number_at}
+use Rattle.scf_compile.proofs.Common.{rules, ◌≡◌, ◌≢◌, ℕ, zero, suc, ◌+◌, ◌<◌, ◌≤◌, true, false, leb, Bor, List, [], ◌∷◌, length, get_or, take, drop, refl, sym, ap, ◌∙◌, arith, inl, inr, length-take, length-drop, AllByRecursion, IsPartitionPoint, cases_lt, eq-eqb, ne_eqb, nat_tests, get_or-drop, get_or_default, take-append-drop, recursion_from_All, IsNonDecreasingBy-drop, IsPartitionedBy-leb, IsPartitionPoint-from_clause, Rule, rules_at, rules_of, number_at}
 use Rattle.scf_compile.proofs.numbers.cut_lowest.Goals as goal
 
 module _ (number : ℕ) where

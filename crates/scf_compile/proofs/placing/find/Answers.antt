@@ -1,8 +1,5 @@
-use Rattle.std.proofs.Common.{rules, ◌≡◌, ◌≢◌, take, ◌+◌, ◌-◌, ◌<◌, drop, length, get_or, length-take, refl, ap, ◌∙◌}
-use Rattle.std.proofs.Common.{arith, inl}
-use Rattle.std.proofs.lemmas.Grind.{common_steps}
-use Rattle.std.proofs.lemmas.List.{get_or-take, take_more}
-use Rattle.std.proofs.lemmas.List.Elements.{All-push}
+use Rattle.scf_compile.proofs.Common.{rules, ◌≡◌, ◌≢◌, take, ◌+◌, ◌-◌, ◌<◌, drop, length, get_or, refl, ap, ◌∙◌, arith, inl, common_steps, get_or-take, take_more, All-push}
+use Rattle.std.proofs.Common.{length-take}
 use Rattle.scf_compile.proofs.Lists.{next_at}
 use Rattle.scf_compile.proofs.placing.find.Goals as goal
 

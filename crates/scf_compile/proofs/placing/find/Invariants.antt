@@ -1,4 +1,4 @@
-use Rattle.std.proofs.Common.{◌≢◌, take, All}
+use Rattle.scf_compile.proofs.Common.{◌≢◌, take, All}
 use Rattle.scf_compile.proofs.placing.find.Given as goal
 
 -- none of those before this place is it

@@ -1,9 +1,4 @@
-use Rattle.std.proofs.Common.{rules, ◌≡◌, ◌++◌, ◌-◌, List, drop, get_or, length, ap, ◌∙◌, subst}
-use Rattle.std.proofs.Common.{arith, inr}
-use Rattle.std.proofs.lemmas.Grind.{common_steps}
-use Rattle.std.proofs.lemmas.List.{drop_more}
-use Rattle.scf_insn.specs.declared.insn.Insn.{Insn}
-use Rattle.scf_compile.specs.internal.Placing.{IsOutOfReach}
+use Rattle.scf_compile.proofs.Common.{rules, ◌≡◌, ◌++◌, ◌-◌, List, drop, get_or, length, ap, ◌∙◌, subst, arith, inr, common_steps, drop_more, Insn, IsOutOfReach}
 use Rattle.scf_compile.proofs.RuleCode.{first_near, from_first}
 use Rattle.scf_compile.proofs.placing.put_block.Goals as goal
 use Rattle.scf_compile.proofs.placing.put_block.Goals.{then-block-eq1+in_default, else-block-eq1}

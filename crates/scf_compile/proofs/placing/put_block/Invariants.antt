@@ -1,4 +1,4 @@
-use Rattle.std.proofs.Common.{◌≡◌, ◌++◌, drop}
+use Rattle.scf_compile.proofs.Common.{◌≡◌, ◌++◌, drop}
 use Rattle.scf_compile.proofs.placing.put_block.Given as goal
 
 -- the block's instructions from a place on stand before what stood

@@ -1,4 +1,4 @@
-use Rattle.std.proofs.Common.{arith}
+use Rattle.scf_compile.proofs.Common.{arith}
 use Rattle.scf_compile.proofs.Sizes.{conditions_len_from}
 use Rattle.scf_compile.proofs.rules.conditions_len.Goals as goal
 

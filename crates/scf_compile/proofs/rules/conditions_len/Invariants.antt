@@ -1,5 +1,4 @@
-use Rattle.std.proofs.Common.{◌≡◌, ◌+◌, ◌*◌, ◌≤◌, length, drop}
-use Rattle.scf_compile.specs.internal.Filters.{conditions_code}
+use Rattle.scf_compile.proofs.Common.{◌≡◌, ◌+◌, ◌*◌, ◌≤◌, length, drop, conditions_code}
 use Rattle.scf_compile.proofs.rules.conditions_len.Given as goal
 
 abbrev pub invariant-loop-condition : goal.invariant-loop-condition

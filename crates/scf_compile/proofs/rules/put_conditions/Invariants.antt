@@ -1,5 +1,4 @@
-use Rattle.std.proofs.Common.{◌≡◌, ◌++◌, drop}
-use Rattle.scf_compile.specs.internal.Filters.{conditions_code}
+use Rattle.scf_compile.proofs.Common.{◌≡◌, ◌++◌, drop, conditions_code}
 use Rattle.scf_compile.proofs.rules.put_conditions.Given as goal
 
 abbrev pub invariant-loop-i : goal.invariant-loop-i

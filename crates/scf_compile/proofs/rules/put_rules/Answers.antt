@@ -1,8 +1,4 @@
-use Rattle.std.proofs.Common.{rules, ◌+◌, ◌<◌, Bor, length, drop, append_assoc, arith}
-use Rattle.std.proofs.lemmas.List.{get_or-map, length-map}
-use Rattle.scf_profile.specs.declared.rule.Rule.{Rule}
-use Rattle.scf_profile.specs.ByNumber.{rules_at}
-use Rattle.scf_compile.specs.internal.Filters.{rule_code, rules_code}
+use Rattle.scf_compile.proofs.Common.{rules, ◌+◌, ◌<◌, Bor, length, drop, append_assoc, arith, get_or-map, length-map, Rule, rules_at, rule_code, rules_code}
 use Rattle.scf_compile.proofs.Sizes.{rules_code_from}
 use Rattle.scf_compile.proofs.rules.put_rules.Goals as goal
 

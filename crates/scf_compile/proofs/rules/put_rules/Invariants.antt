@@ -1,6 +1,4 @@
-use Rattle.std.proofs.Common.{◌≡◌, ◌++◌, drop}
-use Rattle.scf_profile.specs.ByNumber.{rules_at}
-use Rattle.scf_compile.specs.internal.Filters.{rules_code}
+use Rattle.scf_compile.proofs.Common.{◌≡◌, ◌++◌, drop, rules_at, rules_code}
 use Rattle.scf_compile.proofs.rules.put_rules.Given as goal
 
 abbrev pub invariant-loop-rule : goal.invariant-loop-rule

@@ -1,11 +1,4 @@
-use Rattle.std.proofs.Common.{rules, ◌≡◌, ℕ, ◌+◌, ◌/◌, List, take, drop, length, arith, sum_by}
-use Rattle.std.proofs.lemmas.Result.{IfOk-weaker}
-use Rattle.scf_profile.specs.ByNumber.{rules_at}
-use Rattle.scf_profile.specs.Rule.{IsRule}
-use Rattle.scf_compile.specs.declared.stretches.Stretch.{Stretch}
-use Rattle.scf_compile.specs.internal.Placing.{IsFirst, IsPut}
-use Rattle.scf_compile.specs.internal.Filters.{IsSearchPut, rules_code}
-use Rattle.scf_compile.specs.internal.Stretches.{stretch_bound}
+use Rattle.scf_compile.proofs.Common.{rules, ◌≡◌, ℕ, ◌+◌, ◌/◌, List, take, drop, length, arith, sum_by, IfOk-weaker, rules_at, IsRule, Stretch, IsFirst, IsPut, IsSearchPut, rules_code, stretch_bound}
 use Rattle.scf_compile.proofs.Searches.{longer, put_len, all_parts, halves_sum, one_is, search_branch, search_one}
 use Rattle.scf_compile.proofs.search.+put_search.Goals as goal
 

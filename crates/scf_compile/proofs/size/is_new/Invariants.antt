@@ -1,5 +1,4 @@
-use Rattle.std.proofs.Common.{◌≡◌, eqb, drop}
-use Rattle.std.specs.List.{list_any}
+use Rattle.scf_compile.proofs.Common.{◌≡◌, eqb, drop, list_any}
 use Rattle.scf_compile.proofs.size.is_new.Given as goal
 
 abbrev pub invariant-loop-rule : goal.invariant-loop-rule

@@ -1,7 +1,4 @@
-use Rattle.std.proofs.Common.{length, sym, ap, subst, arith}
-use Rattle.std.specs.List.{AllByRecursion}
-use Rattle.std.proofs.lemmas.List.Elements.{All-from_recursion}
-use Rattle.scf_profile.specs.Rule.{IsRule}
+use Rattle.scf_compile.proofs.Common.{length, sym, ap, subst, arith, AllByRecursion, All-from_recursion, IsRule}
 use Rattle.scf_compile.proofs.Sizes.{bound_with, few_conditions}
 use Rattle.scf_compile.proofs.size.size_bound.Goals as goal
 use Rattle.scf_compile.proofs.size.size_bound.Goals.{then-is_new, else-is_new}

@@ -1,5 +1,4 @@
-use Rattle.std.proofs.Common.{◌≡◌, ◌+◌, ◌*◌, ◌≤◌, length, take, sum_by}
-use Rattle.scf_profile.specs.RulesByNumber.{numbers_of}
+use Rattle.scf_compile.proofs.Common.{◌≡◌, ◌+◌, ◌*◌, ◌≤◌, length, take, sum_by, numbers_of}
 use Rattle.scf_compile.proofs.size.size_bound.Given as goal
 
 abbrev pub invariant-loop-i : goal.invariant-loop-i

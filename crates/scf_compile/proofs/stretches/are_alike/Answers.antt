@@ -1,13 +1,4 @@
-use Rattle.std.proofs.Common.{rules, ◌≡◌, ◌≤◌, true, List, ◌∷◌, length, refl, sym, ◌∙◌, arith}
-use Rattle.std.proofs.lemmas.List.{drop_all}
-use Rattle.std.proofs.lemmas.List.Sums.{sum_by-cons}
-use lib.Pointwise.{pointwise, pointwise_decides}
-use Rattle.scf_insn.specs.declared.answer.Answer.{Answer}
-use Rattle.scf_profile.specs.declared.condition.Condition.{Condition}
-use Rattle.scf_profile.specs.contracts.condition.ConditionPartialEq.TheImpl.{eq-value}
-use Rattle.scf_profile.specs.declared.rule.Rule.{Rule}
-use Rattle.scf_compile.specs.SizeBound.{rule_bound}
-use Rattle.scf_compile.specs.internal.Stretches.{StandsFor}
+use Rattle.scf_compile.proofs.Common.{rules, ◌≡◌, ◌≤◌, true, List, ◌∷◌, length, refl, sym, ◌∙◌, arith, drop_all, sum_by-cons, pointwise, pointwise_decides, Answer, Condition, eq-value, Rule, rule_bound, StandsFor}
 use Rattle.scf_compile.proofs.Lists.{next_at}
 use Rattle.scf_compile.proofs.stretches.are_alike.Goals as goal
 

@@ -1,7 +1,4 @@
-use Rattle.std.proofs.Common.{◌≡◌, length, drop}
-use Rattle.scf_insn.specs.declared.answer.Answer.{Answer}
-use Rattle.scf_profile.specs.ByNumber.{rules_at}
-use Rattle.scf_compile.specs.internal.Stretches.{StandsFor}
+use Rattle.scf_compile.proofs.Common.{◌≡◌, length, drop, Answer, rules_at, StandsFor}
 use Rattle.scf_compile.proofs.stretches.are_alike.Given as goal
 
 abbrev pub invariant-loop-i : goal.invariant-loop-i

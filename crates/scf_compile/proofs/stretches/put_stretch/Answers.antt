@@ -1,5 +1,4 @@
-use Rattle.std.proofs.Common.{rules, refl}
-use Rattle.scf_compile.specs.internal.Stretches.{begins}
+use Rattle.scf_compile.proofs.Common.{rules, refl, begins}
 use Rattle.scf_compile.proofs.Laying.{goes_on_last}
 use Rattle.scf_compile.proofs.stretches.put_stretch.Goals as goal
 use Rattle.scf_compile.proofs.stretches.put_stretch.Goals.{in-Some, in-None}

@@ -1,10 +1,4 @@
-use Rattle.std.proofs.Common.{◌≡◌, ℕ, ◌-◌, Bor, List, take, drop, length, refl, ◌∙◌, arith}
-use Rattle.std.proofs.Math.ListN.{length-drop}
-use Rattle.std.proofs.Math.Seq.{drop-drop}
-use Rattle.std.proofs.lemmas.List.{drop_all, take_all}
-use Rattle.scf_insn.specs.Kernel.{x32_syscall_bit}
-use Rattle.scf_profile.specs.declared.rule.Rule.{Rule}
-use Rattle.scf_profile.proofs.ByNumber.{references_rise}
+use Rattle.scf_compile.proofs.Common.{◌≡◌, ℕ, ◌-◌, Bor, List, take, drop, length, refl, ◌∙◌, arith, length-drop, drop-drop, drop_all, take_all, x32_syscall_bit, Rule, references_rise}
 use Rattle.scf_compile.proofs.Laying.{laid_none, laid_gap, laid_own, lowest_inside, laid_all}
 use Rattle.scf_compile.proofs.stretches.stretches_of.Goals as goal
 use Rattle.scf_compile.proofs.stretches.stretches_of.Goals.{then-next-own+in_ok-put_stretch, else-next-own}

@@ -1,5 +1,4 @@
-use Rattle.std.proofs.Common.{◌-◌, drop, length}
-use Rattle.scf_profile.specs.ByNumber.{rules_at}
+use Rattle.scf_compile.proofs.Common.{◌-◌, drop, length, rules_at}
 use Rattle.scf_compile.proofs.Laying.{LaidUpTo}
 use Rattle.scf_compile.proofs.stretches.stretches_of.Given as goal
 

@@ -1,13 +1,4 @@
-use Rattle.std.proofs.Common.{rules, ◌≡◌, Bor, List, [], ◌∷◌, refl, sym, ap, inl, inr, arith}
-use Rattle.std.specs.List.{AllByRecursion}
-use Rattle.std.proofs.lemmas.Bool.{cases_Bool}
-use Rattle.std.proofs.lemmas.List.Elements.{All-map, recursion_from_All}
-use Rattle.scf_insn.specs.declared.answer.Answer.{Answer}
-use Rattle.scf_insn.specs.declared.record.CallRecord.{CallRecord}
-use Rattle.scf_profile.specs.declared.rule.Rule.{Rule}
-use Rattle.scf_profile.specs.ByNumber.{rules_at}
-use Rattle.scf_profile.specs.Rule.{all_hold}
-use Rattle.scf_compile.specs.internal.Stretches.{first_answer}
+use Rattle.scf_compile.proofs.Common.{rules, ◌≡◌, Bor, List, [], ◌∷◌, refl, sym, ap, inl, inr, arith, AllByRecursion, cases_Bool, All-map, recursion_from_All, Answer, CallRecord, Rule, rules_at, all_hold, first_answer}
 use Rattle.scf_compile.proofs.stretches.telling_rules.Goals as goal
 
 of_default : (default : Answer) (call : CallRecord) (rs : List Rule) → AllByRecursion (λ r. r.answer ≡ default) rs

@@ -1,4 +1,4 @@
-use Rattle.scf_facts.specs.internal.WordSets.{AllowsWords}
+use Rattle.scf_facts.proofs.Common.{AllowsWords}
 use Rattle.scf_facts.proofs.by_pair.part_pairs.Given as goal
 
 -- the words are still allowed

@@ -1,4 +1,4 @@
-use Rattle.std.specs.Prelude.{true, false}
+use Rattle.scf_facts.proofs.Common.{true, false}
 use Rattle.scf_facts.proofs.PairLaws.{told_exactly}
 use Rattle.scf_facts.proofs.by_pair.tell_known.Goals as goal
 

@@ -1,4 +1,4 @@
-use Rattle.std.proofs.Common.{arith}
+use Rattle.scf_facts.proofs.Common.{arith}
 use Rattle.scf_facts.proofs.StoreLaws.{each_word, some_allowed}
 use Rattle.scf_facts.proofs.by_word.has_empty_word.Goals as goal
 

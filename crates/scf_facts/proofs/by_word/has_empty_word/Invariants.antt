@@ -1,6 +1,4 @@
-use Rattle.std.proofs.Common.{◌<◌, ◌^◌, ℕ, get_or}
-use Rattle.std.specs.Prelude.{IsTrue}
-use Rattle.scf_facts.specs.internal.WordSets.{NumberFacts, AllowsNumber, is_exact_set}
+use Rattle.scf_facts.proofs.Common.{◌<◌, ◌^◌, ℕ, get_or, IsTrue, NumberFacts, AllowsNumber, is_exact_set}
 use Rattle.scf_facts.proofs.by_word.has_empty_word.Given as goal
 
 -- each word so far may be some number, where its facts are exact

@@ -1,7 +1,4 @@
-use Rattle.std.proofs.Common.{◌<◌, ◌^◌, ◌+◌, arith, rules, ◌∙◌}
-use Rattle.std.proofs.lemmas.Bool.{false≢true}
-use Rattle.std.proofs.lemmas.List.{length-set}
-use Rattle.std.proofs.lemmas.List.Elements.{recursion_from_All, All-set}
+use Rattle.scf_facts.proofs.Common.{◌<◌, ◌^◌, ◌+◌, arith, rules, ◌∙◌, false≢true, length-set, recursion_from_All, All-set}
 use Rattle.scf_facts.proofs.StoreLaws.{number_set, each_word, exact_word}
 use Rattle.scf_facts.proofs.by_word.pick_by_word.Goals as goal
 

@@ -1,6 +1,4 @@
-use Rattle.std.proofs.Common.{◌≡◌, ◌<◌, ◌^◌, ℕ, length, get_or}
-use Rattle.std.specs.Prelude.{slice_index, All}
-use Rattle.scf_facts.specs.internal.WordSets.{NumberFacts, AllowsNumber}
+use Rattle.scf_facts.proofs.Common.{◌≡◌, ◌<◌, ◌^◌, ℕ, length, get_or, slice_index, All, NumberFacts, AllowsNumber}
 use Rattle.scf_facts.proofs.by_word.pick_by_word.Given as goal
 
 -- each word so far is one of its numbers

@@ -1,4 +1,4 @@
-use Rattle.std.proofs.Common.{◌<◌, ◌^◌, length, arith, rules}
+use Rattle.scf_facts.proofs.Common.{◌<◌, ◌^◌, length, arith, rules}
 use Rattle.scf_facts.proofs.StoreLaws.{allows_other}
 use Rattle.scf_facts.proofs.by_word.refute.Goals as goal
 

@@ -1,6 +1,4 @@
-use Rattle.std.proofs.Common.{◌≡◌, ◌<◌, arith, length, subst}
-use Rattle.std.specs.Prelude.{slice_index, true, false}
-use Rattle.scf_facts.specs.Atoms.{answer_at}
+use Rattle.scf_facts.proofs.Common.{◌≡◌, ◌<◌, arith, length, subst, slice_index, true, false, answer_at}
 use Rattle.scf_facts.proofs.StoreLaws.{each_word, exact_word, other_answer}
 use Rattle.scf_facts.proofs.by_word.tell_by_word.Goals as goal
 

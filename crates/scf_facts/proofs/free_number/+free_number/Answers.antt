@@ -1,5 +1,4 @@
-use Rattle.std.proofs.Common.{inl, inr, bit_and, refl}
-use Rattle.std.proofs.lemmas.Bool.{cases_eq}
+use Rattle.scf_facts.proofs.Common.{inl, inr, bit_and, refl, cases_eq}
 use Rattle.scf_facts.proofs.free_number.+free_number.Goals as goal
 
 pub returns-in_default-free_number-clause-found : goal.returns-in_default-free_number-clause-found

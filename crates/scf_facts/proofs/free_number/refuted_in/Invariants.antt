@@ -1,6 +1,4 @@
-use Rattle.std.proofs.Common.{ℕ, ◌<◌, get_or}
-use Rattle.scf_facts.specs.declared.bits.Bits.{Bits}
-use Rattle.scf_facts.specs.internal.Bits.{LacksBits}
+use Rattle.scf_facts.proofs.Common.{ℕ, ◌<◌, get_or, Bits, LacksBits}
 use Rattle.scf_facts.proofs.free_number.refuted_in.Given as goal
 
 -- the number has none of the bits so far

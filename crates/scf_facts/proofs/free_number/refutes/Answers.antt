@@ -1,9 +1,5 @@
-use Rattle.std.proofs.Common.{get_or, subst, arith}
-use Rattle.std.proofs.lemmas.List.{get_or_default}
-use Rattle.scf_facts.specs.declared.bits.Bits.{Bits}
-use Rattle.scf_facts.specs.internal.Bits.{HasBits, SomeLack}
+use Rattle.scf_facts.proofs.Common.{get_or, subst, arith, get_or_default, Bits, HasBits, SomeLack, below_more}
 use Rattle.scf_facts.proofs.free_number.refutes.Goals as goal
-use borrow.Author.Count.{below_more}
 
 pub loop-other-preserved : goal.loop-other-preserved
 loop-other-preserved c =

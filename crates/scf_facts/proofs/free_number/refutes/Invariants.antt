@@ -1,6 +1,4 @@
-use Rattle.std.proofs.Common.{ℕ, ◌<◌, get_or}
-use Rattle.scf_facts.specs.declared.bits.Bits.{Bits}
-use Rattle.scf_facts.specs.internal.Bits.{HasBits, SomeLack}
+use Rattle.scf_facts.proofs.Common.{ℕ, ◌<◌, get_or, Bits, HasBits, SomeLack}
 use Rattle.scf_facts.proofs.free_number.refutes.Given as goal
 
 -- some number with the bits lacks each of the refuted ones so far

@@ -1,6 +1,4 @@
-use Rattle.std.proofs.Common.{leb, rules}
-use Rattle.std.proofs.lemmas.Bool.{leb-false}
-use Rattle.std.proofs.lemmas.List.Sorted.{IsPartitionPoint-from_clause, IsPartitionedBy-leb}
+use Rattle.scf_facts.proofs.Common.{leb, rules, leb-false, IsPartitionPoint-from_clause, IsPartitionedBy-leb}
 use Rattle.scf_facts.proofs.IntervalLaws.{rising}
 use Rattle.scf_facts.proofs.intervals.count_beginning_within.Goals as goal
 

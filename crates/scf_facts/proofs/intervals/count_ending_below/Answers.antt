@@ -1,6 +1,4 @@
-use Rattle.std.proofs.Common.{ltb, rules}
-use Rattle.std.proofs.lemmas.Bool.{ltb-true, ltb-false}
-use Rattle.std.proofs.lemmas.List.Sorted.{IsPartitionPoint-from_clause, IsPartitionedBy-ltb}
+use Rattle.scf_facts.proofs.Common.{ltb, rules, ltb-true, ltb-false, IsPartitionPoint-from_clause, IsPartitionedBy-ltb}
 use Rattle.scf_facts.proofs.IntervalLaws.{rising}
 use Rattle.scf_facts.proofs.intervals.count_ending_below.Goals as goal
 

@@ -1,7 +1,4 @@
-use Rattle.std.proofs.Common.{◌≡◌, arith}
-use Rattle.std.specs.Prelude.{IfSome, slice_get, ◌≤◌}
-use Rattle.std.proofs.lemmas.Grind.{common_steps}
-use Rattle.std.proofs.lemmas.Option.{gets}
+use Rattle.scf_facts.proofs.Common.{◌≡◌, arith, IfSome, slice_get, ◌≤◌, common_steps, gets}
 use Rattle.scf_facts.proofs.IntervalLaws.{reached}
 use Rattle.scf_facts.proofs.intervals.first_reaching.Goals as goal
 

@@ -1,4 +1,4 @@
-use Rattle.std.proofs.Common.{◌++◌, ◌∙◌, ap}
+use Rattle.scf_facts.proofs.Common.{◌++◌, ◌∙◌, ap}
 use Rattle.scf_facts.proofs.IntervalLaws.{cut_outside}
 use Rattle.scf_facts.proofs.intervals.parts_outside.Goals as goal
 

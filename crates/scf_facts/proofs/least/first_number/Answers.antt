@@ -1,6 +1,4 @@
-use Rattle.std.proofs.Common.{ℕ, arith, inl, inr}
-use Rattle.std.specs.Prelude.{Option, Some, None, IfNone}
-use Rattle.std.proofs.lemmas.Bool.{cases_lt}
+use Rattle.scf_facts.proofs.Common.{ℕ, arith, inl, inr, Option, Some, None, IfNone, cases_lt}
 use Rattle.scf_facts.proofs.least.first_number.Goals as goal
 
 if_none : (result : Option ℕ) (P : Type 0) → P → IfNone result P

@@ -1,6 +1,4 @@
-use Rattle.std.proofs.Common.{◌<◌, ◌≤◌, ◌-◌, ◌^◌, ℕ}
-use Rattle.scf_facts.specs.internal.Bits.{HasBits}
-use Rattle.scf_facts.specs.internal.Intervals.{LiesInOne}
+use Rattle.scf_facts.proofs.Common.{◌<◌, ◌≤◌, ◌-◌, ◌^◌, ℕ, HasBits, LiesInOne}
 use Rattle.scf_facts.proofs.least.first_number.Given as goal
 
 -- no interval has such a number below the bound

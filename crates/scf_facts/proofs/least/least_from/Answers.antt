@@ -1,4 +1,4 @@
-use Rattle.std.proofs.Common.{arith}
+use Rattle.scf_facts.proofs.Common.{arith}
 use Rattle.scf_facts.proofs.LeastNumber.{none-past}
 use Rattle.scf_facts.proofs.least.least_from.Goals as goal
 

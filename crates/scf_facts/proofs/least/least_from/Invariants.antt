@@ -1,5 +1,4 @@
-use Rattle.std.proofs.Common.{◌<◌, ◌≤◌, ◌-◌, ◌^◌, ℕ}
-use Rattle.scf_facts.specs.internal.Bits.{LacksBits}
+use Rattle.scf_facts.proofs.Common.{◌<◌, ◌≤◌, ◌-◌, ◌^◌, ℕ, LacksBits}
 use Rattle.scf_facts.proofs.least.least_from.Given as goal
 
 abbrev pub invariant-loop-place : goal.invariant-loop-place

@@ -1,4 +1,4 @@
-use Rattle.std.proofs.Common.{arith, refl, sym, ◌∙◌}
+use Rattle.scf_facts.proofs.Common.{arith, refl, sym, ◌∙◌}
 use Rattle.scf_facts.proofs.CountLaws.{rising_more}
 use Rattle.scf_facts.proofs.TrailLaws.{known_covered, known_pushed}
 use Rattle.scf_facts.proofs.undo.note.Goals as goal

@@ -1,8 +1,4 @@
-use Rattle.std.proofs.Common.{◌≡◌, ◌≤◌, ◌+◌, ◌∷◌, [], length, length-append, take, drop, arith, sym, ap, ◌∙◌}
-use Rattle.std.proofs.Math.Seq.{take-append_seam}
-use Rattle.std.proofs.lemmas.List.{take-take}
-use Rattle.scf_facts.specs.internal.Trail.{restored}
-use Rattle.scf_facts.specs.internal.WordSets.{AllFacts, known_of}
+use Rattle.scf_facts.proofs.Common.{◌≡◌, ◌≤◌, ◌+◌, ◌∷◌, [], length, length-append, take, drop, arith, sym, ap, ◌∙◌, take-append_seam, take-take, restored, AllFacts, known_of}
 use Rattle.scf_facts.proofs.TrailLaws.{taken_before}
 use Rattle.scf_facts.proofs.undo.take_back.Goals as goal
 

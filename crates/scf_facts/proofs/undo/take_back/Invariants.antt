@@ -1,6 +1,4 @@
-use Rattle.std.proofs.Common.{◌≡◌, ◌≤◌, length, take, drop}
-use Rattle.scf_facts.specs.internal.Trail.{restored}
-use Rattle.scf_facts.specs.internal.WordSets.{known_of}
+use Rattle.scf_facts.proofs.Common.{◌≡◌, ◌≤◌, length, take, drop, restored, known_of}
 use Rattle.scf_facts.proofs.undo.take_back.Given as goal
 
 -- what is left of the trail takes back the rest

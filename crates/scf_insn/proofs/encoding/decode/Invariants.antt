@@ -1,6 +1,4 @@
-use Rattle.std.proofs.Common.{◌≡◌, ◌%◌, ◌++◌, length}
-use Rattle.std.specs.List.{AllByRecursion}
-use Rattle.scf_insn.specs.Insn.{IsInsn, program_bytes}
+use Rattle.scf_insn.proofs.Common.{◌≡◌, ◌%◌, ◌++◌, length, AllByRecursion, IsInsn, program_bytes}
 use Rattle.scf_insn.proofs.encoding.decode.Given as goal
 
 abbrev pub invariant-loop-rest : goal.invariant-loop-rest

@@ -1,5 +1,4 @@
-use Rattle.std.proofs.lemmas.Result.{err_from_is_err_and}
-use Rattle.scf_insn.specs.Insn.{insn_bytes}
+use Rattle.scf_insn.proofs.Common.{err_from_is_err_and, insn_bytes}
 use Rattle.scf_insn.proofs.Written.{each_fails}
 use Rattle.scf_insn.proofs.encoding.write_program.Goals as goal
 

@@ -1,6 +1,4 @@
-use Rattle.std.proofs.Common.{take}
-use Rattle.scf_insn.specs.Insn.{program_bytes}
-use Rattle.scf_insn.specs.Streams.{TakesAll}
+use Rattle.scf_insn.proofs.Common.{take, program_bytes, TakesAll}
 use Rattle.scf_insn.proofs.encoding.write_program.Given as goal
 
 abbrev pub invariant-loop-insn : goal.invariant-loop-insn

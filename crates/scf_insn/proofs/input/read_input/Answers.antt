@@ -1,6 +1,4 @@
-use Rattle.std.proofs.lemmas.Grind.{common_steps}
-use Rattle.std.proofs.Common.{◌+◌, take, arith, length-take}
-use Rattle.scf_insn.specs.Readings.{read_len}
+use Rattle.scf_insn.proofs.Common.{common_steps, ◌+◌, take, arith, length-take, read_len}
 use Rattle.scf_insn.proofs.Taken.{gives_bounded, gives_some}
 use Rattle.scf_insn.proofs.input.read_input.Goals as goal
 

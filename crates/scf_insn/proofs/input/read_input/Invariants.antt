@@ -1,5 +1,4 @@
-use Rattle.std.proofs.Common.{◌≡◌, ◌≤◌, ◌-◌, vec_len}
-use Rattle.std.specs.Io.KnownBytes.{Consumes}
+use Rattle.scf_insn.proofs.Common.{◌≡◌, ◌≤◌, ◌-◌, vec_len, Consumes}
 use Rattle.scf_insn.proofs.input.read_input.Given as goal
 
 abbrev pub invariant-chunks : goal.invariant-chunks

@@ -1,5 +1,4 @@
-use Rattle.std.proofs.lemmas.Grind.{common_steps}
-use Rattle.std.proofs.Common.{arith}
+use Rattle.scf_insn.proofs.Common.{common_steps, arith}
 use Rattle.scf_insn.proofs.Masks.{is_simple, is_mixed}
 use Rattle.scf_insn.proofs.mask.is_simple_mask.Goals as goal
 

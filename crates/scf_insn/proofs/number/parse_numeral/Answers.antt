@@ -1,5 +1,4 @@
-use Rattle.std.proofs.lemmas.Grind.{common_steps}
-use Rattle.std.proofs.Common.{arith}
+use Rattle.scf_insn.proofs.Common.{common_steps, arith}
 use Rattle.scf_insn.proofs.Numerals.{digits_more, value_more}
 use Rattle.scf_insn.proofs.number.parse_numeral.Goals as goal
 

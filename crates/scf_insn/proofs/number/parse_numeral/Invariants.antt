@@ -1,8 +1,4 @@
-use Rattle.std.proofs.Common.{◌≡◌, take, true}
-use Rattle.std.specs.List.{list_all}
-use Rattle.std.specs.Char.{is_digit}
-use Rattle.std.specs.Str.Parse.{digits_value}
-use Rattle.scf_insn.specs.internal.Numbers.{IsWithinRange}
+use Rattle.scf_insn.proofs.Common.{◌≡◌, take, true, list_all, is_digit, digits_value, IsWithinRange}
 use Rattle.scf_insn.proofs.number.parse_numeral.Given as goal
 
 abbrev pub invariant-loop-byte : goal.invariant-loop-byte

@@ -1,4 +1,4 @@
-use Rattle.std.proofs.Common.{arith}
+use Rattle.scf_insn.proofs.Common.{arith}
 use Rattle.scf_insn.proofs.record.known_words.Goals as goal
 
 pub returns : goal.returns

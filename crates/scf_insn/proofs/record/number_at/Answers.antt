@@ -1,5 +1,4 @@
-use Rattle.std.proofs.Common.{sym, ap, ◌∙◌, take, drop, ◌++◌, arith}
-use Rattle.std.proofs.lemmas.List.{drop-drop}
+use Rattle.scf_insn.proofs.Common.{sym, ap, ◌∙◌, take, drop, ◌++◌, arith, drop-drop}
 use Rattle.scf_insn.proofs.Records.{eight, number_of_halves}
 use Rattle.scf_insn.proofs.record.number_at.Goals as goal
 

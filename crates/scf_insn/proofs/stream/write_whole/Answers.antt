@@ -1,5 +1,4 @@
-use Rattle.std.proofs.lemmas.Grind.{common_steps}
-use Rattle.std.proofs.Common.{arith}
+use Rattle.scf_insn.proofs.Common.{common_steps, arith}
 use Rattle.scf_insn.proofs.Written.{takes_more}
 use Rattle.scf_insn.proofs.stream.write_whole.Goals as goal
 

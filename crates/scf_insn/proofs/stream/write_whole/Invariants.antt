@@ -1,4 +1,4 @@
-use Rattle.std.proofs.Common.{length}
+use Rattle.scf_insn.proofs.Common.{length}
 use Rattle.scf_insn.proofs.Written.{TakesUpTo}
 use Rattle.scf_insn.proofs.stream.write_whole.Given as goal
 

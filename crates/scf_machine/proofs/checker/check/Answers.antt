@@ -1,4 +1,4 @@
-use Rattle.std.proofs.Common.{refl}
+use Rattle.scf_machine.proofs.Common.{refl}
 use Rattle.scf_machine.proofs.Refusals.{only_where}
 use Rattle.scf_machine.proofs.Runs.{runs_safely}
 use Rattle.scf_machine.proofs.checker.check.Goals as goal

@@ -1,6 +1,4 @@
-use Rattle.std.proofs.Common.{arith}
-use Rattle.std.proofs.lemmas.Grind.{common_steps}
-use Rattle.std.proofs.lemmas.Option.{slice_get-get_or}
+use Rattle.scf_machine.proofs.Common.{arith, common_steps, slice_get-get_or}
 use Rattle.scf_machine.proofs.Loop.{always_known}
 use Rattle.scf_machine.proofs.Runs.{fine_of}
 use Rattle.scf_machine.proofs.checker.known_at.Goals as goal

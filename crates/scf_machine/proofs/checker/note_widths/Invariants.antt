@@ -1,6 +1,4 @@
-use Rattle.std.proofs.Common.{take}
-use Rattle.std.specs.List.{AllByRecursion}
-use Rattle.scf_insn.specs.Insn.{IsInsn}
+use Rattle.scf_machine.proofs.Common.{take, AllByRecursion, IsInsn}
 use Rattle.scf_machine.proofs.checker.note_widths.Given as goal
 
 abbrev pub invariant-loop-insn : goal.invariant-loop-insn

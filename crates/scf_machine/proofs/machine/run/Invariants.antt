@@ -1,7 +1,4 @@
-use Rattle.std.proofs.Common.{◌≡◌, ◌-◌, List, length}
-use Rattle.scf_insn.specs.Words.{words_of}
-use Rattle.scf_machine.specs.Machine.{State}
-use Rattle.scf_machine.specs.internal.Registers.{IsAt}
+use Rattle.scf_machine.proofs.Common.{◌≡◌, ◌-◌, List, length, words_of, State, IsAt}
 use Rattle.scf_machine.proofs.machine.run.Given as goal
 
 abbrev pub invariant-loop-answer : goal.invariant-loop-answer

@@ -1,4 +1,4 @@
-use Rattle.std.proofs.Common.{◌∷◌, ◌+◌, ◌∙◌, ap, arith}
+use Rattle.scf_machine.proofs.Common.{◌∷◌, ◌+◌, ◌∙◌, ap, arith}
 use Rattle.scf_machine.proofs.Loop.{at_inside, at_next, run_of, place_added}
 use Rattle.scf_machine.proofs.machine.trace.Goals as goal
 

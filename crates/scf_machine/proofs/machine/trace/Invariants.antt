@@ -1,8 +1,4 @@
-use Rattle.std.proofs.Common.{◌≡◌, ◌-◌, List, length, reverse}
-use Rattle.scf_insn.specs.Words.{words_of}
-use Rattle.scf_machine.specs.Machine.{State}
-use Rattle.scf_machine.specs.Path.{places_of}
-use Rattle.scf_machine.specs.internal.Registers.{IsAt}
+use Rattle.scf_machine.proofs.Common.{◌≡◌, ◌-◌, List, length, reverse, words_of, State, places_of, IsAt}
 use Rattle.scf_machine.proofs.machine.trace.Given as goal
 
 abbrev pub invariant-loop-places : goal.invariant-loop-places

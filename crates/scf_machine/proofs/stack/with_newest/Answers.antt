@@ -1,6 +1,4 @@
-use Rattle.std.proofs.lemmas.Grind.{common_steps}
-use Rattle.std.proofs.Common.{arith}
-use Rattle.std.proofs.lemmas.Int.{ints}
+use Rattle.scf_machine.proofs.Common.{common_steps, arith, ints}
 use Rattle.scf_machine.proofs.Stacks.{newest_decides, older_decides}
 use Rattle.scf_machine.proofs.stack.with_newest.Goals as goal
 

@@ -1,6 +1,4 @@
-use Rattle.std.proofs.Common.{arith}
-use Rattle.std.proofs.lemmas.Grind.{common_steps}
-use Rattle.scf_profile.specs.JsonMembers.{each}
+use Rattle.scf_profile.proofs.Common.{arith, common_steps, each}
 use Rattle.scf_profile.proofs.ConditionLists.{conditions_push}
 use Rattle.scf_profile.proofs.Loops.{items_left}
 use Rattle.scf_profile.proofs.args.conditions_of.Goals as goal

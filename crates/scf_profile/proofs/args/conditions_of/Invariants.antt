@@ -1,8 +1,4 @@
-use Rattle.std.proofs.Common.{◌≡◌, [], drop}
-use Rattle.serde_json.specs.View.{items_view}
-use Rattle.scf_profile.specs.JsonMembers.{each}
-use Rattle.scf_profile.specs.Rule.{AreConditions}
-use Rattle.scf_profile.specs.StatedProfile.{condition_of as condition_stated}
+use Rattle.scf_profile.proofs.Common.{◌≡◌, [], drop, items_view, each, AreConditions, condition_stated}
 use Rattle.scf_profile.proofs.args.conditions_of.Given as goal
 
 -- the conditions so far and the members that are left give what all members give

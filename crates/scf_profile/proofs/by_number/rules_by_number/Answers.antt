@@ -1,13 +1,4 @@
-use Rattle.std.proofs.Common.{rules, Ok, Bor, List, ap, ◌∙◌, subst}
-use Rattle.std.specs.List.Sorted.{IsPermutation}
-use Rattle.std.specs.declared.alloc.AllocError.{AllocError}
-use Rattle.std.proofs.lemmas.Fn.{always_returns_same}
-use Rattle.std.proofs.lemmas.Iterator.{YieldsList-from_slice}
-use Rattle.std.proofs.lemmas.Iterator.Consumers.{map_from_collect}
-use Rattle.std.proofs.lemmas.List.Sorted.{IsNonDecreasingBy-from_sort_by_key, IsPermutation-map}
-use Rattle.scf_profile.specs.declared.rule.Rule.{Rule}
-use Rattle.scf_profile.specs.ByNumber.{rules_at}
-use Rattle.scf_profile.specs.RulesByNumber.{rules_of}
+use Rattle.scf_profile.proofs.Common.{rules, Ok, Bor, List, ap, ◌∙◌, subst, IsPermutation, AllocError, always_returns_same, YieldsList-from_slice, map_from_collect, IsNonDecreasingBy-from_sort_by_key, IsPermutation-map, Rule, rules_at, rules_of}
 use Rattle.scf_profile.proofs.ByNumber.{kept_by_sort, rising_at}
 use Rattle.scf_profile.proofs.by_number.rules_by_number.Goals as goal
 

@@ -1,9 +1,4 @@
-use Rattle.std.proofs.Common.{rules, ◌≡◌, ◌-◌, ltb, leb, Bor, length, drop, take, arith}
-use Rattle.std.proofs.Math.ListN.{length-drop}
-use Rattle.std.proofs.lemmas.List.{take_all}
-use Rattle.std.proofs.lemmas.List.Sorted.{IsPartitionedBy-leb, IsPartitionedBy-ltb, IsPartitionPoint-from_clause}
-use Rattle.std.proofs.lemmas.List.Sorted.{IsNonDecreasingBy-drop, IsNonDecreasingBy-take}
-use Rattle.scf_profile.specs.declared.rule.Rule.{Rule}
+use Rattle.scf_profile.proofs.Common.{rules, ◌≡◌, ◌-◌, ltb, leb, Bor, length, drop, take, arith, length-drop, take_all, IsPartitionedBy-leb, IsPartitionedBy-ltb, IsPartitionPoint-from_clause, IsNonDecreasingBy-drop, IsNonDecreasingBy-take, Rule}
 use Rattle.scf_profile.proofs.ByNumber.{number_at, references_rise, own_rules}
 use Rattle.scf_profile.proofs.by_number.rules_of_number.Goals as goal
 

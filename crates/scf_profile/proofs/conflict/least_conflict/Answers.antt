@@ -1,11 +1,4 @@
-use Rattle.std.proofs.Common.{◌≡◌, All, subst, sym}
-use Rattle.std.proofs.lemmas.List.{take_all}
-use Rattle.std.proofs.lemmas.List.Elements.{All-more, All-same, All-weaker}
-use Rattle.scf_profile.specs.declared.rule.Rule.{Rule}
-use Rattle.scf_profile.specs.ByNumber.{rules_at}
-use Rattle.scf_profile.specs.internal.Clashes.{IsClashBounded}
-use Rattle.scf_profile.specs.Rule.{IsRule}
-use Rattle.scf_profile.specs.RulesByNumber.{rules_of}
+use Rattle.scf_profile.proofs.Common.{◌≡◌, All, subst, sym, take_all, All-more, All-same, All-weaker, Rule, rules_at, IsClashBounded, IsRule, rules_of}
 use Rattle.scf_profile.proofs.LeastClash.{all_own, all_bounded, conflict_more, least_found}
 use Rattle.scf_profile.proofs.conflict.least_conflict.Goals as goal
 

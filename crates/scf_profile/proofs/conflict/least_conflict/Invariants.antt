@@ -1,7 +1,4 @@
-use Rattle.std.proofs.Common.{take, All}
-use Rattle.std.specs.Prelude.{IfSome}
-use Rattle.scf_profile.specs.internal.Clashes.{IsClashBounded}
-use Rattle.scf_profile.specs.Loading.{EntriesConflict}
+use Rattle.scf_profile.proofs.Common.{take, All, IfSome, IsClashBounded, EntriesConflict}
 use Rattle.scf_profile.proofs.conflict.least_conflict.Given as goal
 
 -- the least of the clashes with the later rules so far

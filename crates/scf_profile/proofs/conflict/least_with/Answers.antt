@@ -1,9 +1,4 @@
-use Rattle.std.proofs.Common.{◌≡◌, ◌⊎◌, Some, subst, sym, inr, Bor}
-use Rattle.std.specs.Prelude.{Any}
-use Rattle.std.proofs.lemmas.List.Elements.{All-more, All-weaker}
-use Rattle.scf_profile.specs.declared.rule.Rule.{Rule}
-use Rattle.scf_profile.specs.internal.Clashes.{IsClashBounded, IsClashOf}
-use Rattle.scf_profile.specs.Rule.{IsRule}
+use Rattle.scf_profile.proofs.Common.{◌≡◌, ◌⊎◌, Some, subst, sym, inr, Bor, Any, All-more, All-weaker, Rule, IsClashBounded, IsClashOf, IsRule}
 use Rattle.scf_profile.proofs.LeastClash.{one_of_two}
 use Rattle.scf_profile.proofs.conflict.least_with.Goals as goal
 

@@ -1,7 +1,4 @@
-use Rattle.std.proofs.Common.{◌≡◌, take, Some, ◌⊎◌, All}
-use Rattle.std.specs.Prelude.{Any, IfSome}
-use Rattle.scf_profile.specs.declared.conflict.Clash.{Clash}
-use Rattle.scf_profile.specs.internal.Clashes.{IsBoundedBy, IsClashBounded, IsClashOf}
+use Rattle.scf_profile.proofs.Common.{◌≡◌, take, Some, ◌⊎◌, All, Any, IfSome, Clash, IsBoundedBy, IsClashBounded, IsClashOf}
 use Rattle.scf_profile.proofs.conflict.least_with.Given as goal
 
 -- the least so far of the one that was known and the clashes of the rules so far

@@ -1,6 +1,4 @@
-use Rattle.std.proofs.Common.{◌≡◌, ◌≤◌, ◌++◌, drop, vec_len}
-use Rattle.scf_profile.specs.Limits.{max_rules}
-use Rattle.scf_profile.specs.StatedProfile.{rules_from, skipped_names}
+use Rattle.scf_profile.proofs.Common.{◌≡◌, ◌≤◌, ◌++◌, drop, vec_len, max_rules, rules_from, skipped_names}
 use Rattle.scf_profile.proofs.expand.expand.Given as goal
 
 -- what is stated so far and by the entries that are left is what all state

@@ -1,9 +1,4 @@
-use Rattle.std.proofs.Common.{◌≡◌, take}
-use Rattle.std.specs.List.{filter}
-use Rattle.scf_profile.specs.References.{texts_at}
-use Rattle.std.specs.Prelude.{not}
-use Rattle.std.specs.Str.{bytes_eq}
-use Rattle.scf_profile.specs.StatedProfile.{x86_64}
+use Rattle.scf_profile.proofs.Common.{◌≡◌, take, filter, texts_at, not, bytes_eq, x86_64}
 use Rattle.scf_profile.proofs.expand.other_architectures.Given as goal
 
 -- those of the names so far

@@ -1,10 +1,4 @@
-use Rattle.std.proofs.Common.{◌≡◌, drop}
-use Rattle.serde_json.specs.View.{items_view}
-use Rattle.serde_json.specs.Find.{as_str}
-use Rattle.scf_profile.specs.declared.load_fault.LoadFault.TheVariants.{Kind}
-use Rattle.scf_profile.specs.JsonMembers.{each}
-use Rattle.scf_profile.specs.Steps.{some_or}
-use Rattle.scf_profile.specs.StatedProfile.{strings_of}
+use Rattle.scf_profile.proofs.Common.{◌≡◌, drop, items_view, as_str, Kind, each, some_or, strings_of}
 use Rattle.scf_profile.proofs.forms.strings_of.Given as goal
 
 -- the texts so far and the items that are left give what all items give

@@ -1,8 +1,4 @@
-use Rattle.std.proofs.Common.{List, subst, sym}
-use Rattle.std.proofs.lemmas.Result.{IfOk-weaker}
-use Rattle.scf_profile.specs.declared.named_call.NamedCall.{NamedCall}
-use Rattle.scf_profile.specs.NamedCalls.{AreCallsOf}
-use Rattle.scf_profile.specs.Names.{names_of}
+use Rattle.scf_profile.proofs.Common.{List, subst, sym, IfOk-weaker, NamedCall, AreCallsOf, names_of}
 use Rattle.scf_profile.proofs.NamedCalls.{are_calls}
 use Rattle.scf_profile.proofs.named_call.named_calls.Goals as goal
 

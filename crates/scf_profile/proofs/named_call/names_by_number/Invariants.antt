@@ -1,8 +1,5 @@
-use Rattle.std.proofs.Common.{◌≡◌, ℕ, length, nat_lt, ◌++◌}
-use Rattle.std.specs.Prelude.{is_some}
+use Rattle.scf_profile.proofs.Common.{◌≡◌, ℕ, length, nat_lt, ◌++◌, is_some, nat_cmp, names_under, names_with}
 use Rattle.std.specs.BTreeMap.{get}
-use Rattle.std.specs.Ordering.{nat_cmp}
-use Rattle.scf_profile.specs.internal.NamesByNumber.{names_under, names_with}
 use Rattle.scf_profile.proofs.named_call.names_by_number.Given as goal
 
 -- the names so far and those of the entries that are left are those of all

@@ -1,8 +1,4 @@
-use Rattle.std.proofs.Common.{◌≡◌, ◌≤◌, ◌^◌, [], drop, vec_len, All, length}
-use Rattle.serde_json.specs.View.{items_view}
-use Rattle.scf_profile.specs.internal.EntryRanges.{IsEntry}
-use Rattle.scf_profile.specs.JsonMembers.{each}
-use Rattle.scf_profile.specs.StatedProfile.{entry_of}
+use Rattle.scf_profile.proofs.Common.{◌≡◌, ◌≤◌, ◌^◌, [], drop, vec_len, All, length, items_view, IsEntry, each, entry_of}
 use Rattle.scf_profile.proofs.object.entries_of.Given as goal
 
 -- the entries so far and the items that are left give what all items give

@@ -1,8 +1,4 @@
-use Rattle.std.proofs.Common.{rules, tests, List, ℕ, Bor, sym, ◌∙◌}
-use Rattle.std.specs.Str.{bytes_eq}
-use Rattle.std.proofs.lemmas.Iterator.{YieldsList-from_slice}
-use Rattle.std.proofs.lemmas.Iterator.Search.{any_from_yields_List}
-use Rattle.scf_profile.specs.StatedProfile.{x86_64}
+use Rattle.scf_profile.proofs.Common.{rules, tests, List, ℕ, Bor, sym, ◌∙◌, bytes_eq, YieldsList-from_slice, any_from_yields_List, x86_64}
 use Rattle.scf_profile.proofs.Loops.{list_any-map}
 use Rattle.scf_profile.proofs.object.has_x86_64.Goals as goal
 

@@ -1,5 +1,4 @@
-use Rattle.std.proofs.Common.{ℕ, ◌<◌}
-use Rattle.scf_profile.specs.internal.Overlaps.{OverlapAt}
+use Rattle.scf_profile.proofs.Common.{ℕ, ◌<◌, OverlapAt}
 use Rattle.scf_profile.proofs.overlap.conditions_overlap.Given as goal
 
 -- the conditions overlap on each argument so far

@@ -1,5 +1,4 @@
-use Rattle.std.proofs.Common.{Some, None, sym, ◌∙◌, arith}
-use Rattle.std.proofs.lemmas.Bool.{le-leb}
+use Rattle.scf_profile.proofs.Common.{Some, None, sym, ◌∙◌, arith, le-leb}
 use Rattle.scf_profile.proofs.Overlaps.{hold_by_found}
 use Rattle.scf_profile.proofs.overlap.numbers_at.Goals as goal
 

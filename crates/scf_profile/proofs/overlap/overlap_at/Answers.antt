@@ -1,4 +1,4 @@
-use Rattle.std.proofs.lemmas.Bool.{false≢true}
+use Rattle.scf_profile.proofs.Common.{false≢true}
 use Rattle.scf_profile.proofs.overlap.overlap_at.Goals as goal
 
 pub returns-in_default : goal.returns-in_default

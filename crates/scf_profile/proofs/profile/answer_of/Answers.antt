@@ -1,4 +1,4 @@
-use Rattle.std.proofs.Common.{Some, None}
+use Rattle.scf_profile.proofs.Common.{Some, None}
 use Rattle.scf_profile.proofs.Answering.{answered}
 use Rattle.scf_profile.proofs.profile.answer_of.Goals as goal
 

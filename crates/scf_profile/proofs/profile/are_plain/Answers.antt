@@ -1,8 +1,4 @@
-use Rattle.std.proofs.Common.{rules, tests, arith}
-use Rattle.std.proofs.lemmas.Bool.{false≢true}
-use Rattle.std.proofs.lemmas.Iterator.{YieldsList-from_slice, cases_from_all}
-use Rattle.std.proofs.lemmas.Iterator.Search.{true_from_All}
-use Rattle.scf_profile.specs.PlainProfile.{IsPlainRule}
+use Rattle.scf_profile.proofs.Common.{rules, tests, arith, false≢true, YieldsList-from_slice, cases_from_all, true_from_All, IsPlainRule}
 use Rattle.scf_profile.proofs.profile.are_plain.Goals as goal
 
 pub returns : goal.returns

@@ -1,10 +1,4 @@
-use Rattle.std.proofs.Common.{Ok, refl}
-use Rattle.std.proofs.lemmas.Result.{err_from_is_err_and, IfOk-weaker, MatchResult-weaker}
-use Rattle.serde_json.specs.View.{view}
-use Rattle.scf_profile.specs.Loading.{Loads}
-use Rattle.scf_profile.specs.Loading.{TestsGive}
-use Rattle.scf_profile.specs.internal.Stated.{loaded_of, IsLoaded}
-use Rattle.scf_profile.specs.StatedProfile.{profile_of}
+use Rattle.scf_profile.proofs.Common.{Ok, refl, err_from_is_err_and, IfOk-weaker, MatchResult-weaker, view, Loads, TestsGive, loaded_of, IsLoaded, profile_of}
 use Rattle.scf_profile.proofs.TestFaults.{refuses_of_fault, refuses_of_conflict}
 use Rattle.scf_profile.proofs.profile_text.load.Goals as goal
 

@@ -1,8 +1,4 @@
-use Rattle.std.proofs.Common.{◌≡◌, arith, ap, sym, ◌∙◌, length, ltb, true, false, refl}
-use Rattle.std.proofs.lemmas.Bool.{lt-ltb, le-ltb}
-use Rattle.std.proofs.lemmas.Result.{err_from_is_err_and}
-use Rattle.scf_profile.specs.Limits.{max_rules}
-use Rattle.scf_profile.specs.StatedProfile.{object_states, rules_from, skipped_names}
+use Rattle.scf_profile.proofs.Common.{◌≡◌, arith, ap, sym, ◌∙◌, length, ltb, true, false, refl, lt-ltb, le-ltb, err_from_is_err_and, max_rules, object_states, rules_from, skipped_names}
 use Rattle.scf_profile.proofs.StatedRules.{stated_rules}
 use Rattle.scf_profile.proofs.profile_text.read_object.Goals as goal
 

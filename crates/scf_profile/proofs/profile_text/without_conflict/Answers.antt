@@ -1,6 +1,4 @@
-use Rattle.std.proofs.Common.{List, ℕ, refl, subst}
-use Rattle.scf_profile.specs.declared.rule.Rule.{Rule}
-use Rattle.scf_profile.specs.Loading.{EntriesConflict}
+use Rattle.scf_profile.proofs.Common.{List, ℕ, refl, subst, Rule, EntriesConflict}
 use Rattle.scf_profile.proofs.StatedRules.{have_no_conflict, profile_of_rules}
 use Rattle.scf_profile.proofs.profile_text.without_conflict.Goals as goal
 

@@ -1,4 +1,4 @@
-use Rattle.std.proofs.Common.{sym, ◌∙◌}
+use Rattle.scf_profile.proofs.Common.{sym, ◌∙◌}
 use Rattle.scf_profile.proofs.NamesOf.{names_are_text}
 use Rattle.scf_profile.proofs.table_line.entry_on.Goals as goal
 

@@ -1,8 +1,4 @@
-use Rattle.std.proofs.Common.{◌≡◌, ◌<◌, length, take, get_or, true, false, sym, ◌∙◌, arith}
-use Rattle.std.proofs.lemmas.Bool.{lt-ltb}
-use Rattle.std.proofs.lemmas.List.{take_all, length-take}
-use Rattle.std.proofs.lemmas.List.Elements.{All-more, All-same}
-use Rattle.scf_profile.specs.Table.{is_blank as blank}
+use Rattle.scf_profile.proofs.Common.{◌≡◌, ◌<◌, length, take, get_or, true, false, sym, ◌∙◌, arith, lt-ltb, take_all, length-take, All-more, All-same, blank}
 use Rattle.scf_profile.proofs.Cuts.{field_ends, all_or_none, first_passes}
 use Rattle.scf_profile.proofs.table_line.first_field.Goals as goal
 

@@ -1,5 +1,4 @@
-use Rattle.std.proofs.Common.{◌≡◌, All, take, false}
-use Rattle.scf_profile.specs.Table.{is_blank as blank}
+use Rattle.scf_profile.proofs.Common.{◌≡◌, All, take, false, blank}
 use Rattle.scf_profile.proofs.table_line.first_field.Given as goal
 
 abbrev pub invariant-loop-i : goal.invariant-loop-i

@@ -1,7 +1,5 @@
-use Rattle.std.proofs.Common.{◌≡◌, length, take, drop, eqb, false, sym, ◌-◌, ◌+◌, arith}
-use Rattle.std.proofs.lemmas.Bool.{eq-eqb, ne_eqb}
-use Rattle.std.proofs.lemmas.List.{take_all, length-drop}
-use Rattle.std.proofs.lemmas.List.Elements.{All-more, All-same}
+use Rattle.scf_profile.proofs.Common.{◌≡◌, length, take, drop, eqb, false, sym, ◌-◌, ◌+◌, arith, eq-eqb, ne_eqb, take_all, All-more, All-same}
+use Rattle.std.proofs.lemmas.List.{length-drop}
 use Rattle.scf_profile.proofs.Cuts.{line_ends, last_line}
 use Rattle.scf_profile.proofs.table_line.first_line.Goals as goal
 

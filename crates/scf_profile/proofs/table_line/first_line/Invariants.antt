@@ -1,4 +1,4 @@
-use Rattle.std.proofs.Common.{◌≡◌, All, take, false, eqb}
+use Rattle.scf_profile.proofs.Common.{◌≡◌, All, take, false, eqb}
 use Rattle.scf_profile.proofs.table_line.first_line.Given as goal
 
 abbrev pub invariant-loop-i : goal.invariant-loop-i

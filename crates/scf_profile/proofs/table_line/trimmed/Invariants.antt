@@ -1,5 +1,4 @@
-use Rattle.std.proofs.Common.{◌≡◌, ◌≤◌, length}
-use Rattle.scf_profile.specs.Table.{fields}
+use Rattle.scf_profile.proofs.Common.{◌≡◌, ◌≤◌, length, fields}
 use Rattle.scf_profile.proofs.table_line.trimmed.Given as goal
 
 abbrev pub invariant-loop-rest : goal.invariant-loop-rest

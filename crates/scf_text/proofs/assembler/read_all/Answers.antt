@@ -1,6 +1,4 @@
-use Rattle.std.proofs.lemmas.Result.{err_from_is_err_and}
-use Rattle.scf_text.specs.Statements.{statements_of}
-use Rattle.scf_text.specs.internal.Reading.{places_view, drafts_view}
+use Rattle.scf_text.proofs.Common.{err_from_is_err_and, statements_of, places_view, drafts_view}
 use Rattle.scf_text.proofs.TextLemmas.{statements_fail, drafts_read, text_tells, nothing_read}
 use Rattle.scf_text.proofs.WantedLemmas.{drafts_words}
 use Rattle.scf_text.proofs.assembler.read_all.Goals as goal

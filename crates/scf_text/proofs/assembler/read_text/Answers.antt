@@ -1,8 +1,4 @@
-use Rattle.std.proofs.Common.{[], ◌+◌, arith}
-use Rattle.std.proofs.lemmas.Result.{err_from_is_err_and}
-use Rattle.scf_text.specs.internal.Parts.{lines_after}
-use Rattle.scf_text.specs.Tokens.{lines_of}
-use Rattle.scf_text.specs.Statements.{statements_from}
+use Rattle.scf_text.proofs.Common.{[], ◌+◌, arith, err_from_is_err_and, lines_after, lines_of, statements_from}
 use Rattle.scf_text.proofs.ReadLemmas.{next_line}
 use Rattle.scf_text.proofs.assembler.read_text.Goals as goal
 

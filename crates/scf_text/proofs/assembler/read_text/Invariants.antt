@@ -1,7 +1,4 @@
-use Rattle.std.proofs.Common.{◌≤◌, ◌+◌, List, length}
-use Rattle.scf_text.specs.Tokens.{lines_of}
-use Rattle.scf_text.specs.Statements.{Statement, statements_from, statements_of}
-use Rattle.scf_text.specs.internal.Reading.{IsLeft, places_view, drafts_view}
+use Rattle.scf_text.proofs.Common.{◌≤◌, ◌+◌, List, length, lines_of, Statement, statements_from, statements_of, IsLeft, places_view, drafts_view}
 use Rattle.scf_text.proofs.assembler.read_text.Given as goal
 
 abbrev pub invariant-lines : goal.invariant-lines

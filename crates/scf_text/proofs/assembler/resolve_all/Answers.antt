@@ -1,10 +1,5 @@
-use Rattle.std.proofs.Common.{[], subst, sym, List}
-use Rattle.std.specs.List.{AllByRecursion}
-use Rattle.std.proofs.lemmas.List.{append-nil, drop_all}
-use Rattle.scf_insn.specs.Insn.{IsInsn}
-use Rattle.scf_insn.specs.declared.insn.Insn.{Insn}
-use Rattle.scf_text.specs.Spelling.{SaysEach}
-use Rattle.scf_text.specs.internal.Reading.{places_view, drafts_view}
+use Rattle.scf_text.proofs.Common.{[], subst, sym, List, AllByRecursion, drop_all, IsInsn, Insn, SaysEach, places_view, drafts_view}
+use Rattle.std.proofs.lemmas.List.{append-nil}
 use Rattle.scf_text.proofs.assembler.resolve_all.Goals as goal
 
 pub returns-clause-tells : goal.returns-clause-tells

@@ -1,10 +1,4 @@
-use Rattle.std.proofs.Common.{◌≡◌, List, ◌++◌, drop}
-use Rattle.std.specs.List.{AllByRecursion}
-use Rattle.scf_insn.specs.Insn.{IsInsn}
-use Rattle.scf_insn.specs.declared.insn.Insn.{Insn}
-use Rattle.scf_text.specs.Spelling.{SaysEach}
-use Rattle.scf_text.specs.Faults.{all_targets_fault}
-use Rattle.scf_text.specs.internal.Reading.{places_view, drafts_view}
+use Rattle.scf_text.proofs.Common.{◌≡◌, List, ◌++◌, drop, AllByRecursion, IsInsn, Insn, SaysEach, all_targets_fault, places_view, drafts_view}
 use Rattle.scf_text.proofs.assembler.resolve_all.Given as goal
 
 abbrev pub invariant-loop-at : goal.invariant-loop-at

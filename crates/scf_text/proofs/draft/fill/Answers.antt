@@ -1,6 +1,4 @@
-use Rattle.std.proofs.Common.{sym, ◌∙◌, refl}
-use Rattle.std.proofs.lemmas.List.{drop_more}
-use Rattle.scf_text.specs.declared.form.Piece.TheVariants.{Len}
+use Rattle.scf_text.proofs.Common.{sym, ◌∙◌, refl, drop_more, Len}
 use Rattle.scf_text.proofs.draft.fill.Goals as goal
 
 pub returns-in-End-clause-said : goal.returns-in-End-clause-said

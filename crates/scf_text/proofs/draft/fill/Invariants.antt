@@ -1,8 +1,4 @@
-use Rattle.std.proofs.Common.{◌≡◌, drop}
-use Rattle.scf_insn.specs.Numbers.{number_of}
-use Rattle.scf_text.specs.Drafts.{fill_by}
-use Rattle.scf_text.specs.internal.Parts.{words_in, others_in}
-use Rattle.scf_text.specs.internal.Views.{draft_view}
+use Rattle.scf_text.proofs.Common.{◌≡◌, drop, number_of, fill_by, words_in, others_in, draft_view}
 use Rattle.scf_text.proofs.draft.fill.Given as goal
 
 abbrev pub invariant-loop-piece : goal.invariant-loop-piece

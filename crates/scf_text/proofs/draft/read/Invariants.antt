@@ -1,7 +1,4 @@
-use Rattle.std.proofs.Common.{◌≡◌, drop}
-use Rattle.scf_insn.specs.Numbers.{number_of}
-use Rattle.scf_text.specs.Forms.{forms}
-use Rattle.scf_text.specs.internal.Parts.{words_in}
+use Rattle.scf_text.proofs.Common.{◌≡◌, drop, number_of, forms, words_in}
 use Rattle.scf_text.proofs.FormLemmas.{IsUnread}
 use Rattle.scf_text.proofs.draft.read.Given as goal
 

@@ -1,7 +1,4 @@
-use Rattle.std.proofs.Common.{◌≡◌, drop}
-use Rattle.std.specs.Prelude.{◌==◌}
-use Rattle.std.specs.List.{find}
-use Rattle.scf_text.specs.declared.form.Form.{Form}
+use Rattle.scf_text.proofs.Common.{◌≡◌, drop, ◌==◌, find, Form}
 use Rattle.scf_text.proofs.form.first_of_code.Given as goal
 
 -- no form so far has the code

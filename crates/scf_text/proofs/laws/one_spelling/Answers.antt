@@ -1,4 +1,4 @@
-use Rattle.scf_text.specs.Statements.{place_of, labels_of, drafts_of}
+use Rattle.scf_text.proofs.Common.{place_of, labels_of, drafts_of}
 use Rattle.scf_text.proofs.LawLemmas.{one_said}
 use Rattle.scf_text.proofs.laws.one_spelling.Goals as goal
 

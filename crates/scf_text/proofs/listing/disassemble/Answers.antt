@@ -1,6 +1,4 @@
-use Rattle.std.proofs.lemmas.Result.{err_from_is_err_and}
-use Rattle.scf_text.specs.Listing.{line_of}
-use Rattle.scf_insn.proofs.Written.{each_fails}
+use Rattle.scf_text.proofs.Common.{err_from_is_err_and, line_of, each_fails}
 use Rattle.scf_text.proofs.listing.disassemble.Goals as goal
 
 pub returns-in_err-write_line : goal.returns-in_err-write_line

@@ -1,7 +1,4 @@
-use Rattle.std.proofs.Common.{take}
-use Rattle.std.specs.List.{flat_map}
-use Rattle.scf_insn.specs.Streams.{TakesAll}
-use Rattle.scf_text.specs.Listing.{line_of}
+use Rattle.scf_text.proofs.Common.{take, flat_map, TakesAll, line_of}
 use Rattle.scf_text.proofs.listing.disassemble.Given as goal
 
 abbrev pub invariant-loop-insn : goal.invariant-loop-insn

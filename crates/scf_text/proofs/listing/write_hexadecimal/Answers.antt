@@ -1,7 +1,4 @@
-use Rattle.std.specs.Fmt.{digits}
-use Rattle.std.proofs.Common.{false, [], ◌∷◌}
-use Rattle.std.proofs.lemmas.Result.{err_from_is_err_and}
-use Rattle.scf_insn.proofs.Written.{fails_first, writes_then}
+use Rattle.scf_text.proofs.Common.{digits, false, [], ◌∷◌, err_from_is_err_and, fails_first, writes_then}
 use Rattle.scf_text.proofs.listing.write_hexadecimal.Goals as goal
 
 pub returns-in_err-write_whole : goal.returns-in_err-write_whole

@@ -1,8 +1,4 @@
-use Rattle.std.proofs.Common.{sym, ◌∙◌, [], ◌∷◌}
-use Rattle.std.specs.List.{flat_map}
-use Rattle.std.proofs.lemmas.Result.{err_from_is_err_and}
-use Rattle.scf_text.specs.Listing.{piece_text}
-use Rattle.scf_insn.proofs.Written.{fails_first, writes_then}
+use Rattle.scf_text.proofs.Common.{sym, ◌∙◌, [], ◌∷◌, flat_map, err_from_is_err_and, piece_text, fails_first, writes_then}
 use Rattle.scf_text.proofs.WriteLemmas.{operands_some}
 use Rattle.scf_text.proofs.listing.write_operands.Goals as goal
 

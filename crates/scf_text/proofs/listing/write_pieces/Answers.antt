@@ -1,6 +1,4 @@
-use Rattle.std.proofs.lemmas.Result.{err_from_is_err_and}
-use Rattle.scf_text.specs.Listing.{piece_text}
-use Rattle.scf_insn.proofs.Written.{each_fails}
+use Rattle.scf_text.proofs.Common.{err_from_is_err_and, piece_text, each_fails}
 use Rattle.scf_text.proofs.listing.write_pieces.Goals as goal
 
 pub returns-in_err-write_piece : goal.returns-in_err-write_piece

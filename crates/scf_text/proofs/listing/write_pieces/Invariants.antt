@@ -1,7 +1,4 @@
-use Rattle.std.proofs.Common.{take}
-use Rattle.std.specs.List.{flat_map}
-use Rattle.scf_insn.specs.Streams.{TakesAll}
-use Rattle.scf_text.specs.Listing.{piece_text}
+use Rattle.scf_text.proofs.Common.{take, flat_map, TakesAll, piece_text}
 use Rattle.scf_text.proofs.listing.write_pieces.Given as goal
 
 abbrev pub invariant-loop-piece : goal.invariant-loop-piece

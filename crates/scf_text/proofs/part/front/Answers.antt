@@ -1,6 +1,4 @@
-use Rattle.std.proofs.Common.{◌≡◌, true, false}
-use Rattle.std.proofs.lemmas.List.{take_rest}
-use Rattle.scf_text.specs.Statements.{is_semicolon}
+use Rattle.scf_text.proofs.Common.{◌≡◌, true, false, take_rest, is_semicolon}
 use Rattle.scf_text.proofs.TokenLemmas.{no_token, statement_ends, token_next, words_front}
 use Rattle.scf_text.proofs.part.front.Goals as goal
 

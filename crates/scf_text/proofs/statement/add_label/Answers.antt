@@ -1,4 +1,4 @@
-use Rattle.std.proofs.Common.{rules}
+use Rattle.scf_text.proofs.Common.{rules}
 use Rattle.scf_text.proofs.ReadLemmas.{label_added}
 use Rattle.scf_text.proofs.statement.add_label.Goals as goal
 

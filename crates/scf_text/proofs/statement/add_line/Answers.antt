@@ -1,7 +1,4 @@
-use Rattle.std.proofs.Common.{◌++◌, map}
-use Rattle.std.proofs.lemmas.Result.{err_from_is_err_and}
-use Rattle.scf_text.specs.internal.Parts.{others_in}
-use Rattle.scf_text.specs.Statements.{Statement}
+use Rattle.scf_text.proofs.Common.{◌++◌, map, err_from_is_err_and, others_in, Statement}
 use Rattle.scf_text.proofs.statement.add_line.Goals as goal
 
 pub returns-in_err-add_statement : goal.returns-in_err-add_statement

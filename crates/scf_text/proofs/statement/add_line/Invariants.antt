@@ -1,7 +1,4 @@
-use Rattle.std.proofs.Common.{List, ◌++◌, length}
-use Rattle.scf_text.specs.Statements.{Statement}
-use Rattle.scf_text.specs.internal.Parts.{others_in}
-use Rattle.scf_text.specs.internal.Reading.{IsLeft, line_statements, places_view, drafts_view}
+use Rattle.scf_text.proofs.Common.{List, ◌++◌, length, Statement, others_in, IsLeft, line_statements, places_view, drafts_view}
 use Rattle.scf_text.proofs.statement.add_line.Given as goal
 
 abbrev pub invariant-statements : goal.invariant-statements

@@ -1,8 +1,4 @@
-use Rattle.std.proofs.Common.{rules, arith, ◌≡◌, ◌∙◌, sym, length}
-use Rattle.std.proofs.lemmas.List.{length-map}
-use Rattle.std.proofs.lemmas.Result.{err_from_is_err_and}
-use Rattle.scf_text.specs.internal.Parts.{words_in}
-use Rattle.scf_text.specs.internal.Reading.{places_view, drafts_view}
+use Rattle.scf_text.proofs.Common.{rules, arith, ◌≡◌, ◌∙◌, sym, length, length-map, err_from_is_err_and, words_in, places_view, drafts_view}
 use Rattle.scf_text.proofs.ReadLemmas.{label_refused, statement_leaves, some_mapped, some_refused}
 use Rattle.scf_text.proofs.statement.add_statement.Goals as goal
 

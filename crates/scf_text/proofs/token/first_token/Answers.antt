@@ -1,5 +1,4 @@
-use Rattle.std.proofs.Common.{◌<◌, ◌≤◌, length, drop, arith, ◌∙◌, ap, max}
-use Rattle.std.proofs.lemmas.List.{take_rest, length-take-le, length-drop}
+use Rattle.scf_text.proofs.Common.{◌<◌, ◌≤◌, length, drop, arith, ◌∙◌, ap, max, take_rest, length-take-le, length-drop}
 use Rattle.scf_text.proofs.TokenLemmas.{token_is}
 use Rattle.scf_text.proofs.token.first_token.Goals as goal
 

@@ -1,5 +1,4 @@
-use Rattle.std.proofs.Common.{◌≡◌, ◌≢◌, ◌+◌, ◌++◌, [], length}
-use Rattle.scf_text.specs.Tokens.{lexemes_from, lexemes}
+use Rattle.scf_text.proofs.Common.{◌≡◌, ◌≢◌, ◌+◌, ◌++◌, [], length, lexemes_from, lexemes}
 use Rattle.scf_text.proofs.token.push_tokens.Given as goal
 
 abbrev pub invariant-loop-token : goal.invariant-loop-token

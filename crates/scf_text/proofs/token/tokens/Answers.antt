@@ -1,7 +1,5 @@
+use Rattle.scf_text.proofs.Common.{[], ◌∙◌, sym, append-nil, arith, err_from_is_err_and, lexemes, lines_of}
 use Rattle.scf_text.proofs.TokenLemmas.{found_slices, next_tokens}
-use Rattle.std.proofs.Common.{[], ◌∙◌, sym, append-nil, arith}
-use Rattle.std.proofs.lemmas.Result.{err_from_is_err_and}
-use Rattle.scf_text.specs.Tokens.{lexemes, lines_of}
 use Rattle.scf_text.proofs.ReadLemmas.{some_between}
 use Rattle.scf_text.proofs.token.tokens.Goals as goal
 

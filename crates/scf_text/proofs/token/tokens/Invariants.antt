@@ -1,5 +1,4 @@
-use Rattle.std.proofs.Common.{◌≡◌, ◌+◌, ◌++◌, length}
-use Rattle.scf_text.specs.Tokens.{lexemes_of_lines, lines_of, tokens_of, lexemes}
+use Rattle.scf_text.proofs.Common.{◌≡◌, ◌+◌, ◌++◌, length, lexemes_of_lines, lines_of, tokens_of, lexemes}
 use Rattle.scf_text.proofs.token.tokens.Given as goal
 
 abbrev pub invariant-lines : goal.invariant-lines

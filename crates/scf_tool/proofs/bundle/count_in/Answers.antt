@@ -1,7 +1,4 @@
-use Rattle.std.proofs.Common.{◌≡◌, ◌∙◌, ◌++◌, List, ℕ, Some, ap, codes}
-use Rattle.std.proofs.lemmas.Bool.Decides.{Decides-eqb}
-use Rattle.std.proofs.lemmas.Slice.Eq.{strip_prefix_is}
-use Rattle.scf_tool.specs.Bundle.{kind_word}
+use Rattle.scf_tool.proofs.Common.{◌≡◌, ◌∙◌, ◌++◌, List, ℕ, Some, ap, codes, Decides-eqb, strip_prefix_is, kind_word}
 use Rattle.scf_tool.proofs.HeaderLemmas.{header_by_count}
 use Rattle.scf_tool.proofs.bundle.count_in.Goals as goal
 

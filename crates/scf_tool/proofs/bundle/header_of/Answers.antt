@@ -1,6 +1,4 @@
-use Rattle.std.proofs.Common.{ℕ}
-use Rattle.scf_tool.specs.declared.bundle.PartKind.{PartKind}
-use Rattle.scf_tool.specs.Bundle.{HasHeader}
+use Rattle.scf_tool.proofs.Common.{ℕ, PartKind, HasHeader}
 use Rattle.scf_tool.proofs.BundleLemmas.{if_none}
 use Rattle.scf_tool.proofs.HeaderLemmas.{header_by_line}
 use Rattle.scf_tool.proofs.bundle.header_of.Goals as goal

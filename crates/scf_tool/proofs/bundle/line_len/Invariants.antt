@@ -1,4 +1,4 @@
-use Rattle.std.proofs.Common.{◌≢◌, ℕ, ◌<◌, get_or}
+use Rattle.scf_tool.proofs.Common.{◌≢◌, ℕ, ◌<◌, get_or}
 use Rattle.scf_tool.proofs.bundle.line_len.Given as goal
 
 abbrev pub invariant-loop-at : goal.invariant-loop-at

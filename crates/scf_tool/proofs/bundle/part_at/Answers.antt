@@ -1,5 +1,4 @@
-use Rattle.std.proofs.Common.{◌≡◌, ◌+◌, ◌-◌, take, drop, refl, sym, arith, length-drop}
-use Rattle.std.proofs.lemmas.List.{take-append-drop}
+use Rattle.scf_tool.proofs.Common.{◌≡◌, ◌+◌, ◌-◌, take, drop, refl, sym, arith, length-drop, take-append-drop}
 use Rattle.scf_tool.proofs.BundleLemmas.{part_in_front, some_left, tail}
 use Rattle.scf_tool.proofs.bundle.part_at.Goals as goal
 

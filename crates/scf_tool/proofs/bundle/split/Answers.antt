@@ -1,6 +1,4 @@
-use Rattle.std.proofs.Common.{◌≡◌, ◌+◌, arith}
-use Rattle.std.proofs.lemmas.List.{take_all}
-use Rattle.std.proofs.lemmas.Result.{err_from_is_err_and}
+use Rattle.scf_tool.proofs.Common.{◌≡◌, ◌+◌, arith, take_all, err_from_is_err_and}
 use Rattle.scf_tool.proofs.BundleLemmas.{breaks, broken_no_parts, fault_no_parts, first_fault, next_part, no_part_behind, one_spelling}
 use Rattle.scf_tool.proofs.bundle.split.Goals as goal
 

@@ -1,5 +1,4 @@
-use Rattle.std.proofs.Common.{◌-◌, ◌≤◌, length, take}
-use Rattle.scf_tool.specs.Bundle.{SpellsBundle}
+use Rattle.scf_tool.proofs.Common.{◌-◌, ◌≤◌, length, take, SpellsBundle}
 use Rattle.scf_tool.proofs.bundle.split.Given as goal
 
 abbrev pub invariant-loop-offset : goal.invariant-loop-offset

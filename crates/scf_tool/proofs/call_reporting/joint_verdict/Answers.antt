@@ -1,9 +1,4 @@
-use Rattle.std.proofs.Common.{◌≡◌, ◌∙◌, Bool, Option, Some, [], ◌∷◌, ap, ap₂, false, true, get_or, map, not, refl, sym}
-use Rattle.std.specs.Prelude.{find}
-use Rattle.std.specs.Option.{option_or}
-use Rattle.scf_compare.specs.declared.verdict.Verdict.{Verdict}
-use Rattle.scf_tool.specs.declared.call_verification.CallVerdict.{CallVerdict}
-use Rattle.scf_tool.specs.CallReports.{is_difference, is_same}
+use Rattle.scf_tool.proofs.Common.{◌≡◌, ◌∙◌, Bool, Option, Some, [], ◌∷◌, ap, ap₂, false, true, get_or, map, not, refl, sym, find, option_or, Verdict, CallVerdict, is_difference, is_same}
 use Rattle.scf_tool.proofs.JointLemmas.{found_here, found_more}
 use Rattle.scf_tool.proofs.call_reporting.joint_verdict.Goals as goal
 

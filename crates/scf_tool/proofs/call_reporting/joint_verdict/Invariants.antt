@@ -1,6 +1,4 @@
-use Rattle.std.proofs.Common.{◌≡◌, None, map, not, take}
-use Rattle.std.specs.Prelude.{find}
-use Rattle.scf_tool.specs.CallReports.{is_difference, is_same}
+use Rattle.scf_tool.proofs.Common.{◌≡◌, None, map, not, take, find, is_difference, is_same}
 use Rattle.scf_tool.proofs.call_reporting.joint_verdict.Given as goal
 
 abbrev pub invariant-loop-call : goal.invariant-loop-call

@@ -1,8 +1,4 @@
-use Rattle.std.proofs.lemmas.Result.{err_from_is_err_and}
-use Rattle.std.proofs.Common.{◌++◌, ℕ, List, codes}
-use Rattle.scf_insn.proofs.Written.{fails_first, fails_then, writes_then}
-use Rattle.scf_tool.specs.Lines.{answer_text}
-use Rattle.scf_tool.specs.Reports.{answer_line}
+use Rattle.scf_tool.proofs.Common.{err_from_is_err_and, ◌++◌, ℕ, List, codes, fails_first, fails_then, writes_then, answer_text, answer_line}
 use Rattle.scf_tool.proofs.call_reporting.write_answered.Goals as goal
 
 -- what follows the arguments, and what follows the filter's answer

@@ -1,9 +1,4 @@
-use Rattle.std.proofs.Common.{◌≡◌, ◌∙◌, ◌++◌, ℕ, List, [], ◌∷◌, String, ap, codes, map, refl, string_bytes, subst, sym}
-use Rattle.std.proofs.lemmas.List.Folds.{flat_map-map}
-use Rattle.std.specs.declared.alloc.Global.{Global}
-use Rattle.std.specs.List.{join_by}
-use Rattle.scf_insn.specs.Streams.{Writes}
-use Rattle.scf_tool.specs.CallReports.{names_text}
+use Rattle.scf_tool.proofs.Common.{◌≡◌, ◌∙◌, ◌++◌, ℕ, List, [], ◌∷◌, String, ap, codes, map, refl, string_bytes, subst, sym, flat_map-map, Global, join_by, Writes, names_text}
 use Rattle.scf_tool.proofs.call_reporting.write_call_names.Goals as goal
 
 joined : (names : List (String Global)) → join_by string_bytes (codes ",") names ≡ names_text (map string_bytes names)

@@ -1,11 +1,4 @@
-use Rattle.std.proofs.Common.{◌≡◌, ◌<◌, ◌+◌, ◌∙◌, ◌++◌, ℕ, List, [], ◌∷◌, Option, ap, append-nil, get_or, length, take}
-use Rattle.std.proofs.lemmas.List.{take_more}
-use Rattle.std.proofs.lemmas.List.Concat.{flat_map-append}
-use Rattle.std.proofs.lemmas.Result.{err_from_is_err_and}
-use Rattle.std.specs.List.{flat_map}
-use Rattle.scf_insn.specs.Streams.{TakesAll}
-use Rattle.scf_insn.proofs.Written.{each_fails, takes_then}
-use Rattle.scf_tool.specs.CallReports.{named_line}
+use Rattle.scf_tool.proofs.Common.{◌≡◌, ◌<◌, ◌+◌, ◌∙◌, ◌++◌, ℕ, List, [], ◌∷◌, Option, ap, append-nil, get_or, length, take, take_more, flat_map-append, err_from_is_err_and, flat_map, TakesAll, each_fails, takes_then, named_line}
 use Rattle.scf_tool.proofs.call_reporting.write_calls.Goals as goal
 
 -- one more line

@@ -1,7 +1,4 @@
-use Rattle.std.proofs.Common.{take}
-use Rattle.std.specs.List.{flat_map}
-use Rattle.scf_insn.specs.Streams.{TakesAll}
-use Rattle.scf_tool.specs.CallReports.{named_line}
+use Rattle.scf_tool.proofs.Common.{take, flat_map, TakesAll, named_line}
 use Rattle.scf_tool.proofs.call_reporting.write_calls.Given as goal
 
 abbrev pub invariant-loop-call : goal.invariant-loop-call

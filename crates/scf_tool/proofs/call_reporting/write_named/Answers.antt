@@ -1,7 +1,4 @@
-use Rattle.std.proofs.Common.{◌≡◌, ◌∙◌, false, sym}
-use Rattle.std.proofs.lemmas.Result.{err_from_is_err_and}
-use Rattle.scf_insn.proofs.Written.{fails_first, writes_then}
-use Rattle.scf_tool.specs.CallReports.{is_same}
+use Rattle.scf_tool.proofs.Common.{◌≡◌, ◌∙◌, false, sym, err_from_is_err_and, fails_first, writes_then, is_same}
 use Rattle.scf_tool.proofs.call_reporting.write_named.Goals as goal
 
 pub returns-in_err-write_front : goal.returns-in_err-write_front

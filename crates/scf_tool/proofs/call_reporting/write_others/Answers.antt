@@ -1,7 +1,4 @@
-use Rattle.std.proofs.lemmas.Result.{err_from_is_err_and}
-use Rattle.std.proofs.Common.{◌++◌, String, codes, string_bytes}
-use Rattle.std.specs.declared.alloc.Global.{Global}
-use Rattle.scf_insn.proofs.Written.{each_fails}
+use Rattle.scf_tool.proofs.Common.{err_from_is_err_and, ◌++◌, String, codes, string_bytes, Global, each_fails}
 use Rattle.scf_tool.proofs.call_reporting.write_others.Goals as goal
 
 pub returns-in_err-write_other : goal.returns-in_err-write_other

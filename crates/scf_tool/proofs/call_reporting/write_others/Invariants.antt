@@ -1,6 +1,4 @@
-use Rattle.std.proofs.Common.{◌++◌, codes, string_bytes, take}
-use Rattle.std.specs.List.{flat_map}
-use Rattle.scf_insn.specs.Streams.{TakesAll}
+use Rattle.scf_tool.proofs.Common.{◌++◌, codes, string_bytes, take, flat_map, TakesAll}
 use Rattle.scf_tool.proofs.call_reporting.write_others.Given as goal
 
 abbrev pub invariant-loop-text : goal.invariant-loop-text

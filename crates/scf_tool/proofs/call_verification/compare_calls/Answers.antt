@@ -1,5 +1,4 @@
-use Rattle.std.proofs.lemmas.List.{take_more}
-use Rattle.scf_tool.specs.VerifyingCalls.{IsVerdictOnCall}
+use Rattle.scf_tool.proofs.Common.{take_more, IsVerdictOnCall}
 use Rattle.scf_tool.proofs.StackLemmas.{AllZip-more}
 use Rattle.scf_tool.proofs.call_verification.compare_calls.Goals as goal
 

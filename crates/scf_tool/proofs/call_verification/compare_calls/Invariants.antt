@@ -1,6 +1,4 @@
-use Rattle.std.proofs.Common.{take}
-use Rattle.std.specs.List.{AllZip}
-use Rattle.scf_tool.specs.VerifyingCalls.{IsVerdictOnCall}
+use Rattle.scf_tool.proofs.Common.{take, AllZip, IsVerdictOnCall}
 use Rattle.scf_tool.proofs.call_verification.compare_calls.Given as goal
 
 abbrev pub invariant-loop-call : goal.invariant-loop-call

@@ -1,5 +1,4 @@
-use Rattle.std.proofs.Common.{◌≡◌, map, string_bytes, take}
-use Rattle.scf_profile.specs.References.{texts_at}
+use Rattle.scf_tool.proofs.Common.{◌≡◌, map, string_bytes, take, texts_at}
 use Rattle.scf_tool.proofs.call_verification.kept.Given as goal
 
 abbrev pub invariant-loop-word : goal.invariant-loop-word

@@ -1,4 +1,4 @@
-use Rattle.std.proofs.lemmas.Result.{err_from_is_err_and}
+use Rattle.scf_tool.proofs.Common.{err_from_is_err_and}
 use Rattle.scf_tool.proofs.PartyLemmas.{parties_are_read}
 use Rattle.scf_tool.proofs.call_verification.verify_calls_by.Goals as goal
 

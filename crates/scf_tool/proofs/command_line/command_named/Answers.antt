@@ -1,5 +1,4 @@
-use Rattle.std.proofs.Common.{rules}
-use Rattle.scf_tool.specs.Requests.Command.{Ask, Asm, Check, Compare, Compile, Decide, Dis, Run}
+use Rattle.scf_tool.proofs.Common.{rules, Ask, Asm, Check, Compare, Compile, Decide, Dis, Run}
 use Rattle.scf_tool.proofs.command_line.command_named.Goals as goal
 use Rattle.scf_tool.proofs.command_line.command_named.Goals.{in-ask+in_ok-command-in-ask, in-asm+in_ok-command-in-asm, in-check+in_ok-command-in-check, in-compare+in_ok-command-in-compare, in-compile+in_ok-command-in-compile, in-decide+in_ok-command-in-decide, in-dis+in_ok-command-in-dis, in-run+in_ok-command-in-run}
 

@@ -1,5 +1,4 @@
-use Rattle.std.proofs.Common.{◌∙◌, ap₂, sym}
-use Rattle.clap.specs.Words.{with_rule}
+use Rattle.scf_tool.proofs.Common.{◌∙◌, ap₂, sym, with_rule}
 use Rattle.scf_tool.proofs.OptionLemmas.{leaf_more}
 use Rattle.scf_tool.proofs.command_line.command_with.Goals as goal
 

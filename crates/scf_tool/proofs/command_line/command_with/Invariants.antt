@@ -1,5 +1,4 @@
-use Rattle.std.proofs.Common.{◌≡◌, take}
-use Rattle.clap.specs.Words.{app_of}
+use Rattle.scf_tool.proofs.Common.{◌≡◌, take, app_of}
 use Rattle.scf_tool.proofs.OptionLemmas.{leaf}
 use Rattle.scf_tool.proofs.command_line.command_with.Given as goal
 

@@ -1,8 +1,4 @@
-use Rattle.std.proofs.Common.{◌∙◌, [], ◌∷◌, ap, ap₂, codes}
-use Rattle.std.proofs.lemmas.Result.{IfOk-weaker}
-use Rattle.clap.specs.Words.{with_rule}
-use Rattle.scf_tool.specs.Options.{NumberOption}
-use Rattle.scf_tool.specs.Runs.{shape_with}
+use Rattle.scf_tool.proofs.Common.{◌∙◌, [], ◌∷◌, ap, ap₂, codes, IfOk-weaker, with_rule, NumberOption, shape_with}
 use Rattle.scf_tool.proofs.CommandLineLemmas.{alone}
 use Rattle.scf_tool.proofs.command_line.comparing.Goals as goal
 

@@ -1,8 +1,4 @@
-use Rattle.std.proofs.Common.{◌∙◌, subst}
-use Rattle.std.proofs.lemmas.Bool.{and_parts}
-use Rattle.std.proofs.lemmas.Result.{IfOk-weaker}
-use Rattle.clap.specs.Kinds.{Kinds}
-use Rattle.clap.specs.Words.{FailsBy}
+use Rattle.scf_tool.proofs.Common.{◌∙◌, subst, and_parts, IfOk-weaker, Kinds, FailsBy}
 use Rattle.scf_tool.proofs.command_line.parse.Goals as goal
 
 pub returns-clause-matches : goal.returns-clause-matches

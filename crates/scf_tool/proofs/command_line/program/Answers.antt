@@ -1,7 +1,4 @@
-use Rattle.std.proofs.Common.{refl}
-use Rattle.std.proofs.lemmas.Result.{IfOk-weaker}
-use Rattle.scf_tool.specs.Requests.Command.{Ask, Asm, Check, Compare, Compile, Decide, Dis, Run}
-use Rattle.scf_tool.specs.Runs.{shape_for}
+use Rattle.scf_tool.proofs.Common.{refl, IfOk-weaker, Ask, Asm, Check, Compare, Compile, Decide, Dis, Run, shape_for}
 use Rattle.scf_tool.proofs.CommandLineLemmas.{bare, one_more_command}
 use Rattle.scf_tool.proofs.command_line.program.Goals as goal
 

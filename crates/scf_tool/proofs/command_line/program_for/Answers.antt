@@ -1,11 +1,4 @@
-use Rattle.std.proofs.Common.{◌≡◌, ◌∙◌, List, Option, ◌∷◌, map, refl, subst, sym, ap}
-use Rattle.std.specs.Prelude.{IfSome}
-use Rattle.std.proofs.lemmas.Result.{IfOk-weaker}
-use Rattle.clap.specs.Words.{App, Text, app_of}
-use Rattle.clap.specs.declared.builder.command.Command.{Command}
-use Rattle.scf_tool.specs.Requests.{command_word}
-use Rattle.scf_tool.specs.Runs.{shape_for}
-use Rattle.scf_tool.specs.internal.Parsing.{IsNamed, ReadsAsProgram, scf_with}
+use Rattle.scf_tool.proofs.Common.{◌≡◌, ◌∙◌, List, Option, ◌∷◌, map, refl, subst, sym, ap, IfSome, IfOk-weaker, App, Text, app_of, Command, command_word, shape_for, IsNamed, ReadsAsProgram, scf_with}
 use Rattle.scf_tool.proofs.CommandLineLemmas.{bare, behind_first, one_more_command, reads_whole, reads_with}
 use Rattle.scf_tool.proofs.command_line.program_for.Goals as goal
 

@@ -1,15 +1,5 @@
-use Rattle.std.proofs.Common.{◌≡◌, ◌⊎◌, ℕ, List, Option, [], map, inl, inr, refl, subst, Result, Ok, Err}
-use Rattle.std.proofs.lemmas.Result.{err_from_is_err_and}
-use Rattle.clap.specs.Words.{IsAmong, Row, Text, fault_of, subcommand_of}
-use Rattle.clap.specs.declared.error.kind.ErrorKind.{ErrorKind}
-use Rattle.clap.specs.declared.error.kind.ErrorKind.TheVariants.{OutOfMemory}
-use Rattle.scf_tool.specs.declared.fault.Fault.{Fault}
+use Rattle.scf_tool.proofs.Common.{◌≡◌, ◌⊎◌, ℕ, List, Option, [], map, inl, inr, refl, subst, Result, Ok, Err, err_from_is_err_and, IsAmong, Row, Text, fault_of, subcommand_of, ErrorKind, OutOfMemory, Fault, Reply, CommandLine, AsksFor, SpeaksOfWords, scf, Explains}
 use Rattle.scf_tool.specs.declared.fault.Fault.TheVariants as faults
-use Rattle.scf_tool.specs.declared.reply.Reply.{Reply}
-use Rattle.scf_tool.specs.declared.reply.Reply.TheVariants.{CommandLine}
-use Rattle.scf_tool.specs.Requests.{AsksFor}
-use Rattle.scf_tool.specs.Runs.{SpeaksOfWords, scf}
-use Rattle.scf_tool.specs.internal.Parsing.{Explains}
 use Rattle.scf_tool.proofs.commands.ending_of.Goals as goal
 
 refused : (words : List Text) (fault : Fault) → fault_of scf words ≡ [] → AsksFor (subcommand_of scf words) (Err fault)

@@ -1,4 +1,4 @@
-use Rattle.std.proofs.Common.{Err, inl, refl}
+use Rattle.scf_tool.proofs.Common.{Err, inl, refl}
 use Rattle.scf_tool.specs.declared.fault.Fault.TheVariants as faults
 use Rattle.scf_tool.proofs.commands.run_command.Goals as goal
 

@@ -1,5 +1,4 @@
-use Rattle.std.proofs.lemmas.Result.{err_from_is_err_and}
-use Rattle.scf_insn.proofs.Written.{fails_first, fails_then, writes_then}
+use Rattle.scf_tool.proofs.Common.{err_from_is_err_and, fails_first, fails_then, writes_then}
 use Rattle.scf_tool.proofs.FaultLemmas.{line_in_parts}
 use Rattle.scf_tool.proofs.fault_line.write_fault.Goals as goal
 

@@ -1,6 +1,4 @@
-use Rattle.std.proofs.lemmas.Result.{err_from_is_err_and}
-use Rattle.scf_insn.proofs.Written.{each_fails}
-use Rattle.scf_tool.specs.internal.Fields.{field_text}
+use Rattle.scf_tool.proofs.Common.{err_from_is_err_and, each_fails, field_text}
 use Rattle.scf_tool.proofs.fault_line.write_fields.Goals as goal
 
 pub returns-in_err-write_field : goal.returns-in_err-write_field

@@ -1,7 +1,4 @@
-use Rattle.std.proofs.Common.{take}
-use Rattle.std.specs.List.{flat_map}
-use Rattle.scf_insn.specs.Streams.{TakesAll}
-use Rattle.scf_tool.specs.internal.Fields.{field_text}
+use Rattle.scf_tool.proofs.Common.{take, flat_map, TakesAll, field_text}
 use Rattle.scf_tool.proofs.fault_line.write_fields.Given as goal
 
 abbrev pub invariant-loop-field : goal.invariant-loop-field

@@ -1,8 +1,4 @@
-use Rattle.std.proofs.Common.{◌≡◌, ◌≤◌, ℕ, List, length, Option, Some, None}
-use Rattle.std.specs.Prelude.{IfSome}
-use Rattle.scf_insn.specs.declared.insn.Insn.{Insn}
-use Rattle.scf_insn.specs.Insn.{program_bytes}
-use Rattle.scf_insn.specs.Kernel.{max_filter_len}
+use Rattle.scf_tool.proofs.Common.{◌≡◌, ◌≤◌, ℕ, List, length, Option, Some, None, IfSome, Insn, program_bytes, max_filter_len}
 use Rattle.scf_tool.proofs.filter.read_filter.Goals as goal
 
 encoded : (bytes : Option (List ℕ)) (insns : List Insn)

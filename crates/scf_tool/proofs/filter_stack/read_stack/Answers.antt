@@ -1,5 +1,4 @@
-use Rattle.std.proofs.Common.{get_or, ap, arith}
-use Rattle.std.proofs.lemmas.Result.{err_from_is_err_and}
+use Rattle.scf_tool.proofs.Common.{get_or, ap, arith, err_from_is_err_and}
 use Rattle.scf_tool.proofs.StackLemmas.{SameFrom, stack_grows, no_stack, readers_stop}
 use Rattle.scf_tool.proofs.filter_stack.read_stack.Goals as goal
 

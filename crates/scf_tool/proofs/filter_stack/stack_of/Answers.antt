@@ -1,9 +1,4 @@
-use Rattle.std.proofs.Common.{List, Result, Ok, Err, ℕ, subst}
-use Rattle.std.specs.Prelude.{IfErr, Option, Some}
-use Rattle.scf_tool.specs.declared.verification.VerifyFault.{VerifyFault}
-use Rattle.scf_tool.specs.Commands.{NoReadFailed}
-use Rattle.scf_tool.specs.FilterStacks.{HasNoStack, HaveStopped, IsNotPushed}
-use Rattle.scf_tool.specs.internal.Contents.{rest_of}
+use Rattle.scf_tool.proofs.Common.{List, Result, Ok, Err, ℕ, subst, IfErr, Option, Some, VerifyFault, NoReadFailed, HasNoStack, HaveStopped, IsNotPushed, rest_of}
 use Rattle.scf_tool.proofs.StackLemmas.{told_of_parts, never_fails}
 use Rattle.scf_tool.proofs.filter_stack.stack_of.Goals as goal
 

@@ -1,6 +1,4 @@
-use Rattle.std.proofs.lemmas.Result.{err_from_is_err_and}
-use Rattle.scf_insn.proofs.Written.{each_fails}
-use Rattle.scf_tool.specs.Lines.{place_text}
+use Rattle.scf_tool.proofs.Common.{err_from_is_err_and, each_fails, place_text}
 use Rattle.scf_tool.proofs.lines.write_places.Goals as goal
 
 pub returns-in_err-write_place : goal.returns-in_err-write_place

@@ -1,7 +1,4 @@
-use Rattle.std.proofs.Common.{take}
-use Rattle.std.specs.List.{flat_map}
-use Rattle.scf_insn.specs.Streams.{TakesAll}
-use Rattle.scf_tool.specs.Lines.{place_text}
+use Rattle.scf_tool.proofs.Common.{take, flat_map, TakesAll, place_text}
 use Rattle.scf_tool.proofs.lines.write_places.Given as goal
 
 abbrev pub invariant-loop-place : goal.invariant-loop-place

@@ -1,7 +1,4 @@
-use Rattle.std.proofs.Common.{◌≡◌, ◌∙◌, ℕ, List, Bor, ap, get_or, sym, true}
-use Rattle.std.specs.Prelude.{is_some}
-use Rattle.clap.specs.Words.{found_of, rows_of}
-use Rattle.scf_tool.specs.Options.{is_given}
+use Rattle.scf_tool.proofs.Common.{◌≡◌, ◌∙◌, ℕ, List, Bor, ap, get_or, sym, true, is_some, found_of, rows_of, is_given}
 use Rattle.scf_tool.proofs.OptionLemmas.{given_as_before, given_first, given_twice}
 use Rattle.scf_tool.proofs.options.chosen.Goals as goal
 use Rattle.scf_tool.proofs.options.chosen.Goals.{then-is_given+else-is_some, else-is_given}

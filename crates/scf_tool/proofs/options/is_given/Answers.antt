@@ -1,8 +1,4 @@
-use Rattle.std.proofs.Common.{rules, ◌≡◌, ◌∙◌, ap, codes, false, Bool, List, Option, ℕ}
-use Rattle.std.specs.Prelude.{bytes_eq}
-use Rattle.std.specs.Option.{option_map_or}
-use Rattle.clap.specs.Words.{first_value, found_of}
-use Rattle.clap.proofs.WalkLemmas.{first_value-rows}
+use Rattle.scf_tool.proofs.Common.{rules, ◌≡◌, ◌∙◌, ap, codes, false, Bool, List, Option, ℕ, bytes_eq, option_map_or, first_value, found_of, first_value-rows}
 use Rattle.scf_tool.proofs.options.is_given.Goals as goal
 
 abbrev is_true : Option (List ℕ) → Bool

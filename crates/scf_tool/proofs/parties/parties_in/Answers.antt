@@ -1,5 +1,4 @@
-use Rattle.std.proofs.Common.{inr, refl}
-use Rattle.std.proofs.lemmas.Result.{err_from_is_err_and}
+use Rattle.scf_tool.proofs.Common.{inr, refl, err_from_is_err_and}
 use Rattle.scf_tool.proofs.parties.parties_in.Goals as goal
 
 pub returns-in_err-said-clause-refused : goal.returns-in_err-said-clause-refused

@@ -1,5 +1,4 @@
-use Rattle.std.proofs.Common.{inl, inr}
-use Rattle.std.proofs.lemmas.Result.{err_from_is_err_and}
+use Rattle.scf_tool.proofs.Common.{inl, inr, err_from_is_err_and}
 use Rattle.scf_tool.proofs.parties.read_parties.Goals as goal
 
 pub returns-in_err-stack-clause-refused : goal.returns-in_err-stack-clause-refused

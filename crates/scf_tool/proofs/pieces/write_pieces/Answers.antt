@@ -1,6 +1,4 @@
-use Rattle.std.proofs.lemmas.Result.{err_from_is_err_and}
-use Rattle.scf_insn.proofs.Written.{each_fails}
-use Rattle.scf_tool.specs.internal.Pieces.{line_piece_text}
+use Rattle.scf_tool.proofs.Common.{err_from_is_err_and, each_fails, line_piece_text}
 use Rattle.scf_tool.proofs.pieces.write_pieces.Goals as goal
 
 pub returns-in_err-write_piece : goal.returns-in_err-write_piece

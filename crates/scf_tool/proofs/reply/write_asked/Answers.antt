@@ -1,5 +1,4 @@
-use Rattle.std.proofs.lemmas.Result.{err_from_is_err_and}
-use Rattle.scf_insn.proofs.Written.{fails_first, writes_then}
+use Rattle.scf_tool.proofs.Common.{err_from_is_err_and, fails_first, writes_then}
 use Rattle.scf_tool.proofs.reply.write_asked.Goals as goal
 
 pub returns-in_err-write_answer : goal.returns-in_err-write_answer

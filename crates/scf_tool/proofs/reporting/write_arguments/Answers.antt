@@ -1,6 +1,4 @@
-use Rattle.std.proofs.lemmas.Result.{err_from_is_err_and}
-use Rattle.scf_insn.proofs.Written.{each_fails}
-use Rattle.scf_tool.specs.Reports.{argument_text}
+use Rattle.scf_tool.proofs.Common.{err_from_is_err_and, each_fails, argument_text}
 use Rattle.scf_tool.proofs.reporting.write_arguments.Goals as goal
 
 pub returns-in_err-write_argument : goal.returns-in_err-write_argument

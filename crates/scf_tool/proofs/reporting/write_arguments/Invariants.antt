@@ -1,7 +1,4 @@
-use Rattle.std.proofs.Common.{take}
-use Rattle.std.specs.List.{flat_map}
-use Rattle.scf_insn.specs.Streams.{TakesAll}
-use Rattle.scf_tool.specs.Reports.{argument_text}
+use Rattle.scf_tool.proofs.Common.{take, flat_map, TakesAll, argument_text}
 use Rattle.scf_tool.proofs.reporting.write_arguments.Given as goal
 
 abbrev pub invariant-loop-argument : goal.invariant-loop-argument

@@ -1,8 +1,4 @@
-use Rattle.std.proofs.lemmas.Result.{err_from_is_err_and}
-use Rattle.std.proofs.Common.{String, string_bytes}
-use Rattle.std.specs.declared.alloc.Global.{Global}
-use Rattle.scf_insn.proofs.Written.{each_fails}
-use Rattle.scf_tool.specs.Reports.{name_line}
+use Rattle.scf_tool.proofs.Common.{err_from_is_err_and, String, string_bytes, Global, each_fails, name_line}
 use Rattle.scf_tool.proofs.reporting.write_names.Goals as goal
 
 pub returns-in_err-write_name : goal.returns-in_err-write_name

@@ -1,7 +1,4 @@
-use Rattle.std.proofs.Common.{take, string_bytes}
-use Rattle.std.specs.List.{flat_map}
-use Rattle.scf_insn.specs.Streams.{TakesAll}
-use Rattle.scf_tool.specs.Reports.{name_line}
+use Rattle.scf_tool.proofs.Common.{take, string_bytes, flat_map, TakesAll, name_line}
 use Rattle.scf_tool.proofs.reporting.write_names.Given as goal
 
 abbrev pub invariant-loop-name : goal.invariant-loop-name

@@ -1,9 +1,4 @@
-use Rattle.std.proofs.Common.{◌≡◌, ◌∙◌, ℕ, List, String, string_bytes, ap, subst, sym}
-use Rattle.std.proofs.lemmas.List.Folds.{flat_map-map}
-use Rattle.std.specs.declared.alloc.Global.{Global}
-use Rattle.std.specs.List.{flat_map}
-use Rattle.scf_insn.specs.Streams.{Writes}
-use Rattle.scf_tool.specs.Reports.{name_line}
+use Rattle.scf_tool.proofs.Common.{◌≡◌, ◌∙◌, ℕ, List, String, string_bytes, ap, subst, sym, flat_map-map, Global, flat_map, Writes, name_line}
 use Rattle.scf_tool.proofs.reporting.write_texts.Goals as goal
 
 pub returns : goal.returns

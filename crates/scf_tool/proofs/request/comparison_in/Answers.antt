@@ -1,8 +1,4 @@
-use Rattle.std.proofs.Common.{◌≡◌, ◌∙◌, ap, inl, inr, refl, sym, subst, None, Some, List, ℕ}
-use Rattle.std.proofs.lemmas.Result.{err_from_is_err_and}
-use Rattle.clap.specs.Words.{found_of, rows_of}
-use Rattle.scf_tool.specs.Requests.Command.{Compare}
-use Rattle.scf_tool.specs.Options.{NumberOption, limit_option, number_in}
+use Rattle.scf_tool.proofs.Common.{◌≡◌, ◌∙◌, ap, inl, inr, refl, sym, subst, None, Some, List, ℕ, err_from_is_err_and, found_of, rows_of, Compare, NumberOption, limit_option, number_in}
 use Rattle.scf_tool.proofs.OptionLemmas.{none_wrong, one_wrong}
 use Rattle.scf_tool.proofs.request.comparison_in.Goals as goal
 

@@ -1,7 +1,4 @@
-use Rattle.std.proofs.Common.{rules}
-use Rattle.std.proofs.lemmas.Result.{err_from_is_err_and}
-use Rattle.clap.specs.Words.{found_of, rows_of}
-use Rattle.scf_tool.specs.Requests.Command.{Ask, Decide}
+use Rattle.scf_tool.proofs.Common.{rules, err_from_is_err_and, found_of, rows_of, Ask, Decide}
 use Rattle.scf_tool.proofs.request.request_of.Goals as goal
 
 pub returns-in_err-record_of-in-Some-ask-default : goal.returns-in_err-record_of-in-Some-ask-default

@@ -1,7 +1,4 @@
-use Rattle.std.proofs.Common.{refl}
-use Rattle.std.proofs.lemmas.Result.{err_from_is_err_and}
-use Rattle.clap.specs.Words.{found_of, rows_of}
-use Rattle.scf_tool.specs.Requests.Command.{Run}
+use Rattle.scf_tool.proofs.Common.{refl, err_from_is_err_and, found_of, rows_of, Run}
 use Rattle.scf_tool.proofs.request.run_in.Goals as goal
 
 pub returns-in_err-call : goal.returns-in_err-call

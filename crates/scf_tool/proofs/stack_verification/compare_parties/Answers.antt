@@ -1,4 +1,4 @@
-use Rattle.std.proofs.Common.{refl}
+use Rattle.scf_tool.proofs.Common.{refl}
 use Rattle.scf_tool.proofs.PartyLemmas.{parties_are_compared}
 use Rattle.scf_tool.proofs.stack_verification.compare_parties.Goals as goal
 

@@ -1,5 +1,4 @@
-use Rattle.std.proofs.Common.{arith, inl, inr}
-use Rattle.std.proofs.lemmas.Result.{err_from_is_err_and}
+use Rattle.scf_tool.proofs.Common.{arith, inl, inr, err_from_is_err_and}
 use Rattle.scf_tool.proofs.stated.stated_by.Goals as goal
 
 pub returns-then-table-most-clause-refused : goal.returns-then-table-most-clause-refused

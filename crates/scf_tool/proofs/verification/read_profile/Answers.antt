@@ -1,9 +1,4 @@
-use Rattle.std.proofs.Common.{◌≡◌, ◌≤◌, ℕ, List, length, Option, Some, None, subst, sym}
-use Rattle.std.specs.Prelude.{IfSome}
-use Rattle.std.proofs.lemmas.Result.{err_from_is_err_and}
-use Rattle.scf_profile.specs.declared.load_fault.LoadFault.{LoadFault}
-use Rattle.scf_profile.specs.Loading.{Refuses}
-use Rattle.scf_profile.specs.Table.{Names}
+use Rattle.scf_tool.proofs.Common.{◌≡◌, ◌≤◌, ℕ, List, length, Option, Some, None, subst, sym, IfSome, err_from_is_err_and, LoadFault, Refuses, Names}
 use Rattle.scf_tool.proofs.verification.read_profile.Goals as goal
 
 refused_text : (bytes : Option (List ℕ)) (text : List ℕ) (names : Names) (fault : LoadFault)

@@ -1,5 +1,4 @@
-use Rattle.std.proofs.Common.{inl, inr, refl}
-use Rattle.std.proofs.lemmas.Result.{err_from_is_err_and}
+use Rattle.scf_tool.proofs.Common.{inl, inr, refl, err_from_is_err_and}
 use Rattle.scf_tool.proofs.verification.verify.Goals as goal
 
 pub returns-in_err-program-clause-answer : goal.returns-in_err-program-clause-answer

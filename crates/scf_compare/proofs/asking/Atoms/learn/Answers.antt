@@ -1,4 +1,4 @@
-use Rattle.std.proofs.Common.{◌<◌, arith}
+use Rattle.scf_compare.proofs.Common.{◌<◌, arith}
 use Rattle.scf_compare.proofs.Branches.{same_then}
 use Rattle.scf_compare.proofs.asking.Atoms.learn.Goals as goal
 

@@ -1,7 +1,4 @@
-use Rattle.std.proofs.Common.{◌∙◌, ap, subst, sym, eqb}
-use Rattle.std.specs.Prelude.{nat_lt}
-use Rattle.std.proofs.lemmas.Bool.{eq-eqb, eqb-true}
-use Rattle.scf_compare.specs.internal.Values.{Decides}
+use Rattle.scf_compare.proofs.Common.{◌∙◌, ap, subst, sym, eqb, nat_lt, eq-eqb, eqb-true, Decides}
 use Rattle.scf_compare.proofs.Joins.{above_zero}
 use Rattle.scf_compare.proofs.conjunction.Conjunction.decide.Goals as goal
 

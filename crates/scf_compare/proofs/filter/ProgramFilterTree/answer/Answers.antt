@@ -1,5 +1,4 @@
-use Rattle.scf_insn.specs.Words.{words_of}
-use Rattle.scf_machine.proofs.Meets.{run_once}
+use Rattle.scf_compare.proofs.Common.{words_of, run_once}
 use Rattle.scf_compare.proofs.filter.ProgramFilterTree.answer.Goals as goal
 
 pub returns-clause-one : goal.returns-clause-one

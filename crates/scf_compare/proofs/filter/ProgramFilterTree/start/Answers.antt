@@ -1,5 +1,4 @@
-use Rattle.std.proofs.Common.{refl, []}
-use Rattle.scf_machine.specs.Machine.{start}
+use Rattle.scf_compare.proofs.Common.{refl, [], start}
 use Rattle.scf_compare.proofs.filter.ProgramFilterTree.start.Goals as goal
 
 pub returns-clause-reached : goal.returns-clause-reached

@@ -1,4 +1,4 @@
-use Rattle.std.proofs.Common.{arith}
+use Rattle.scf_compare.proofs.Common.{arith}
 use Rattle.scf_compare.proofs.Flows.{inside_at}
 use Rattle.scf_compare.proofs.flow.Flow.of.Goals as goal
 

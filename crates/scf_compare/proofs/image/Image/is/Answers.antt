@@ -1,6 +1,4 @@
-use Rattle.std.proofs.Common.{arith}
-use Rattle.std.specs.Prelude.{slice_index}
-use Rattle.std.proofs.lemmas.Nat.{xor_lt}
+use Rattle.scf_compare.proofs.Common.{arith, slice_index, xor_lt}
 use Rattle.scf_compare.proofs.Images.{image_isnt, image_below}
 use Rattle.scf_compare.proofs.image.Image.is.Goals.{then-value-mask-via-then-value-mask, then-value-mask-via-else-value-mask+then-value-self}
 use Rattle.scf_compare.proofs.image.Image.is.Goals as goal

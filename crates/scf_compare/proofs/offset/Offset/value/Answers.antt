@@ -1,6 +1,4 @@
-use Rattle.std.proofs.Common.{◌∙◌, ap, arith, ◌≡◌, bit_and, bit_or}
-use Rattle.scf_compare.specs.internal.Images.{shifted_word, image_number}
-use Rattle.scf_compare.specs.internal.Offsets.{signed_sum}
+use Rattle.scf_compare.proofs.Common.{◌∙◌, ap, arith, ◌≡◌, bit_and, bit_or, shifted_word, image_number, signed_sum}
 use Rattle.scf_compare.proofs.Offsets.{number_fits, image_bits, apart, inside, sum_by_bits, difference_by_bits}
 use Rattle.scf_compare.proofs.offset.Offset.value.Goals as goal
 

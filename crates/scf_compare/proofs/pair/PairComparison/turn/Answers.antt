@@ -1,6 +1,4 @@
-use Rattle.std.proofs.lemmas.Grind.{common_steps}
-use Rattle.std.proofs.Common.{◌*◌, ◌≤◌, arith}
-use Rattle.std.proofs.Math.Nat.{mul-le-mul_left}
+use Rattle.scf_compare.proofs.Common.{common_steps, ◌*◌, ◌≤◌, arith, mul-le-mul_left}
 use Rattle.scf_compare.proofs.pair.PairComparison.turn.Goals as goal
 
 pub returns-in-Ask-clause-costs : goal.returns-in-Ask-clause-costs

@@ -1,7 +1,4 @@
-use Rattle.std.proofs.lemmas.Grind.{common_steps}
-use Rattle.std.proofs.Common.{arith}
-use Rattle.scf_insn.proofs.CallWords.{call_of-words_of}
-use Rattle.scf_profile.proofs.Answering.{one_answer}
+use Rattle.scf_compare.proofs.Common.{common_steps, arith, call_of-words_of, one_answer}
 use Rattle.scf_compare.proofs.profile.ProfileNumbersProfileTree.answer.Goals as goal
 
 pub returns-clause-answer : goal.returns-clause-answer

@@ -1,9 +1,5 @@
 -- What an instruction that goes on does to what is known.
-use Rattle.std.proofs.Common.{◌≡◌, ℕ, Bool, true, false, Option, None, Some, refl, subst, arith}
-use Rattle.scf_insn.specs.declared.operation.Register.{Register}
-use Rattle.scf_machine.specs.Machine.{State, Fault, Goes, unless, loads, sets}
-use Rattle.scf_insn.proofs.CallWords.{word_below}
-use Rattle.scf_compare.specs.internal.Values.{Describes}
+use Rattle.scf_compare.proofs.Common.{◌≡◌, ℕ, Bool, true, false, Option, None, Some, refl, subst, arith, Register, State, Fault, Goes, unless, loads, sets, word_below, Describes}
 use Rattle.scf_compare.proofs.Images.{of_whole_word}
 use Rattle.scf_compare.proofs.registers.Registers.apply.Goals as goal
 

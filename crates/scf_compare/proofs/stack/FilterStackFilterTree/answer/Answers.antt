@@ -1,5 +1,4 @@
-use Rattle.scf_insn.specs.Words.{words_of}
-use Rattle.scf_machine.proofs.Stacks.{stack_answer_once}
+use Rattle.scf_compare.proofs.Common.{words_of, stack_answer_once}
 use Rattle.scf_compare.proofs.stack.FilterStackFilterTree.answer.Goals as goal
 
 pub returns-clause-one : goal.returns-clause-one

@@ -1,9 +1,4 @@
-use Rattle.std.proofs.Common.{◌≡◌, ◌<◌, List, length, sym, subst}
-use Rattle.std.proofs.lemmas.Option.{slice_get_within}
-use Rattle.scf_insn.specs.declared.insn.Insn.{Insn}
-use Rattle.scf_machine.specs.Plain.{IsPlainProgram}
-use Rattle.scf_compare.specs.internal.Filters.{filter_is_plain}
-use Rattle.scf_compare.specs.internal.Stacks.{filter_at}
+use Rattle.scf_compare.proofs.Common.{◌≡◌, ◌<◌, List, length, sym, subst, slice_get_within, Insn, IsPlainProgram, filter_is_plain, filter_at}
 use Rattle.scf_compare.proofs.Stacks.{filter_is, plain_at}
 use Rattle.scf_compare.proofs.stack.FilterStackFilterTree.start.Goals as goal
 

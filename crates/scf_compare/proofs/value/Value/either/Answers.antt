@@ -1,4 +1,4 @@
-use Rattle.std.proofs.lemmas.Nat.{or_lt}
+use Rattle.scf_compare.proofs.Common.{or_lt}
 use Rattle.scf_compare.proofs.Joins.{or_zero}
 use Rattle.scf_compare.proofs.value.Value.either.Goals as goal
 

@@ -1,4 +1,4 @@
-use Rattle.std.proofs.Common.{arith}
+use Rattle.scf_facts.proofs.Common.{arith}
 use Rattle.scf_facts.proofs.HighMasks.{high_range}
 use Rattle.scf_facts.proofs.asked.Asked.of.Goals as goal
 

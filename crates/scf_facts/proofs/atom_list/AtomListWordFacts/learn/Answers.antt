@@ -1,4 +1,4 @@
-use Rattle.std.proofs.Common.{arith}
+use Rattle.scf_facts.proofs.Common.{arith}
 use Rattle.scf_facts.proofs.CountLaws.{rising_more}
 use Rattle.scf_facts.proofs.AtomLaws.{allows_pushed}
 use Rattle.scf_facts.proofs.atom_list.AtomListWordFacts.learn.Goals as goal

@@ -1,4 +1,4 @@
-use Rattle.std.proofs.Common.{◌∙◌}
+use Rattle.scf_facts.proofs.Common.{◌∙◌}
 use Rattle.scf_facts.proofs.CountLaws.{rising_pushed}
 use Rattle.scf_facts.proofs.atom_list.AtomListWordFacts.mark.Goals as goal
 

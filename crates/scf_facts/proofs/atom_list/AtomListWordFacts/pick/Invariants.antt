@@ -1,5 +1,4 @@
-use Rattle.std.proofs.Common.{◌≡◌, ◌<◌, ◌^◌, length}
-use Rattle.std.specs.Prelude.{All}
+use Rattle.scf_facts.proofs.Common.{◌≡◌, ◌<◌, ◌^◌, length, All}
 use Rattle.scf_facts.proofs.atom_list.AtomListWordFacts.pick.Given as goal
 
 abbrev pub invariant-loop-known : goal.invariant-loop-known

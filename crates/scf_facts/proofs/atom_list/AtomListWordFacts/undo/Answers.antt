@@ -1,4 +1,4 @@
-use Rattle.std.proofs.Common.{refl}
+use Rattle.scf_facts.proofs.Common.{refl}
 use Rattle.scf_facts.proofs.CountLaws.{rising_cut}
 use Rattle.scf_facts.proofs.AtomLaws.{learned_closed}
 use Rattle.scf_facts.proofs.atom_list.AtomListWordFacts.undo.Goals as goal

@@ -1,6 +1,4 @@
-use Rattle.std.proofs.Common.{◌↔◌, ◌∷◌, ◌++◌, [], ap, sym, subst, ◌∙◌}
-use Rattle.scf_facts.specs.internal.Bits.{HasBits}
-use Rattle.scf_facts.specs.internal.WordSets.{NumberFacts}
+use Rattle.scf_facts.proofs.Common.{◌↔◌, ◌∷◌, ◌++◌, [], ap, sym, subst, ◌∙◌, HasBits, NumberFacts}
 use Rattle.scf_facts.proofs.SetLaws.{allows_refuted, has_closed}
 use Rattle.scf_facts.proofs.word_set.WordSet.drop_bits.Goals as goal
 

@@ -1,8 +1,4 @@
-use Rattle.std.proofs.Common.{subst}
-use Rattle.std.specs.Prelude.{All}
-use Rattle.scf_facts.specs.internal.Bits.{HasBits, LacksBits}
-use Rattle.scf_facts.specs.internal.Intervals.{LiesInOne}
-use Rattle.scf_facts.specs.internal.WordSets.{NumberFacts}
+use Rattle.scf_facts.proofs.Common.{subst, All, HasBits, LacksBits, LiesInOne, NumberFacts}
 use Rattle.scf_facts.proofs.word_set.WordSet.free_number.Goals as goal
 
 pub returns-clause-found : goal.returns-clause-found

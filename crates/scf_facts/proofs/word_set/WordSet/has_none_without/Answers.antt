@@ -1,6 +1,4 @@
-use Rattle.std.proofs.Common.{inl, inr}
-use Rattle.std.specs.Prelude.{bit_and}
-use Rattle.std.proofs.lemmas.Bool.{cases_eq}
+use Rattle.scf_facts.proofs.Common.{inl, inr, bit_and, cases_eq}
 use Rattle.scf_facts.proofs.word_set.WordSet.has_none_without.Goals as goal
 
 -- a number that lacks the bit lacks the bits

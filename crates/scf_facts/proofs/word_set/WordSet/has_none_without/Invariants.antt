@@ -1,7 +1,4 @@
-use Rattle.std.proofs.Common.{ℕ, ◌≡◌}
-use Rattle.std.specs.Prelude.{bit_and}
-use Rattle.scf_facts.specs.internal.Bits.{HasBits}
-use Rattle.scf_facts.specs.internal.WordSets.{EachNumber}
+use Rattle.scf_facts.proofs.Common.{ℕ, ◌≡◌, bit_and, HasBits, EachNumber}
 use Rattle.scf_facts.proofs.word_set.WordSet.has_none_without.Given as goal
 
 -- what is left are some of the bits, and a number with these has all of them

@@ -1,6 +1,4 @@
-use Rattle.std.proofs.Common.{ℕ, ◌<◌, ◌^◌}
-use Rattle.std.specs.Prelude.{bit_or}
-use Rattle.scf_facts.specs.internal.WordSets.{AllowsNumber}
+use Rattle.scf_facts.proofs.Common.{ℕ, ◌<◌, ◌^◌, bit_or, AllowsNumber}
 use Rattle.scf_facts.proofs.word_set.WordSet.pick_by_bits.Given as goal
 
 -- the known value with none of the bits so far is allowed

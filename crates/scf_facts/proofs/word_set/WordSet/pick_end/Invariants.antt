@@ -1,6 +1,4 @@
-use Rattle.std.proofs.Common.{ℕ, ◌≡◌, ◌<◌, get_or}
-use Rattle.scf_facts.specs.declared.interval.Interval.{Interval}
-use Rattle.scf_facts.specs.internal.WordSets.{AllowsNumber}
+use Rattle.scf_facts.proofs.Common.{ℕ, ◌≡◌, ◌<◌, get_or, Interval, AllowsNumber}
 use Rattle.scf_facts.proofs.word_set.WordSet.pick_end.Given as goal
 
 -- no end so far is allowed

@@ -1,8 +1,4 @@
-use Rattle.std.proofs.Common.{◌≡◌, sym, ◌∙◌, subst}
-use Rattle.std.specs.Prelude.{Option, Some, None, IfNone, Bool, IsTrue}
-use Rattle.scf_facts.specs.Atoms.{answer_at}
-use Rattle.scf_facts.specs.internal.Bits.{HasBits, LacksBits}
-use Rattle.scf_facts.specs.internal.WordSets.{SomeNumber, is_exact_set}
+use Rattle.scf_facts.proofs.Common.{◌≡◌, sym, ◌∙◌, subst, Option, Some, None, IfNone, Bool, IsTrue, answer_at, HasBits, LacksBits, SomeNumber, is_exact_set}
 use Rattle.scf_facts.proofs.SetLaws.{both_by_bits, both_by_range}
 use Rattle.scf_facts.proofs.word_set.WordSet.tell.Goals as goal
 use Rattle.scf_facts.proofs.word_set.WordSet.tell.Goals.{in-Within+in-Some, in-Within+in-None, in-Masked}

@@ -1,6 +1,4 @@
-use Rattle.std.proofs.Common.{◌≡◌, ◌-◌, ◌≤◌, length}
-use Rattle.std.specs.Prelude.{replicate}
-use Rattle.scf_facts.specs.internal.WordSets.{no_facts}
+use Rattle.scf_facts.proofs.Common.{◌≡◌, ◌-◌, ◌≤◌, length, replicate, no_facts}
 use Rattle.scf_facts.proofs.word_sets.WordSetsWordFacts.all.Given as goal
 
 abbrev pub invariant-loop-sets : goal.invariant-loop-sets

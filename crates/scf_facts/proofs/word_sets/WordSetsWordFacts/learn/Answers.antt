@@ -1,5 +1,4 @@
-use Rattle.std.proofs.Common.{◌<◌, arith, length}
-use Rattle.scf_facts.specs.declared.trail.WordChange.{WordChange}
+use Rattle.scf_facts.proofs.Common.{◌<◌, arith, length, WordChange}
 use Rattle.scf_facts.proofs.TrailLaws.{known_now, noted, allows_learned, exact_learned}
 use Rattle.scf_facts.proofs.word_sets.WordSetsWordFacts.learn.Goals as goal
 

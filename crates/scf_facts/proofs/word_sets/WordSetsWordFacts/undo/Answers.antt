@@ -1,7 +1,4 @@
-use Rattle.std.proofs.Common.{List, drop, ap, ◌∙◌}
-use Rattle.std.proofs.lemmas.List.{with_items_is}
-use Rattle.scf_facts.specs.internal.Trail.{restored}
-use Rattle.scf_facts.specs.internal.WordSets.{NumberFacts, known_of}
+use Rattle.scf_facts.proofs.Common.{List, drop, ap, ◌∙◌, with_items_is, restored, NumberFacts, known_of}
 use Rattle.scf_facts.proofs.CountLaws.{rising_cut}
 use Rattle.scf_facts.proofs.TrailLaws.{same_known, known_closed}
 use Rattle.scf_facts.proofs.word_sets.WordSetsWordFacts.undo.Goals as goal

@@ -1,6 +1,4 @@
-use Rattle.std.proofs.lemmas.Grind.{common_steps}
-use Rattle.std.proofs.Common.{◌≡◌, ◌∙◌, drop, sym, arith}
-use Rattle.std.proofs.lemmas.List.{drop-set, length-set}
+use Rattle.scf_insn.proofs.Common.{common_steps, ◌≡◌, ◌∙◌, drop, sym, arith, drop-set, length-set}
 use Rattle.scf_insn.proofs.DigitLemmas.{first_digit, next_digit, last_digit, fewer, fewer_than_twenty, has_place}
 use Rattle.scf_insn.proofs.digits.Digits.of.Goals as goal
 

@@ -1,5 +1,4 @@
-use Rattle.std.proofs.Common.{◌≡◌, ◌<◌, ◌≤◌, ◌^◌, false, drop, length}
-use Rattle.std.specs.Fmt.{digits}
+use Rattle.scf_insn.proofs.Common.{◌≡◌, ◌<◌, ◌≤◌, ◌^◌, false, drop, length, digits}
 use Rattle.scf_insn.proofs.DigitLemmas.{with_front}
 use Rattle.scf_insn.proofs.digits.Digits.of.Given as goal
 

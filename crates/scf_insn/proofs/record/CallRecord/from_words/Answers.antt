@@ -1,4 +1,4 @@
-use Rattle.std.proofs.Common.{rules}
+use Rattle.scf_insn.proofs.Common.{rules}
 use Rattle.scf_insn.proofs.CallWords.{words_by_place, words_of-call_of}
 use Rattle.scf_insn.proofs.record.CallRecord.from_words.Goals as goal
 

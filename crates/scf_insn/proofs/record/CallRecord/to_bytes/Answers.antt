@@ -1,5 +1,4 @@
-use Rattle.std.proofs.lemmas.Grind.{common_steps}
-use Rattle.std.proofs.Common.{arith}
+use Rattle.scf_insn.proofs.Common.{common_steps, arith}
 use Rattle.scf_insn.proofs.CallWords.{length-words_of}
 use Rattle.scf_insn.proofs.Records.{next_word, all_words}
 use Rattle.scf_insn.proofs.record.CallRecord.to_bytes.Goals as goal

@@ -1,7 +1,4 @@
-use Rattle.std.proofs.Common.{◌≡◌, ◌*◌, take, length}
-use Rattle.std.specs.Int.{w32, to_le_bytes}
-use Rattle.std.specs.List.{flat_map}
-use Rattle.scf_insn.specs.Words.{words_of}
+use Rattle.scf_insn.proofs.Common.{◌≡◌, ◌*◌, take, length, w32, to_le_bytes, flat_map, words_of}
 use Rattle.scf_insn.proofs.record.CallRecord.to_bytes.Given as goal
 
 abbrev pub invariant-loop-i : goal.invariant-loop-i

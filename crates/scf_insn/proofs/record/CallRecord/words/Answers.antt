@@ -1,5 +1,4 @@
-use Rattle.std.proofs.lemmas.Grind.{common_steps}
-use Rattle.std.proofs.Common.{arith}
+use Rattle.scf_insn.proofs.Common.{common_steps, arith}
 use Rattle.scf_insn.proofs.CallWords.{halves_of_six}
 use Rattle.scf_insn.proofs.record.CallRecord.words.Goals as goal
 

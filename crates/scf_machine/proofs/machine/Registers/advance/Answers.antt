@@ -1,4 +1,4 @@
-use Rattle.std.proofs.Common.{length, sym, arith, rules, ◌∙◌}
+use Rattle.scf_machine.proofs.Common.{length, sym, arith, rules, ◌∙◌}
 use Rattle.scf_machine.proofs.Loop.{at_inside, follows_at, read_here, always_known, wider}
 use Rattle.scf_machine.proofs.Runs.{fine_of}
 use Rattle.scf_machine.proofs.machine.Registers.advance.Goals as goal

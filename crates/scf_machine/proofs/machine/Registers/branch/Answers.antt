@@ -1,5 +1,4 @@
-use Rattle.std.proofs.Common.{◌≡◌, true, false, sym, ◌∙◌}
-use Rattle.scf_machine.specs.Machine.{holds}
+use Rattle.scf_machine.proofs.Common.{◌≡◌, true, false, sym, ◌∙◌, holds}
 use Rattle.scf_machine.proofs.machine.Registers.branch.Goals as goal
 
 pub returns-then-holds_of : goal.returns-then-holds_of

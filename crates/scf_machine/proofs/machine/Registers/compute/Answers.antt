@@ -1,4 +1,4 @@
-use Rattle.std.proofs.Common.{sym}
+use Rattle.scf_machine.proofs.Common.{sym}
 use Rattle.scf_machine.proofs.machine.Registers.compute.Goals as goal
 
 pub returns : goal.returns

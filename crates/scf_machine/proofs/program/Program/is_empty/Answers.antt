@@ -1,5 +1,4 @@
-use Rattle.std.proofs.Common.{◌∙◌, vec_len, arith}
-use Rattle.std.proofs.lemmas.Bool.{ne_eqb}
+use Rattle.scf_machine.proofs.Common.{◌∙◌, vec_len, arith, ne_eqb}
 use Rattle.scf_machine.proofs.program.Program.is_empty.Goals as goal
 
 pub returns : goal.returns

@@ -1,7 +1,4 @@
-use Rattle.std.proofs.Common.{arith, rules}
-use Rattle.std.proofs.lemmas.Grind.{common_steps}
-use Rattle.std.proofs.lemmas.List.Elements.{All-push}
-use Rattle.scf_machine.specs.Rules.{IsFilter}
+use Rattle.scf_machine.proofs.Common.{arith, rules, common_steps, All-push, IsFilter}
 use Rattle.scf_machine.proofs.stack.FilterStack.push.Goals as goal
 
 pub invariant_of-self : goal.invariant_of-self

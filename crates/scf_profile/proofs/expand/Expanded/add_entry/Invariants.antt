@@ -1,10 +1,4 @@
-use Rattle.std.proofs.Common.{◌≡◌, ◌≤◌, ◌++◌, drop, vec_len}
-use Rattle.std.specs.List.{filter}
-use Rattle.scf_profile.specs.Limits.{max_rules}
-use Rattle.scf_profile.specs.References.{texts_at}
-use Rattle.std.specs.FinMap.{get}
-use Rattle.std.specs.Prelude.{is_none}
-use Rattle.scf_profile.specs.StatedProfile.{rules_named}
+use Rattle.scf_profile.proofs.Common.{◌≡◌, ◌≤◌, ◌++◌, drop, vec_len, filter, max_rules, texts_at, get, is_none, rules_named}
 use Rattle.scf_profile.proofs.expand.Expanded.add_entry.Given as goal
 
 -- what was added and what is stated for the names that are left is what all names state

@@ -1,8 +1,4 @@
-use Rattle.std.proofs.Common.{sym, subst, arith}
-use Rattle.std.proofs.lemmas.Bool.{eq-eqb, eqb-true}
-use Rattle.scf_profile.specs.declared.number_set.NumberSet.{NumberSet}
-use Rattle.scf_profile.specs.declared.number_set.NumberSet.TheVariants.{Masked}
-use Rattle.scf_profile.specs.internal.NumberSets.{HaveCommonNumber, IsNumberSet}
+use Rattle.scf_profile.proofs.Common.{sym, subst, arith, eq-eqb, eqb-true, NumberSet, Masked, HaveCommonNumber, IsNumberSet}
 use Rattle.scf_profile.proofs.Masks.{two_masks, two_masks_agree}
 use Rattle.scf_profile.proofs.number_set.NumberSet.has_masked.Goals as goal
 

@@ -1,5 +1,4 @@
-use Rattle.std.proofs.lemmas.Bool.{both_ways}
-use Rattle.scf_profile.specs.ProfileAnswers.{foreign}
+use Rattle.scf_profile.proofs.Common.{both_ways, foreign}
 use Rattle.scf_profile.proofs.profile.Profile.answer.Goals as goal
 
 pub returns-then-not-is_native : goal.returns-then-not-is_native

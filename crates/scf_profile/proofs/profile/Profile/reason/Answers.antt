@@ -1,4 +1,4 @@
-use Rattle.std.proofs.Common.{sym}
+use Rattle.scf_profile.proofs.Common.{sym}
 use Rattle.scf_profile.proofs.Reasons.{least_of}
 use Rattle.scf_profile.proofs.profile.Profile.reason.Goals as goal
 

@@ -1,6 +1,4 @@
-use Rattle.std.proofs.Common.{not, sym, ap, ◌∙◌}
-use Rattle.std.proofs.lemmas.Bool.{eq-eqb, ne_eqb, false≢true}
-use Rattle.scf_insn.specs.declared.answer.Answer.{Answer}
+use Rattle.scf_profile.proofs.Common.{not, sym, ap, ◌∙◌, eq-eqb, ne_eqb, false≢true, Answer}
 use Rattle.scf_profile.proofs.Overlaps.{conflict_from, overlap_of_conflict}
 use Rattle.scf_profile.proofs.rule.Rule.conflicts_with.Goals as goal
 use Rattle.scf_profile.proofs.rule.Rule.conflicts_with.Goals.{then-self-other, else-self-other}

@@ -1,8 +1,4 @@
-use Rattle.std.proofs.Common.{◌≡◌, true, false, refl, sym, ◌∙◌, ap, Ok, Some, string_bytes, List, ℕ}
-use Rattle.std.specs.Prelude.{is_some}
-use Rattle.std.specs.FinMap.{get, insert}
-use Rattle.scf_profile.specs.Names.{names_of}
-use Rattle.scf_profile.specs.Table.{Names, fields, entry_in, with_line}
+use Rattle.scf_profile.proofs.Common.{◌≡◌, true, false, refl, sym, ◌∙◌, ap, Ok, Some, string_bytes, List, ℕ, is_some, get, insert, names_of, Names, fields, entry_in, with_line}
 use Rattle.scf_profile.proofs.NamesOf.{found_named, insert_named, call_numbers_updated}
 use Rattle.scf_profile.proofs.table.CallTable.add_line.Goals as goal
 

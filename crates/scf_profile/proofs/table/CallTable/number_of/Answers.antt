@@ -1,5 +1,4 @@
-use Rattle.std.proofs.Common.{ap, sym, ◌∙◌}
-use Rattle.std.specs.FinMap.{get}
+use Rattle.scf_profile.proofs.Common.{ap, sym, ◌∙◌, get}
 use Rattle.scf_profile.proofs.NamesOf.{get_named, found_below}
 use Rattle.scf_profile.proofs.table.CallTable.number_of.Goals as goal
 

@@ -1,7 +1,4 @@
-use Rattle.std.proofs.Common.{ℕ, List, String, Global, subst, sym, arith, rules, inl}
-use Rattle.scf_profile.specs.Names.{names_of}
-use Rattle.scf_profile.specs.Table.{AreCallNumbers, with_lines}
-use Rattle.std.proofs.lemmas.Result.{err_from_is_err_and}
+use Rattle.scf_profile.proofs.Common.{ℕ, List, String, Global, subst, sym, arith, rules, inl, names_of, AreCallNumbers, with_lines, err_from_is_err_and}
 use Rattle.scf_profile.proofs.NamesOf.{call_numbers_empty}
 use Rattle.scf_profile.proofs.TableLines.{begins_before, same_fault}
 use Rattle.scf_profile.proofs.table.CallTable.read.Goals as goal

@@ -1,6 +1,4 @@
-use Rattle.std.proofs.Common.{◌≡◌, ◌+◌, ◌≤◌, length}
-use Rattle.std.specs.Str.Lines.{lines}
-use Rattle.scf_profile.specs.Table.{BeginWithCall, with_lines, table_of}
+use Rattle.scf_profile.proofs.Common.{◌≡◌, ◌+◌, ◌≤◌, length, lines, BeginWithCall, with_lines, table_of}
 use Rattle.scf_profile.proofs.table.CallTable.read.Given as goal
 
 -- what was read and what is left give what the text states

@@ -1,8 +1,4 @@
-use Rattle.std.proofs.Common.{ℕ, List, rules, ◌≤◌, length, Ok, Err, arith}
-use Rattle.std.proofs.lemmas.Result.{err_from_is_err_and}
-use Rattle.std.proofs.lemmas.Bool.Decides.{nat_tests}
-use Rattle.scf_tool.specs.declared.fault.Fault.TheVariants.{Verify}
-use Rattle.scf_tool.specs.Commands.{ComparesParts, ReadsInput}
+use Rattle.scf_tool.proofs.Common.{ℕ, List, rules, ◌≤◌, length, Ok, Err, arith, err_from_is_err_and, nat_tests, Verify, ComparesParts, ReadsInput}
 use Rattle.scf_tool.proofs.StackLemmas.{bundle_compared}
 use Rattle.scf_tool.proofs.commands.compare.compare_bundle.Goals as goal
 

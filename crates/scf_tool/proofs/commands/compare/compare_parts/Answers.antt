@@ -1,13 +1,4 @@
-use Rattle.std.proofs.Common.{ℕ, List, Ok, Some, map}
-use Rattle.std.proofs.lemmas.Result.{err_from_is_err_and}
-use Rattle.scf_compare.specs.declared.relation.Relation.{Relation}
-use Rattle.scf_tool.specs.declared.parties.Parties.{Parties}
-use Rattle.scf_tool.specs.declared.reply.Reply.{Reply}
-use Rattle.scf_tool.specs.declared.reply.Reply.TheVariants.{Compared}
-use Rattle.scf_tool.specs.declared.request.Scopes.{Scopes}
-use Rattle.scf_tool.specs.Commands.{ComparesParts, IsReported}
-use Rattle.scf_tool.specs.internal.Reporting.{IsReportOn}
-use Rattle.scf_tool.specs.internal.Verification.{AreParties}
+use Rattle.scf_tool.proofs.Common.{ℕ, List, Ok, Some, map, err_from_is_err_and, Relation, Parties, Reply, Compared, Scopes, ComparesParts, IsReported, IsReportOn, AreParties}
 use Rattle.scf_tool.proofs.PartyLemmas.{parties_are_read}
 use Rattle.scf_tool.proofs.commands.compare.compare_parts.Goals as goal
 

@@ -1,6 +1,4 @@
-use Rattle.std.proofs.Common.{◌∙◌, ap}
-use Rattle.scf_tool.specs.CallReports.{joint_of}
-use Rattle.scf_tool.specs.Statuses.{joint_status}
+use Rattle.scf_tool.proofs.Common.{◌∙◌, ap, joint_of, joint_status}
 use Rattle.scf_tool.proofs.commands.compare.report_each.Goals as goal
 
 pub returns : goal.returns

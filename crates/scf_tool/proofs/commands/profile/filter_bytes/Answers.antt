@@ -1,4 +1,4 @@
-use Rattle.std.proofs.lemmas.Result.{err_from_is_err_and}
+use Rattle.scf_tool.proofs.Common.{err_from_is_err_and}
 use Rattle.scf_tool.proofs.commands.profile.filter_bytes.Goals as goal
 
 pub returns-in_err-loaded-clause-fault : goal.returns-in_err-loaded-clause-fault

@@ -1,7 +1,4 @@
-use Rattle.std.proofs.Common.{List, arith, subst, sym}
-use Rattle.scf_tool.specs.declared.bundle.Part.{Part}
-use Rattle.scf_tool.specs.declared.bundle.PartKind.TheVariants.{Filter, Profile, Table}
-use Rattle.scf_tool.specs.Bundle.{SpellsBundle}
+use Rattle.scf_tool.proofs.Common.{List, arith, subst, sym, Part, Filter, Profile, Table, SpellsBundle}
 use Rattle.scf_tool.proofs.BundleLemmas.{part_inside}
 use Rattle.scf_tool.proofs.ContentLemmas.{next_held}
 use Rattle.scf_tool.proofs.contents.Contents.of.Goals as goal

@@ -1,7 +1,4 @@
-use Rattle.std.proofs.Common.{◌≡◌, take}
-use Rattle.scf_tool.specs.Bundle.{held_by}
-use Rattle.scf_tool.specs.declared.bundle.PartKind.TheVariants.{Filter, Profile, Table}
-use Rattle.scf_tool.specs.internal.Contents.{of_kind}
+use Rattle.scf_tool.proofs.Common.{◌≡◌, take, held_by, Filter, Profile, Table, of_kind}
 use Rattle.scf_tool.proofs.contents.Contents.of.Given as goal
 
 abbrev pub invariant-loop-part : goal.invariant-loop-part

@@ -1,6 +1,4 @@
-use Rattle.std.proofs.Common.{rules, ◌∙◌}
-use Rattle.clap.specs.Words.{found_of}
-use Rattle.scf_tool.specs.internal.Parsing.{option_of}
+use Rattle.scf_tool.proofs.Common.{rules, ◌∙◌, found_of, option_of}
 use Rattle.scf_tool.proofs.OptionLemmas.{by_value}
 use Rattle.scf_tool.proofs.options.NumberOption.number_in.Goals as goal
 

@@ -1,0 +1,59 @@
+-- The names that proofs of this crate cite, passed on from one place. Declares nothing.
+pub use Rattle.std.proofs.Common.{All, Bool, Bor, Contains, IsTrue, List, Some, [], ap, append_assoc, arith, rules as auto_rules, bit_and, cond, drop, eqb, false, get_or, inl, inr, leb, length, length-append, ltb, map, not, refl, rules, slice_index, subst, suc, sum_by, sym, take, true, zero, ℕ, ◌%◌, ◌*◌, ◌++◌, ◌+◌, ◌-◌, ◌/◌, ◌<◌, ◌^◌, ◌∙◌, ◌∷◌, ◌≡◌, ◌≢◌, ◌≤◌, ◌⊎◌}
+pub use Rattle.std.proofs.Math.ListN.{length-take}
+pub use Rattle.std.proofs.Math.Seq.{drop-append-add, drop-drop}
+pub use Rattle.std.proofs.lemmas.Bool.{and_left, and_right}
+pub use Rattle.std.proofs.lemmas.List.{get_or_default, map-append}
+pub use Rattle.std.proofs.lemmas.List.Elements.{All-drop, All-take}
+pub use Rattle.std.proofs.lemmas.List.Filters.{length-filter_both}
+pub use Rattle.std.proofs.lemmas.List.Sorted.{All-permutation, sum_by-IsPermutation}
+pub use Rattle.std.proofs.lemmas.List.Sums.{sum_by-append, sum_by-cons, sum_by-le}
+pub use Rattle.std.proofs.lemmas.Map.Steps.{length-le_from_distinct_below}
+pub use Rattle.std.proofs.lemmas.Nat.{and_mask}
+pub use Rattle.std.proofs.lemmas.Nat.Bits.{and_pow, bit_at-lt}
+pub use Rattle.std.proofs.lemmas.Option.{same_Some}
+pub use Rattle.std.specs.Int.Bits.{and_zero_r}
+pub use Rattle.std.specs.List.{IsDistinct}
+pub use lib.Pointwise.{pointwise, pointwise_decides}
+pub use Rattle.scf_insn.proofs.Codes.{asks_for}
+pub use Rattle.scf_insn.proofs.Common.{IsPowerOfTwo, IsRecord, IsSimpleMask, and_from, and_mod, and_shr, argument, audit_arch_x86_64, bpf_maxinsns, drop_more, high, low, mask_kind, seccomp_ret_kill_process, words_of, x32_syscall_bit}
+unfoldable pub use Rattle.scf_insn.proofs.Common.{operation_of}
+pub use Rattle.scf_insn.proofs.Halves.{argument_high, argument_low, eqb_split, leb_split, ltb_split, masked_split}
+pub use Rattle.scf_insn.proofs.Masks.{IsOfKind, is_of_kind}
+pub use Rattle.scf_insn.specs.declared.answer.Answer.{Answer}
+pub use Rattle.scf_insn.specs.declared.insn.Insn.{Insn}
+pub use Rattle.scf_insn.specs.declared.mask.MaskKind.{MaskKind}
+pub use Rattle.scf_insn.specs.declared.mask.MaskKind.TheVariants.{Empty, Full, Mixed, OneBit}
+pub use Rattle.scf_insn.specs.declared.operation.Arithmetic.TheVariants.{And}
+pub use Rattle.scf_insn.specs.declared.operation.Operand.TheVariants.{Constant}
+pub use Rattle.scf_insn.specs.declared.operation.Operation.{Operation}
+pub use Rattle.scf_insn.specs.declared.operation.Operation.TheVariants.{Compute, Jump, JumpIf, LoadScratch, LoadWord, ReturnConstant}
+pub use Rattle.scf_insn.specs.declared.operation.Test.{Test}
+pub use Rattle.scf_insn.specs.declared.operation.Test.TheVariants.{Greater as Above, GreaterOrEqual as AtLeast, CommonBit, Equal, GreaterOrEqual, Equal as SameWord}
+pub use Rattle.scf_insn.specs.declared.record.CallRecord.{CallRecord}
+pub use Rattle.scf_machine.proofs.Chains.{answer_of_part, chain_of_part, run_behind}
+pub use Rattle.scf_machine.proofs.Common.{All-push, Goes, IsFine, IsFineAt, IsPart, IsPlainInsn, IsPlainOperation, IsPlainProgram, IsReturn, IsRunFrom, IsValidList, KeepsScratchRule, RunAnswers, Stands, gets, holds, moved, slice_get_read, slice_get_within, step, take_more, test_holds}
+pub use Rattle.scf_machine.proofs.Meets.{run_once}
+pub use Rattle.scf_profile.proofs.ByNumber.{number_at, references_rise}
+pub use Rattle.scf_profile.proofs.Common.{All-contains, All-contains_itself, All-filter, All-from_recursion, All-map, AllByRecursion, AreConditions, Contains-append_right, HaveDistinctIndices, IfOk-weaker, IsByNumber, IsCondition, IsNative, IsNonDecreasingBy, IsNonDecreasingBy-drop, IsPartitionPoint, IsPartitionPoint-from_clause, IsPartitionedBy-leb, IsPlainCondition, IsPlainProfile, IsPlainRule, IsProfile, IsRule, Profile, ProfileAnswers, SameAnswers, all_hold, and_assoc, and_self, bit_at, by_default, by_rule, cases_Bool, cases_eq, cases_lt, common_steps, compares, drop_all, eq-eqb, eqb-false, eqb-true, foreign, get_or-drop, get_or-map, get_or-take, le-leb, length-drop, length-map, list_any, lt-ltb, meets, nat_tests, ne_eqb, not_from_false, numbers_of, recursion_from_All, rules_at, rules_of, take-append-drop, take_all}
+pub use Rattle.scf_profile.proofs.Numbers.{contains_filtered, has_number, numbers_of-push}
+pub use Rattle.scf_profile.specs.contracts.condition.ConditionPartialEq.TheImpl.{eq-value}
+pub use Rattle.scf_profile.specs.declared.condition.Condition.{Condition}
+pub use Rattle.scf_profile.specs.declared.condition.Operator.{Operator}
+pub use Rattle.scf_profile.specs.declared.condition.Operator.TheVariants.{Greater, Less, LessOrEqual, MaskedEqual, NotEqual}
+pub use Rattle.scf_profile.specs.declared.rule.Rule.{Rule}
+pub use Rattle.scf_compile.specs.SearchBound.{AnswersWithin, digits_within, greatest, search_bound_of}
+unfoldable pub use Rattle.scf_compile.specs.SearchBound.{binary_digits}
+pub use Rattle.scf_compile.specs.SizeBound.{rule_bound, size_bound_of}
+pub use Rattle.scf_compile.specs.declared.numbers.NumberRules.{NumberRules}
+pub use Rattle.scf_compile.specs.declared.placing.Place.{Place}
+pub use Rattle.scf_compile.specs.declared.stretches.Stretch.{Stretch}
+pub use Rattle.scf_compile.specs.internal.Blocks.{argument_word, condition_code, half_code_of, operator_code, word_code}
+unfoldable pub use Rattle.scf_compile.specs.internal.Blocks.{equal_code, half_code, masked_code, order_code}
+pub use Rattle.scf_compile.specs.internal.Filters.{ArePut, IsFilterOf, IsSearchPut, behind_rule, conditions_code, rule_code, rules_code}
+pub use Rattle.scf_compile.specs.internal.Insns.{and_with, jump_if, jump_over, load_word, return_with}
+pub use Rattle.scf_compile.specs.internal.Numbers.{IsCut}
+pub use Rattle.scf_compile.specs.internal.Placing.{IsFirst, IsNear, IsOutOfReach, IsPut, branch_code, code_from}
+pub use Rattle.scf_compile.specs.internal.Runs.{EndsWithin, at}
+pub use Rattle.scf_compile.specs.internal.Sound.{AreSound, IsSound, Keeps}
+pub use Rattle.scf_compile.specs.internal.Stretches.{AllRules, AreAmong, AreServed, AreStretchesOf, AreTelling, IsLaid, IsServed, StandsFor, begins, first_answer, goes_on, rules_bound, stretch_bound}

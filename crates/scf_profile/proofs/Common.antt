@@ -1,0 +1,88 @@
+-- The names that proofs of this crate cite, passed on from one place. Declares nothing.
+pub use Rattle.std.proofs.Common.{All, Any, BTreeMap, Bool, Bor, Contains, Err, Global, IfErr, IfSome, IsAscii, IsSome, List, None, Ok, Option, Result, Some, String, Vec, [], add-one, ap, append-nil, arith, bit_and, bit_or, cond, drop, eqb, false, get_or, inl, inr, is_none, is_some, leb, length, ltb, map, max, min, nat_lt, not, option_map, refl, rules, string_bytes, string_cmp, subst, suc, sym, take, tests, true, vec_len, zero, ℕ, ◌&&◌, ◌++◌, ◌+◌, ◌-◌, ◌<◌, ◌^◌, ◌||◌, ◌↔◌, ◌∙◌, ◌∷◌, ◌≡◌, ◌≢◌, ◌≤◌, ◌⊎◌}
+pub use Rattle.serde_json.specs.Data.{Data, Items, item, no_items}
+pub use Rattle.serde_json.specs.Events.{items_len, members_len}
+pub use Rattle.serde_json.specs.Find.{as_str}
+pub use Rattle.serde_json.specs.View.{items_view, members_view, view}
+pub use Rattle.serde_json.specs.declared.value.Value.{Value}
+pub use Rattle.std.proofs.Math.ListN.{length-drop}
+pub use Rattle.std.proofs.Math.Seq.{drop-cons}
+pub use Rattle.std.proofs.lemmas.Bool.{both_ways, cases_Bool, cases_cond, cases_order, cond-true, false≢true, le-leb, le-ltb, not_from_false, or_parts, or_right}
+pub use Rattle.std.proofs.lemmas.Cmp.{nat_cmp_total}
+pub use Rattle.std.proofs.lemmas.Fn.{always_returns_same}
+pub use Rattle.std.proofs.lemmas.Iterator.{YieldsList-from_slice, cases_from_all}
+pub use Rattle.std.proofs.lemmas.Iterator.Consumers.{map_from_collect}
+pub use Rattle.std.proofs.lemmas.Iterator.Search.{any_from_yields_List, true_from_All}
+pub use Rattle.std.proofs.lemmas.List.{get_or-drop, get_or-map, get_or-take, get_or_past, length-map, length-take}
+pub use Rattle.std.proofs.lemmas.List.Elements.{All-append, All-cons, All-contains, All-contains_itself, All-filter, All-from_recursion, All-head, All-map, All-more, All-nil, All-same, All-tail, All-weaker, Contains-append_right, Contains-get_or, filter-append, filter_map-append, recursion_from_All}
+pub use Rattle.std.proofs.lemmas.List.Kept.{IsStrictlySortedBy-filter}
+pub use Rattle.std.proofs.lemmas.List.Sorted.{IsNonDecreasingBy-drop, IsNonDecreasingBy-from_sort_by_key, IsNonDecreasingBy-take, IsPartitionPoint-from_clause, IsPartitionedBy-leb, IsPartitionedBy-ltb, IsPermutation-map}
+pub use Rattle.std.proofs.lemmas.List.Splits.{length-slice_split, slice_split-cons_yes, slice_split_at, slice_split_none}
+pub use Rattle.std.proofs.lemmas.List.Sums.{AllPass-from_list_all, list_all-from_AllPass}
+pub use Rattle.std.proofs.lemmas.Map.Entries.{lookup-filter-values, option_filter}
+pub use Rattle.std.proofs.lemmas.Map.Keys.{IsDistinct-from_sorted, IsStrictlyIncreasing-from_sorted}
+pub use Rattle.std.proofs.lemmas.Map.Lookups.{exact_bytes, exact_unsigned}
+pub use Rattle.std.proofs.lemmas.Map.Text.{btree_map_updates_text, is_eq-slice_cmp}
+pub use Rattle.std.proofs.lemmas.Map.Views.{All-found, Contains-keys_from_lookup, IsSome-lookup_from_Contains, btree_map_contains_key_iff, tells_apart}
+pub use Rattle.std.proofs.lemmas.Nat.{and-not, and_assoc, and_comm, and_le_l, and_or_apart, or_comm, or_lt}
+pub use Rattle.std.proofs.lemmas.Nat.Bits.{bit_at_and, bit_at_or, same_from_bits}
+pub use Rattle.std.proofs.lemmas.Result.{IfErr-at_err, IfOk-weaker, MatchResult-weaker}
+pub use Rattle.std.proofs.lemmas.Str.{IsUtf8-from_ascii}
+pub use Rattle.std.specs.BTreeMap.{IsOrdered, Updates, UpdatesBy, is_at, get as value_of}
+pub use Rattle.std.specs.Cmp.{eq_by_cmp_equiv}
+pub use Rattle.std.specs.Cmp.Lexicographic.{nat_list_cmp_total, slice_cmp}
+pub use Rattle.std.specs.FinMap.{get, get-empty, get-from_entries, get-insert, insert, same_map}
+pub use Rattle.std.specs.Int.{bit_at}
+pub use Rattle.std.specs.Int.Bits.{and_self, or_add_and}
+pub use Rattle.std.specs.List.{cons_option, filter, find, fold, list_any, reduce, slice_split}
+pub use Rattle.std.specs.List.Sorted.{IsNonDecreasingBy, IsPartitionPoint, IsPermutation, IsStableByKey, IsStrictlyIncreasing, IsStrictlySortedBy, ties}
+pub use Rattle.std.specs.Map.{keys_of}
+pub use Rattle.std.specs.Option.{option_map_or}
+pub use Rattle.std.specs.Ordering.{eq_by_cmp, is_eq, is_lt, nat_cmp}
+pub use Rattle.std.specs.Str.{IsUtf8, bytes_eq}
+pub use Rattle.std.specs.Str.Lines.{lines, lines_of_parts, strip_carriage_return}
+pub use Rattle.std.specs.declared.alloc.AllocError.{AllocError}
+pub use Rattle.std.specs.declared.cmp.Ordering.{Ordering}
+pub use Rattle.std.specs.declared.cmp.Ordering.TheVariants.{Less}
+pub use Rattle.scf_insn.proofs.Common.{AllByRecursion, IsRecord, and_parts, argument, audit_arch_x86_64, cases_eq, cases_lt, common_steps, drop_all, eq-eqb, eqb-false, eqb-true, err_from_is_err_and, list_all, lookup, lt-ltb, nat_tests, ne_eqb, seccomp_ret_kill_process, take-append-drop, take_all, x32_syscall_bit}
+pub use Rattle.scf_insn.specs.declared.answer.Answer.{Answer}
+pub use Rattle.scf_insn.specs.declared.record.CallRecord.{CallRecord}
+pub use Rattle.scf_profile.specs.ByNumber.{IsByNumber, rules_at}
+pub use Rattle.scf_profile.specs.Condition.{compares, holds}
+unfoldable pub use Rattle.scf_profile.specs.JsonMembers.{each}
+pub use Rattle.scf_profile.specs.Limits.{arguments, max_rules}
+pub use Rattle.scf_profile.specs.Loading.{EntriesConflict, IsText, Loads, Refuses, TestsGive}
+pub use Rattle.scf_profile.specs.NamedCalls.{AreCallsOf, HasItsNames}
+pub use Rattle.scf_profile.specs.Names.{named, names_of}
+pub use Rattle.scf_profile.specs.PlainProfile.{IsPlainCondition, IsPlainProfile, IsPlainRule}
+pub use Rattle.scf_profile.specs.Profile.{Profile as Answering, HaveNoConflict, IsNative, IsProfile, Profile}
+pub use Rattle.scf_profile.specs.ProfileAnswers.{ProfileAnswers, by_default, by_rule, foreign}
+pub use Rattle.scf_profile.specs.Reasons.{IsAnswerOf, IsReason, entries_met}
+pub use Rattle.scf_profile.specs.References.{texts_at}
+pub use Rattle.scf_profile.specs.Rule.{AreConditions, Conflicts, HaveDistinctIndices, IsCondition, IsRule, all_hold, meets}
+pub use Rattle.scf_profile.specs.RulesByNumber.{numbers_of, rules_of}
+pub use Rattle.scf_profile.specs.SameAnswers.{AnswersRelated, SameAnswers}
+pub use Rattle.scf_profile.specs.StatedProfile.{rule_for, rules_from, rules_named, skipped_names, strings_of, x86_64}
+unfoldable pub use Rattle.scf_profile.specs.StatedProfile.{action_in, answer_in, architectures_in, condition_of, condition_of as condition_stated, conditions_in, entries_in, entry_of, errno_of, index_in, names_in, no_engine_form, object_states, operator_in, profile_of, seccomp_in, seccomp_of}
+pub use Rattle.scf_profile.specs.Steps.{some_or, ◌>>=◌}
+pub use Rattle.scf_profile.specs.Table.{AreCallNumbers, BeginWithCall, Names, is_blank as blank, entry_in, fields, is_blank, is_in_name, is_name, table_of, with_entry}
+unfoldable pub use Rattle.scf_profile.specs.Table.{with_line, with_lines}
+pub use Rattle.scf_profile.specs.declared.condition.Condition.{Condition}
+pub use Rattle.scf_profile.specs.declared.conflict.Clash.{Clash}
+pub use Rattle.scf_profile.specs.declared.load_fault.LoadFault.{LoadFault}
+pub use Rattle.scf_profile.specs.declared.load_fault.LoadFault.TheVariants.{Kind}
+pub use Rattle.scf_profile.specs.declared.loaded.Loaded.{Loaded}
+pub use Rattle.scf_profile.specs.declared.named_call.NamedCall.{NamedCall}
+pub use Rattle.scf_profile.specs.declared.number_set.NumberSet.{NumberSet}
+pub use Rattle.scf_profile.specs.declared.number_set.NumberSet.TheVariants.{Masked}
+pub use Rattle.scf_profile.specs.declared.reason.Reason.{Reason}
+pub use Rattle.scf_profile.specs.declared.reason.Reason.TheVariants.{Default, Entry, Foreign}
+pub use Rattle.scf_profile.specs.declared.rule.Rule.{Rule}
+pub use Rattle.scf_profile.specs.declared.table_fault.TableFault.{TableFault}
+pub use Rattle.scf_profile.specs.internal.Clashes.{IsBoundedBy, IsClashBounded, IsClashOf, IsLeastClash}
+pub use Rattle.scf_profile.specs.internal.EntryRanges.{AreStatedRules, IsEntry}
+pub use Rattle.scf_profile.specs.internal.NamesByNumber.{AreByNumber, Named, named_call, names_under, names_with}
+pub use Rattle.scf_profile.specs.internal.NumberSets.{HaveCommonNumber, IsGreatestOf, IsLeastOf, IsNumberSet}
+pub use Rattle.scf_profile.specs.internal.Overlaps.{HoldAt, Overlap, OverlapAt}
+pub use Rattle.scf_profile.specs.internal.Refusals.{NamesLeastConflict}
+pub use Rattle.scf_profile.specs.internal.Stated.{IsLoaded, loaded_of}

@@ -1,0 +1,60 @@
+-- The names that proofs of this crate cite, passed on from one place. Declares nothing.
+pub use Rattle.std.proofs.Common.{Bool, Err, IfErr, IfOk, List, None, Ok, OnErr, Option, Result, Some, [], ap, append-nil, append_assoc, arith, codes, cond, drop, eqb, false, get_or, if◌then◌else◌, inl, inr, length, ltb, map, max, not, refl, rules, subst, suc, sym, take, true, zero, zero-add, ℕ, ◌%◌, ◌&&◌, ◌++◌, ◌+◌, ◌-◌, ◌/◌, ◌<◌, ◌==◌, ◌^◌, ◌||◌, ◌∙◌, ◌∷◌, ◌≡◌, ◌≢◌, ◌≤◌}
+pub use Rattle.std.proofs.Math.Path.{fun_ext}
+pub use Rattle.std.proofs.Math.Seq.{drop-append-add, take-append_seam}
+pub use Rattle.std.proofs.lemmas.Bool.{agree_below_at, and_left, and_right, cases_Bool, le-ltb, lt-leb, ltb-true}
+pub use Rattle.std.proofs.lemmas.Bool.Decides.{same_from_decides}
+pub use Rattle.std.proofs.lemmas.Fmt.{digits_is_IsNumeral}
+pub use Rattle.std.proofs.lemmas.List.{drop-take, length-append, length-drop, length-map, length-take-le, map-append, take-take, take_rest}
+pub use Rattle.std.proofs.lemmas.List.Elements.{All-from_recursion}
+pub use Rattle.std.proofs.lemmas.List.Folds.{list_all-append}
+pub use Rattle.std.proofs.lemmas.List.Splits.{join_with_byte-slice_split, length-slice_split, slice_split_at, slice_split_first, slice_split_none}
+pub use Rattle.std.proofs.lemmas.List.Sums.{prefix_len-le-length, prefix_len_stops}
+pub use Rattle.std.proofs.lemmas.Map.Text.{btree_map_updates_str}
+pub use Rattle.std.proofs.lemmas.Slice.Eq.{bytes_eq-Decides}
+pub use Rattle.std.proofs.lemmas.Str.Parse.{digit_from_value}
+pub use Rattle.std.specs.BTreeMap.{BTreeMap, IsEmpty, UpdatesBy, is_at}
+pub use Rattle.std.specs.Borrow.{Bor}
+pub use Rattle.std.specs.Cmp.Lexicographic.{slice_cmp}
+pub use Rattle.std.specs.Fmt.{decimal}
+pub use Rattle.std.specs.Global.{Vec}
+pub use Rattle.std.specs.List.{All, find, join_with_byte, list_any, position_or_len, prefix_len, slice_split}
+pub use Rattle.std.specs.Option.{IsSome, is_some, option_map, option_or, option_to_list}
+pub use Rattle.std.specs.Ordering.{nat_cmp}
+pub use Rattle.std.specs.Str.{bytes_eq}
+pub use Rattle.std.specs.Str.Parse.{AllDigits, IsNumeral}
+pub use Rattle.scf_insn.proofs.Common.{AllByRecursion, IsInsn, Row, TakesAll, and_from, and_parts, bpf_maxinsns, cases_lt, digit_glyph, digit_value, digits, digits_value, drop-drop, drop_all, drop_more, eqb-true, err_from_is_err_and, flat_map, flat_map-append, has_hex_prefix, is_digit, list_all, lookup, lt-ltb, nat_tests, ne_eqb, numeral, take_more}
+unfoldable pub use Rattle.scf_insn.proofs.Common.{code_table, number_of, operation_of}
+pub use Rattle.scf_insn.proofs.Written.{each_fails, fails_first, writes_then}
+pub use Rattle.scf_insn.specs.declared.insn.Insn.{Insn}
+pub use Rattle.scf_insn.specs.declared.operation.Operation.{Operation}
+pub use Rattle.scf_text.specs.Characters.{is_blank, is_word_byte}
+pub use Rattle.scf_text.specs.Drafts.{Draft, Label, Number, Written, fill_by, has_mnemonic, is_below, is_in_range, is_name, read_by}
+unfoldable pub use Rattle.scf_text.specs.Drafts.{draft_of}
+pub use Rattle.scf_text.specs.Faults.{IsFault, all_targets_fault, ascii_fault, draft_fault, instruction_fault, label_fault, statement_fault, statements_fault, target_fault, targets_fault}
+unfoldable pub use Rattle.scf_text.specs.Faults.{fault_of}
+pub use Rattle.scf_text.specs.Forms.{field_of, form_of, form_of_code, forms, full_form, mnemonic_text, names, pieces_of, raw, tells_all}
+unfoldable pub use Rattle.scf_text.specs.Forms.{form_for, known_forms}
+pub use Rattle.scf_text.specs.Listing.{four_digits, line_of, number_text, operands_text, piece_text, text_of}
+pub use Rattle.scf_text.specs.Spelling.{AreNew, Says, SaysEach, SaysInsn, Spells}
+pub use Rattle.scf_text.specs.Statements.{IsRead, Labels, Places, Statement, drafts_by, drafts_in, drafts_of, instruction_count, instruction_in, is_semicolon, label_at, label_in, labels_from, labels_of, place_after, place_of, places_in, statements_from, statements_of, tokens_of_statements}
+pub use Rattle.scf_text.specs.Tokens.{IsSliceOf, Lexeme, before_comment, begins_comment, begins_in_word, joined, lexemes, lexemes_of_lines, lines_of, words_of_line}
+unfoldable pub use Rattle.scf_text.specs.Tokens.{lexemes_from, tokens_of}
+pub use Rattle.scf_text.specs.declared.fault.TextFault.{TextFault}
+pub use Rattle.scf_text.specs.declared.form.Field.{Field}
+pub use Rattle.scf_text.specs.declared.form.Field.TheVariants.{Code, Jf, Jt, K}
+pub use Rattle.scf_text.specs.declared.form.Form.{Form}
+pub use Rattle.scf_text.specs.declared.form.Mnemonic.{Mnemonic}
+pub use Rattle.scf_text.specs.declared.form.Piece.{Piece}
+pub use Rattle.scf_text.specs.declared.form.Piece.TheVariants.{Len}
+pub use Rattle.scf_text.specs.declared.form.Shape.{Shape}
+pub use Rattle.scf_text.specs.declared.form.Style.{Style}
+pub use Rattle.scf_text.specs.declared.form.Style.TheVariants.{Decimal, FourDigits, Hexadecimal}
+pub use Rattle.scf_text.specs.declared.numbered_draft.NumberedDraft.{NumberedDraft}
+pub use Rattle.scf_text.specs.declared.token.Token.{Token}
+pub use Rattle.scf_text.specs.internal.Parts.{first_statement, lines_after, statements_in, words_of_part}
+unfoldable pub use Rattle.scf_text.specs.internal.Parts.{others_in, words_in}
+pub use Rattle.scf_text.specs.internal.Reading.{HaveTokens, IsLeft, Leaves, drafts_view, line_statements, places_view, with_label}
+pub use Rattle.scf_text.specs.internal.Results.{AddsInstruction, TellsInsns, TellsText}
+unfoldable pub use Rattle.scf_text.specs.internal.Results.{fault_in}
+pub use Rattle.scf_text.specs.internal.Views.{draft_view}
