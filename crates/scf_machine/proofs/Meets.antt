@@ -18,7 +18,8 @@ chain_after insns words s (x ∷ xs) chain = ap (next insns words) (chain_after 
 -- what answered stays
 answered : (insns : List Insn) (words : List ℕ) (answer k l : ℕ) → k ≤ l
     → after insns words k ≡ Ends answer → after insns words l ≡ Ends answer
-answered insns words answer k zero le e = let zero_steps : zero ≡ k = omega arith in ap (after insns words) zero_steps ∙ e
+answered insns words answer k zero le e =
+    let zero_steps : zero ≡ k = omega arith in ap (after insns words) zero_steps ∙ e
 answered insns words answer k (suc l) le e = elim (cases_eq k (suc l)) [
   | inl same ↦ ap (after insns words) (sym same) ∙ e
   | inr less ↦ ap (next insns words) (answered insns words answer k l (omega arith) e)

@@ -157,7 +157,8 @@ answer_among (f ∷ filters) words (x ∷ answers) filter answer are (suc i, ins
     let rest = answer_among filters words answers filter answer are.1 (i, omega (arith, inside), is) run in
     (suc rest.0, rest.1)
 
-has_reverse : (filters : List (List Insn)) (filter : List Insn) → Contains filters filter → Contains (reverse filters) filter
+has_reverse : (filters : List (List Insn)) (filter : List Insn) → Contains filters filter
+    → Contains (reverse filters) filter
 has_reverse filters filter (i, inside, is) =
     let k = length filters - 1 - i in
     let lt : k < length filters = omega (arith, inside) in
@@ -176,7 +177,8 @@ pub fate_by_rank : (answer other : ℕ) → rank_of answer ≤ℤ rank_of other 
 fate_by_rank answer other le = grind (arith, ints)
 
 -- a stack lets through no more than each of its filters
-pub stack_lets_through_no_more : (filters : List (List Insn)) (filter : List Insn) (words : List ℕ) (decision answer : ℕ)
+pub stack_lets_through_no_more : (filters : List (List Insn)) (filter : List Insn) (words : List ℕ)
+    (decision answer : ℕ)
     → Contains filters filter → StackAnswers filters words decision → RunAnswers filter words answer
     → LetsThroughNoMore decision answer
 stack_lets_through_no_more filters filter words decision answer has stack run =

@@ -108,7 +108,8 @@ instruction_to : (at line : ℕ) (body : List (List ℕ)) → IsRead body → In
     → at + length (drafts_by line body) ≤ bpf_maxinsns
     → (instruction_fault at line body ≡ None) × (place_after at body ≡ at + length (drafts_by line body))
 instruction_to at line [] read range few = (refl, omega arith)
-instruction_to at line (t ∷ ts) read range few = rw (has_form t ts read) (draft_to at line (draft_of t ts) read range few)
+instruction_to at line (t ∷ ts) read range few =
+    rw (has_form t ts read) (draft_to at line (draft_of t ts) read range few)
 
 statements_to_none : (ss before : List Statement)
     → AreNew (labels_from 0 before) (labels_from (instruction_count before) ss)
@@ -121,7 +122,8 @@ statements_to_none (s ∷ ss) before new read range few =
     let parts = front_in_range (drafts_by s.line body) (flat_map drafts_in ss) range in
     let count = length-append (drafts_by s.line body) (flat_map drafts_in ss) in
     let one = instruction_to at s.line body read.0 parts.0 (omega (arith, count)) in
-    let label = new_to (labels_from 0 before) at s.line (label_in s.tokens) (labels_from (place_after at body) ss) new in
+    let label =
+    new_to (labels_from 0 before) at s.line (label_in s.tokens) (labels_from (place_after at body) ss) new in
     none_both (none_both label.0 one.0)
     (statements_to_none ss (before ++ s ∷ []) (rw (labels_more, zero-add, count_more) label.1) read.1 parts.1
     (rw count_more (omega (arith, count, one.1))))

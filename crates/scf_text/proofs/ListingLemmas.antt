@@ -68,7 +68,8 @@ pub record IsWordy (t : List ℕ) : Type 0 where
   pub some : 0 < length t
   pub each : list_all is_word_byte t ≡ true
 
-words_wordy : (t rest : List ℕ) → IsWordy t → begins_in_word rest ≡ false → words_of_part (t ++ rest) ≡ t ∷ words_of_part rest
+words_wordy : (t rest : List ℕ) → IsWordy t → begins_in_word rest ≡ false
+    → words_of_part (t ++ rest) ≡ t ∷ words_of_part rest
 words_wordy [] rest w h = absurd (omega (arith, w.some))
 words_wordy (b ∷ t) rest w h = let both = and_parts (is_word_byte b) (list_all is_word_byte t) w.each in
     words_word b t rest both.0 both.1 h

@@ -69,7 +69,8 @@ label_kept : (ls : Labels) (at line : ℕ) (o : Option (List ℕ)) → label_fau
 label_kept ls at line None new = ap place_of (sym (append-nil ls))
 label_kept ls at line (Some name) new = fun_ext λ q.
     one_more (place_of ls q) (Some at) (bytes_eq name q) (bytes_eq q name) (bytes_eq_sym name q)
-    (λ same. ap (place_of ls) (sym ((bytes_eq-Decides name q).0 same)) ∙ is_none (place_of ls name) (grind (arith, nat_tests)))
+    (λ same. ap (place_of ls) (sym ((bytes_eq-Decides name q).0 same))
+    ∙ is_none (place_of ls name) (grind (arith, nat_tests)))
     ∙ sym (lookup_push (bytes_eq q) ls (name, at))
 
 -- a statement is read

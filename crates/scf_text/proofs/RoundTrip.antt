@@ -138,7 +138,8 @@ ascii : (is : List Insn) → AllByRecursion IsInsn is → AllByRecursion (λ b. 
 ascii [] fits = tt
 ascii (i ∷ is) fits =
     subst (λ (t : List ℕ). AllByRecursion (λ b. b < 128) t) (sym (line_ended i (text_of is)))
-    (all_append (λ b. b < 128) (body i) (10 ∷ text_of is) (small_bytes (body i) (body_line i fits.0)) (omega arith, ascii is fits.1))
+    (all_append (λ b. b < 128) (body i) (10 ∷ text_of is) (small_bytes (body i) (body_line i fits.0))
+    (omega arith, ascii is fits.1))
 
 pub round_trip : (is : List Insn) → AllByRecursion IsInsn is → length is ≤ bpf_maxinsns → Spells (text_of is) is
 round_trip is fits few =

@@ -14,7 +14,8 @@ no_drafts (s ∷ ss) none =
     rw here (no_drafts ss (none_in_front s.tokens (flat_map (λ (t : Statement). t.tokens) ss) none).1)
 
 -- some instruction was read where one of them is refused
-pub drafts_words : {T E : Type 0} (ss : List Statement) (lines kept : List NumberedDraft) (r : Result T E) → kept ≡ lines
+pub drafts_words : {T E : Type 0} (ss : List Statement) (lines kept : List NumberedDraft) (r : Result T E)
+    → kept ≡ lines
     → drafts_view lines ≡ flat_map drafts_in ss → OnErr r (0 < length kept) → OnErr r (HaveTokens ss)
 drafts_words ss lines kept (Ok v) same read some = tt
 drafts_words ss lines kept (Err e) same read some = λ none.

@@ -168,7 +168,8 @@ pub breaks : (bs : List ℕ) (o : ℕ) (ps : List Part) (fault : BundleFault) �
 breaks bs o ps fault h1 h2 = grind arith
 
 -- the next part
-pub next_part : (bs : List ℕ) (o n : ℕ) (ps : List Part) (p : Part) → o ≤ length bs → o ≤ n → SpellsBundle (take o bs) ps
+pub next_part : (bs : List ℕ) (o n : ℕ) (ps : List Part) (p : Part) → o ≤ length bs → o ≤ n
+    → SpellsBundle (take o bs) ps
     → IsBundlePart o p (take (n - o) (drop o bs)) → SpellsBundle (take n bs) (ps ++ p ∷ [])
 next_part bs o n ps p inside further before part =
     let long : length (take o bs) ≡ o = length-take-le o bs inside in
@@ -216,7 +217,8 @@ no_part_behind bs n ps p fault here spelled =
     absurd (omega (arith, none, length-append ps (p ∷ [])))
 
 one_fault : (bs : List ℕ) (fault other : BundleFault) → IsFaultAt bs 0 fault → IsFaultAt bs 0 other → fault ≡ other
-one_fault bs (Header offset) (Header at) h g = ap (λ (n : ℕ). let moved : BundleFault = Header n in moved) (h.0 ∙ sym g.0)
+one_fault bs (Header offset) (Header at) h g =
+    ap (λ (n : ℕ). let moved : BundleFault = Header n in moved) (h.0 ∙ sym g.0)
 one_fault bs (Header offset) (Short at) h g = absurd (h.1.none g.1.kind g.1.count g.1.found)
 one_fault bs (Header offset) Memory h g = absurd g
 one_fault bs (Short offset) (Header at) h g = absurd (g.1.none h.1.kind h.1.count h.1.found)

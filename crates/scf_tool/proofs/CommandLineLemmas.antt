@@ -114,7 +114,8 @@ reads_with command name words = record {
   is_free = with_is_free command;
   asked = entered_rows (built (scf_with command)) (command_word command) (leaf_of command) words (enters_alone command)
       ∙ sym (entered_rows (built scf) (command_word command) (leaf_of command) words (enters_scf command));
-  faults = entered_faults (built (scf_with command)) (command_word command) (leaf_of command) words (enters_alone command)
+  faults = entered_faults (built (scf_with command)) (command_word command) (leaf_of command) words
+      (enters_alone command)
       ∙ sym (entered_faults (built scf) (command_word command) (leaf_of command) words (enters_scf command));
 }
 

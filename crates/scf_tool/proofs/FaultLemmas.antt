@@ -10,7 +10,8 @@ numbers_text (Some field ∷ fields) =
     ap (λ (rest : List ℕ). number_words (field.name.now, field.number) ++ rest) (numbers_text fields)
 
 pub line_in_parts : (source name : List ℕ) (fields : List (Option FaultField))
-    → codes "fault " ++ source ++ codes " " ++ name ++ flat_map number_words (flat_map numbers_of_field fields) ++ codes "\n"
+    → codes "fault " ++ source ++ codes " " ++ name
+    ++ flat_map number_words (flat_map numbers_of_field fields) ++ codes "\n"
     ≡ (codes "fault " ++ source ++ codes " " ++ name) ++ (flat_map field_text fields ++ codes "\n")
 line_in_parts source name fields = rw (← numbers_text fields)
     (append_assoc (codes "fault " ++ source ++ codes " " ++ name)

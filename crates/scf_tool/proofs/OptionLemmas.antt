@@ -64,7 +64,8 @@ given_twice rows group i d None without lt before some here = absurd (cc)
 given_twice {A} rows group i d (Some one) without lt before some here =
     let behind = given_of rows (flags_in (drop (i + 1) group)) in
     let whole : flags_in group ≡ flags_in (take i group) ++ flags_in (drop i group) =
-    ap flags_in (sym (take-append-drop i group)) ∙ map-append (λ flag. (flag.0.now, flag.1)) (take i group) (drop i group)
+    ap flags_in (sym (take-append-drop i group))
+    ∙ map-append (λ flag. (flag.0.now, flag.1)) (take i group) (drop i group)
     in
     let given : given_of rows (flags_in group) ≡ one ∷ (get_or group i d).1 ∷ behind =
     ap (λ (flags : List (List ℕ × A)). given_of rows flags) whole

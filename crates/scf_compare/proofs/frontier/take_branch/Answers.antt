@@ -27,7 +27,8 @@ returns g c =
           same_then store.allows store.is_exact old back new place place place (c.undo.ensures.law_undo place still)
           (c.in_ok-learn_answer.ensures.at_marks place before);
       known = λ words.
-          subst (λ n. store.allows new n words ↔ (store.allows old n words × GivesLearned c.in-Some.branch.learned words))
+          subst
+          (λ n. store.allows new n words ↔ (store.allows old n words × GivesLearned c.in-Some.branch.learned words))
           (sym marks) (
             λ allowed. let here = (c.in_ok-learn_answer.ensures.learned words).0 allowed in
                 ((same.0 words).0 here.0, here.1),

@@ -12,7 +12,8 @@ returns-in_err-add_line c = λ all left.
     let next = next_line c.lines.number c.lines.rest.now c.first_line.result.0.now c.without_comment.result.now others
     c.first_line.ensures.lines c.without_comment.ensures.value in
     rw (p.1, p.2)
-    (c.in_err-add_line.ensures all (statements_from (c.lines.number + 1) others) (rw next at c.lines.invariant.left all left))
+    (c.in_err-add_line.ensures all (statements_from (c.lines.number + 1) others)
+    (rw next at c.lines.invariant.left all left))
 
 pub returns-in-None : goal.returns-in-None
 returns-in-None c = λ all left.

@@ -10,7 +10,8 @@ returns-clause-leaves c = λ all rest left.
     first_of (search rules, omega (arith, c.len.ensures, c.args.drafts.now.ok)) in
     let count : c.len.result ≡ length (drafts_view c.args.drafts.now.items) = items
     ∙ sym (length-map c.args.drafts.now.items _) in
-    statement_leaves c.add_instruction.result (record { line = c.args.line; tokens = words_in c.args.part.now }) all rest
+    statement_leaves c.add_instruction.result
+    (record { line = c.args.line; tokens = words_in c.args.part.now }) all rest
     (places_view c.args.places.now) (places_view c.add_label.new.places) (drafts_view c.args.drafts.now.items)
     (drafts_view c.add_instruction.new.drafts.items) left (rw given at label.0) (rw (given, count) at label.1)
     (rw c.split_label.ensures.rest at c.add_instruction.ensures.adds)

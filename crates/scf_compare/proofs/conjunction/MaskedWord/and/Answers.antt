@@ -11,7 +11,8 @@ returns-then-value-self-clause-both c =
     let number = slice_index words masked.word in
     let never = never_under_both number masked.mask other.mask masked.value other.value in
     subst (λ n. (bit_and number 0 ≡ 1)
-    ↔ ((bit_and number masked.mask ≡ masked.value) × (bit_and (slice_index words n) other.mask ≡ other.value))) c.requires
+    ↔ ((bit_and number masked.mask ≡ masked.value) × (bit_and (slice_index words n) other.mask ≡ other.value)))
+    c.requires
     (elim c.then-value-self.branch [
       | then-value-self-via-then-value-self w ↦ never (λ both. w.if-value-self.true both.0)
       | then-value-self-via-else-value-self+then-value-other w ↦ never (λ both. w.if-value-other.true both.1)

@@ -6,7 +6,8 @@ use Rattle.scf_tool.proofs.contents.Contents.of.Goals as goal
 pub held-requires : goal.held-requires
 held-requires c =
     let none : Part = record { kind = Filter; start = 0; length = 0 } in
-    let spelled = subst (λ (parts : List Part). SpellsBundle c.args.bytes.now parts) (sym c.deref-part-items.ensures.value)
+    let spelled =
+    subst (λ (parts : List Part). SpellsBundle c.args.bytes.now parts) (sym c.deref-part-items.ensures.value)
     c.in_ok-parts.ensures.parts in
     omega (
       arith,
