@@ -1,5 +1,5 @@
 -- Conditions on one argument.
-use Rattle.scf_profile.proofs.Common.{◌≡◌, ◌≢◌, ℕ, zero, suc, ◌<◌, ◌^◌, ◌↔◌, Bool, true, ◌&&◌, List, [], ◌∷◌, eqb, get_or, Option, Some, None, refl, sym, ap, ◌∙◌, subst, arith, inl, inr, AllByRecursion, find, and_parts, cases_eq, cases_lt, eq-eqb, ne_eqb, get_or_past, All-cons, All-from_recursion, All-head, All-nil, All-tail, AllPass-from_list_all, list_all-from_AllPass, CallRecord, IsRecord, argument, Condition, Rule, holds, arguments, Conflicts, HaveDistinctIndices, IsCondition, IsRule, all_hold, HoldAt, Overlap}
+use Rattle.scf_profile.proofs.Common.{◌≡◌, ◌≢◌, ℕ, zero, suc, ◌<◌, ◌^◌, ◌↔◌, Bool, true, ◌&&◌, List, [], ◌∷◌, eqb, get_or, Option, Some, None, refl, sym, ap, ◌∙◌, subst, arith, inl, inr, AllByRecursion, find, and_parts, cases_eq, cases_lt, eq-eqb, ne_eqb, get_or_past, All-cons, All-from_recursion, All-head, All-nil, All-tail, AllPass-from_list_all, list_all-from_AllPass, CallRecord, IsRecord, argument, Condition, Rule, holds, seccomp_data_args, Conflicts, HaveDistinctIndices, IsCondition, IsRule, all_hold, HoldAt, Overlap}
 
 -- what holds of a condition where it is on the argument
 abbrev HoldsOn : ℕ → ℕ → Condition → Type 0
@@ -44,14 +44,14 @@ held_at call cs all i k c below on =
 
 -- a call of whose arguments the conditions hold
 all_held : (call : CallRecord) (cs : List Condition) → AllByRecursion IsCondition cs
-    → ((i : ℕ) → i < arguments → HoldAt cs i (argument call i)) → all_hold call cs ≡ true
+    → ((i : ℕ) → i < seccomp_data_args → HoldAt cs i (argument call i)) → all_hold call cs ≡ true
 all_held call cs each held =
     list_all-from_AllPass (λ c. holds c (argument call c.index)) cs
     (λ k c below. held (get_or cs k c).index (All-from_recursion IsCondition cs each k c below).index k c below refl)
 
 -- a number for each argument makes a call that meets both rules
 module _ (r s : Rule) (rule : IsRule r) (other : IsRule s) (overlap : Overlap r.conditions s.conditions) where
-  abbrev number : (i : ℕ) → i < arguments → ℕ
+  abbrev number : (i : ℕ) → i < seccomp_data_args → ℕ
   number i lt = (overlap i lt).number
 
   abbrev call : CallRecord
@@ -65,8 +65,8 @@ module _ (r s : Rule) (rule : IsRule r) (other : IsRule s) (overlap : Overlap r.
   }
 
   -- what holds of each number with its index holds of the arguments with theirs
-  at_arguments : (P : ℕ → ℕ → Type 0) → ((i : ℕ) (lt : i < arguments) → P i (number i lt)) → (i : ℕ) → i < arguments
-      → P i (argument call i)
+  at_arguments : (P : ℕ → ℕ → Type 0) → ((i : ℕ) (lt : i < seccomp_data_args) → P i (number i lt))
+      → (i : ℕ) → i < seccomp_data_args → P i (argument call i)
   at_arguments P h zero lt = h 0 (omega arith)
   at_arguments P h (suc zero) lt = h 1 (omega arith)
   at_arguments P h (suc (suc zero)) lt = h 2 (omega arith)
@@ -81,7 +81,7 @@ module _ (r s : Rule) (rule : IsRule r) (other : IsRule s) (overlap : Overlap r.
     arch = omega arith;
     ip = omega arith;
     count = refl;
-    args = λ i. elim (cases_lt i arguments) [
+    args = λ i. elim (cases_lt i seccomp_data_args) [
       | inl lt ↦ at_arguments (λ j n. n < 2 ^ 64) (λ j lt. (overlap j lt).fits) i lt
       | inr past ↦ let none : argument call i ≡ 0 = get_or_past call.args i 0 past in omega arith
     ];
