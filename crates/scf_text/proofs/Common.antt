@@ -19,7 +19,7 @@ pub use Rattle.std.specs.Cmp.Lexicographic.{slice_cmp}
 pub use Rattle.std.specs.Fmt.{decimal}
 pub use Rattle.std.specs.Global.{Vec}
 pub use Rattle.std.specs.List.{All, find, join_with_byte, list_any, position_or_len, prefix_len, slice_split}
-pub use Rattle.std.specs.Option.{IsSome, is_some, option_map, option_or, option_to_list}
+pub use Rattle.std.specs.Option.{IsSome, is_some, option_map, option_or, option_to_list, unwrap_or}
 pub use Rattle.std.specs.Ordering.{nat_cmp}
 pub use Rattle.std.specs.Str.{bytes_eq}
 pub use Rattle.std.specs.Str.Parse.{AllDigits, IsNumeral}
@@ -33,7 +33,7 @@ pub use Rattle.scf_text.specs.Drafts.{Draft, Label, Number, Written, fill_by, ha
 unfoldable pub use Rattle.scf_text.specs.Drafts.{draft_of}
 pub use Rattle.scf_text.specs.Faults.{IsFault, all_targets_fault, ascii_fault, draft_fault, instruction_fault, label_fault, statement_fault, statements_fault, target_fault, targets_fault}
 unfoldable pub use Rattle.scf_text.specs.Faults.{fault_of}
-pub use Rattle.scf_text.specs.Forms.{field_of, form_of, form_of_code, forms, full_form, mnemonic_text, names, pieces_of, raw, tells_all}
+pub use Rattle.scf_text.specs.Forms.{field_of, forms, names, raw, tells_all}
 unfoldable pub use Rattle.scf_text.specs.Forms.{form_for, known_forms}
 pub use Rattle.scf_text.specs.Listing.{four_digits, line_of, number_text, operands_text, piece_text, text_of}
 pub use Rattle.scf_text.specs.Spelling.{AreNew, Says, SaysEach, SaysInsn, Spells}
@@ -44,14 +44,13 @@ pub use Rattle.scf_text.specs.declared.fault.TextFault.{TextFault}
 pub use Rattle.scf_text.specs.declared.form.Field.{Field}
 pub use Rattle.scf_text.specs.declared.form.Field.TheVariants.{Code, Jf, Jt, K}
 pub use Rattle.scf_text.specs.declared.form.Form.{Form}
-pub use Rattle.scf_text.specs.declared.form.Mnemonic.{Mnemonic}
 pub use Rattle.scf_text.specs.declared.form.Piece.{Piece}
 pub use Rattle.scf_text.specs.declared.form.Piece.TheVariants.{Len}
-pub use Rattle.scf_text.specs.declared.form.Shape.{Shape}
 pub use Rattle.scf_text.specs.declared.form.Style.{Style}
 pub use Rattle.scf_text.specs.declared.form.Style.TheVariants.{Decimal, FourDigits, Hexadecimal}
 pub use Rattle.scf_text.specs.declared.numbered_draft.NumberedDraft.{NumberedDraft}
 pub use Rattle.scf_text.specs.declared.token.Token.{Token}
+pub use Rattle.scf_text.specs.internal.Mnemonics.{form_view}
 pub use Rattle.scf_text.specs.internal.Parts.{first_statement, lines_after, statements_in, words_of_part}
 unfoldable pub use Rattle.scf_text.specs.internal.Parts.{others_in, words_in}
 pub use Rattle.scf_text.specs.internal.Reading.{HaveTokens, IsLeft, Leaves, drafts_view, line_statements, places_view, with_label}

@@ -1,5 +1,6 @@
 -- A text spells a list exactly where it has no fault, and then only one.
-use Rattle.scf_text.proofs.Common.{◌≡◌, ℕ, suc, ◌+◌, ◌-◌, ◌<◌, ◌≤◌, ◌^◌, true, cond, eqb, ltb, List, [], ◌∷◌, ◌++◌, length, Option, Some, None, refl, sym, ap, subst, ◌∙◌, zero-add, arith, inl, inr, IsSome, option_or, option_map, option_to_list, AllByRecursion, list_any, flat_map, cases_Bool, lt-ltb, le-ltb, lt-leb, nat_tests, length-append, IsInsn, bpf_maxinsns, Insn, Form, forms, Written, Number, Label, Draft, has_mnemonic, read_by, draft_of, is_below, is_in_range, number_of, Statement, Labels, Places, place_of, places_in, instruction_count, label_in, instruction_in, label_at, place_after, labels_from, drafts_by, drafts_in, IsRead, statements_of, labels_of, drafts_of, Says, SaysInsn, SaysEach, AreNew, Spells, ascii_fault, label_fault, draft_fault, instruction_fault, statement_fault, statements_fault, target_fault, targets_fault, all_targets_fault, fault_of}
+use Rattle.scf_text.proofs.Common.{◌≡◌, ℕ, suc, ◌+◌, ◌-◌, ◌<◌, ◌≤◌, ◌^◌, true, cond, eqb, ltb, List, [], ◌∷◌, ◌++◌, length, Option, Some, None, refl, sym, ap, subst, ◌∙◌, zero-add, arith, inl, inr, IsSome, option_or, option_map, option_to_list, AllByRecursion, list_any, flat_map, cases_Bool, lt-ltb, le-ltb, lt-leb, nat_tests, length-append, IsInsn, bpf_maxinsns, Insn, forms, Written, Number, Label, Draft, has_mnemonic, read_by, draft_of, is_below, is_in_range, number_of, Statement, Labels, Places, place_of, places_in, instruction_count, label_in, instruction_in, label_at, place_after, labels_from, drafts_by, drafts_in, IsRead, statements_of, labels_of, drafts_of, Says, SaysInsn, SaysEach, AreNew, Spells, ascii_fault, label_fault, draft_fault, instruction_fault, statement_fault, statements_fault, target_fault, targets_fault, all_targets_fault, fault_of}
+use Rattle.scf_text.specs.Forms.{Form}
 use Rattle.std.proofs.lemmas.List.{append-nil}
 use Rattle.scf_text.proofs.ReadLemmas.{count_more, labels_more, is_none}
 

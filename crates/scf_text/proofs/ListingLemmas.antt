@@ -1,9 +1,9 @@
 -- The lines of a listing: their tokens, and that no byte or token of them ends a line, a statement or a label.
-use Rattle.scf_text.proofs.Common.{◌≡◌, ℕ, ◌/◌, ◌%◌, ◌<◌, ◌^◌, true, false, ◌&&◌, ◌||◌, eqb, List, [], ◌∷◌, ◌++◌, length, Some, refl, ap, ◌∙◌, arith, ◌≤◌, Bool, ltb, None, not, list_all, flat_map, AllByRecursion, is_digit, digit_value, decimal, digits, digit_glyph, digits_value, AllDigits, IsNumeral, eqb-true, ne_eqb, lt-ltb, agree_below_at, and_parts, and_right, ltb-true, digits_is_IsNumeral, digit_from_value, is_word_byte, begins_in_word, before_comment, number_of, numeral, has_hex_prefix, is_name, nat_tests, four_digits, number_text, operands_text, words_of_part, codes, IsInsn, Insn, Mnemonic, Piece, Field, Code, Jt, Jf, K, Style, Decimal, Hexadecimal, FourDigits, mnemonic_text, field_of, pieces_of, form_for, bytes_eq, Shape, is_semicolon, label_in, list_all-append}
+use Rattle.scf_text.proofs.Common.{◌≡◌, ℕ, ◌/◌, ◌%◌, ◌<◌, ◌^◌, true, false, ◌&&◌, ◌||◌, eqb, List, [], ◌∷◌, ◌++◌, length, map, Some, refl, ap, ◌∙◌, arith, ◌≤◌, Bool, ltb, None, not, list_all, flat_map, AllByRecursion, is_digit, digit_value, decimal, digits, digit_glyph, digits_value, AllDigits, IsNumeral, eqb-true, ne_eqb, lt-ltb, agree_below_at, and_parts, and_right, ltb-true, digits_is_IsNumeral, digit_from_value, is_word_byte, begins_in_word, before_comment, number_of, numeral, has_hex_prefix, is_name, nat_tests, four_digits, number_text, operands_text, piece_text, words_of_part, codes, cases_Bool, inl, inr, IsInsn, Insn, Piece, Field, Code, Jt, Jf, K, Style, Decimal, Hexadecimal, FourDigits, field_of, forms, known_forms, form_for, bytes_eq, is_semicolon, label_in, list_all-append}
 use Rattle.scf_text.proofs.TokenLemmas.{words_nil, words_blank, words_mark, words_word, words_one, words_more, onto_word}
-use Rattle.scf_text.specs.declared.form.Mnemonic.TheVariants as m
 use Rattle.scf_text.specs.declared.form.Piece.TheVariants as p
-use Rattle.scf_text.specs.declared.form.Shape.TheVariants as s
+use Rattle.scf_text.specs.Forms.{Form}
+use Rattle.scf_text.proofs.FormLemmas.{listed_form}
 
 -- numbers
 
@@ -121,11 +121,21 @@ words_number : (i : Insn) (f : Field) (style : Style) (rest : List ℕ) → IsIn
 words_number i f style rest h k =
     words_wordy (number_text style (field_of i f)) rest (piece_wordy i f style h) k
 
-operands_words : (i : Insn) (shape : Shape) → IsInsn i
-    → words_of_part (operands_text i (pieces_of shape)) ≡ flat_map (piece_words i) (pieces_of shape)
-unfolding onto_word
-operands_words i s.Nothing h = words_nil
-operands_words i shape h =
+pub each_same : {A B : Type 0} (f g : A → B) (xs : List A) → map f xs ≡ map g xs → AllByRecursion (λ x. f x ≡ g x) xs
+each_same f g [] e = tt
+each_same f g (x ∷ xs) e =
+    let same : f x ∷ map f xs ≡ g x ∷ map g xs = e in
+    (cc, each_same f g xs cc)
+
+abbrev words_listed : Insn → Form → List (List ℕ)
+words_listed i f = words_of_part (operands_text i f.pieces)
+
+abbrev words_wanted : Insn → Form → List (List ℕ)
+words_wanted i f = flat_map (piece_words i) f.pieces
+
+all_words : (i : Insn) → IsInsn i → map (words_listed i) forms ≡ map (words_wanted i) forms
+unfolding onto_word known_forms
+all_words i h =
     simp (
       words_number i Code FourDigits,
       words_number i K Hexadecimal,
@@ -139,6 +149,11 @@ operands_words i shape h =
       words_nil,
     )
 
+operands_words : (i : Insn) → IsInsn i → words_listed i (form_for i) ≡ words_wanted i (form_for i)
+operands_words i h =
+    listed_form (λ f. words_listed i f ≡ words_wanted i f) i
+    (each_same (words_listed i) (words_wanted i) forms (all_words i h))
+
 -- the mnemonic
 
 abbrev is_wordy : List ℕ → Bool
@@ -148,21 +163,36 @@ wordy_from : (t : List ℕ) → is_wordy t ≡ true → IsWordy t
 wordy_from t h = let both = and_parts (ltb 0 (length t)) (list_all is_word_byte t) h in
     record { some = ltb-true 0 (length t) both.0; each = both.1 }
 
-pub mnemonic_wordy : (n : Mnemonic) → IsWordy (mnemonic_text n)
-mnemonic_wordy m.Ld = wordy_from (mnemonic_text m.Ld) refl
-mnemonic_wordy n = wordy_from (mnemonic_text n) refl
+all_wordy : map (λ (f : Form). is_wordy f.mnemonic) forms ≡ map (λ f. true) forms
+unfolding known_forms
+all_wordy = refl
+
+-- the line of an instruction, without its end, and its tokens
+
+abbrev pub name_of : Insn → List ℕ
+name_of i = (form_for i).mnemonic
+
+abbrev pub operands : Insn → List (List ℕ)
+operands i = flat_map (piece_words i) (form_for i).pieces
+
+abbrev pub body : Insn → List ℕ
+body i = name_of i ++ operands_text i (form_for i).pieces
+
+pub mnemonic_wordy : (i : Insn) → IsWordy (name_of i)
+mnemonic_wordy i =
+    wordy_from (name_of i)
+    (listed_form (λ f. is_wordy f.mnemonic ≡ true) i
+    (each_same (λ (f : Form). is_wordy f.mnemonic) (λ f. true) forms all_wordy))
 
 operands_apart : (i : Insn) (ps : List Piece) → begins_in_word (operands_text i ps) ≡ false
 operands_apart i [] = refl
 operands_apart i (q ∷ ps) = refl
 
-pub line_words : (i : Insn) (n : Mnemonic) (shape : Shape) → IsInsn i
-    → words_of_part (mnemonic_text n ++ operands_text i (pieces_of shape))
-    ≡ mnemonic_text n ∷ flat_map (piece_words i) (pieces_of shape)
-line_words i n shape fits =
-    words_wordy (mnemonic_text n) (operands_text i (pieces_of shape)) (mnemonic_wordy n)
-    (operands_apart i (pieces_of shape))
-    ∙ ap (λ (ws : List (List ℕ)). mnemonic_text n ∷ ws) (operands_words i shape fits)
+pub line_words : (i : Insn) → IsInsn i → words_of_part (body i) ≡ name_of i ∷ operands i
+line_words i fits =
+    words_wordy (name_of i) (operands_text i (form_for i).pieces) (mnemonic_wordy i)
+    (operands_apart i (form_for i).pieces)
+    ∙ ap (λ (ws : List (List ℕ)). name_of i ∷ ws) (operands_words i fits)
 
 -- a byte that neither ends a line nor begins a comment
 abbrev pub is_line_byte : ℕ → Bool
@@ -193,37 +223,57 @@ number_line : (i : Insn) (f : Field) (style : Style) → IsInsn i
 number_line i f style fits = let w = piece_wordy i f style fits in
     (words_line (number_text style (field_of i f)) w.each, wordy_plain (number_text style (field_of i f)) w)
 
-abbrev IsListed : Insn → List Piece → Type 0
-IsListed i ps = (list_all is_line_byte (operands_text i ps) ≡ true)
-    × (list_all is_plain (flat_map (piece_words i) ps) ≡ true)
+-- a mark that ends no line, statement or label and begins no comment
+abbrev is_apart : Piece → Bool
+is_apart (p.Mark b) = is_line_byte b && is_plain (b ∷ [])
+is_apart q = true
 
-operands_listed : (i : Insn) (shape : Shape) → IsInsn i → IsListed i (pieces_of shape)
-operands_listed i s.Nothing h = (refl, refl)
-operands_listed i shape h =
-    let code = number_line i Code FourDigits h in
-    let hex = number_line i K Hexadecimal h in
-    let k = number_line i K Decimal h in
-    let jt = number_line i Jt Decimal h in
-    let jf = number_line i Jf Decimal h in (
-      simp (list_all-append, code.0, hex.0, k.0, jt.0, jf.0),
-      simp (list_all-append, code.1, hex.1, k.1, jt.1, jf.1),
+piece_listed : (i : Insn) (q : Piece) → IsInsn i → is_apart q ≡ true
+    → (list_all is_line_byte (piece_text i q) ≡ true) × (list_all is_plain (piece_words i q) ≡ true)
+piece_listed i (p.Mark b) fits h =
+    let both = and_parts (is_line_byte b) (is_plain (b ∷ [])) h in (
+      elim (cases_Bool (eqb b 44)) [
+        | inl comma ↦ rw comma refl
+        | inr other ↦ rw (other, both.0) refl
+      ],
+      rw both.1 refl,
+    )
+piece_listed i (p.Number f style) fits h = let line = number_line i f style fits in (line.0, rw line.1 refl)
+piece_listed i (p.Target f) fits h = let line = number_line i f Decimal fits in (line.0, rw line.1 refl)
+piece_listed i q fits h = (refl, refl)
+
+pieces_listed : (i : Insn) (ps : List Piece) → IsInsn i → list_all is_apart ps ≡ true
+    → (list_all is_line_byte (flat_map (piece_text i) ps) ≡ true)
+    × (list_all is_plain (flat_map (piece_words i) ps) ≡ true)
+pieces_listed i [] fits h = (refl, refl)
+pieces_listed i (q ∷ ps) fits h =
+    let both = and_parts (is_apart q) (list_all is_apart ps) h in
+    let one = piece_listed i q fits both.0 in
+    let rest = pieces_listed i ps fits both.1 in (
+      rw (list_all-append is_line_byte (piece_text i q) (flat_map (piece_text i) ps), one.0, rest.0) refl,
+      rw (list_all-append is_plain (piece_words i q) (flat_map (piece_words i) ps), one.1, rest.1) refl,
     )
 
--- the line of an instruction, without its end, and its tokens
-abbrev pub body : Insn → List ℕ
-body i = mnemonic_text (form_for i).mnemonic ++ operands_text i (pieces_of (form_for i).shape)
+all_apart : map (λ (f : Form). list_all is_apart f.pieces) forms ≡ map (λ f. true) forms
+unfolding known_forms
+all_apart = refl
 
-abbrev pub operands : Insn → List (List ℕ)
-operands i = flat_map (piece_words i) (pieces_of (form_for i).shape)
+apart : (i : Insn) → list_all is_apart (form_for i).pieces ≡ true
+apart i =
+    listed_form (λ f. list_all is_apart f.pieces ≡ true) i
+    (each_same (λ (f : Form). list_all is_apart f.pieces) (λ f. true) forms all_apart)
+
+operands_line : (i : Insn) (ps : List Piece) → list_all is_line_byte (flat_map (piece_text i) ps) ≡ true
+    → list_all is_line_byte (operands_text i ps) ≡ true
+operands_line i [] h = refl
+operands_line i (q ∷ ps) h = h
 
 pub body_line : (i : Insn) → IsInsn i → list_all is_line_byte (body i) ≡ true
 body_line i fits =
-    let ps = pieces_of (form_for i).shape in
-    let n = (form_for i).mnemonic in
     rw (
-      list_all-append is_line_byte (mnemonic_text n) (operands_text i ps),
-      words_line (mnemonic_text n) (mnemonic_wordy n).each,
-      (operands_listed i (form_for i).shape fits).0,
+      list_all-append is_line_byte (name_of i) (operands_text i (form_for i).pieces),
+      words_line (name_of i) (mnemonic_wordy i).each,
+      operands_line i (form_for i).pieces (pieces_listed i (form_for i).pieces fits (apart i)).0,
     ) refl
 
 each_byte : (P : ℕ → Type 0) → ((b : ℕ) → is_line_byte b ≡ true → P b) → (t : List ℕ) → list_all is_line_byte t ≡ true
@@ -261,4 +311,4 @@ no_label t (u ∷ ts) h =
     rw (and_right (is_name t) (bytes_eq u (58 ∷ [])) none) refl
 
 pub operands_plain : (i : Insn) → IsInsn i → list_all is_plain (operands i) ≡ true
-operands_plain i fits = (operands_listed i (form_for i).shape fits).1
+operands_plain i fits = (pieces_listed i (form_for i).pieces fits (apart i)).1

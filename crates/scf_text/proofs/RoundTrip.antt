@@ -1,30 +1,28 @@
 -- Each form is read as it is listed, and the canonical text of instructions spells them.
-use Rattle.scf_text.proofs.Common.{words_of_part, ◌≡◌, ℕ, true, false, eqb, Option, None, Some, refl, sym, inl, inr, ◌+◌, ◌<◌, ◌≤◌, List, [], ◌∷◌, ◌++◌, length, map, ap, subst, ◌∙◌, append_assoc, arith, if◌then◌else◌, list_any, flat_map, AllByRecursion, list_all, slice_split, cases_Bool, and_from, nat_tests, IsInsn, Insn, Mnemonic, Shape, Code, Jt, Jf, K, Form, mnemonic_text, pieces_of, raw, form_of_code, names, tells_all, full_form, form_for, forms, known_forms, Number, Draft, draft_of, Places, Statement, place_of, is_semicolon, tokens_of_statements, statements_from, label_in, instruction_in, labels_from, drafts_in, IsRead, SaysInsn, SaysEach, Spells, code_table, All-from_recursion, slice_split_at, slice_split_none, bpf_maxinsns, Lexeme, lines_of, before_comment, lexemes_from, operands_text, line_of, text_of}
+use Rattle.scf_text.proofs.Common.{words_of_part, ◌≡◌, ℕ, true, false, eqb, Option, None, Some, refl, sym, ◌+◌, ◌<◌, ◌≤◌, List, [], ◌∷◌, ◌++◌, length, map, ap, subst, ◌∙◌, append_assoc, arith, if◌then◌else◌, list_any, flat_map, AllByRecursion, list_all, slice_split, and_from, nat_tests, IsInsn, Insn, Code, Jt, Jf, K, names, tells_all, form_for, forms, known_forms, Number, Draft, draft_of, Places, Statement, place_of, is_semicolon, tokens_of_statements, statements_from, label_in, instruction_in, labels_from, drafts_in, IsRead, SaysInsn, SaysEach, Spells, All-from_recursion, slice_split_at, slice_split_none, bpf_maxinsns, Lexeme, lines_of, before_comment, lexemes_from, operands_text, line_of, text_of}
 use Rattle.scf_text.proofs.TokenLemmas.{words_nil, all_append}
 use Rattle.scf_text.proofs.ListingLemmas.{hexadecimal_is, decimal_is, decimal_no_name, four_digits_is, piece_words}
-use Rattle.scf_text.proofs.ListingLemmas.{field_small, mnemonic_wordy, line_words, is_plain, wordy_plain}
+use Rattle.scf_text.proofs.ListingLemmas.{each_same, name_of, field_small, mnemonic_wordy, line_words, is_plain, wordy_plain}
 use Rattle.scf_text.proofs.ListingLemmas.{operands_plain, body, operands, body_line, no_comment, no_end, small_bytes}
 use Rattle.scf_text.proofs.ListingLemmas.{no_semicolon, no_label}
-use Rattle.scf_text.proofs.FormLemmas.{same_code, all_to_one}
+use Rattle.scf_text.proofs.FormLemmas.{listed_one, listed_form}
+use Rattle.scf_text.specs.Forms.{Form}
 
 -- what the listing of an instruction in this form says
 abbrev pub draft_in : Form → Insn → Draft
 draft_in f i = record {
-  code = if list_any (names Code) (pieces_of f.shape) then i.code else f.code;
-  jt = Number (if list_any (names Jt) (pieces_of f.shape) then i.jt else 0);
-  jf = Number (if list_any (names Jf) (pieces_of f.shape) then i.jf else 0);
-  k = Number (if list_any (names K) (pieces_of f.shape) then i.k else 0);
+  code = if list_any (names Code) f.pieces then i.code else f.code;
+  jt = Number (if list_any (names Jt) f.pieces then i.jt else 0);
+  jf = Number (if list_any (names Jf) f.pieces then i.jf else 0);
+  k = Number (if list_any (names K) f.pieces then i.k else 0);
 }
-
-abbrev form : ℕ → Mnemonic → Shape → Form
-form code mnemonic shape = record { code = code; mnemonic = mnemonic; shape = shape }
 
 -- what the tokens of an instruction's listing in this form are read as
 abbrev read_back : Insn → Form → Option Draft
-read_back i f = draft_of (mnemonic_text f.mnemonic) (flat_map (piece_words i) (pieces_of f.shape))
+read_back i f = draft_of f.mnemonic (flat_map (piece_words i) f.pieces)
 
 all_back : (i : Insn) → IsInsn i → map (read_back i) forms ≡ map (λ f. Some (draft_in f i)) forms
-unfolding draft_of known_forms code_table
+unfolding draft_of known_forms
 all_back i h =
     let jt = field_small i Jt h in
     let jf = field_small i Jf h in
@@ -39,34 +37,16 @@ all_back i h =
       four_digits_is i.code h.code,
     )
 
-each_same : {A B : Type 0} (f g : A → B) (xs : List A) → map f xs ≡ map g xs → AllByRecursion (λ x. f x ≡ g x) xs
-each_same f g [] e = tt
-each_same f g (x ∷ xs) e =
-    let same : f x ∷ map f xs ≡ g x ∷ map g xs = e in
-    (cc, each_same f g xs cc)
-
 abbrev pub IsReadBack : Insn → Form → Type 0
 IsReadBack i f = read_back i f ≡ Some (draft_in f i)
 
--- of what an instruction is listed in
-full_one : (P : Form → Type 0) (i : Insn) (o : Option Form) → P raw
-    → ((f : Form) → o ≡ Some f → tells_all i f ≡ true → P f) → P (full_form i o)
-full_one P i None first known = first
-full_one P i (Some f) first known =
-    elim (cases_Bool (tells_all i f)) [
-      | inl all ↦ rw all (known f refl all)
-      | inr other ↦ rw other first
-    ]
-
 pub reads_back : (i : Insn) → IsInsn i → IsReadBack i (form_for i)
-unfolding form_for
 reads_back i h =
-    let each = each_same (read_back i) (λ f. Some (draft_in f i)) forms (all_back i h) in
-    full_one (IsReadBack i) i (form_of_code i.code) each.0 (λ f is _. all_to_one (IsReadBack i) each.1 i.code f is)
+    listed_form (IsReadBack i) i (each_same (read_back i) (λ f. Some (draft_in f i)) forms (all_back i h))
 
-tells_says : (places : Places) (at : ℕ) (i : Insn) (f : Form) → f.code ≡ i.code → tells_all i f ≡ true
+tells_says : (places : Places) (at : ℕ) (i : Insn) (f : Form) → tells_all i f ≡ true
     → SaysInsn places at (draft_in f i) i
-tells_says places at i f code h =
+tells_says places at i f h =
     record {
       code = grind (arith, nat_tests);
       jt = grind (arith, nat_tests);
@@ -75,23 +55,19 @@ tells_says places at i f code h =
     }
 
 says_back : (places : Places) (at : ℕ) (i : Insn) → SaysInsn places at (draft_in (form_for i) i) i
-unfolding form_for
 says_back places at i =
-    full_one (λ f. SaysInsn places at (draft_in f i) i) i (form_of_code i.code)
+    listed_one (λ f. f ≡ f) (λ f. SaysInsn places at (draft_in f i) i) i
+    (each_same (λ (f : Form). f) (λ f. f) forms refl) (λ f _ all. tells_says places at i f all)
     (record { code = refl; jt = refl; jf = refl; k = refl })
-    (λ f is all. tells_says places at i f (same_code i.code f is) all)
-
-abbrev name_of : Insn → List ℕ
-name_of i = mnemonic_text (form_for i).mnemonic
 
 line_tokens : (i : Insn) → IsInsn i → tokens_of_statements (body i) ≡ (name_of i ∷ operands i) ∷ []
 line_tokens i fits =
     let found : map (λ (l : Lexeme). l.text) (lexemes_from 0 (before_comment (body i))) ≡ name_of i ∷ operands i =
     ap words_of_part (no_comment (body i) (body_line i fits))
-    ∙ line_words i (form_for i).mnemonic (form_for i).shape fits in
+    ∙ line_words i fits in
     let plain =
     and_from (is_plain (name_of i)) (list_all is_plain (operands i))
-    (wordy_plain (name_of i) (mnemonic_wordy (form_for i).mnemonic)) (operands_plain i fits) in
+    (wordy_plain (name_of i) (mnemonic_wordy i)) (operands_plain i fits) in
     ap (slice_split is_semicolon) found
     ∙ slice_split_none is_semicolon (name_of i ∷ operands i)
     (All-from_recursion (λ t. is_semicolon t ≡ false) (name_of i ∷ operands i)
@@ -104,7 +80,7 @@ listing n (i ∷ is) = record { line = n; tokens = name_of i ∷ operands i } �
 
 line_ended : (i : Insn) (rest : List ℕ) → line_of i ++ rest ≡ body i ++ 10 ∷ rest
 line_ended i rest =
-    let ops = operands_text i (pieces_of (form_for i).shape) in
+    let ops = operands_text i (form_for i).pieces in
     append_assoc (name_of i) (ops ++ 10 ∷ []) rest
     ∙ ap (λ (t : List ℕ). name_of i ++ t) (append_assoc ops (10 ∷ []) rest)
     ∙ sym (append_assoc (name_of i) ops (10 ∷ rest))

@@ -9,9 +9,8 @@ use Rattle.scf_text.specs.declared.form.Piece.{Piece}
 use Rattle.scf_text.specs.declared.form.Piece.TheVariants as p
 use Rattle.scf_text.specs.declared.form.Field.{Field}
 use Rattle.scf_text.specs.declared.form.Field.TheVariants.{Code, Jt, Jf, K}
-use Rattle.scf_text.specs.declared.form.Form.{Form}
 use Rattle.scf_text.specs.Characters.{is_name_start}
-use Rattle.scf_text.specs.Forms.{mnemonic_text, pieces_of, forms}
+use Rattle.scf_text.specs.Forms.{Form, forms}
 
 -- what stands for a field: a number, or the name of a place
 pub data Written : Type 0 where
@@ -59,26 +58,22 @@ module _ (number : List ℕ → Option ℕ) where
 
   abbrev pub fill_by : List Piece → List (List ℕ) → Draft → Option Draft
   fill_by [] [] d = Some d
-  fill_by [] (t ∷ ts) d = None
-  fill_by (piece ∷ pieces) [] d = None
   fill_by (piece ∷ pieces) (t ∷ ts) d = option_and_then (fill_by pieces ts) (put_by piece t d)
+  fill_by _ _ d = None
 
 -- before any field is named
 abbrev pub blank : Form → Draft
 blank form = record { code = form.code; jt = Number 0; jf = Number 0; k = Number 0 }
 
 abbrev pub has_mnemonic : List ℕ → Form → Bool
-has_mnemonic t form = bytes_eq t (mnemonic_text form.mnemonic)
+has_mnemonic t form = bytes_eq t form.mnemonic
 
 module _ (number : List ℕ → Option ℕ) where
-  -- what a mnemonic and the tokens behind it say in this form
-  abbrev pub read_in : Form → List ℕ → List (List ℕ) → Option Draft
-  read_in form t ts = if has_mnemonic t form then fill_by number (pieces_of form.shape) ts (blank form) else None
-
-  -- in the first of the forms that they have
+  -- what a mnemonic and the tokens behind it say, in the first of the forms that they have
   abbrev pub read_by : List Form → List ℕ → List (List ℕ) → Option Draft
   read_by [] t ts = None
-  read_by (form ∷ rest) t ts = option_or (read_in form t ts) (read_by rest t ts)
+  read_by (form ∷ rest) t ts =
+      option_or (if has_mnemonic t form then fill_by number form.pieces ts (blank form) else None) (read_by rest t ts)
 
 -- what a mnemonic and the tokens behind it say
 unfoldable pub draft_of : List ℕ → List (List ℕ) → Option Draft

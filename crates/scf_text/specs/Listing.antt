@@ -8,7 +8,7 @@ use Rattle.scf_text.specs.declared.form.Piece.{Piece}
 use Rattle.scf_text.specs.declared.form.Piece.TheVariants.{Mark, Len, Memory, Accumulator, Index, Number, Target}
 use Rattle.scf_text.specs.declared.form.Style.{Style}
 use Rattle.scf_text.specs.declared.form.Style.TheVariants.{Decimal, Hexadecimal, FourDigits}
-use Rattle.scf_text.specs.Forms.{mnemonic_text, pieces_of, field_of, form_for}
+use Rattle.scf_text.specs.Forms.{field_of, form_for}
 
 -- the last four hexadecimal digits
 abbrev pub four_digits : ℕ → List ℕ
@@ -21,12 +21,9 @@ number_text Decimal n = decimal n
 number_text Hexadecimal n = codes "0x" ++ digits 16 false n
 number_text FourDigits n = codes "0x" ++ four_digits n
 
--- One blank stands after a comma.
-abbrev pub mark_text : ℕ → List ℕ
-mark_text b = if b == code "," then codes ", " else b ∷ []
-
+-- what stands for a piece, with one blank behind a comma
 abbrev pub piece_text : Insn → Piece → List ℕ
-piece_text i (Mark b) = mark_text b
+piece_text i (Mark b) = if b == code "," then codes ", " else b ∷ []
 piece_text i Len = codes "len"
 piece_text i Memory = codes "M"
 piece_text i Accumulator = codes "a"
@@ -43,7 +40,7 @@ operands_text i (p ∷ ps) = code " " ∷ flat_map (piece_text i) (p ∷ ps)
 abbrev pub line_of : Insn → List ℕ
 line_of i =
     let form = form_for i in
-    mnemonic_text form.mnemonic ++ (operands_text i (pieces_of form.shape) ++ codes "\n")
+    form.mnemonic ++ (operands_text i form.pieces ++ codes "\n")
 
 -- the canonical text
 abbrev pub text_of : List Insn → List ℕ

@@ -1,3 +1,4 @@
+pub mod Mnemonics
 pub mod Parts
 pub mod Reading
 pub mod Results

@@ -8,6 +8,7 @@ ghost use Rattle.scf_text.specs.Forms.{forms};
 ghost use Rattle.scf_text.specs.Drafts.{is_name, with_field, spellings, put_by, fill_by, blank, has_mnemonic};
 ghost use Rattle.scf_text.specs.Drafts.{read_by, is_below, is_in_range};
 ghost use Rattle.scf_text.specs.Drafts as written;
+ghost use Rattle.scf_text.specs.internal.Mnemonics.{form_view};
 ghost use Rattle.scf_text.specs.internal.Parts.{words_in, others_in, statements_after};
 ghost use Rattle.scf_text.specs.internal.Results.{Reads};
 ghost use Rattle.scf_text.specs.internal.Views.{number_view, written_view, draft_view};
@@ -72,7 +73,7 @@ pub(crate) fn is_token_name(token: &[u8]) -> bool
 impl<'a> Draft<'a> {
     /// Before any field is named.
     pub(crate) fn blank(form: Form) -> Draft<'a>
-        ensures { draft_view result ≡ blank form }
+        ensures { draft_view result ≡ blank (form_view form) }
     {
         let zero = Written::Number(0);
         Draft {

@@ -1,9 +1,9 @@
 //! The forms of an instruction, for the assembler and the disassembler alike.
-ghost use Rattle.std.specs.Prelude.{◌≡◌, ◌==◌, ◌||◌};
+ghost use Rattle.std.specs.Prelude.{◌≡◌, map};
 ghost use Rattle.std.specs.List.{find, list_any};
-ghost use Rattle.scf_text.specs.Forms.{mnemonic_text, pieces_of, forms, known_forms, form_of_code, raw};
-ghost use Rattle.scf_text.specs.Forms.{names, tells_all, form_for};
+ghost use Rattle.scf_text.specs.Forms.{forms, known_forms, raw, names, tells_all, form_for};
 ghost use Rattle.scf_text.specs.Drafts.{has_mnemonic};
+ghost use Rattle.scf_text.specs.internal.Mnemonics.{mnemonic_text, pieces_of, form_view};
 
 use scf_insn::Insn;
 
@@ -249,31 +249,24 @@ static FORMS: [Form; 42] = forms! {
 
 impl Form {
     /// All forms, that of every instruction first.
-    #[tactic(auto, unfolding(crate::specs::Forms::known_forms, scf_insn::specs::Codes::code_table))]
+    #[tactic(auto, unfolding(crate::specs::Forms::known_forms))]
     pub(crate) fn all() -> &'static [Form]
-        ensures { result.now ≡ forms }
+        ensures { map form_view result.now ≡ forms }
     {
         &FORMS
     }
 
     /// The forms of the 41 codes.
-    #[tactic(auto, unfolding(crate::specs::Forms::known_forms, scf_insn::specs::Codes::code_table))]
+    #[tactic(auto, unfolding(crate::specs::Forms::known_forms))]
     fn known() -> &'static [Form]
-        ensures { result.now ≡ known_forms }
+        ensures { map form_view result.now ≡ known_forms }
     {
         &FORMS[1..]
     }
 
-    /// The form of a code, `None` where it isn't one of the 41.
-    pub(crate) fn of_code(code: u16) -> Option<Form>
-        ensures { result ≡ form_of_code code }
-    {
-        first_of_code(Form::known(), code)
-    }
-
     /// The form that every instruction has. Its code stands among its operands, so the 0 here is always written over.
     pub(crate) fn raw() -> Form
-        ensures { result ≡ raw }
+        ensures { form_view result ≡ raw }
     {
         Form {
             code: 0,
@@ -284,38 +277,35 @@ impl Form {
 
     /// Whether this is its word.
     pub(crate) fn has_mnemonic(&self, word: &[u8]) -> bool
-        ensures { result ≡ has_mnemonic word.now self.now }
+        ensures { result ≡ has_mnemonic word.now (form_view self.now) }
     {
         word == self.mnemonic.text().as_bytes()
     }
 
-    /// Whether this form of the instruction's code says all of it: the fields that it doesn't name are 0.
+    /// Whether the form has the instruction's code and says all of it: the fields that it doesn't name are 0.
     fn tells_all(&self, insn: &Insn) -> bool
-        ensures { result ≡ tells_all insn.now self.now }
+        ensures { result ≡ tells_all insn.now (form_view self.now) }
     {
-        (self.shape.names(Field::Jt) || insn.jt == 0)
+        self.code == insn.code
+            && (self.shape.names(Field::Jt) || insn.jt == 0)
             && (self.shape.names(Field::Jf) || insn.jf == 0)
             && (self.shape.names(Field::K) || insn.k == 0)
     }
 
     /// The form in which an instruction is listed.
-    #[tactic(auto, unfolding(crate::specs::Forms::form_for))]
     pub(crate) fn of(insn: &Insn) -> Form
-        ensures { result ≡ form_for insn.now }
+        ensures { form_view result ≡ form_for insn.now }
     {
-        match Form::of_code(insn.code) {
-            Some(form) if form.tells_all(insn) => form,
-            _ => Form::raw(),
-        }
+        first_that_tells(Form::known(), insn).unwrap_or(Form::raw())
     }
 }
 
-/// The first of the forms with a code.
-fn first_of_code(forms: &[Form], code: u16) -> Option<Form>
-    ensures { result ≡ find (λ form. form.code == code) forms.now }
+/// The first of the forms that has the instruction's code and says all of it.
+fn first_that_tells(forms: &[Form], insn: &Insn) -> Option<Form>
+    ensures { result ≡ find (λ form. tells_all insn.now (form_view form)) forms.now }
 {
     for form in forms {
-        if form.code == code {
+        if form.tells_all(insn) {
             return Some(*form);
         }
     }

@@ -3,8 +3,9 @@ ghost use Rattle.std.specs.Prelude.{◌≡◌, ◌++◌, ◌∷◌, [], false, c
 ghost use Rattle.std.specs.List.{flat_map};
 ghost use Rattle.std.specs.Fmt.{digits};
 ghost use Rattle.scf_insn.specs.Streams.{Writes};
-ghost use Rattle.scf_text.specs.Forms.{mnemonic_text, field_of};
+ghost use Rattle.scf_text.specs.Forms.{field_of};
 ghost use Rattle.scf_text.specs.Listing.{four_digits, number_text, piece_text, operands_text, line_of, text_of};
+ghost use Rattle.scf_text.specs.internal.Mnemonics.{mnemonic_text};
 
 use crate::form::{Field, Form, Mnemonic, Piece, Style};
 use scf_insn::{Insn, Sink, WriteFault, digit_byte, write_numeral, write_whole};

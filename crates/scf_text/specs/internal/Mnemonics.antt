@@ -1,0 +1,58 @@
+-- The forms of the code, which has an enum of the words and one of what stands behind them.
+use Rattle.std.specs.Prelude.{ℕ, List, [], ◌∷◌, ◌++◌, codes}
+use Rattle.scf_insn.specs.declared.operation.Operand.TheVariants as operands
+use Rattle.scf_text.specs.declared.form.Mnemonic.{Mnemonic}
+use Rattle.scf_text.specs.declared.form.Mnemonic.TheVariants as m
+use Rattle.scf_text.specs.declared.form.Shape.{Shape}
+use Rattle.scf_text.specs.declared.form.Shape.TheVariants as s
+use Rattle.scf_text.specs.declared.form.Piece.{Piece}
+use Rattle.scf_text.specs.declared.form.Piece.TheVariants.{Len, Memory, Accumulator, Target}
+use Rattle.scf_text.specs.declared.form.Field.TheVariants.{K}
+use Rattle.scf_text.specs.declared.form.Form.{Form}
+use Rattle.scf_text.specs.Forms as forms
+use Rattle.scf_text.specs.Forms.{operand_pieces, place_pieces, both_targets}
+
+-- the word that stands first
+abbrev pub mnemonic_text : Mnemonic → List ℕ
+mnemonic_text m.Ld = codes "ld"
+mnemonic_text m.Ldx = codes "ldx"
+mnemonic_text m.St = codes "st"
+mnemonic_text m.Stx = codes "stx"
+mnemonic_text m.Add = codes "add"
+mnemonic_text m.Sub = codes "sub"
+mnemonic_text m.Mul = codes "mul"
+mnemonic_text m.Div = codes "div"
+mnemonic_text m.Or = codes "or"
+mnemonic_text m.And = codes "and"
+mnemonic_text m.Lsh = codes "lsh"
+mnemonic_text m.Rsh = codes "rsh"
+mnemonic_text m.Xor = codes "xor"
+mnemonic_text m.Neg = codes "neg"
+mnemonic_text m.Ja = codes "ja"
+mnemonic_text m.Jeq = codes "jeq"
+mnemonic_text m.Jgt = codes "jgt"
+mnemonic_text m.Jge = codes "jge"
+mnemonic_text m.Jset = codes "jset"
+mnemonic_text m.Ret = codes "ret"
+mnemonic_text m.Tax = codes "tax"
+mnemonic_text m.Txa = codes "txa"
+mnemonic_text m.Raw = codes "raw"
+
+-- what stands behind it
+abbrev pub pieces_of : Shape → List Piece
+pieces_of s.Nothing = []
+pieces_of s.Length = Len ∷ []
+pieces_of s.Accumulator = Accumulator ∷ []
+pieces_of s.Index = operand_pieces operands.Index
+pieces_of s.Constant = operand_pieces operands.Constant
+pieces_of s.Absolute = place_pieces
+pieces_of s.Scratch = Memory ∷ place_pieces
+pieces_of s.Jump = Target K ∷ []
+pieces_of s.TestConstant = operand_pieces operands.Constant ++ both_targets
+pieces_of s.TestIndex = operand_pieces operands.Index ++ both_targets
+pieces_of s.Raw = forms.raw.pieces
+
+-- what a form of the code stands for
+abbrev pub form_view : Form → forms.Form
+form_view form =
+    record { code = form.code; mnemonic = mnemonic_text form.mnemonic; pieces = pieces_of form.shape }
