@@ -18,7 +18,7 @@ pub use Rattle.std.specs.Borrow.{Bor}
 pub use Rattle.std.specs.Cmp.Lexicographic.{slice_cmp}
 pub use Rattle.std.specs.Fmt.{decimal}
 pub use Rattle.std.specs.Global.{Vec}
-pub use Rattle.std.specs.List.{All, find, join_with_byte, list_any, position_or_len, prefix_len, slice_split}
+pub use Rattle.std.specs.List.{All, enumerate_from, find, join_with_byte, list_any, position_or_len, prefix_len, slice_split}
 pub use Rattle.std.specs.Option.{IsSome, is_some, option_map, option_or, option_to_list, unwrap_or}
 pub use Rattle.std.specs.Ordering.{nat_cmp}
 pub use Rattle.std.specs.Str.{bytes_eq}
@@ -31,14 +31,14 @@ pub use Rattle.scf_insn.specs.declared.operation.Operation.{Operation}
 pub use Rattle.scf_text.specs.Characters.{is_blank, is_word_byte}
 pub use Rattle.scf_text.specs.Drafts.{Draft, Label, Number, Written, fill_by, has_mnemonic, is_below, is_in_range, is_name, read_by}
 unfoldable pub use Rattle.scf_text.specs.Drafts.{draft_of}
-pub use Rattle.scf_text.specs.Faults.{IsFault, all_targets_fault, ascii_fault, draft_fault, instruction_fault, label_fault, statement_fault, statements_fault, target_fault, targets_fault}
+pub use Rattle.scf_text.specs.Faults.{IsFault, ascii_fault, draft_fault, instruction_fault, label_fault, statement_fault, statements_fault, target_fault, targets_fault}
 unfoldable pub use Rattle.scf_text.specs.Faults.{fault_of}
 pub use Rattle.scf_text.specs.Forms.{field_of, forms, names, raw, tells_all}
 unfoldable pub use Rattle.scf_text.specs.Forms.{form_for, known_forms}
-pub use Rattle.scf_text.specs.Listing.{four_digits, line_of, number_text, operands_text, piece_text, text_of}
+pub use Rattle.scf_text.specs.Listing.{line_of, number_text, operands_text, piece_text, text_of}
 pub use Rattle.scf_text.specs.Spelling.{AreNew, Says, SaysEach, SaysInsn, Spells}
-pub use Rattle.scf_text.specs.Statements.{IsRead, Labels, Places, Statement, drafts_by, drafts_in, drafts_of, instruction_count, instruction_in, is_semicolon, label_at, label_in, labels_from, labels_of, place_after, place_of, places_in, statements_from, statements_of, tokens_of_statements}
-pub use Rattle.scf_text.specs.Tokens.{IsSliceOf, Lexeme, before_comment, begins_comment, begins_in_word, joined, lexemes, lexemes_of_lines, lines_of, words_of_line}
+pub use Rattle.scf_text.specs.Statements.{Labels, Places, Statement, drafts_by, drafts_in, drafts_of, instruction_in, label_in, labels_from, line_statements, place_of, places_in, statements_of}
+pub use Rattle.scf_text.specs.Tokens.{IsSliceOf, Lexeme, before_comment, joined, lexemes, lexemes_of_lines, lines_of, words_of_line}
 unfoldable pub use Rattle.scf_text.specs.Tokens.{lexemes_from, tokens_of}
 pub use Rattle.scf_text.specs.declared.fault.TextFault.{TextFault}
 pub use Rattle.scf_text.specs.declared.form.Field.{Field}
@@ -51,9 +51,9 @@ pub use Rattle.scf_text.specs.declared.form.Style.TheVariants.{Decimal, FourDigi
 pub use Rattle.scf_text.specs.declared.numbered_draft.NumberedDraft.{NumberedDraft}
 pub use Rattle.scf_text.specs.declared.token.Token.{Token}
 pub use Rattle.scf_text.specs.internal.Mnemonics.{form_view}
-pub use Rattle.scf_text.specs.internal.Parts.{first_statement, lines_after, statements_in, words_of_part}
+pub use Rattle.scf_text.specs.internal.Parts.{begins_comment, begins_in_word, first_statement, is_semicolon, lines_after, statements_in, words_of_part}
 unfoldable pub use Rattle.scf_text.specs.internal.Parts.{others_in, words_in}
-pub use Rattle.scf_text.specs.internal.Reading.{HaveTokens, IsLeft, Leaves, drafts_view, line_statements, places_view, with_label}
-pub use Rattle.scf_text.specs.internal.Results.{AddsInstruction, TellsInsns, TellsText}
+pub use Rattle.scf_text.specs.internal.Reading.{HaveTokens, IsLeft, Leaves, drafts_view, label_at, part_statements, places_view, statements_from, with_label}
+pub use Rattle.scf_text.specs.internal.Results.{AddsInstruction, TellsInsns, TellsText, insn_fault}
 unfoldable pub use Rattle.scf_text.specs.internal.Results.{fault_in}
 pub use Rattle.scf_text.specs.internal.Views.{draft_view}

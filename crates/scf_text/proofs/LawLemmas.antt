@@ -1,5 +1,5 @@
 -- A text spells a list exactly where it has no fault, and then only one.
-use Rattle.scf_text.proofs.Common.{◌≡◌, ℕ, suc, ◌+◌, ◌-◌, ◌<◌, ◌≤◌, ◌^◌, true, cond, eqb, ltb, List, [], ◌∷◌, ◌++◌, length, Option, Some, None, refl, sym, ap, subst, ◌∙◌, zero-add, arith, inl, inr, IsSome, option_or, option_map, option_to_list, AllByRecursion, list_any, flat_map, cases_Bool, lt-ltb, le-ltb, lt-leb, nat_tests, length-append, IsInsn, bpf_maxinsns, Insn, forms, Written, Number, Label, Draft, has_mnemonic, read_by, draft_of, is_below, is_in_range, number_of, Statement, Labels, Places, place_of, places_in, instruction_count, label_in, instruction_in, label_at, place_after, labels_from, drafts_by, drafts_in, IsRead, statements_of, labels_of, drafts_of, Says, SaysInsn, SaysEach, AreNew, Spells, ascii_fault, label_fault, draft_fault, instruction_fault, statement_fault, statements_fault, target_fault, targets_fault, all_targets_fault, fault_of}
+use Rattle.scf_text.proofs.Common.{◌≡◌, ◌≢◌, ℕ, suc, ◌+◌, ◌-◌, ◌<◌, ◌≤◌, ◌^◌, true, cond, eqb, ltb, List, [], ◌∷◌, ◌++◌, length, Option, Some, None, refl, sym, ap, subst, ◌∙◌, zero-add, arith, inl, inr, IsSome, option_or, option_map, option_to_list, AllByRecursion, list_any, flat_map, cases_Bool, lt-ltb, le-ltb, lt-leb, nat_tests, length-append, IsInsn, bpf_maxinsns, Insn, forms, Written, Number, Label, Draft, has_mnemonic, read_by, draft_of, is_below, is_in_range, number_of, Statement, Labels, Places, place_of, places_in, label_in, instruction_in, label_at, labels_from, drafts_by, drafts_in, statements_of, drafts_of, Says, SaysInsn, SaysEach, AreNew, Spells, ascii_fault, label_fault, draft_fault, instruction_fault, statement_fault, statements_fault, target_fault, targets_fault, insn_fault, fault_of}
 use Rattle.scf_text.specs.Forms.{Form}
 use Rattle.std.proofs.lemmas.List.{append-nil}
 use Rattle.scf_text.proofs.ReadLemmas.{count_more, labels_more, is_none}
@@ -43,25 +43,33 @@ new_to earlier at line (Some name) ls h = (rw h.0 refl, h.1)
 abbrev numbered : ℕ → Option Draft → List (ℕ × Draft)
 numbered line o = option_to_list (option_map (λ d. (line, d)) o)
 
-draft_from : (at line : ℕ) (o : Option Draft) → draft_fault at line o ≡ None → IsSome o
-    × (at + length (numbered line o) ≡ at + 1) × (at + 1 ≤ bpf_maxinsns)
+-- what stands there says an instruction
+abbrev IsRead : ℕ → List (List ℕ) → Type 0
+IsRead line body = drafts_by line body ≡ [] → body ≡ []
+
+draft_from : (at line : ℕ) (o : Option Draft) → draft_fault at line o ≡ None → (numbered line o ≢ [])
+    × (at + length (numbered line o) ≤ bpf_maxinsns)
 draft_from at line None h = absurd cc
 draft_from at line (Some d) h =
-    let few : at < bpf_maxinsns = grind (arith, nat_tests) in (refl, refl, omega arith)
+    let few : at < bpf_maxinsns = grind (arith, nat_tests) in (λ none. absurd cc, omega arith)
 
 instruction_from : (at line : ℕ) (body : List (List ℕ)) → at ≤ bpf_maxinsns → instruction_fault at line body ≡ None
-    → IsRead body × (at + length (drafts_by line body) ≡ place_after at body) × (place_after at body ≤ bpf_maxinsns)
-instruction_from at line [] le h = (tt, omega arith, le)
-instruction_from at line (t ∷ ts) le h = draft_from at line (draft_of t ts) (grind (arith, nat_tests))
+    → IsRead line body × (at + length (drafts_by line body) ≤ bpf_maxinsns)
+instruction_from at line [] le h = (λ none. refl, omega (arith, le))
+instruction_from at line (t ∷ ts) le h =
+    let read = draft_from at line (draft_of t ts) (grind (arith, nat_tests)) in (λ none. absurd (read.0 none), read.1)
+
+abbrev count : List Statement → ℕ
+count before = length (flat_map drafts_in before)
 
 -- no fault of a statement: the names are new, and each instruction is read, at most 4096 in all
-statements_from_none : (ss before : List Statement) → instruction_count before ≤ bpf_maxinsns
-    → statements_fault before ss ≡ None → AreNew (labels_from 0 before) (labels_from (instruction_count before) ss)
-    × AllByRecursion (λ (s : Statement). IsRead (instruction_in s.tokens)) ss
-    × (instruction_count before + length (flat_map drafts_in ss) ≤ bpf_maxinsns)
+statements_from_none : (ss before : List Statement) → count before ≤ bpf_maxinsns
+    → statements_fault before ss ≡ None → AreNew (labels_from 0 before) (labels_from (count before) ss)
+    × AllByRecursion (λ (s : Statement). IsRead s.line (instruction_in s.tokens)) ss
+    × (count before + length (flat_map drafts_in ss) ≤ bpf_maxinsns)
 statements_from_none [] before le h = (tt, tt, omega arith)
 statements_from_none (s ∷ ss) before le h =
-    let at = instruction_count before in
+    let at = count before in
     let body = instruction_in s.tokens in
     let one = both_none (statement_fault before s) (statements_fault (before ++ s ∷ []) ss) h in
     let parts =
@@ -69,11 +77,11 @@ statements_from_none (s ∷ ss) before le h =
     let read = instruction_from at s.line body le parts.1 in
     let rest =
     rw (labels_more, zero-add, count_more) at
-    (statements_from_none ss (before ++ s ∷ []) (rw count_more read.2) one.1) in (
-      new_from (labels_from 0 before) at s.line (label_in s.tokens) (labels_from (place_after at body) ss) parts.0
-          rest.0,
+    (statements_from_none ss (before ++ s ∷ []) (rw count_more read.1) one.1) in (
+      new_from (labels_from 0 before) at s.line (label_in s.tokens) (labels_from (at + length (drafts_in s)) ss)
+          parts.0 rest.0,
       (read.0, rest.1),
-      omega (arith, length-append (drafts_by s.line body) (flat_map drafts_in ss), read.1, rest.2),
+      omega (arith, length-append (drafts_by s.line body) (flat_map drafts_in ss), rest.2),
     )
 
 -- and back
@@ -98,36 +106,38 @@ front_in_range : (ds es : List (ℕ × Draft)) → InRange (ds ++ es) → InRang
 front_in_range [] es h = (tt, h)
 front_in_range (d ∷ ds) es h = let rest = front_in_range ds es h.1 in ((h.0, rest.0), rest.1)
 
-draft_to : (at line : ℕ) (o : Option Draft) → IsSome o
-    → InRange (numbered line o)
-    → at + length (numbered line o) ≤ bpf_maxinsns
-    → (draft_fault at line o ≡ None) × (at + 1 ≡ at + length (numbered line o))
-draft_to at line None read range few = absurd cc
-draft_to at line (Some d) read range few = (rw (range.0, lt-leb bpf_maxinsns at (omega arith)) refl, refl)
+read_some : (line : ℕ) (o : Option Draft) → (numbered line o ≡ [] → ⊥) → IsSome o
+read_some line None read = absurd (read refl)
+read_some line (Some d) read = refl
 
-instruction_to : (at line : ℕ) (body : List (List ℕ)) → IsRead body → InRange (drafts_by line body)
-    → at + length (drafts_by line body) ≤ bpf_maxinsns
-    → (instruction_fault at line body ≡ None) × (place_after at body ≡ at + length (drafts_by line body))
-instruction_to at line [] read range few = (refl, omega arith)
+draft_to : (at line : ℕ) (o : Option Draft) → IsSome o → InRange (numbered line o)
+    → at + length (numbered line o) ≤ bpf_maxinsns → draft_fault at line o ≡ None
+draft_to at line None read range few = absurd cc
+draft_to at line (Some d) read range few = rw (range.0, lt-leb bpf_maxinsns at (omega arith)) refl
+
+instruction_to : (at line : ℕ) (body : List (List ℕ)) → IsRead line body → InRange (drafts_by line body)
+    → at + length (drafts_by line body) ≤ bpf_maxinsns → instruction_fault at line body ≡ None
+instruction_to at line [] read range few = refl
 instruction_to at line (t ∷ ts) read range few =
-    rw (has_form t ts read) (draft_to at line (draft_of t ts) read range few)
+    let some = read_some line (draft_of t ts) (λ none. let no_body = read none in absurd cc) in
+    rw (has_form t ts some) (draft_to at line (draft_of t ts) some range few)
 
 statements_to_none : (ss before : List Statement)
-    → AreNew (labels_from 0 before) (labels_from (instruction_count before) ss)
-    → AllByRecursion (λ (s : Statement). IsRead (instruction_in s.tokens)) ss → InRange (flat_map drafts_in ss)
-    → instruction_count before + length (flat_map drafts_in ss) ≤ bpf_maxinsns → statements_fault before ss ≡ None
+    → AreNew (labels_from 0 before) (labels_from (count before) ss)
+    → AllByRecursion (λ (s : Statement). IsRead s.line (instruction_in s.tokens)) ss → InRange (flat_map drafts_in ss)
+    → count before + length (flat_map drafts_in ss) ≤ bpf_maxinsns → statements_fault before ss ≡ None
 statements_to_none [] before new read range few = refl
 statements_to_none (s ∷ ss) before new read range few =
-    let at = instruction_count before in
+    let at = count before in
     let body = instruction_in s.tokens in
     let parts = front_in_range (drafts_by s.line body) (flat_map drafts_in ss) range in
-    let count = length-append (drafts_by s.line body) (flat_map drafts_in ss) in
-    let one = instruction_to at s.line body read.0 parts.0 (omega (arith, count)) in
+    let long = length-append (drafts_by s.line body) (flat_map drafts_in ss) in
+    let one = instruction_to at s.line body read.0 parts.0 (omega (arith, long)) in
     let label =
-    new_to (labels_from 0 before) at s.line (label_in s.tokens) (labels_from (place_after at body) ss) new in
-    none_both (none_both label.0 one.0)
+    new_to (labels_from 0 before) at s.line (label_in s.tokens) (labels_from (at + length (drafts_in s)) ss) new in
+    none_both (none_both label.0 one)
     (statements_to_none ss (before ++ s ∷ []) (rw (labels_more, zero-add, count_more) label.1) read.1 parts.1
-    (rw count_more (omega (arith, count, one.1))))
+    (rw count_more (omega (arith, long))))
 
 -- what is said
 
@@ -138,7 +148,7 @@ says_value places at line limit (Label name) v h lt =
     (refl, rw (h, le-ltb (at + 1 + v) (at + 1) (omega arith), lt-leb limit (at + 1 + v - (at + 1)) (omega arith)) refl)
 
 says_insn : (places : Places) (at line : ℕ) (d : Draft) (i : Insn) → SaysInsn places at d i → IsInsn i
-    → (is_in_range d ≡ true) × (targets_fault places at line d ≡ None)
+    → (is_in_range d ≡ true) × (insn_fault places at line d ≡ None)
 says_insn places at line d i s fits =
     let jt = says_value places at line (2 ^ 8) d.jt i.jt s.jt fits.jt in
     let jf = says_value places at line (2 ^ 8) d.jf i.jf s.jf fits.jf in
@@ -147,7 +157,7 @@ says_insn places at line d i s fits =
     (rw (code, jt.0, jf.0, k.0) refl, rw (jt.1, jf.1, k.1) refl)
 
 says_each : (places : Places) (at : ℕ) (ds : List (ℕ × Draft)) (is : List Insn) → SaysEach places at ds is
-    → AllByRecursion IsInsn is → InRange ds × (all_targets_fault places at ds ≡ None) × (length ds ≡ length is)
+    → AllByRecursion IsInsn is → InRange ds × (targets_fault places at ds ≡ None) × (length ds ≡ length is)
 says_each places at [] [] s fits = (tt, refl, refl)
 says_each places at [] (i ∷ is) s fits = absurd s
 says_each places at (d ∷ ds) [] s fits = absurd s
@@ -163,26 +173,26 @@ says_each places at (d ∷ ds) (i ∷ is) s fits =
 pub no_fault : (text : List ℕ) (is : List Insn) → Spells text is → fault_of text ≡ None
 unfolding fault_of
 no_fault text is s =
-    let said = says_each (place_of (labels_of text)) 0 (drafts_of text) is s.each s.fields in
+    let said = says_each (places_in (statements_of text)) 0 (drafts_of text) is s.each s.fields in
     let read = statements_to_none (statements_of text) [] s.distinct s.read said.0
     (omega (arith, said.2, s.few)) in
     none_both (ascii_to text 1 s.ascii) (none_both read said.1)
 
 -- a text with no fault spells what its instructions say
 pub spelled : (text : List ℕ) (is : List Insn) → fault_of text ≡ None
-    → SaysEach (place_of (labels_of text)) 0 (drafts_of text) is → AllByRecursion IsInsn is → Spells text is
+    → SaysEach (places_in (statements_of text)) 0 (drafts_of text) is → AllByRecursion IsInsn is → Spells text is
 unfolding fault_of
 spelled text is none says fits =
     let outer =
     both_none (ascii_fault 1 text)
     (option_or (statements_fault [] (statements_of text))
-    (all_targets_fault (place_of (labels_of text)) 0 (drafts_of text))) none in
+    (targets_fault (places_in (statements_of text)) 0 (drafts_of text))) none in
     let inner =
     both_none (statements_fault [] (statements_of text))
-    (all_targets_fault (place_of (labels_of text)) 0 (drafts_of text)) outer.1 in
+    (targets_fault (places_in (statements_of text)) 0 (drafts_of text)) outer.1 in
     let read =
     statements_from_none (statements_of text) [] (omega arith) inner.0 in
-    let said = says_each (place_of (labels_of text)) 0 (drafts_of text) is says fits in
+    let said = says_each (places_in (statements_of text)) 0 (drafts_of text) is says fits in
     record {
       ascii = ascii_from text 1 outer.0;
       distinct = read.0;

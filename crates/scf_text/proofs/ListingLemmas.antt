@@ -1,5 +1,5 @@
 -- The lines of a listing: their tokens, and that no byte or token of them ends a line, a statement or a label.
-use Rattle.scf_text.proofs.Common.{◌≡◌, ℕ, ◌/◌, ◌%◌, ◌<◌, ◌^◌, true, false, ◌&&◌, ◌||◌, eqb, List, [], ◌∷◌, ◌++◌, length, map, Some, refl, ap, ◌∙◌, arith, ◌≤◌, Bool, ltb, None, not, list_all, flat_map, AllByRecursion, is_digit, digit_value, decimal, digits, digit_glyph, digits_value, AllDigits, IsNumeral, eqb-true, ne_eqb, lt-ltb, agree_below_at, and_parts, and_right, ltb-true, digits_is_IsNumeral, digit_from_value, is_word_byte, begins_in_word, before_comment, number_of, numeral, has_hex_prefix, is_name, nat_tests, four_digits, number_text, operands_text, piece_text, words_of_part, codes, cases_Bool, inl, inr, IsInsn, Insn, Piece, Field, Code, Jt, Jf, K, Style, Decimal, Hexadecimal, FourDigits, field_of, forms, known_forms, form_for, bytes_eq, is_semicolon, label_in, list_all-append}
+use Rattle.scf_text.proofs.Common.{◌≡◌, ℕ, ◌/◌, ◌%◌, ◌<◌, ◌^◌, true, false, ◌&&◌, ◌||◌, eqb, List, [], ◌∷◌, ◌++◌, length, map, Some, refl, ap, ◌∙◌, arith, ◌≤◌, Bool, ltb, None, not, list_all, flat_map, AllByRecursion, is_digit, digit_value, decimal, digits, digit_glyph, digits_value, AllDigits, IsNumeral, eqb-true, ne_eqb, lt-ltb, agree_below_at, and_parts, and_right, ltb-true, digits_is_IsNumeral, digit_from_value, is_word_byte, begins_in_word, before_comment, number_of, numeral, has_hex_prefix, is_name, nat_tests, number_text, operands_text, piece_text, words_of_part, codes, cases_Bool, inl, inr, IsInsn, Insn, Piece, Field, Code, Jt, Jf, K, Style, Decimal, Hexadecimal, FourDigits, field_of, forms, known_forms, form_for, bytes_eq, is_semicolon, label_in, list_all-append}
 use Rattle.scf_text.proofs.TokenLemmas.{words_nil, words_blank, words_mark, words_word, words_one, words_more, onto_word}
 use Rattle.scf_text.specs.declared.form.Piece.TheVariants as p
 use Rattle.scf_text.specs.Forms.{Form}
@@ -39,13 +39,17 @@ decimal_is n lt =
     let h = digits_is_IsNumeral 10 false (omega arith) (omega arith) n (omega arith) in
     rw (no_prefix (decimal n) h.0.1) (numeral_is 10 (decimal n) n h)
 
+-- the last four hexadecimal digits
+abbrev four_digits : ℕ → List ℕ
+four_digits n = map (λ unit. digit_glyph false (n / unit % 16)) (4096 ∷ 256 ∷ 16 ∷ 1 ∷ [])
+
 four_values : (n : ℕ) → AllDigits 16 (four_digits n)
     × (n < 2 ^ 16 → digits_value 16 (four_digits n) ≡ n)
 four_values n =
     let a = glyph_is (n / 4096 % 16) (omega arith) in
     let b = glyph_is (n / 256 % 16) (omega arith) in
     let c = glyph_is (n / 16 % 16) (omega arith) in
-    let d = glyph_is (n % 16) (omega arith) in (
+    let d = glyph_is (n / 1 % 16) (omega arith) in (
       (omega (arith, a), (omega (arith, b), (omega (arith, c), (omega (arith, d), tt)))),
       λ lt. rw (a, b, c, d) (omega arith),
     )

@@ -1,5 +1,5 @@
 -- Reading one statement after another.
-use Rattle.scf_text.proofs.Common.{◌≡◌, ◌≢◌, ℕ, ◌+◌, Bool, List, [], ◌∷◌, ◌++◌, length, Option, Some, None, Result, Ok, Err, refl, sym, ap, ◌∙◌, append_assoc, append-nil, arith, inl, inr, zero-add, fun_ext, flat_map, lookup, is_some, option_or, IsSome, option_map, bytes_eq, OnErr, cond, true, false, Bor, BTreeMap, UpdatesBy, slice_cmp, nat_cmp, btree_map_updates_str, cases_Bool, same_from_decides, nat_tests, bytes_eq-Decides, flat_map-append, TextFault, before_comment, lines_of, Statement, Labels, Places, place_of, label_in, instruction_in, instruction_count, label_at, place_after, labels_from, drafts_in, statements_from, IsFault, label_fault, instruction_fault, statement_fault, statements_fault, AddsInstruction, places_view, with_label, IsLeft, Leaves, HaveTokens, line_statements}
+use Rattle.scf_text.proofs.Common.{◌≡◌, ◌≢◌, ℕ, ◌+◌, Bool, List, [], ◌∷◌, ◌++◌, length, length-append, Option, Some, None, Result, Ok, Err, refl, sym, ap, ◌∙◌, append_assoc, append-nil, arith, inl, inr, zero-add, fun_ext, flat_map, lookup, is_some, option_or, IsSome, option_map, bytes_eq, OnErr, cond, true, false, Bor, BTreeMap, UpdatesBy, slice_cmp, nat_cmp, btree_map_updates_str, cases_Bool, same_from_decides, nat_tests, bytes_eq-Decides, flat_map-append, TextFault, before_comment, lines_of, Statement, Labels, Places, place_of, label_in, instruction_in, label_at, labels_from, drafts_in, statements_from, IsFault, label_fault, instruction_fault, statement_fault, statements_fault, AddsInstruction, places_view, with_label, IsLeft, Leaves, HaveTokens, part_statements}
 use Rattle.scf_text.specs.declared.fault.TextFault.TheVariants as fault
 use Rattle.scf_text.specs.Drafts as drafts
 use Rattle.scf_text.proofs.TokenLemmas.{statements_are}
@@ -21,20 +21,16 @@ some_between a b c some none = some (none_in_front b c (none_in_front a (b ++ c)
 
 -- one statement behind others
 
-place_twice : (n : ℕ) (a b : List (List ℕ)) → place_after (place_after n a) b ≡ place_after (place_after n b) a
-place_twice n a b = grind arith
-
-pub count_more : (before : List Statement) (s : Statement)
-    → instruction_count (before ++ s ∷ []) ≡ place_after (instruction_count before) (instruction_in s.tokens)
-count_more [] s = refl
-count_more (b ∷ before) s = grind (arith, count_more before s, place_twice)
+pub count_more : (before : List Statement) (s : Statement) → length (flat_map drafts_in (before ++ s ∷ []))
+    ≡ length (flat_map drafts_in before) + length (drafts_in s)
+count_more before s = rw (flat_map-append, append-nil, length-append) refl
 
 pub labels_more : (at : ℕ) (before : List Statement) (s : Statement)
     → labels_from at (before ++ s ∷ []) ≡ labels_from at before
-    ++ label_at (at + instruction_count before) (label_in s.tokens)
+    ++ label_at (at + length (flat_map drafts_in before)) (label_in s.tokens)
 labels_more at [] s = grind (arith, append-nil)
 labels_more at (b ∷ before) s =
-    grind (arith, labels_more (place_after at (instruction_in b.tokens)) before s, append_assoc)
+    grind (arith, labels_more (at + length (drafts_in b)) before s, append_assoc, length-append)
 
 or_none : {A : Type 0} (a : Option A) → option_or a None ≡ a
 or_none None = refl
@@ -78,17 +74,16 @@ statement_read : (s : Statement) (all rest : List Statement) (p q : Places) (ds 
     → IsLeft all (s ∷ rest) p ds → label_fault p s.line (label_in s.tokens) ≡ None
     → instruction_fault (length ds) s.line (instruction_in s.tokens) ≡ None
     → q ≡ with_label p (length ds) (label_in s.tokens) → es ≡ ds ++ drafts_in s
-    → length es ≡ place_after (length ds) (instruction_in s.tokens) → IsLeft all rest q es
-statement_read s all rest p q ds es h new none e f n =
+    → IsLeft all rest q es
+statement_read s all rest p q ds es h new none e f =
     let label = rw h.places at new in
-    let instruction = rw h.count at none in
+    let instruction = rw h.drafts at none in
     record {
       before = h.before ++ s ∷ [];
       whole = h.whole ∙ sym (append_assoc h.before (s ∷ []) rest);
-      places = e ∙ rw (h.places, h.count, labels_more 0 h.before s, zero-add (instruction_count h.before))
-          (label_kept (labels_from 0 h.before) (instruction_count h.before) s.line (label_in s.tokens) label);
+      places = e ∙ rw (h.places, h.drafts, labels_more 0 h.before s, zero-add (length (flat_map drafts_in h.before)))
+          (label_kept (labels_from 0 h.before) (length (flat_map drafts_in h.before)) s.line (label_in s.tokens) label);
       drafts = f ∙ rw (h.drafts, flat_map-append, append-nil) refl;
-      count = n ∙ rw h.count (sym (count_more h.before s));
       fault = h.fault ∙ rw (label, instruction) refl;
     }
 
@@ -101,7 +96,7 @@ pub statement_refused : (e : TextFault) (s : Statement) (all rest : List Stateme
 statement_refused e s all rest p ds h some refused = (
   rw h.fault
       (fault_first e (statement_fault h.before s) (statements_fault (h.before ++ s ∷ []) rest)
-      (rw (h.places, h.count) at refused)),
+      (rw (h.places, h.drafts) at refused)),
   rw (h.whole, flat_map-append)
       (some_between (flat_map (λ (t : Statement). t.tokens) h.before) s.tokens
       (flat_map (λ (t : Statement). t.tokens) rest) some),
@@ -112,7 +107,7 @@ pub statement_leaves : {T : Type 0} (r : Result T TextFault) (s : Statement) (al
     → q ≡ with_label p (length ds) (label_in s.tokens)
     → AddsInstruction ds s.line (instruction_in s.tokens) r es → OnErr r (s.tokens ≢ []) → Leaves r all rest q es
 statement_leaves (Ok x) s all rest p q ds es left new e h some =
-    statement_read s all rest p q ds es left new h.0 e h.1 h.2
+    statement_read s all rest p q ds es left new h.0 e h.1
 statement_leaves (Err e) s all rest p q ds es left new kept h some =
     statement_refused e s all rest p ds left some
     (fault_then e (label_fault p s.line (label_in s.tokens))
@@ -149,5 +144,5 @@ some_refused (Err x) ts us e some = λ none. some (e ∙ rw none refl)
 -- a line is read before the lines behind it
 pub next_line : (n : ℕ) (text line bytes : List ℕ) (lines : List (List ℕ)) → lines_of text ≡ line ∷ lines
     → bytes ≡ before_comment line
-    → statements_from n (lines_of text) ≡ line_statements n bytes ++ statements_from (n + 1) lines
+    → statements_from n (lines_of text) ≡ part_statements n bytes ++ statements_from (n + 1) lines
 next_line n text line bytes lines e shown = rw (e, shown, statements_are) refl

@@ -1,5 +1,5 @@
 -- Each form is read as it is listed, and the canonical text of instructions spells them.
-use Rattle.scf_text.proofs.Common.{words_of_part, ◌≡◌, ℕ, true, false, eqb, Option, None, Some, refl, sym, ◌+◌, ◌<◌, ◌≤◌, List, [], ◌∷◌, ◌++◌, length, map, ap, subst, ◌∙◌, append_assoc, arith, if◌then◌else◌, list_any, flat_map, AllByRecursion, list_all, slice_split, and_from, nat_tests, IsInsn, Insn, Code, Jt, Jf, K, names, tells_all, form_for, forms, known_forms, Number, Draft, draft_of, Places, Statement, place_of, is_semicolon, tokens_of_statements, statements_from, label_in, instruction_in, labels_from, drafts_in, IsRead, SaysInsn, SaysEach, Spells, All-from_recursion, slice_split_at, slice_split_none, bpf_maxinsns, Lexeme, lines_of, before_comment, lexemes_from, operands_text, line_of, text_of}
+use Rattle.scf_text.proofs.Common.{words_of_part, ◌≡◌, ℕ, true, false, eqb, Option, None, Some, refl, sym, ◌+◌, ◌<◌, ◌≤◌, List, [], ◌∷◌, ◌++◌, length, map, ap, subst, ◌∙◌, append_assoc, arith, if◌then◌else◌, list_any, flat_map, AllByRecursion, list_all, slice_split, and_from, nat_tests, IsInsn, Insn, Code, Jt, Jf, K, names, tells_all, form_for, forms, known_forms, Number, Draft, draft_of, Places, Statement, place_of, is_semicolon, words_of_line, statements_from, label_in, instruction_in, labels_from, drafts_in, SaysInsn, SaysEach, Spells, All-from_recursion, slice_split_at, slice_split_none, bpf_maxinsns, Lexeme, lines_of, before_comment, lexemes_from, operands_text, line_of, text_of}
 use Rattle.scf_text.proofs.TokenLemmas.{words_nil, all_append}
 use Rattle.scf_text.proofs.ListingLemmas.{hexadecimal_is, decimal_is, decimal_no_name, four_digits_is, piece_words}
 use Rattle.scf_text.proofs.ListingLemmas.{each_same, name_of, field_small, mnemonic_wordy, line_words, is_plain, wordy_plain}
@@ -60,7 +60,7 @@ says_back places at i =
     (each_same (λ (f : Form). f) (λ f. f) forms refl) (λ f _ all. tells_says places at i f all)
     (record { code = refl; jt = refl; jf = refl; k = refl })
 
-line_tokens : (i : Insn) → IsInsn i → tokens_of_statements (body i) ≡ (name_of i ∷ operands i) ∷ []
+line_tokens : (i : Insn) → IsInsn i → slice_split is_semicolon (words_of_line (body i)) ≡ (name_of i ∷ operands i) ∷ []
 line_tokens i fits =
     let found : map (λ (l : Lexeme). l.text) (lexemes_from 0 (before_comment (body i))) ≡ name_of i ∷ operands i =
     ap words_of_part (no_comment (body i) (body_line i fits))
@@ -103,12 +103,12 @@ unlabeled i fits = no_label (name_of i) (operands i) (operands_plain i fits)
 
 -- no statement has a label, and each says its instruction
 listed : (places : Places) (at n : ℕ) (is : List Insn) → AllByRecursion IsInsn is → (labels_from at (listing n is) ≡ [])
-    × AllByRecursion (λ (s : Statement). IsRead (instruction_in s.tokens)) (listing n is)
+    × AllByRecursion (λ (s : Statement). drafts_in s ≡ [] → instruction_in s.tokens ≡ []) (listing n is)
     × SaysEach places at (flat_map drafts_in (listing n is)) is
-listed places at n [] fits = (refl, (tt, tt), tt)
+listed places at n [] fits = (refl, (λ none. refl, tt), tt)
 listed places at n (i ∷ is) fits =
     let rest = listed places (at + 1) (n + 1) is fits.1 in
-    rw (unlabeled i fits.0, reads_back i fits.0) (rest.0, (refl, rest.1), (says_back places at i, rest.2))
+    rw (unlabeled i fits.0, reads_back i fits.0) (rest.0, (λ none. absurd cc, rest.1), (says_back places at i, rest.2))
 
 ascii : (is : List Insn) → AllByRecursion IsInsn is → AllByRecursion (λ b. b < 128) (text_of is)
 ascii [] fits = tt

@@ -1,5 +1,5 @@
 -- What reading a text gives.
-use Rattle.scf_text.proofs.Common.{◌≡◌, ◌≢◌, ℕ, List, [], Option, Some, None, Result, Ok, Err, refl, sym, ap, ◌∙◌, append-nil, flat_map, option_or, IfOk, IfErr, Vec, Bor, BTreeMap, IsEmpty, is_at, slice_cmp, lookup, nat_cmp, fun_ext, Insn, TextFault, Statement, Places, place_of, places_in, statements_of, labels_of, drafts_in, drafts_of, Spells, ascii_fault, statements_fault, all_targets_fault, fault_of, IsFault, NumberedDraft, TellsInsns, TellsText, fault_in, places_view, drafts_view, IsLeft}
+use Rattle.scf_text.proofs.Common.{◌≡◌, ◌≢◌, ℕ, List, [], Option, Some, None, Result, Ok, Err, refl, sym, ap, ◌∙◌, append-nil, flat_map, option_or, IfOk, IfErr, Vec, Bor, BTreeMap, IsEmpty, is_at, slice_cmp, lookup, nat_cmp, fun_ext, Insn, TextFault, Statement, Places, places_in, statements_of, drafts_in, drafts_of, Spells, ascii_fault, statements_fault, targets_fault, fault_of, IsFault, NumberedDraft, TellsInsns, TellsText, fault_in, places_view, drafts_view, IsLeft}
 use Rattle.scf_text.specs.declared.fault.TextFault.TheVariants as fault
 use Rattle.scf_text.specs.Drafts as drafts
 use Rattle.scf_text.proofs.ReadLemmas.{fault_first, fault_then}
@@ -14,7 +14,7 @@ pub statements_fail : (x : TextFault) (text : List ℕ) → IsFault x (statement
 unfolding fault_in
 statements_fail x text h =
     fault_first x (statements_fault [] (statements_of text))
-    (all_targets_fault (place_of (labels_of text)) 0 (drafts_of text)) h
+    (targets_fault (places_in (statements_of text)) 0 (drafts_of text)) h
 
 tells_then : (a b : Option TextFault) (places : Places) (written : List (ℕ × drafts.Draft))
     (r : Result (Vec Insn) TextFault) → a ≡ None → TellsInsns b places written r
@@ -30,7 +30,6 @@ nothing_read all kept lines empty none = record {
   whole = refl;
   places = fun_ext λ name. ap (lookup (is_at (λ key. slice_cmp nat_cmp name key.now))) empty;
   drafts = rw none refl;
-  count = rw none refl;
   fault = refl;
 }
 
@@ -40,14 +39,15 @@ pub drafts_read : (all : List Statement) (places : Places) (ds : List (ℕ × dr
 drafts_read all places ds left = left.drafts ∙ rw (left.whole, append-nil) refl
 
 pub text_tells : (text : List ℕ) (places : Places) (ds : List (ℕ × drafts.Draft)) (r : Result (Vec Insn) TextFault)
-    → IsLeft (statements_of text) [] places ds → TellsInsns (all_targets_fault places 0 ds) places ds r
+    → IsLeft (statements_of text) [] places ds → TellsInsns (targets_fault places 0 ds) places ds r
     → TellsText (fault_in text) text r
 unfolding fault_in
 text_tells text places ds r left h =
-    let named : places ≡ place_of (labels_of text) =
+    let named : places ≡ places_in (statements_of text) =
     left.places ∙ ap places_in (sym (left.whole ∙ append-nil left.before)) in
     tells_then (statements_fault [] (statements_of text))
-    (all_targets_fault (place_of (labels_of text)) 0 (drafts_of text)) (place_of (labels_of text)) (drafts_of text) r
+    (targets_fault (places_in (statements_of text)) 0 (drafts_of text)) (places_in (statements_of text))
+    (drafts_of text) r
     left.fault (rw (named, drafts_read (statements_of text) places ds left) at h)
 
 pub ascii_fails : (e : TextFault) (text : List ℕ) → ascii_fault 1 text ≡ Some e → IsFault e (fault_of text)
@@ -58,7 +58,7 @@ pub ascii_tells : (text : List ℕ) (r : Result (Vec Insn) TextFault) → ascii_
     → TellsText (fault_in text) text r → TellsText (fault_of text) text r
 unfolding fault_of fault_in
 ascii_tells text r none h =
-    tells_then (ascii_fault 1 text) (fault_in text) (place_of (labels_of text)) (drafts_of text) r none h
+    tells_then (ascii_fault 1 text) (fault_in text) (places_in (statements_of text)) (drafts_of text) r none h
 
 pub is_spelled : (text : List ℕ) (r : Result (Vec Insn) TextFault) → TellsText (fault_of text) text r
     → IfOk r (λ insns. Spells text insns.items)

@@ -1,6 +1,6 @@
 -- The bytes of a text (ASCII).
 use Prim.Native.Char.{code}
-use Rattle.std.specs.Prelude.{ℕ, Bool, ◌==◌, ◌||◌}
+use Rattle.std.specs.Prelude.{ℕ, Bool, false, ◌==◌, ◌||◌, List, [], ◌∷◌}
 use Rattle.std.specs.Char.{is_ascii_alphabetic, is_ascii_alphanumeric}
 
 abbrev pub is_line_end : ℕ → Bool
@@ -13,6 +13,11 @@ is_blank b = b == code " " || b == code "\t" || b == code "\r"
 -- a letter or `_`
 abbrev pub is_name_start : ℕ → Bool
 is_name_start b = is_ascii_alphabetic b || b == code "_"
+
+-- the bytes begin with one of these
+abbrev pub begins_in : (ℕ → Bool) → List ℕ → Bool
+begins_in p [] = false
+begins_in p (b ∷ bs) = p b
 
 -- a letter, a digit or `_`
 abbrev pub is_word_byte : ℕ → Bool

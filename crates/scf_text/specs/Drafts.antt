@@ -1,5 +1,5 @@
 -- What the tokens of an instruction say.
-use Rattle.std.specs.Prelude.{ℕ, ◌&&◌, ◌^◌, Bool, true, false, List, [], ◌∷◌, Option, Some, None, nat_lt, codes}
+use Rattle.std.specs.Prelude.{ℕ, ◌&&◌, ◌^◌, Bool, true, List, [], ◌∷◌, Option, Some, None, nat_lt, codes}
 use Rattle.std.specs.Prelude.{if◌then◌else◌}
 use Rattle.std.specs.Option.{option_map, option_and_then, option_or}
 use Rattle.std.specs.List.{list_any}
@@ -9,7 +9,7 @@ use Rattle.scf_text.specs.declared.form.Piece.{Piece}
 use Rattle.scf_text.specs.declared.form.Piece.TheVariants as p
 use Rattle.scf_text.specs.declared.form.Field.{Field}
 use Rattle.scf_text.specs.declared.form.Field.TheVariants.{Code, Jt, Jf, K}
-use Rattle.scf_text.specs.Characters.{is_name_start}
+use Rattle.scf_text.specs.Characters.{is_name_start, begins_in}
 use Rattle.scf_text.specs.Forms.{Form, forms}
 
 -- what stands for a field: a number, or the name of a place
@@ -26,8 +26,7 @@ pub record Draft : Type 0 where
 
 -- a token is a name where it begins with a letter or `_`
 abbrev pub is_name : List ℕ → Bool
-is_name [] = false
-is_name (b ∷ bs) = is_name_start b
+is_name = begins_in is_name_start
 
 abbrev pub with_field : Field → Written → Draft → Draft
 with_field Code (Number n) d = record { code = n; jt = d.jt; jf = d.jf; k = d.k }

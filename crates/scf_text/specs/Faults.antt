@@ -1,16 +1,16 @@
 -- The first fault of a text.
-use Rattle.std.specs.Prelude.{◌≡◌, ℕ, ◌+◌, ◌-◌, ◌||◌, ◌^◌, not, List, [], ◌∷◌, ◌++◌, Option, Some, None, nat_lt}
-use Rattle.std.specs.Prelude.{nat_le, if◌then◌else◌}
-use Rattle.std.specs.Option.{is_some, option_or}
-use Rattle.std.specs.List.{list_any}
+use Rattle.std.specs.Prelude.{◌≡◌, ℕ, ◌+◌, ◌-◌, ◌||◌, ◌^◌, not, List, [], ◌∷◌, ◌++◌, length, Option, Some, None}
+use Rattle.std.specs.Prelude.{nat_le, nat_lt, if◌then◌else◌}
+use Rattle.std.specs.Option.{is_some, option_and_then, option_or}
+use Rattle.std.specs.List.{flat_map, list_any}
 use Rattle.scf_insn.specs.Kernel.{bpf_maxinsns}
 use Rattle.scf_text.specs.declared.fault.TextFault.{TextFault}
 use Rattle.scf_text.specs.declared.fault.TextFault.TheVariants as fault
 use Rattle.scf_text.specs.Characters.{is_line_end}
 use Rattle.scf_text.specs.Forms.{forms}
 use Rattle.scf_text.specs.Drafts.{Written, Number, Label, Draft, draft_of, has_mnemonic, is_in_range}
-use Rattle.scf_text.specs.Statements.{Statement, Places, place_of, places_in, statements_of, labels_of, drafts_of}
-use Rattle.scf_text.specs.Statements.{label_in, instruction_in, instruction_count}
+use Rattle.scf_text.specs.Statements.{Statement, Places, places_in, statements_of, drafts_in, drafts_of}
+use Rattle.scf_text.specs.Statements.{label_in, instruction_in}
 
 -- The fault is the first one, or want of memory.
 abbrev pub IsFault : TextFault → Option TextFault → Type 0
@@ -25,8 +25,7 @@ ascii_fault line (b ∷ bs) =
 
 -- the label has a place already
 abbrev pub label_fault : Places → ℕ → Option (List ℕ) → Option TextFault
-label_fault places line None = None
-label_fault places line (Some name) = if is_some (places name) then Some (fault.Label line) else None
+label_fault places line = option_and_then (λ name. if is_some (places name) then Some (fault.Label line) else None)
 
 -- the tokens have no form, a number doesn't fit, or the most instructions stand before this one
 abbrev pub draft_fault : ℕ → ℕ → Option Draft → Option TextFault
@@ -44,7 +43,7 @@ instruction_fault at line (t ∷ ts) =
 abbrev pub statement_fault : List Statement → Statement → Option TextFault
 statement_fault before s =
     option_or (label_fault (places_in before) s.line (label_in s.tokens))
-    (instruction_fault (instruction_count before) s.line (instruction_in s.tokens))
+    (instruction_fault (length (flat_map drafts_in before)) s.line (instruction_in s.tokens))
 
 -- the first fault of statements behind others
 abbrev pub statements_fault : List Statement → List Statement → Option TextFault
@@ -61,21 +60,17 @@ abbrev pub target_fault : Places → ℕ → ℕ → ℕ → Written → Option 
 target_fault places at line limit (Number n) = None
 target_fault places at line limit (Label name) = reach_fault at line limit (places name)
 
--- the targets of an instruction: of a conditional jump its JT and then its JF
-abbrev pub targets_fault : Places → ℕ → ℕ → Draft → Option TextFault
-targets_fault places at line d =
-    option_or (target_fault places at line (2 ^ 8) d.jt)
-    (option_or (target_fault places at line (2 ^ 8) d.jf) (target_fault places at line (2 ^ 32) d.k))
-
--- the targets of instructions with their lines, the first at this place
-abbrev pub all_targets_fault : Places → ℕ → List (ℕ × Draft) → Option TextFault
-all_targets_fault places at [] = None
-all_targets_fault places at (d ∷ ds) =
-    option_or (targets_fault places at d.0 d.1) (all_targets_fault places (at + 1) ds)
+-- The targets of instructions with their lines, the first at this place: of a conditional jump its JT and then its JF.
+abbrev pub targets_fault : Places → ℕ → List (ℕ × Draft) → Option TextFault
+targets_fault places at [] = None
+targets_fault places at (d ∷ ds) =
+    let first = target_fault places at d.0 in
+    option_or (option_or (first (2 ^ 8) d.1.jt) (option_or (first (2 ^ 8) d.1.jf) (first (2 ^ 32) d.1.k)))
+    (targets_fault places (at + 1) ds)
 
 -- The first fault: first of all a byte that isn't ASCII, then the first fault of a statement, then the first wrong
 -- target.
 unfoldable pub fault_of : List ℕ → Option TextFault
 fault_of text =
     option_or (ascii_fault 1 text) (option_or (statements_fault [] (statements_of text))
-    (all_targets_fault (place_of (labels_of text)) 0 (drafts_of text)))
+    (targets_fault (places_in (statements_of text)) 0 (drafts_of text)))

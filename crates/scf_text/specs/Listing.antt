@@ -1,6 +1,6 @@
 -- The canonical text of instructions.
 use Prim.Native.Char.{code}
-use Rattle.std.specs.Prelude.{ℕ, ◌/◌, ◌%◌, ◌==◌, false, List, [], ◌∷◌, ◌++◌, codes, if◌then◌else◌}
+use Rattle.std.specs.Prelude.{ℕ, ◌/◌, ◌%◌, ◌==◌, false, List, [], ◌∷◌, ◌++◌, codes, map, if◌then◌else◌}
 use Rattle.std.specs.List.{flat_map}
 use Rattle.std.specs.Fmt.{decimal, digits, digit_glyph}
 use Rattle.scf_insn.specs.declared.insn.Insn.{Insn}
@@ -10,16 +10,12 @@ use Rattle.scf_text.specs.declared.form.Style.{Style}
 use Rattle.scf_text.specs.declared.form.Style.TheVariants.{Decimal, Hexadecimal, FourDigits}
 use Rattle.scf_text.specs.Forms.{field_of, form_for}
 
--- the last four hexadecimal digits
-abbrev pub four_digits : ℕ → List ℕ
-four_digits n =
-    digit_glyph false (n / 4096 % 16) ∷ digit_glyph false (n / 256 % 16)
-    ∷ digit_glyph false (n / 16 % 16) ∷ digit_glyph false (n % 16) ∷ []
-
+-- four digits are the last hexadecimal ones
 abbrev pub number_text : Style → ℕ → List ℕ
 number_text Decimal n = decimal n
 number_text Hexadecimal n = codes "0x" ++ digits 16 false n
-number_text FourDigits n = codes "0x" ++ four_digits n
+number_text FourDigits n =
+    codes "0x" ++ map (λ unit. digit_glyph false (n / unit % 16)) (4096 ∷ 256 ∷ 16 ∷ 1 ∷ [])
 
 -- what stands for a piece, with one blank behind a comma
 abbrev pub piece_text : Insn → Piece → List ℕ

@@ -5,8 +5,8 @@ use Rattle.scf_insn.specs.Insn.{IsInsn}
 use Rattle.scf_insn.specs.Kernel.{bpf_maxinsns}
 use Rattle.scf_insn.specs.declared.insn.Insn.{Insn}
 use Rattle.scf_text.specs.Drafts.{Written, Number, Label, Draft}
-use Rattle.scf_text.specs.Statements.{Statement, Labels, Places, place_of, statements_of, labels_of, drafts_of}
-use Rattle.scf_text.specs.Statements.{instruction_in, IsRead}
+use Rattle.scf_text.specs.Statements.{Statement, Labels, Places, place_of, places_in, statements_of, labels_from}
+use Rattle.scf_text.specs.Statements.{instruction_in, drafts_in, drafts_of}
 
 -- What is written says the number. A name says how far its place is behind the next instruction.
 abbrev pub Says : Places → ℕ → Written → ℕ → Type 0
@@ -23,9 +23,8 @@ pub record SaysInsn (places : Places) (at : ℕ) (d : Draft) (i : Insn) : Type 0
 -- These say the instructions in order, the first at this place.
 abbrev pub SaysEach : Places → ℕ → List (ℕ × Draft) → List Insn → Type 0
 SaysEach places at [] [] = Unit {0}
-SaysEach places at [] (i ∷ is) = ⊥
-SaysEach places at (d ∷ ds) [] = ⊥
 SaysEach places at (d ∷ ds) (i ∷ is) = SaysInsn places at d.1 i × SaysEach places (at + 1) ds is
+SaysEach places at _ _ = ⊥
 
 -- each of the names is new: no earlier label has it
 abbrev pub AreNew : Labels → Labels → Type 0
@@ -36,8 +35,8 @@ AreNew earlier (l ∷ ls) = (place_of earlier l.0 ≡ None) × AreNew (earlier +
 -- instructions, and they say the list, which has at most as many as a filter may have.
 pub record Spells (text : List ℕ) (is : List Insn) : Type 0 where
   pub ascii : AllByRecursion (λ b. b < 128) text
-  pub distinct : AreNew [] (labels_of text)
+  pub distinct : AreNew [] (labels_from 0 (statements_of text))
   pub few : length is ≤ bpf_maxinsns
   pub fields : AllByRecursion IsInsn is
-  pub read : AllByRecursion (λ (s : Statement). IsRead (instruction_in s.tokens)) (statements_of text)
-  pub each : SaysEach (place_of (labels_of text)) 0 (drafts_of text) is
+  pub read : AllByRecursion (λ (s : Statement). drafts_in s ≡ [] → instruction_in s.tokens ≡ []) (statements_of text)
+  pub each : SaysEach (places_in (statements_of text)) 0 (drafts_of text) is

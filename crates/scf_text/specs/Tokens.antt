@@ -1,10 +1,10 @@
 -- The tokens of a text.
 use Prim.Native.Char.{code}
-use Rattle.std.specs.Prelude.{◌≡◌, ℕ, ◌+◌, Bool, false, ◌==◌, ◌&&◌, List, [], ◌∷◌, ◌++◌, length, map, take, drop}
+use Rattle.std.specs.Prelude.{◌≡◌, ℕ, ◌+◌, ◌==◌, ◌&&◌, List, [], ◌∷◌, ◌++◌, length, map, take, drop}
 use Rattle.std.specs.Prelude.{if◌then◌else◌}
 use Rattle.std.specs.List.{slice_split}
 use Rattle.scf_text.specs.declared.token.Token.{Token}
-use Rattle.scf_text.specs.Characters.{is_line_end, is_blank, is_word_byte}
+use Rattle.scf_text.specs.Characters.{is_line_end, is_blank, is_word_byte, begins_in}
 
 -- a token, and the place in the text where it begins
 pub record Lexeme : Type 0 where
@@ -22,25 +22,11 @@ lexemes tokens = map lexeme tokens
 abbrev pub lines_of : List ℕ → List (List ℕ)
 lines_of text = slice_split is_line_end text
 
--- the bytes begin with this one
-abbrev pub begins_with : ℕ → List ℕ → Bool
-begins_with c [] = false
-begins_with c (b ∷ bs) = b == c
-
--- the bytes begin with `//`
-abbrev pub begins_comment : List ℕ → Bool
-begins_comment [] = false
-begins_comment (b ∷ bs) = b == code "/" && begins_with (code "/") bs
-
 -- a line without its comment, which goes from the first `//` to the end
 abbrev pub before_comment : List ℕ → List ℕ
 before_comment [] = []
-before_comment (b ∷ bs) = if begins_comment (b ∷ bs) then [] else b ∷ before_comment bs
-
--- the bytes begin with one of a word
-abbrev pub begins_in_word : List ℕ → Bool
-begins_in_word [] = false
-begins_in_word (b ∷ bs) = is_word_byte b
+before_comment (b ∷ bs) =
+    if b == code "/" && begins_in (λ c. c == code "/") bs then [] else b ∷ before_comment bs
 
 -- the byte at this place, in front of the first of the tokens
 abbrev pub joined : ℕ → ℕ → List Lexeme → List Lexeme
@@ -53,7 +39,7 @@ unfoldable pub lexemes_from : ℕ → List ℕ → List Lexeme
 lexemes_from at [] = []
 lexemes_from at (b ∷ bs) =
     if is_blank b then lexemes_from (at + 1) bs
-    else if is_word_byte b && begins_in_word bs then joined at b (lexemes_from (at + 1) bs)
+    else if is_word_byte b && begins_in is_word_byte bs then joined at b (lexemes_from (at + 1) bs)
     else record { start = at; text = b ∷ [] } ∷ lexemes_from (at + 1) bs
 
 -- the tokens of lines, the first of which begins at this place

@@ -6,7 +6,7 @@ ghost use Rattle.scf_text.specs.Drafts.{is_below};
 ghost use Rattle.scf_text.specs.Statements.{Statement, statements_of};
 ghost use Rattle.scf_text.specs.Spelling.{Spells};
 ghost use Rattle.scf_text.specs.Tokens.{tokens_of};
-ghost use Rattle.scf_text.specs.Faults.{IsFault, ascii_fault, all_targets_fault, fault_of};
+ghost use Rattle.scf_text.specs.Faults.{IsFault, ascii_fault, targets_fault, fault_of};
 ghost use Rattle.scf_text.specs.internal.Reading.{places_view, drafts_view, HaveTokens, IsLeft, Leaves};
 ghost use Rattle.scf_text.specs.internal.Results.{TellsTarget, TellsInsn, TellsInsns, TellsText, fault_in};
 ghost use Rattle.scf_text.specs.internal.Views.{written_view, draft_view};
@@ -124,7 +124,7 @@ fn resolve_all<'a>(
     places: &Places<'a>,
     drafts: &[NumberedDraft<'a>],
 ) -> Result<Vec<Insn>, TextFault>
-    ensures tells { TellsInsns (all_targets_fault (places_view places.now) 0 (drafts_view drafts.now))
+    ensures tells { TellsInsns (targets_fault (places_view places.now) 0 (drafts_view drafts.now))
         (places_view places.now) (drafts_view drafts.now) result }
     ensures some { OnErr result (0 < length drafts.now) }
 {

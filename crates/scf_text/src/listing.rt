@@ -4,7 +4,8 @@ ghost use Rattle.std.specs.List.{flat_map};
 ghost use Rattle.std.specs.Fmt.{digits};
 ghost use Rattle.scf_insn.specs.Streams.{Writes};
 ghost use Rattle.scf_text.specs.Forms.{field_of};
-ghost use Rattle.scf_text.specs.Listing.{four_digits, number_text, piece_text, operands_text, line_of, text_of};
+ghost use Rattle.scf_text.specs.Listing.{number_text, piece_text, operands_text, line_of, text_of};
+ghost use Rattle.scf_text.specs.declared.form.Style.TheVariants.{FourDigits};
 ghost use Rattle.scf_text.specs.internal.Mnemonics.{mnemonic_text};
 
 use crate::form::{Field, Form, Mnemonic, Piece, Style};
@@ -12,7 +13,7 @@ use scf_insn::{Insn, Sink, WriteFault, digit_byte, write_numeral, write_whole};
 
 /// Writes `0x` and the last four hexadecimal digits.
 fn write_code<S: Sink>(sink: &mut S, code: u32) -> Result<(), WriteFault>
-    ensures { Writes S.contents S.failures sink.old (codes "0x" ++ four_digits code) result sink.new }
+    ensures { Writes S.contents S.failures sink.old (number_text FourDigits code) result sink.new }
 {
     let digits = [
         b'0',

@@ -2,7 +2,7 @@
 ghost use Rattle.std.specs.Prelude.{◌≡◌, ◌≢◌, ◌∷◌, ◌++◌, [], List, IfOk, OnErr, IsSome};
 ghost use Rattle.std.specs.Option.{option_map};
 ghost use Rattle.scf_text.specs.Statements.{Statement, label_in, instruction_in};
-ghost use Rattle.scf_text.specs.internal.Reading.{places_view, drafts_view, IsLeft, Leaves, line_statements};
+ghost use Rattle.scf_text.specs.internal.Reading.{places_view, drafts_view, IsLeft, Leaves, part_statements};
 ghost use Rattle.scf_text.specs.internal.Parts.{words_in, others_in, words_at, others_at, statements_after};
 ghost use Rattle.scf_text.specs.internal.Results.{TellsDraft, AddsLabel, AddsInstruction};
 ghost use Rattle.scf_text.specs.internal.Views.{draft_view};
@@ -136,7 +136,7 @@ pub(crate) fn add_line<'a>(
     line: usize,
 ) -> Result<(), TextFault>
     ensures { (all rest : List Statement)
-        → IsLeft all (line_statements line bytes.now ++ rest) (places_view places.old) (drafts_view drafts.old.items)
+        → IsLeft all (part_statements line bytes.now ++ rest) (places_view places.old) (drafts_view drafts.old.items)
         → Leaves result all rest (places_view places.new) (drafts_view drafts.new.items) }
 {
     let mut rest = bytes;

@@ -3,9 +3,9 @@ ghost use Rattle.std.specs.Prelude.{◌≡◌, ◌≢◌, ℕ, ◌+◌, ◌≤�
 ghost use Rattle.std.specs.Prelude.{OnOk, OnErr, IfOk, IfSome, MatchOption};
 ghost use Rattle.std.specs.List.{All, prefix_len};
 ghost use Rattle.scf_text.specs.Characters.{is_line_end, is_blank, is_word_byte};
-ghost use Rattle.scf_text.specs.Tokens.{begins_comment, before_comment, lexemes_from, lines_of, tokens_of};
+ghost use Rattle.scf_text.specs.Tokens.{before_comment, lexemes_from, lines_of, tokens_of};
 ghost use Rattle.scf_text.specs.Tokens.{IsSliceOf, lexemes};
-ghost use Rattle.scf_text.specs.internal.Parts.{lines_after};
+ghost use Rattle.scf_text.specs.internal.Parts.{begins_comment, lines_after};
 
 use scf_insn::Memory;
 use std::alloc::{AllocError, Global};

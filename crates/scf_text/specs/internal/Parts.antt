@@ -1,11 +1,24 @@
 -- Parts of a line, which begin in one of its statements.
-use Rattle.std.specs.Prelude.{ℕ, List, [], ◌∷◌, map, drop, Option, Some, None}
+use Prim.Native.Char.{code}
+use Rattle.std.specs.Prelude.{ℕ, Bool, false, ◌==◌, ◌&&◌, List, [], ◌∷◌, map, drop, Option, Some, None, codes}
+use Rattle.std.specs.Str.{bytes_eq}
 use Rattle.std.specs.Borrow.{Bor}
 use Rattle.std.specs.List.{slice_split}
 use Rattle.scf_text.specs.declared.part.Next.{Next}
 use Rattle.scf_text.specs.declared.part.Next.TheVariants.{Token, End}
 use Rattle.scf_text.specs.Tokens.{Lexeme, lexemes_from, lines_of}
-use Rattle.scf_text.specs.Statements.{is_semicolon}
+use Rattle.scf_text.specs.Characters.{is_word_byte, begins_in}
+
+-- the bytes begin with `//`
+abbrev pub begins_comment : List ℕ → Bool
+begins_comment [] = false
+begins_comment (b ∷ bs) = b == code "/" && begins_in (λ c. c == code "/") bs
+
+abbrev pub begins_in_word : List ℕ → Bool
+begins_in_word = begins_in is_word_byte
+
+abbrev pub is_semicolon : List ℕ → Bool
+is_semicolon t = bytes_eq t (codes ";")
 
 -- the texts of the tokens of a part
 abbrev pub words_of_part : List ℕ → List (List ℕ)

@@ -1,6 +1,6 @@
 -- What the functions of the assembler answer: what was asked for, or the fault that stands in its place.
-use Rattle.std.specs.Prelude.{◌≡◌, ℕ, ◌<◌, Bool, true, false, List, [], ◌∷◌, ◌++◌, length, Option, Some, None, Result, Ok}
-use Rattle.std.specs.Prelude.{Err, IsTrue}
+use Rattle.std.specs.Prelude.{◌≡◌, ℕ, ◌<◌, ◌^◌, Bool, true, false, List, [], ◌∷◌, ◌++◌, length, Option, Some, None}
+use Rattle.std.specs.Prelude.{Result, Ok, Err, IsTrue}
 use Rattle.std.specs.List.{AllByRecursion}
 use Rattle.std.specs.Option.{option_or}
 use Rattle.std.specs.Global.{Vec}
@@ -11,9 +11,9 @@ use Rattle.scf_text.specs.declared.draft.Reading.TheVariants.{Unknown, Unfit, Sa
 use Rattle.scf_text.specs.declared.fault.TextFault.{TextFault}
 use Rattle.scf_text.specs.Drafts as drafts
 use Rattle.scf_text.specs.Faults.{IsFault, label_fault, instruction_fault, statements_fault}
-use Rattle.scf_text.specs.Faults.{target_fault, targets_fault, all_targets_fault}
+use Rattle.scf_text.specs.Faults.{target_fault, targets_fault}
 use Rattle.scf_text.specs.Spelling.{Says, SaysInsn, SaysEach}
-use Rattle.scf_text.specs.Statements.{Places, place_of, statements_of, labels_of, drafts_of, drafts_by, place_after}
+use Rattle.scf_text.specs.Statements.{Places, places_in, statements_of, drafts_of, drafts_by}
 use Rattle.scf_text.specs.internal.Parts.{statements_after}
 use Rattle.scf_text.specs.internal.Reading.{with_label}
 
@@ -21,7 +21,7 @@ use Rattle.scf_text.specs.internal.Reading.{with_label}
 unfoldable pub fault_in : List ℕ → Option TextFault
 fault_in text =
     option_or (statements_fault [] (statements_of text))
-    (all_targets_fault (place_of (labels_of text)) 0 (drafts_of text))
+    (targets_fault (places_in (statements_of text)) 0 (drafts_of text))
 
 -- the number that is written, or the offset to the label, below the limit
 abbrev pub TellsTarget : Places → ℕ → ℕ → ℕ → drafts.Written → Result ℕ TextFault → Type 0
@@ -29,11 +29,17 @@ TellsTarget places at line limit written (Ok value) =
     (target_fault places at line limit written ≡ None) × Says places at written value × (value < limit)
 TellsTarget places at line limit written (Err e) = target_fault places at line limit written ≡ Some e
 
+-- the targets of an instruction: of a conditional jump its JT and then its JF
+abbrev pub insn_fault : Places → ℕ → ℕ → drafts.Draft → Option TextFault
+insn_fault places at line d =
+    option_or (target_fault places at line (2 ^ 8) d.jt)
+    (option_or (target_fault places at line (2 ^ 8) d.jf) (target_fault places at line (2 ^ 32) d.k))
+
 -- the instruction that is written at this place
 abbrev pub TellsInsn : Places → ℕ → ℕ → drafts.Draft → Result Insn TextFault → Type 0
 TellsInsn places at line draft (Ok insn) =
-    (targets_fault places at line draft ≡ None) × SaysInsn places at draft insn × IsInsn insn
-TellsInsn places at line draft (Err e) = targets_fault places at line draft ≡ Some e
+    (insn_fault places at line draft ≡ None) × SaysInsn places at draft insn × IsInsn insn
+TellsInsn places at line draft (Err e) = insn_fault places at line draft ≡ Some e
 
 -- the instructions that are written, the first at place 0, where this is no fault
 abbrev pub TellsInsns : Option TextFault → Places → List (ℕ × drafts.Draft) → Result (Vec Insn) TextFault → Type 0
@@ -43,7 +49,7 @@ TellsInsns first places written (Err e) = IsFault e first
 
 -- the instructions that a text without this fault says
 abbrev pub TellsText : Option TextFault → List ℕ → Result (Vec Insn) TextFault → Type 0
-TellsText first text = TellsInsns first (place_of (labels_of text)) (drafts_of text)
+TellsText first text = TellsInsns first (places_in (statements_of text)) (drafts_of text)
 
 -- This draft is what a mnemonic and its operands say, in a line and behind as many instructions.
 abbrev pub TellsDraft : {T : Type 0} → ℕ → ℕ → List ℕ → List (List ℕ) → drafts.Draft → Result T TextFault → Type 0
@@ -62,7 +68,6 @@ abbrev pub AddsInstruction : {T : Type 0} → List (ℕ × drafts.Draft) → ℕ
     → List (ℕ × drafts.Draft) → Type 0
 AddsInstruction old line tokens (Ok _) new =
     (instruction_fault (length old) line tokens ≡ None) × (new ≡ old ++ drafts_by line tokens)
-    × (length new ≡ place_after (length old) tokens)
 AddsInstruction old line tokens (Err e) new = IsFault e (instruction_fault (length old) line tokens)
 
 -- A mnemonic is known or not, and it says this draft with the tokens behind it, or nothing.

@@ -1,9 +1,9 @@
-use Rattle.scf_text.proofs.Common.{◌≡◌, List, ◌++◌, drop, AllByRecursion, IsInsn, Insn, SaysEach, all_targets_fault, places_view, drafts_view}
+use Rattle.scf_text.proofs.Common.{◌≡◌, List, ◌++◌, drop, AllByRecursion, IsInsn, Insn, SaysEach, targets_fault, places_view, drafts_view}
 use Rattle.scf_text.proofs.assembler.resolve_all.Given as goal
 
 abbrev pub invariant-loop-at : goal.invariant-loop-at
 invariant-loop-at l = record {
-  faults : all_targets_fault (places_view l.places) l.at (drafts_view (drop l.at l.drafts)) ≡ all_targets_fault
+  faults : targets_fault (places_view l.places) l.at (drafts_view (drop l.at l.drafts)) ≡ targets_fault
       (places_view l.places) 0 (drafts_view l.drafts);
   says : (more : List Insn) → SaysEach (places_view l.places) l.at (drafts_view (drop l.at l.drafts)) more
       → SaysEach (places_view l.places) 0 (drafts_view l.drafts) (l.insns.items ++ more);
