@@ -1,5 +1,5 @@
 -- Parts of a bundle: one list of them at most is spelled, and a fault stands where none is.
-use Rattle.scf_tool.proofs.Common.{◌≡◌, ◌≢◌, ℕ, zero, suc, get_or, Option, ◌+◌, ◌-◌, ◌<◌, ◌≤◌, List, [], ◌∷◌, ◌++◌, length, take, drop, refl, sym, ap, ◌∙◌, append_assoc, append-nil, arith, length-append, length-drop, append_cancel_left, take_all, take-append-drop, length-take-le, take-append_seam, take-add, IfNone, Part, BundleFault, Header, Short, Memory, IsHeader, IsBundlePart, SpellsFrom, SpellsBundle, IsFaultAt, BreaksAt, IsBundleFault}
+use Rattle.scf_tool.proofs.Common.{◌≡◌, ◌≢◌, ℕ, zero, suc, get_or, Option, ◌+◌, ◌-◌, ◌<◌, ◌≤◌, List, [], ◌∷◌, ◌++◌, length, take, drop, refl, sym, ap, ◌∙◌, append_assoc, append-nil, arith, length-append, length-drop, append_cancel_left, take_all, take-append-drop, length-take-le, take-append_seam, take-add, IfNone, Part, BundleFault, Header, Short, Memory, IsHeader, IsBundlePart, SpellsFrom, SpellsBundle, IsFaultAt, IsBundleFault}
 use Rattle.scf_tool.proofs.HeaderLemmas.{same_header, header_some}
 
 -- ---- one part
@@ -22,19 +22,21 @@ pub record SamePart (p q : Part) (a b r s : List ℕ) : Type 0 where
 pub same_part : (o : ℕ) (p q : Part) (a b r s : List ℕ) → IsBundlePart o p a → IsBundlePart o q b → a ++ r ≡ b ++ s
     → SamePart p q a b r s
 same_part o p q a b r s h g e =
-    let left : a ++ r ≡ h.header ++ (h.content ++ r) =
-    ap (λ (xs : List ℕ). xs ++ r) h.whole ∙ append_assoc h.header h.content r in
-    let right : b ++ s ≡ g.header ++ (g.content ++ s) =
-    ap (λ (xs : List ℕ). xs ++ s) g.whole ∙ append_assoc g.header g.content s in
-    let same = same_header h.header g.header p.kind q.kind (length h.content) (length g.content) (h.content ++ r)
-    (g.content ++ s) h.is_header g.is_header (sym left ∙ e ∙ right) in
-    let content : h.content ≡ g.content = same_front h.content g.content r s same.count same.rest in
-    let bytes : a ≡ b = h.whole ∙ ap (λ (xs : List ℕ). xs ++ h.content) same.header
-    ∙ ap (λ (xs : List ℕ). g.header ++ xs) content ∙ sym g.whole in
-    let long : length h.header ≡ length g.header = ap (λ (xs : List ℕ). length xs) same.header in
+    let front = h.front in
+    let other = g.front in
+    let left : a ++ r ≡ front.header ++ (front.rest ++ r) =
+    ap (λ (xs : List ℕ). xs ++ r) front.whole ∙ append_assoc front.header front.rest r in
+    let right : b ++ s ≡ other.header ++ (other.rest ++ s) =
+    ap (λ (xs : List ℕ). xs ++ s) other.whole ∙ append_assoc other.header other.rest s in
+    let same = same_header front.header other.header p.kind q.kind p.length q.length (front.rest ++ r)
+    (other.rest ++ s) front.is_header other.is_header (sym left ∙ e ∙ right) in
+    let content : front.rest ≡ other.rest =
+    same_front front.rest other.rest r s (sym h.size ∙ same.count ∙ g.size) same.rest in
+    let bytes : a ≡ b = front.whole ∙ ap (λ (xs : List ℕ). xs ++ front.rest) same.header
+    ∙ ap (λ (xs : List ℕ). other.header ++ xs) content ∙ sym other.whole in
+    let long : length front.header ≡ length other.header = ap (λ (xs : List ℕ). length xs) same.header in
     record {
-      part = same_fields p q same.kind (h.start ∙ ap (λ (n : ℕ). o + n) long ∙ sym g.start)
-          (h.size ∙ same.count ∙ sym g.size);
+      part = same_fields p q same.kind (h.start ∙ ap (λ (n : ℕ). o + n) long ∙ sym g.start) same.count;
       bytes = bytes;
       rest = append_cancel_left a r s (e ∙ ap (λ (xs : List ℕ). xs ++ s) (sym bytes));
     }
@@ -96,46 +98,49 @@ rest_is_spelled o bs rest (p ∷ ps) (q ∷ qs) h g =
 whole_in_front : (o at : ℕ) (bs own rest : List ℕ) (p : Part) (fault : BundleFault) → bs ≡ own ++ rest
     → IsBundlePart o p own → IsFaultAt bs at fault → ⊥
 whole_in_front o at bs own rest p (Header offset) whole part here =
-    here.1.none p.kind (length part.content) (record {
-      header = part.header;
-      rest = part.content ++ rest;
-      is_header = part.is_header;
-      whole = whole ∙ ap (λ (xs : List ℕ). xs ++ rest) part.whole ∙ append_assoc part.header part.content rest;
+    let front = part.front in
+    here.2 p.kind p.length (record {
+      header = front.header;
+      rest = front.rest ++ rest;
+      is_header = front.is_header;
+      whole = whole ∙ ap (λ (xs : List ℕ). xs ++ rest) front.whole ∙ append_assoc front.header front.rest rest;
     })
 whole_in_front o at bs own rest p (Short offset) whole part here =
-    let short = here.1 in
-    let is : bs ≡ part.header ++ (part.content ++ rest) =
-    whole ∙ ap (λ (xs : List ℕ). xs ++ rest) part.whole ∙ append_assoc part.header part.content rest in
-    let same = same_header short.found.header part.header short.kind p.kind short.count (length part.content)
-    short.found.rest (part.content ++ rest) short.found.is_header part.is_header (sym short.found.whole ∙ is) in
-    let long : length short.found.rest ≡ length part.content + length rest =
-    ap (λ (xs : List ℕ). length xs) same.rest ∙ length-append part.content rest in
-    absurd (omega (arith, long, same.count, short.fewer))
+    let front = part.front in
+    let found = here.3 in
+    let is : bs ≡ front.header ++ (front.rest ++ rest) =
+    whole ∙ ap (λ (xs : List ℕ). xs ++ rest) front.whole ∙ append_assoc front.header front.rest rest in
+    let same = same_header found.header front.header here.1 p.kind here.2 p.length found.rest (front.rest ++ rest)
+    found.is_header front.is_header (sym found.whole ∙ is) in
+    let long : length found.rest ≡ length front.rest + length rest =
+    ap (λ (xs : List ℕ). length xs) same.rest ∙ length-append front.rest rest in
+    absurd (omega (arith, long, same.count, part.size, here.4))
 whole_in_front o at bs own rest p Memory whole part here = here
 
 pub broken_no_parts : (o at : ℕ) (bs : List ℕ) (ps : List Part) (fault : BundleFault) → IsFaultAt bs at fault
     → SpellsFrom o bs ps → ⊥
 broken_no_parts o at bs (p ∷ ps) fault here h = whole_in_front o at bs h.0 h.1 p fault h.2 h.3 here
-broken_no_parts o at bs [] (Header offset) here h = here.1.more h
+broken_no_parts o at bs [] (Header offset) here h = here.1 h
 broken_no_parts o at bs [] (Short offset) here h =
-    let short = here.1 in
-    let some = header_some short.found.header short.kind short.count short.found.is_header in
+    let found = here.3 in
+    let some = header_some found.header here.1 here.2 found.is_header in
     let none : length bs ≡ 0 = ap (λ (xs : List ℕ). length xs) h in
-    let long : length bs ≡ length short.found.header + length short.found.rest =
-    ap (λ (xs : List ℕ). length xs) short.found.whole ∙ length-append short.found.header short.found.rest in
+    let long : length bs ≡ length found.header + length found.rest =
+    ap (λ (xs : List ℕ). length xs) found.whole ∙ length-append found.header found.rest in
     absurd (omega (arith, some, none, long))
 broken_no_parts o at bs [] Memory here h = here
 
-breaks_no_parts : (bs : List ℕ) (fault : BundleFault) (ps : List Part) → BreaksAt bs fault → SpellsBundle bs ps → ⊥
-breaks_no_parts bs fault ps breaks h =
-    let whole : SpellsBundle (take breaks.offset bs ++ drop breaks.offset bs) ps = rw take-append-drop h in
-    let rest = rest_is_spelled 0 (take breaks.offset bs) (drop breaks.offset bs) breaks.parts ps breaks.before whole in
-    broken_no_parts (0 + length (take breaks.offset bs)) breaks.offset (drop breaks.offset bs) rest.0 fault breaks.here
-    rest.1
+breaks_no_parts : (bs : List ℕ) (o : ℕ) (before : List Part) (fault : BundleFault) (ps : List Part)
+    → SpellsBundle (take o bs) before → IsFaultAt (drop o bs) o fault → SpellsBundle bs ps → ⊥
+breaks_no_parts bs o before fault ps spelled here h =
+    let whole : SpellsBundle (take o bs ++ drop o bs) ps = rw take-append-drop h in
+    let rest = rest_is_spelled 0 (take o bs) (drop o bs) before ps spelled whole in
+    broken_no_parts (0 + length (take o bs)) o (drop o bs) rest.0 fault here rest.1
 
 pub fault_no_parts : (bs : List ℕ) (fault : BundleFault) → IsBundleFault bs fault → fault ≢ Memory → (ps : List Part)
     → SpellsBundle bs ps → ⊥
-fault_no_parts bs fault h1 h2 ps h3 = grind (arith, breaks_no_parts)
+fault_no_parts bs Memory h1 h2 ps h3 = h2 refl
+fault_no_parts bs fault h1 h2 ps h3 = breaks_no_parts bs h1.0 h1.1 fault ps h1.2 h1.3 h3
 
 -- ---- the part that a header in front begins
 
@@ -146,10 +151,12 @@ part_in_front o bs p n inside fits header start =
     let size : length (take p.length (drop n bs)) ≡ p.length =
     length-take-le p.length (drop n bs) (rw length-drop fits) in
     record {
-      header = take n bs;
-      content = take p.length (drop n bs);
-      whole = take-add n p.length bs;
-      is_header = rw size header;
+      front = record {
+        header = take n bs;
+        rest = take p.length (drop n bs);
+        is_header = header;
+        whole = take-add n p.length bs;
+      };
       start = rw long start;
       size = sym size;
     }
@@ -165,7 +172,8 @@ some_left o bs lt e =
 -- whole parts, and what stands behind them, are why bytes are refused
 pub breaks : (bs : List ℕ) (o : ℕ) (ps : List Part) (fault : BundleFault) → SpellsBundle (take o bs) ps
     → IsFaultAt (drop o bs) o fault → IsBundleFault bs fault
-breaks bs o ps fault h1 h2 = grind arith
+breaks bs o ps Memory h1 h2 = tt
+breaks bs o ps fault h1 h2 = (o, ps, h1, h2)
 
 -- the next part
 pub next_part : (bs : List ℕ) (o n : ℕ) (ps : List Part) (p : Part) → o ≤ length bs → o ≤ n
@@ -186,8 +194,8 @@ part_inside o bs [] i d h lt = absurd (omega arith)
 part_inside o bs (p ∷ ps) zero d h lt =
     let part = h.3 in
     let long : length bs ≡ length h.0 + length h.1 = rw h.2 (length-append h.0 h.1) in
-    let own : length h.0 ≡ length part.header + length part.content =
-    rw part.whole (length-append part.header part.content) in
+    let own : length h.0 ≡ length part.front.header + length part.front.rest =
+    rw part.front.whole (length-append part.front.header part.front.rest) in
     omega (arith, long, own, part.start, part.size)
 part_inside o bs (p ∷ ps) (suc i) d h lt =
     let long : length bs ≡ length h.0 + length h.1 = rw h.2 (length-append h.0 h.1) in
@@ -219,9 +227,9 @@ no_part_behind bs n ps p fault here spelled =
 one_fault : (bs : List ℕ) (fault other : BundleFault) → IsFaultAt bs 0 fault → IsFaultAt bs 0 other → fault ≡ other
 one_fault bs (Header offset) (Header at) h g =
     ap (λ (n : ℕ). let moved : BundleFault = Header n in moved) (h.0 ∙ sym g.0)
-one_fault bs (Header offset) (Short at) h g = absurd (h.1.none g.1.kind g.1.count g.1.found)
+one_fault bs (Header offset) (Short at) h g = absurd (h.2 g.1 g.2 g.3)
 one_fault bs (Header offset) Memory h g = absurd g
-one_fault bs (Short offset) (Header at) h g = absurd (g.1.none h.1.kind h.1.count h.1.found)
+one_fault bs (Short offset) (Header at) h g = absurd (g.2 h.1 h.2 h.3)
 one_fault bs (Short offset) (Short at) h g = ap (λ (n : ℕ). let moved : BundleFault = Short n in moved) (h.0 ∙ sym g.0)
 one_fault bs (Short offset) Memory h g = absurd g
 one_fault bs Memory other h g = absurd h

@@ -39,7 +39,7 @@ pub use Rattle.scf_machine.proofs.Common.{IsPush, cost_of}
 pub use Rattle.scf_profile.proofs.Common.{Answering, Names, Refuses, err_from_is_err_and, filter_map-append, option_map_or, texts_at}
 pub use Rattle.scf_profile.specs.declared.load_fault.LoadFault.{LoadFault}
 pub use Rattle.scf_text.proofs.Common.{AllDigits, digits_value, each_fails, fails_first, flat_map, flat_map-append, is_digit, list_all-append, option_or, writes_then}
-pub use Rattle.scf_tool.specs.Bundle.{BreaksAt, HasHeader, IsBundle, IsBundleFault, IsBundlePart, IsCount, IsFaultAt, IsHeader, SpellsBundle, SpellsFrom, held, held_by, is_of, kind_word}
+pub use Rattle.scf_tool.specs.Bundle.{HasHeader, IsBundle, IsBundleFault, IsBundlePart, IsFaultAt, IsHeader, SpellsBundle, SpellsFrom, held, held_by, is_of, kind_word}
 pub use Rattle.scf_tool.specs.CallReports.{is_difference, is_same, joint_of, named_line, names_text}
 pub use Rattle.scf_tool.specs.Commands.{ComparesParts, HoldsBundle, IsReported, NoReadFailed, ReadsInput}
 pub use Rattle.scf_tool.specs.Faults.{number_words}

@@ -13,14 +13,11 @@ kind_word Filter = codes "filter"
 kind_word Profile = codes "profile"
 kind_word Table = codes "table"
 
--- one to eight decimal digits that write a count
-abbrev pub IsCount : List ℕ → ℕ → Type 0
-IsCount digits count = (length digits ≤ 8) × (numeral 10 digits ≡ Some count)
-
--- The header of a part: the word of its kind, one space, the count of the bytes that follow, LF.
+-- The header of a part: the word of its kind, one space, one to eight decimal digits that write the count of the bytes
+-- that follow, LF.
 pub record IsHeader (header : List ℕ) (kind : PartKind) (count : ℕ) : Type 0 where
   pub digits : List ℕ
-  pub is_count : IsCount digits count
+  pub is_count : (length digits ≤ 8) × (numeral 10 digits ≡ Some count)
   pub text : header ≡ (kind_word kind ++ (codes " " ++ digits)) ++ codes "\n"
 
 -- A header stands in front.
@@ -32,12 +29,9 @@ pub record HasHeader (bytes : List ℕ) (kind : PartKind) (count : ℕ) : Type 0
 
 -- Bytes are a part of a bundle, from an offset on: a header, and as many bytes as it says.
 pub record IsBundlePart (offset : ℕ) (part : Part) (bytes : List ℕ) : Type 0 where
-  pub header : List ℕ
-  pub content : List ℕ
-  pub whole : bytes ≡ header ++ content
-  pub is_header : IsHeader header part.kind (length content)
-  pub start : part.start ≡ offset + length header
-  pub size : part.length ≡ length content
+  pub front : HasHeader bytes part.kind part.length
+  pub start : part.start ≡ offset + length front.header
+  pub size : part.length ≡ length front.rest
 
 -- Bytes from an offset on spell parts: they are these parts, one after another, and nothing else.
 abbrev pub SpellsFrom : ℕ → List ℕ → List Part → Type 0
@@ -50,35 +44,20 @@ SpellsFrom offset bytes (part ∷ parts) =
 abbrev pub SpellsBundle : List ℕ → List Part → Type 0
 SpellsBundle bytes parts = SpellsFrom 0 bytes parts
 
--- No header stands in front, and this isn't the end.
-pub record LacksHeader (bytes : List ℕ) : Type 0 where
-  pub more : bytes ≢ []
-  pub none : (kind : PartKind) (count : ℕ) → HasHeader bytes kind count → ⊥
-
--- A header stands in front, and fewer bytes follow than it says.
-pub record IsShort (bytes : List ℕ) : Type 0 where
-  pub kind : PartKind
-  pub count : ℕ
-  pub found : HasHeader bytes kind count
-  pub fewer : length found.rest < count
-
--- The bytes from an offset on begin with no whole part, for this reason. Want of memory may come anywhere.
+-- The bytes from an offset on begin with no whole part: they go on, and no header stands in front, or one does, and
+-- fewer bytes follow than it says. Want of memory may come anywhere.
 abbrev pub IsFaultAt : List ℕ → ℕ → BundleFault → Type 0
-IsFaultAt bytes at (Header offset) = (offset ≡ at) × LacksHeader bytes
-IsFaultAt bytes at (Short offset) = (offset ≡ at) × IsShort bytes
+IsFaultAt bytes at (Header offset) =
+    (offset ≡ at) × (bytes ≢ []) × ((kind : PartKind) (count : ℕ) → HasHeader bytes kind count → ⊥)
+IsFaultAt bytes at (Short offset) = (offset ≡ at)
+    × (kind : PartKind) × (count : ℕ) × (found : HasHeader bytes kind count) × (length found.rest < count)
 IsFaultAt bytes at Memory = ⊥
 
--- Behind whole parts this is what stands at the offset.
-pub record BreaksAt (bytes : List ℕ) (fault : BundleFault) : Type 0 where
-  pub offset : ℕ
-  pub parts : List Part
-  pub before : SpellsBundle (take offset bytes) parts
-  pub here : IsFaultAt (drop offset bytes) offset fault
-
--- why bytes are refused
+-- why bytes are refused: behind whole parts this stands at an offset
 abbrev pub IsBundleFault : List ℕ → BundleFault → Type 0
 IsBundleFault bytes Memory = Unit {0}
-IsBundleFault bytes fault = BreaksAt bytes fault
+IsBundleFault bytes fault = (offset : ℕ) × (parts : List Part)
+    × SpellsBundle (take offset bytes) parts × IsFaultAt (drop offset bytes) offset fault
 
 -- ---- what parts hold
 

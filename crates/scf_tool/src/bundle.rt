@@ -3,7 +3,8 @@
 ghost use Rattle.std.specs.Prelude.{◌≡◌, ◌≢◌, ◌+◌, ◌-◌, ◌<◌, ◌≤◌, ◌++◌, ◌∷◌, [], ℕ, List, codes, length, take, drop};
 ghost use Rattle.std.specs.Prelude.{slice_index, MatchOption, IfSome, IfNone, IfOk, IfErr};
 ghost use Rattle.scf_tool.specs.Bundle as spec;
-ghost use Rattle.scf_tool.specs.Bundle.{kind_word, IsCount, IsHeader, HasHeader, IsBundlePart, IsFaultAt, SpellsBundle};
+ghost use Rattle.scf_insn.specs.Numbers.{numeral};
+ghost use Rattle.scf_tool.specs.Bundle.{kind_word, IsHeader, HasHeader, IsBundlePart, IsFaultAt, SpellsBundle};
 ghost use Rattle.scf_tool.specs.Bundle.{IsBundleFault};
 
 use scf_insn::parse_numeral;
@@ -82,7 +83,9 @@ struct Header {
 
 /// The count that the digits of a header write.
 fn count_of(digits: &[u8]) -> Option<usize>
-    ensures { MatchOption result ((n : ℕ) → IsCount digits.now n → ⊥) (IsCount digits.now) }
+    ensures { MatchOption result
+        ((n : ℕ) → (length digits.now ≤ 8) × (numeral 10 digits.now ≡ Some n) → ⊥)
+        (λ n. (length digits.now ≤ 8) × (numeral 10 digits.now ≡ Some n)) }
 {
     if digits.len() > 8 {
         return None;

@@ -5,11 +5,8 @@ use Rattle.scf_tool.proofs.bundle.part_at.Goals as goal
 pub returns-in_default-clause-fault : goal.returns-in_default-clause-fault
 returns-in_default-clause-fault c = (
   refl,
-  record {
-    more = some_left c.args.offset c.args.bytes.now c.requires;
-    none =
-        rw (tail c.args.offset c.args.bytes.now) at c.in_default.ensures.none;
-  },
+  some_left c.args.offset c.args.bytes.now c.requires,
+  rw (tail c.args.offset c.args.bytes.now) at c.in_default.ensures.none,
 )
 
 pub returns-then-rest-header-clause-fault : goal.returns-then-rest-header-clause-fault
@@ -17,17 +14,15 @@ returns-then-rest-header-clause-fault c =
     let header = c.in-Some.header in
     let rest = drop c.args.offset c.args.bytes.now in (
       refl,
+      header.kind,
+      header.count,
       record {
-        kind = header.kind;
-        count = header.count;
-        found = record {
-          header = take header.length rest;
-          rest = drop header.length rest;
-          is_header = rw (tail c.args.offset c.args.bytes.now) at c.in-Some.ensures.some.1;
-          whole = sym (take-append-drop header.length rest);
-        };
-        fewer = rw (length-drop header.length rest) (rw (tail c.args.offset c.args.bytes.now) at c.if-rest-header.true);
+        header = take header.length rest;
+        rest = drop header.length rest;
+        is_header = rw (tail c.args.offset c.args.bytes.now) at c.in-Some.ensures.some.1;
+        whole = sym (take-append-drop header.length rest);
       },
+      rw (length-drop header.length rest) (rw (tail c.args.offset c.args.bytes.now) at c.if-rest-header.true),
     )
 
 pub returns-clause-part : goal.returns-clause-part

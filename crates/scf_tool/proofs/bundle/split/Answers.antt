@@ -2,6 +2,13 @@ use Rattle.scf_tool.proofs.Common.{◌≡◌, ◌+◌, arith, take_all, err_from
 use Rattle.scf_tool.proofs.BundleLemmas.{breaks, broken_no_parts, fault_no_parts, first_fault, next_part, no_part_behind, one_spelling}
 use Rattle.scf_tool.proofs.bundle.split.Goals as goal
 
+pub returns-in_err-part-clause-fault : goal.returns-in_err-part-clause-fault
+returns-in_err-part-clause-fault c =
+    let stopped = err_from_is_err_and c.from_residual.result c.from_residual.ensures.1 in
+    rw (stopped.1, stopped.2)
+    (breaks c.args.bytes.now c.loop-offset.offset c.loop-offset.parts.items c.in_err-part.field-0.0
+    c.loop-offset.invariant.spelled c.in_err-part.ensures.fault)
+
 pub returns-in_err-part-clause-none : goal.returns-in_err-part-clause-none
 returns-in_err-part-clause-none c =
     let stopped = err_from_is_err_and c.from_residual.result c.from_residual.ensures.1 in
