@@ -40,11 +40,11 @@ pub use Rattle.scf_profile.proofs.Common.{Answering, Names, Refuses, err_from_is
 pub use Rattle.scf_profile.specs.declared.load_fault.LoadFault.{LoadFault}
 pub use Rattle.scf_text.proofs.Common.{AllDigits, digits_value, each_fails, fails_first, flat_map, flat_map-append, is_digit, list_all-append, option_or, writes_then}
 pub use Rattle.scf_tool.specs.Bundle.{HasHeader, IsBundle, IsBundleFault, IsBundlePart, IsFaultAt, IsHeader, SpellsBundle, SpellsFrom, held, held_by, is_of, kind_word}
-pub use Rattle.scf_tool.specs.CallReports.{is_difference, is_same, joint_of, named_line, names_text}
+pub use Rattle.scf_tool.specs.CallReports.{is_difference, is_same, joint_of, named_line}
 pub use Rattle.scf_tool.specs.Commands.{ComparesParts, HoldsBundle, IsReported, NoReadFailed, ReadsInput}
 pub use Rattle.scf_tool.specs.Faults.{number_words}
 pub use Rattle.scf_tool.specs.FilterStacks.{HasNoStack, HasStack, HaveEnded, HaveStopped, IsNotPushed}
-pub use Rattle.scf_tool.specs.Lines.{answer_text, place_text}
+pub use Rattle.scf_tool.specs.Lines.{answer_text}
 pub use Rattle.scf_tool.specs.Options.{NumberOption, choice_in, first_wrong, given_of, is_given, limit_option, number_by, number_in, one_of}
 pub use Rattle.scf_tool.specs.Reports.{answer_line, argument_text, name_line}
 pub use Rattle.scf_tool.specs.Requests.{Command as Asked, AsksFor, command_word}

@@ -35,11 +35,8 @@ abbrev pub steps_text : ℕ → List ℕ
 steps_text steps = codes " steps " ++ decimal steps ++ codes "\n"
 
 -- the line of the places on a run's way
-abbrev pub place_text : ℕ → List ℕ
-place_text place = codes " " ++ decimal place
-
 abbrev pub path_text : List ℕ → List ℕ
-path_text places = codes "path" ++ (flat_map place_text places ++ codes "\n")
+path_text places = codes "path" ++ (flat_map (λ place. codes " " ++ decimal place) places ++ codes "\n")
 
 -- the lines of a run whose way is shown
 abbrev pub traced_text : ℕ → List ℕ → List ℕ

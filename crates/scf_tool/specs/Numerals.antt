@@ -1,10 +1,6 @@
 -- How the program writes numbers in hexadecimal.
 use Rattle.std.specs.Prelude.{ℕ, ◌/◌, ◌%◌, ◌^◌, false, List, [], ◌∷◌, map}
-use Rattle.std.specs.Fmt.{digits, digit_glyph}
-
--- lower-case hexadecimal digits without leading zeros
-abbrev pub hexadecimal : ℕ → List ℕ
-hexadecimal n = digits 16 false n
+use Rattle.std.specs.Fmt.{digit_glyph}
 
 -- the last eight hexadecimal digits, in lower case
 abbrev pub eight_digits : ℕ → List ℕ

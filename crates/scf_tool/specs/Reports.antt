@@ -1,7 +1,7 @@
 -- What the program prints of a comparison.
-use Rattle.std.specs.Prelude.{ℕ, List, ◌++◌, codes}
+use Rattle.std.specs.Prelude.{ℕ, false, List, ◌++◌, codes}
 use Rattle.std.specs.List.{flat_map}
-use Rattle.std.specs.Fmt.{decimal}
+use Rattle.std.specs.Fmt.{decimal, digits}
 use Rattle.scf_insn.specs.declared.record.CallRecord.{CallRecord}
 use Rattle.scf_compare.specs.declared.relation.Relation.{Relation}
 use Rattle.scf_compare.specs.declared.relation.Relation.TheVariants as relations
@@ -9,11 +9,10 @@ use Rattle.scf_compare.specs.declared.verdict.Verdict.{Verdict}
 use Rattle.scf_compare.specs.declared.verdict.Verdict.TheVariants.{Same, Differs, Undecided, Unfinished}
 use Rattle.scf_tool.specs.declared.verification.Outcome.{Outcome}
 use Rattle.scf_tool.specs.Lines.{answer_text}
-use Rattle.scf_tool.specs.Numerals.{hexadecimal}
 
 -- 0x and lower-case hexadecimal digits without leading zeros
 abbrev pub prefixed : ℕ → List ℕ
-prefixed n = codes "0x" ++ hexadecimal n
+prefixed n = codes "0x" ++ digits 16 false n
 
 abbrev pub argument_text : ℕ → List ℕ
 argument_text argument = codes " " ++ prefixed argument
@@ -30,25 +29,16 @@ abbrev pub answer_line : List ℕ → ℕ → List ℕ
 answer_line who answer = (who ++ codes " ") ++ (answer_text answer ++ codes "\n")
 
 -- what is said where a relation holds of all answers, and where it doesn't hold of two
-abbrev pub holding : Relation → List ℕ
-holding relations.Same = codes "same"
-holding relations.NoMore = codes "no more"
-holding relations.NoLess = codes "no less"
-
-abbrev pub failing : Relation → List ℕ
-failing relations.Same = codes "differs"
-failing relations.NoMore = codes "more"
-failing relations.NoLess = codes "less"
-
--- a line of one word or two
-abbrev pub word_line : List ℕ → List ℕ
-word_line word = word ++ codes "\n"
+abbrev pub said_of : Relation → List ℕ × List ℕ
+said_of relations.Same = (codes "same", codes "differs")
+said_of relations.NoMore = (codes "no more", codes "more")
+said_of relations.NoLess = (codes "no less", codes "less")
 
 -- the lines of a verdict on a relation
 abbrev pub verdict_text : Relation → Verdict → List ℕ
-verdict_text relation (Same steps) = word_line (holding relation)
+verdict_text relation (Same steps) = (said_of relation).0 ++ codes "\n"
 verdict_text relation (Differs call filter profile) =
-    word_line (failing relation)
+    ((said_of relation).1 ++ codes "\n")
     ++ (call_line call ++ (answer_line (codes "filter") filter.0 ++ answer_line (codes "profile") profile.0))
 verdict_text relation (Undecided at) = codes "undecided at " ++ decimal at ++ codes "\n"
 verdict_text relation Unfinished = codes "unfinished\n"

@@ -2,7 +2,7 @@
 use Rattle.std.specs.Prelude.{◌≡◌, ℕ, List, Option, Result, Err}
 use Rattle.std.specs.Option.{option_map_or}
 use Rattle.scf_compare.specs.declared.verdict.Verdict.{Verdict}
-use Rattle.scf_compare.specs.declared.verdict.Verdict.TheVariants.{Same, Differs, Undecided, Unfinished}
+use Rattle.scf_compare.specs.declared.verdict.Verdict.TheVariants.{Same, Differs}
 use Rattle.scf_insn.specs.declared.input.InputFault.TheVariants as inputs
 use Rattle.scf_tool.specs.declared.fault.Fault.{Fault}
 use Rattle.scf_tool.specs.declared.fault.Fault.TheVariants.{Input, Verify}
@@ -23,8 +23,7 @@ status_code Open = 4
 abbrev pub verdict_status : Verdict → Status
 verdict_status (Same steps) = Well
 verdict_status (Differs call filter profile) = Refused
-verdict_status (Undecided at) = Open
-verdict_status Unfinished = Open
+verdict_status verdict = Open
 
 -- the exit status that goes with the verdict that speaks for calls: None is that all are the same
 abbrev pub joint_status : Option Verdict → Status

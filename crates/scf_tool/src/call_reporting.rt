@@ -4,19 +4,16 @@ ghost use Rattle.std.specs.Prelude.{◌≡◌, ◌++◌, codes, not, string_byte
 ghost use Rattle.std.specs.Fmt.{decimal};
 ghost use Rattle.std.specs.List.{flat_map, join_by};
 ghost use Rattle.scf_insn.specs.Streams.{Writes};
-ghost use Rattle.scf_tool.specs.Reports as words;
+ghost use Rattle.scf_tool.specs.Lines.{answer_text};
+ghost use Rattle.scf_tool.specs.Reports.{answer_line, argument_text, said_of};
 ghost use Rattle.scf_tool.specs.CallReports.{
   calls_text,
-  difference_text,
   found_text,
-  front_text,
   is_difference,
   is_same,
   joint_of,
   joint_text,
   named_line,
-  names_text,
-  verdicts_text,
 };
 
 use crate::call_verification::{CallVerdict, CallsOutcome};
@@ -117,7 +114,8 @@ fn write_joined<S: Sink>(sink: &mut S, texts: &[String]) -> Result<(), WriteFaul
 }
 
 fn write_call_names<S: Sink>(sink: &mut S, names: &Texts) -> Result<(), WriteFault>
-    ensures { Writes S.contents S.failures sink.old (names_text names.now) result sink.new }
+    ensures { Writes S.contents S.failures sink.old
+        (join_by (λ name. name) (codes ",") names.now) result sink.new }
 {
     write_joined(sink, names.as_slice())
 }
@@ -133,7 +131,9 @@ fn write_number<S: Sink>(sink: &mut S, number: u32) -> Result<(), WriteFault>
 
 /// Writes the number and the names of a call.
 fn write_front<S: Sink>(sink: &mut S, call: &CallVerdict) -> Result<(), WriteFault>
-    ensures { Writes S.contents S.failures sink.old (front_text call.now) result sink.new }
+    ensures { Writes S.contents S.failures sink.old
+        ((decimal call.now.number ++ codes " ")
+        ++ (join_by (λ name. name) (codes ",") call.now.names ++ codes " ")) result sink.new }
 {
     write_number(sink, call.number)?;
     write_call_names(sink, &call.names)?;
@@ -142,7 +142,7 @@ fn write_front<S: Sink>(sink: &mut S, call: &CallVerdict) -> Result<(), WriteFau
 
 /// Writes that a relation doesn't hold, in front of the arguments.
 fn write_failing<S: Sink>(sink: &mut S, relation: Relation) -> Result<(), WriteFault>
-    ensures { Writes S.contents S.failures sink.old (words.failing relation ++ codes " args") result sink.new }
+    ensures { Writes S.contents S.failures sink.old ((said_of relation).1 ++ codes " args") result sink.new }
 {
     write_pieces(
         sink,
@@ -159,7 +159,10 @@ fn write_answered<S: Sink>(
     profile: Answer,
 ) -> Result<(), WriteFault>
     ensures { Writes S.contents S.failures sink.old
-        (difference_text relation arguments.now filter.0 profile.0) result sink.new }
+        (((said_of relation).1 ++ codes " args")
+        ++ (flat_map argument_text arguments.now
+        ++ (codes " filter " ++ (answer_text filter.0 ++ answer_line (codes " profile") profile.0))))
+        result sink.new }
 {
     write_failing(sink, relation)?;
     write_arguments(sink, arguments)?;
@@ -218,7 +221,8 @@ fn write_verdicts<S: Sink>(
     relation: Relation,
     calls: &[CallVerdict],
 ) -> Result<(), WriteFault>
-    ensures { Writes S.contents S.failures sink.old (verdicts_text relation calls.now) result sink.new }
+    ensures { Writes S.contents S.failures sink.old
+        (joint_text relation (joint_of calls.now) ++ flat_map (named_line relation) calls.now) result sink.new }
 {
     write_joint(sink, relation, joint_verdict(calls))?;
     write_calls(sink, relation, calls)

@@ -4,7 +4,7 @@ ghost use Rattle.std.specs.Prelude.{◌++◌, codes, length};
 ghost use Rattle.std.specs.Fmt.{decimal};
 ghost use Rattle.scf_insn.specs.Streams.{Writes};
 ghost use Rattle.std.specs.List.{flat_map};
-ghost use Rattle.scf_tool.specs.Lines.{answer_text, path_text, place_text, reason_text, steps_text, text_by, traced_text};
+ghost use Rattle.scf_tool.specs.Lines.{answer_text, path_text, reason_text, steps_text, text_by, traced_text};
 
 use crate::pieces::{LinePiece, write_pieces};
 use scf_insn::{Action, Answer, Sink, WriteFault, write_whole};
@@ -70,7 +70,7 @@ pub(crate) fn write_steps<S: Sink>(sink: &mut S, steps: u32) -> Result<(), Write
 }
 
 fn write_place<S: Sink>(sink: &mut S, place: usize) -> Result<(), WriteFault>
-    ensures { Writes S.contents S.failures sink.old (place_text place) result sink.new }
+    ensures { Writes S.contents S.failures sink.old (codes " " ++ decimal place) result sink.new }
 {
     write_pieces(
         sink,
@@ -79,7 +79,8 @@ fn write_place<S: Sink>(sink: &mut S, place: usize) -> Result<(), WriteFault>
 }
 
 fn write_places<S: Sink>(sink: &mut S, places: &[usize]) -> Result<(), WriteFault>
-    ensures { Writes S.contents S.failures sink.old (flat_map place_text places.now) result sink.new }
+    ensures { Writes S.contents S.failures sink.old
+        (flat_map (λ place. codes " " ++ decimal place) places.now) result sink.new }
 {
     for place in places {
         write_place(sink, *place)?;

@@ -4,7 +4,6 @@ ghost use Rattle.std.specs.Prelude.{◌≡◌, ◌++◌, codes, string_bytes, If
 ghost use Rattle.std.specs.Fmt.{decimal};
 ghost use Rattle.std.specs.List.{flat_map};
 ghost use Rattle.scf_insn.specs.Streams.{Writes};
-ghost use Rattle.scf_tool.specs.Reports as words;
 ghost use Rattle.scf_tool.specs.Reports.{
   answer_line,
   argument_text,
@@ -13,6 +12,7 @@ ghost use Rattle.scf_tool.specs.Reports.{
   name_line,
   prefixed,
   report_text,
+  said_of,
   verdict_text,
 };
 
@@ -92,7 +92,7 @@ pub(crate) fn write_answer_line<S: Sink>(
 
 /// What is said where a relation holds of all answers.
 pub(crate) fn holding(relation: Relation) -> &'static str
-    ensures { result.now ≡ words.holding relation }
+    ensures { result.now ≡ (said_of relation).0 }
 {
     match relation {
         Relation::Same => "same",
@@ -103,7 +103,7 @@ pub(crate) fn holding(relation: Relation) -> &'static str
 
 /// What is said where a relation doesn't hold of two answers.
 pub(crate) fn failing(relation: Relation) -> &'static str
-    ensures { result.now ≡ words.failing relation }
+    ensures { result.now ≡ (said_of relation).1 }
 {
     match relation {
         Relation::Same => "differs",
@@ -114,7 +114,7 @@ pub(crate) fn failing(relation: Relation) -> &'static str
 
 /// Writes a line of one word or two.
 pub(crate) fn write_word<S: Sink>(sink: &mut S, word: &str) -> Result<(), WriteFault>
-    ensures { Writes S.contents S.failures sink.old (words.word_line word.now) result sink.new }
+    ensures { Writes S.contents S.failures sink.old (word.now ++ codes "\n") result sink.new }
 {
     write_pieces(sink, &[LinePiece::Text(word), LinePiece::Text("\n")])
 }
@@ -158,7 +158,7 @@ fn write_failing<S: Sink>(
     profile: Answer,
 ) -> Result<(), WriteFault>
     ensures { Writes S.contents S.failures sink.old
-        (words.word_line (words.failing relation) ++ (call_line call.now
+        (((said_of relation).1 ++ codes "\n") ++ (call_line call.now
         ++ (answer_line (codes "filter") filter.0 ++ answer_line (codes "profile") profile.0)))
         result sink.new }
 {

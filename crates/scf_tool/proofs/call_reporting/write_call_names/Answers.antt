@@ -1,5 +1,8 @@
-use Rattle.scf_tool.proofs.Common.{◌≡◌, ◌∙◌, ◌++◌, ℕ, List, [], ◌∷◌, String, ap, codes, map, refl, string_bytes, subst, sym, flat_map-map, Global, join_by, Writes, names_text}
+use Rattle.scf_tool.proofs.Common.{◌≡◌, ◌∙◌, ◌++◌, ℕ, List, [], ◌∷◌, String, ap, codes, map, refl, string_bytes, subst, sym, flat_map-map, Global, join_by, Writes}
 use Rattle.scf_tool.proofs.call_reporting.write_call_names.Goals as goal
+
+abbrev names_text : List (List ℕ) → List ℕ
+names_text = join_by (λ name. name) (codes ",")
 
 joined : (names : List (String Global)) → join_by string_bytes (codes ",") names ≡ names_text (map string_bytes names)
 joined [] = refl
