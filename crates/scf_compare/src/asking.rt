@@ -1,6 +1,6 @@
 //! Atoms that are asked at once.
 
-ghost use Rattle.std.specs.Prelude.{◌≡◌, ◌<◌, ◌↔◌, ℕ, List, Bool, IsTrue, OnOk, true, false};
+ghost use Rattle.std.specs.Prelude.{◌≡◌, ◌<◌, ◌↔◌, ◌-◌, ◌^◌, ℕ, List, Bool, IsTrue, OnOk, true, false};
 ghost use Rattle.scf_facts.specs.Atoms.{atom_answer, word_of};
 ghost use Rattle.scf_facts.specs.Levels.{IsSameLevel};
 ghost use Rattle.scf_compare.specs.internal.Asking.{AsksOfWords, atoms_answer, StaysExact, KeepsEither};
@@ -75,6 +75,17 @@ impl Atoms {
                 }
             }
         }
+    }
+}
+
+/// Whether a word is a number, as an atom.
+pub(crate) fn word_is(word: u8, value: u32) -> Atom
+    ensures { result ≡ Atom.Eq word (2 ^ 32 - 1) value }
+{
+    Atom::Eq {
+        word,
+        mask: u32::MAX,
+        value,
     }
 }
 

@@ -81,10 +81,9 @@ impl Conjunction {
                 mask: 0,
                 value: 1,
             })),
-            Decision::Asks {
-                atoms: Atoms::One(Atom::Eq { word, mask, value }),
-                holds: true,
-            } => Value::ZeroWhere(Conjunction::One(MaskedWord { word, mask, value })),
+            Decision::Asks(Atoms::One(Atom::Eq { word, mask, value }), true) => {
+                Value::ZeroWhere(Conjunction::One(MaskedWord { word, mask, value }))
+            }
             _ => Value::Unknown,
         }
     }
@@ -145,10 +144,7 @@ impl Conjunction {
         ensures decides { (words : List ℕ) (a : ℕ) → a < 2 ^ 32 → IsZeroWhere self words a
             → Decides result words (holds test a v) }
     {
-        let is_zero = Decision::Asks {
-            atoms: self.atoms(),
-            holds: true,
-        };
+        let is_zero = Decision::Asks(self.atoms(), true);
         match test {
             Test::Equal if v == 0 => is_zero,
             Test::Greater if v == 0 => is_zero.negated(),

@@ -25,7 +25,7 @@ use scf_machine::{Program, run};
 #[derive(Clone, Copy)]
 pub(crate) enum FilterNode {
     At(usize),
-    Stopped { answer: Answer, at: usize },
+    Stopped(Answer, usize),
 }
 
 impl FilterTree for Program {
@@ -51,7 +51,7 @@ impl FilterTree for Program {
     fn turn(&self, known: &mut Registers, node: &FilterNode) -> Turn<FilterNode, FilterEnd> {
         match *node {
             FilterNode::At(place) => turn_at(self.insns(), place, known),
-            FilterNode::Stopped { answer, at } => Turn::End(FilterEnd {
+            FilterNode::Stopped(answer, at) => Turn::End(FilterEnd {
                 answer: Some(answer),
                 at,
             }),
@@ -116,12 +116,7 @@ fn turn_of(
             Turn::Go(FilterNode::At(next))
         }
         Flow::Jump(target) => Turn::Go(FilterNode::At(target)),
-        Flow::Branch {
-            test,
-            operand,
-            if_true,
-            if_false,
-        } => {
+        Flow::Branch(test, operand, if_true, if_false) => {
             if if_true == if_false {
                 return Turn::Go(FilterNode::At(if_true));
             }
@@ -130,10 +125,7 @@ fn turn_of(
         }
         Flow::DivideByIndex(next) => {
             let decision = registers.x.decide(Test::Equal, Value::Known(0));
-            let stopped = FilterNode::Stopped {
-                answer: Answer(0),
-                at: place,
-            };
+            let stopped = FilterNode::Stopped(Answer(0), place);
             registers.apply(insn, operation);
             turn_by(decision, stopped, FilterNode::At(next))
         }
@@ -159,19 +151,8 @@ fn turn_by(
     match decision {
         Decision::Known(true) => Turn::Go(if_true),
         Decision::Known(false) => Turn::Go(if_false),
-        Decision::Asks { atoms, holds: true } => Turn::Ask {
-            atoms,
-            if_true,
-            if_false,
-        },
-        Decision::Asks {
-            atoms,
-            holds: false,
-        } => Turn::Ask {
-            atoms,
-            if_true: if_false,
-            if_false: if_true,
-        },
-        Decision::Open => Turn::Fork { if_true, if_false },
+        Decision::Asks(atoms, true) => Turn::Ask(atoms, if_true, if_false),
+        Decision::Asks(atoms, false) => Turn::Ask(atoms, if_false, if_true),
+        Decision::Open => Turn::Fork(if_true, if_false),
     }
 }

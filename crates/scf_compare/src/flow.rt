@@ -13,13 +13,8 @@ pub(crate) enum Flow {
     Next(usize),
     /// To a target.
     Jump(usize),
-    /// To one of two targets, as a test says.
-    Branch {
-        test: Test,
-        operand: Operand,
-        if_true: usize,
-        if_false: usize,
-    },
+    /// To one of two targets, as a test says: the first where it holds.
+    Branch(Test, Operand, usize, usize),
     /// To the next instruction, or to the answer 0 where the index register is 0.
     DivideByIndex(usize),
     /// To the answer `k`.
@@ -39,12 +34,12 @@ impl Flow {
         let _ = insns;
         match operation {
             Operation::Jump => Flow::Jump(place + 1 + insn.k as usize),
-            Operation::JumpIf(test, operand) => Flow::Branch {
+            Operation::JumpIf(test, operand) => Flow::Branch(
                 test,
                 operand,
-                if_true: place + 1 + usize::from(insn.jt),
-                if_false: place + 1 + usize::from(insn.jf),
-            },
+                place + 1 + usize::from(insn.jt),
+                place + 1 + usize::from(insn.jf),
+            ),
             Operation::ReturnConstant => Flow::ReturnConstant,
             Operation::ReturnAccumulator => Flow::ReturnAccumulator,
             Operation::Compute(Arithmetic::Div, Operand::Index) => Flow::DivideByIndex(place + 1),

@@ -211,14 +211,12 @@ impl Image {
         if value > mask || value << self.left != shifted {
             return Decision::Known(false);
         }
-        Decision::Asks {
-            atoms: Atoms::One(Atom::Eq {
-                word: self.word,
-                mask: mask << self.right,
-                value: value << self.right,
-            }),
-            holds: true,
-        }
+        let atom = Atom::Eq {
+            word: self.word,
+            mask: mask << self.right,
+            value: value << self.right,
+        };
+        Decision::Asks(Atoms::One(atom), true)
     }
 
     /// Whether it is above a number, as an atom about its word, where its mask has all bits of the word from one on.
@@ -236,13 +234,11 @@ impl Image {
         if value > u32::MAX >> self.right {
             return Decision::Known(false);
         }
-        Decision::Asks {
-            atoms: Atoms::One(Atom::Gt {
-                word: self.word,
-                value: (value << self.right & mask) + !mask,
-            }),
-            holds: true,
-        }
+        let atom = Atom::Gt {
+            word: self.word,
+            value: (value << self.right & mask) + !mask,
+        };
+        Decision::Asks(Atoms::One(atom), true)
     }
 
     /// Whether it is on the arc from one number up to another, as an atom about its word, where it is the whole word.
@@ -255,13 +251,7 @@ impl Image {
         if !self.is_whole() {
             return Decision::Open;
         }
-        Decision::Asks {
-            atoms: Atoms::One(Atom::Arc {
-                word: self.word,
-                first,
-                last,
-            }),
-            holds: true,
-        }
+        let word = self.word;
+        Decision::Asks(Atoms::One(Atom::Arc { word, first, last }), true)
     }
 }

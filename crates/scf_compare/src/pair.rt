@@ -20,7 +20,7 @@ use scf_insn::{Answer, CallRecord};
 #[derive(Drop)]
 pub(crate) enum PairNode<M, N> {
     AtFilter(M),
-    AtProfile { end: FilterEnd, node: N },
+    AtProfile(FilterEnd, N),
 }
 
 /// A filter, and the profile that it is compared with on the calls of a scope, by a relation.
@@ -51,25 +51,21 @@ impl<A: FilterTree, B: ProfileTree> Comparison for Pair<'_, A, B> {
         match node {
             PairNode::AtFilter(node) => match self.filter.turn(known, node) {
                 Turn::Go(next) => Turn::Go(PairNode::AtFilter(next)),
-                Turn::Ask {
+                Turn::Ask(atoms, if_true, if_false) => Turn::Ask(
                     atoms,
-                    if_true,
-                    if_false,
-                } => Turn::Ask {
-                    atoms,
-                    if_true: PairNode::AtFilter(if_true),
-                    if_false: PairNode::AtFilter(if_false),
-                },
-                Turn::Fork { if_true, if_false } => Turn::Fork {
-                    if_true: PairNode::AtFilter(if_true),
-                    if_false: PairNode::AtFilter(if_false),
-                },
+                    PairNode::AtFilter(if_true),
+                    PairNode::AtFilter(if_false),
+                ),
+                Turn::Fork(if_true, if_false) => Turn::Fork(
+                    PairNode::AtFilter(if_true),
+                    PairNode::AtFilter(if_false),
+                ),
                 Turn::End(end) => {
                     let start = self.profile.start();
                     self.ask_profile(facts, end, &start)
                 }
             },
-            PairNode::AtProfile { end, node } => self.ask_profile(facts, *end, node),
+            PairNode::AtProfile(end, node) => self.ask_profile(facts, *end, node),
         }
     }
 
@@ -123,26 +119,16 @@ impl<A: FilterTree, B: ProfileTree> Pair<'_, A, B> {
             → StaysPlain tree KnowsBoth result }
     {
         match self.profile.turn(facts, node) {
-            Turn::Go(next) => Turn::Go(PairNode::AtProfile { end, node: next }),
-            Turn::Ask {
+            Turn::Go(next) => Turn::Go(PairNode::AtProfile(end, next)),
+            Turn::Ask(atoms, if_true, if_false) => Turn::Ask(
                 atoms,
-                if_true,
-                if_false,
-            } => Turn::Ask {
-                atoms,
-                if_true: PairNode::AtProfile { end, node: if_true },
-                if_false: PairNode::AtProfile {
-                    end,
-                    node: if_false,
-                },
-            },
-            Turn::Fork { if_true, if_false } => Turn::Fork {
-                if_true: PairNode::AtProfile { end, node: if_true },
-                if_false: PairNode::AtProfile {
-                    end,
-                    node: if_false,
-                },
-            },
+                PairNode::AtProfile(end, if_true),
+                PairNode::AtProfile(end, if_false),
+            ),
+            Turn::Fork(if_true, if_false) => Turn::Fork(
+                PairNode::AtProfile(end, if_true),
+                PairNode::AtProfile(end, if_false),
+            ),
             Turn::End(answer) => Turn::End(BothEnds {
                 filter: end,
                 profile: answer,

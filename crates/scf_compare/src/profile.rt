@@ -46,7 +46,7 @@ ghost use Rattle.scf_compare.specs.internal.Profiles.{
 };
 ghost use Rattle.scf_compare.specs.internal.Trees.{IsProper, GoesOn, Costs, StaysPlain};
 
-use crate::asking::Atoms;
+use crate::asking::{Atoms, word_is};
 use crate::party::ProfileTree;
 use crate::profile_numbers::{FirstRule, ProfileNumbers};
 use crate::question::{ConditionPart, Way, question_of};
@@ -65,12 +65,8 @@ pub(crate) enum ProfileNode {
     Range,
     /// Is its number the one at this place of the distinct numbers?
     Number(usize),
-    /// Does a condition hold, by the places of its rule and of itself?
-    Condition {
-        rule: usize,
-        condition: usize,
-        part: ConditionPart,
-    },
+    /// Does a condition hold, by the places of its rule and of itself in it?
+    Condition(usize, usize, ConditionPart),
     /// The profile answers so.
     Answer(Answer),
 }
@@ -93,31 +89,25 @@ impl ProfileTree for ProfileNumbers<'_> {
         let rules = self.profile.rules();
         let default_answer = self.profile.default_answer();
         match *node {
-            ProfileNode::Architecture => Turn::Ask {
-                atoms: Atoms::One(Atom::Eq {
-                    word: 1,
-                    mask: u32::MAX,
-                    value: AUDIT_ARCH_X86_64,
-                }),
-                if_true: ProfileNode::Range,
-                if_false: ProfileNode::Answer(FOREIGN_ANSWER),
-            },
-            ProfileNode::Range => Turn::Ask {
-                atoms: Atoms::One(Atom::Ge {
+            ProfileNode::Architecture => Turn::Ask(
+                Atoms::One(word_is(1, AUDIT_ARCH_X86_64)),
+                ProfileNode::Range,
+                ProfileNode::Answer(FOREIGN_ANSWER),
+            ),
+            ProfileNode::Range => Turn::Ask(
+                Atoms::One(Atom::Ge {
                     word: 0,
                     value: X32_SYSCALL_BIT,
                 }),
-                if_true: ProfileNode::Answer(FOREIGN_ANSWER),
-                if_false: ProfileNode::Number(0),
-            },
+                ProfileNode::Answer(FOREIGN_ANSWER),
+                ProfileNode::Number(0),
+            ),
             ProfileNode::Number(place) => {
                 ask_number(facts, default_answer, rules, &self.firsts, place)
             }
-            ProfileNode::Condition {
-                rule,
-                condition,
-                part,
-            } => ask_condition(default_answer, rules, rule, condition, part),
+            ProfileNode::Condition(rule, condition, part) => {
+                ask_condition(default_answer, rules, rule, condition, part)
+            }
             ProfileNode::Answer(answer) => Turn::End(answer),
         }
     }
@@ -168,15 +158,11 @@ fn ask_number<F: WordFacts>(
         return Turn::End(default_answer);
     }
     let first = firsts[place];
-    Turn::Ask {
-        atoms: Atoms::One(Atom::Eq {
-            word: 0,
-            mask: u32::MAX,
-            value: first.number,
-        }),
-        if_true: next_rule(default_answer, rules, first.number, first.place),
-        if_false: ProfileNode::Number(place + 1),
-    }
+    Turn::Ask(
+        Atoms::One(word_is(0, first.number)),
+        next_rule(default_answer, rules, first.number, first.place),
+        ProfileNode::Number(place + 1),
+    )
 }
 
 /// The call number of all that the facts allow, where they tell that it is one.
@@ -186,12 +172,7 @@ fn told_number<F: WordFacts>(facts: &F) -> Option<u32>
         → slice_index words 0 ≡ number) }
 {
     let [number, ..] = facts.pick()?;
-    let tell = facts.tell(Atom::Eq {
-        word: 0,
-        mask: u32::MAX,
-        value: number,
-    });
-    match tell {
+    match facts.tell(word_is(0, number)) {
         Tell::Always => Some(number),
         Tell::Never | Tell::Maybe => None,
     }
@@ -239,12 +220,10 @@ fn next_rule(default_answer: Answer, rules: &[Rule], number: u32, from: usize) -
     ensures size { profile_size (profile_with default_answer rules.now) result
         ≤ rules_size (rules_of number (drop from rules.now)) }
 {
-    let mut place = from;
-    while place < rules.len() {
+    for place in from..rules.len() {
         if rules[place].number == number {
             return first_of_rule(default_answer, rules, place);
         }
-        place += 1;
     }
     ProfileNode::Answer(default_answer)
 }
@@ -264,11 +243,7 @@ fn first_of_rule(default_answer: Answer, rules: &[Rule], place: usize) -> Profil
     if rule.conditions.as_slice().is_empty() {
         ProfileNode::Answer(rule.answer)
     } else {
-        ProfileNode::Condition {
-            rule: place,
-            condition: 0,
-            part: ConditionPart::High,
-        }
+        ProfileNode::Condition(place, 0, ConditionPart::High)
     }
 }
 
@@ -302,11 +277,11 @@ fn ask_condition(
         IsPlainProfile p → StaysPlain (profile_tree p) (λ _. ⊤) result }
 {
     let question = question_of(condition_at(rules, place, index), part);
-    Turn::Ask {
-        atoms: Atoms::One(question.atom),
-        if_true: follow(default_answer, rules, place, index, question.if_true),
-        if_false: follow(default_answer, rules, place, index, question.if_false),
-    }
+    Turn::Ask(
+        Atoms::One(question.atom),
+        follow(default_answer, rules, place, index, question.if_true),
+        follow(default_answer, rules, place, index, question.if_false),
+    )
 }
 
 /// Where a way on from a condition leads.
@@ -338,18 +313,10 @@ fn follow(
             if index + 1 == conditions.len() {
                 ProfileNode::Answer(rule.answer)
             } else {
-                ProfileNode::Condition {
-                    rule: place,
-                    condition: index + 1,
-                    part: ConditionPart::High,
-                }
+                ProfileNode::Condition(place, index + 1, ConditionPart::High)
             }
         }
         Way::Fails => next_rule(default_answer, rules, rule.number, place + 1),
-        Way::Then(part) => ProfileNode::Condition {
-            rule: place,
-            condition: index,
-            part,
-        },
+        Way::Then(part) => ProfileNode::Condition(place, index, part),
     }
 }

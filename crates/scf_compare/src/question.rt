@@ -10,6 +10,8 @@ ghost use Rattle.scf_compare.specs.declared.asking.Atoms.TheVariants.{One};
 ghost use Rattle.scf_compare.specs.internal.Conditions.{SplitsAt, CostsAt, half_of};
 ghost use Rattle.scf_compare.specs.internal.Asking.{KeepsEither};
 
+use crate::asking::word_is;
+use ConditionPart::{Above, Low};
 use Way::{Fails, Holds, Then};
 use scf_facts::Atom;
 use scf_insn::{high_half, low_half};
@@ -86,27 +88,12 @@ fn at_high(condition: Condition) -> Question
     ensures keeps { IsPlainCondition condition → KeepsEither (One result.atom) }
 {
     match condition.op {
-        Operator::MaskedEqual => ask(
-            half_is_under_mask(Half::High, condition),
-            Then(ConditionPart::Low),
-            Fails,
-        ),
-        Operator::Equal => ask(
-            half_is(Half::High, condition),
-            Then(ConditionPart::Low),
-            Fails,
-        ),
-        Operator::NotEqual => ask(
-            half_is(Half::High, condition),
-            Then(ConditionPart::Low),
-            Holds,
-        ),
-        Operator::Less | Operator::LessOrEqual | Operator::GreaterOrEqual | Operator::Greater =>
-            ask(
-                half_is(Half::High, condition),
-                Then(ConditionPart::Low),
-                Then(ConditionPart::Above),
-            ),
+        Operator::MaskedEqual => ask(half_is_under_mask(Half::High, condition), Then(Low), Fails),
+        Operator::Equal => ask(half_is(Half::High, condition), Then(Low), Fails),
+        Operator::NotEqual => ask(half_is(Half::High, condition), Then(Low), Holds),
+        Operator::Less | Operator::LessOrEqual | Operator::GreaterOrEqual | Operator::Greater => {
+            ask(half_is(Half::High, condition), Then(Low), Then(Above))
+        }
     }
 }
 
@@ -118,11 +105,9 @@ fn at_above(condition: Condition) -> Question
     ensures keeps { IsPlainCondition condition → KeepsEither (One result.atom) }
 {
     match condition.op {
-        Operator::Greater | Operator::GreaterOrEqual => ask(
-            half_is_above(Half::High, condition),
-            Holds,
-            Fails,
-        ),
+        Operator::Greater | Operator::GreaterOrEqual => {
+            ask(half_is_above(Half::High, condition), Holds, Fails)
+        }
         Operator::Less
         | Operator::LessOrEqual
         | Operator::Equal
@@ -184,11 +169,7 @@ fn half_is(half: Half, condition: Condition) -> Atom
         ≡ (half_of half (argument (call_of words) condition.index) == half_of half condition.value) }
     ensures keeps { KeepsEither (One result) }
 {
-    Atom::Eq {
-        word: half.word(condition.index),
-        mask: u32::MAX,
-        value: half.of(condition.value),
-    }
+    word_is(half.word(condition.index), half.of(condition.value))
 }
 
 fn half_is_under_mask(half: Half, condition: Condition) -> Atom

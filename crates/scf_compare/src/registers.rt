@@ -106,12 +106,9 @@ impl Registers {
         ensures stands { (words : List ℕ) (s : State) → Describes self.now words s
             → StandsFor result words (operand_in_computation arithmetic operand insn s) }
     {
-        match operand {
-            Operand::Constant => Value::Known(insn.k),
-            Operand::Index => match arithmetic {
-                Arithmetic::Lsh | Arithmetic::Rsh => self.x.low_five_bits(),
-                _ => self.x,
-            },
+        match (operand, arithmetic) {
+            (Operand::Index, Arithmetic::Lsh | Arithmetic::Rsh) => self.x.low_five_bits(),
+            _ => self.operand(operand, insn),
         }
     }
 
@@ -150,7 +147,7 @@ impl Registers {
                 self.set(Register::A, computed)
             }
             Operation::Negate => {
-                let negated = self.a.negated();
+                let negated = self.a.taken_from(0);
                 self.set(Register::A, negated)
             }
             Operation::CopyToIndex => {

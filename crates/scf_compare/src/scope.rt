@@ -3,6 +3,7 @@
 ghost use Rattle.std.specs.Prelude.{◌≡◌, ◌↔◌, ℕ, List, IsTrue, IfOk};
 ghost use Rattle.scf_compare.specs.internal.Scopes.{AreWordsOf, AreWordsOfX86_64};
 
+use crate::asking::word_is;
 use scf_facts::{Atom, WordFacts};
 use scf_insn::Memory;
 use scf_insn::kernel::{AUDIT_ARCH_X86_64, X32_SYSCALL_BIT};
@@ -37,11 +38,7 @@ pub(crate) fn facts_of<F: WordFacts>(alloc: Global, scope: Scope) -> Result<F, M
             Ok(native)
         }
         Scope::Call(number) => {
-            let is_number = Atom::Eq {
-                word: 0,
-                mask: u32::MAX,
-                value: number,
-            };
+            let is_number = word_is(0, number);
             let mut of_call: F = facts_of_x86_64(alloc)?;
             of_call.learn(is_number, true)?;
             Ok(of_call)
@@ -55,11 +52,7 @@ fn facts_of_x86_64<F: WordFacts>(alloc: Global) -> Result<F, Memory>
     ensures scope { IfOk result (λ facts. (words : List ℕ) → F.allows facts 0 words ↔ AreWordsOfX86_64 words) }
     ensures exact { IfOk result (λ facts. IsTrue F.starts_exact → IsTrue (F.is_exact facts 0)) }
 {
-    let is_x86_64 = Atom::Eq {
-        word: 1,
-        mask: u32::MAX,
-        value: AUDIT_ARCH_X86_64,
-    };
+    let is_x86_64 = word_is(1, AUDIT_ARCH_X86_64);
     let mut facts = F::all(alloc)?;
     facts.learn(is_x86_64, true)?;
     Ok(facts)

@@ -26,11 +26,8 @@ use scf_machine::{FilterStack, Program};
 pub(crate) enum StackNode {
     /// There is no filter.
     Empty,
-    At {
-        place: usize,
-        older: Option<FilterEnd>,
-        node: FilterNode,
-    },
+    /// At a place of the stack.
+    At(usize, Option<FilterEnd>, FilterNode),
 }
 
 impl FilterTree for FilterStack {
@@ -52,12 +49,7 @@ impl FilterTree for FilterStack {
         match self.get(0) {
             Some(program) => {
                 let (known, node) = program.start();
-                let first = StackNode::At {
-                    place: 0,
-                    older: None,
-                    node,
-                };
-                (known, first)
+                (known, StackNode::At(0, None, node))
             }
             None => (Registers::at_start(), StackNode::Empty),
         }
@@ -69,7 +61,7 @@ impl FilterTree for FilterStack {
                 answer: Some(Answer::new(Action::Allow, 0)),
                 at: 0,
             }),
-            StackNode::At { place, older, node } => turn_from(self, known, place, older, node),
+            StackNode::At(place, older, node) => turn_from(self, known, place, older, node),
         }
     }
 
@@ -147,45 +139,19 @@ fn turn_from(
     let mut node = begun;
     loop {
         match filter_of(stack, place).turn(registers, &node) {
-            Turn::Go(next) => {
-                return Turn::Go(StackNode::At {
-                    place,
-                    older,
-                    node: next,
-                });
-            }
-            Turn::Ask {
-                atoms,
-                if_true,
-                if_false,
-            } => {
-                return Turn::Ask {
+            Turn::Go(next) => return Turn::Go(StackNode::At(place, older, next)),
+            Turn::Ask(atoms, if_true, if_false) => {
+                return Turn::Ask(
                     atoms,
-                    if_true: StackNode::At {
-                        place,
-                        older,
-                        node: if_true,
-                    },
-                    if_false: StackNode::At {
-                        place,
-                        older,
-                        node: if_false,
-                    },
-                };
+                    StackNode::At(place, older, if_true),
+                    StackNode::At(place, older, if_false),
+                );
             }
-            Turn::Fork { if_true, if_false } => {
-                return Turn::Fork {
-                    if_true: StackNode::At {
-                        place,
-                        older,
-                        node: if_true,
-                    },
-                    if_false: StackNode::At {
-                        place,
-                        older,
-                        node: if_false,
-                    },
-                };
+            Turn::Fork(if_true, if_false) => {
+                return Turn::Fork(
+                    StackNode::At(place, older, if_true),
+                    StackNode::At(place, older, if_false),
+                );
             }
             Turn::End(end) => {
                 let decided = decided_at(older, end);

@@ -43,9 +43,7 @@ fn paths_of_stack(stack: &FilterStack) -> u64
     ensures { result ≡ saturated (stack_paths stack.now) }
 {
     let mut product: u64 = 1;
-    let mut place = stack.len();
-    while place > 0 {
-        place -= 1;
+    for place in (0..stack.len()).rev() {
         let paths = paths_of(filter_of(stack, place).insns());
         product = paths.saturating_mul(product);
     }
@@ -69,9 +67,7 @@ fn fill_sizes(insns: &[Insn], sizes: &mut [u64])
     ensures { (place : ℕ) → place < length insns.now
         → slice_index sizes.new place ≡ saturated (tree_size insns.now place) }
 {
-    let mut place = insns.len();
-    while place > 0 {
-        place -= 1;
+    for place in (0..insns.len()).rev() {
         let size = size_at(insns, place, sizes);
         sizes[place] = size;
     }
@@ -108,11 +104,7 @@ fn size_of(insns: &[Insn], place: usize, insn: Insn, operation: Operation, sizes
     match Flow::of(insns, place, insn, operation) {
         Flow::Next(next) => sizes[next].saturating_add(1),
         Flow::Jump(target) => sizes[target].saturating_add(1),
-        Flow::Branch {
-            if_true,
-            if_false,
-            ..
-        } => sizes[if_true]
+        Flow::Branch(_, _, if_true, if_false) => sizes[if_true]
             .saturating_add(sizes[if_false])
             .saturating_add(1),
         Flow::DivideByIndex(next) => sizes[next].saturating_add(2),
@@ -154,9 +146,7 @@ fn size_of_rules(rules: &[Rule], number: u32) -> u64
     ensures { result ≡ saturated (rules_size (rules_of number rules.now)) }
 {
     let mut size = 1;
-    let mut place = rules.len();
-    while place > 0 {
-        place -= 1;
+    for place in (0..rules.len()).rev() {
         size = size_with_rule(&rules[place], number, size);
     }
     size
@@ -181,9 +171,7 @@ fn size_of_conditions(conditions: &[Condition], fails: u64) -> u64
 {
     let twice_fails = fails.saturating_add(fails);
     let mut size: u64 = 1;
-    let mut place = conditions.len();
-    while place > 0 {
-        place -= 1;
+    for _place in (0..conditions.len()).rev() {
         size = size
             .saturating_add(size)
             .saturating_add(twice_fails)

@@ -7,17 +7,10 @@ use crate::asking::Atoms;
 pub(crate) enum Turn<N, E> {
     /// One way on.
     Go(N),
-    /// The answer of atoms decides.
-    Ask {
-        atoms: Atoms,
-        if_true: N,
-        if_false: N,
-    },
+    /// Atoms decide: the first node where they hold, else the second.
+    Ask(Atoms, N, N),
     /// No atom decides: either way may be taken.
-    Fork {
-        if_true: N,
-        if_false: N,
-    },
+    Fork(N, N),
     /// The tree ends.
     End(E),
 }

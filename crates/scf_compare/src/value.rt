@@ -35,7 +35,7 @@ pub(crate) enum Value {
 pub(crate) enum Decision {
     Known(bool),
     /// It holds where the atoms have this answer.
-    Asks { atoms: Atoms, holds: bool },
+    Asks(Atoms, bool),
     /// No atom tells.
     Open,
 }
@@ -60,36 +60,17 @@ impl Value {
             → StandsFor other words v
             → StandsFor result words (value_computed arithmetic a v) }
     {
-        match (self, other) {
-            (_, Value::Known(v)) => self.computed_with(arithmetic, v),
-            (Value::Known(a), _) if is_commutative(arithmetic) => {
+        match (self, other, arithmetic) {
+            (_, Value::Known(v), _) => self.computed_with(arithmetic, v),
+            (Value::Known(a), _, Arithmetic::Sub) => other.taken_from(a),
+            (Value::Known(a), _, _) if is_commutative(arithmetic) => {
                 other.computed_with(arithmetic, a)
             }
-            (Value::Known(a), _) => match arithmetic {
-                Arithmetic::Sub => other.taken_from(a),
-                _ => Value::Unknown,
-            },
-            _ => self.joined(arithmetic, other),
-        }
-    }
-
-    /// What is known of the result of a computation with another value, where neither is known.
-    fn joined(self, arithmetic: Arithmetic, other: Value) -> Value
-        requires first { IsValue self }
-        requires second { IsValue other }
-        ensures value { IsValue result }
-        ensures stands { (words : List ℕ) (a b : ℕ) → StandsFor self words a
-            → StandsFor other words b
-            → StandsFor result words (value_computed arithmetic a b) }
-    {
-        match (self, other) {
-            (Value::OfWord(first), Value::OfWord(second)) => {
-                images_result(arithmetic, first, second)
+            (Value::OfWord(first), Value::OfWord(second), _) if first.is_shifted_as(second) => {
+                first.joined(arithmetic, second)
             }
-            _ => match arithmetic {
-                Arithmetic::Or => self.either(other),
-                _ => Value::Unknown,
-            },
+            (_, _, Arithmetic::Or) => self.either(other),
+            _ => Value::Unknown,
         }
     }
 
@@ -142,7 +123,7 @@ impl Value {
     }
 
     /// What is known of the difference from a known number.
-    fn taken_from(self, v: u32) -> Value
+    pub(crate) fn taken_from(self, v: u32) -> Value
         requires { IsValue self }
         ensures value { IsValue result }
         ensures stands { (words : List ℕ) (a : ℕ) → StandsFor self words a
@@ -154,16 +135,6 @@ impl Value {
             Value::Offset(offset) => offset.taken_from(v).value(),
             Value::ZeroWhere(_) | Value::Unknown => Value::Unknown,
         }
-    }
-
-    /// What is known of its negation.
-    pub(crate) fn negated(self) -> Value
-        requires { IsValue self }
-        ensures value { IsValue result }
-        ensures stands { (words : List ℕ) (a : ℕ) → StandsFor self words a
-            → StandsFor result words ((2 ^ 32 - a) % 2 ^ 32) }
-    {
-        self.taken_from(0)
     }
 
     /// What is known of its low five bits.
@@ -226,8 +197,7 @@ impl Value {
             → Decides result words (holds test a v) }
     {
         match test {
-            Test::Equal => self.decide_with(Test::Equal, a),
-            Test::CommonBit => self.decide_with(Test::CommonBit, a),
+            Test::Equal | Test::CommonBit => self.decide_with(test, a),
             Test::Greater => self.decide_with(Test::GreaterOrEqual, a).negated(),
             Test::GreaterOrEqual => self.decide_with(Test::Greater, a).negated(),
         }
@@ -245,10 +215,7 @@ impl Decision {
     {
         match self {
             Decision::Known(outcome) => Decision::Known(!outcome),
-            Decision::Asks { atoms, holds } => Decision::Asks {
-                atoms,
-                holds: !holds,
-            },
+            Decision::Asks(atoms, holds) => Decision::Asks(atoms, !holds),
             Decision::Open => Decision::Open,
         }
     }
@@ -259,15 +226,10 @@ fn known_result(arithmetic: Arithmetic, a: u32, v: u32) -> Value
     ensures value { IsValue result }
     ensures stands { (words : List ℕ) → StandsFor result words (value_computed arithmetic a v) }
 {
-    let has_result = match arithmetic {
-        Arithmetic::Div => v != 0,
-        Arithmetic::Lsh | Arithmetic::Rsh => v < 32,
-        _ => true,
-    };
-    if has_result {
-        Value::Known(compute(arithmetic, a, v))
-    } else {
-        Value::Unknown
+    match arithmetic {
+        Arithmetic::Div if v == 0 => Value::Unknown,
+        Arithmetic::Lsh | Arithmetic::Rsh if v >= 32 => Value::Unknown,
+        _ => Value::Known(compute(arithmetic, a, v)),
     }
 }
 
@@ -305,24 +267,6 @@ fn image_result(arithmetic: Arithmetic, image: Image, v: u32) -> Value
             Some(count) => image.shifted_right(count),
             None => Value::Unknown,
         },
-        _ => Value::Unknown,
-    }
-}
-
-/// A computation on images of words.
-fn images_result(arithmetic: Arithmetic, first: Image, second: Image) -> Value
-    requires first { IsImage first }
-    requires second { IsImage second }
-    ensures value { IsValue result }
-    ensures stands { (words : List ℕ)
-        → StandsFor result words
-        (value_computed arithmetic (image_number first words) (image_number second words)) }
-{
-    if first.is_shifted_as(second) {
-        return first.joined(arithmetic, second);
-    }
-    match arithmetic {
-        Arithmetic::Or => Value::OfWord(first).either(Value::OfWord(second)),
         _ => Value::Unknown,
     }
 }
@@ -365,14 +309,12 @@ fn decide_image(image: Image, test: Test, v: u32) -> Decision
     match test {
         Test::Equal => image.is(v),
         Test::CommonBit => image.and(v).is(0).negated(),
-        Test::Greater if image.is_whole() => Decision::Asks {
-            atoms: Atoms::One(Atom::Gt { word, value: v }),
-            holds: true,
-        },
-        Test::GreaterOrEqual if image.is_whole() => Decision::Asks {
-            atoms: Atoms::One(Atom::Ge { word, value: v }),
-            holds: true,
-        },
+        Test::Greater if image.is_whole() => {
+            Decision::Asks(Atoms::One(Atom::Gt { word, value: v }), true)
+        }
+        Test::GreaterOrEqual if image.is_whole() => {
+            Decision::Asks(Atoms::One(Atom::Ge { word, value: v }), true)
+        }
         Test::Greater | Test::GreaterOrEqual => decide_offset(Offset::of(image), test, v),
     }
 }

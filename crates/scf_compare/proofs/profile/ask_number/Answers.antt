@@ -20,7 +20,7 @@ returns-clause-leads g c =
     let none : FirstRule = record { number = 0; place = 0 } in
     let first : FirstRule = slice_index_or firsts place none in
     let here = slice_get-get_or firsts place none c.if-place-firsts.false in
-    λ words w allowed r. (
+    λ words w allowed r. rw c.word_is.ensures (
       λ e. let same = word_is words 0 first.number w e in
           c.next_rule.ensures.reached words r.0 same
           (unmet_at firsts rules c.requires place first here (call_of words) same),

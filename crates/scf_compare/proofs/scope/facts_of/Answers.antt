@@ -36,7 +36,7 @@ pub returns-in_ok-learn-in-Call-clause-scope : goal.returns-in_ok-learn-in-Call-
 returns-in_ok-learn-in-Call-clause-scope g c =
     let number = c.in-Call.number in
     let start = c.in_ok-of_call-in-Call in
-    let law = c.in_ok-learn-in-Call.ensures.law_learn in
+    let law = rw c.word_is-is_number.ensures at c.in_ok-learn-in-Call.ensures.law_learn in
     let known =
     learned g.F.WordFacts start.of_call c.learn-in-Call.new.self (Eq 0 4294967295 number) true
     start.ensures.unmarked start.ensures.scope law in

@@ -2,10 +2,5 @@ use Rattle.scf_compare.proofs.Common.{◌≡◌, ◌≤◌, ◌<◌, ℕ, length
 use Rattle.scf_compare.proofs.tree_sizes.fill_sizes.Given as goal
 
 abbrev pub invariant-loop-place : goal.invariant-loop-place
-invariant-loop-place l = record {
-  within : l.place ≤ length l.insns;
-  filled : (at : ℕ) → l.place ≤ at → at < length l.insns → slice_index l.sizes at ≡ saturated (tree_size l.insns at);
-}
-
-abbrev pub decreases-loop-place : goal.decreases-loop-place
-decreases-loop-place l = l.place
+invariant-loop-place l =
+    (at : ℕ) → l.place ≤ at → at < length l.insns → slice_index l.sizes at ≡ saturated (tree_size l.insns at)

@@ -1,11 +1,5 @@
-use Rattle.scf_compare.proofs.Common.{◌≡◌, ◌≤◌, length, drop, rules_of, rules_size, saturated}
+use Rattle.scf_compare.proofs.Common.{◌≡◌, drop, rules_of, rules_size, saturated}
 use Rattle.scf_compare.proofs.tree_sizes.size_of_rules.Given as goal
 
 abbrev pub invariant-loop-place : goal.invariant-loop-place
-invariant-loop-place l = record {
-  within : l.place ≤ length l.rules;
-  size : l.size ≡ saturated (rules_size (rules_of l.number (drop l.place l.rules)));
-}
-
-abbrev pub decreases-loop-place : goal.decreases-loop-place
-decreases-loop-place l = l.place
+invariant-loop-place l = l.size ≡ saturated (rules_size (rules_of l.number (drop l.place l.rules)))

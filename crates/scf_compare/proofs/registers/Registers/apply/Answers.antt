@@ -45,7 +45,7 @@ returns-in-Compute-clause-describes c = λ words s t w d e.
 
 pub returns-in-Negate-clause-describes : goal.returns-in-Negate-clause-describes
 returns-in-Negate-clause-describes c = λ words s t w d e.
-    let negated = c.negated-negated.ensures.stands words s.a d.a in
+    let negated = c.taken_from-negated.ensures.stands words s.a d.a in
     let set = c.set-in-Negate.ensures.describes words s _ d negated in
     grind arith
 
