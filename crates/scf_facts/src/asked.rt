@@ -1,5 +1,6 @@
 //! What is asked of a number, by intervals or by bits.
 
+ghost use Rattle.std.specs.Prelude.{◌≡◌};
 ghost use Rattle.scf_facts.specs.internal.Asked.{Asks, AsksSimply};
 
 use crate::atom::Atom;
@@ -23,56 +24,26 @@ impl Asked {
         ensures simple { AsksSimply atom result }
     {
         match atom {
-            Atom::Gt { value, .. } => Asked::Within {
-                range: Interval {
-                    low: 0,
-                    high: value,
-                },
-                answer: false,
-            },
-            Atom::Ge { value, .. } => Asked::Within {
-                range: Interval {
-                    low: value,
-                    high: u32::MAX,
-                },
-                answer: true,
-            },
-            Atom::Arc { first, last, .. } if first <= last => Asked::Within {
-                range: Interval {
-                    low: first,
-                    high: last,
-                },
-                answer: true,
-            },
-            Atom::Arc { first, last, .. } if last + 1 < first => Asked::Within {
-                range: Interval {
-                    low: last + 1,
-                    high: first - 1,
-                },
-                answer: false,
-            },
-            Atom::Arc { .. } => Asked::Within {
-                range: Interval::ALL,
-                answer: true,
-            },
-            Atom::Eq {
-                mask: u32::MAX,
-                value,
-                ..
-            } => Asked::Within {
-                range: Interval::point(value),
-                answer: true,
-            },
+            Atom::Gt { value, .. } => Asked::within(0, value, false),
+            Atom::Ge { value, .. } => Asked::within(value, u32::MAX, true),
+            Atom::Arc { first, last, .. } if first <= last => Asked::within(first, last, true),
+            Atom::Arc { first, last, .. } if last + 1 < first => {
+                Asked::within(last + 1, first - 1, false)
+            }
+            Atom::Arc { .. } => Asked::within(0, u32::MAX, true),
+            Atom::Eq { mask, value, .. } if mask == u32::MAX => Asked::within(value, value, true),
             Atom::Eq { mask, value, .. } if is_high_mask(mask) && value & mask == value => {
-                Asked::Within {
-                    range: Interval {
-                        low: value,
-                        high: value + !mask,
-                    },
-                    answer: true,
-                }
+                Asked::within(value, value + !mask, true)
             }
             Atom::Eq { mask, value, .. } => Asked::Masked(Bits { mask, value }),
         }
+    }
+
+    /// Whether it lies from one number to another, both included: it does where the atom has this answer.
+    fn within(low: u32, high: u32, answer: bool) -> Asked
+        ensures { result ≡ Asked.Within (record { low = low; high = high }) answer }
+    {
+        let range = Interval { low, high };
+        Asked::Within { range, answer }
     }
 }

@@ -17,13 +17,6 @@ impl Interval {
         high: u32::MAX,
     };
 
-    /// One number.
-    pub(crate) fn point(x: u32) -> Interval
-        ensures { result ≡ record { low = x; high = x } }
-    {
-        Interval { low: x, high: x }
-    }
-
     /// Its part within a range.
     pub(crate) fn part_within(self, range: Interval) -> Option<Interval>
         ensures { result ≡ part_within range self }
