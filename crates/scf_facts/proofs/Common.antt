@@ -1,9 +1,10 @@
 -- The names that proofs of this crate cite, passed on from one place. Declares nothing.
-pub use Rattle.std.proofs.Common.{All, Bool, IfNone, IfSome, IsTrue, List, None, Option, Some, [], ap, arith, bit_and, bit_or, bit_xor, count_ones, drop, eqb, false, get_or, if◌then◌else◌, inl, inr, leb, length, length-append, ltb, max, min, nat_le, nat_lt, refl, replicate, rules, slice_get, slice_index, slice_index_or, slice_set, subst, suc, sym, take, true, zero, ℕ, ◌%◌, ◌*◌, ◌++◌, ◌+◌, ◌-◌, ◌/◌, ◌<◌, ◌==◌, ◌^◌, ◌↔◌, ◌∙◌, ◌∷◌, ◌≡◌, ◌≢◌, ◌≤◌, ◌⊎◌}
+pub use Rattle.std.proofs.Common.{All, Bool, IfNone, IfSome, IsTrue, List, None, Option, Some, [], ap, arith, bit_and, bit_or, bit_xor, count_ones, drop, eqb, false, get_or, if◌then◌else◌, inl, inr, leb, length, length-append, ltb, max, min, nat_le, nat_lt, refl, replicate, rules, slice_get, slice_index, slice_index_or, slice_set, subst, suc, sym, take, tests, true, zero, ℕ, ◌%◌, ◌*◌, ◌++◌, ◌+◌, ◌-◌, ◌/◌, ◌<◌, ◌==◌, ◌^◌, ◌↔◌, ◌∙◌, ◌∷◌, ◌≡◌, ◌≢◌, ◌≤◌, ◌⊎◌}
 pub use Rattle.std.proofs.Math.Nat.{add-mul, le-div_iff_mul-le, mod-lt, pow-succ'}
 pub use Rattle.std.proofs.Math.Pow.{pow_mono}
 pub use Rattle.std.proofs.Math.Seq.{take-append_seam}
 pub use Rattle.std.proofs.lemmas.Bool.{both_ways, cond_both, false_from_ne_true, false≢true, leb-false, leb-true, ltb-false, ltb-true, true_from_ne_false}
+pub use Rattle.std.proofs.lemmas.Iterator.{YieldsList-from_slice, cases_from_any}
 pub use Rattle.std.proofs.lemmas.List.{drop-append-le, get_or-replicate, get_or-set_other, get_or-set_same, get_or_default, get_or_past, get_or_read, length-replicate, length-take-le, set-get_or, set-set, take-append-le, take-take, with_items_is}
 pub use Rattle.std.proofs.lemmas.List.Elements.{All-pop, All-push, All-set, recursion_from_All}
 pub use Rattle.std.proofs.lemmas.List.Sorted.{IsPartitionPoint-from_clause, IsPartitionedBy-leb, IsPartitionedBy-ltb}
@@ -11,6 +12,7 @@ pub use Rattle.std.proofs.lemmas.List.Sums.{AllPass-from_list_all, list_all-from
 pub use Rattle.std.proofs.lemmas.Nat.{and_assoc, and_comm, and_le_r, div_below, le-div, leading_top, one_shl, or_disjoint, shr_split, xor_lt}
 pub use Rattle.std.proofs.lemmas.Nat.Bits.{and_high_mask, and_pow, bit_at-lt, bit_at-trailing_zeros, bit_at-zero, bit_at_and, bit_at_or, bit_at_xor, ones_shl, same_from_bits}
 pub use Rattle.std.proofs.lemmas.Option.{gets}
+pub use Rattle.std.specs.Bool.{MatchBool}
 pub use Rattle.std.specs.Int.{bit_at, is_power_of_two}
 pub use Rattle.std.specs.Int.Bits.{and_zero_r}
 pub use Rattle.std.specs.Int.Count.{count_leading_zeros, count_trailing_zeros}
@@ -30,11 +32,12 @@ pub use Rattle.scf_facts.specs.declared.fact.Fact.{Fact}
 pub use Rattle.scf_facts.specs.declared.interval.Interval.{Interval}
 pub use Rattle.scf_facts.specs.declared.trail.Change.{Change}
 pub use Rattle.scf_facts.specs.declared.trail.Change.TheVariants.{OfWord}
+pub use Rattle.scf_facts.specs.declared.trail.Former.TheVariants.{Intervals}
 pub use Rattle.scf_facts.specs.declared.trail.WordChange.{WordChange}
 pub use Rattle.scf_facts.specs.internal.AtomPairs.{NotBothTrue}
 pub use Rattle.scf_facts.specs.internal.Bits.{HasBits, LacksBits, SomeLack}
 pub use Rattle.scf_facts.specs.internal.Counts.{AreRising, count_at}
 pub use Rattle.scf_facts.specs.internal.Intervals.{AreApart, AreApartFrom, ArePartsOf, LiesIn, LiesInOne, LiesOutside, part_above, part_below, part_within}
 pub use Rattle.scf_facts.specs.internal.Learned.{AllowsByFacts, IsFactOfWords, learned_at}
-pub use Rattle.scf_facts.specs.internal.Trail.{Covers, HasIntervals, facts_before, known_at, known_before, restored}
+pub use Rattle.scf_facts.specs.internal.Trail.{Covers, facts_before, known_at, known_before, restored}
 pub use Rattle.scf_facts.specs.internal.WordSets.{AllFacts, AllowsList, AllowsNumber, AllowsWords, EachNumber, NumberFacts, SomeNumber, is_exact_known, is_exact_set, known_of, no_facts}

@@ -1,5 +1,5 @@
 -- What was known at a level, as more is learned and marks are opened and closed.
-use Rattle.scf_facts.proofs.Common.{◌≡◌, ◌^◌, ℕ, ◌≤◌, ◌<◌, ◌↔◌, List, [], ◌∷◌, ◌++◌, length, take, drop, refl, sym, ◌∙◌, ap, subst, arith, length-append, ◌-◌, Bool, IsTrue, Some, slice_set, slice_index, slice_index_or, ◌==◌, list_all, set-set, set-get_or, get_or-set_same, get_or_default, get_or_past, drop-append-le, and_parts, and_from, length-set, length-take-le, take-append-drop, drop_all, All-push, All-pop, Atom, AtomPair, Change, OfWord, WordChange, answer_at, atom_answer, word_of, count_at, AreRising, facts_before, known_before, restored, known_at, Covers, HasIntervals, NumberFacts, AllowsNumber, AllowsWords, is_exact_set, no_facts, AllFacts, AllowsList, is_exact_known, known_of, NotBothTrue}
+use Rattle.scf_facts.proofs.Common.{◌≡◌, ◌^◌, ℕ, ◌≤◌, ◌<◌, ◌↔◌, List, [], ◌∷◌, ◌++◌, length, take, drop, refl, sym, ◌∙◌, ap, subst, arith, length-append, ◌-◌, Bool, IsTrue, Some, slice_set, slice_index, slice_index_or, ◌==◌, list_all, set-set, set-get_or, get_or-set_same, get_or_default, get_or_past, drop-append-le, and_parts, and_from, length-set, length-take-le, take-append-drop, drop_all, All-push, All-pop, Atom, AtomPair, Change, OfWord, WordChange, answer_at, atom_answer, word_of, count_at, AreRising, facts_before, known_before, restored, known_at, Covers, Intervals, Interval, NumberFacts, AllowsNumber, AllowsWords, is_exact_set, no_facts, AllFacts, AllowsList, is_exact_known, known_of, NotBothTrue}
 use Rattle.scf_facts.proofs.StoreLaws.{allows_set, exact_set}
 use Rattle.scf_facts.proofs.CountLaws.{count_opened, count_closed, count_within, count_newest, rising_closed}
 
@@ -44,9 +44,9 @@ before_changed sets pairs change old new within read same =
     ∙ set-get_or sets word old)
 
 -- of changes of one word's intervals the first brings back what was known before both
-pub covers : (first later : WordChange) → first.word ≡ later.word → later.word < 16
-    → HasIntervals first.former → HasIntervals later.former → Covers (OfWord first) (OfWord later)
-covers first later same below (is, e) (js, f) known sixteen =
+pub covers : (first later : WordChange) (is js : List Interval) → first.word ≡ later.word → later.word < 16
+    → first.former ≡ Intervals is → later.former ≡ Intervals js → Covers (OfWord first) (OfWord later)
+covers first later is js same below e f known sixteen =
     let word = later.word in
     let now = slice_index_or known.sets word no_facts in
     rw (same, e, f) (ap (λ (s : List NumberFacts). known_of s known.pairs)

@@ -1,6 +1,6 @@
 //! What is asked of one word, and what can be told of that.
 
-ghost use Rattle.std.specs.Prelude.{◌≡◌, ◌<◌};
+ghost use Rattle.std.specs.Prelude.{◌≡◌, ◌<◌, if◌then◌else◌};
 ghost use Rattle.scf_facts.specs.Atoms.{answer_at, atom_answer, word_of};
 
 /// What is asked of one of the sixteen words of a call record, by its number from 0 to 15: an answer is true or false.
@@ -60,4 +60,13 @@ pub enum Tell {
     Never,
     /// Nothing is said.
     Maybe,
+}
+
+impl Tell {
+    /// What is told where this is the answer of all that is allowed.
+    pub(crate) fn of(answer: bool) -> Tell
+        ensures { result ≡ (if answer then Tell.Always else Tell.Never) }
+    {
+        if answer { Tell::Always } else { Tell::Never }
+    }
 }

@@ -81,11 +81,7 @@ impl WordFacts for AtomList {
     #[tactic(auto, using(crate::proofs::AtomLaws::learned_laws))]
     fn tell(&self, atom: Atom) -> Tell {
         if let Atom::Eq { mask: 0, value, .. } = atom {
-            return if value == 0 {
-                Tell::Always
-            } else {
-                Tell::Never
-            };
+            return Tell::of(value == 0);
         }
         for known in &self.learned {
             match known.tells(atom) {
@@ -108,11 +104,7 @@ impl WordFacts for AtomList {
                 words[word as usize] = value;
             }
         }
-        if all_agree(&self.learned, &words) {
-            Some(words)
-        } else {
-            None
-        }
+        all_agree(&self.learned, &words).then_some(words)
     }
 }
 

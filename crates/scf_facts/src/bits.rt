@@ -40,13 +40,7 @@ impl Bits {
             mask: self.mask | other.mask,
             value: self.value | other.value,
         };
-        let in_self = self.are_in(bits.value);
-        let in_other = other.are_in(bits.value);
-        if in_self && in_other {
-            Some(bits)
-        } else {
-            None
-        }
+        (self.are_in(bits.value) && other.are_in(bits.value)).then_some(bits)
     }
 
     /// Whether every number with these has the others.

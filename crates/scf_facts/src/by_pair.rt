@@ -75,12 +75,7 @@ fn has_told_pair(sets: &[WordSet], pairs: &[AtomPair]) -> bool
     ensures { IsTrue result → (words : List ℕ) → AllowsWords sets.now words
         → All (λ pair. NotBothTrue pair.first pair.second words) pairs.now → ⊥ }
 {
-    for pair in pairs {
-        if is_told(sets, pair.first) && is_told(sets, pair.second) {
-            return true;
-        }
-    }
-    false
+    pairs.iter().any(|pair| is_told(sets, pair.first) && is_told(sets, pair.second))
 }
 
 /// Refutes an atom of each pair of which the words have both true, the first one if a number is found for that. A later

@@ -31,12 +31,7 @@ pub(crate) fn has_empty_word(sets: &[WordSet]) -> bool
     ensures seen { IsTrue (list_all is_exact_set sets.now)
         → ((words : List ℕ) → AllowsWords sets.now words → ⊥) → IsTrue result }
 {
-    for set in sets {
-        if set.is_empty() {
-            return true;
-        }
-    }
-    false
+    sets.iter().any(|set| set.is_empty())
 }
 
 /// One of its numbers for each word, if they are found.

@@ -67,12 +67,7 @@ pub(crate) fn refutes(refuted: &[Bits], bits: Bits) -> bool
     ensures each { IsTrue result → (x : ℕ) → HasBits bits x → All (λ other. LacksBits other x) refuted.now → ⊥ }
     ensures some { result ≡ false → HasBits bits bits.value → All (SomeLack bits) refuted.now }
 {
-    for other in refuted {
-        if bits.imply(*other) {
-            return true;
-        }
-    }
-    false
+    refuted.iter().any(|other| bits.imply(*other))
 }
 
 /// The first of the refuted bits that a number has.
@@ -81,10 +76,5 @@ fn refuted_in(refuted: &[Bits], x: u32) -> Option<Bits>
     ensures one { IfSome result (λ bits. (y : ℕ) → All (λ other. LacksBits other y) refuted.now → LacksBits bits y) }
     ensures none { IfNone result (All (λ bits. LacksBits bits x) refuted.now) }
 {
-    for bits in refuted {
-        if bits.are_in(x) {
-            return Some(*bits);
-        }
-    }
-    None
+    refuted.iter().find(|bits| bits.are_in(x)).copied()
 }

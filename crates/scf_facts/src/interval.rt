@@ -23,38 +23,26 @@ impl Interval {
     {
         let low = self.low.max(range.low);
         let high = self.high.min(range.high);
-        if low <= high {
-            Some(Interval { low, high })
-        } else {
-            None
-        }
+        (low <= high).then_some(Interval { low, high })
     }
 
     /// Its part below a number.
     pub(crate) fn part_below(self, bound: u32) -> Option<Interval>
         ensures { result ≡ part_below bound self }
     {
-        if self.low < bound {
-            Some(Interval {
-                low: self.low,
-                high: self.high.min(bound - 1),
-            })
-        } else {
-            None
-        }
+        (self.low < bound).then(|| Interval {
+            low: self.low,
+            high: self.high.min(bound - 1),
+        })
     }
 
     /// Its part above a number.
     pub(crate) fn part_above(self, bound: u32) -> Option<Interval>
         ensures { result ≡ part_above bound self }
     {
-        if bound < self.high {
-            Some(Interval {
-                low: self.low.max(bound + 1),
-                high: self.high,
-            })
-        } else {
-            None
-        }
+        (bound < self.high).then(|| Interval {
+            low: self.low.max(bound + 1),
+            high: self.high,
+        })
     }
 }

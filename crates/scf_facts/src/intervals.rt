@@ -11,10 +11,7 @@ use std::alloc::{AllocError, Global};
 use std::marker::Model;
 
 /// The interval of all numbers alone.
-static ALL_INTERVALS: [Interval; 1] = [Interval {
-    low: 0,
-    high: u32::MAX,
-}];
+static ALL_INTERVALS: [Interval; 1] = [Interval::ALL];
 
 /// Intervals in order and apart.
 #[derive(Drop)]
@@ -68,7 +65,8 @@ impl Intervals {
     pub(crate) fn within(&self, alloc: Global, range: Interval) -> Result<Intervals, Memory>
         ensures { IfOk result (λ parts. ArePartsOf (LiesIn range) self.now parts) }
     {
-        let parts = parts_within(alloc, self.as_slice(), range)?;
+        let split = split_by(self.as_slice(), range);
+        let parts = parts_of_touched_within(alloc, split.touched, range)?;
         Ok(Intervals { cut: Some(parts) })
     }
 
@@ -77,23 +75,15 @@ impl Intervals {
         requires { range.low ≤ range.high }
         ensures { IfOk result (λ parts. ArePartsOf (LiesOutside range) self.now parts) }
     {
-        let parts = parts_outside(alloc, self.as_slice(), range)?;
+        let intervals = self.as_slice();
+        let split = split_by(intervals, range);
+        let cut = parts_of_touched_outside(alloc, split.touched, range)?;
+        let mut parts = Vec::with_capacity(alloc, intervals.len() + 1)?;
+        parts.extend_from_slice(split.below)?;
+        parts.extend_from_slice(&cut)?;
+        parts.extend_from_slice(split.above)?;
         Ok(Intervals { cut: Some(parts) })
     }
-}
-
-/// The parts of sorted intervals within a range, in their order.
-fn parts_within(
-    alloc: Global,
-    intervals: &[Interval],
-    range: Interval,
-) -> Result<Vec<Interval>, AllocError>
-    requires { AreApart intervals.now }
-    ensures { IfOk result (λ parts. ArePartsOf (LiesIn range) intervals.now parts.items) }
-{
-    let split = split_by(intervals, range);
-    let parts = parts_of_touched_within(alloc, split.touched, range)?;
-    Ok(parts)
 }
 
 /// The parts of intervals within a range, looked for in each.
@@ -108,25 +98,6 @@ fn parts_of_touched_within(
         .iter()
         .filter_map(|interval| interval.part_within(range))
         .collect(alloc)
-}
-
-/// The parts of sorted intervals outside a range, in their order.
-fn parts_outside(
-    alloc: Global,
-    intervals: &[Interval],
-    range: Interval,
-) -> Result<Vec<Interval>, AllocError>
-    requires apart { AreApart intervals.now }
-    requires filled { range.low ≤ range.high }
-    ensures { IfOk result (λ parts. ArePartsOf (LiesOutside range) intervals.now parts.items) }
-{
-    let split = split_by(intervals, range);
-    let cut = parts_of_touched_outside(alloc, split.touched, range)?;
-    let mut parts = Vec::with_capacity(alloc, intervals.len() + 1)?;
-    parts.extend_from_slice(split.below)?;
-    parts.extend_from_slice(&cut)?;
-    parts.extend_from_slice(split.above)?;
-    Ok(parts)
 }
 
 /// The parts of intervals outside a range, looked for in each.
@@ -210,8 +181,5 @@ pub(crate) fn lies_in_one(intervals: &[Interval], x: u32) -> bool
     requires { AreApart intervals.now }
     ensures { IsTrue result ↔ LiesInOne intervals.now x }
 {
-    match first_reaching(intervals, x) {
-        Some(interval) => interval.low <= x,
-        None => false,
-    }
+    first_reaching(intervals, x).is_some_and(|interval| interval.low <= x)
 }

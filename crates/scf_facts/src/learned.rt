@@ -44,20 +44,10 @@ impl Learned {
             → atom_answer atom words ≡ false }
     {
         if self.atom == atom {
-            return if self.holds {
-                Tell::Always
-            } else {
-                Tell::Never
-            };
+            return Tell::of(self.holds);
         }
         match self.fixes() {
-            Some((word, value)) if word == atom.word() => {
-                if atom.answer(value) {
-                    Tell::Always
-                } else {
-                    Tell::Never
-                }
-            }
+            Some((word, value)) if word == atom.word() => Tell::of(atom.answer(value)),
             _ => Tell::Maybe,
         }
     }

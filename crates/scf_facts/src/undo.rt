@@ -4,22 +4,13 @@ ghost use Rattle.std.specs.Prelude.{◌≡◌, ◌<◌, ◌≤◌, ◌++◌, ◌
 ghost use Rattle.std.specs.Vec.{vec_capacity, vec_len};
 ghost use Rattle.scf_facts.specs.declared.trail.Change.{Change};
 ghost use Rattle.scf_facts.specs.internal.Counts.{AreRising};
-ghost use Rattle.scf_facts.specs.internal.Trail.{Covers, HasIntervals, known_at, known_before, restored};
+ghost use Rattle.scf_facts.specs.internal.Trail.{Covers, known_at, known_before, restored};
 ghost use Rattle.scf_facts.specs.internal.WordSets.{AllFacts, known_of};
 
 use crate::atom_pair::AtomPair;
 use crate::trail::{Change, Former};
 use crate::word_set::WordSet;
 use scf_insn::Memory;
-
-impl Former {
-    /// Whether these are intervals.
-    fn has_intervals(&self) -> bool
-        ensures { IsTrue result → HasIntervals self.now }
-    {
-        matches!(self, Former::Intervals(_))
-    }
-}
 
 impl Change {
     /// Takes it back.
@@ -42,7 +33,10 @@ impl Change {
     {
         match (self, later) {
             (Change::OfWord(first), Change::OfWord(second)) if first.word == second.word => {
-                first.former.has_intervals() && second.former.has_intervals()
+                matches!(
+                    (&first.former, &second.former),
+                    (Former::Intervals(_), Former::Intervals(_))
+                )
             }
             _ => false,
         }
@@ -100,13 +94,10 @@ pub(crate) fn note(trail: &mut Vec<Change>, marks: &[usize], change: Change) -> 
         → known_at known trail.new.items marks.now place
         ≡ known_at (known_before change known) trail.old.items marks.now place) }
 {
-    if marks.is_empty() {
-        return Ok(());
+    if let Some(newest) = marks.last() {
+        if !is_covered(trail, *newest, &change) {
+            trail.push(change)?;
+        }
     }
-    let newest = marks[marks.len() - 1];
-    if is_covered(trail, newest, &change) {
-        return Ok(());
-    }
-    trail.push(change)?;
     Ok(())
 }

@@ -67,20 +67,10 @@ impl WordSet {
             → IsTrue (is_exact_set self.old) → IsTrue (is_exact_set self.new)) }
     {
         match Asked::of(atom) {
-            Asked::Within { range, answer } => {
-                if answer == holds {
-                    Ok(self.keep_range(alloc, range)?)
-                } else {
-                    Ok(self.drop_range(alloc, range)?)
-                }
-            }
-            Asked::Masked(bits) => {
-                if holds {
-                    Ok(self.keep_bits(alloc, bits))
-                } else {
-                    Ok(self.drop_bits(alloc, bits)?)
-                }
-            }
+            Asked::Within { range, answer } if answer == holds => self.keep_range(alloc, range),
+            Asked::Within { range, .. } => self.drop_range(alloc, range),
+            Asked::Masked(bits) if holds => Ok(self.keep_bits(alloc, bits)),
+            Asked::Masked(bits) => self.drop_bits(alloc, bits),
         }
     }
 
@@ -107,8 +97,7 @@ impl WordSet {
         ensures refuted { self.new.refuted ≡ self.old.refuted }
     {
         let kept = self.intervals.within(alloc, range)?;
-        let former = mem::replace(&mut self.intervals, kept);
-        Ok(Former::Intervals(former))
+        Ok(Former::Intervals(mem::replace(&mut self.intervals, kept)))
     }
 
     /// Keeps the numbers outside a range.
@@ -122,8 +111,7 @@ impl WordSet {
         ensures refuted { self.new.refuted ≡ self.old.refuted }
     {
         let kept = self.intervals.outside(alloc, range)?;
-        let former = mem::replace(&mut self.intervals, kept);
-        Ok(Former::Intervals(former))
+        Ok(Former::Intervals(mem::replace(&mut self.intervals, kept)))
     }
 
     /// Keeps no number.
@@ -184,8 +172,7 @@ impl WordSet {
             Asked::Masked(bits) => self.has_bits(bits),
         };
         match told {
-            Some(true) => Tell::Always,
-            Some(false) => Tell::Never,
+            Some(answer) => Tell::of(answer),
             None => Tell::Maybe,
         }
     }
@@ -246,10 +233,8 @@ impl WordSet {
         ensures none { IsTrue result → EachNumber self.now (λ x. LiesIn range x → LacksBits bits x) }
         ensures some { result ≡ false → (x : ℕ) × LiesInOne self.now.intervals x × LiesIn range x × HasBits bits x }
     {
-        if refutes(&self.refuted, bits) {
-            return true;
-        }
-        first_number(self.intervals.as_slice(), range, bits).is_none()
+        refutes(&self.refuted, bits)
+            || first_number(self.intervals.as_slice(), range, bits).is_none()
     }
 
     /// Whether no number has these bits beside the known ones.
@@ -279,10 +264,7 @@ impl WordSet {
         ensures some { result ≡ false → IsTrue (is_exact_set self.now)
             → IfSome part (λ range. SomeNumber self.now (LiesIn range)) × IsSome part }
     {
-        match part {
-            Some(range) => self.has_none(range, self.known),
-            None => true,
-        }
+        part.is_none_or(|range| self.has_none(range, self.known))
     }
 
     /// Whether it is known that there is no number.
@@ -331,21 +313,11 @@ impl WordSet {
         ensures refuted { IfSome result (λ x. answer_at atom x ≡ false) }
     {
         let number = match Asked::of(atom) {
-            Asked::Within {
-                range,
-                answer: true,
-            } => self.first_outside(range),
-            Asked::Within {
-                range,
-                answer: false,
-            } => self.first_in(range, self.known),
+            Asked::Within { range, answer } if answer => self.first_outside(range),
+            Asked::Within { range, .. } => self.first_in(range, self.known),
             Asked::Masked(bits) => self.first_without(bits),
         }?;
-        if self.allows(number) && !atom.answer(number) {
-            Some(number)
-        } else {
-            None
-        }
+        (self.allows(number) && !atom.answer(number)).then_some(number)
     }
 
     /// The first number in the range that has the bits, whatever is refuted.

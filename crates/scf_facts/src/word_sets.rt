@@ -110,13 +110,10 @@ impl WordFacts for WordSets {
         is_known_empty(&self.sets, &self.pairs)
     }
 
+    #[tactic(auto, using(crate::proofs::TrailLaws::known_now))]
     fn pick(&self) -> Option<[u32; 16]> {
         let mut words = pick_by_word(&self.sets)?;
         part_pairs(&self.sets, &self.pairs, &mut words);
-        if all_agree(&self.pairs, &words) {
-            Some(words)
-        } else {
-            None
-        }
+        all_agree(&self.pairs, &words).then_some(words)
     }
 }

@@ -4,7 +4,6 @@ use Rattle.scf_facts.specs.declared.trail.Change.{Change}
 use Rattle.scf_facts.specs.declared.trail.Change.TheVariants.{OfWord, Refuted}
 use Rattle.scf_facts.specs.declared.trail.Former.{Former}
 use Rattle.scf_facts.specs.declared.trail.Former.TheVariants.{Same, Intervals, Known, Unrefuted}
-use Rattle.scf_facts.specs.declared.interval.Interval.{Interval}
 use Rattle.scf_facts.specs.internal.Counts.{count_at}
 use Rattle.scf_facts.specs.internal.WordSets.{NumberFacts, AllFacts, no_facts}
 
@@ -31,10 +30,6 @@ restored known (change ∷ later) = known_before change (restored known later)
 -- what was known at a level
 abbrev pub known_at : AllFacts → List Change → List ℕ → ℕ → AllFacts
 known_at known trail marks level = restored known (drop (count_at marks (length trail) level) trail)
-
--- what was known of a word differs in the intervals
-abbrev pub HasIntervals : Former → Type 0
-HasIntervals former = (intervals : List Interval) × (former ≡ Intervals intervals)
 
 -- the first change brings back the same, whether the later one is taken back before or not
 abbrev pub Covers : Change → Change → Type 0
