@@ -1,11 +1,19 @@
 -- What is learned at a level, as facts are learned and marks are opened and closed.
-use Rattle.scf_facts.proofs.Common.{◌≡◌, ℕ, ◌≤◌, ◌<◌, ◌↔◌, List, [], ◌∷◌, ◌++◌, length, take, refl, ◌∙◌, ap, arith, length-append, Some, take-append-le, take-take, length-take-le, take_all, get_or_past, get_or_default, All-push, All-pop, Fact, count_at, AreRising, IsFactOfWords, AllowsByFacts, learned_at}
+use Rattle.scf_facts.proofs.Common.{◌≡◌, ℕ, ◌≤◌, ◌<◌, ◌↔◌, List, [], ◌∷◌, ◌++◌, length, take, get_or, refl, sym, ◌∙◌, ap, subst, arith, length-append, Some, take-append-le, take-take, length-take-le, take_all, get_or_past, get_or_default, All-push, All-pop, Fact, count_at, AreRising, IsWords, IsFactOfWords, AllowsByFacts, learned_at}
 use Rattle.scf_facts.proofs.CountLaws.{count_opened, count_closed, count_within, count_newest, rising_closed}
 
 -- past the last mark all the facts are learned
 pub learned_now : (facts : List Fact) (marks : List ℕ) (level : ℕ)
     → length marks ≤ level → learned_at facts marks level ≡ facts
 learned_now facts marks level past = take_all _ facts (omega (arith, get_or_past marks level (length facts) past))
+
+-- each fact holds of the words that are allowed now
+pub holds_now : (facts items : List Fact) (marks : List ℕ) (k : ℕ) (fact : Fact) → items ≡ facts
+    → fact ≡ get_or items k fact → k < length items → (words : List ℕ)
+    → AllowsByFacts facts marks (length marks) words → IsWords words × IsFactOfWords fact words
+holds_now facts items marks k fact same read lt words h =
+    let now = rw (learned_now facts marks (length marks) (omega arith)) at h in
+    (now.0, subst (λ f. IsFactOfWords f words) (sym (rw same at read)) (now.1 k fact (rw same at lt)))
 
 pub allows_pushed : (facts : List Fact) (x : Fact) (marks : List ℕ) (words : List ℕ)
     → AllowsByFacts (facts ++ x ∷ []) marks (length marks) words
@@ -42,5 +50,3 @@ learned_closed facts cut marks rest count place e same rising lt =
     (take-take (count_at rest count place) count facts
     (count_within rest count place (rising_closed rest count (length facts) older))
     ∙ ap (λ n. take n facts) (count_closed rest count (length facts) place le))
-
-pub ruleset learned_laws = (learned_now, learned_pushed, learned_opened)

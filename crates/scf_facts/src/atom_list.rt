@@ -48,20 +48,20 @@ impl WordFacts for AtomList {
         })
     }
 
-    #[tactic(auto, using(crate::proofs::AtomLaws::learned_laws))]
+    #[tactic(auto, using(crate::proofs::AtomLaws::learned_pushed))]
     fn learn(&mut self, atom: Atom, holds: bool) -> Result<(), Memory> {
         self.learned.push(Fact::Answer(Learned { atom, holds }))?;
         Ok(())
     }
 
-    #[tactic(auto, using(crate::proofs::AtomLaws::learned_laws))]
+    #[tactic(auto, using(crate::proofs::AtomLaws::learned_pushed))]
     fn learn_not_both(&mut self, first: Atom, second: Atom) -> Result<(), Memory> {
         self.learned
             .push(Fact::NotBoth(AtomPair { first, second }))?;
         Ok(())
     }
 
-    #[tactic(auto, using(crate::proofs::AtomLaws::learned_laws))]
+    #[tactic(auto, using(crate::proofs::AtomLaws::learned_now, crate::proofs::AtomLaws::learned_opened))]
     fn mark(&mut self) -> Result<(), Memory> {
         let count = self.learned.len();
         self.marks.push(count)?;
@@ -78,7 +78,6 @@ impl WordFacts for AtomList {
         self.marks.len()
     }
 
-    #[tactic(auto, using(crate::proofs::AtomLaws::learned_laws))]
     fn tell(&self, atom: Atom) -> Tell {
         if let Atom::Eq { mask: 0, value, .. } = atom {
             return Tell::of(value == 0);
@@ -96,7 +95,7 @@ impl WordFacts for AtomList {
         false
     }
 
-    #[tactic(auto, using(crate::proofs::AtomLaws::learned_laws))]
+    #[tactic(auto, using(crate::proofs::AtomLaws::learned_now))]
     fn pick(&self) -> Option<[u32; 16]> {
         let mut words = [0; 16];
         for known in &self.learned {
