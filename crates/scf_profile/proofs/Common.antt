@@ -62,8 +62,8 @@ pub use Rattle.scf_profile.specs.References.{texts_at}
 pub use Rattle.scf_profile.specs.Rule.{AreConditions, Conflicts, HaveDistinctIndices, IsCondition, IsRule, all_hold, meets}
 pub use Rattle.scf_profile.specs.RulesByNumber.{numbers_of, rules_of}
 pub use Rattle.scf_profile.specs.SameAnswers.{AnswersRelated, SameAnswers}
-pub use Rattle.scf_profile.specs.StatedProfile.{rule_for, rules_from, rules_named, skipped_names, strings_of, x86_64}
-unfoldable pub use Rattle.scf_profile.specs.StatedProfile.{action_in, answer_in, architectures_in, condition_of, condition_of as condition_stated, conditions_in, entries_in, entry_of, errno_of, index_in, names_in, no_engine_form, object_states, operator_in, profile_of, seccomp_in, seccomp_of}
+pub use Rattle.scf_profile.specs.StatedProfile.{rules_from, rules_named, skipped_names, strings_of, x86_64}
+unfoldable pub use Rattle.scf_profile.specs.StatedProfile.{answer_in, condition_of, condition_of as condition_stated, entry_of, errno_of, no_engine_form, profile_of, seccomp_of}
 pub use Rattle.scf_profile.specs.Steps.{some_or, ◌>>=◌}
 pub use Rattle.scf_profile.specs.Table.{AreCallNumbers, BeginWithCall, Names, is_blank as blank, entry_in, fields, is_blank, is_in_name, is_name, table_of, with_entry}
 unfoldable pub use Rattle.scf_profile.specs.Table.{with_line, with_lines}

@@ -1,7 +1,11 @@
 -- The rules that entries state: their ranges, and one answer for each entry.
-use Rattle.scf_profile.proofs.Common.{◌≡◌, ℕ, suc, Bool, ◌+◌, ◌<◌, ◌≤◌, ◌^◌, List, [], ◌∷◌, ◌++◌, length, get_or, map, Some, None, All, refl, sym, ap, ◌∙◌, arith, inl, inr, Contains, option_map, cons_option, filter, get, cases_order, recursion_from_All, All-nil, All-cons, All-append, All-head, All-tail, All-contains, All-same, All-weaker, filter-append, filter_map-append, Rule, IsEntry, AreStatedRules, Answer, EntriesConflict, max_rules, IsProfile, HaveNoConflict, Conflicts, IsRule, Names, AreCallNumbers, rule_for, rules_named, rules_from}
+use Rattle.scf_profile.proofs.Common.{◌≡◌, ℕ, suc, Bool, ◌+◌, ◌<◌, ◌≤◌, ◌^◌, List, [], ◌∷◌, ◌++◌, length, get_or, map, Some, None, All, refl, sym, ap, ◌∙◌, arith, inl, inr, Contains, option_map, cons_option, filter, get, cases_order, recursion_from_All, All-nil, All-cons, All-append, All-head, All-tail, All-contains, All-same, All-weaker, filter-append, filter_map-append, Rule, IsEntry, AreStatedRules, Answer, EntriesConflict, max_rules, IsProfile, HaveNoConflict, Conflicts, IsRule, Names, AreCallNumbers, rules_named, rules_from}
 use Rattle.scf_profile.specs.declared.entry.Entry.{Entry}
 use Rattle.scf_profile.proofs.Answering.{conflicts_both_ways}
+
+-- the rule that an entry at a place states for a number
+abbrev rule_for : ℕ → Entry → ℕ → Rule
+rule_for place e number = record { number = number; conditions = e.conditions; answer = e.answer; entry = place }
 
 -- what holds of the rule for each number that a name has
 module _ (P : Rule → Type 0) (table : Names) (place : ℕ) (e : Entry)

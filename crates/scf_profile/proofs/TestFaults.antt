@@ -1,5 +1,5 @@
 -- The tests of a value give neither `Json` nor `Conflict`, and not `Memory`.
-use Rattle.scf_profile.proofs.Common.{◌≡◌, ◌≢◌, ℕ, Bool, true, false, cond, List, [], ◌∷◌, ◌++◌, Option, Some, None, Result, Ok, Err, inr, IfErr, option_map_or, IfErr-at_err, Data, Items, no_items, item, LoadFault, Loaded, IsText, TestsGive, Refuses, NamesLeastConflict, Names, ◌>>=◌, some_or, each, action_in, errno_of, answer_in, no_engine_form, index_in, operator_in, condition_of, conditions_in, names_in, entry_of, entries_in, architectures_in, seccomp_in, seccomp_of, object_states, profile_of}
+use Rattle.scf_profile.proofs.Common.{◌≡◌, ◌≢◌, ℕ, Bool, true, false, cond, List, [], ◌∷◌, ◌++◌, Option, Some, None, Result, Ok, Err, inr, IfErr, option_map_or, IfErr-at_err, Data, Items, no_items, item, LoadFault, Loaded, IsText, TestsGive, Refuses, NamesLeastConflict, Names, ◌>>=◌, some_or, each, errno_of, answer_in, no_engine_form, condition_of, entry_of, seccomp_of, profile_of}
 use Rattle.scf_profile.specs.declared.load_fault.LoadFault.TheVariants as faults
 
 abbrev pub IsTestFault : LoadFault → Type 0
@@ -48,15 +48,15 @@ each_test test h before (item d ds) =
 ruleset tests = (ok_test, err_test, then_test, some_test, cond_test, map_or_test, each_test, tt)
 
 answer_test : (entry : Option ℕ) (name errno_name : List ℕ) (d : Data) → IsTest (answer_in entry name errno_name d)
-unfolding answer_in action_in errno_of
+unfolding answer_in errno_of
 answer_test entry name errno_name d = search tests depth 20
 
-entry_test : (place : ℕ) (d : Data) → IsTest (entry_of place d)
-unfolding entry_of no_engine_form names_in conditions_in condition_of index_in operator_in
-entry_test place d = search (tests, answer_test) depth 40 fits 4000
+entry_test : (entry : Option ℕ) (d : Data) → IsTest (entry_of entry d)
+unfolding entry_of no_engine_form condition_of
+entry_test entry d = search (tests, answer_test) depth 40 fits 4000
 
 profile_test : (table : Names) (root : Data) → IsTest (profile_of table root)
-unfolding profile_of seccomp_of seccomp_in object_states architectures_in no_engine_form entries_in
+unfolding profile_of seccomp_of no_engine_form
 profile_test table root =
     search (tests, answer_test, entry_test) depth 40 fits 4000
 

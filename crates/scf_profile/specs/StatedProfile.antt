@@ -2,7 +2,7 @@
 -- tests in their order, each a function to what is stated or to its fault. A fault carries the place of the entry of
 -- `syscalls` in which it stands, and none where it stands outside of them.
 use Rattle.std.specs.Prelude.{ℕ, ◌+◌, Bool, true, false, not, ◌&&◌, ◌==◌, List, [], ◌∷◌, ◌++◌, codes, length}
-use Rattle.std.specs.Prelude.{Option, Some, None, Result, Ok, nat_lt, if◌then◌else◌, is_none, is_some, option_map, ⊤}
+use Rattle.std.specs.Prelude.{◌||◌, Option, Some, None, Result, Ok, nat_lt, if◌then◌else◌, is_none, is_some, option_map, ⊤}
 use Rattle.std.specs.List.{list_any, filter, flat_map, filter_map}
 use Rattle.std.specs.Map.{lookup}
 use Rattle.std.specs.Str.{bytes_eq}
@@ -38,8 +38,7 @@ required entry name kind d =
 
 -- one that may be absent, of a kind
 abbrev pub optional : {T : Type 0} → T → Option ℕ → List ℕ → (Data → Option T) → Data → Result T LoadFault
-optional absent entry name kind d =
-    option_map_or (λ found. some_or (kind found) (faults.Kind entry)) (member name d) (Ok absent)
+optional absent entry name kind d = if is_none (member name d) then Ok absent else required entry name kind d
 
 -- ---- an action and its answer
 
@@ -51,10 +50,6 @@ action_named name = lookup (bytes_eq name) (
     ∷ (codes "SCMP_ACT_ERRNO", actions.Errno) ∷ (codes "SCMP_ACT_NOTIFY", actions.UserNotif)
     ∷ (codes "SCMP_ACT_TRACE", actions.Trace) ∷ (codes "SCMP_ACT_LOG", actions.Log)
     ∷ (codes "SCMP_ACT_ALLOW", actions.Allow) ∷ [])
-
-unfoldable pub action_in : Option ℕ → List ℕ → Data → Result Action LoadFault
-action_in entry name d =
-    required entry name as_str d >>= λ text. some_or (action_named text) (faults.Action entry)
 
 -- the actions that have an errno as their data
 abbrev pub takes_errno : Action → Bool
@@ -72,7 +67,7 @@ errno_of entry action d = do
 -- an action with its errno, which is 1 (EPERM) where it takes one and has none
 unfoldable pub answer_in : Option ℕ → List ℕ → List ℕ → Data → Result Answer LoadFault
 answer_in entry name errno_name d = do
-  action ← action_in entry name d
+  action ← required entry name as_str d >>= λ text. some_or (action_named text) (faults.Action entry)
   errno ← option_map_or (errno_of entry action) (member errno_name d) (Ok (if takes_errno action then 1 else 0))
   Ok (record { 0 = answer_of action errno })
 
@@ -85,8 +80,7 @@ is_empty d =
 
 -- the member has to be absent or empty, of whatever kind it is
 unfoldable pub no_engine_form : Option ℕ → List ℕ → Data → Result ⊤ LoadFault
-no_engine_form entry name d =
-    option_map_or (λ found. refused_if (not (is_empty found)) (faults.EngineForm entry)) (member name d) (Ok tt)
+no_engine_form entry name d = refused_if (not (option_map_or is_empty (member name d) true)) (faults.EngineForm entry)
 
 -- the strings of an array
 abbrev pub strings_of : Option ℕ → Items → Result (List (List ℕ)) LoadFault
@@ -102,85 +96,50 @@ operator_named name = lookup (bytes_eq name) (
     ∷ (codes "SCMP_CMP_GE", operators.GreaterOrEqual) ∷ (codes "SCMP_CMP_GT", operators.Greater)
     ∷ (codes "SCMP_CMP_MASKED_EQ", operators.MaskedEqual) ∷ [])
 
-unfoldable pub index_in : Option ℕ → Data → Result ℕ LoadFault
-index_in entry d =
-    required entry (codes "index") whole_number d
-    >>= λ n. some_or (number_below seccomp_data_args n) (faults.Index entry)
-
-unfoldable pub operator_in : Option ℕ → Data → Result Operator LoadFault
-operator_in entry d =
-    required entry (codes "op") as_str d >>= λ text. some_or (operator_named text) (faults.Operator entry)
-
 -- one member, after members that state these conditions
 unfoldable pub condition_of : Option ℕ → List Condition → Data → Result Condition LoadFault
 condition_of entry earlier d = do
   _ ← some_or (as_object d) (faults.Kind entry)
-  index ← index_in entry d
-  op ← operator_in entry d
+  index ← required entry (codes "index") whole_number d
+      >>= λ number. some_or (number_below seccomp_data_args number) (faults.Index entry)
+  op ← required entry (codes "op") as_str d >>= λ text. some_or (operator_named text) (faults.Operator entry)
   value ← required entry (codes "value") unsigned_number d
   value_two ← optional 0 entry (codes "valueTwo") unsigned_number d
   _ ← refused_if (list_any (λ c. c.index == index) earlier) (faults.RepeatedIndex entry)
   Ok (record { index = index; op = op; value = value; value_two = value_two })
 
-unfoldable pub conditions_in : Option ℕ → Data → Result (List Condition) LoadFault
-conditions_in entry d = optional no_items entry (codes "args") as_array d >>= each (condition_of entry) []
-
 -- ---- an entry of `syscalls`
 
-unfoldable pub names_in : Option ℕ → Data → Result (List (List ℕ)) LoadFault
-names_in entry d = do
-  items ← required entry (codes "names") as_array d
-  _ ← refused_if (items_len items == 0) (faults.EmptyNames entry)
-  strings_of entry items
-
-unfoldable pub entry_of : ℕ → Data → Result Entry LoadFault
-entry_of place d = do
-  _ ← some_or (as_object d) (faults.Kind (Some place))
-  _ ← no_engine_form (Some place) (codes "includes") d
-  _ ← no_engine_form (Some place) (codes "excludes") d
-  names ← names_in (Some place) d
-  answer ← answer_in (Some place) (codes "action") (codes "errnoRet") d
-  conditions ← conditions_in (Some place) d
+unfoldable pub entry_of : Option ℕ → Data → Result Entry LoadFault
+entry_of entry d = do
+  _ ← some_or (as_object d) (faults.Kind entry)
+  _ ← no_engine_form entry (codes "includes") d
+  _ ← no_engine_form entry (codes "excludes") d
+  names ← required entry (codes "names") as_array d
+      >>= λ items. refused_if (items_len items == 0) (faults.EmptyNames entry) >>= λ _. strings_of entry items
+  answer ← answer_in entry (codes "action") (codes "errnoRet") d
+  conditions ← optional no_items entry (codes "args") as_array d >>= each (condition_of entry) []
   Ok (record { names = names; conditions = conditions; answer = answer })
-
--- each at its place, which is how many stand before it
-unfoldable pub entries_in : Data → Result (List Entry) LoadFault
-entries_in d = optional no_items None (codes "syscalls") as_array d >>= each (λ before. entry_of (length before)) []
 
 -- ---- the seccomp object
 
-abbrev pub x86_64 : List ℕ
-x86_64 = codes "SCMP_ARCH_X86_64"
-
--- x86-64 has to be among them, unless there are none
-unfoldable pub architectures_in : Data → Result (List (List ℕ)) LoadFault
-architectures_in d = do
-  names ← optional no_items None (codes "architectures") as_array d >>= strings_of None
-  _ ← refused_if (nat_lt 0 (length names) && not (list_any (bytes_eq x86_64) names)) (faults.NoX8664 None)
-  Ok names
-
--- what stands in a whole config as linux.seccomp
-unfoldable pub seccomp_in : Data → Result Data LoadFault
-seccomp_in linux = do
-  _ ← some_or (as_object linux) (faults.Kind None)
-  required None (codes "seccomp") (λ found. option_map (λ _. found) (as_object found)) linux
+-- an object, as it is
+abbrev pub object : Data → Option Data
+object d = option_map (λ _. d) (as_object d)
 
 -- the root, where it has a `defaultAction` or has no `linux`, or what stands in it as linux.seccomp
 unfoldable pub seccomp_of : Data → Result Data LoadFault
-seccomp_of root = do
-  _ ← some_or (as_object root) (faults.Kind None)
-  if is_some (member (codes "defaultAction") root) then Ok root
-      else option_map_or seccomp_in (member (codes "linux") root) (Ok root)
+seccomp_of root =
+    if is_some (member (codes "defaultAction") root) || is_none (member (codes "linux") root)
+    then some_or (object root) (faults.Kind None)
+    else required None (codes "linux") object root >>= required None (codes "seccomp") object
 
 -- ---- with the call table
 
--- the rule that an entry at a place states for a number
-abbrev pub rule_for : ℕ → Entry → ℕ → Rule
-rule_for place e number = record { number = number; conditions = e.conditions; answer = e.answer; entry = place }
-
--- one rule for each occurrence of a name that the table has
+-- the rules that an entry at a place states: one for each occurrence of a name that the table has
 abbrev pub rules_named : Names → ℕ → Entry → List (List ℕ) → List Rule
-rules_named table place e names = filter_map (λ name. option_map (rule_for place e) (get table name)) names
+rules_named table place e names = filter_map (λ name. option_map (λ number.
+    record { number = number; conditions = e.conditions; answer = e.answer; entry = place }) (get table name)) names
 
 -- those of the entries from this place on
 abbrev pub rules_from : Names → ℕ → List Entry → List Rule
@@ -191,20 +150,22 @@ rules_from table place (e ∷ es) = rules_named table place e e.names ++ rules_f
 abbrev pub skipped_names : Names → List Entry → List (List ℕ)
 skipped_names table entries = filter (λ name. is_none (get table name)) (flat_map (λ e. e.names) entries)
 
--- what the seccomp object states
-unfoldable pub object_states : Names → Data → Result Loaded LoadFault
-object_states table d = do
+abbrev pub x86_64 : List ℕ
+x86_64 = codes "SCMP_ARCH_X86_64"
+
+-- What the root states, but for conflicts among its rules. x86-64 has to be among the architectures, unless there are
+-- none. Each entry is at its place, which is how many stand before it.
+unfoldable pub profile_of : Names → Data → Result Loaded LoadFault
+profile_of table root = do
+  d ← seccomp_of root
   default_answer ← answer_in None (codes "defaultAction") (codes "defaultErrnoRet") d
-  architectures ← architectures_in d
+  names ← optional no_items None (codes "architectures") as_array d >>= strings_of None
+  _ ← refused_if (nat_lt 0 (length names) && not (list_any (bytes_eq x86_64) names)) (faults.NoX8664 None)
   _ ← no_engine_form None (codes "archMap") d
-  entries ← entries_in d
+  entries ← optional no_items None (codes "syscalls") as_array d >>= each (λ before. entry_of (Some (length before))) []
   _ ← refused_if (nat_lt max_rules (length (rules_from table 0 entries))) faults.TooMany
   Ok (record {
     profile = record { default_answer = default_answer; rules = rules_from table 0 entries };
     skipped = skipped_names table entries;
-    other_architectures = filter (λ name. not (bytes_eq x86_64 name)) architectures;
+    other_architectures = filter (λ name. not (bytes_eq x86_64 name)) names;
   })
-
--- what the root states, but for conflicts among its rules
-unfoldable pub profile_of : Names → Data → Result Loaded LoadFault
-profile_of table root = seccomp_of root >>= object_states table

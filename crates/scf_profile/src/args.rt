@@ -2,14 +2,17 @@
 
 ghost use Rattle.std.specs.Prelude.{◌≡◌, ◌<◌, ◌==◌, [], IfOk, codes, false};
 ghost use Rattle.std.specs.List.{list_any};
+ghost use Rattle.serde_json.specs.Data.{no_items};
+ghost use Rattle.serde_json.specs.Find.{as_array, as_str};
 ghost use Rattle.serde_json.specs.View.{view, items_view};
 ghost use Rattle.scf_insn.specs.Kernel.{seccomp_data_args};
-ghost use Rattle.scf_profile.specs.declared.load_fault.LoadFault.TheVariants.{Memory};
-ghost use Rattle.scf_profile.specs.JsonMembers.{each, unsigned_number};
+ghost use Rattle.scf_profile.specs.declared.load_fault.LoadFault.TheVariants as faults;
+ghost use Rattle.scf_profile.specs.JsonMembers.{each, whole_number, unsigned_number};
+ghost use Rattle.scf_profile.specs.Limits.{number_below};
 ghost use Rattle.scf_profile.specs.Rule.{IsCondition, AreConditions};
-ghost use Rattle.scf_profile.specs.StatedProfile.{required, optional, operator_named, index_in, operator_in};
-ghost use Rattle.scf_profile.specs.StatedProfile.{condition_of as condition_stated, conditions_in};
-ghost use Rattle.scf_profile.specs.Steps.{Gives};
+ghost use Rattle.scf_profile.specs.StatedProfile.{required, optional, operator_named};
+ghost use Rattle.scf_profile.specs.StatedProfile.{condition_of as condition_stated};
+ghost use Rattle.scf_profile.specs.Steps.{◌>>=◌ as and_then, some_or, Gives};
 ghost use Rattle.scf_profile.specs.internal.Results.{result_map};
 
 use crate::condition::{Condition, Conditions, Operator};
@@ -34,9 +37,9 @@ fn operator_of(name: &str) -> Option<Operator>
     }
 }
 
-#[tactic(auto, unfolding(crate::specs::StatedProfile::index_in))]
 fn find_index(entry: Option<u32>, object: &Value) -> Result<u8, LoadFault>
-    ensures value { result ≡ index_in entry (view object.now) }
+    ensures value { result ≡ and_then (required entry (codes "index") whole_number (view object.now))
+        (λ number. some_or (number_below seccomp_data_args number) (faults.Index entry)) }
     ensures range { IfOk result (λ index. index < seccomp_data_args) }
 {
     let found = member_of(object, "index").ok_or(LoadFault::Missing { entry })?;
@@ -53,9 +56,9 @@ fn find_index(entry: Option<u32>, object: &Value) -> Result<u8, LoadFault>
     Err(LoadFault::Kind { entry })
 }
 
-#[tactic(auto, unfolding(crate::specs::StatedProfile::operator_in))]
 fn find_operator(entry: Option<u32>, object: &Value) -> Result<Operator, LoadFault>
-    ensures { result ≡ operator_in entry (view object.now) }
+    ensures { result ≡ and_then (required entry (codes "op") as_str (view object.now))
+        (λ text. some_or (operator_named text) (faults.Operator entry)) }
 {
     let found = member_of(object, "op").ok_or(LoadFault::Missing { entry })?;
     let name = found.as_str().ok_or(LoadFault::Kind { entry })?;
@@ -120,7 +123,7 @@ fn conditions_of(
     entry: Option<u32>,
     members: &[Value],
 ) -> Result<Vec<Condition>, LoadFault>
-    ensures value { Gives Memory (result_map (λ v. v.items) result)
+    ensures value { Gives faults.Memory (result_map (λ v. v.items) result)
         (each (condition_stated entry) [] (items_view members.now)) }
     ensures range { IfOk result (λ v. AreConditions v.items) }
 {
@@ -133,13 +136,15 @@ fn conditions_of(
 }
 
 /// The conditions in the `args` of an entry, none where it has none.
-#[tactic(auto, unfolding(crate::specs::StatedProfile::conditions_in, crate::specs::JsonMembers::each))]
+#[tactic(auto, unfolding(crate::specs::JsonMembers::each))]
 pub(crate) fn find_conditions(
     alloc: Global,
     entry: Option<u32>,
     object: &Value,
 ) -> Result<Conditions, LoadFault>
-    ensures value { Gives Memory result (conditions_in entry (view object.now)) }
+    ensures value { Gives faults.Memory result
+        (and_then (optional no_items entry (codes "args") as_array (view object.now))
+        (each (condition_stated entry) [])) }
     ensures range { IfOk result AreConditions }
 {
     match member_of(object, "args") {

@@ -1,6 +1,6 @@
 //! Entries of `syscalls`.
 
-ghost use Rattle.std.specs.Prelude.{IfOk};
+ghost use Rattle.std.specs.Prelude.{IfOk, Some};
 ghost use Rattle.serde_json.specs.View.{view};
 ghost use Rattle.scf_profile.specs.declared.load_fault.LoadFault.TheVariants.{Memory};
 ghost use Rattle.scf_profile.specs.Steps.{Gives};
@@ -30,7 +30,7 @@ impl<'v> Entry<'v> {
     /// What the entry at a place states.
     #[tactic(auto, unfolding(crate::specs::StatedProfile::entry_of))]
     pub(crate) fn read(alloc: Global, place: u32, object: &'v Value) -> Result<Entry<'v>, LoadFault>
-        ensures value { Gives Memory result (entry_stated place (view object.now)) }
+        ensures value { Gives Memory result (entry_stated (Some place) (view object.now)) }
         ensures range { IfOk result IsEntry }
     {
         let entry = Some(place);

@@ -1,12 +1,13 @@
 //! Texts in arrays, and forms that depend on a container engine.
 
-ghost use Rattle.std.specs.Prelude.{◌≡◌};
+ghost use Rattle.std.specs.Prelude.{◌≡◌, ◌==◌, codes};
+ghost use Rattle.serde_json.specs.Events.{items_len};
+ghost use Rattle.serde_json.specs.Find.{as_array, as_str};
 ghost use Rattle.serde_json.specs.View.{view, items_view};
-ghost use Rattle.serde_json.specs.Find.{as_str};
-ghost use Rattle.scf_profile.specs.declared.load_fault.LoadFault.TheVariants.{Memory, Kind};
-ghost use Rattle.scf_profile.specs.StatedProfile.{is_empty as empty_value, no_engine_form, names_in};
+ghost use Rattle.scf_profile.specs.declared.load_fault.LoadFault.TheVariants.{Memory, Kind, EmptyNames};
+ghost use Rattle.scf_profile.specs.StatedProfile.{required, is_empty as empty_value, no_engine_form};
 ghost use Rattle.scf_profile.specs.StatedProfile.{strings_of as strings_stated};
-ghost use Rattle.scf_profile.specs.Steps.{Gives, some_or};
+ghost use Rattle.scf_profile.specs.Steps.{◌>>=◌ as and_then, Gives, some_or, refused_if};
 ghost use Rattle.scf_profile.specs.internal.Results.{result_map};
 
 use crate::json_members::member_of;
@@ -68,13 +69,14 @@ pub(crate) fn strings_of<'v>(
 }
 
 /// The names of an entry.
-#[tactic(auto, using(crate::proofs::Loops::lengths), unfolding(crate::specs::StatedProfile::names_in))]
+#[tactic(auto, using(crate::proofs::Loops::lengths))]
 pub(crate) fn find_names<'v>(
     alloc: Global,
     entry: Option<u32>,
     object: &'v Value,
 ) -> Result<BorrowedTexts<'v>, LoadFault>
-    ensures { Gives Memory result (names_in entry (view object.now)) }
+    ensures { Gives Memory result (and_then (required entry (codes "names") as_array (view object.now)) (λ items.
+        and_then (refused_if (items_len items == 0) (EmptyNames entry)) (λ _. strings_stated entry items))) }
 {
     let found = member_of(object, "names").ok_or(LoadFault::Missing { entry })?;
     let names = found.as_array().ok_or(LoadFault::Kind { entry })?;

@@ -1,16 +1,19 @@
 //! The seccomp object.
 
-ghost use Rattle.std.specs.Prelude.{◌≡◌, ◌≤◌, ◌^◌, [], IfOk, All, length, vec_len};
+ghost use Rattle.std.specs.Prelude.{◌≡◌, ◌≤◌, ◌^◌, ◌&&◌, not, nat_lt, [], IfOk, All, length, vec_len};
+ghost use Rattle.std.specs.Prelude.{Some, None, codes};
 ghost use Rattle.std.specs.List.{list_any};
 ghost use Rattle.std.specs.Str.{bytes_eq};
+ghost use Rattle.serde_json.specs.Data.{no_items};
+ghost use Rattle.serde_json.specs.Find.{as_array};
 ghost use Rattle.serde_json.specs.View.{view, items_view};
-ghost use Rattle.scf_profile.specs.declared.load_fault.LoadFault.TheVariants.{Memory};
+ghost use Rattle.scf_profile.specs.declared.load_fault.LoadFault.TheVariants as faults;
 ghost use Rattle.scf_profile.specs.internal.EntryRanges.{IsEntry};
 ghost use Rattle.scf_profile.specs.JsonMembers.{each};
 ghost use Rattle.scf_profile.specs.References.{texts_at};
-ghost use Rattle.scf_profile.specs.StatedProfile.{seccomp_in, seccomp_of, entry_of, entries_in, architectures_in};
-ghost use Rattle.scf_profile.specs.StatedProfile.{x86_64};
-ghost use Rattle.scf_profile.specs.Steps.{Gives};
+ghost use Rattle.scf_profile.specs.StatedProfile.{required, optional, strings_of as strings_stated, entry_of};
+ghost use Rattle.scf_profile.specs.StatedProfile.{object as object_stated, seccomp_of, x86_64};
+ghost use Rattle.scf_profile.specs.Steps.{◌>>=◌ as and_then, some_or, refused_if, Gives};
 ghost use Rattle.scf_profile.specs.internal.Results.{result_map};
 
 use crate::entry::Entry;
@@ -21,20 +24,23 @@ use crate::texts::BorrowedTexts;
 use serde_json::Value;
 use std::alloc::Global;
 
-/// What stands in a whole config as linux.seccomp.
-#[tactic(auto, unfolding(crate::specs::StatedProfile::seccomp_in))]
-fn seccomp_of_config(linux: &Value) -> Result<&Value, LoadFault>
-    ensures { result_map (λ v. view v.now) result ≡ seccomp_in (view linux.now) }
+/// A value that has to be an object.
+fn object_of(value: &Value) -> Result<&Value, LoadFault>
+    ensures { result_map (λ v. view v.now) result ≡ some_or (object_stated (view value.now)) (faults.Kind None) }
 {
-    let entry = None;
-    if !linux.is_object() {
-        return Err(LoadFault::Kind { entry });
+    if value.is_object() {
+        Ok(value)
+    } else {
+        Err(LoadFault::Kind { entry: None })
     }
-    let seccomp = member_of(linux, "seccomp").ok_or(LoadFault::Missing { entry })?;
-    if !seccomp.is_object() {
-        return Err(LoadFault::Kind { entry });
-    }
-    Ok(seccomp)
+}
+
+/// A member that has to be there, and an object.
+fn find_object<'v>(object: &'v Value, name: &str) -> Result<&'v Value, LoadFault>
+    ensures { result_map (λ v. view v.now) result
+        ≡ required None name.now object_stated (view object.now) }
+{
+    object_of(member_of(object, name).ok_or(LoadFault::Missing { entry: None })?)
 }
 
 /// The seccomp object: the root itself, or what stands in it as linux.seccomp.
@@ -42,16 +48,10 @@ fn seccomp_of_config(linux: &Value) -> Result<&Value, LoadFault>
 pub(crate) fn find_seccomp(root: &Value) -> Result<&Value, LoadFault>
     ensures { result_map (λ v. view v.now) result ≡ seccomp_of (view root.now) }
 {
-    if !root.is_object() {
-        return Err(LoadFault::Kind { entry: None });
+    if member_of(root, "defaultAction").is_some() || member_of(root, "linux").is_none() {
+        return object_of(root);
     }
-    if member_of(root, "defaultAction").is_some() {
-        return Ok(root);
-    }
-    match member_of(root, "linux") {
-        None => Ok(root),
-        Some(linux) => seccomp_of_config(linux),
-    }
+    find_object(find_object(root, "linux")?, "seccomp")
 }
 
 /// Whether an architecture is x86-64.
@@ -67,32 +67,41 @@ fn has_x86_64(names: &[&str]) -> bool
     names.iter().any(|name| is_x86_64(name))
 }
 
-/// The architectures of the object, among which x86-64 has to be, unless there are none.
-#[tactic(auto, unfolding(crate::specs::StatedProfile::architectures_in, crate::specs::JsonMembers::each))]
+/// Refuses architectures without x86-64, unless there are none.
+pub(crate) fn check_architectures(names: &[&str]) -> Result<(), LoadFault>
+    ensures { result ≡ refused_if
+        (nat_lt 0 (length (texts_at names.now)) && not (list_any (bytes_eq x86_64) (texts_at names.now)))
+        (faults.NoX8664 None) }
+{
+    if names.len() > 0 && !has_x86_64(names) {
+        return Err(LoadFault::NoX8664 { entry: None });
+    }
+    Ok(())
+}
+
+/// The architectures of the object, none where it doesn't tell them.
+#[tactic(auto, unfolding(crate::specs::JsonMembers::each))]
 pub(crate) fn find_architectures(
     alloc: Global,
     object: &Value,
 ) -> Result<BorrowedTexts<'_>, LoadFault>
-    ensures { Gives Memory result (architectures_in (view object.now)) }
+    ensures { Gives faults.Memory result
+        (and_then (optional no_items None (codes "architectures") as_array (view object.now)) (strings_stated None)) }
 {
-    let entry = None;
-    let Some(found) = member_of(object, "architectures") else {
-        return Ok(BorrowedTexts::new(alloc));
-    };
-    let items = found.as_array().ok_or(LoadFault::Kind { entry })?;
-    let architectures = strings_of(alloc, entry, items)?;
-    let names = architectures.as_slice();
-    if names.len() > 0 && !has_x86_64(names) {
-        return Err(LoadFault::NoX8664 { entry });
+    match member_of(object, "architectures") {
+        None => Ok(BorrowedTexts::new(alloc)),
+        Some(found) => {
+            let items = found.as_array().ok_or(LoadFault::Kind { entry: None })?;
+            strings_of(alloc, None, items)
+        }
     }
-    Ok(architectures)
 }
 
 /// What the entries of an array state, each with its place.
 #[tactic(auto, using(crate::proofs::Loops::items_left), unfolding(crate::specs::JsonMembers::each))]
 fn entries_of<'v>(alloc: Global, items: &'v [Value]) -> Result<Vec<Entry<'v>>, LoadFault>
-    ensures value { Gives Memory (result_map (λ v. v.items) result)
-        (each (λ before. entry_of (length before)) [] (items_view items.now)) }
+    ensures value { Gives faults.Memory (result_map (λ v. v.items) result)
+        (each (λ before. entry_of (Some (length before))) [] (items_view items.now)) }
     ensures range { IfOk result (λ v. All IsEntry v.items) }
     ensures count { IfOk result (λ v. vec_len v ≤ 2 ^ 32) }
 {
@@ -109,9 +118,11 @@ fn entries_of<'v>(alloc: Global, items: &'v [Value]) -> Result<Vec<Entry<'v>>, L
 }
 
 /// What the entries in the `syscalls` of the object state, none where it has none.
-#[tactic(auto, unfolding(crate::specs::StatedProfile::entries_in, crate::specs::JsonMembers::each))]
+#[tactic(auto, unfolding(crate::specs::JsonMembers::each))]
 pub(crate) fn find_entries(alloc: Global, object: &Value) -> Result<Vec<Entry<'_>>, LoadFault>
-    ensures value { Gives Memory (result_map (λ v. v.items) result) (entries_in (view object.now)) }
+    ensures value { Gives faults.Memory (result_map (λ v. v.items) result)
+        (and_then (optional no_items None (codes "syscalls") as_array (view object.now))
+        (each (λ before. entry_of (Some (length before))) [])) }
     ensures range { IfOk result (λ v. All IsEntry v.items) }
     ensures count { IfOk result (λ v. vec_len v ≤ 2 ^ 32) }
 {

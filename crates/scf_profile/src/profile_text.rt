@@ -10,7 +10,7 @@ ghost use Rattle.scf_profile.specs.internal.Refusals.{NamesLeastConflict, ParseR
 ghost use Rattle.scf_profile.specs.internal.Results.{result_map};
 ghost use Rattle.scf_profile.specs.internal.Stated.{loaded_of, IsLoaded};
 ghost use Rattle.scf_profile.specs.Steps.{Gives};
-ghost use Rattle.scf_profile.specs.StatedProfile.{object_states};
+ghost use Rattle.scf_profile.specs.StatedProfile.{profile_of};
 
 use crate::action::find_answer;
 use crate::conflict::least_conflict;
@@ -19,7 +19,7 @@ use crate::forms::check_no_engine_form;
 use crate::limits::MAX_TEXT_LEN;
 use crate::load_fault::LoadFault;
 use crate::loaded::Loaded;
-use crate::object::{find_architectures, find_entries, find_seccomp};
+use crate::object::{check_architectures, find_architectures, find_entries, find_seccomp};
 use crate::profile::Profile;
 use crate::rule::Rule;
 use crate::table::CallTable;
@@ -44,7 +44,7 @@ fn parse(alloc: Global, text: &[u8]) -> Result<Value, LoadFault>
     }
 }
 
-/// What the seccomp object and a table state, whether or not rules conflict.
+/// What a root and a table state, whether or not rules conflict.
 #[derive(Drop)]
 struct Stated {
     default_answer: Answer,
@@ -53,19 +53,22 @@ struct Stated {
     other_architectures: Texts,
 }
 
-/// What the seccomp object and a table state, or the first test that fails.
-#[tactic(auto, unfolding(crate::specs::StatedProfile::object_states))]
-fn read_object(alloc: Global, table: &CallTable, object: &Value) -> Result<Stated, LoadFault>
-    ensures value { Gives Memory (result_map loaded_of result) (object_states table.now (view object.now)) }
+/// What the root and a table state, or the first test that fails.
+#[tactic(auto, unfolding(crate::specs::StatedProfile::profile_of))]
+fn read_root(alloc: Global, table: &CallTable, root: &Value) -> Result<Stated, LoadFault>
+    ensures value { Gives Memory (result_map loaded_of result) (profile_of table.now (view root.now)) }
     ensures range { IfOk result (λ s. AreStatedRules s.rules.items) }
     ensures default_range { IfOk result (λ s. s.default_answer.0 < 2 ^ 32) }
 {
+    let object = find_seccomp(root)?;
     let default_answer = find_answer(None, "defaultAction", "defaultErrnoRet", object)?;
     let architectures = find_architectures(alloc, object)?;
+    let names = architectures.as_slice();
+    check_architectures(names)?;
     check_no_engine_form(None, "archMap", object)?;
     let entries = find_entries(alloc, object)?;
     let Expanded { rules, skipped } = expand(alloc, table, &entries)?;
-    let other_architectures = other_architectures(alloc, architectures.as_slice())?;
+    let other_architectures = other_architectures(alloc, names)?;
     table.within_range();
     Ok(Stated {
         default_answer,
@@ -105,6 +108,5 @@ pub fn load(alloc: Global, text: &[u8], table: &CallTable) -> Result<Loaded, Loa
     ensures long { max_text_len < length text.now → result ≡ Err TooMany }
 {
     let value = parse(alloc, text)?;
-    let object = find_seccomp(&value)?;
-    without_conflict(alloc, read_object(alloc, table, object)?)
+    without_conflict(alloc, read_root(alloc, table, &value)?)
 }

@@ -1,41 +1,31 @@
-use Rattle.scf_profile.proofs.Common.{Ok, refl, err_from_is_err_and, IfOk-weaker, MatchResult-weaker, view, Loads, TestsGive, loaded_of, IsLoaded, profile_of}
+use Rattle.scf_profile.proofs.Common.{Ok, err_from_is_err_and, IfOk-weaker, MatchResult-weaker, view, Loads, TestsGive, loaded_of, IsLoaded}
 use Rattle.scf_profile.proofs.TestFaults.{refuses_of_fault, refuses_of_conflict}
 use Rattle.scf_profile.proofs.profile_text.load.Goals as goal
 
-pub returns-in_err-object-clause-err : goal.returns-in_err-object-clause-err
-unfolding profile_of
-returns-in_err-object-clause-err c =
-    let p = err_from_is_err_and c.from_residual-in_err-object.result c.from_residual-in_err-object.ensures.1 in
-    rw (p.1, p.2) (refuses_of_fault _ _ (view c.in_ok-value.value) _ c.in_ok-value.ensures.ok
-    (λ _. rw (← c.in_err-object.ensures) refl))
-
-pub returns-in_err-read_object-clause-err : goal.returns-in_err-read_object-clause-err
-unfolding profile_of
-returns-in_err-read_object-clause-err c =
+pub returns-in_err-read_root-clause-err : goal.returns-in_err-read_root-clause-err
+returns-in_err-read_root-clause-err c =
     let p =
-    err_from_is_err_and c.from_residual-in_err-read_object.result c.from_residual-in_err-read_object.ensures.1 in
+    err_from_is_err_and c.from_residual-in_err-read_root.result c.from_residual-in_err-read_root.ensures.1 in
     rw (p.1, p.2) (refuses_of_fault _ _ (view c.in_ok-value.value) _ c.in_ok-value.ensures.ok
-    (λ not_memory. rw (← c.in_ok-object.ensures, c.in_err-read_object.ensures.value not_memory) refl))
+    c.in_err-read_root.ensures.value)
 
 pub returns-clause-ok : goal.returns-clause-ok
-unfolding profile_of
 returns-clause-ok c =
-    let stated : TestsGive c.args.text.now c.args.table.now (Ok (loaded_of c.in_ok-read_object.field-0)) = record {
+    let stated : TestsGive c.args.text.now c.args.table.now (Ok (loaded_of c.in_ok-read_root.field-0)) = record {
       value = view c.in_ok-value.value;
       is_text = c.in_ok-value.ensures.ok;
-      tests = rw (← c.in_ok-object.ensures, c.in_ok-read_object.ensures.value) refl;
+      tests = c.in_ok-read_root.ensures.value;
     } in
-    IfOk-weaker c.without_conflict.result (IsLoaded c.in_ok-read_object.field-0)
+    IfOk-weaker c.without_conflict.result (IsLoaded c.in_ok-read_root.field-0)
     (λ loaded. Loads c.args.text.now c.args.table.now loaded)
     (λ loaded k. rw k.0 (stated, k.1)) c.without_conflict.ensures.ok
 
 pub returns-clause-err : goal.returns-clause-err
-unfolding profile_of
 returns-clause-err c =
-    let stated : TestsGive c.args.text.now c.args.table.now (Ok (loaded_of c.in_ok-read_object.field-0)) = record {
+    let stated : TestsGive c.args.text.now c.args.table.now (Ok (loaded_of c.in_ok-read_root.field-0)) = record {
       value = view c.in_ok-value.value;
       is_text = c.in_ok-value.ensures.ok;
-      tests = rw (← c.in_ok-object.ensures, c.in_ok-read_object.ensures.value) refl;
+      tests = c.in_ok-read_root.ensures.value;
     } in
     MatchResult-weaker c.without_conflict.result c.without_conflict.ensures.err (λ loaded k. k)
-    (λ e k. refuses_of_conflict _ _ (loaded_of c.in_ok-read_object.field-0) stated e k)
+    (λ e k. refuses_of_conflict _ _ (loaded_of c.in_ok-read_root.field-0) stated e k)

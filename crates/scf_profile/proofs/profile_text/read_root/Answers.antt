@@ -1,41 +1,61 @@
-use Rattle.scf_profile.proofs.Common.{◌≡◌, arith, ap, sym, ◌∙◌, length, ltb, true, false, refl, lt-ltb, le-ltb, err_from_is_err_and, max_rules, object_states, rules_from, skipped_names}
+use Rattle.scf_profile.proofs.Common.{◌≡◌, arith, ap, sym, ◌∙◌, length, ltb, true, false, refl, lt-ltb, le-ltb, err_from_is_err_and, max_rules, profile_of, rules_from, skipped_names}
 use Rattle.scf_profile.proofs.StatedRules.{stated_rules}
-use Rattle.scf_profile.proofs.profile_text.read_object.Goals as goal
+use Rattle.scf_profile.proofs.profile_text.read_root.Goals as goal
 
 pub returns-in_err-architectures-clause-value : goal.returns-in_err-architectures-clause-value
-unfolding object_states
+unfolding profile_of
 returns-in_err-architectures-clause-value c =
     let p =
     err_from_is_err_and c.from_residual-in_err-architectures.result
     c.from_residual-in_err-architectures.ensures.1 in
-    rw (p.1, p.2) (λ not_memory. rw (← c.in_ok-default_answer.ensures.value, c.in_err-architectures.ensures not_memory)
-    refl)
+    rw (p.1, p.2) (λ not_memory. rw (
+      ← c.in_ok-object.ensures,
+      ← c.in_ok-default_answer.ensures.value,
+      c.in_err-architectures.ensures not_memory,
+    ) refl)
+
+pub returns-in_err-check_architectures-clause-value : goal.returns-in_err-check_architectures-clause-value
+unfolding profile_of
+returns-in_err-check_architectures-clause-value c =
+    let p =
+    err_from_is_err_and c.from_residual-in_err-check_architectures.result
+    c.from_residual-in_err-check_architectures.ensures.1 in
+    rw (p.1, p.2) (λ _. rw (
+      ← c.in_ok-object.ensures,
+      ← c.in_ok-default_answer.ensures.value,
+      c.in_ok-architectures.ensures,
+      ← rw c.as_slice-names.ensures at c.in_err-check_architectures.ensures,
+    ) refl)
 
 pub returns-in_err-check_no_engine_form-clause-value : goal.returns-in_err-check_no_engine_form-clause-value
-unfolding object_states
+unfolding profile_of
 returns-in_err-check_no_engine_form-clause-value c =
     let p =
     err_from_is_err_and c.from_residual-in_err-check_no_engine_form.result
     c.from_residual-in_err-check_no_engine_form.ensures.1 in
     rw (p.1, p.2) (λ _. rw (
+      ← c.in_ok-object.ensures,
       ← c.in_ok-default_answer.ensures.value,
       c.in_ok-architectures.ensures,
+      ← rw c.as_slice-names.ensures at c.in_ok-check_architectures.ensures,
       ← c.in_err-check_no_engine_form.ensures,
     ) refl)
 
 pub returns-in_err-entries-clause-value : goal.returns-in_err-entries-clause-value
-unfolding object_states
+unfolding profile_of
 returns-in_err-entries-clause-value c =
     let p = err_from_is_err_and c.from_residual-in_err-entries.result c.from_residual-in_err-entries.ensures.1 in
     rw (p.1, p.2) (λ not_memory. rw (
+      ← c.in_ok-object.ensures,
       ← c.in_ok-default_answer.ensures.value,
       c.in_ok-architectures.ensures,
+      ← rw c.as_slice-names.ensures at c.in_ok-check_architectures.ensures,
       ← c.in_ok-check_no_engine_form.ensures,
       c.in_err-entries.ensures.value not_memory,
     ) refl)
 
 pub returns-in_err-rules-clause-value : goal.returns-in_err-rules-clause-value
-unfolding object_states
+unfolding profile_of
 returns-in_err-rules-clause-value c =
     let p = err_from_is_err_and c.from_residual-in_err-rules.result c.from_residual-in_err-rules.ensures.1 in
     rw (p.1, p.2) (λ not_memory.
@@ -43,8 +63,10 @@ returns-in_err-rules-clause-value c =
     let rules = rules_from c.args.table.now 0 c.in_ok-entries.entries.items in
     let many : ltb max_rules (length rules) ≡ true = rw (← c.deref.ensures.value) (lt-ltb _ _ told.1) in
     rw (
+      ← c.in_ok-object.ensures,
       ← c.in_ok-default_answer.ensures.value,
       c.in_ok-architectures.ensures,
+      ← rw c.as_slice-names.ensures at c.in_ok-check_architectures.ensures,
       ← c.in_ok-check_no_engine_form.ensures,
       c.in_ok-entries.ensures.value,
       many,
@@ -52,7 +74,7 @@ returns-in_err-rules-clause-value c =
     ) refl)
 
 pub returns-clause-value : goal.returns-clause-value
-unfolding object_states
+unfolding profile_of
 returns-clause-value c =
     let entries = c.in_ok-entries.entries.items in
     let rules = c.in_ok-rules.field-0.rules.items in
@@ -62,10 +84,12 @@ returns-clause-value c =
     le-ltb max_rules _ (omega (arith, c.in_ok-rules.ensures.few, c.in_ok-rules.field-0.rules.ok.0)) in
     let skipped : skipped_names c.args.table.now entries ≡ c.in_ok-rules.field-0.skipped =
     sym (c.in_ok-rules.ensures.skipped ∙ ap (skipped_names c.args.table.now) c.deref.ensures.value) in
-    let others = rw c.as_slice.ensures at c.in_ok-other_architectures.ensures in
+    let others = rw c.as_slice-names.ensures at c.in_ok-other_architectures.ensures in
     rw (
+      ← c.in_ok-object.ensures,
       ← c.in_ok-default_answer.ensures.value,
       c.in_ok-architectures.ensures,
+      ← rw c.as_slice-names.ensures at c.in_ok-check_architectures.ensures,
       ← c.in_ok-check_no_engine_form.ensures,
       c.in_ok-entries.ensures.value,
       is,
