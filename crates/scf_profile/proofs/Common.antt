@@ -66,7 +66,7 @@ pub use Rattle.scf_profile.specs.StatedProfile.{rules_from, rules_named, skipped
 unfoldable pub use Rattle.scf_profile.specs.StatedProfile.{answer_in, condition_of, condition_of as condition_stated, entry_of, errno_of, no_engine_form, profile_of, seccomp_of}
 pub use Rattle.scf_profile.specs.Steps.{some_or, ◌>>=◌}
 pub use Rattle.scf_profile.specs.Table.{AreCallNumbers, BeginWithCall, Names, is_blank as blank, entry_in, fields, is_blank, is_in_name, is_name, table_of, with_entry}
-unfoldable pub use Rattle.scf_profile.specs.Table.{with_line, with_lines}
+unfoldable pub use Rattle.scf_profile.specs.Table.{with_lines}
 pub use Rattle.scf_profile.specs.declared.condition.Condition.{Condition}
 pub use Rattle.scf_profile.specs.declared.conflict.Clash.{Clash}
 pub use Rattle.scf_profile.specs.declared.load_fault.LoadFault.{LoadFault}

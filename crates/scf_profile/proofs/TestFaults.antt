@@ -69,8 +69,8 @@ refuses_of_fault text table d faults.Json is_text fails =
 refuses_of_fault text table d (faults.Conflict number first second) is_text fails =
     absurd (IfErr-at_err IsTestFault (fails (λ h. cc)) (profile_test table d).fault)
 refuses_of_fault text table d faults.TooMany is_text fails =
-    inr (record { value = d; is_text = is_text; tests = fails (λ h. cc) })
-refuses_of_fault text table d e is_text fails = record { value = d; is_text = is_text; tests = fails (λ h. cc) }
+    inr (d, is_text, fails (λ h. cc))
+refuses_of_fault text table d e is_text fails = (d, is_text, fails (λ h. cc))
 
 -- the least conflict of what the value of a text states
 pub refuses_of_conflict : (text : List ℕ) (table : Names) (loaded : Loaded) → TestsGive text table (Ok loaded)

@@ -1,5 +1,5 @@
 -- What a text and a call table are loaded as, and when they are refused.
-use Rattle.std.specs.Prelude.{◌≡◌, ℕ, ◌<◌, ◌≤◌, ◌⊎◌, List, length, Some, None, Result, Ok, Err, IsUtf8, Any}
+use Rattle.std.specs.Prelude.{◌≡◌, ℕ, ◌<◌, ◌≤◌, ◌⊎◌, List, length, Some, Result, Ok, Err, IsUtf8, Any}
 use Rattle.serde_json.specs.Data.{Data}
 use Rattle.serde_json.specs.Read.{read}
 use Rattle.scf_profile.specs.declared.rule.Rule.{Rule}
@@ -17,11 +17,6 @@ pub record IsText (text : List ℕ) (d : Data) : Type 0 where
   pub short : length text ≤ max_text_len
   pub utf8 : IsUtf8 text
   pub value : read text ≡ Some d
-
--- the text is short enough, but no UTF-8, or no JSON that is nested at most as deep as serde_json reads
-pub record HasNoReading (text : List ℕ) : Type 0 where
-  pub short : length text ≤ max_text_len
-  pub no_value : IsUtf8 text → read text ≡ None
 
 -- A rule and one of a later entry conflict: the places of their entries, and the number of the calls on which they do.
 pub record IsClash (rule later : Rule) (first second number : ℕ) : Type 0 where
@@ -43,10 +38,8 @@ pub record IsLeastConflict (rules : List Rule) (number first second : ℕ) : Typ
   pub least_number : (n : ℕ) → EntriesConflict rules first second n → number ≤ n
 
 -- what the tests of the value of the text give, but for conflicts
-pub record TestsGive (text : List ℕ) (table : Names) (stated : Result Loaded LoadFault) : Type 0 where
-  pub value : Data
-  pub is_text : IsText text value
-  pub tests : profile_of table value ≡ stated
+abbrev pub TestsGive : List ℕ → Names → Result Loaded LoadFault → Type 0
+TestsGive text table stated = (value : Data) × IsText text value × (profile_of table value ≡ stated)
 
 -- what the text and the table state, and no two rules conflict
 abbrev pub Loads : List ℕ → Names → Loaded → Type 0
@@ -55,7 +48,7 @@ Loads text table loaded = TestsGive text table (Ok loaded) × HaveNoConflict loa
 -- When a text is refused with a fault, the first test that fails. Want of memory may come in place of anything.
 abbrev pub Refuses : List ℕ → Names → LoadFault → Type 0
 Refuses text table faults.Memory = Unit {0}
-Refuses text table faults.Json = HasNoReading text
+Refuses text table faults.Json = (length text ≤ max_text_len) × ((value : Data) → IsText text value → ⊥)
 Refuses text table faults.TooMany = (max_text_len < length text) ⊎ TestsGive text table (Err faults.TooMany)
 Refuses text table (faults.Conflict number first second) =
     (loaded : Loaded) × TestsGive text table (Ok loaded) × IsLeastConflict loaded.profile.rules number first second

@@ -38,15 +38,12 @@ is_in_name byte = is_ascii_alphanumeric byte || byte == 95
 abbrev pub is_name : List ℕ → Bool
 is_name text = nat_lt 0 (length text) && not (is_ascii_digit (slice_index text 0)) && list_all is_in_name text
 
--- decimal digits of a number below those of x32 calls
-abbrev pub call_number : List ℕ → Option ℕ
-call_number digits = option_and_then (λ number. number_below x32_syscall_bit (pos number)) (numeral 10 digits)
-
--- a name, and as the one other field a number
+-- a name, and as the one other field the decimal digits of a number below those of x32 calls
 unfoldable pub pair_of : ℕ → List ℕ → List (List ℕ) → Result (Option (List ℕ × ℕ)) TableFault
 pair_of line name (digits ∷ []) = do
   _ ← refused_if (not (is_name name)) (faults.Name line)
-  number ← some_or (call_number digits) (faults.Number line)
+  number ← some_or (option_and_then (λ n. number_below x32_syscall_bit (pos n)) (numeral 10 digits))
+      (faults.Number line)
   Ok (Some (name, number))
 pair_of line name others = Err (faults.Form line)
 
@@ -61,14 +58,11 @@ with_entry line names None = Ok names
 with_entry line names (Some (name, number)) =
     if is_some (get names name) then Err (faults.Repeated line) else Ok (insert names name number)
 
--- the names so far and those of one more line
-unfoldable pub with_line : ℕ → Names → List ℕ → Result Names TableFault
-with_line line names text = entry_in line (fields text) >>= with_entry line names
-
 -- the names so far and those of the lines from the one of this number on
 unfoldable pub with_lines : ℕ → Names → List (List ℕ) → Result Names TableFault
 with_lines line names [] = Ok names
-with_lines line names (text ∷ texts) = with_line line names text >>= λ more. with_lines (line + 1) more texts
+with_lines line names (text ∷ texts) =
+    entry_in line (fields text) >>= with_entry line names >>= λ more. with_lines (line + 1) more texts
 
 -- The line has a name and a number.
 pub record HasCall (text : List ℕ) : Type 0 where

@@ -6,8 +6,9 @@ ghost use Rattle.std.specs.Str.Lines.{lines};
 ghost use Rattle.scf_insn.specs.Kernel.{x32_syscall_bit};
 ghost use Rattle.scf_profile.specs.declared.table_fault.TableFault.TheVariants as faults;
 ghost use Rattle.scf_profile.specs.NamedCalls.{AreCallsOf};
-ghost use Rattle.scf_profile.specs.Steps.{Gives};
-ghost use Rattle.scf_profile.specs.Table.{AreCallNumbers, BeginWithCall, HasCall, table_of, with_line};
+ghost use Rattle.scf_profile.specs.Steps.{◌>>=◌ as and_then, Gives};
+ghost use Rattle.scf_profile.specs.Table.{AreCallNumbers, BeginWithCall, HasCall, table_of};
+ghost use Rattle.scf_profile.specs.Table.{fields, entry_in, with_entry};
 
 use crate::named_call::{NamedCall, named_calls};
 use crate::table_fault::TableFault;
@@ -85,10 +86,10 @@ impl CallTable {
     }
 
     /// Adds what a line states. After an `Err` the table is of no use.
-    #[tactic(auto, unfolding(crate::specs::Table::with_line))]
     fn add_line(&mut self, alloc: Global, line: usize, text: &[u8]) -> Result<(), TableFault>
-        ensures ok { OnOk result (with_line line self.old text.now ≡ Ok self.new) }
-        ensures err { IfErr result (λ e. e ≢ faults.Memory → with_line line self.old text.now ≡ Err e) }
+        ensures ok { OnOk result (and_then (entry_in line (fields text.now)) (with_entry line self.old) ≡ Ok self.new) }
+        ensures err { IfErr result (λ e. e ≢ faults.Memory
+            → and_then (entry_in line (fields text.now)) (with_entry line self.old) ≡ Err e) }
         ensures memory { IfErr result (λ e. e ≡ faults.Memory → HasCall text.now) }
     {
         let Some((name, number)) = entry_on(line, text)? else {

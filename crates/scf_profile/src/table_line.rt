@@ -1,14 +1,16 @@
 //! The lines of a call table, and the name and the number on one.
 
 ghost use Rattle.std.specs.Prelude.{◌≡◌, ◌<◌, ◌≤◌, [], ◌∷◌, length, nat_lt, if◌then◌else◌, slice_index, false};
-ghost use Rattle.std.specs.Prelude.{option_map, ◌≢◌, IfErr, IfOk, IfSome};
+ghost use Rattle.std.specs.Prelude.{option_and_then, option_map, pos, ◌≢◌, IfErr, IfOk, IfSome};
 ghost use Rattle.std.specs.List.{list_all};
 ghost use Rattle.std.specs.Str.Lines.{lines, strip_carriage_return as without_carriage_return};
 ghost use Rattle.scf_insn.specs.Kernel.{x32_syscall_bit};
+ghost use Rattle.scf_insn.specs.Numbers.{numeral};
 ghost use Rattle.scf_profile.specs.declared.table_fault.TableFault.TheVariants.{Memory};
+ghost use Rattle.scf_profile.specs.Limits.{number_below};
 ghost use Rattle.scf_profile.specs.internal.Results.{result_map};
 ghost use Rattle.scf_profile.specs.Table.{is_blank as blank, fields, is_in_name as in_name};
-ghost use Rattle.scf_profile.specs.Table.{is_name as name_is, call_number as number_stated, entry_in};
+ghost use Rattle.scf_profile.specs.Table.{is_name as name_is, entry_in};
 
 use crate::table_fault::TableFault;
 use scf_insn::kernel::X32_SYSCALL_BIT;
@@ -94,7 +96,8 @@ fn is_name(text: &[u8]) -> bool
 
 /// The value of decimal digits, where it is a call number.
 fn call_number(digits: &[u8]) -> Option<u32>
-    ensures value { result ≡ number_stated digits.now }
+    ensures value { result
+        ≡ option_and_then (λ n. number_below x32_syscall_bit (pos n)) (numeral 10 digits.now) }
     ensures range { IfSome result (λ n. n < x32_syscall_bit) }
 {
     match parse_numeral(digits, 10) {

@@ -1,10 +1,11 @@
 -- Why a text is refused, in parts.
-use Rattle.std.specs.Prelude.{ℕ, ◌<◌, List, length}
+use Rattle.std.specs.Prelude.{ℕ, ◌<◌, ◌≤◌, List, length}
+use Rattle.serde_json.specs.Data.{Data}
 use Rattle.scf_profile.specs.declared.rule.Rule.{Rule}
 use Rattle.scf_profile.specs.declared.load_fault.LoadFault.{LoadFault}
 use Rattle.scf_profile.specs.declared.load_fault.LoadFault.TheVariants as faults
 use Rattle.scf_profile.specs.Limits.{max_text_len}
-use Rattle.scf_profile.specs.Loading.{HasNoReading, IsLeastConflict}
+use Rattle.scf_profile.specs.Loading.{IsText, IsLeastConflict}
 
 -- the conflict that a fault names is the least of the rules, or the fault is want of memory
 abbrev pub NamesLeastConflict : List Rule → LoadFault → Type 0
@@ -15,6 +16,6 @@ NamesLeastConflict rules fault = ⊥
 -- when a text is refused before a value of it is looked at
 abbrev pub ParseRefuses : List ℕ → LoadFault → Type 0
 ParseRefuses text faults.Memory = Unit {0}
-ParseRefuses text faults.Json = HasNoReading text
+ParseRefuses text faults.Json = (length text ≤ max_text_len) × ((value : Data) → IsText text value → ⊥)
 ParseRefuses text faults.TooMany = max_text_len < length text
 ParseRefuses text fault = ⊥

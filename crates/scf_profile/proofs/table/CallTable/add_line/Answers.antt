@@ -1,4 +1,4 @@
-use Rattle.scf_profile.proofs.Common.{◌≡◌, true, false, refl, sym, ◌∙◌, ap, Ok, Some, string_bytes, List, ℕ, is_some, get, insert, names_of, Names, fields, entry_in, with_line}
+use Rattle.scf_profile.proofs.Common.{◌≡◌, true, false, refl, sym, ◌∙◌, ap, Ok, Some, string_bytes, List, ℕ, is_some, get, insert, names_of, Names, fields, entry_in}
 use Rattle.scf_profile.proofs.NamesOf.{found_named, insert_named, call_numbers_updated}
 use Rattle.scf_profile.proofs.table.CallTable.add_line.Goals as goal
 
@@ -13,7 +13,6 @@ invariant_of-self-2 c =
     c.in_ok-insert.ensures.updates c.self.invariant (rw c.in-Some.is at c.in_ok-name.ensures.range)
 
 pub returns-then-is_some-clause-err : goal.returns-then-is_some-clause-err
-unfolding with_line
 returns-then-is_some-clause-err c =
     let name = c.in-Some.name.now in
     let entry : entry_in c.args.line (fields c.args.text.now) ≡ Ok (Some (name, c.in-Some.number)) =
@@ -25,7 +24,6 @@ returns-then-is_some-clause-err c =
     λ _. rw (entry, there) refl
 
 pub returns-clause-ok : goal.returns-clause-ok
-unfolding with_line
 returns-clause-ok c =
     let name = c.in-Some.name.now in
     let entry : entry_in c.args.line (fields c.args.text.now) ≡ Ok (Some (name, c.in-Some.number)) =
