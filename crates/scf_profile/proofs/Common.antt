@@ -1,5 +1,5 @@
 -- The names that proofs of this crate cite, passed on from one place. Declares nothing.
-pub use Rattle.std.proofs.Common.{All, Any, BTreeMap, Bool, Bor, Contains, Err, Global, IfErr, IfSome, IsAscii, IsSome, List, None, Ok, Option, Result, Some, String, Vec, [], add-one, ap, append-nil, arith, bit_and, bit_or, cond, drop, eqb, false, get_or, inl, inr, is_none, is_some, leb, length, ltb, map, max, min, nat_lt, not, option_map, refl, rules, string_bytes, string_cmp, subst, suc, sym, take, tests, true, vec_len, zero, ℕ, ◌&&◌, ◌++◌, ◌+◌, ◌-◌, ◌<◌, ◌^◌, ◌||◌, ◌↔◌, ◌∙◌, ◌∷◌, ◌≡◌, ◌≢◌, ◌≤◌, ◌⊎◌}
+pub use Rattle.std.proofs.Common.{All, Any, BTreeMap, Bool, Bor, Contains, Err, Global, IfErr, IfSome, IsAscii, IsSome, List, None, Ok, Option, Result, Some, String, Vec, [], add-one, ap, append-nil, arith, bit_and, bit_or, cond, drop, eqb, false, get_or, inl, inr, is_none, is_some, leb, length, ltb, map, max, min, nat_lt, not, ok_or, option_map, refl, rules, string_bytes, string_cmp, subst, suc, sym, take, tests, true, vec_len, zero, ℕ, ◌&&◌, ◌++◌, ◌+◌, ◌-◌, ◌<◌, ◌^◌, ◌||◌, ◌↔◌, ◌∙◌, ◌∷◌, ◌≡◌, ◌≢◌, ◌≤◌, ◌⊎◌}
 pub use Rattle.serde_json.specs.Data.{Data, Items, item, no_items}
 pub use Rattle.serde_json.specs.Events.{items_len, members_len}
 pub use Rattle.serde_json.specs.Find.{as_str}
@@ -64,7 +64,7 @@ pub use Rattle.scf_profile.specs.RulesByNumber.{numbers_of, rules_of}
 pub use Rattle.scf_profile.specs.SameAnswers.{AnswersRelated, SameAnswers}
 pub use Rattle.scf_profile.specs.StatedProfile.{rules_from, rules_named, skipped_names, strings_of, x86_64}
 unfoldable pub use Rattle.scf_profile.specs.StatedProfile.{answer_in, condition_of, condition_of as condition_stated, entry_of, errno_of, no_engine_form, profile_of, seccomp_of}
-pub use Rattle.scf_profile.specs.Steps.{some_or, ◌>>=◌}
+pub use Rattle.scf_profile.specs.Steps.{◌>>=◌}
 pub use Rattle.scf_profile.specs.Table.{AreCallNumbers, BeginWithCall, Names, is_blank as blank, entry_in, fields, is_blank, is_in_name, is_name, table_of, with_entry}
 unfoldable pub use Rattle.scf_profile.specs.Table.{with_lines}
 pub use Rattle.scf_profile.specs.declared.condition.Condition.{Condition}

@@ -1,5 +1,5 @@
 -- The tests of a value give neither `Json` nor `Conflict`, and not `Memory`.
-use Rattle.scf_profile.proofs.Common.{◌≡◌, ◌≢◌, ℕ, Bool, true, false, cond, List, [], ◌∷◌, ◌++◌, Option, Some, None, Result, Ok, Err, inr, IfErr, option_map_or, IfErr-at_err, Data, Items, no_items, item, LoadFault, Loaded, IsText, TestsGive, Refuses, NamesLeastConflict, Names, ◌>>=◌, some_or, each, errno_of, answer_in, no_engine_form, condition_of, entry_of, seccomp_of, profile_of}
+use Rattle.scf_profile.proofs.Common.{◌≡◌, ◌≢◌, ℕ, Bool, true, false, cond, List, [], ◌∷◌, ◌++◌, Option, Some, None, Result, Ok, Err, inr, IfErr, option_map_or, IfErr-at_err, Data, Items, no_items, item, LoadFault, Loaded, IsText, TestsGive, Refuses, NamesLeastConflict, Names, ◌>>=◌, ok_or, each, errno_of, answer_in, no_engine_form, condition_of, entry_of, seccomp_of, profile_of}
 use Rattle.scf_profile.specs.declared.load_fault.LoadFault.TheVariants as faults
 
 abbrev pub IsTestFault : LoadFault → Type 0
@@ -23,7 +23,7 @@ then_test : {A B : Type 0} (r : Result A LoadFault) (f : A → Result B LoadFaul
 then_test (Ok x) f h k = k x
 then_test (Err e) f h k = record { fault = h.fault }
 
-some_test : {A : Type 0} (o : Option A) (e : LoadFault) → IsTestFault e → IsTest (some_or o e)
+some_test : {A : Type 0} (o : Option A) (e : LoadFault) → IsTestFault e → IsTest (ok_or o e)
 some_test None e h = record { fault = h }
 some_test (Some x) e h = record { fault = tt }
 

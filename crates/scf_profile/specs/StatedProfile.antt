@@ -2,7 +2,7 @@
 -- tests in their order, each a function to what is stated or to its fault. A fault carries the place of the entry of
 -- `syscalls` in which it stands, and none where it stands outside of them.
 use Rattle.std.specs.Prelude.{ℕ, ◌+◌, Bool, true, false, not, ◌&&◌, ◌==◌, List, [], ◌∷◌, ◌++◌, codes, length}
-use Rattle.std.specs.Prelude.{◌||◌, Option, Some, None, Result, Ok, nat_lt, if◌then◌else◌, is_none, is_some, option_map, ⊤}
+use Rattle.std.specs.Prelude.{◌||◌, Option, Some, None, ok_or, Result, Ok, nat_lt, if◌then◌else◌, is_none, is_some, option_map, ⊤}
 use Rattle.std.specs.List.{list_any, filter, flat_map, filter_map}
 use Rattle.std.specs.Map.{lookup}
 use Rattle.std.specs.Str.{bytes_eq}
@@ -24,7 +24,7 @@ use Rattle.scf_profile.specs.declared.entry.Entry.{Entry}
 use Rattle.scf_profile.specs.declared.load_fault.LoadFault.{LoadFault}
 use Rattle.scf_profile.specs.declared.load_fault.LoadFault.TheVariants as faults
 use Rattle.scf_profile.specs.declared.loaded.Loaded.{Loaded}
-use Rattle.scf_profile.specs.Steps.{◌>>=◌, some_or, refused_if}
+use Rattle.scf_profile.specs.Steps.{◌>>=◌, refused_if}
 use Rattle.scf_profile.specs.JsonMembers.{member, whole_number, unsigned_number, each}
 use Rattle.scf_profile.specs.Limits.{max_errno, max_rules, number_below}
 use Rattle.scf_profile.specs.Table.{Names}
@@ -33,8 +33,7 @@ use Rattle.scf_profile.specs.Table.{Names}
 
 -- a member that has to be there, of a kind
 abbrev pub required : {T : Type 0} → Option ℕ → List ℕ → (Data → Option T) → Data → Result T LoadFault
-required entry name kind d =
-    some_or (member name d) (faults.Missing entry) >>= λ found. some_or (kind found) (faults.Kind entry)
+required entry name kind d = ok_or (member name d) (faults.Missing entry) >>= λ it. ok_or (kind it) (faults.Kind entry)
 
 -- one that may be absent, of a kind
 abbrev pub optional : {T : Type 0} → T → Option ℕ → List ℕ → (Data → Option T) → Data → Result T LoadFault
@@ -60,14 +59,14 @@ takes_errno action = false
 -- an errno that is there
 unfoldable pub errno_of : Option ℕ → Action → Data → Result ℕ LoadFault
 errno_of entry action d = do
-  number ← some_or (whole_number d) (faults.Kind entry)
+  number ← ok_or (whole_number d) (faults.Kind entry)
   _ ← refused_if (not (takes_errno action)) (faults.Errno entry)
-  some_or (number_below (max_errno + 1) number) (faults.ErrnoRange entry)
+  ok_or (number_below (max_errno + 1) number) (faults.ErrnoRange entry)
 
 -- an action with its errno, which is 1 (EPERM) where it takes one and has none
 unfoldable pub answer_in : Option ℕ → List ℕ → List ℕ → Data → Result Answer LoadFault
 answer_in entry name errno_name d = do
-  action ← required entry name as_str d >>= λ text. some_or (action_named text) (faults.Action entry)
+  action ← required entry name as_str d >>= λ text. ok_or (action_named text) (faults.Action entry)
   errno ← option_map_or (errno_of entry action) (member errno_name d) (Ok (if takes_errno action then 1 else 0))
   Ok (record { 0 = answer_of action errno })
 
@@ -84,7 +83,7 @@ no_engine_form entry name d = refused_if (not (option_map_or is_empty (member na
 
 -- the strings of an array
 abbrev pub strings_of : Option ℕ → Items → Result (List (List ℕ)) LoadFault
-strings_of entry items = each (λ before d. some_or (as_str d) (faults.Kind entry)) [] items
+strings_of entry items = each (λ before d. ok_or (as_str d) (faults.Kind entry)) [] items
 
 -- ---- a member of `args`
 
@@ -99,10 +98,10 @@ operator_named name = lookup (bytes_eq name) (
 -- one member, after members that state these conditions
 unfoldable pub condition_of : Option ℕ → List Condition → Data → Result Condition LoadFault
 condition_of entry earlier d = do
-  _ ← some_or (as_object d) (faults.Kind entry)
+  _ ← ok_or (as_object d) (faults.Kind entry)
   index ← required entry (codes "index") whole_number d
-      >>= λ number. some_or (number_below seccomp_data_args number) (faults.Index entry)
-  op ← required entry (codes "op") as_str d >>= λ text. some_or (operator_named text) (faults.Operator entry)
+      >>= λ number. ok_or (number_below seccomp_data_args number) (faults.Index entry)
+  op ← required entry (codes "op") as_str d >>= λ text. ok_or (operator_named text) (faults.Operator entry)
   value ← required entry (codes "value") unsigned_number d
   value_two ← optional 0 entry (codes "valueTwo") unsigned_number d
   _ ← refused_if (list_any (λ c. c.index == index) earlier) (faults.RepeatedIndex entry)
@@ -112,7 +111,7 @@ condition_of entry earlier d = do
 
 unfoldable pub entry_of : Option ℕ → Data → Result Entry LoadFault
 entry_of entry d = do
-  _ ← some_or (as_object d) (faults.Kind entry)
+  _ ← ok_or (as_object d) (faults.Kind entry)
   _ ← no_engine_form entry (codes "includes") d
   _ ← no_engine_form entry (codes "excludes") d
   names ← required entry (codes "names") as_array d
@@ -131,7 +130,7 @@ object d = option_map (λ _. d) (as_object d)
 unfoldable pub seccomp_of : Data → Result Data LoadFault
 seccomp_of root =
     if is_some (member (codes "defaultAction") root) || is_none (member (codes "linux") root)
-    then some_or (object root) (faults.Kind None)
+    then ok_or (object root) (faults.Kind None)
     else required None (codes "linux") object root >>= required None (codes "seccomp") object
 
 -- ---- with the call table

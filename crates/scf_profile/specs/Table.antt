@@ -1,6 +1,6 @@
 -- What a text states as a call table: a map from names to numbers, or the first fault of the first faulty line.
 use Rattle.std.specs.Prelude.{◌≡◌, ℕ, ◌+◌, ◌<◌, Bool, not, ◌&&◌, ◌||◌, ◌==◌, List, [], ◌∷◌, length, slice_index, pos}
-use Rattle.std.specs.Prelude.{Option, Some, None, Result, Ok, Err, if◌then◌else◌, is_some, nat_lt, option_and_then, ◌⊎◌}
+use Rattle.std.specs.Prelude.{Option, Some, None, ok_or, Result, Ok, Err, if◌then◌else◌, is_some, nat_lt, option_and_then, ◌⊎◌}
 use Rattle.std.specs.Char.{is_ascii_alphanumeric, is_ascii_digit}
 use Rattle.std.specs.List.{list_all, filter, slice_split}
 use Rattle.std.specs.Ordering.{nat_cmp}
@@ -12,7 +12,7 @@ use Rattle.scf_insn.specs.Numbers.{numeral}
 use Rattle.scf_profile.specs.declared.table_fault.TableFault.{TableFault}
 use Rattle.scf_profile.specs.declared.table_fault.TableFault.TheVariants as faults
 use Rattle.scf_profile.specs.Limits.{number_below}
-use Rattle.scf_profile.specs.Steps.{◌>>=◌, some_or, refused_if}
+use Rattle.scf_profile.specs.Steps.{◌>>=◌, refused_if}
 
 -- the numbers of calls by their names
 abbrev pub Names : Type 0
@@ -42,8 +42,7 @@ is_name text = nat_lt 0 (length text) && not (is_ascii_digit (slice_index text 0
 unfoldable pub pair_of : ℕ → List ℕ → List (List ℕ) → Result (Option (List ℕ × ℕ)) TableFault
 pair_of line name (digits ∷ []) = do
   _ ← refused_if (not (is_name name)) (faults.Name line)
-  number ← some_or (option_and_then (λ n. number_below x32_syscall_bit (pos n)) (numeral 10 digits))
-      (faults.Number line)
+  number ← ok_or (option_and_then (λ n. number_below x32_syscall_bit (pos n)) (numeral 10 digits)) (faults.Number line)
   Ok (Some (name, number))
 pair_of line name others = Err (faults.Form line)
 

@@ -1,12 +1,12 @@
 //! Actions by name, and the answers that they make.
 
-ghost use Rattle.std.specs.Prelude.{◌≡◌, ◌<◌, ◌^◌, IfOk};
+ghost use Rattle.std.specs.Prelude.{◌≡◌, ◌<◌, ◌^◌, ok_or, IfOk};
 ghost use Rattle.serde_json.specs.Find.{as_str};
 ghost use Rattle.serde_json.specs.View.{view};
 ghost use Rattle.scf_profile.specs.declared.load_fault.LoadFault.TheVariants as faults;
 ghost use Rattle.scf_profile.specs.StatedProfile.{required, action_named, takes_errno as errno_taken};
 ghost use Rattle.scf_profile.specs.StatedProfile.{errno_of as errno_stated, answer_in};
-ghost use Rattle.scf_profile.specs.Steps.{◌>>=◌ as and_then, some_or};
+ghost use Rattle.scf_profile.specs.Steps.{◌>>=◌ as and_then};
 
 use crate::json_members::member_of;
 use crate::limits::MAX_ERRNO;
@@ -41,7 +41,7 @@ fn takes_errno(action: Action) -> bool
 /// The action that a member of the object names.
 fn find_action(entry: Option<u32>, name: &str, object: &Value) -> Result<Action, LoadFault>
     ensures { result ≡ and_then (required entry name.now as_str (view object.now))
-        (λ text. some_or (action_named text) (faults.Action entry)) }
+        (λ text. ok_or (action_named text) (faults.Action entry)) }
 {
     let found = member_of(object, name).ok_or(LoadFault::Missing { entry })?;
     let text = found.as_str().ok_or(LoadFault::Kind { entry })?;

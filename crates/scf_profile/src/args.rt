@@ -1,6 +1,6 @@
 //! Conditions from the members of `args`.
 
-ghost use Rattle.std.specs.Prelude.{◌≡◌, ◌<◌, ◌==◌, [], IfOk, codes, false};
+ghost use Rattle.std.specs.Prelude.{◌≡◌, ◌<◌, ◌==◌, [], ok_or, IfOk, codes, false};
 ghost use Rattle.std.specs.List.{list_any};
 ghost use Rattle.serde_json.specs.Data.{no_items};
 ghost use Rattle.serde_json.specs.Find.{as_array, as_str};
@@ -12,7 +12,7 @@ ghost use Rattle.scf_profile.specs.Limits.{number_below};
 ghost use Rattle.scf_profile.specs.Rule.{IsCondition, AreConditions};
 ghost use Rattle.scf_profile.specs.StatedProfile.{required, optional, operator_named};
 ghost use Rattle.scf_profile.specs.StatedProfile.{condition_of as condition_stated};
-ghost use Rattle.scf_profile.specs.Steps.{◌>>=◌ as and_then, some_or, Gives};
+ghost use Rattle.scf_profile.specs.Steps.{◌>>=◌ as and_then, Gives};
 ghost use Rattle.scf_profile.specs.internal.Results.{result_map};
 
 use crate::condition::{Condition, Conditions, Operator};
@@ -39,7 +39,7 @@ fn operator_of(name: &str) -> Option<Operator>
 
 fn find_index(entry: Option<u32>, object: &Value) -> Result<u8, LoadFault>
     ensures value { result ≡ and_then (required entry (codes "index") whole_number (view object.now))
-        (λ number. some_or (number_below seccomp_data_args number) (faults.Index entry)) }
+        (λ number. ok_or (number_below seccomp_data_args number) (faults.Index entry)) }
     ensures range { IfOk result (λ index. index < seccomp_data_args) }
 {
     let found = member_of(object, "index").ok_or(LoadFault::Missing { entry })?;
@@ -58,7 +58,7 @@ fn find_index(entry: Option<u32>, object: &Value) -> Result<u8, LoadFault>
 
 fn find_operator(entry: Option<u32>, object: &Value) -> Result<Operator, LoadFault>
     ensures { result ≡ and_then (required entry (codes "op") as_str (view object.now))
-        (λ text. some_or (operator_named text) (faults.Operator entry)) }
+        (λ text. ok_or (operator_named text) (faults.Operator entry)) }
 {
     let found = member_of(object, "op").ok_or(LoadFault::Missing { entry })?;
     let name = found.as_str().ok_or(LoadFault::Kind { entry })?;

@@ -1,13 +1,13 @@
 //! Texts in arrays, and forms that depend on a container engine.
 
-ghost use Rattle.std.specs.Prelude.{◌≡◌, ◌==◌, codes};
+ghost use Rattle.std.specs.Prelude.{◌≡◌, ◌==◌, ok_or, codes};
 ghost use Rattle.serde_json.specs.Events.{items_len};
 ghost use Rattle.serde_json.specs.Find.{as_array, as_str};
 ghost use Rattle.serde_json.specs.View.{view, items_view};
 ghost use Rattle.scf_profile.specs.declared.load_fault.LoadFault.TheVariants.{Memory, Kind, EmptyNames};
 ghost use Rattle.scf_profile.specs.StatedProfile.{required, is_empty as empty_value, no_engine_form};
 ghost use Rattle.scf_profile.specs.StatedProfile.{strings_of as strings_stated};
-ghost use Rattle.scf_profile.specs.Steps.{◌>>=◌ as and_then, Gives, some_or, refused_if};
+ghost use Rattle.scf_profile.specs.Steps.{◌>>=◌ as and_then, Gives, refused_if};
 ghost use Rattle.scf_profile.specs.internal.Results.{result_map};
 
 use crate::json_members::member_of;
@@ -46,7 +46,7 @@ pub(crate) fn check_no_engine_form(
 }
 
 fn string_of(entry: Option<u32>, value: &Value) -> Result<&str, LoadFault>
-    ensures { result_map (λ s. s.now) result ≡ some_or (as_str (view value.now)) (Kind entry) }
+    ensures { result_map (λ s. s.now) result ≡ ok_or (as_str (view value.now)) (Kind entry) }
 {
     value.as_str().ok_or(LoadFault::Kind { entry })
 }

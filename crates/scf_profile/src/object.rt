@@ -1,7 +1,7 @@
 //! The seccomp object.
 
 ghost use Rattle.std.specs.Prelude.{◌≡◌, ◌≤◌, ◌^◌, ◌&&◌, not, nat_lt, [], IfOk, All, length, vec_len};
-ghost use Rattle.std.specs.Prelude.{Some, None, codes};
+ghost use Rattle.std.specs.Prelude.{Some, None, ok_or, codes};
 ghost use Rattle.std.specs.List.{list_any};
 ghost use Rattle.std.specs.Str.{bytes_eq};
 ghost use Rattle.serde_json.specs.Data.{no_items};
@@ -13,7 +13,7 @@ ghost use Rattle.scf_profile.specs.JsonMembers.{each};
 ghost use Rattle.scf_profile.specs.References.{texts_at};
 ghost use Rattle.scf_profile.specs.StatedProfile.{required, optional, strings_of as strings_stated, entry_of};
 ghost use Rattle.scf_profile.specs.StatedProfile.{object as object_stated, seccomp_of, x86_64};
-ghost use Rattle.scf_profile.specs.Steps.{◌>>=◌ as and_then, some_or, refused_if, Gives};
+ghost use Rattle.scf_profile.specs.Steps.{◌>>=◌ as and_then, refused_if, Gives};
 ghost use Rattle.scf_profile.specs.internal.Results.{result_map};
 
 use crate::entry::Entry;
@@ -26,7 +26,7 @@ use std::alloc::Global;
 
 /// A value that has to be an object.
 fn object_of(value: &Value) -> Result<&Value, LoadFault>
-    ensures { result_map (λ v. view v.now) result ≡ some_or (object_stated (view value.now)) (faults.Kind None) }
+    ensures { result_map (λ v. view v.now) result ≡ ok_or (object_stated (view value.now)) (faults.Kind None) }
 {
     if value.is_object() {
         Ok(value)
