@@ -36,13 +36,13 @@ pub use Rattle.scf_profile.proofs.Numbers.{has_number, numbers_of-contains, numb
 pub use Rattle.scf_profile.specs.declared.condition.Condition.{Condition}
 pub use Rattle.scf_profile.specs.declared.condition.Operator.TheVariants.{Equal}
 pub use Rattle.scf_profile.specs.declared.rule.Rule.{Rule}
-pub use Rattle.scf_compare.specs.Effort.{conditions_size, number_size, rules_size, saturated, stack_paths}
+pub use Rattle.scf_compare.specs.Effort.{conditions_size, rules_size, saturated, stack_paths}
 pub use Rattle.scf_compare.specs.Headline.{DiffersIsShown, EveryRunEnds, SameIsTrue}
 pub use Rattle.scf_compare.specs.Paths.{size_of_insn, tree_size}
 unfoldable pub use Rattle.scf_compare.specs.Paths.{tree_sizes}
 pub use Rattle.scf_compare.specs.Relation.{IsRelated}
 pub use Rattle.scf_compare.specs.Scope.{IsInScope, RelatedAnswersIn, SameAnswersIn}
-pub use Rattle.scf_compare.specs.Verdicts.{CanEnd, IsDecided, IsEndPlace, IsStackEndPlace, IsTrueBy}
+pub use Rattle.scf_compare.specs.Verdicts.{IsDecided, IsEndPlace, IsStackEndPlace, IsTrueBy}
 pub use Rattle.scf_compare.specs.declared.asking.Atoms.{Atoms}
 pub use Rattle.scf_compare.specs.declared.comparison.BothEnds.{BothEnds}
 pub use Rattle.scf_compare.specs.declared.comparison.FilterEnd.{FilterEnd}
@@ -76,7 +76,7 @@ pub use Rattle.scf_compare.specs.internal.Images.{AreShiftedAlike, IsWhole, imag
 pub use Rattle.scf_compare.specs.internal.Laws.{paths_count, scaled_costs, spread_counts}
 pub use Rattle.scf_compare.specs.internal.Numbers.{AreFirstRules}
 pub use Rattle.scf_compare.specs.internal.Offsets.{signed_sum}
-pub use Rattle.scf_compare.specs.internal.Profiles.{IsAtCondition, KnowsRule, StandsAt, condition_size, size_behind}
+pub use Rattle.scf_compare.specs.internal.Profiles.{IsAtCondition, KnowsRule, StandsAt, condition_size, number_size, size_behind}
 pub use Rattle.scf_compare.specs.internal.Scopes.{AreWordsOf, AreWordsOfX86_64, compared_in}
 pub use Rattle.scf_compare.specs.internal.Stacks.{IsStackEnd, filter_at, stack_is_node, stack_is_plain, stack_reaches, stack_size}
 pub use Rattle.scf_compare.specs.internal.Stages.{GoesOver, IsTaken, LeadsTo, verdict_of_all}

@@ -1,5 +1,8 @@
 -- A verdict on words is one on call records.
-use Rattle.scf_compare.proofs.Common.{◌≡◌, ℕ, List, subst, arith, Option, Answer, Insn, Operation, CallRecord, words_of, call_of, call_of-words_of, words_of-call_of, IsWords-words_of, IsRecord-call_of, Profile, ProfileAnswers, SameAnswers, Relation, Scope, Verdict, Differs, Undecided, Unfinished, IsRelated, IsInScope, RelatedAnswersIn, SameAnswersIn, CanEnd, IsEndPlace, IsStackEndPlace, IsTrueBy, IsDecided, AllRelated, IsTrueVerdict, IsPlaceOf, EndsWith, IsFilterEnd, flow_at, compared_in, IsStackEnd}
+use Rattle.scf_compare.proofs.Common.{◌≡◌, ◌⊎◌, ℕ, List, subst, arith, Option, Answer, Insn, Operation, CallRecord, words_of, call_of, call_of-words_of, words_of-call_of, IsWords-words_of, IsRecord-call_of, Profile, ProfileAnswers, SameAnswers, Relation, Scope, Verdict, Differs, Undecided, Unfinished, IsRelated, IsInScope, RelatedAnswersIn, SameAnswersIn, IsEndPlace, IsStackEndPlace, IsTrueBy, IsDecided, AllRelated, IsTrueVerdict, IsPlaceOf, EndsWith, IsFilterEnd, flow_at, compared_in, IsStackEnd}
+use Rattle.scf_insn.specs.declared.operation.Arithmetic.TheVariants.{Div}
+use Rattle.scf_insn.specs.declared.operation.Operand.TheVariants.{Index}
+use Rattle.scf_insn.specs.declared.operation.Operation.TheVariants.{Compute, ReturnConstant, ReturnAccumulator}
 use Rattle.scf_compare.specs.declared.scope.Scope.TheVariants.{All}
 use Rattle.scf_compare.specs.declared.verdict.Verdict.TheVariants.{Same}
 
@@ -72,7 +75,8 @@ pub all_of_same : (answers : List ℕ → ℕ → Type 0) (p : Profile) → Same
 all_of_same answers p same = λ call is_record in_scope. same call is_record
 
 ending : (operation : Operation) (i : Insn) (at : ℕ) (answer : Option Answer)
-    → EndsWith (flow_at operation i at) i answer → CanEnd operation
+    → EndsWith (flow_at operation i at) i answer
+    → (operation ≡ ReturnConstant) ⊎ (operation ≡ ReturnAccumulator) ⊎ (operation ≡ Compute Div Index)
 ending operation i at answer ends = grind arith
 
 -- a place of an end is one where a run can end

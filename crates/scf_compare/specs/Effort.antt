@@ -17,12 +17,9 @@ abbrev pub rules_size : List Rule → ℕ
 rules_size [] = 1
 rules_size (r ∷ rest) = conditions_size r.conditions (rules_size rest)
 
-abbrev pub number_size : List Rule → ℕ → ℕ
-number_size rules number = 1 + rules_size (rules_of number rules)
-
 -- the spread of a profile: 8, and for each distinct number 1 and the size of its rules
 abbrev pub spread : List Rule → ℕ
-spread rules = 8 + sum_by (number_size rules) (numbers_of rules)
+spread rules = 8 + sum_by (λ number. 1 + rules_size (rules_of number rules)) (numbers_of rules)
 
 -- the effort: the size of the filter's tree of paths from its first place on, times the spread
 abbrev pub effort_of : List Insn → Profile → ℕ

@@ -10,16 +10,11 @@ use Rattle.scf_compare.specs.declared.scope.Scope.{Scope}
 use Rattle.scf_compare.specs.declared.scope.Scope.TheVariants.{All, Native, Call}
 use Rattle.scf_compare.specs.Relation.{IsRelated}
 
--- a call of x86-64 (AUDIT_ARCH_X86_64) with this number
-pub record IsCallOf (number : ℕ) (call : CallRecord) : Type 0 where
-  pub arch : call.arch ≡ audit_arch_x86_64
-  pub nr : call.nr ≡ number
-
 -- every record, those of x86-64 with a number that x32 calls don't have, or those of x86-64 with one number
 abbrev pub IsInScope : Scope → CallRecord → Type 0
 IsInScope All call = Unit {0}
 IsInScope Native call = IsNative call
-IsInScope (Call number) call = IsCallOf number call
+IsInScope (Call number) call = (call.arch ≡ audit_arch_x86_64) × (call.nr ≡ number)
 
 -- a relation holds of the answers to every call record of the scope
 abbrev pub AllAreRelated : (ℕ → ℕ → Type 0) → (CallRecord → Type 0) → (List ℕ → ℕ → Type 0) → Profile → Type 0

@@ -1,5 +1,5 @@
 -- What verdicts claim.
-use Rattle.std.specs.Prelude.{◌≡◌, ◌<◌, ◌≤◌, ℕ, List, [], ◌∷◌, Contains}
+use Rattle.std.specs.Prelude.{◌≡◌, ◌<◌, ◌≤◌, ◌⊎◌, ℕ, List, [], ◌∷◌, Contains}
 use Rattle.scf_insn.specs.declared.insn.Insn.{Insn}
 use Rattle.scf_insn.specs.declared.operation.Arithmetic.TheVariants.{Div}
 use Rattle.scf_insn.specs.declared.operation.Operand.TheVariants.{Index}
@@ -32,19 +32,12 @@ IsTrueBy related in_scope is_place answers p (Differs call filter profile) =
 IsTrueBy related in_scope is_place answers p (Undecided at) = is_place at
 IsTrueBy related in_scope is_place answers p Unfinished = Unit {0}
 
--- what ends a run: a return, or a division by the index register, where that is 0
-abbrev pub CanEnd : Operation → Type 0
-CanEnd ReturnConstant = Unit {0}
-CanEnd ReturnAccumulator = Unit {0}
-CanEnd (Compute Div Index) = Unit {0}
-CanEnd _ = ⊥
-
--- A run of the program can end at this place.
+-- A run of the program can end at this place: by a return, or by a division by the index register, where that is 0.
 pub record IsEndPlace (insns : List Insn) (at : ℕ) : Type 0 where
   pub insn : Insn
   pub operation : Operation
   pub stands : Stands insns at insn operation
-  pub ends : CanEnd operation
+  pub ends : (operation ≡ ReturnConstant) ⊎ (operation ≡ ReturnAccumulator) ⊎ (operation ≡ Compute Div Index)
 
 -- on a program and a profile, of all call records and the same answers
 abbrev pub IsTrueOf : List Insn → Profile → Verdict → Type 0

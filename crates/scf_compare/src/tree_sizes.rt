@@ -6,9 +6,10 @@ ghost use Rattle.std.specs.List.{list_any};
 ghost use Rattle.scf_profile.specs.declared.rule.Rule.{Rule};
 ghost use Rattle.scf_machine.specs.Rules.{IsValidList, Stands};
 ghost use Rattle.scf_profile.specs.RulesByNumber.{rules_of};
-ghost use Rattle.scf_compare.specs.Effort.{conditions_size, rules_size, number_size, spread, stack_paths, effort_of};
+ghost use Rattle.scf_compare.specs.Effort.{conditions_size, rules_size, spread, stack_paths, effort_of};
 ghost use Rattle.scf_compare.specs.Effort.{effort_of_stack, saturated};
 ghost use Rattle.scf_compare.specs.Paths.{tree_size};
+ghost use Rattle.scf_compare.specs.internal.Profiles.{number_size};
 
 use crate::flow::Flow;
 use crate::profile_numbers::has_number;

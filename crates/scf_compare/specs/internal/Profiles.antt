@@ -15,7 +15,7 @@ use Rattle.scf_compare.specs.declared.profile.ProfileNode.{ProfileNode}
 use Rattle.scf_compare.specs.declared.profile.ProfileNode.TheVariants.{Architecture, Range, Number, Condition as OfCondition, Answer as Answers}
 use Rattle.scf_compare.specs.declared.question.ConditionPart.{ConditionPart}
 use Rattle.scf_compare.specs.internal.Conditions.{IsAtPart, part_size}
-use Rattle.scf_compare.specs.Effort.{conditions_size, rules_size, number_size}
+use Rattle.scf_compare.specs.Effort.{conditions_size, rules_size}
 use Rattle.scf_compare.specs.internal.Trees.{Tree}
 
 abbrev pub profile_with : Answer → List Rule → Profile
@@ -76,6 +76,10 @@ profile_reaches p (Number place) words =
 profile_reaches p (OfCondition place index part) words =
     KnowsRule p.rules place index (call_of words) part (slice_get p.rules place)
 profile_reaches p (Answers answer) words = ProfileAnswers p (call_of words) answer.0
+
+-- what a number adds to the spread of the rules
+abbrev pub number_size : List Rule → ℕ → ℕ
+number_size rules number = 1 + rules_size (rules_of number rules)
 
 abbrev pub profile_size : Profile → ProfileNode → ℕ
 profile_size p Architecture = 5 + sum_by (number_size p.rules) (numbers_of p.rules)
