@@ -1,5 +1,5 @@
 -- The filters of a stack by their places.
-use Rattle.scf_compare.proofs.Common.{◌≡◌, ℕ, ◌+◌, ◌*◌, ◌<◌, List, [], ◌∷◌, length, take, drop, refl, arith, ℤ, ◌<ℤ◌, ◌≤ℤ◌, int_lt, Bool, cond, Option, Some, All, IfSome, slice_get, slice_get-get_or, slice_get_within, Answer, Insn, rank_of, RunAnswers, IsPlainProgram, StackAnswers, with_newest, one_answers, stack_paths, tree_size, FilterEnd, IsFilterEnd, IsStackEnd, filter_at}
+use Rattle.scf_compare.proofs.Common.{◌≡◌, ℕ, ◌+◌, ◌*◌, ◌-◌, ◌<◌, ◌≤◌, List, [], ◌∷◌, length, take, drop, refl, arith, ℤ, ◌<ℤ◌, ◌≤ℤ◌, int_lt, Bool, cond, Option, Some, All, IfSome, slice_get, slice_get-get_or, slice_get_within, Answer, Insn, rank_of, RunAnswers, IsPlainProgram, StackAnswers, with_newest, one_answers, stack_paths, tree_size, FilterEnd, IsFilterEnd, IsStackEnd, filter_at}
 use Rattle.scf_compare.proofs.Rules.{contains_here, drop_here}
 
 here : (filters : List (List Insn)) (place : ℕ) → place < length filters
@@ -27,6 +27,13 @@ pub paths_from : (filters : List (List Insn)) (place : ℕ) → place < length f
     → stack_paths (drop place filters) ≡ tree_size (filter_at filters place) 0 * stack_paths (drop (place + 1) filters)
 paths_from filters place inside =
     grind (arith, drop_here filters place (filter_at filters place) (here filters place inside))
+
+-- and those from the place before it, the product that a loop from the newest filter on goes on with
+pub paths_before : (filters : List (List Insn)) (place : ℕ) → 0 < place → place ≤ length filters
+    → stack_paths (drop (place - 1) filters)
+    ≡ tree_size (filter_at filters (place - 1)) 0 * stack_paths (drop place filters)
+paths_before filters place some within =
+    let inside : place - 1 < length filters = omega arith in grind (arith, paths_from filters (place - 1) inside)
 
 pub plain_at : (filters : List (List Insn)) (place : ℕ) → All IsPlainProgram filters → place < length filters
     → IsPlainProgram (filter_at filters place)

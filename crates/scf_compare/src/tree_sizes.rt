@@ -40,6 +40,7 @@ pub fn effort_stack(stack: &FilterStack, profile: &Profile) -> u64
 }
 
 /// The product of the sizes of the filters' trees of paths, the newest filter first.
+#[tactic(auto, using(crate::proofs::Stacks::paths_before, crate::proofs::Saturated::products))]
 fn paths_of_stack(stack: &FilterStack) -> u64
     ensures { result ≡ saturated (stack_paths stack.now) }
 {
