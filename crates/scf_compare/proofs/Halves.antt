@@ -1,27 +1,56 @@
 -- A condition on a 64-bit number by the halves of the number.
-use Rattle.scf_compare.proofs.Common.{◌≡◌, ℕ, ◌+◌, ◌*◌, Bool, true, false, cond, eqb, List, sym, ap, ◌∙◌, bit_and, slice_index, eq-eqb, eqb-true, IsWords, low, high, call_of, argument, words_of-call_of, masked_split, argument_low, argument_high}
+use Rattle.scf_compare.proofs.Common.{◌≡◌, ℕ, ◌+◌, ◌*◌, true, false, not, List, refl, sym, ap, ◌∙◌, arith, slice_index, IsWords, low, high, call_of, argument, words_of-call_of, argument_low, argument_high, Condition, High}
+use Rattle.scf_insn.proofs.CallWords.{IsRecord-call_of}
+use Rattle.scf_profile.specs.Condition.{holds}
+use Rattle.scf_profile.specs.NumberTests.{comes_to, test_of}
+use Rattle.scf_profile.proofs.NumberTests.{decides}
+use Rattle.scf_compare.specs.declared.question.ConditionPart.TheVariants.{Above, Low}
+use Rattle.scf_compare.specs.declared.question.Way.{Way}
+use Rattle.scf_compare.specs.declared.question.Way.TheVariants.{Holds, Fails, Then}
+use Rattle.scf_compare.specs.internal.Conditions.{HasHalves, IsOnTestWay, IsOnWay, opposite_way, way_size}
 
 -- ---- the words of an argument
 
-pub low_of : (words : List ℕ) (i : ℕ) → IsWords words → slice_index words (2 * i + 4) ≡ low (argument (call_of words) i)
+low_of : (words : List ℕ) (i : ℕ) → IsWords words → slice_index words (2 * i + 4) ≡ low (argument (call_of words) i)
 low_of words i w = rw (words_of-call_of words w) at (argument_low (call_of words) i)
 
-pub high_of : (words : List ℕ) (i : ℕ) → IsWords words
+high_of : (words : List ℕ) (i : ℕ) → IsWords words
     → slice_index words (2 * i + 4 + 1) ≡ high (argument (call_of words) i)
 high_of words i w = rw (words_of-call_of words w) at (argument_high (call_of words) i)
 
--- ---- under a mask
+pub halves_of : (words : List ℕ) (i : ℕ) → IsWords words → HasHalves words (2 * i + 4) (argument (call_of words) i)
+halves_of words i w = record { low_there = low_of words i w; high_there = high_of words i w }
 
-pub masked_same : (n m u : ℕ) (t : Bool) → t ≡ eqb (bit_and (high n) (high m)) (high u) → t ≡ true
-    → bit_and (high n) (high m) ≡ high u
-masked_same n m u t e y = eqb-true _ _ (sym e ∙ y)
+-- ---- a condition by its test
 
-pub masked_apart : (n m u : ℕ) (t : Bool) → t ≡ eqb (bit_and (high n) (high m)) (high u) → t ≡ false
-    → eqb (bit_and n m) u ≡ false
-masked_apart n m u t e f =
-    masked_split n m u ∙ ap (λ b. cond b (eqb (bit_and (low n) (low m)) (low u)) false) (sym e ∙ f)
+module _ (c : Condition) (way : Way) (words : List ℕ) (w : IsWords words) where
+  abbrev number : ℕ
+  number = argument (call_of words) c.index
 
-pub masked_by_low : (n m u : ℕ) → bit_and (high n) (high m) ≡ high u
-    → eqb (bit_and n m) u ≡ eqb (bit_and (low n) (low m)) (low u)
-masked_by_low n m u same =
-    masked_split n m u ∙ ap (λ b. cond b (eqb (bit_and (low n) (low m)) (low u)) false) (eq-eqb _ _ same)
+  decided : comes_to (test_of c) number ≡ holds c number
+  decided = decides c number ((IsRecord-call_of words w).args c.index)
+
+  -- where a condition holds if its test is met, its ways are the test's
+  pub on_way : (test_of c).1 ≡ true → IsOnTestWay (test_of c).0 way number → IsOnWay c way number
+  on_way e is = by_way way is
+    where
+      by_way : (way : Way) → IsOnTestWay (test_of c).0 way number → IsOnWay c way number
+      by_way Holds met = sym (rw e at decided) ∙ met
+      by_way Fails unmet = sym (rw e at decided) ∙ unmet
+      by_way (Then part) is = is
+
+  -- and else the opposite ones
+  pub on_opposite : (test_of c).1 ≡ false → IsOnTestWay (test_of c).0 way number → IsOnWay c (opposite_way way) number
+  on_opposite e is = by_way way is
+    where
+      by_way : (way : Way) → IsOnTestWay (test_of c).0 way number → IsOnWay c (opposite_way way) number
+      by_way Holds met = sym (rw e at decided) ∙ ap not met
+      by_way Fails unmet = sym (rw e at decided) ∙ ap not unmet
+      by_way (Then part) is = is
+
+pub opposite_size : (way : Way) (holds fails : ℕ) → way_size (opposite_way way) holds fails ≡ way_size way fails holds
+opposite_size Holds holds fails = refl
+opposite_size Fails holds fails = refl
+opposite_size (Then High) holds fails = omega arith
+opposite_size (Then Above) holds fails = omega arith
+opposite_size (Then Low) holds fails = omega arith

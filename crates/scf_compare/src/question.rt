@@ -1,13 +1,13 @@
 //! Conditions on 64-bit arguments as questions about words.
 
-ghost use Rattle.std.specs.Prelude.{◌≡◌, ◌+◌, ◌*◌, ◌<◌, ◌==◌, ℕ, List, bit_and, nat_lt, nat_le, slice_index};
+ghost use Rattle.std.specs.Prelude.{◌≡◌, ◌<◌, ℕ, List};
 ghost use Rattle.scf_insn.specs.Kernel.{seccomp_data_args};
-ghost use Rattle.scf_insn.specs.SimpleMask.{IsSimpleMask};
-ghost use Rattle.scf_insn.specs.Words.{IsWords, argument, call_of};
-ghost use Rattle.scf_facts.specs.Atoms.{atom_answer, word_of};
+ghost use Rattle.scf_insn.specs.Words.{IsWords};
+ghost use Rattle.scf_facts.specs.Atoms.{word_of};
+ghost use Rattle.scf_profile.specs.NumberTests.{IsPlainTest};
 ghost use Rattle.scf_profile.specs.PlainProfile.{IsPlainCondition};
 ghost use Rattle.scf_compare.specs.declared.asking.Atoms.TheVariants.{One};
-ghost use Rattle.scf_compare.specs.internal.Conditions.{SplitsAt, CostsAt, half_of};
+ghost use Rattle.scf_compare.specs.internal.Conditions.{CostsAt, HasHalves, IsAtTest, SplitsAt, SplitsTest, opposite_way};
 ghost use Rattle.scf_compare.specs.internal.Asking.{KeepsEither};
 
 use crate::asking::word_is;
@@ -15,7 +15,7 @@ use ConditionPart::{Above, Low};
 use Way::{Fails, Holds, Then};
 use scf_facts::Atom;
 use scf_insn::{high_half, low_half};
-use scf_profile::{Condition, Operator};
+use scf_profile::{Condition, NumberTest};
 
 /// Which question of a condition is asked.
 #[derive(Clone, Copy)]
@@ -47,13 +47,6 @@ pub(crate) struct Question {
     pub(crate) if_false: Way,
 }
 
-/// A half of a 64-bit number.
-#[derive(Clone, Copy)]
-enum Half {
-    High,
-    Low,
-}
-
 /// A question, and where its two answers lead.
 fn ask(atom: Atom, if_true: Way, if_false: Way) -> Question
     ensures { result ≡ record { atom = atom; if_true = if_true; if_false = if_false } }
@@ -65,7 +58,81 @@ fn ask(atom: Atom, if_true: Way, if_false: Way) -> Question
     }
 }
 
+/// What a part of a test asks of the two words of a number, the low one first. It holds where the test is met.
+fn ask_test(test: NumberTest, part: ConditionPart, low: u8) -> Question
+    requires { low < 15 }
+    ensures word { word_of result.atom < 16 }
+    ensures splits { (words : List ℕ) (n : ℕ) → IsWords words → HasHalves words low n → IsAtTest test part n
+        → SplitsTest test result words n }
+    ensures costs { CostsAt part result }
+    ensures keeps { IsPlainTest test → KeepsEither (One result.atom) }
+{
+    let high = low + 1;
+    match (part, test) {
+        (ConditionPart::High, NumberTest::Masked { mask, value }) => {
+            let mask = high_half(mask);
+            let value = high_half(value);
+            ask(
+                Atom::Eq {
+                    word: high,
+                    mask,
+                    value,
+                },
+                Then(Low),
+                Fails,
+            )
+        }
+        (ConditionPart::High, NumberTest::Greater(value) | NumberTest::GreaterOrEqual(value)) => {
+            ask(word_is(high, high_half(value)), Then(Low), Then(Above))
+        }
+        (
+            ConditionPart::Above,
+            NumberTest::Masked { value, .. }
+            | NumberTest::Greater(value)
+            | NumberTest::GreaterOrEqual(value),
+        ) => {
+            let value = high_half(value);
+            ask(Atom::Gt { word: high, value }, Holds, Fails)
+        }
+        (ConditionPart::Low, NumberTest::Masked { mask, value }) => {
+            let mask = low_half(mask);
+            let value = low_half(value);
+            ask(
+                Atom::Eq {
+                    word: low,
+                    mask,
+                    value,
+                },
+                Holds,
+                Fails,
+            )
+        }
+        (ConditionPart::Low, NumberTest::Greater(value)) => {
+            let value = low_half(value);
+            ask(Atom::Gt { word: low, value }, Holds, Fails)
+        }
+        (ConditionPart::Low, NumberTest::GreaterOrEqual(value)) => {
+            let value = low_half(value);
+            ask(Atom::Ge { word: low, value }, Holds, Fails)
+        }
+    }
+}
+
+impl Way {
+    /// The way of the opposite.
+    fn opposite(self) -> Way
+        ensures { result ≡ opposite_way self }
+    {
+        match self {
+            Holds => Fails,
+            Fails => Holds,
+            Then(part) => Then(part),
+        }
+    }
+}
+
 /// What a part of a condition asks.
+#[tactic(auto, using(scf_profile::proofs::NumberTests::plain_of))]
 pub(crate) fn question_of(condition: Condition, part: ConditionPart) -> Question
     requires { condition.index < seccomp_data_args }
     ensures word { word_of result.atom < 16 }
@@ -73,145 +140,15 @@ pub(crate) fn question_of(condition: Condition, part: ConditionPart) -> Question
     ensures costs { CostsAt part result }
     ensures keeps { IsPlainCondition condition → KeepsEither (One result.atom) }
 {
-    match part {
-        ConditionPart::High => at_high(condition),
-        ConditionPart::Above => at_above(condition),
-        ConditionPart::Low => at_low(condition),
-    }
-}
-
-fn at_high(condition: Condition) -> Question
-    requires { condition.index < seccomp_data_args }
-    ensures word { word_of result.atom < 16 }
-    ensures splits { SplitsAt condition ConditionPart.High result }
-    ensures costs { CostsAt ConditionPart.High result }
-    ensures keeps { IsPlainCondition condition → KeepsEither (One result.atom) }
-{
-    match condition.op {
-        Operator::MaskedEqual => ask(half_is_under_mask(Half::High, condition), Then(Low), Fails),
-        Operator::Equal => ask(half_is(Half::High, condition), Then(Low), Fails),
-        Operator::NotEqual => ask(half_is(Half::High, condition), Then(Low), Holds),
-        Operator::Less | Operator::LessOrEqual | Operator::GreaterOrEqual | Operator::Greater => {
-            ask(half_is(Half::High, condition), Then(Low), Then(Above))
-        }
-    }
-}
-
-fn at_above(condition: Condition) -> Question
-    requires { condition.index < seccomp_data_args }
-    ensures word { word_of result.atom < 16 }
-    ensures splits { SplitsAt condition ConditionPart.Above result }
-    ensures costs { CostsAt ConditionPart.Above result }
-    ensures keeps { IsPlainCondition condition → KeepsEither (One result.atom) }
-{
-    match condition.op {
-        Operator::Greater | Operator::GreaterOrEqual => {
-            ask(half_is_above(Half::High, condition), Holds, Fails)
-        }
-        Operator::Less
-        | Operator::LessOrEqual
-        | Operator::Equal
-        | Operator::NotEqual
-        | Operator::MaskedEqual => ask(half_is_above(Half::High, condition), Fails, Holds),
-    }
-}
-
-fn at_low(condition: Condition) -> Question
-    requires { condition.index < seccomp_data_args }
-    ensures word { word_of result.atom < 16 }
-    ensures splits { SplitsAt condition ConditionPart.Low result }
-    ensures costs { CostsAt ConditionPart.Low result }
-    ensures keeps { IsPlainCondition condition → KeepsEither (One result.atom) }
-{
-    match condition.op {
-        Operator::Equal => ask(half_is(Half::Low, condition), Holds, Fails),
-        Operator::NotEqual => ask(half_is(Half::Low, condition), Fails, Holds),
-        Operator::MaskedEqual => ask(half_is_under_mask(Half::Low, condition), Holds, Fails),
-        Operator::Greater => ask(half_is_above(Half::Low, condition), Holds, Fails),
-        Operator::LessOrEqual => ask(half_is_above(Half::Low, condition), Fails, Holds),
-        Operator::GreaterOrEqual => ask(half_is_at_least(Half::Low, condition), Holds, Fails),
-        Operator::Less => ask(half_is_at_least(Half::Low, condition), Fails, Holds),
-    }
-}
-
-impl Half {
-    /// This half of a number.
-    fn of(self, n: u64) -> u32
-        ensures { result ≡ half_of self n }
-    {
-        match self {
-            Half::High => high_half(n),
-            Half::Low => low_half(n),
-        }
-    }
-
-    /// The word with this half of an argument.
-    #[tactic(auto, using(crate::proofs::Halves::low_of, crate::proofs::Halves::high_of))]
-    fn word(self, index: u8) -> u8
-        requires { index < seccomp_data_args }
-        ensures word { result < 16 }
-        ensures half { (words : List ℕ) → IsWords words
-            → slice_index words result ≡ half_of self (argument (call_of words) index) }
-    {
-        match self {
-            Half::High => 2 * index + 4 + 1,
-            Half::Low => 2 * index + 4,
-        }
-    }
-}
-
-#[tactic(auto, using(crate::proofs::Bits::whole_word, scf_insn::proofs::CallWords::word_below))]
-fn half_is(half: Half, condition: Condition) -> Atom
-    requires { condition.index < seccomp_data_args }
-    ensures word { word_of result < 16 }
-    ensures answers { (words : List ℕ) → IsWords words
-        → atom_answer result words
-        ≡ (half_of half (argument (call_of words) condition.index) == half_of half condition.value) }
-    ensures keeps { KeepsEither (One result) }
-{
-    word_is(half.word(condition.index), half.of(condition.value))
-}
-
-fn half_is_under_mask(half: Half, condition: Condition) -> Atom
-    requires { condition.index < seccomp_data_args }
-    ensures word { word_of result < 16 }
-    ensures answers { (words : List ℕ) → IsWords words
-        → atom_answer result words
-        ≡ (bit_and (half_of half (argument (call_of words) condition.index)) (half_of half condition.value)
-        == half_of half (bit_and condition.value_two condition.value)) }
-    ensures keeps { IsSimpleMask (half_of half condition.value) → KeepsEither (One result) }
-{
-    Atom::Eq {
-        word: half.word(condition.index),
-        mask: half.of(condition.value),
-        value: half.of(condition.value_two & condition.value),
-    }
-}
-
-fn half_is_above(half: Half, condition: Condition) -> Atom
-    requires { condition.index < seccomp_data_args }
-    ensures word { word_of result < 16 }
-    ensures answers { (words : List ℕ) → IsWords words
-        → atom_answer result words
-        ≡ nat_lt (half_of half condition.value) (half_of half (argument (call_of words) condition.index)) }
-    ensures keeps { KeepsEither (One result) }
-{
-    Atom::Gt {
-        word: half.word(condition.index),
-        value: half.of(condition.value),
-    }
-}
-
-fn half_is_at_least(half: Half, condition: Condition) -> Atom
-    requires { condition.index < seccomp_data_args }
-    ensures word { word_of result < 16 }
-    ensures answers { (words : List ℕ) → IsWords words
-        → atom_answer result words
-        ≡ nat_le (half_of half condition.value) (half_of half (argument (call_of words) condition.index)) }
-    ensures keeps { KeepsEither (One result) }
-{
-    Atom::Ge {
-        word: half.word(condition.index),
-        value: half.of(condition.value),
+    let (test, expected) = condition.test();
+    let asked = ask_test(test, part, 2 * condition.index + 4);
+    if expected {
+        asked
+    } else {
+        ask(
+            asked.atom,
+            asked.if_true.opposite(),
+            asked.if_false.opposite(),
+        )
     }
 }

@@ -48,8 +48,8 @@ pub use Rattle.scf_compile.specs.SizeBound.{rule_bound, size_bound_of}
 pub use Rattle.scf_compile.specs.declared.numbers.NumberRules.{NumberRules}
 pub use Rattle.scf_compile.specs.declared.placing.Place.{Place}
 pub use Rattle.scf_compile.specs.declared.stretches.Stretch.{Stretch}
-pub use Rattle.scf_compile.specs.internal.Blocks.{argument_word, condition_code, half_code_of, operator_code, word_code}
-unfoldable pub use Rattle.scf_compile.specs.internal.Blocks.{equal_code, half_code, masked_code, order_code}
+pub use Rattle.scf_compile.specs.internal.Blocks.{argument_word, bit_code, condition_code, exits, half_code_of, test_code, word_code}
+unfoldable pub use Rattle.scf_compile.specs.internal.Blocks.{half_code, masked_code, order_code}
 pub use Rattle.scf_compile.specs.internal.Filters.{ArePut, IsFilterOf, IsSearchPut, behind_rule, conditions_code, rule_code, rules_code}
 pub use Rattle.scf_compile.specs.internal.Insns.{and_with, jump_if, jump_over, load_word, return_with}
 pub use Rattle.scf_compile.specs.internal.Numbers.{IsCut}

@@ -7,6 +7,9 @@ under_empty n mask wanted none within =
     let nothing : (m : ℕ) → bit_and m mask ≡ 0 = λ m. ap (λ (k : ℕ). bit_and m k) none ∙ and_zero_r m in
     eq-eqb (bit_and n mask) wanted (nothing n ∙ sym (nothing wanted) ∙ within)
 
+pub nothing_within : (mask wanted : ℕ) → mask ≡ 0 → bit_and wanted mask ≡ wanted → wanted ≡ 0
+nothing_within mask wanted none within = sym within ∙ ap (λ (m : ℕ). bit_and wanted m) none ∙ and_zero_r wanted
+
 -- a word under all bits is itself
 pub under_full : (n mask : ℕ) → n < 2 ^ 32 → mask ≡ 2 ^ 32 - 1 → bit_and n mask ≡ n
 under_full n mask lt all = ap (λ (k : ℕ). bit_and n k) all ∙ and_mask n 32 ∙ omega arith

@@ -1,39 +1,45 @@
 -- How long the code of a filter is.
-use Rattle.scf_compile.proofs.Common.{◌≡◌, ℕ, ◌+◌, ◌<◌, ◌≤◌, ◌⊎◌, Bool, true, false, not, cond, eqb, Bor, List, [], ◌∷◌, ◌++◌, length, map, get_or, take, drop, refl, sym, ap, ◌∙◌, arith, inl, inr, length-append, sum_by, Contains, AllByRecursion, list_any, cases_Bool, cases_eq, ne_eqb, not_from_false, ◌≢◌, All-from_recursion, All-map, Contains-append_right, recursion_from_All, drop_more, length-map, take_more, sum_by-cons, sum_by-append, length-le_from_distinct_below, Answer, Insn, mask_kind, low, high, Condition, Rule, rules_at, IsCondition, AreConditions, HaveDistinctIndices, numbers_of, rules_of, MaskKind, Empty, OneBit, Full, Mixed, rule_bound, half_code_of, half_code, masked_code, condition_code, conditions_code, rule_code, behind_rule, rules_code, contains_filtered, numbers_of-push, has_number}
+use Rattle.scf_compile.proofs.Common.{◌≡◌, ℕ, ◌+◌, ◌<◌, ◌≤◌, ◌⊎◌, Bool, true, false, not, cond, eqb, Bor, List, [], ◌∷◌, ◌++◌, length, map, get_or, take, drop, refl, sym, ap, ◌∙◌, arith, inl, inr, length-append, sum_by, Contains, AllByRecursion, list_any, cases_Bool, cases_eq, ne_eqb, not_from_false, ◌≢◌, All-from_recursion, All-map, Contains-append_right, recursion_from_All, drop_more, length-map, take_more, sum_by-cons, sum_by-append, length-le_from_distinct_below, Answer, Insn, mask_kind, low, high, Condition, Rule, rules_at, IsCondition, AreConditions, HaveDistinctIndices, numbers_of, rules_of, MaskKind, Empty, OneBit, Full, Mixed, rule_bound, bit_code, half_code_of, half_code, masked_code, condition_code, conditions_code, rule_code, behind_rule, rules_code, contains_filtered, numbers_of-push, has_number}
 use Rattle.std.specs.List.{IsDistinct}
 use Rattle.scf_compile.proofs.Lists.{next_at}
 
 -- ---- conditions
 
 -- the code of a half is as long as the kind of its mask says
-abbrev pub kind_len : MaskKind → ℕ
-kind_len Empty = 0
-kind_len OneBit = 2
-kind_len Full = 2
-kind_len Mixed = 3
+abbrev pub kind_len : MaskKind → ℕ → ℕ
+kind_len Empty hit = cond (eqb hit 0) 0 2
+kind_len OneBit hit = 2
+kind_len Full hit = 2
+kind_len Mixed hit = 3
 
-half_len_of : (kind : MaskKind) (word mask wanted out : ℕ)
-    → length (half_code_of kind word mask wanted out) ≡ kind_len kind
-half_len_of Empty word mask wanted out = refl
-half_len_of OneBit word mask wanted out = elim (cases_Bool (eqb wanted 0)) [ inl e ↦ rw e refl | inr e ↦ rw e refl ]
-half_len_of Full word mask wanted out = refl
-half_len_of Mixed word mask wanted out = refl
+bit_len : (word mask wanted hit miss : ℕ) → length (bit_code word mask wanted hit miss) ≡ 2
+bit_len word mask wanted hit miss = elim (cases_Bool (eqb wanted 0)) [ inl e ↦ rw e refl | inr e ↦ rw e refl ]
 
-pub half_len : (word mask wanted out : ℕ) → length (half_code word mask wanted out) ≡ kind_len (mask_kind mask)
+half_len_of : (kind : MaskKind) (word mask wanted hit miss : ℕ)
+    → length (half_code_of kind word mask wanted hit miss) ≡ kind_len kind hit
+half_len_of Empty word mask wanted hit miss =
+    elim (cases_Bool (eqb hit 0)) [ inl e ↦ rw e refl | inr e ↦ rw e (bit_len word mask wanted hit miss) ]
+half_len_of OneBit word mask wanted hit miss = bit_len word mask wanted hit miss
+half_len_of Full word mask wanted hit miss = refl
+half_len_of Mixed word mask wanted hit miss = refl
+
+pub half_len : (word mask wanted hit miss : ℕ)
+    → length (half_code word mask wanted hit miss) ≡ kind_len (mask_kind mask) hit
 unfolding half_code
-half_len word mask wanted out = half_len_of (mask_kind mask) word mask wanted out
+half_len word mask wanted hit miss = half_len_of (mask_kind mask) word mask wanted hit miss
 
-pub masked_len : (word mask wanted out : ℕ)
-    → length (masked_code word mask wanted out) ≡ kind_len (mask_kind (high mask)) + kind_len (mask_kind (low mask))
+pub masked_len : (word mask wanted hit miss : ℕ)
+    → length (masked_code word mask wanted hit miss)
+    ≡ kind_len (mask_kind (high mask)) 0 + kind_len (mask_kind (low mask)) hit
 unfolding masked_code
-masked_len word mask wanted out =
-    let low_code = half_code word (low mask) (low wanted) out in
-    let high_code = half_code (word + 1) (high mask) (high wanted) (length low_code + out) in
+masked_len word mask wanted hit miss =
+    let low_code = half_code word (low mask) (low wanted) hit miss in
+    let high_code = half_code (word + 1) (high mask) (high wanted) 0 (length low_code + miss) in
     omega (
       arith,
       length-append high_code low_code,
-      half_len (word + 1) (high mask) (high wanted) (length low_code + out),
-      half_len word (low mask) (low wanted) out,
+      half_len (word + 1) (high mask) (high wanted) 0 (length low_code + miss),
+      half_len word (low mask) (low wanted) hit miss,
     )
 
 -- the code of the conditions from a place on

@@ -1,8 +1,12 @@
 -- The code of a condition: how long it is, that it is sound, and how it goes on.
-use Rattle.scf_compile.proofs.Common.{◌≡◌, ℕ, ◌+◌, ◌*◌, ◌<◌, ◌≤◌, ◌^◌, Bool, true, false, cond, eqb, ltb, leb, not, List, [], ◌∷◌, ◌++◌, drop, length, refl, sym, ap, ◌∙◌, arith, append_assoc, bit_and, length-append, slice_index, IsTrue, AllByRecursion, eqb-true, eqb-false, nat_tests, and_shr, and_mod, and_assoc, and_self, Insn, CallRecord, Test, SameWord, Above, AtLeast, CommonBit, JumpIf, Constant, MaskKind, Empty, OneBit, Full, Mixed, mask_kind, IsSimpleMask, low, high, words_of, argument, IsRecord, eqb_split, ltb_split, leb_split, masked_split, argument_low, argument_high, IsOfKind, is_of_kind, test_holds, IsPlainOperation, Operator, NotEqual, Less, LessOrEqual, Greater, MaskedEqual, Condition, compares, IsPlainCondition, all_hold, IsCondition, jump_if, word_code, equal_code, order_code, half_code_of, half_code, masked_code, operator_code, argument_word, conditions_code, EndsWithin, AreSound}
-use Rattle.scf_profile.specs.declared.condition.Operator.TheVariants.{Equal}
-use Rattle.scf_profile.specs.declared.condition.Operator.TheVariants.{GreaterOrEqual}
-use Rattle.scf_compile.proofs.Masks.{under_empty, under_full, wanted_of_power}
+use Rattle.scf_compile.proofs.Common.{◌≡◌, ℕ, ◌+◌, ◌*◌, ◌<◌, ◌≤◌, ◌^◌, ◌≢◌, Bool, true, false, cond, eqb, ltb, not, List, [], ◌∷◌, ◌++◌, drop, length, refl, sym, ap, ◌∙◌, arith, append_assoc, bit_and, length-append, slice_index, IsTrue, AllByRecursion, eqb-true, eqb-false, nat_tests, and_mask, and_shr, and_mod, and_assoc, and_self, Insn, CallRecord, Test, SameWord, Above, AtLeast, CommonBit, JumpIf, Constant, MaskKind, Empty, OneBit, Full, Mixed, mask_kind, IsSimpleMask, low, high, words_of, argument, IsRecord, argument_low, argument_high, IsOfKind, is_of_kind, test_holds, IsPlainOperation, Operator, NotEqual, Less, LessOrEqual, Greater, MaskedEqual, Condition, IsPlainCondition, all_hold, IsCondition, jump_if, word_code, order_code, bit_code, half_code_of, half_code, masked_code, test_code, exits, condition_code, argument_word, conditions_code, EndsWithin, AreSound}
+use Rattle.scf_profile.specs.Condition.{holds}
+use Rattle.scf_profile.specs.declared.condition.Operator.TheVariants.{Equal, GreaterOrEqual}
+use Rattle.scf_profile.specs.declared.number_test.NumberTest.{NumberTest}
+use Rattle.scf_profile.specs.declared.number_test.NumberTest.TheVariants as tests
+use Rattle.scf_profile.specs.NumberTests.{IsPlainTest, test_by, test_of, tree_answer}
+use Rattle.scf_profile.proofs.NumberTests.{decides, plain_of}
+use Rattle.scf_compile.proofs.Masks.{nothing_within, under_empty, under_full, wanted_of_power}
 use Rattle.scf_compile.proofs.Runs.{more, past, loads, masks, jumps, load_sound, mask_sound, jump_sound}
 
 -- The code tests something of a call, in no more than so many instructions and steps: it goes on `hit` instructions
@@ -84,47 +88,61 @@ word_tests word n test constant hit miss lt is = record {
 
 module _ (word : ℕ) (n : CallRecord → ℕ) (lt : word < 16)
     (is : (call : CallRecord) → slice_index (words_of call) word ≡ n call)
-    (fits : (call : CallRecord) → IsRecord call → n call < 2 ^ 32) (mask wanted out : ℕ)
+    (fits : (call : CallRecord) → IsRecord call → n call < 2 ^ 32) (mask wanted hit miss : ℕ)
     (within : bit_and wanted mask ≡ wanted) where
   abbrev kept : CallRecord → Bool
   kept call = eqb (bit_and (n call) mask) wanted
 
-  bit_tests : (none : Bool) → eqb wanted 0 ≡ none → IsOfKind OneBit mask
-      → Tests (cond none (word_code CommonBit word mask out 0) (word_code CommonBit word mask 0 out)) 0 out 2
+  bit_tests : (none : Bool) → eqb wanted 0 ≡ none → (wanted ≢ 0 → IsOfKind OneBit mask)
+      → Tests (cond none (word_code CommonBit word mask miss hit) (word_code CommonBit word mask hit miss)) hit miss 3
       (IsSimpleMask mask) kept
   bit_tests true none power =
-      opposite kept (word_tests word n CommonBit mask out 0 lt is)
-      (λ call. let zero : wanted ≡ 0 = eqb-true wanted 0 none in grind (arith, nat_tests))
+      tests_as 2 3 (IsSimpleMask mask) kept
+      (opposite kept (word_tests word n CommonBit mask miss hit lt is)
+      (λ call. let zero : wanted ≡ 0 = eqb-true wanted 0 none in grind (arith, nat_tests))) (omega arith) (λ s. s)
+      (λ call h. refl)
   bit_tests false some power =
-      tests_as 2 2 (IsSimpleMask mask) kept (word_tests word n CommonBit mask 0 out lt is) (omega arith) (λ s. s)
-      (λ call h. wanted_of_power (n call) mask wanted power within (eqb-false wanted 0 some))
+      let there = eqb-false wanted 0 some in
+      tests_as 2 3 (IsSimpleMask mask) kept (word_tests word n CommonBit mask hit miss lt is) (omega arith) (λ s. s)
+      (λ call h. wanted_of_power (n call) mask wanted (power there) within there)
+
+  -- no bit: there is nothing to be tested, save to pass what stands behind
+  none_tests : (next : Bool) → eqb hit 0 ≡ next → IsOfKind Empty mask
+      → Tests (cond next [] (bit_code word mask wanted hit miss)) hit miss 3 (IsSimpleMask mask) kept
+  none_tests true next empty =
+      tests_as 0 3 (IsSimpleMask mask) kept (rw (eqb-true hit 0 next) (no_tests miss (IsSimpleMask mask)))
+      (omega arith) (λ s. s) (λ call h. sym (under_empty (n call) mask wanted empty within))
+  none_tests false behind empty =
+      bit_tests (eqb wanted 0) refl (λ some. absurd (some (nothing_within mask wanted empty within)))
 
   by_kind : (kind : MaskKind) → IsOfKind kind mask
-      → Tests (half_code_of kind word mask wanted out) 0 out 3 (IsSimpleMask mask) kept
-  by_kind Empty kind =
-      tests_as 0 3 (IsSimpleMask mask) kept (no_tests out (IsSimpleMask mask)) (omega arith) (λ s. s)
-      (λ call h. sym (under_empty (n call) mask wanted kind within))
-  by_kind OneBit kind =
-      tests_as 2 3 (IsSimpleMask mask) kept (bit_tests (eqb wanted 0) refl kind) (omega arith) (λ s. s) (λ call h. refl)
+      → Tests (half_code_of kind word mask wanted hit miss) hit miss 3 (IsSimpleMask mask) kept
+  by_kind Empty kind = none_tests (eqb hit 0) refl kind
+  by_kind OneBit kind = bit_tests (eqb wanted 0) refl (λ _. kind)
   by_kind Full kind =
-      tests_as 2 3 (IsSimpleMask mask) kept (word_tests word n SameWord wanted 0 out lt is) (omega arith) (λ s. tt)
+      tests_as 2 3 (IsSimpleMask mask) kept (word_tests word n SameWord wanted hit miss lt is) (omega arith) (λ s. tt)
       (λ call h. ap (λ (m : ℕ). eqb m wanted) (sym (under_full (n call) mask (fits call h) kind)))
   by_kind Mixed kind = record {
     len = omega arith;
     sound = λ asked rest plain h m s. (
       load_sound word lt (omega arith),
-      (mask_sound mask (λ e. kind (plain e)) (omega arith), (jump_sound SameWord wanted 0 out h m (λ _. tt), s)),
+      (mask_sound mask (λ e. kind (plain e)) (omega arith), (jump_sound SameWord wanted hit miss h m (λ _. tt), s)),
     );
     ends = λ call h rest answer left a over under.
         more (loads word a lt (is call) (masks mask (n call)
-        (jumps SameWord wanted 0 out (bit_and (n call) mask) (λ e. over e _) (λ e. under e _)))) (omega arith);
+        (jumps SameWord wanted hit miss (bit_and (n call) mask) (λ e. over e _) (λ e. under e _)))) (omega arith);
   }
 
-  half_tests : Tests (half_code word mask wanted out) 0 out 3 (IsSimpleMask mask) kept
+  half_tests : Tests (half_code word mask wanted hit miss) hit miss 3 (IsSimpleMask mask) kept
   unfolding half_code
   half_tests = by_kind (mask_kind mask) (is_of_kind mask)
 
 -- ---- a number in two words
+
+-- the number of a test has no bit outside its mask
+abbrev IsWithin : NumberTest → Type 0
+IsWithin (tests.Masked mask value) = bit_and value mask ≡ value
+IsWithin test = Unit {0}
 
 module _ (index : ℕ) (lt : index < 6) where
   abbrev word : ℕ
@@ -133,109 +151,98 @@ module _ (index : ℕ) (lt : index < 6) where
   abbrev n : CallRecord → ℕ
   n call = argument call index
 
-  module _ (test : Test) (constant hit miss : ℕ) where
-    low_tests : Tests (word_code test word constant hit miss) hit miss 2
-        (IsPlainOperation (JumpIf test Constant) (jump_if test constant hit miss))
-        (λ call. test_holds test (low (n call)) constant)
-    low_tests =
-        word_tests word (λ call. low (n call)) test constant hit miss (omega arith) (λ call. argument_low call index)
-
-    high_tests : Tests (word_code test (word + 1) constant hit miss) hit miss 2
-        (IsPlainOperation (JumpIf test Constant) (jump_if test constant hit miss))
-        (λ call. test_holds test (high (n call)) constant)
-    high_tests = word_tests (word + 1) (λ call. high (n call)) test constant hit miss (omega arith)
-        (λ call. argument_high call index)
-
-  equal_tests : (q : Type 0) (value hit miss : ℕ)
-      → Tests (equal_code word value hit miss) hit miss 6 q (λ call. eqb (n call) value)
-  unfolding equal_code
-  equal_tests q value hit miss =
-      tests_as 4 6 q (λ call. eqb (n call) value)
-      (both (high_tests SameWord (high value) 0 (2 + miss)) (low_tests SameWord (low value) hit miss)) (omega arith)
-      (λ _. (tt, tt)) (λ call h. sym (eqb_split (n call) value))
-
-  -- the number is above the value, by its words
-  abbrev by_words : Test → ℕ → CallRecord → Bool
-  by_words test value call =
-      cond (ltb (high value) (high (n call))) true
-      (cond (eqb (high (n call)) (high value)) (test_holds test (low (n call)) (low value)) false)
-
-  order_tests : (q : Type 0) (test : Test) (value hit miss : ℕ) (met : CallRecord → Bool)
+  order_tests : (test : Test) (value hit miss : ℕ)
       → IsPlainOperation (JumpIf test Constant) (jump_if test (low value) hit miss)
-      → ((call : CallRecord) → by_words test value call ≡ met call)
-      → Tests (order_code test word value hit miss) hit miss 6 q met
+      → Tests (order_code test word value hit miss) hit miss 6 (Unit {0})
+      (λ call. cond (eqb (high (n call)) (high value)) (test_holds test (low (n call)) (low value))
+      (ltb (high value) (high (n call))))
   unfolding order_code
-  order_tests q test value hit miss met plain said = record {
-    len = omega arith;
-    sound = λ asked rest _ h m s. (
-      load_sound (word + 1) (omega arith) (omega arith),
-      (
-        jump_sound Above (high value) (3 + hit) 0 (omega arith) (omega arith) (λ _. tt),
-        (
-          jump_sound SameWord (high value) 0 (2 + miss) (omega arith) (omega arith) (λ _. tt),
-          (low_tests test (low value) hit miss).sound asked rest (λ _. plain) h m s,
-        ),
-      ),
-    );
-    ends = λ call fits rest answer left a over under.
-        let last = word_code test word (low value) hit miss in
-        let front = jump_if SameWord (high value) 0 (2 + miss) ∷ last in
-        let met_of : (b : Bool) → by_words test value call ≡ b → met call ≡ b = λ b e. sym (said call) ∙ e in
-        more (loads (word + 1) a (omega arith) (argument_high call index)
-        (jumps Above (high value) (3 + hit) 0 (high (n call))
-        (λ x. more (past front rest hit _ (over (met_of true (rw x refl)) _)) (omega arith))
-        (λ x. jumps SameWord (high value) 0 (2 + miss) (high (n call))
-        (λ y. (low_tests test (low value) hit miss).ends call fits rest answer left _
-        (λ z. over (met_of true (rw (x, y, z) refl))) (λ z. under (met_of false (rw (x, y, z) refl))))
-        (λ y. more (past last rest miss _ (under (met_of false (rw (x, y) refl)) _)) (omega arith))))) (omega arith);
-  }
+  order_tests test value hit miss plain =
+      let last = word_code test word (low value) hit miss in
+      let order = jump_if Above (high value) (2 + hit) (2 + miss) in
+      let low_tests = word_tests word (λ call. low (n call)) test (low value) hit miss (omega arith)
+      (λ call. argument_low call index) in
+      record {
+        len = omega arith;
+        sound = λ asked rest _ h m s. (
+          load_sound (word + 1) (omega arith) (omega arith),
+          (
+            jump_sound SameWord (high value) 1 0 (omega arith) (omega arith) (λ _. tt),
+            (
+              jump_sound Above (high value) (2 + hit) (2 + miss) (omega arith) (omega arith) (λ _. tt),
+              low_tests.sound asked rest (λ _. plain) h m s,
+            ),
+          ),
+        );
+        ends = λ call fits rest answer left a over under.
+            more (loads (word + 1) a (omega arith) (argument_high call index)
+            (jumps {most = 4 + left} SameWord (high value) 1 0 (high (n call))
+            (λ x. more (low_tests.ends call fits rest answer left _ (λ z. over (rw (x, z) refl))
+            (λ z. under (rw (x, z) refl))) (omega arith))
+            (λ x. more (jumps {most = left} Above (high value) (2 + hit) (2 + miss) (high (n call))
+            (λ y. past last rest hit _ (over (rw (x, y) refl) _))
+            (λ y. past last rest miss _ (under (rw (x, y) refl) _))) (omega arith)))) (omega arith);
+      }
 
-  at_least : (value : ℕ) (call : CallRecord) → by_words AtLeast value call ≡ leb value (n call)
-  at_least value call = grind (arith, nat_tests, leb_split value (n call))
-
-  masked_tests : (mask wanted out : ℕ) → bit_and wanted mask ≡ wanted
-      → Tests (masked_code word mask wanted out) 0 out 6 (IsSimpleMask (high mask) × IsSimpleMask (low mask))
-      (λ call. eqb (bit_and (n call) mask) wanted)
+  masked_tests : (mask wanted hit miss : ℕ) → bit_and wanted mask ≡ wanted
+      → Tests (masked_code word mask wanted hit miss) hit miss 6 (IsSimpleMask (high mask) × IsSimpleMask (low mask))
+      (λ call. cond (eqb (bit_and (high (n call)) (high mask)) (high wanted))
+      (eqb (bit_and (low (n call)) (low mask)) (low wanted)) false)
   unfolding masked_code
-  masked_tests mask wanted out within =
-      tests_as 6 6 _ (λ call. eqb (bit_and (n call) mask) wanted)
-      (both
+  masked_tests mask wanted hit miss within =
+      both
       (half_tests (word + 1) (λ call. high (n call)) (omega arith) (λ call. argument_high call index)
-      (λ call fits. let below = fits.args index in omega arith) (high mask) (high wanted)
-      (length (half_code word (low mask) (low wanted) out) + out) (sym (and_shr wanted mask 32) ∙ ap high within))
+      (λ call fits. let below = fits.args index in omega arith) (high mask) (high wanted) 0
+      (length (half_code word (low mask) (low wanted) hit miss) + miss) (sym (and_shr wanted mask 32) ∙ ap high within))
       (half_tests word (λ call. low (n call)) (omega arith) (λ call. argument_low call index)
-      (λ call fits. omega arith) (low mask) (low wanted) out (sym (and_mod wanted mask 32) ∙ ap low within)))
-      (omega arith) (λ s. s) (λ call h. sym (masked_split (n call) mask wanted))
+      (λ call fits. omega arith) (low mask) (low wanted) hit miss (sym (and_mod wanted mask 32) ∙ ap low within))
 
-  operator_tests : (op : Operator) (value value_two out : ℕ)
-      → Tests (operator_code op word value value_two out) 0 out 6
-      (IsPlainCondition (record { index = index; op = op; value = value; value_two = value_two }))
-      (λ call. compares op (n call) value value_two)
-  operator_tests NotEqual value value_two out =
-      opposite (λ call. not (eqb (n call) value)) (equal_tests _ value out 0) (λ call. refl)
-  operator_tests Less value value_two out =
-      opposite (λ call. ltb (n call) value) (order_tests _ AtLeast value out 0 _ tt (at_least value))
-      (λ call. grind (arith, nat_tests))
-  operator_tests LessOrEqual value value_two out =
-      opposite (λ call. leb (n call) value)
-      (order_tests _ Above value out 0 _ tt (λ call. sym (ltb_split value (n call))))
-      (λ call. grind (arith, nat_tests))
-  operator_tests Equal value value_two out = equal_tests _ value 0 out
-  operator_tests GreaterOrEqual value value_two out = order_tests _ AtLeast value 0 out _ tt (at_least value)
-  operator_tests Greater value value_two out =
-      order_tests _ Above value 0 out _ tt (λ call. sym (ltb_split value (n call)))
-  operator_tests MaskedEqual value value_two out =
-      tests_as 6 6 _ _
-      (masked_tests value (bit_and value_two value) out
-      (and_assoc value value_two value ∙ ap (λ (m : ℕ). bit_and value_two m) (and_self value)))
-      (omega arith) (λ plain. ((plain refl).1, (plain refl).0)) (λ call h. refl)
+  test_tests : (test : NumberTest) (hit miss : ℕ) → IsWithin test
+      → Tests (test_code test word hit miss) hit miss 6 (IsPlainTest test) (λ call. tree_answer test (n call))
+  test_tests (tests.Masked mask value) hit miss within = masked_tests mask value hit miss within
+  test_tests (tests.Greater value) hit miss within = order_tests Above value hit miss tt
+  test_tests (tests.GreaterOrEqual value) hit miss within =
+      tests_as 6 6 _ _ (order_tests AtLeast value hit miss tt) (omega arith) (λ p. p)
+      (λ call fits. grind (arith, nat_tests))
+
+-- ---- a condition
+
+within_of : (c : Condition) → IsCondition c → IsWithin (test_of c).0
+within_of c fine = by_operator c.op c.value c.value_two fine.value
+  where
+    by_operator : (op : Operator) (value value_two : ℕ) → value < 2 ^ 64 → IsWithin (test_by op value value_two).0
+    by_operator NotEqual value value_two fits = and_mask value 64 ∙ omega arith
+    by_operator Less value value_two fits = tt
+    by_operator LessOrEqual value value_two fits = tt
+    by_operator Equal value value_two fits = and_mask value 64 ∙ omega arith
+    by_operator GreaterOrEqual value value_two fits = tt
+    by_operator Greater value value_two fits = tt
+    by_operator MaskedEqual value value_two fits =
+        and_assoc value value_two value ∙ ap (λ (m : ℕ). bit_and value_two m) (and_self value)
+
+condition_tests : (c : Condition) (out : ℕ) → IsCondition c
+    → Tests (condition_code c out) 0 out 6 (IsPlainCondition c) (λ call. holds c (argument call c.index))
+condition_tests c out fine = by_exits (test_of c).1 refl
+  where
+    by_exits : (expected : Bool) → (test_of c).1 ≡ expected
+        → Tests (test_code (test_of c).0 (argument_word c.index) (exits expected out).0 (exits expected out).1) 0 out 6
+        (IsPlainCondition c) (λ call. holds c (argument call c.index))
+    by_exits true e =
+        tests_as 6 6 _ _ (test_tests c.index fine.index (test_of c).0 0 out (within_of c fine)) (omega arith)
+        (plain_of c)
+        (λ call fits. rw e at (decides c (argument call c.index) (fits.args c.index)))
+    by_exits false e =
+        tests_as 6 6 _ _
+        (opposite (λ call. not (tree_answer (test_of c).0 (argument call c.index)))
+        (test_tests c.index fine.index (test_of c).0 out 0 (within_of c fine)) (λ call. refl)) (omega arith)
+        (plain_of c)
+        (λ call fits. rw e at (decides c (argument call c.index) (fits.args c.index)))
 
 -- Conditions one after another pass one instruction more where one of them fails.
 pub conditions_tests : (cs : List Condition) → AllByRecursion IsCondition cs
     → Tests (conditions_code cs) 0 1 (6 * length cs) (AllByRecursion IsPlainCondition cs) (λ call. all_hold call cs)
 conditions_tests [] fine = no_tests 1 _
 conditions_tests (c ∷ cs) fine =
-    let index = fine.0.index in
     tests_as _ _ _ _
-    (both (operator_tests c.index index c.op c.value c.value_two (length (conditions_code cs) + 1))
-    (conditions_tests cs fine.1)) (omega arith) (λ p. p) (λ call h. grind (arith, nat_tests))
+    (both (condition_tests c (length (conditions_code cs) + 1) fine.0) (conditions_tests cs fine.1)) (omega arith)
+    (λ p. p) (λ call h. grind (arith, nat_tests))

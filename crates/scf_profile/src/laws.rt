@@ -1,12 +1,21 @@
-//! Laws of what a profile answers. Each function does nothing: what it ensures is the law.
+//! Laws of conditions and of what a profile answers. Each function does nothing: what it ensures is the law.
 
-ghost use Rattle.std.specs.Prelude.{◌≡◌, ℕ};
+ghost use Rattle.std.specs.Prelude.{◌≡◌, ◌<◌, ◌^◌, ℕ};
 ghost use Rattle.scf_insn.specs.declared.record.CallRecord.{CallRecord};
 ghost use Rattle.scf_insn.specs.Words.{IsRecord};
+ghost use Rattle.scf_profile.specs.declared.condition.Condition.{Condition};
 ghost use Rattle.scf_profile.specs.declared.reason.Reason.{Reason};
+ghost use Rattle.scf_profile.specs.Condition.{holds};
+ghost use Rattle.scf_profile.specs.NumberTests.{comes_to, test_of};
 ghost use Rattle.scf_profile.specs.Profile.{Profile, HaveNoConflict};
 ghost use Rattle.scf_profile.specs.ProfileAnswers.{ProfileAnswers};
 ghost use Rattle.scf_profile.specs.Reasons.{IsAnswerOf, IsReason};
+
+/// A condition holds of a number where its test, half by half, comes to what is expected.
+pub fn condition_by_halves()
+    ensures { (c : Condition) (n : ℕ) → n < 2 ^ 64
+        → comes_to (test_of c) n ≡ holds c n }
+{}
 
 /// Every call has an answer.
 #[tactic(auto, using(crate::proofs::Answering::some_answer))]

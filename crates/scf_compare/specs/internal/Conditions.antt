@@ -1,53 +1,71 @@
 -- Conditions on 64-bit arguments as questions about the two words of an argument.
-use Rattle.std.specs.Prelude.{◌≡◌, ◌≢◌, ◌+◌, ◌*◌, ◌≤◌, ℕ, List, true, false, bit_and}
+use Rattle.std.specs.Prelude.{◌≡◌, ◌≢◌, ◌+◌, ◌*◌, ◌≤◌, ℕ, List, true, false, bit_and, slice_index}
 use Rattle.scf_insn.specs.Words.{IsWords, argument, call_of, low, high}
 use Rattle.scf_facts.specs.Atoms.{atom_answer}
-use Rattle.scf_profile.specs.declared.condition.Operator.{Operator}
-use Rattle.scf_profile.specs.declared.condition.Operator.TheVariants.{NotEqual, Equal, MaskedEqual}
 use Rattle.scf_profile.specs.declared.condition.Condition.{Condition}
+use Rattle.scf_profile.specs.declared.number_test.NumberTest.{NumberTest}
+use Rattle.scf_profile.specs.declared.number_test.NumberTest.TheVariants.{Masked, Greater, GreaterOrEqual}
 use Rattle.scf_profile.specs.Condition.{holds}
-use Rattle.scf_compare.specs.declared.question.Half.{Half}
-use Rattle.scf_compare.specs.declared.question.Half.TheVariants.{High as HighHalf, Low as LowHalf}
+use Rattle.scf_profile.specs.NumberTests.{test_of, tree_answer}
 use Rattle.scf_compare.specs.declared.question.ConditionPart.{ConditionPart}
 use Rattle.scf_compare.specs.declared.question.ConditionPart.TheVariants.{High, Above, Low}
 use Rattle.scf_compare.specs.declared.question.Way.{Way}
 use Rattle.scf_compare.specs.declared.question.Way.TheVariants.{Holds, Fails, Then}
 use Rattle.scf_compare.specs.declared.question.Question.{Question}
 
--- a half of a 64-bit number
-abbrev pub half_of : Half → ℕ → ℕ
-half_of HighHalf n = high n
-half_of LowHalf n = low n
+-- a number's halves are two words, the low one first
+pub record HasHalves (words : List ℕ) (word n : ℕ) : Type 0 where
+  pub low_there : slice_index words word ≡ low n
+  pub high_there : slice_index words (word + 1) ≡ high n
 
--- a number and a value have one high half, as far as its bits are compared
-abbrev pub HasSameHigh : Operator → ℕ → ℕ → ℕ → Type 0
-HasSameHigh MaskedEqual number value value_two = bit_and (high number) (high value) ≡ high (bit_and value_two value)
-HasSameHigh _ number value value_two = high number ≡ high value
+-- a number has the high half that a test wants
+abbrev pub HasSameHigh : NumberTest → ℕ → Type 0
+HasSameHigh (Masked mask value) n = bit_and (high n) (high mask) ≡ high value
+HasSameHigh (Greater value) n = high n ≡ high value
+HasSameHigh (GreaterOrEqual value) n = high n ≡ high value
 
--- they have different high halves, and their order is asked
-abbrev pub HasOtherHigh : Operator → ℕ → ℕ → Type 0
-HasOtherHigh Equal number value = ⊥
-HasOtherHigh NotEqual number value = ⊥
-HasOtherHigh MaskedEqual number value = ⊥
-HasOtherHigh _ number value = high number ≢ high value
+-- it has another, and the order of both is asked
+abbrev pub HasOtherHigh : NumberTest → ℕ → Type 0
+HasOtherHigh (Masked mask value) n = ⊥
+HasOtherHigh (Greater value) n = high n ≢ high value
+HasOtherHigh (GreaterOrEqual value) n = high n ≢ high value
 
--- what is known of a number when a part of a condition is asked
+-- what is known of a number when a part of a test is asked
+abbrev pub IsAtTest : NumberTest → ConditionPart → ℕ → Type 0
+IsAtTest test High n = Unit {0}
+IsAtTest test Above n = HasOtherHigh test n
+IsAtTest test Low n = HasSameHigh test n
+
 abbrev pub IsAtPart : Condition → ConditionPart → ℕ → Type 0
-IsAtPart c High number = Unit {0}
-IsAtPart c Above number = HasOtherHigh c.op number c.value
-IsAtPart c Low number = HasSameHigh c.op number c.value c.value_two
+IsAtPart c part n = IsAtTest (test_of c).0 part n
 
 -- what is known of a number on a way on
-abbrev pub IsOnWay : Condition → Way → ℕ → Type 0
-IsOnWay c Holds number = holds c number ≡ true
-IsOnWay c Fails number = holds c number ≡ false
-IsOnWay c (Then part) number = IsAtPart c part number
+abbrev pub IsOnTestWay : NumberTest → Way → ℕ → Type 0
+IsOnTestWay test Holds n = tree_answer test n ≡ true
+IsOnTestWay test Fails n = tree_answer test n ≡ false
+IsOnTestWay test (Then part) n = IsAtTest test part n
 
--- the ways on from an atom, over the words of a call with this argument
+abbrev pub IsOnWay : Condition → Way → ℕ → Type 0
+IsOnWay c Holds n = holds c n ≡ true
+IsOnWay c Fails n = holds c n ≡ false
+IsOnWay c (Then part) n = IsAtPart c part n
+
+-- the way of the opposite
+abbrev pub opposite_way : Way → Way
+opposite_way Holds = Fails
+opposite_way Fails = Holds
+opposite_way (Then part) = Then part
+
+-- the ways on from an atom, over the words of a call with this number
+abbrev pub SplitsTest : NumberTest → Question → List ℕ → ℕ → Type 0
+SplitsTest test question words n =
+    (atom_answer question.atom words ≡ true → IsOnTestWay test question.if_true n)
+    × (atom_answer question.atom words ≡ false → IsOnTestWay test question.if_false n)
+
 abbrev pub Splits : Condition → Question → List ℕ → ℕ → Type 0
-Splits c question words number =
-    (atom_answer question.atom words ≡ true → IsOnWay c question.if_true number)
-    × (atom_answer question.atom words ≡ false → IsOnWay c question.if_false number)
+Splits c question words n =
+    (atom_answer question.atom words ≡ true → IsOnWay c question.if_true n)
+    × (atom_answer question.atom words ≡ false → IsOnWay c question.if_false n)
 
 -- the size of the tree from a part on, where those behind a condition that holds and one that fails have sizes
 abbrev pub part_size : ConditionPart → ℕ → ℕ → ℕ

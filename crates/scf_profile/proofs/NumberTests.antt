@@ -1,0 +1,53 @@
+-- A condition is decided by its test, half by half.
+use Rattle.scf_profile.proofs.Common.{◌≡◌, ℕ, ◌-◌, ◌<◌, ◌^◌, inr, not, eqb, leb, ltb, refl, sym, ap, ◌∙◌, arith, bit_and, nat_tests, compares, IsPlainCondition}
+use Rattle.scf_insn.specs.SimpleMask.{IsSimpleMask}
+use Rattle.scf_insn.specs.Words.{low, high}
+use Rattle.std.proofs.lemmas.Nat.{and_mask}
+use Rattle.scf_insn.proofs.Halves.{leb_split, ltb_split, masked_split}
+use Rattle.scf_profile.specs.declared.condition.Operator.{Operator}
+use Rattle.scf_profile.specs.declared.condition.Operator.TheVariants.{NotEqual, Less, LessOrEqual, Equal}
+use Rattle.scf_profile.specs.declared.condition.Operator.TheVariants.{GreaterOrEqual, Greater, MaskedEqual}
+use Rattle.scf_profile.specs.declared.condition.Condition.{Condition}
+use Rattle.scf_profile.specs.declared.number_test.NumberTest.TheVariants as tests
+use Rattle.scf_profile.specs.Condition.{holds}
+use Rattle.scf_profile.specs.NumberTests.{IsPlainTest, comes_to, test_by, test_of, tree_answer}
+
+-- under all bits a number is itself
+equal : (n value : ℕ) → n < 2 ^ 64 → tree_answer (tests.Masked (2 ^ 64 - 1) value) n ≡ eqb n value
+equal n value fits =
+    sym (masked_split n (2 ^ 64 - 1) value) ∙ ap (λ (m : ℕ). eqb m value) (and_mask n 64 ∙ omega arith)
+
+greater : (n value : ℕ) → tree_answer (tests.Greater value) n ≡ ltb value n
+greater n value = grind (arith, nat_tests, ltb_split value n)
+
+at_least : (n value : ℕ) → tree_answer (tests.GreaterOrEqual value) n ≡ leb value n
+at_least n value = grind (arith, nat_tests, leb_split value n)
+
+by_operator : (op : Operator) (value value_two n : ℕ) → n < 2 ^ 64
+    → comes_to (test_by op value value_two) n ≡ compares op n value value_two
+by_operator NotEqual value value_two n fits = ap not (equal n value fits)
+by_operator Less value value_two n fits = ap not (at_least n value) ∙ grind (arith, nat_tests)
+by_operator LessOrEqual value value_two n fits = ap not (greater n value) ∙ grind (arith, nat_tests)
+by_operator Equal value value_two n fits = equal n value fits
+by_operator GreaterOrEqual value value_two n fits = at_least n value
+by_operator Greater value value_two n fits = greater n value
+by_operator MaskedEqual value value_two n fits = sym (masked_split n value (bit_and value_two value))
+
+pub decides : (c : Condition) (n : ℕ) → n < 2 ^ 64
+    → comes_to (test_of c) n ≡ holds c n
+decides c n fits = by_operator c.op c.value c.value_two n fits
+
+-- of a condition with simple masks the test is plain
+pub plain_of : (c : Condition) → IsPlainCondition c → IsPlainTest (test_of c).0
+plain_of c plain = by_plain c.op c.value c.value_two plain
+  where
+    by_plain : (op : Operator) (value value_two : ℕ)
+        → (op ≡ MaskedEqual → IsSimpleMask (low value) × IsSimpleMask (high value))
+        → IsPlainTest (test_by op value value_two).0
+    by_plain NotEqual value value_two plain = (inr (inr refl), inr (inr refl))
+    by_plain Less value value_two plain = tt
+    by_plain LessOrEqual value value_two plain = tt
+    by_plain Equal value value_two plain = (inr (inr refl), inr (inr refl))
+    by_plain GreaterOrEqual value value_two plain = tt
+    by_plain Greater value value_two plain = tt
+    by_plain MaskedEqual value value_two plain = ((plain refl).1, (plain refl).0)
