@@ -18,6 +18,7 @@ pub use Rattle.std.specs.Borrow.{Bor}
 pub use Rattle.std.specs.Cmp.Lexicographic.{slice_cmp}
 pub use Rattle.std.specs.Fmt.{decimal}
 pub use Rattle.std.specs.Global.{Vec}
+unfoldable pub use Rattle.std.specs.List.{IsDistinct}
 pub use Rattle.std.specs.List.{All, enumerate_from, find, join_with_byte, list_any, position_or_len, prefix_len, slice_split}
 pub use Rattle.std.specs.Option.{IsSome, is_some, option_map, option_or, option_to_list, unwrap_or}
 pub use Rattle.std.specs.Ordering.{nat_cmp}
@@ -36,8 +37,8 @@ unfoldable pub use Rattle.scf_text.specs.Faults.{fault_of}
 pub use Rattle.scf_text.specs.Forms.{field_of, forms, names, raw, tells_all}
 unfoldable pub use Rattle.scf_text.specs.Forms.{form_for, known_forms}
 pub use Rattle.scf_text.specs.Listing.{line_of, number_text, operands_text, piece_text, text_of}
-pub use Rattle.scf_text.specs.Spelling.{AreNew, Says, SaysEach, SaysInsn, Spells}
-pub use Rattle.scf_text.specs.Statements.{Labels, Places, Statement, drafts_by, drafts_in, drafts_of, instruction_in, label_in, labels_from, line_statements, place_of, places_in, statements_of}
+pub use Rattle.scf_text.specs.Spelling.{Says, SaysEach, SaysInsn, Spells}
+pub use Rattle.scf_text.specs.Statements.{Places, Statement, drafts_by, drafts_in, drafts_of, instruction_in, label_in, labels_from, line_statements, place_of, places_in, statements_of}
 pub use Rattle.scf_text.specs.Tokens.{IsSliceOf, Lexeme, before_comment, joined, lexemes, lexemes_of_lines, lines_of, words_of_line}
 unfoldable pub use Rattle.scf_text.specs.Tokens.{lexemes_from, tokens_of}
 pub use Rattle.scf_text.specs.declared.fault.TextFault.{TextFault}
@@ -53,7 +54,7 @@ pub use Rattle.scf_text.specs.declared.token.Token.{Token}
 pub use Rattle.scf_text.specs.internal.Mnemonics.{form_view}
 pub use Rattle.scf_text.specs.internal.Parts.{begins_comment, begins_in_word, first_statement, is_semicolon, lines_after, statements_in, words_of_part}
 unfoldable pub use Rattle.scf_text.specs.internal.Parts.{others_in, words_in}
-pub use Rattle.scf_text.specs.internal.Reading.{HaveTokens, IsLeft, Leaves, drafts_view, label_at, part_statements, places_view, statements_from, with_label}
+pub use Rattle.scf_text.specs.internal.Reading.{AreNew, HaveTokens, IsLeft, Labels, Leaves, drafts_view, label_at, part_statements, places_view, statements_from, with_label}
 pub use Rattle.scf_text.specs.internal.Results.{AddsInstruction, TellsInsns, TellsText, insn_fault}
 unfoldable pub use Rattle.scf_text.specs.internal.Results.{fault_in}
 pub use Rattle.scf_text.specs.internal.Views.{draft_view}

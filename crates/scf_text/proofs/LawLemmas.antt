@@ -1,8 +1,8 @@
 -- A text spells a list exactly where it has no fault, and then only one.
-use Rattle.scf_text.proofs.Common.{◌≡◌, ◌≢◌, ℕ, suc, ◌+◌, ◌-◌, ◌<◌, ◌≤◌, ◌^◌, true, cond, eqb, ltb, List, [], ◌∷◌, ◌++◌, length, Option, Some, None, refl, sym, ap, subst, ◌∙◌, zero-add, arith, inl, inr, IsSome, option_or, option_map, option_to_list, AllByRecursion, list_any, flat_map, cases_Bool, lt-ltb, le-ltb, lt-leb, nat_tests, length-append, IsInsn, bpf_maxinsns, Insn, forms, Written, Number, Label, Draft, has_mnemonic, read_by, draft_of, is_below, is_in_range, number_of, Statement, Labels, Places, place_of, places_in, label_in, instruction_in, label_at, labels_from, drafts_by, drafts_in, statements_of, drafts_of, Says, SaysInsn, SaysEach, AreNew, Spells, ascii_fault, label_fault, draft_fault, instruction_fault, statement_fault, statements_fault, target_fault, targets_fault, insn_fault, fault_of}
+use Rattle.scf_text.proofs.Common.{◌≡◌, ◌≢◌, ℕ, suc, Bool, false, bytes_eq, map, IsDistinct, ◌+◌, ◌-◌, ◌<◌, ◌≤◌, ◌^◌, true, cond, eqb, ltb, List, [], ◌∷◌, ◌++◌, length, Option, Some, None, refl, sym, ap, subst, ◌∙◌, zero-add, arith, inl, inr, IsSome, option_or, option_map, option_to_list, AllByRecursion, list_any, flat_map, cases_Bool, lt-ltb, le-ltb, lt-leb, nat_tests, length-append, IsInsn, bpf_maxinsns, Insn, forms, Written, Number, Label, Draft, has_mnemonic, read_by, draft_of, is_below, is_in_range, number_of, Statement, Labels, Places, place_of, places_in, label_in, instruction_in, label_at, labels_from, drafts_by, drafts_in, statements_of, drafts_of, Says, SaysInsn, SaysEach, AreNew, Spells, ascii_fault, label_fault, draft_fault, instruction_fault, statement_fault, statements_fault, target_fault, targets_fault, insn_fault, fault_of}
 use Rattle.scf_text.specs.Forms.{Form}
 use Rattle.std.proofs.lemmas.List.{append-nil}
-use Rattle.scf_text.proofs.ReadLemmas.{count_more, labels_more, is_none}
+use Rattle.scf_text.proofs.ReadLemmas.{bytes_eq_sym, count_more, labels_more, lookup_push, is_none}
 
 -- choices
 
@@ -37,6 +37,57 @@ new_to : (earlier : Labels) (at line : ℕ) (o : Option (List ℕ)) (ls : Labels
     → (label_fault (place_of earlier) line o ≡ None) × AreNew (earlier ++ label_at at o) ls
 new_to earlier at line None ls h = (refl, subst (λ (e : Labels). AreNew e ls) (sym (append-nil earlier)) h)
 new_to earlier at line (Some name) ls h = (rw h.0 refl, h.1)
+
+-- labels are new one behind the other where their names are distinct
+
+abbrev names : Labels → List (List ℕ)
+names ls = map (λ (l : List ℕ × ℕ). l.0) ls
+
+-- labels whose names have no place among these
+abbrev AreBesides : Labels → Labels → Type 0
+AreBesides earlier ls = AllByRecursion (λ (l : List ℕ × ℕ). place_of earlier l.0 ≡ None) ls
+
+abbrev AreOthers : List ℕ → Labels → Type 0
+AreOthers name ls = AllByRecursion (λ other. bytes_eq name other ≡ false) (names ls)
+
+other_name : (b : Bool) (o : Option ℕ) (place : ℕ) → option_or o (cond b (Some place) None) ≡ None
+    → (o ≡ None) × (b ≡ false)
+other_name true None place h = absurd cc
+other_name false None place h = (refl, refl)
+other_name b (Some x) place h = absurd cc
+
+besides_more : (earlier : Labels) (l : List ℕ × ℕ) (ls : Labels) → AreBesides (earlier ++ l ∷ []) ls
+    → AreBesides earlier ls × AreOthers l.0 ls
+besides_more earlier l [] h = (tt, tt)
+besides_more earlier l (m ∷ ls) h =
+    let pushed = sym (lookup_push (bytes_eq m.0) earlier l) ∙ h.0 in
+    let here = other_name (bytes_eq m.0 l.0) (place_of earlier m.0) l.1 pushed in
+    let rest = besides_more earlier l ls h.1 in
+    ((here.0, rest.0), (bytes_eq_sym l.0 m.0 ∙ here.1, rest.1))
+
+besides_less : (earlier : Labels) (l : List ℕ × ℕ) (ls : Labels) → AreBesides earlier ls → AreOthers l.0 ls
+    → AreBesides (earlier ++ l ∷ []) ls
+besides_less earlier l [] h k = tt
+besides_less earlier l (m ∷ ls) h k =
+    (lookup_push (bytes_eq m.0) earlier l ∙ rw (h.0, bytes_eq_sym m.0 l.0, k.0) refl, besides_less earlier l ls h.1 k.1)
+
+new_distinct : (earlier ls : Labels) → AreNew earlier ls → AreBesides earlier ls × IsDistinct bytes_eq (names ls)
+unfolding IsDistinct
+new_distinct earlier [] h = (tt, tt)
+new_distinct earlier (l ∷ ls) h =
+    let rest = new_distinct (earlier ++ l ∷ []) ls h.1 in
+    let more = besides_more earlier l ls rest.0 in
+    ((h.0, more.0), (more.1, rest.1))
+
+distinct_new : (earlier ls : Labels) → AreBesides earlier ls → IsDistinct bytes_eq (names ls) → AreNew earlier ls
+unfolding IsDistinct
+distinct_new earlier [] h k = tt
+distinct_new earlier (l ∷ ls) h k =
+    (h.0, distinct_new (earlier ++ l ∷ []) ls (besides_less earlier l ls h.1 k.0) k.1)
+
+besides_none : (ls : Labels) → AreBesides [] ls
+besides_none [] = tt
+besides_none (l ∷ ls) = (refl, besides_none ls)
 
 -- the instruction of a statement
 
@@ -174,7 +225,9 @@ pub no_fault : (text : List ℕ) (is : List Insn) → Spells text is → fault_o
 unfolding fault_of
 no_fault text is s =
     let said = says_each (places_in (statements_of text)) 0 (drafts_of text) is s.each s.fields in
-    let read = statements_to_none (statements_of text) [] s.distinct s.read said.0
+    let labels = labels_from 0 (statements_of text) in
+    let new = distinct_new [] labels (besides_none labels) s.distinct in
+    let read = statements_to_none (statements_of text) [] new s.read said.0
     (omega (arith, said.2, s.few)) in
     none_both (ascii_to text 1 s.ascii) (none_both read said.1)
 
@@ -195,7 +248,7 @@ spelled text is none says fits =
     let said = says_each (places_in (statements_of text)) 0 (drafts_of text) is says fits in
     record {
       ascii = ascii_from text 1 outer.0;
-      distinct = read.0;
+      distinct = (new_distinct [] (labels_from 0 (statements_of text)) read.0).1;
       few = omega (arith, said.2, read.2);
       fields =
           fits;

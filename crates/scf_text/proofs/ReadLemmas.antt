@@ -36,7 +36,7 @@ or_none : {A : Type 0} (a : Option A) → option_or a None ≡ a
 or_none None = refl
 or_none (Some x) = refl
 
-lookup_push : (p : List ℕ → Bool) (ls : Labels) (l : List ℕ × ℕ)
+pub lookup_push : (p : List ℕ → Bool) (ls : Labels) (l : List ℕ × ℕ)
     → lookup p (ls ++ l ∷ []) ≡ option_or (lookup p ls) (cond (p l.0) (Some l.1) None)
 lookup_push p [] l = refl
 lookup_push p (k ∷ ls) l =
@@ -49,7 +49,7 @@ one_more : (o w : Option ℕ) (a b : Bool) → a ≡ b → (a ≡ true → o ≡
 one_more o w true b e none = rw (← e, none refl) refl
 one_more o w false b e none = rw (← e) (sym (or_none o))
 
-bytes_eq_sym : (a b : List ℕ) → bytes_eq a b ≡ bytes_eq b a
+pub bytes_eq_sym : (a b : List ℕ) → bytes_eq a b ≡ bytes_eq b a
 bytes_eq_sym a b =
     let other = bytes_eq-Decides b a in
     same_from_decides (bytes_eq a b) (bytes_eq b a) (bytes_eq-Decides a b)

@@ -1,5 +1,5 @@
 -- Each form is read as it is listed, and the canonical text of instructions spells them.
-use Rattle.scf_text.proofs.Common.{words_of_part, ◌≡◌, ℕ, true, false, eqb, Option, None, Some, refl, sym, ◌+◌, ◌<◌, ◌≤◌, List, [], ◌∷◌, ◌++◌, length, map, ap, subst, ◌∙◌, append_assoc, arith, if◌then◌else◌, list_any, flat_map, AllByRecursion, list_all, slice_split, and_from, nat_tests, IsInsn, Insn, Code, Jt, Jf, K, names, tells_all, form_for, forms, known_forms, Number, Draft, draft_of, Places, Statement, place_of, is_semicolon, words_of_line, statements_from, label_in, instruction_in, labels_from, drafts_in, SaysInsn, SaysEach, Spells, All-from_recursion, slice_split_at, slice_split_none, bpf_maxinsns, Lexeme, lines_of, before_comment, lexemes_from, operands_text, line_of, text_of}
+use Rattle.scf_text.proofs.Common.{words_of_part, IsDistinct, place_of, ◌≡◌, ℕ, true, false, eqb, Option, None, Some, refl, sym, ◌+◌, ◌<◌, ◌≤◌, List, [], ◌∷◌, ◌++◌, length, map, ap, subst, ◌∙◌, append_assoc, arith, if◌then◌else◌, list_any, flat_map, AllByRecursion, list_all, slice_split, and_from, nat_tests, IsInsn, Insn, Code, Jt, Jf, K, names, tells_all, form_for, forms, known_forms, Number, Draft, draft_of, Places, Statement, is_semicolon, words_of_line, statements_from, label_in, instruction_in, labels_from, drafts_in, SaysInsn, SaysEach, Spells, All-from_recursion, slice_split_at, slice_split_none, bpf_maxinsns, Lexeme, lines_of, before_comment, lexemes_from, operands_text, line_of, text_of}
 use Rattle.scf_text.proofs.TokenLemmas.{words_nil, all_append}
 use Rattle.scf_text.proofs.ListingLemmas.{hexadecimal_is, decimal_is, decimal_no_name, four_digits_is, piece_words}
 use Rattle.scf_text.proofs.ListingLemmas.{each_same, name_of, field_small, mnemonic_wordy, line_words, is_plain, wordy_plain}
@@ -118,6 +118,7 @@ ascii (i ∷ is) fits =
     (omega arith, ascii is fits.1))
 
 pub round_trip : (is : List Insn) → AllByRecursion IsInsn is → length is ≤ bpf_maxinsns → Spells (text_of is) is
+unfolding IsDistinct
 round_trip is fits few =
     let statements = statements_are 1 is fits in
     let told = listed (place_of []) 0 1 is fits in

@@ -45,6 +45,9 @@ spellings p.Index = codes "x" ∷ codes "X" ∷ []
 spellings (p.Number field style) = []
 spellings (p.Target field) = []
 
+abbrev pub has_mnemonic : List ℕ → Form → Bool
+has_mnemonic t form = bytes_eq t form.mnemonic
+
 -- How tokens are read, given what number a token is.
 module _ (number : List ℕ → Option ℕ) where
   -- the draft after a token stands for a piece
@@ -60,19 +63,12 @@ module _ (number : List ℕ → Option ℕ) where
   fill_by (piece ∷ pieces) (t ∷ ts) d = option_and_then (fill_by pieces ts) (put_by piece t d)
   fill_by _ _ d = None
 
--- before any field is named
-abbrev pub blank : Form → Draft
-blank form = record { code = form.code; jt = Number 0; jf = Number 0; k = Number 0 }
-
-abbrev pub has_mnemonic : List ℕ → Form → Bool
-has_mnemonic t form = bytes_eq t form.mnemonic
-
-module _ (number : List ℕ → Option ℕ) where
-  -- what a mnemonic and the tokens behind it say, in the first of the forms that they have
+  -- What a mnemonic and the tokens behind it say in the first of the forms that they have: fields not named are 0.
   abbrev pub read_by : List Form → List ℕ → List (List ℕ) → Option Draft
   read_by [] t ts = None
   read_by (form ∷ rest) t ts =
-      option_or (if has_mnemonic t form then fill_by number form.pieces ts (blank form) else None) (read_by rest t ts)
+      let blank : Draft = record { code = form.code; jt = Number 0; jf = Number 0; k = Number 0 } in
+      option_or (if has_mnemonic t form then fill_by form.pieces ts blank else None) (read_by rest t ts)
 
 -- what a mnemonic and the tokens behind it say
 unfoldable pub draft_of : List ℕ → List (List ℕ) → Option Draft

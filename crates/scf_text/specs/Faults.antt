@@ -1,7 +1,7 @@
 -- The first fault of a text.
-use Rattle.std.specs.Prelude.{◌≡◌, ℕ, ◌+◌, ◌-◌, ◌||◌, ◌^◌, not, List, [], ◌∷◌, ◌++◌, length, Option, Some, None}
+use Rattle.std.specs.Prelude.{◌≡◌, ℕ, ◌+◌, ◌-◌, ◌||◌, ◌^◌, not, Bool, List, [], ◌∷◌, ◌++◌, length, Option, Some, None}
 use Rattle.std.specs.Prelude.{nat_le, nat_lt, if◌then◌else◌}
-use Rattle.std.specs.Option.{is_some, option_and_then, option_or}
+use Rattle.std.specs.Option.{is_some, option_and_then, option_map_or, option_or}
 use Rattle.std.specs.List.{flat_map, list_any}
 use Rattle.scf_insn.specs.Kernel.{bpf_maxinsns}
 use Rattle.scf_text.specs.declared.fault.TextFault.{TextFault}
@@ -51,14 +51,12 @@ statements_fault before [] = None
 statements_fault before (s ∷ ss) = option_or (statement_fault before s) (statements_fault (before ++ s ∷ []) ss)
 
 -- A name with no place, or a place that the field doesn't reach. Places behind the jump alone are reached.
-abbrev pub reach_fault : ℕ → ℕ → ℕ → Option ℕ → Option TextFault
-reach_fault at line limit None = Some (fault.Label line)
-reach_fault at line limit (Some place) =
-    if nat_lt place (at + 1) || nat_le limit (place - (at + 1)) then Some (fault.JumpTooFar line) else None
-
 abbrev pub target_fault : Places → ℕ → ℕ → ℕ → Written → Option TextFault
 target_fault places at line limit (Number n) = None
-target_fault places at line limit (Label name) = reach_fault at line limit (places name)
+target_fault places at line limit (Label name) =
+    let is_far : ℕ → Bool = λ place. nat_lt place (at + 1) || nat_le limit (place - (at + 1)) in
+    option_map_or (λ place. if is_far place then Some (fault.JumpTooFar line) else None) (places name)
+    (Some (fault.Label line))
 
 -- The targets of instructions with their lines, the first at this place: of a conditional jump its JT and then its JF.
 abbrev pub targets_fault : Places → ℕ → List (ℕ × Draft) → Option TextFault

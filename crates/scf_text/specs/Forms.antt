@@ -38,10 +38,6 @@ operand_pieces operands.Index = Index ∷ []
 abbrev pub place_pieces : List Piece
 place_pieces = Mark (code "[") ∷ Number K Decimal ∷ Mark (code "]") ∷ []
 
--- the two targets of a conditional jump
-abbrev pub both_targets : List Piece
-both_targets = Mark (code ",") ∷ Target Jt ∷ Mark (code ",") ∷ Target Jf ∷ []
-
 abbrev pub arithmetic_word : Arithmetic → List ℕ
 arithmetic_word o.Add = codes "add"
 arithmetic_word o.Sub = codes "sub"
@@ -73,7 +69,8 @@ word_and_pieces (StoreScratch X) = (codes "stx", Memory ∷ place_pieces)
 word_and_pieces (Compute arithmetic operand) = (arithmetic_word arithmetic, operand_pieces operand)
 word_and_pieces Negate = (codes "neg", [])
 word_and_pieces Jump = (codes "ja", Target K ∷ [])
-word_and_pieces (JumpIf test operand) = (test_word test, operand_pieces operand ++ both_targets)
+word_and_pieces (JumpIf test operand) =
+    (test_word test, operand_pieces operand ++ Mark (code ",") ∷ Target Jt ∷ Mark (code ",") ∷ Target Jf ∷ [])
 word_and_pieces ReturnConstant = (codes "ret", operand_pieces operands.Constant)
 word_and_pieces ReturnAccumulator = (codes "ret", Accumulator ∷ [])
 word_and_pieces CopyToIndex = (codes "tax", [])

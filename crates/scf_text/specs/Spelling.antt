@@ -1,11 +1,12 @@
 -- Which instructions a text spells.
-use Rattle.std.specs.Prelude.{◌≡◌, ℕ, ◌+◌, ◌<◌, ◌≤◌, List, [], ◌∷◌, ◌++◌, length, Some, None}
-use Rattle.std.specs.List.{AllByRecursion}
+use Rattle.std.specs.Prelude.{◌≡◌, ℕ, ◌+◌, ◌<◌, ◌≤◌, List, [], ◌∷◌, length, map, Some}
+use Rattle.std.specs.List.{AllByRecursion, IsDistinct}
+use Rattle.std.specs.Str.{bytes_eq}
 use Rattle.scf_insn.specs.Insn.{IsInsn}
 use Rattle.scf_insn.specs.Kernel.{bpf_maxinsns}
 use Rattle.scf_insn.specs.declared.insn.Insn.{Insn}
 use Rattle.scf_text.specs.Drafts.{Written, Number, Label, Draft}
-use Rattle.scf_text.specs.Statements.{Statement, Labels, Places, place_of, places_in, statements_of, labels_from}
+use Rattle.scf_text.specs.Statements.{Statement, Places, places_in, statements_of, labels_from}
 use Rattle.scf_text.specs.Statements.{instruction_in, drafts_in, drafts_of}
 
 -- What is written says the number. A name says how far its place is behind the next instruction.
@@ -26,16 +27,11 @@ SaysEach places at [] [] = Unit {0}
 SaysEach places at (d ∷ ds) (i ∷ is) = SaysInsn places at d.1 i × SaysEach places (at + 1) ds is
 SaysEach places at _ _ = ⊥
 
--- each of the names is new: no earlier label has it
-abbrev pub AreNew : Labels → Labels → Type 0
-AreNew earlier [] = Unit {0}
-AreNew earlier (l ∷ ls) = (place_of earlier l.0 ≡ None) × AreNew (earlier ++ l ∷ []) ls
-
 -- The text is ASCII and no name is given twice. What stands behind the labels of its statements are forms of
 -- instructions, and they say the list, which has at most as many as a filter may have.
 pub record Spells (text : List ℕ) (is : List Insn) : Type 0 where
   pub ascii : AllByRecursion (λ b. b < 128) text
-  pub distinct : AreNew [] (labels_from 0 (statements_of text))
+  pub distinct : IsDistinct bytes_eq (map (λ (l : List ℕ × ℕ). l.0) (labels_from 0 (statements_of text)))
   pub few : length is ≤ bpf_maxinsns
   pub fields : AllByRecursion IsInsn is
   pub read : AllByRecursion (λ (s : Statement). drafts_in s ≡ [] → instruction_in s.tokens ≡ []) (statements_of text)

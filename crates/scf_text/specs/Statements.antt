@@ -38,13 +38,9 @@ drafts_by line (t ∷ ts) = option_to_list (option_map (λ d. (line, d)) (draft_
 abbrev pub drafts_in : Statement → List (ℕ × Draft)
 drafts_in s = drafts_by s.line (instruction_in s.tokens)
 
--- names that stand for places, each with its place
-abbrev pub Labels : Type 0
-Labels = List (List ℕ × ℕ)
-
 -- The labels of statements, the first of which stands at this place. Each names the place of the next instruction, or
 -- the end where none follows.
-abbrev pub labels_from : ℕ → List Statement → Labels
+abbrev pub labels_from : ℕ → List Statement → List (List ℕ × ℕ)
 labels_from at [] = []
 labels_from at (s ∷ ss) =
     map (λ name. (name, at)) (option_to_list (label_in s.tokens)) ++ labels_from (at + length (drafts_in s)) ss
@@ -53,7 +49,7 @@ labels_from at (s ∷ ss) =
 abbrev pub Places : Type 0
 Places = List ℕ → Option ℕ
 
-abbrev pub place_of : Labels → Places
+abbrev pub place_of : List (List ℕ × ℕ) → Places
 place_of labels = λ name. lookup (bytes_eq name) labels
 
 -- the places of the names that statements give

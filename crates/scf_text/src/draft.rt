@@ -5,13 +5,13 @@ ghost use Rattle.std.specs.List.{list_any};
 ghost use Rattle.std.specs.Str.{bytes_eq};
 ghost use Rattle.scf_insn.specs.Numbers.{number_of};
 ghost use Rattle.scf_text.specs.Forms.{forms};
-ghost use Rattle.scf_text.specs.Drafts.{is_name, with_field, spellings, put_by, fill_by, blank, has_mnemonic};
+ghost use Rattle.scf_text.specs.Drafts.{is_name, with_field, spellings, put_by, fill_by, has_mnemonic};
 ghost use Rattle.scf_text.specs.Drafts.{read_by, is_below, is_in_range};
 ghost use Rattle.scf_text.specs.Drafts as written;
 ghost use Rattle.scf_text.specs.internal.Mnemonics.{form_view};
 ghost use Rattle.scf_text.specs.internal.Parts.{words_in, others_in, statements_after};
 ghost use Rattle.scf_text.specs.internal.Results.{Reads};
-ghost use Rattle.scf_text.specs.internal.Views.{number_view, written_view, draft_view};
+ghost use Rattle.scf_text.specs.internal.Views.{blank, number_view, written_view, draft_view};
 
 use crate::form::{Field, Form, Piece};
 use crate::part::{Next, front};

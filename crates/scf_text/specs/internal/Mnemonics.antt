@@ -1,4 +1,5 @@
 -- The forms of the code, which has an enum of the words and one of what stands behind them.
+use Prim.Native.Char.{code}
 use Rattle.std.specs.Prelude.{ℕ, List, [], ◌∷◌, ◌++◌, codes}
 use Rattle.scf_insn.specs.declared.operation.Operand.TheVariants as operands
 use Rattle.scf_text.specs.declared.form.Mnemonic.{Mnemonic}
@@ -6,11 +7,11 @@ use Rattle.scf_text.specs.declared.form.Mnemonic.TheVariants as m
 use Rattle.scf_text.specs.declared.form.Shape.{Shape}
 use Rattle.scf_text.specs.declared.form.Shape.TheVariants as s
 use Rattle.scf_text.specs.declared.form.Piece.{Piece}
-use Rattle.scf_text.specs.declared.form.Piece.TheVariants.{Len, Memory, Accumulator, Target}
-use Rattle.scf_text.specs.declared.form.Field.TheVariants.{K}
+use Rattle.scf_text.specs.declared.form.Piece.TheVariants.{Mark, Len, Memory, Accumulator, Target}
+use Rattle.scf_text.specs.declared.form.Field.TheVariants.{Jt, Jf, K}
 use Rattle.scf_text.specs.declared.form.Form.{Form}
 use Rattle.scf_text.specs.Forms as forms
-use Rattle.scf_text.specs.Forms.{operand_pieces, place_pieces, both_targets}
+use Rattle.scf_text.specs.Forms.{operand_pieces, place_pieces}
 
 -- the word that stands first
 abbrev pub mnemonic_text : Mnemonic → List ℕ
@@ -37,6 +38,10 @@ mnemonic_text m.Ret = codes "ret"
 mnemonic_text m.Tax = codes "tax"
 mnemonic_text m.Txa = codes "txa"
 mnemonic_text m.Raw = codes "raw"
+
+-- the two targets of a conditional jump
+abbrev both_targets : List Piece
+both_targets = Mark (code ",") ∷ Target Jt ∷ Mark (code ",") ∷ Target Jf ∷ []
 
 -- what stands behind it
 abbrev pub pieces_of : Shape → List Piece

@@ -12,13 +12,22 @@ use Rattle.scf_text.specs.declared.fault.TextFault.{TextFault}
 use Rattle.scf_text.specs.declared.numbered_draft.NumberedDraft.{NumberedDraft}
 use Rattle.scf_text.specs.Drafts as drafts
 use Rattle.scf_text.specs.Faults.{IsFault, statements_fault}
-use Rattle.scf_text.specs.Statements.{Statement, Labels, Places, places_in, drafts_in, line_statements}
+use Rattle.scf_text.specs.Statements.{Statement, Places, place_of, places_in, drafts_in, line_statements}
 use Rattle.scf_text.specs.internal.Parts.{words_in, others_in}
 use Rattle.scf_text.specs.internal.Views.{draft_view}
 
 -- the places that a map has
 abbrev pub places_view : BTreeMap (Bor (List ℕ)) ℕ → Places
 places_view kept = λ name. get_by (λ key. slice_cmp nat_cmp name key.now) kept
+
+-- names that stand for places, each with its place
+abbrev pub Labels : Type 0
+Labels = List (List ℕ × ℕ)
+
+-- each of the names is new: no earlier label has it
+abbrev pub AreNew : Labels → Labels → Type 0
+AreNew earlier [] = Unit {0}
+AreNew earlier (l ∷ ls) = (place_of earlier l.0 ≡ None) × AreNew (earlier ++ l ∷ []) ls
 
 -- the name of a label with its place
 abbrev pub label_at : ℕ → Option (List ℕ) → Labels

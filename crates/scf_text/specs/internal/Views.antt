@@ -6,6 +6,11 @@ use Rattle.scf_text.specs.declared.draft.Written.{Written}
 use Rattle.scf_text.specs.declared.draft.Written.TheVariants as code
 use Rattle.scf_text.specs.declared.draft.Draft.{Draft}
 use Rattle.scf_text.specs.Drafts as drafts
+use Rattle.scf_text.specs.Forms.{Form}
+
+-- before any field is named
+abbrev pub blank : Form → drafts.Draft
+blank form = record { code = form.code; jt = drafts.Number 0; jf = drafts.Number 0; k = drafts.Number 0 }
 
 -- A token that is no number stands for one that fits no field.
 abbrev pub number_view : Written → ℕ
