@@ -41,7 +41,7 @@ pub use Rattle.scf_profile.specs.declared.load_fault.LoadFault.{LoadFault}
 pub use Rattle.scf_text.proofs.Common.{AllDigits, digits_value, each_fails, fails_first, flat_map, flat_map-append, is_digit, list_all-append, option_or, writes_then}
 pub use Rattle.scf_tool.specs.Bundle.{HasHeader, IsBundle, IsBundleFault, IsBundlePart, IsFaultAt, IsHeader, SpellsBundle, SpellsFrom, held, held_by, is_of, kind_word}
 pub use Rattle.scf_tool.specs.CallReports.{is_difference, is_same, joint_of, named_line}
-pub use Rattle.scf_tool.specs.Commands.{ComparesParts, HoldsBundle, IsReported, NoReadFailed, ReadsInput}
+pub use Rattle.scf_tool.specs.Commands.{ComparesParts, HoldsBundle, NoReadFailed, ReadsInput}
 pub use Rattle.scf_tool.specs.Faults.{number_words}
 pub use Rattle.scf_tool.specs.FilterStacks.{HasNoStack, HasStack, HaveEnded, HaveStopped, IsNotPushed}
 pub use Rattle.scf_tool.specs.Lines.{answer_text}
@@ -50,7 +50,6 @@ pub use Rattle.scf_tool.specs.Reports.{answer_line, argument_text, name_line}
 pub use Rattle.scf_tool.specs.Requests.{Command as Asked, AsksFor, command_word}
 pub use Rattle.scf_tool.specs.Requests.Command.{Ask, Asm, Check, Compare, Compile, Decide, Dis, Run}
 pub use Rattle.scf_tool.specs.Runs.{SpeaksOfWords, option_rule, scf, scf_shape, shape_for, shape_with}
-pub use Rattle.scf_tool.specs.Statuses.{joint_status}
 pub use Rattle.scf_tool.specs.Verifying.{HasEnded, IsFilter, LeavesFilterReader}
 pub use Rattle.scf_tool.specs.VerifyingCalls.{IsVerdictOnCall}
 pub use Rattle.scf_tool.specs.VerifyingStacks.{AreComparedParties, IsRefusedStack}
@@ -67,13 +66,11 @@ pub use Rattle.scf_tool.specs.declared.fault_line.FaultField.{FaultField}
 pub use Rattle.scf_tool.specs.declared.options.NumberOption.{NumberOption as Kept}
 pub use Rattle.scf_tool.specs.declared.parties.Parties.{Parties}
 pub use Rattle.scf_tool.specs.declared.reply.Reply.{Reply}
-pub use Rattle.scf_tool.specs.declared.reply.Reply.TheVariants.{CommandLine, Compared}
-pub use Rattle.scf_tool.specs.declared.request.Scopes.{Scopes}
+pub use Rattle.scf_tool.specs.declared.reply.Reply.TheVariants.{CommandLine}
 pub use Rattle.scf_tool.specs.declared.verification.VerifyFault.{VerifyFault}
 pub use Rattle.scf_tool.specs.declared.verification.VerifyFault.TheVariants.{FilterRead}
 pub use Rattle.scf_tool.specs.internal.Contents.{of_kind, rest_of, with_one}
 pub use Rattle.scf_tool.specs.internal.Fields.{field_text, numbers_of_field}
 pub use Rattle.scf_tool.specs.internal.Parsing.{Explains, IsNamed, ReadsAsProgram, flags_in, option_of, options_kept, scf_with}
 pub use Rattle.scf_tool.specs.internal.Pieces.{line_piece_text}
-pub use Rattle.scf_tool.specs.internal.Reporting.{IsReportOn}
 pub use Rattle.scf_tool.specs.internal.Verification.{AreParties}

@@ -59,7 +59,7 @@ given_first rows group i d (Some one) lt before none here = absurd (cc)
 pub given_twice : {A : Type 0} (rows : List Row) (group : List (Bor (List ℕ) × A)) (i : ℕ) (d : Bor (List ℕ) × A)
     (found : Option A) (without : A) → i < length group
     → given_of rows (flags_in (take i group)) ≡ option_to_list found → is_some found ≡ true
-    → is_given rows (get_or group i d).0.now ≡ true → choice_in rows (flags_in group) without ≡ None
+    → is_given rows (get_or group i d).0.now ≡ true → choice_in rows (without, flags_in group) ≡ None
 given_twice rows group i d None without lt before some here = absurd (cc)
 given_twice {A} rows group i d (Some one) without lt before some here =
     let behind = given_of rows (flags_in (drop (i + 1) group)) in

@@ -1,6 +1,7 @@
 -- What is true of standard input where a command ends with a reply or a fault. The bytes of the input count where its
 -- reader tells them.
 use Rattle.std.specs.Prelude.{◌≡◌, ◌≢◌, ◌<◌, ◌≤◌, ℕ, List, [], ◌∷◌, length, map, Option, Some, Result, Ok, Err}
+use Rattle.std.specs.Option.{option_map_or}
 use Rattle.scf_insn.specs.declared.encoding.ReadFault.TheVariants as reads
 use Rattle.scf_insn.specs.declared.input.InputFault.{InputFault}
 use Rattle.scf_insn.specs.declared.input.InputFault.TheVariants as inputs
@@ -27,36 +28,32 @@ use Rattle.scf_compile.specs.SizeBound.{size_bound_of}
 use Rattle.scf_tool.specs.declared.fault.Fault.{Fault}
 use Rattle.scf_tool.specs.declared.fault.Fault.TheVariants as faults
 use Rattle.scf_compare.specs.declared.relation.Relation.{Relation}
-use Rattle.scf_compare.specs.declared.scope.Scope.{Scope}
-use Rattle.scf_compare.specs.declared.scope.Scope.TheVariants as scopes
 use Rattle.scf_tool.specs.declared.reply.Reply.{Reply}
 use Rattle.scf_tool.specs.declared.reply.Reply.TheVariants.{Accepted, Ran, Decided, Asked, Bytes, Compared}
 use Rattle.scf_tool.specs.declared.request.Request.{Request}
 use Rattle.scf_tool.specs.declared.request.Request.TheVariants as requests
 use Rattle.scf_tool.specs.declared.request.Scopes.{Scopes}
-use Rattle.scf_tool.specs.declared.request.Scopes.TheVariants.{All, Native, EachCall}
+use Rattle.scf_tool.specs.declared.request.Scopes.TheVariants.{AtOnce, EachCall}
 use Rattle.scf_tool.specs.declared.verification.VerifyFault.{VerifyFault}
 use Rattle.scf_tool.specs.declared.verification.VerifyFault.TheVariants as verifies
-use Rattle.scf_tool.specs.declared.status.Status.{Status}
+use Rattle.scf_tool.specs.declared.call_verification.CallsOutcome.{CallsOutcome}
+use Rattle.scf_tool.specs.declared.verification.Outcome.{Outcome}
+use Rattle.scf_tool.specs.declared.status.Status.TheVariants.{Well}
 use Rattle.scf_tool.specs.Bundle.{IsBundle, IsBundleFault}
 use Rattle.scf_tool.specs.CallReports.{calls_text, joint_of}
 use Rattle.scf_tool.specs.Lines.{traced_text}
 use Rattle.scf_tool.specs.FilterStacks.{HasStack, HasNoStack}
 use Rattle.scf_tool.specs.Reports.{report_text}
-use Rattle.scf_tool.specs.Statuses.{joint_status, verdict_status}
+use Rattle.scf_tool.specs.Statuses.{verdict_status}
 use Rattle.scf_tool.specs.Verifying.{IsFilter, IsNoFilter, ReadsFilter, ReadsUnder}
 use Rattle.scf_tool.specs.VerifyingCalls.{AreVerifiedCalls}
 use Rattle.scf_tool.specs.VerifyingStacks.{IsRefusedStack, IsVerifiedBy}
 
 -- ---- standard input
 
--- what a command takes of standard input: 16 MiB
-abbrev pub max_input_len : ℕ
-max_input_len = 16777216
-
--- what the input is read as: its bytes, or why they aren't read
+-- what the input is read as, 16 MiB at most: its bytes, or why they aren't read
 abbrev pub ReadsInput : Option (List ℕ) → Result (List ℕ) InputFault → Type 0
-ReadsInput told result = ReadsUnder max_input_len told result
+ReadsInput told result = ReadsUnder 16777216 told result
 
 -- The input is a bundle whose parts hold these filters, these profiles and these tables.
 abbrev pub HoldsBundle : Option (List ℕ) → List (List ℕ) → List (List ℕ) → List (List ℕ) → Type 0
@@ -151,18 +148,10 @@ CantLoad profile table (verifies.Profile fault) =
     (names : Names) × (table_of table ≡ Ok names) × Refuses profile names fault
 CantLoad profile table fault = ⊥
 
--- The table and the profile are read, and these bytes are an accepted filter that answers every call record as the
--- profile does.
-pub record IsFilterOfProfile (profile table bytes : List ℕ) : Type 0 where
-  pub loaded : Loaded
-  pub stated : IsStated profile table loaded
-  pub insns : List Insn
-  pub is_filter : IsFilter (Some bytes) insns
-  pub same : SameAnswers (RunAnswers insns) loaded.profile
-
--- `compile`: the filter of the profile
+-- `compile`: the bytes of an accepted filter that answers every call record as the profile does
 abbrev pub Compiles : List ℕ → List ℕ → Result Reply Fault → Type 0
-Compiles profile table (Ok (Bytes bytes)) = IsFilterOfProfile profile table bytes.items
+Compiles profile table (Ok (Bytes bytes)) = (loaded : Loaded) × IsStated profile table loaded
+    × (insns : List Insn) × IsFilter (Some bytes.items) insns × SameAnswers (RunAnswers insns) loaded.profile
 Compiles profile table (Err (faults.Verify fault)) = CantLoad profile table fault
 Compiles profile table (Err (faults.Compile fault)) = (loaded : Loaded) × IsStated profile table loaded
     × (fault ≡ compiles.TooLarge → bpf_maxinsns < size_bound_of loaded.profile)
@@ -177,34 +166,18 @@ GivesReason call profile table ending = ⊥
 
 -- ---- a comparison
 
--- The text is the report of an outcome of which this holds, and the status goes with it.
-pub record IsReportOf {O : Type 0} (holds : O → Type 0) (report : O → List ℕ) (status_of : O → Status)
-    (text : List ℕ) (status : Status) : Type 0 where
-  pub outcome : O
-  pub verified : holds outcome
-  pub reported : text ≡ report outcome
-  pub with_verdict : status ≡ status_of outcome
-
--- over the calls of a scope
-abbrev pub IsReportedIn : Scope → Relation → List (List ℕ) → List ℕ → List ℕ → ℕ → List ℕ → Status → Type 0
-IsReportedIn scope relation filters profile table limit =
-    IsReportOf (IsVerifiedBy relation (map Some filters) (Some table) (Some profile) scope limit) (report_text relation)
-    (λ outcome. verdict_status outcome.verdict)
-
--- call by call, with the status of the verdict that speaks for the calls
-abbrev pub IsReported : Scopes → Relation → List (List ℕ) → List ℕ → List ℕ → ℕ → List ℕ → Status → Type 0
-IsReported All relation filters profile table limit = IsReportedIn scopes.All relation filters profile table limit
-IsReported Native relation filters profile table limit = IsReportedIn scopes.Native relation filters profile table limit
-IsReported EachCall relation filters profile table limit =
-    IsReportOf (AreVerifiedCalls relation (map Some filters) (Some table) (Some profile) limit) (calls_text relation)
-    (λ outcome. joint_status (joint_of outcome.calls.items))
-
--- what filters, a profile and a table come to: a report, or why they aren't compared
+-- What filters, a profile and a table come to: why they aren't compared; or the report of an outcome over the calls of
+-- a scope, or call by call, and the status of its verdict, where None is that all calls are the same.
 abbrev pub ComparesParts : Scopes → Relation → ℕ → List (List ℕ) → List ℕ → List ℕ → Result Reply Fault → Type 0
-ComparesParts over relation limit filters profile table (Ok (Compared text status)) =
-    IsReported over relation filters profile table limit text.items status
 ComparesParts over relation limit filters profile table (Err (faults.Verify fault)) =
     NoReadFailed fault × IsRefusedStack (map Some filters) (Some table) (Some profile) fault
+ComparesParts (AtOnce scope) relation limit filters profile table (Ok (Compared text status)) = (outcome : Outcome)
+    × IsVerifiedBy relation (map Some filters) (Some table) (Some profile) scope limit outcome
+    × (text.items ≡ report_text relation outcome) × (status ≡ verdict_status outcome.verdict)
+ComparesParts EachCall relation limit filters profile table (Ok (Compared text status)) = (outcome : CallsOutcome)
+    × AreVerifiedCalls relation (map Some filters) (Some table) (Some profile) limit outcome
+    × (text.items ≡ calls_text relation outcome)
+    × (status ≡ option_map_or verdict_status (joint_of outcome.calls.items) Well)
 ComparesParts over relation limit filters profile table ending = ⊥
 
 -- `compare`: the report of the comparison, where one filter or more, a profile and a table are all that the bundle

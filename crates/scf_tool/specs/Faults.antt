@@ -142,11 +142,7 @@ abbrev pub number_words : List ℕ × ℕ → List ℕ
 number_words number = codes " " ++ number.0 ++ codes " " ++ decimal number.1
 
 -- the status and the line of what is wrong
-abbrev pub printed_kind : List ℕ × Kind → Status × List ℕ
-printed_kind wrong = (
-  wrong.1.0,
-  codes "fault " ++ wrong.0 ++ codes " " ++ wrong.1.1 ++ flat_map number_words wrong.1.2 ++ codes "\n",
-)
-
 abbrev pub printed_fault : Fault → Status × List ℕ
-printed_fault fault = printed_kind (kind_of_fault fault)
+printed_fault fault =
+    let wrong = kind_of_fault fault in
+    (wrong.1.0, codes "fault " ++ wrong.0 ++ codes " " ++ wrong.1.1 ++ flat_map number_words wrong.1.2 ++ codes "\n")

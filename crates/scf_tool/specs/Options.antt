@@ -7,10 +7,11 @@ use Rattle.scf_insn.specs.declared.record.CallRecord.{CallRecord}
 use Rattle.scf_insn.specs.Kernel.{audit_arch_x86_64}
 use Rattle.scf_insn.specs.Numbers.{number_of}
 use Rattle.scf_compare.specs.declared.relation.Relation.{Relation}
-use Rattle.scf_compare.specs.declared.relation.Relation.TheVariants.{NoMore, NoLess}
+use Rattle.scf_compare.specs.declared.relation.Relation.TheVariants.{Same, NoMore, NoLess}
 use Rattle.scf_tool.specs.declared.options.NumberFault.{NumberFault}
 use Rattle.scf_tool.specs.declared.request.Scopes.{Scopes}
-use Rattle.scf_tool.specs.declared.request.Scopes.TheVariants.{Native, EachCall}
+use Rattle.scf_compare.specs.declared.scope.Scope.TheVariants as scopes
+use Rattle.scf_tool.specs.declared.request.Scopes.TheVariants.{AtOnce, EachCall}
 
 -- An option that takes a number: its name, the number that it has without a text, and the greatest that it may have.
 pub record NumberOption : Type 0 where
@@ -52,13 +53,9 @@ numbers_of_record call = call.nr ∷ call.arch ∷ call.ip ∷ call.args
 abbrev pub first_wrong : List NumberOption → List Row → Option (List ℕ)
 first_wrong options rows = option_map (λ o. o.name) (find (λ o. is_none (number_in rows o)) options)
 
--- each option spells its number
-abbrev pub AreSpelled : List NumberOption → List Row → List ℕ → Type 0
-AreSpelled options rows numbers = map Some numbers ≡ map (number_in rows) options
-
 -- What the options of a call record spell: the record of their numbers, or the first that spells none.
 abbrev pub SpellsCall : List Row → Result CallRecord NumberFault → Type 0
-SpellsCall rows (Ok call) = AreSpelled call_options rows (numbers_of_record call)
+SpellsCall rows (Ok call) = map Some (numbers_of_record call) ≡ map (number_in rows) call_options
 SpellsCall rows (Err fault) = first_wrong call_options rows ≡ Some fault.name.now
 
 -- A flag is given where its name has the text `true`.
@@ -77,21 +74,17 @@ one_of without [] = Some without
 one_of without (one ∷ []) = Some one
 one_of without (one ∷ other ∷ more) = None
 
--- what a group of flags comes to: None where more than one of them is given
-abbrev pub choice_in : {A : Type 0} → List Row → List (List ℕ × A) → A → Option A
-choice_in rows group without = one_of without (given_of rows group)
+-- what a group comes to, of what stands without a flag and of its flags: None where more than one of them is given
+abbrev pub choice_in : {A : Type 0} → List Row → A × List (List ℕ × A) → Option A
+choice_in rows group = one_of group.0 (given_of rows group.1)
 
 -- over which calls a comparison goes: all without a flag
-abbrev pub scope_flags : List (List ℕ × Scopes)
-scope_flags = (codes "native", Native) ∷ (codes "calls", EachCall) ∷ []
+abbrev pub scope_flags : Scopes × List (List ℕ × Scopes)
+scope_flags = (AtOnce scopes.All, (codes "native", AtOnce scopes.Native) ∷ (codes "calls", EachCall) ∷ [])
 
 -- by which relation it goes: by the same answers without a flag
-abbrev pub relation_flags : List (List ℕ × Relation)
-relation_flags = (codes "no-more", NoMore) ∷ (codes "no-less", NoLess) ∷ []
+abbrev pub relation_flags : Relation × List (List ℕ × Relation)
+relation_flags = (Same, (codes "no-more", NoMore) ∷ (codes "no-less", NoLess) ∷ [])
 
-abbrev pub flag_names : {A : Type 0} → List (List ℕ × A) → List (List ℕ)
-flag_names group = map (λ flag. flag.0) group
-
--- the flag that has the path of a run shown
-abbrev pub path_flag : List ℕ
-path_flag = codes "path"
+abbrev pub flag_names : {A : Type 0} → A × List (List ℕ × A) → List (List ℕ)
+flag_names group = map (λ flag. flag.0) group.1

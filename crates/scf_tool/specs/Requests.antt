@@ -1,15 +1,11 @@
 -- What the program is asked for by its words.
-use Rattle.std.specs.Prelude.{◌≡◌, ◌⊎◌, ℕ, true, false, List, [], ◌∷◌, ◌++◌, codes, Option, Some, None, Result, Ok, Err}
+use Rattle.std.specs.Prelude.{◌≡◌, ◌⊎◌, ℕ, true, false, List, [], ◌∷◌, ◌++◌, codes, map, Option, Some, None, Result, Ok, Err}
 use Rattle.clap.specs.Words.{Row}
 use Rattle.scf_tool.specs.declared.fault.Fault.{Fault}
 use Rattle.scf_tool.specs.declared.fault.Fault.TheVariants.{Number, NoCommand, Flags}
 use Rattle.scf_tool.specs.declared.request.Request.{Request}
 use Rattle.scf_tool.specs.declared.request.Request.TheVariants as requests
-use Rattle.scf_tool.specs.declared.request.Scopes.{Scopes}
-use Rattle.scf_tool.specs.declared.request.Scopes.TheVariants.{All}
-use Rattle.scf_compare.specs.declared.relation.Relation.{Relation}
-use Rattle.scf_compare.specs.declared.relation.Relation.TheVariants.{Same}
-use Rattle.scf_tool.specs.Options.{NumberOption, AreSpelled, call_options, choice_in, first_wrong, is_given, limit_option, flag_names, numbers_of_record, path_flag, relation_flags, scope_flags}
+use Rattle.scf_tool.specs.Options.{NumberOption, call_options, choice_in, first_wrong, is_given, limit_option, number_in, flag_names, numbers_of_record, relation_flags, scope_flags}
 
 pub data Command : Type 0 where
   Ask Asm Check Compare Compile Decide Dis Run : Command
@@ -23,16 +19,13 @@ words_of_command Compare = (codes "compare", limit_option ∷ [], flag_names sco
 words_of_command Compile = (codes "compile", [], [])
 words_of_command Decide = (codes "decide", call_options, [])
 words_of_command Dis = (codes "dis", [], [])
-words_of_command Run = (codes "run", call_options, path_flag ∷ [])
+words_of_command Run = (codes "run", call_options, codes "path" ∷ [])
 
 abbrev pub command_word : Command → List ℕ
 command_word command = (words_of_command command).0
 
 abbrev pub options_of : Command → List NumberOption
 options_of command = (words_of_command command).1
-
-abbrev pub flags_of : Command → List (List ℕ)
-flags_of command = (words_of_command command).2
 
 -- the command of a request, and the numbers of its options
 abbrev pub asked_by : Request → Command × List ℕ
@@ -46,26 +39,19 @@ asked_by requests.List = (Dis, [])
 asked_by (requests.Run call) = (Run, numbers_of_record call)
 asked_by (requests.Trace call) = (Run, numbers_of_record call)
 
--- what the flags of a comparison come to
-abbrev pub scopes_in : List Row → Option Scopes
-scopes_in rows = choice_in rows scope_flags All
-
-abbrev pub relation_in : List Row → Option Relation
-relation_in rows = choice_in rows relation_flags Same
-
 -- the flags of a request are given, and no other
 abbrev pub HasFlags : List Row → Request → Type 0
 HasFlags rows (requests.Compare limit scopes relation) =
-    (scopes_in rows ≡ Some scopes) × (relation_in rows ≡ Some relation)
-HasFlags rows (requests.Run call) = is_given rows path_flag ≡ false
-HasFlags rows (requests.Trace call) = is_given rows path_flag ≡ true
+    (choice_in rows scope_flags ≡ Some scopes) × (choice_in rows relation_flags ≡ Some relation)
+HasFlags rows (requests.Run call) = is_given rows (codes "path") ≡ false
+HasFlags rows (requests.Trace call) = is_given rows (codes "path") ≡ true
 HasFlags rows request = Unit {0}
 
 -- A word and the values of options spell a request: they name its command, spell its numbers and give its flags.
 pub record IsRequest (asked : Option (List ℕ × List Row)) (request : Request) : Type 0 where
   pub rows : List Row
   pub command : asked ≡ Some (command_word (asked_by request).0, rows)
-  pub numbers : AreSpelled (options_of (asked_by request).0) rows (asked_by request).1
+  pub numbers : map Some (asked_by request).1 ≡ map (number_in rows) (options_of (asked_by request).0)
   pub flags : HasFlags rows request
 
 -- What a command's word and the values of its options ask for, or why they don't: the first option of the command
@@ -75,6 +61,7 @@ AsksFor asked (Ok request) = IsRequest asked request
 AsksFor asked (Err (Number fault)) = (command : Command) × (rows : List Row)
     × (asked ≡ Some (command_word command, rows)) × (first_wrong (options_of command) rows ≡ Some fault.name.now)
 AsksFor asked (Err Flags) = (rows : List Row) × (asked ≡ Some (command_word Compare, rows))
-    × (first_wrong (options_of Compare) rows ≡ None) × ((scopes_in rows ≡ None) ⊎ (relation_in rows ≡ None))
+    × (first_wrong (options_of Compare) rows ≡ None)
+    × ((choice_in rows scope_flags ≡ None) ⊎ (choice_in rows relation_flags ≡ None))
 AsksFor asked (Err NoCommand) = (command : Command) (rows : List Row) → asked ≡ Some (command_word command, rows) → ⊥
 AsksFor asked (Err fault) = ⊥

@@ -15,7 +15,7 @@ use Rattle.scf_tool.specs.declared.status.Status.TheVariants.{Well, CommandLine}
 use Rattle.scf_tool.specs.Commands.{IsTrueReply}
 use Rattle.scf_tool.specs.Options.{NumberOption}
 use Rattle.scf_tool.specs.Replies.{printed}
-use Rattle.scf_tool.specs.Requests.{AsksFor, Command, IsRequest, flags_of, options_of, command_word}
+use Rattle.scf_tool.specs.Requests.{AsksFor, Command, IsRequest, command_word, options_of, words_of_command}
 use Rattle.scf_tool.specs.Requests.Command.{Ask, Asm, Check, Compare, Compile, Decide, Dis, Run}
 use Rattle.scf_tool.specs.Statuses.{LeavesInput, status_code}
 
@@ -35,7 +35,7 @@ shape_with name options = record (new_app name).top { rules = map option_rule op
 abbrev pub shape_for : Command → Shape
 shape_for command =
     record (new_app (command_word command)).top {
-      rules = map option_rule (options_of command) ++ map flag_rule (flags_of command);
+      rules = map option_rule (options_of command) ++ map flag_rule (words_of_command command).2;
     }
 
 -- a command is named, and there is `--version`
@@ -53,13 +53,11 @@ kind_status DisplayHelp = Well
 kind_status DisplayVersion = Well
 kind_status kind = CommandLine
 
--- The words are refused, or ask for help: this is one of the reasons that the command line's reader has.
-abbrev pub IsExplained : List Text → Status → Type 0
-IsExplained words status = (kind : ErrorKind) × IsAmong kind (fault_of scf words) × (status ≡ kind_status kind)
-
--- The words are taken, but ask for nothing that can be done. Want of memory may come in place of anything.
+-- The words are refused, or ask for help, for one of the reasons that the command line's reader has; or they are taken,
+-- but ask for nothing that can be done. Want of memory may come in place of anything.
 abbrev pub SpeaksOfWords : List Text → Result Reply Fault → Type 0
-SpeaksOfWords words (Ok (replies.CommandLine text status)) = IsExplained words status
+SpeaksOfWords words (Ok (replies.CommandLine text status)) =
+    (kind : ErrorKind) × IsAmong kind (fault_of scf words) × (status ≡ kind_status kind)
 SpeaksOfWords words (Ok reply) = ⊥
 SpeaksOfWords words (Err faults.CommandLine) = Unit {0}
 SpeaksOfWords words (Err fault) = (fault_of scf words ≡ []) × AsksFor (subcommand_of scf words) (Err fault)

@@ -1,6 +1,5 @@
 -- Exit statuses: their numbers, and how a run of a command leaves standard input.
 use Rattle.std.specs.Prelude.{◌≡◌, ℕ, List, Option, Result, Err}
-use Rattle.std.specs.Option.{option_map_or}
 use Rattle.scf_compare.specs.declared.verdict.Verdict.{Verdict}
 use Rattle.scf_compare.specs.declared.verdict.Verdict.TheVariants.{Same, Differs}
 use Rattle.scf_insn.specs.declared.input.InputFault.TheVariants as inputs
@@ -24,10 +23,6 @@ abbrev pub verdict_status : Verdict → Status
 verdict_status (Same steps) = Well
 verdict_status (Differs call filter profile) = Refused
 verdict_status verdict = Open
-
--- the exit status that goes with the verdict that speaks for calls: None is that all are the same
-abbrev pub joint_status : Option Verdict → Status
-joint_status joint = option_map_or verdict_status joint Well
 
 -- How a command leaves standard input that is one filter: it came to its end, or the filter isn't read.
 abbrev pub LeavesFilter : {R T : Type 0} → (R → Option (List ℕ)) → (R → ℕ) → R → Result T Fault → R → Type 0

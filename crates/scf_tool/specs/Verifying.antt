@@ -11,7 +11,6 @@ use Rattle.scf_insn.specs.declared.insn.Insn.{Insn}
 use Rattle.scf_insn.specs.Insn.{IsInsn, program_bytes}
 use Rattle.scf_insn.specs.Readings.{IsInput, IsReading}
 use Rattle.scf_insn.specs.Streams.{HasFailed}
-use Rattle.scf_machine.specs.declared.checker.CheckFault.{CheckFault}
 use Rattle.scf_machine.specs.declared.checker.CheckFault.TheVariants as checks
 use Rattle.scf_machine.specs.Checks.{IsFirstFault}
 use Rattle.scf_machine.specs.Machine.{RunAnswers}
@@ -118,17 +117,11 @@ pub record IsVerified (filter table profile : Option (List ℕ)) (limit : ℕ) (
 
 -- ---- a fault
 
--- The bytes are those of instructions that aren't accepted, for this fault first.
-pub record IsRefusedFilter (bytes : Option (List ℕ)) (fault : CheckFault) : Type 0 where
-  pub insns : List Insn
-  pub encoded : IsEncoded bytes insns
-  pub first : IsFirstFault insns fault
-  pub breaks : fault ≢ checks.Memory → IsValidList insns → KeepsScratchRule insns → ⊥
-
--- why a reader has no accepted filter
+-- why a reader has no accepted filter: it isn't read, or its instructions aren't accepted, for this fault first
 abbrev pub IsNoFilter : Option (List ℕ) → VerifyFault → Type 0
 IsNoFilter bytes (FilterRead fault) = ReadsFilter bytes (Err fault)
-IsNoFilter bytes (Check fault) = IsRefusedFilter bytes fault
+IsNoFilter bytes (Check fault) = (insns : List Insn) × IsEncoded bytes insns × IsFirstFault insns fault
+    × (fault ≢ checks.Memory → IsValidList insns → KeepsScratchRule insns → ⊥)
 IsNoFilter bytes fault = ⊥
 
 -- why it has no call table: the bytes spell none, for this fault first. Want of memory may come in place of it.
@@ -151,14 +144,8 @@ IsUnstated table profile fault =
     IsNoTable table fault ⊎ ((names : Names) × IsTable table names × (IsNoProfile names profile fault
     ⊎ ((loaded : Loaded) × IsLoaded profile names loaded × (fault ≡ Memory))))
 
--- and why filters aren't compared with them: these are why there are none, or what is read first is accepted
-abbrev pub IsRefusedBehind : {F : Type 0} → (VerifyFault → Type 0) → (F → Type 0) → Option (List ℕ) → Option (List ℕ)
-    → VerifyFault → Type 0
-IsRefusedBehind {F} none accepted table profile fault =
-    none fault ⊎ ((filters : F) × accepted filters × IsUnstated table profile fault)
-
--- What the comparison of a filter with a profile, from the bytes of their readers, answers.
+-- What the comparison of a filter with a profile, from the bytes of their readers, answers. The filter is read first.
 abbrev pub Verifies : Option (List ℕ) → Option (List ℕ) → Option (List ℕ) → ℕ → Result Outcome VerifyFault → Type 0
 Verifies filter table profile limit (Ok outcome) = IsVerified filter table profile limit outcome
 Verifies filter table profile limit (Err fault) =
-    IsRefusedBehind (IsNoFilter filter) (IsFilter filter) table profile fault
+    IsNoFilter filter fault ⊎ ((insns : List Insn) × IsFilter filter insns × IsUnstated table profile fault)

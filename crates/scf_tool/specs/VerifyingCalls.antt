@@ -7,7 +7,6 @@ use Rattle.scf_profile.specs.NamedCalls.{AreCallsOf}
 use Rattle.scf_profile.specs.References.{texts_at}
 use Rattle.scf_profile.specs.declared.named_call.NamedCall.{NamedCall}
 use Rattle.scf_profile.specs.Profile.{Profile}
-use Rattle.scf_profile.specs.Table.{Names}
 use Rattle.scf_compare.specs.declared.relation.Relation.{Relation}
 use Rattle.scf_compare.specs.declared.scope.Scope.TheVariants.{Call}
 use Rattle.scf_tool.specs.declared.call_verification.CallVerdict.{CallVerdict}
@@ -23,20 +22,14 @@ pub record IsVerdictOnCall (relation : Relation) (stack : List (List Insn)) (p :
   pub names : call.names ≡ texts_at of_table.names.items
   pub compared : IsComparison relation stack p (Call call.number) limit call.verdict
 
--- These are the calls of a table, and each is compared by itself.
-pub record AreComparedCalls (relation : Relation) (stack : List (List Insn)) (names : Names) (p : Profile) (limit : ℕ)
-    (calls : List CallVerdict) : Type 0 where
-  pub of_table : List NamedCall
-  pub are_calls : AreCallsOf names of_table
-  pub compared : AllZip (IsVerdictOnCall relation stack p limit) of_table calls
-
--- The bytes are a stack of filters, a call table and a profile, and the calls are those of that table, compared with
--- that stack and that profile by a relation.
+-- The bytes are a stack of filters, a call table and a profile, and the calls are those of that table, each compared by
+-- itself with that stack and that profile by a relation.
 abbrev pub AreVerifiedCalls : Relation → List (Option (List ℕ)) → Option (List ℕ) → Option (List ℕ) → ℕ → CallsOutcome
     → Type 0
 AreVerifiedCalls relation filters table profile limit outcome =
     AreComparedParties filters table profile outcome.skipped outcome.other_architectures
-    (λ stack names p. AreComparedCalls relation stack names p limit outcome.calls.items)
+    (λ stack names p. (of_table : List NamedCall) × AreCallsOf names of_table
+    × AllZip (IsVerdictOnCall relation stack p limit) of_table outcome.calls.items)
 
 -- What the comparison of a stack with a profile call by call and by a relation, from the bytes of their readers,
 -- answers. The faults are those of the comparison of a stack.

@@ -1,6 +1,6 @@
 -- What is known of a stack of filters, a call table and a profile once they are read and compared. The bytes of each
 -- reader count where the reader tells them.
-use Rattle.std.specs.Prelude.{◌≡◌, ℕ, List, All, Option, Result, Ok, Err}
+use Rattle.std.specs.Prelude.{◌≡◌, ◌⊎◌, ℕ, List, All, Option, Result, Ok, Err}
 use Rattle.scf_insn.specs.declared.insn.Insn.{Insn}
 use Rattle.scf_machine.specs.Plain.{IsPlainProgram}
 use Rattle.scf_machine.specs.Precedence.{StackAnswers}
@@ -18,7 +18,7 @@ use Rattle.scf_tool.specs.declared.verification.Outcome.{Outcome}
 use Rattle.scf_tool.specs.declared.verification.VerifyFault.{VerifyFault}
 use Rattle.scf_tool.specs.declared.verification.VerifyFault.TheVariants.{FilterRead, Check, Stack}
 use Rattle.scf_tool.specs.FilterStacks.{HasStack, HasNoStack, HaveEnded, HaveStopped}
-use Rattle.scf_tool.specs.Verifying.{IsTable, IsLoaded, IsRefusedBehind}
+use Rattle.scf_tool.specs.Verifying.{IsTable, IsLoaded, IsUnstated}
 
 -- A verdict on a relation is true of a stack and a profile over the calls of a scope, and within the limit and the
 -- effort. It decides between plain filters and a plain profile.
@@ -50,9 +50,10 @@ IsVerifiedBy relation filters table profile scope limit outcome =
     AreComparedParties filters table profile outcome.skipped outcome.other_architectures
     (λ stack names p. IsComparison relation stack p scope limit outcome.verdict)
 
--- Why nothing is compared: all that is read and looked at before is accepted, and this is why the next isn't.
+-- Why nothing is compared: the filters are no stack, or they are, and the table and the profile state nothing.
 abbrev pub IsRefusedStack : List (Option (List ℕ)) → Option (List ℕ) → Option (List ℕ) → VerifyFault → Type 0
-IsRefusedStack filters = IsRefusedBehind (HasNoStack filters) (HasStack filters)
+IsRefusedStack filters table profile fault =
+    HasNoStack filters fault ⊎ ((stack : List (List Insn)) × HasStack filters stack × IsUnstated table profile fault)
 
 -- What the comparison of a stack with a profile by a relation, from the bytes of their readers, answers.
 abbrev pub VerifiesBy : Relation → List (Option (List ℕ)) → Option (List ℕ) → Option (List ℕ) → Scope → ℕ

@@ -1,10 +1,11 @@
 //! The comparison of a stack of filters with a profile, call by call, from their bytes.
 
 ghost use Rattle.std.specs.Prelude.{◌≡◌, ℕ, List, Option, IfOk, map};
+ghost use Rattle.std.specs.List.{AllZip};
+ghost use Rattle.scf_profile.specs.NamedCalls.{AreCallsOf};
 ghost use Rattle.scf_profile.specs.References.{texts_at};
 ghost use Rattle.scf_tool.specs.Verifying.{LeavesProfileReader, LeavesTableReader};
 ghost use Rattle.scf_tool.specs.VerifyingCalls.{
-  AreComparedCalls,
   AreVerifiedCalls,
   IsVerdictOnCall,
   VerifiesCallsBy,
@@ -88,7 +89,8 @@ fn compare_calls(
     relation: Relation,
     limit: u64,
 ) -> Result<Vec<CallVerdict>, Memory>
-    ensures { IfOk result (λ calls. AreComparedCalls relation stack.now table.now profile.now limit calls.items) }
+    ensures { IfOk result (λ calls. (of_table : List NamedCall) × AreCallsOf table.now of_table
+        × AllZip (IsVerdictOnCall relation stack.now profile.now limit) of_table calls.items) }
 {
     let calls = table.calls(alloc)?;
     let mut verdicts = Vec::new(alloc);

@@ -8,7 +8,7 @@ ghost use Rattle.scf_tool.specs.internal.Parsing.{flags_in, option_of, options_k
 use crate::fault::Fault;
 use crate::request::Scopes;
 use clap::ArgMatches;
-use scf_compare::Relation;
+use scf_compare::{Relation, Scope};
 use scf_insn::kernel::AUDIT_ARCH_X86_64;
 use scf_insn::{CallRecord, parse_number};
 use thiserror::Error;
@@ -102,7 +102,7 @@ pub(crate) const PATH_FLAG: &str = "path";
 
 /// Over which calls a comparison goes, by its flags.
 pub(crate) const SCOPE_FLAGS: [(&str, Scopes); 2] = [
-    (NATIVE_FLAG, Scopes::Native),
+    (NATIVE_FLAG, Scopes::AtOnce(Scope::Native)),
     (CALLS_FLAG, Scopes::EachCall),
 ];
 
@@ -129,9 +129,9 @@ pub(crate) fn chosen<T: Copy>(
     without: T,
 ) -> Result<T, Fault>
     ensures one { IfOk result (λ choice.
-        table.choice_in (rows_of (found_of matches.now)) (flags_in group.now) without ≡ Some choice) }
+        table.choice_in (rows_of (found_of matches.now)) (without, flags_in group.now) ≡ Some choice) }
     ensures more { IfErr result (λ fault.
-        table.choice_in (rows_of (found_of matches.now)) (flags_in group.now) without ≡ None) }
+        table.choice_in (rows_of (found_of matches.now)) (without, flags_in group.now) ≡ None) }
     ensures flags { IfErr result (λ fault. fault ≡ Fault.Flags) }
 {
     let mut found = None;

@@ -9,16 +9,14 @@ use crate::options::{
     PATH_FLAG, RELATION_FLAGS, SCOPE_FLAGS, chosen, is_given, limit_option, record_of,
 };
 use clap::ArgMatches;
-use scf_compare::Relation;
+use scf_compare::{Relation, Scope};
 use scf_insn::CallRecord;
 
 /// Over which calls a comparison goes.
 #[derive(Clone, Copy)]
 pub(crate) enum Scopes {
-    /// All, at once.
-    All,
-    /// The native ones, at once.
-    Native,
+    /// Those of a scope, at once.
+    AtOnce(Scope),
     /// Those that the table names, each by itself.
     EachCall,
 }
@@ -47,7 +45,7 @@ fn comparison_in(options: &ArgMatches<'_>) -> Result<Request, Fault>
     ensures { AsksFor (Some (codes "compare", rows_of (found_of options.now))) result }
 {
     let limit = limit_option().number_in(options)?;
-    let scopes = chosen(options, &SCOPE_FLAGS, Scopes::All)?;
+    let scopes = chosen(options, &SCOPE_FLAGS, Scopes::AtOnce(Scope::All))?;
     let relation = chosen(options, &RELATION_FLAGS, Relation::Same)?;
     Ok(Request::Compare {
         limit,

@@ -1,8 +1,9 @@
 //! The comparison of a stack of filters with a profile.
 
 ghost use Rattle.std.specs.Prelude.{◌≡◌, map, IfOk, IfErr, Ok, Err};
-ghost use Rattle.scf_tool.specs.Commands.{Compares, ComparesParts, IsReported, IsReportedIn};
-ghost use Rattle.scf_tool.specs.Statuses.{LeavesWhole, joint_status, verdict_status};
+ghost use Rattle.std.specs.Option.{option_map_or};
+ghost use Rattle.scf_tool.specs.Commands.{Compares, ComparesParts};
+ghost use Rattle.scf_tool.specs.Statuses.{LeavesWhole, verdict_status};
 ghost use Rattle.scf_tool.specs.internal.Contents.{rest_of};
 ghost use Rattle.scf_tool.specs.internal.Reporting.{IsReportOn};
 
@@ -35,7 +36,7 @@ fn status_of_verdict(verdict: &Verdict) -> Status
 
 /// The exit status that goes with the verdict that speaks for calls.
 fn status_of_joint(joint: Option<Verdict>) -> Status
-    ensures { result ≡ joint_status joint }
+    ensures { result ≡ option_map_or verdict_status joint Status.Well }
 {
     match joint {
         None => Status::Well,
@@ -51,7 +52,7 @@ fn report_in(
     parties: Parties,
     limit: u64,
 ) -> Result<Reply, Memory>
-    ensures { IfOk result (IsReportOn (IsReportedIn scope relation) limit parties) }
+    ensures { IfOk result (IsReportOn (Scopes.AtOnce scope) relation limit parties) }
 {
     let outcome = compare_parties(alloc, parties, scope, relation, limit)?;
     let status = status_of_verdict(&outcome.verdict);
@@ -66,7 +67,7 @@ fn report_each(
     parties: Parties,
     limit: u64,
 ) -> Result<Reply, Memory>
-    ensures { IfOk result (IsReportOn (IsReported Scopes.EachCall relation) limit parties) }
+    ensures { IfOk result (IsReportOn Scopes.EachCall relation limit parties) }
 {
     let outcome = compare_named_calls(alloc, parties, relation, limit)?;
     let status = status_of_joint(joint_verdict(&outcome.calls));
@@ -82,11 +83,10 @@ fn report_on(
     parties: Parties,
     limit: u64,
 ) -> Result<Reply, Memory>
-    ensures { IfOk result (IsReportOn (IsReported scopes relation) limit parties) }
+    ensures { IfOk result (IsReportOn scopes relation limit parties) }
 {
     match scopes {
-        Scopes::All => report_in(alloc, Scope::All, relation, parties, limit),
-        Scopes::Native => report_in(alloc, Scope::Native, relation, parties, limit),
+        Scopes::AtOnce(scope) => report_in(alloc, scope, relation, parties, limit),
         Scopes::EachCall => report_each(alloc, relation, parties, limit),
     }
 }

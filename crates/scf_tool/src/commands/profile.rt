@@ -1,7 +1,7 @@
 //! Commands on a profile and its call table.
 
-ghost use Rattle.std.specs.Prelude.{IfOk, IfErr, Err};
-ghost use Rattle.scf_tool.specs.Commands.{CantLoad, Compiles, EndsOnProfile, GivesReason, IsFilterOfProfile, IsStated};
+ghost use Rattle.std.specs.Prelude.{IfOk, IfErr, Ok, Err};
+ghost use Rattle.scf_tool.specs.Commands.{CantLoad, Compiles, EndsOnProfile, GivesReason, IsStated};
 ghost use Rattle.scf_tool.specs.Statuses.{LeavesWhole};
 
 use crate::commands::MAX_INPUT;
@@ -28,7 +28,7 @@ fn loaded(alloc: Global, profile: &[u8], table: &[u8]) -> Result<Loaded, VerifyF
 
 /// The bytes of the filter of a profile and a table.
 fn filter_bytes(alloc: Global, profile: &[u8], table: &[u8]) -> Result<Vec<u8>, Fault>
-    ensures filter { IfOk result (λ bytes. IsFilterOfProfile profile.now table.now bytes.items) }
+    ensures filter { IfOk result (λ bytes. Compiles profile.now table.now (Ok (Reply.Bytes bytes))) }
     ensures fault { IfErr result (λ fault. Compiles profile.now table.now (Err fault)) }
 {
     let loaded = loaded(alloc, profile, table)?;

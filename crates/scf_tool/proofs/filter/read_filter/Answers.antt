@@ -8,12 +8,12 @@ encoded None insns h = tt
 encoded (Some told) insns h = h.0
 
 pub returns-clause-refused : goal.returns-clause-refused
-returns-clause-refused g c = record {
-  insns = c.in_ok-insns.insns.items;
-  encoded = (
+returns-clause-refused g c = (
+  c.in_ok-insns.insns.items,
+  (
     encoded (g.R.Source.remaining c.args.input.now) c.in_ok-insns.insns.items c.in_ok-insns.ensures.reading,
     c.in_ok-insns.ensures.widths,
-  );
-  first = c.in-Err.ensures.refused;
-  breaks = c.in-Err.ensures.only_where;
-}
+  ),
+  c.in-Err.ensures.refused,
+  c.in-Err.ensures.only_where,
+)

@@ -1,14 +1,6 @@
-use Rattle.scf_tool.proofs.Common.{ℕ, List, Ok, Some, map, err_from_is_err_and, Relation, Parties, Reply, Compared, Scopes, ComparesParts, IsReported, IsReportOn, AreParties}
+use Rattle.scf_tool.proofs.Common.{err_from_is_err_and}
 use Rattle.scf_tool.proofs.PartyLemmas.{parties_are_read}
 use Rattle.scf_tool.proofs.commands.compare.compare_parts.Goals as goal
-
-reported_parties : (over : Scopes) (relation : Relation) (limit : ℕ) (parties : Parties) (filters : List (List ℕ))
-    (profile table : List ℕ) (reply : Reply) → AreParties (map Some filters) (Some table) (Some profile) parties
-    → IsReportOn (IsReported over relation) limit parties reply
-    → ComparesParts over relation limit filters profile table (Ok reply)
-reported_parties over relation limit parties filters profile table (Compared text status) read h =
-    h filters profile table read
-reported_parties over relation limit parties filters profile table reply read h = absurd h
 
 pub returns-in_err-parties-clause-fault : goal.returns-in_err-parties-clause-fault
 returns-in_err-parties-clause-fault c =
@@ -25,6 +17,4 @@ returns-in_err-report_on-clause-fault c =
     )
 
 pub returns-clause-reply : goal.returns-clause-reply
-returns-clause-reply c =
-    reported_parties c.args.scopes c.args.relation c.args.limit c.in_ok-parties.parties _ _ _
-    c.in_ok-report_on.field-0 c.in_ok-parties.ensures.parties c.in_ok-report_on.ensures
+returns-clause-reply c = c.in_ok-report_on.ensures _ _ _ c.in_ok-parties.ensures.parties

@@ -12,17 +12,17 @@ returns-in_err-program-clause-fault c =
     rw (p.1, p.2) (c.in_ok-loaded.loaded, c.in_ok-loaded.ensures.stated, c.in_err-program.ensures.large)
 
 pub returns-in-Ok-clause-filter : goal.returns-in-Ok-clause-filter
-returns-in-Ok-clause-filter c = record {
-  loaded = c.in_ok-loaded.loaded;
-  stated = c.in_ok-loaded.ensures.stated;
-  insns = c.in_ok-program.program;
-  is_filter = record {
+returns-in-Ok-clause-filter c = (
+  c.in_ok-loaded.loaded,
+  c.in_ok-loaded.ensures.stated,
+  c.in_ok-program.program,
+  record {
     encoded = (rw c.insns.ensures.same at c.in-Ok.ensures, c.insns.ensures.widths);
     valid = c.insns.ensures.valid;
     stored = c.insns.ensures.stored;
-  };
-  same = c.in_ok-program.ensures.same;
-}
+  },
+  c.in_ok-program.ensures.same,
+)
 
 pub returns-clause-fault : goal.returns-clause-fault
 returns-clause-fault c = (c.in_ok-loaded.loaded, c.in_ok-loaded.ensures.stated, λ e. cc)
