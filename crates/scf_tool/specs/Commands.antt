@@ -51,9 +51,13 @@ use Rattle.scf_tool.specs.VerifyingStacks.{IsRefusedStack, IsVerifiedBy}
 
 -- ---- standard input
 
--- what the input is read as, 16 MiB at most: its bytes, or why they aren't read
+-- what a command takes of standard input: 16 MiB
+abbrev pub max_input_len : ℕ
+max_input_len = 16777216
+
+-- what the input is read as: its bytes, or why they aren't read
 abbrev pub ReadsInput : Option (List ℕ) → Result (List ℕ) InputFault → Type 0
-ReadsInput told result = ReadsUnder 16777216 told result
+ReadsInput told result = ReadsUnder max_input_len told result
 
 -- The input is a bundle whose parts hold these filters, these profiles and these tables.
 abbrev pub HoldsBundle : Option (List ℕ) → List (List ℕ) → List (List ℕ) → List (List ℕ) → Type 0

@@ -88,3 +88,7 @@ relation_flags = (Same, (codes "no-more", NoMore) ∷ (codes "no-less", NoLess) 
 
 abbrev pub flag_names : {A : Type 0} → A × List (List ℕ × A) → List (List ℕ)
 flag_names group = map (λ flag. flag.0) group.1
+
+-- the flag that has the path of a run shown
+abbrev pub path_flag : List ℕ
+path_flag = codes "path"

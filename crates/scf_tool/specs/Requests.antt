@@ -5,7 +5,7 @@ use Rattle.scf_tool.specs.declared.fault.Fault.{Fault}
 use Rattle.scf_tool.specs.declared.fault.Fault.TheVariants.{Number, NoCommand, Flags}
 use Rattle.scf_tool.specs.declared.request.Request.{Request}
 use Rattle.scf_tool.specs.declared.request.Request.TheVariants as requests
-use Rattle.scf_tool.specs.Options.{NumberOption, call_options, choice_in, first_wrong, is_given, limit_option, number_in, flag_names, numbers_of_record, relation_flags, scope_flags}
+use Rattle.scf_tool.specs.Options.{NumberOption, call_options, choice_in, first_wrong, is_given, limit_option, number_in, flag_names, numbers_of_record, path_flag, relation_flags, scope_flags}
 
 pub data Command : Type 0 where
   Ask Asm Check Compare Compile Decide Dis Run : Command
@@ -19,7 +19,7 @@ words_of_command Compare = (codes "compare", limit_option ∷ [], flag_names sco
 words_of_command Compile = (codes "compile", [], [])
 words_of_command Decide = (codes "decide", call_options, [])
 words_of_command Dis = (codes "dis", [], [])
-words_of_command Run = (codes "run", call_options, codes "path" ∷ [])
+words_of_command Run = (codes "run", call_options, path_flag ∷ [])
 
 abbrev pub command_word : Command → List ℕ
 command_word command = (words_of_command command).0
@@ -43,8 +43,8 @@ asked_by (requests.Trace call) = (Run, numbers_of_record call)
 abbrev pub HasFlags : List Row → Request → Type 0
 HasFlags rows (requests.Compare limit scopes relation) =
     (choice_in rows scope_flags ≡ Some scopes) × (choice_in rows relation_flags ≡ Some relation)
-HasFlags rows (requests.Run call) = is_given rows (codes "path") ≡ false
-HasFlags rows (requests.Trace call) = is_given rows (codes "path") ≡ true
+HasFlags rows (requests.Run call) = is_given rows path_flag ≡ false
+HasFlags rows (requests.Trace call) = is_given rows path_flag ≡ true
 HasFlags rows request = Unit {0}
 
 -- A word and the values of options spell a request: they name its command, spell its numbers and give its flags.
