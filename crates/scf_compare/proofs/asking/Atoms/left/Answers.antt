@@ -1,0 +1,27 @@
+use Rattle.scf_compare.proofs.Common.{◌≡◌, Bool, true, false, List, ℕ, inl, inr}
+use Rattle.scf_facts.specs.declared.atom.Atom.{Atom}
+use Rattle.scf_facts.specs.declared.atom.Tell.{Tell}
+use Rattle.scf_facts.specs.declared.atom.Tell.TheVariants.{Always, Never, Maybe}
+use Rattle.scf_facts.specs.Atoms.{atom_answer}
+use Rattle.scf_compare.proofs.asking.Atoms.left.Goals as goal
+
+-- what is told wherever it is so is not left open where one of two answers is so
+is_told : (tell : Tell) → tell ≡ Maybe → (is_so : Bool → Type 0) → (is_so true → tell ≡ Always)
+    → (is_so false → tell ≡ Never) → (answer : Bool) → is_so answer → ⊥
+is_told tell open_yet is_so always never true so = let e = always so in cc
+is_told tell open_yet is_so always never false so = let e = never so in cc
+
+pub returns-in-Maybe-tell-clause-untold : goal.returns-in-Maybe-tell-clause-untold
+returns-in-Maybe-tell-clause-untold g c = λ exact some allowed atom answer is same.
+    let facts = c.args.facts.now in
+    let store = g.F.WordFacts in
+    let agree = λ (atom : Atom) (answer : Bool).
+    (words : List ℕ) → store.allows facts (store.level facts) words → atom_answer atom words ≡ answer in
+    elim is [
+      | inl e ↦ is_told c.tell.result c.in-Maybe.is (agree c.in-Both.first)
+          (c.tell.ensures.told_always exact some allowed) (c.tell.ensures.told_never exact some allowed) answer
+          (rw e at same)
+      | inr e ↦ is_told c.tell-in-Maybe.result c.in-Maybe-tell.is (agree c.in-Both.second)
+          (c.tell-in-Maybe.ensures.told_always exact some allowed)
+          (c.tell-in-Maybe.ensures.told_never exact some allowed) answer (rw e at same)
+    ]
