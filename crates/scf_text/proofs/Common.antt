@@ -34,7 +34,7 @@ pub use Rattle.scf_text.specs.Drafts.{Draft, Label, Number, Written, fill_by, ha
 unfoldable pub use Rattle.scf_text.specs.Drafts.{draft_of}
 pub use Rattle.scf_text.specs.Faults.{IsFault, ascii_fault, draft_fault, instruction_fault, label_fault, statement_fault, statements_fault, target_fault, targets_fault}
 unfoldable pub use Rattle.scf_text.specs.Faults.{fault_of}
-pub use Rattle.scf_text.specs.Forms.{field_of, forms, names, raw, tells_all}
+pub use Rattle.scf_text.specs.Forms.{field_of, forms, names, raw, names_all, tells_all}
 unfoldable pub use Rattle.scf_text.specs.Forms.{form_for, known_forms}
 pub use Rattle.scf_text.specs.Listing.{line_of, number_text, operands_text, piece_text, text_of}
 pub use Rattle.scf_text.specs.Spelling.{Says, SaysEach, SaysInsn, Spells}

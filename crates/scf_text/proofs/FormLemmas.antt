@@ -1,5 +1,5 @@
 -- What holds of the forms of all codes holds of the form of an instruction; reading by the forms in turn.
-use Rattle.scf_text.proofs.Common.{◌≡◌, ℕ, Bool, ◌||◌, true, List, [], ◌∷◌, map, Option, refl, ap, ◌∙◌, inl, inr, unwrap_or, AllByRecursion, list_any, find, cases_Bool, Insn, Form, form_view, known_forms, forms, raw, tells_all, form_for, has_mnemonic, read_by}
+use Rattle.scf_text.proofs.Common.{◌≡◌, ℕ, Bool, ◌||◌, ◌&&◌, ◌==◌, true, false, not, eqb, if◌then◌else◌, None, Some, arith, nat_tests, List, [], ◌∷◌, map, Option, option_map, refl, ap, ◌∙◌, inl, inr, unwrap_or, AllByRecursion, list_any, find, cases_Bool, Insn, Form, form_view, known_forms, forms, raw, names_all, tells_all, form_for, has_mnemonic, read_by}
 use Rattle.scf_text.specs.Forms as spec
 
 -- what holds of each form, and of the first one that passes or of another one, if it passes
@@ -22,19 +22,59 @@ pub listed_form : (P : spec.Form → Type 0) (i : Insn) → AllByRecursion P for
 listed_form P i all = listed_one P P i all (λ f holds _. holds) all.0
 
 -- the code finds the form in its own table
-found_view : (p : spec.Form → Bool) (fs : List Form) (f : Form)
-    → form_view (unwrap_or (find (λ g. p (form_view g)) fs) f) ≡ unwrap_or (find p (map form_view fs)) (form_view f)
-found_view p [] f = refl
-found_view p (g ∷ fs) f =
+found_view : (p : spec.Form → Bool) (fs : List Form)
+    → find p (map form_view fs) ≡ option_map form_view (find (λ g. p (form_view g)) fs)
+found_view p [] = refl
+found_view p (g ∷ fs) =
     elim (cases_Bool (p (form_view g))) [
       | inl here ↦ rw here refl
-      | inr later ↦ rw later (found_view p fs f)
+      | inr later ↦ rw later (found_view p fs)
     ]
 
-pub found_form : (i : Insn) (fs : List Form) (f g : Form) → map form_view fs ≡ known_forms → form_view f ≡ raw
-    → g ≡ unwrap_or (find (λ h. tells_all i (form_view h)) fs) f → form_view g ≡ form_for i
-unfolding form_for
-found_form i fs f g known other found = ap form_view found ∙ found_view (tells_all i) fs f ∙ rw (known, other) refl
+-- no two forms have one code
+abbrev are_apart : List spec.Form → Bool
+are_apart [] = true
+are_apart (f ∷ fs) = not (list_any (λ (g : spec.Form). g.code == f.code) fs) && are_apart fs
+
+known_apart : are_apart known_forms ≡ true
+unfolding known_forms
+known_apart = refl
+
+module _ (i : Insn) where
+  abbrev tells : Form → Bool
+  tells f = tells_all i (form_view f)
+
+  -- behind the form of a code none tells an instruction of that code
+  none_behind : (f : Form) (fs : List Form) → eqb f.code i.code ≡ true
+      → list_any (λ (g : spec.Form). g.code == f.code) (map form_view fs) ≡ false → find tells fs ≡ None
+  none_behind f [] here apart = refl
+  none_behind f (g ∷ fs) here apart =
+      let other : eqb g.code i.code ≡ false = grind (arith, nat_tests) in
+      rw other (none_behind f fs here (grind (arith, nat_tests)))
+
+  -- the first form of the code, where it says all
+  abbrev pub kept : Option Form → Option Form
+  kept None = None
+  kept (Some f) = if names_all i (form_view f) then Some f else None
+
+  by_code : (fs : List Form) → are_apart (map form_view fs) ≡ true
+      → find tells fs ≡ kept (find (λ f. f.code == i.code) fs)
+  by_code [] apart = refl
+  by_code (f ∷ fs) apart =
+      elim (cases_Bool (eqb f.code i.code)) [
+        | inl here ↦ elim (cases_Bool (names_all i (form_view f))) [
+          | inl all ↦ rw (here, all) refl
+          | inr not_all ↦ rw (here, not_all) (none_behind f fs here (grind (arith, nat_tests)))
+        ]
+        | inr later ↦ rw later (by_code fs (grind (arith, nat_tests)))
+      ]
+
+  pub listed_by_code : (fs : List Form) (found : Option Form) → map form_view fs ≡ known_forms
+      → found ≡ find (λ h. h.code == i.code) fs → form_for i ≡ unwrap_or (option_map form_view (kept found)) raw
+  unfolding form_for
+  listed_by_code fs found known is =
+      let apart = ap are_apart known ∙ known_apart in
+      rw is (rw (← by_code fs apart, ← found_view (tells_all i) fs, known) refl)
 
 -- ---- reading by the forms in turn
 

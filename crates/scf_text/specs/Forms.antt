@@ -112,11 +112,14 @@ names field (Number f style) = same_field field f
 names field (Target f) = same_field field f
 names field _ = false
 
--- the form has the instruction's code and says all of it: each field that it doesn't name is 0
+-- each field that the form doesn't name is 0
+abbrev pub names_all : Insn → Form → Bool
+names_all i form =
+    list_all (λ field. list_any (names field) form.pieces || field_of i field == 0) (Jt ∷ Jf ∷ K ∷ [])
+
+-- the form has the instruction's code and says all of it
 abbrev pub tells_all : Insn → Form → Bool
-tells_all i form =
-    form.code == i.code
-    && list_all (λ field. list_any (names field) form.pieces || field_of i field == 0) (Jt ∷ Jf ∷ K ∷ [])
+tells_all i form = form.code == i.code && names_all i form
 
 -- the form in which an instruction is listed: that of its code, unless a field that it doesn't name isn't 0
 unfoldable pub form_for : Insn → Form

@@ -1,7 +1,7 @@
 //! The forms of an instruction, for the assembler and the disassembler alike.
-ghost use Rattle.std.specs.Prelude.{◌≡◌, map};
+ghost use Rattle.std.specs.Prelude.{◌≡◌, ◌==◌, map};
 ghost use Rattle.std.specs.List.{find, list_any};
-ghost use Rattle.scf_text.specs.Forms.{forms, known_forms, raw, names, tells_all, form_for};
+ghost use Rattle.scf_text.specs.Forms.{forms, known_forms, raw, names, names_all, form_for};
 ghost use Rattle.scf_text.specs.Drafts.{has_mnemonic};
 ghost use Rattle.scf_text.specs.internal.Mnemonics.{mnemonic_text, pieces_of, form_view};
 
@@ -282,12 +282,11 @@ impl Form {
         word == self.mnemonic.text().as_bytes()
     }
 
-    /// Whether the form has the instruction's code and says all of it: the fields that it doesn't name are 0.
-    fn tells_all(&self, insn: &Insn) -> bool
-        ensures { result ≡ tells_all insn.now (form_view self.now) }
+    /// Whether the form says all of an instruction of its code: the fields that it doesn't name are 0.
+    fn names_all(&self, insn: &Insn) -> bool
+        ensures { result ≡ names_all insn.now (form_view self.now) }
     {
-        self.code == insn.code
-            && (self.shape.names(Field::Jt) || insn.jt == 0)
+        (self.shape.names(Field::Jt) || insn.jt == 0)
             && (self.shape.names(Field::Jf) || insn.jf == 0)
             && (self.shape.names(Field::K) || insn.k == 0)
     }
@@ -296,16 +295,19 @@ impl Form {
     pub(crate) fn of(insn: &Insn) -> Form
         ensures { form_view result ≡ form_for insn.now }
     {
-        first_that_tells(Form::known(), insn).unwrap_or(Form::raw())
+        match first_of_code(Form::known(), insn.code) {
+            Some(form) if form.names_all(insn) => form,
+            _ => Form::raw(),
+        }
     }
 }
 
-/// The first of the forms that has the instruction's code and says all of it.
-fn first_that_tells(forms: &[Form], insn: &Insn) -> Option<Form>
-    ensures { result ≡ find (λ form. tells_all insn.now (form_view form)) forms.now }
+/// The first of the forms with a code.
+fn first_of_code(forms: &[Form], code: u16) -> Option<Form>
+    ensures { result ≡ find (λ form. form.code == code) forms.now }
 {
     for form in forms {
-        if form.tells_all(insn) {
+        if form.code == code {
             return Some(*form);
         }
     }
