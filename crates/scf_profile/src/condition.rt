@@ -2,12 +2,14 @@
 
 ghost use Rattle.std.specs.Prelude.{◌≡◌, ◌<◌, ◌^◌, ◌↔◌, ℕ, IsTrue, All, IfOk, IfSome};
 ghost use Rattle.scf_profile.specs.Condition.{holds};
+ghost use Rattle.scf_profile.specs.NumberTests.{test_of};
 ghost use Rattle.scf_profile.specs.internal.NumberSets.{IsNumberSet, is_in_some};
 ghost use Rattle.scf_insn.specs.SimpleMask.{IsSimpleMask};
 ghost use Rattle.scf_insn.specs.Words.{low, high};
 ghost use Rattle.scf_profile.specs.PlainProfile.{IsPlainCondition};
 
 use crate::number_set::NumberSet;
+use crate::number_test::NumberTest;
 use scf_insn::{high_half, is_simple_mask, low_half};
 use std::alloc::{AllocError, Global};
 use std::marker::Model;
@@ -49,6 +51,32 @@ impl Condition {
         ensures { IsTrue result ↔ IsPlainCondition self.now }
     {
         self.op != Operator::MaskedEqual || self.has_simple_mask()
+    }
+
+    /// The test of its argument that decides it, and what the test comes to where it holds.
+    pub fn test(&self) -> (NumberTest, bool)
+        ensures { result ≡ test_of self.now }
+    {
+        let value = self.value;
+        let equal = NumberTest::Masked {
+            mask: u64::MAX,
+            value,
+        };
+        match self.op {
+            Operator::NotEqual => (equal, false),
+            Operator::Less => (NumberTest::GreaterOrEqual(value), false),
+            Operator::LessOrEqual => (NumberTest::Greater(value), false),
+            Operator::Equal => (equal, true),
+            Operator::GreaterOrEqual => (NumberTest::GreaterOrEqual(value), true),
+            Operator::Greater => (NumberTest::Greater(value), true),
+            Operator::MaskedEqual => {
+                let masked = NumberTest::Masked {
+                    mask: value,
+                    value: self.value_two & value,
+                };
+                (masked, true)
+            }
+        }
     }
 
     /// Whether it holds of an argument.
