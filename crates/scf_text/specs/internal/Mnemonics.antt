@@ -1,7 +1,9 @@
 -- The forms of the code, which has an enum of the words and one of what stands behind them.
 use Prim.Native.Char.{code}
 use Rattle.std.specs.Prelude.{ℕ, List, [], ◌∷◌, ◌++◌, codes}
+use Rattle.scf_insn.specs.declared.operation.Arithmetic.TheVariants as o
 use Rattle.scf_insn.specs.declared.operation.Operand.TheVariants as operands
+use Rattle.scf_insn.specs.declared.operation.Test.TheVariants.{Equal, Greater, GreaterOrEqual, CommonBit}
 use Rattle.scf_text.specs.declared.form.Mnemonic.{Mnemonic}
 use Rattle.scf_text.specs.declared.form.Mnemonic.TheVariants as m
 use Rattle.scf_text.specs.declared.form.Shape.{Shape}
@@ -11,7 +13,7 @@ use Rattle.scf_text.specs.declared.form.Piece.TheVariants.{Mark, Len, Memory, Ac
 use Rattle.scf_text.specs.declared.form.Field.TheVariants.{Jt, Jf, K}
 use Rattle.scf_text.specs.declared.form.Form.{Form}
 use Rattle.scf_text.specs.Forms as forms
-use Rattle.scf_text.specs.Forms.{operand_pieces, place_pieces}
+use Rattle.scf_text.specs.Forms.{arithmetic_word, operand_pieces, place_pieces, test_word}
 
 -- the word that stands first
 abbrev pub mnemonic_text : Mnemonic → List ℕ
@@ -19,21 +21,21 @@ mnemonic_text m.Ld = codes "ld"
 mnemonic_text m.Ldx = codes "ldx"
 mnemonic_text m.St = codes "st"
 mnemonic_text m.Stx = codes "stx"
-mnemonic_text m.Add = codes "add"
-mnemonic_text m.Sub = codes "sub"
-mnemonic_text m.Mul = codes "mul"
-mnemonic_text m.Div = codes "div"
-mnemonic_text m.Or = codes "or"
-mnemonic_text m.And = codes "and"
-mnemonic_text m.Lsh = codes "lsh"
-mnemonic_text m.Rsh = codes "rsh"
-mnemonic_text m.Xor = codes "xor"
+mnemonic_text m.Add = arithmetic_word o.Add
+mnemonic_text m.Sub = arithmetic_word o.Sub
+mnemonic_text m.Mul = arithmetic_word o.Mul
+mnemonic_text m.Div = arithmetic_word o.Div
+mnemonic_text m.Or = arithmetic_word o.Or
+mnemonic_text m.And = arithmetic_word o.And
+mnemonic_text m.Lsh = arithmetic_word o.Lsh
+mnemonic_text m.Rsh = arithmetic_word o.Rsh
+mnemonic_text m.Xor = arithmetic_word o.Xor
 mnemonic_text m.Neg = codes "neg"
 mnemonic_text m.Ja = codes "ja"
-mnemonic_text m.Jeq = codes "jeq"
-mnemonic_text m.Jgt = codes "jgt"
-mnemonic_text m.Jge = codes "jge"
-mnemonic_text m.Jset = codes "jset"
+mnemonic_text m.Jeq = test_word Equal
+mnemonic_text m.Jgt = test_word Greater
+mnemonic_text m.Jge = test_word GreaterOrEqual
+mnemonic_text m.Jset = test_word CommonBit
 mnemonic_text m.Ret = codes "ret"
 mnemonic_text m.Tax = codes "tax"
 mnemonic_text m.Txa = codes "txa"
