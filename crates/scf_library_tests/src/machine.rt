@@ -2,7 +2,7 @@
 
 use crate::fixtures::{insn, push};
 use scf_insn::{Answer, CallRecord, Insn};
-use scf_machine::{CheckFault, FilterStack, Program, PushFault, check, run, with_newest};
+use scf_machine::{CheckFault, FilterStack, Program, PushFault, check, decide, run, with_newest};
 use scf_test_fixtures::filters::{ALLOW_ALL, DIVIDED_BY_0, STORED_BOTH_WAYS, STORED_ONE_WAY};
 use scf_test_fixtures::kernel::ALLOW;
 use scf_text::assemble;
@@ -319,6 +319,8 @@ fn stacks(rt: HostRuntime) {
         assert!(rt; stack.len() == answers.len());
         assert!(rt; stack.is_empty() == answers.is_empty());
         assert!(rt; stack.decide(&CALL) == Answer(wanted));
+        assert!(rt; stack.filters().len() == answers.len());
+        assert!(rt; decide(stack.filters(), &CALL) == Answer(wanted));
         for i in 0..answers.len() {
             let found = stack.get(i).map(|filter| run(filter, &CALL).answer);
             assert!(rt; found == Some(Answer(answers[i])));

@@ -63,6 +63,17 @@ pub fn with_newest(older: Answer, newest: Answer) -> Answer
     }
 }
 
+/// What filters, the oldest first, answer together: each runs, and of their answers the newest of least rank decides.
+pub fn decide(filters: &[Program], call: &CallRecord) -> Answer
+    ensures { StackAnswers filters.now (words_of call.now) result.0 }
+{
+    let mut decision = Answer::new(Action::Allow, 0);
+    for program in filters {
+        decision = with_newest(decision, run(program, call).answer);
+    }
+    decision
+}
+
 impl FilterStack {
     /// A stack of no filters.
     pub fn new(alloc: Global) -> FilterStack
@@ -117,14 +128,18 @@ impl FilterStack {
         }
     }
 
-    /// What the filters answer together: each runs, and of their answers the newest of least rank decides.
+    /// The filters, the oldest first. Each keeps the rules of filters.
+    pub fn filters(&self) -> &[Program]
+        ensures same { result.now ≡ self.now }
+        ensures filters { All IsFilter self.now }
+    {
+        &self.filters
+    }
+
+    /// What the filters answer together, as `decide` says.
     pub fn decide(&self, call: &CallRecord) -> Answer
         ensures { StackAnswers self.now (words_of call.now) result.0 }
     {
-        let mut decision = Answer::new(Action::Allow, 0);
-        for program in &self.filters {
-            decision = with_newest(decision, run(program, call).answer);
-        }
-        decision
+        decide(&self.filters, call)
     }
 }
