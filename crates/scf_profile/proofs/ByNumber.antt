@@ -1,5 +1,5 @@
 -- A stable sort by the numbers of rules keeps the rules of each number, and they stand together.
-use Rattle.scf_profile.proofs.Common.{◌≡◌, ℕ, Bool, true, false, not, ◌&&◌, eqb, ltb, leb, ◌+◌, ◌<◌, ◌≤◌, length, List, [], ◌∷◌, ◌++◌, All, get_or, take, drop, refl, sym, ap, ◌∙◌, cond, arith, append-nil, length-drop, filter, AllByRecursion, ties, IsStableByKey, IsNonDecreasingBy, IsPartitionPoint, is_lt, nat_cmp, get_or-drop, get_or-map, get_or-take, length-map, take-append-drop, recursion_from_All, nat_tests, Rule, rules_of, rules_at}
+use Rattle.scf_profile.proofs.Common.{◌≡◌, ◌≢◌, ℕ, suc, Bool, true, false, not, ◌&&◌, eqb, ltb, leb, ◌+◌, ◌<◌, ◌≤◌, length, List, [], ◌∷◌, ◌++◌, All, get_or, take, drop, refl, sym, ap, ◌∙◌, cond, arith, append-nil, filter-append, length-drop, filter, ties, IsStableByKey, IsNonDecreasingBy, IsPartitionPoint, is_lt, nat_cmp, get_or-drop, get_or-map, get_or-take, length-map, map-append, take-append-drop, nat_tests, Rule, rules_of, rules_at}
 use Rattle.std.proofs.Math.ListN.{length-take}
 use Rattle.std.specs.Borrow.{Bor}
 
@@ -59,18 +59,26 @@ references_rise refs up i j d le lt =
       get_or-map (λ (r : Bor Rule). r.now) refs j d d.now lt,
     ) at ends
 
--- rules of other numbers play no part in front of the rest, and none behind the number's own
-behind_others : (number : ℕ) (others rest : List (Bor Rule))
-    → AllByRecursion (λ r. eqb (number_at r) number ≡ false) others
-    → rules_of number (rules_at (others ++ rest)) ≡ rules_of number (rules_at rest)
-behind_others number [] rest h = refl
-behind_others number (r ∷ rs) rest h = rw h.0 (behind_others number rs rest h.1)
+-- the rules of a number are those in front of a place and those behind it
+pub parts_of : (number count : ℕ) (refs : List (Bor Rule)) → rules_of number (rules_at refs)
+    ≡ rules_of number (rules_at (take count refs)) ++ rules_of number (rules_at (drop count refs))
+parts_of number count refs =
+    ap (λ (l : List (Bor Rule)). rules_of number (rules_at l)) (sym (take-append-drop count refs))
+    ∙ ap (rules_of number) (map-append (λ (r : Bor Rule). r.now) (take count refs) (drop count refs))
+    ∙ filter-append (λ r. eqb r.number number) (rules_at (take count refs)) (rules_at (drop count refs))
 
-before_others : (number : ℕ) (own rest : List (Bor Rule)) → AllByRecursion (λ r. eqb (number_at r) number ≡ true) own
-    → rules_of number (rules_at rest) ≡ [] → rules_of number (rules_at (own ++ rest)) ≡ rules_at own
-before_others number [] rest h none = none
-before_others number (r ∷ rs) rest h none =
-    rw h.0 (ap (λ (l : List Rule). r.now ∷ l) (before_others number rs rest h.1 none))
+-- of rules with other numbers there is none, and of those with the number all
+none_of : (number : ℕ) (refs : List (Bor Rule)) → All (λ r. eqb (number_at r) number ≡ false) refs
+    → rules_of number (rules_at refs) ≡ []
+none_of number [] h = refl
+none_of number (r ∷ rs) h = rw (h 0 r (omega arith)) (none_of number rs (λ k d lt. h (suc k) d (omega arith)))
+
+all_of : (number : ℕ) (refs : List (Bor Rule)) → All (λ r. eqb (number_at r) number ≡ true) refs
+    → rules_of number (rules_at refs) ≡ rules_at refs
+all_of number [] h = refl
+all_of number (r ∷ rs) h =
+    rw (h 0 r (omega arith)) (ap (λ (l : List Rule). r.now ∷ l)
+    (all_of number rs (λ k d lt. h (suc k) d (omega arith))))
 
 -- `rest` are the rules from the first one on whose number isn't lower, and `count` of them have no greater one
 module _ (number : ℕ) (refs rest : List (Bor Rule)) (first count : ℕ) (tail : rest ≡ drop first refs)
@@ -81,14 +89,14 @@ module _ (number : ℕ) (refs rest : List (Bor Rule)) (first count : ℕ) (tail 
   inside : first + length rest ≡ length refs
   inside = rw tail (omega (arith, length-drop first refs))
 
-  none_before : All (λ r. eqb (number_at r) number ≡ false) (take first refs)
-  none_before k d lt =
+  none_before : rules_of number (rules_at (take first refs)) ≡ []
+  none_before = none_of number (take first refs) (λ k d lt.
       let within : k < first = omega (arith, length-take first refs) in
       let low = lower.0 k d (omega arith) within in
-      rw (get_or-take first refs k d within) (grind (arith, nat_tests, low))
+      rw (get_or-take first refs k d within) (grind (arith, nat_tests, low)))
 
-  all_between : All (λ r. eqb (number_at r) number ≡ true) (take count rest)
-  all_between k d lt =
+  between : All (λ r. eqb (number_at r) number ≡ true) (take count rest)
+  between k d lt =
       let len = length-take count rest in
       let within : k < count = omega (arith, len) in
       let low = upper.0 k d (omega arith) within in
@@ -96,19 +104,21 @@ module _ (number : ℕ) (refs rest : List (Bor Rule)) (first count : ℕ) (tail 
       let same = ap (λ (l : List (Bor Rule)). get_or l k d) tail ∙ get_or-drop first refs k d in
       rw (get_or-take count rest k d within) (grind (arith, nat_tests, low, high, ap number_at same))
 
-  none_behind : All (λ r. eqb (number_at r) number ≡ false) (drop count rest)
-  none_behind k d lt =
+  pub none_between : (nr : ℕ) → nr ≢ number → rules_of nr (rules_at (take count rest)) ≡ []
+  none_between nr other = none_of nr (take count rest) (λ k d lt.
+      let same = between k d lt in grind (arith, nat_tests, other))
+
+  pub none_behind : (nr : ℕ) → nr ≤ number → rules_of nr (rules_at (drop count rest)) ≡ []
+  none_behind nr le = none_of nr (drop count rest) (λ k d lt.
       let high = upper.1 (count + k) d (omega arith) (omega (arith, length-drop count rest)) in
-      rw (get_or-drop count rest k d) (grind (arith, nat_tests, high))
+      rw (get_or-drop count rest k d) (grind (arith, nat_tests, high)))
 
   pub own_rules : rules_at (take count rest) ≡ rules_of number (rules_at refs)
-  own_rules =
-      let kept : List (Bor Rule) → List Rule = λ l. rules_of number (rules_at l) in
-      let behind = recursion_from_All (λ r. eqb (number_at r) number ≡ false) (drop count rest) none_behind in
-      let none = ap kept (sym (append-nil (drop count rest))) ∙ behind_others number (drop count rest) [] behind in
-      sym (ap kept (sym (take-append-drop first refs))
-      ∙ behind_others number (take first refs) (drop first refs)
-      (recursion_from_All (λ r. eqb (number_at r) number ≡ false) (take first refs) none_before)
-      ∙ ap kept (sym tail ∙ sym (take-append-drop count rest))
-      ∙ before_others number (take count rest) (drop count rest)
-      (recursion_from_All (λ r. eqb (number_at r) number ≡ true) (take count rest) all_between) none)
+  own_rules = sym (rw (
+    parts_of number first refs,
+    none_before,
+    ← tail,
+    parts_of number count rest,
+    all_of number (take count rest) between,
+    none_behind number (omega arith),
+  ) (append-nil (rules_at (take count rest))))

@@ -27,7 +27,8 @@ numbers_of-push (x ∷ xs) r =
       last_kept x.number r.number (has_number r.number xs),
     ) refl
 
-contains_cons_cases : {A : Type 0} (y : A) (ys : List A) (x : A) → Contains (y ∷ ys) x → (y ≡ x) ⊎ Contains ys x
+-- an element of a list is the first one, or stands behind it
+pub contains_cons_cases : {A : Type 0} (y : A) (ys : List A) (x : A) → Contains (y ∷ ys) x → (y ≡ x) ⊎ Contains ys x
 contains_cons_cases y ys x (zero, lt, e) = inl e
 contains_cons_cases y ys x (suc k, lt, e) = inr (k, omega arith, e)
 

@@ -1,6 +1,7 @@
 -- The rules that entries state: their ranges, and one answer for each entry.
 use Rattle.scf_profile.proofs.Common.{◌≡◌, ℕ, suc, Bool, ◌+◌, ◌<◌, ◌≤◌, ◌^◌, List, [], ◌∷◌, ◌++◌, length, get_or, map, Some, None, All, refl, sym, ap, ◌∙◌, arith, inl, inr, Contains, option_map, cons_option, filter, get, cases_order, recursion_from_All, All-nil, All-cons, All-append, All-head, All-tail, All-contains, All-same, All-weaker, filter-append, filter_map-append, Rule, IsEntry, AreStatedRules, Answer, EntriesConflict, max_rules, IsProfile, HaveNoConflict, Conflicts, IsRule, Names, AreCallNumbers, rules_named, rules_from}
 use Rattle.scf_profile.specs.declared.entry.Entry.{Entry}
+use Rattle.scf_profile.specs.Loading.{IsClash}
 use Rattle.scf_profile.proofs.Answering.{conflicts_both_ways}
 
 -- the rule that an entry at a place states for a number
@@ -33,16 +34,10 @@ all_stated table below place (e ∷ es) h =
     let answers = map (λ (x : Entry). x.answer) es in
     let P = IsStated place (e.answer ∷ answers) in
     All-append P (rules_named table place e e.names) (rules_from table (place + 1) es)
-    (all_named P table place e (λ name number is. (
-      0,
-      record {
-        number = below name number is;
-        answer = here.answer;
-        conditions = here.conditions;
-      },
-      omega arith,
-      refl,
-    )) e.names)
+    (all_named P table place e (λ name number is.
+    let fine : IsRule (rule_for place e number) =
+    record { number = below name number is; answer = here.answer; conditions = here.conditions } in
+    (0, fine, omega arith, refl)) e.names)
     (All-weaker (IsStated (place + 1) answers) P (λ r h. (suc h.0, h.1, omega (arith, h.2), h.3))
     (rules_from table (place + 1) es) (all_stated table below (place + 1) es (All-tail IsEntry e es h)))
 
@@ -81,25 +76,9 @@ stated_rules table es rules below each is few =
 module _ (rules : List Rule) (none : (first second number : ℕ) → EntriesConflict rules first second number → ⊥) where
   not_before : (r s : Rule) → Contains rules r → Contains rules s → r.entry < s.entry → Conflicts r s → ⊥
   not_before r s (i, i_lt, i_is) (j, j_lt, j_is) before conflict =
-      none r.entry s.entry r.number (
-        i,
-        r,
-        i_lt,
-        i_is,
-        (
-          j,
-          s,
-          j_lt,
-          j_is,
-          record {
-            entry = refl;
-            later_entry = refl;
-            order = before;
-            rule_number = refl;
-            conflict = conflict;
-          },
-        ),
-      )
+      let clash : IsClash r s r.entry s.entry r.number =
+      record { entry = refl; later_entry = refl; order = before; rule_number = refl; conflict = conflict } in
+      none r.entry s.entry r.number (i, r, i_lt, i_is, (j, s, j_lt, j_is, clash))
 
 -- rules of which no two entries conflict
 pub have_no_conflict : (rules : List Rule) → AreStatedRules rules

@@ -16,6 +16,7 @@ ghost use Rattle.scf_profile.specs.Steps.{◌>>=◌ as and_then, Gives};
 ghost use Rattle.scf_profile.specs.internal.Results.{result_map};
 
 use crate::condition::{Condition, Conditions, Operator};
+use crate::forms::find_items;
 use crate::json_members::member_of;
 use crate::limits::ARGUMENTS;
 use crate::load_fault::LoadFault;
@@ -147,11 +148,6 @@ pub(crate) fn find_conditions(
         (each (condition_stated entry) [])) }
     ensures range { IfOk result AreConditions }
 {
-    match member_of(object, "args") {
-        None => Ok(Conditions::from_vec(Vec::new(alloc))),
-        Some(found) => {
-            let members = found.as_array().ok_or(LoadFault::Kind { entry })?;
-            Ok(Conditions::from_vec(conditions_of(alloc, entry, members)?))
-        }
-    }
+    let members = find_items(entry, "args", object)?;
+    Ok(Conditions::from_vec(conditions_of(alloc, entry, members)?))
 }

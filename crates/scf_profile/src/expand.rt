@@ -15,7 +15,7 @@ use crate::load_fault::LoadFault;
 use crate::object::is_x86_64;
 use crate::rule::Rule;
 use crate::table::CallTable;
-use crate::texts::Texts;
+use crate::texts::{BorrowedTexts, Texts};
 use std::alloc::{AllocError, Global};
 
 /// What entries and a table state: the rules, and each occurrence of a name that the table lacks.
@@ -109,15 +109,15 @@ pub(crate) fn expand(
 }
 
 /// The architectures beside x86-64.
+#[tactic(auto, using(std::proofs::lemmas::Grind::common_steps, crate::proofs::StatedRules::names_first))]
 pub(crate) fn other_architectures(
     alloc: Global,
-    architectures: &[&str],
+    architectures: &BorrowedTexts,
 ) -> Result<Texts, AllocError>
-    ensures { IfOk result (λ texts.
-        texts ≡ filter (λ name. not (bytes_eq x86_64 name)) (texts_at architectures.now)) }
+    ensures { IfOk result (λ texts. texts ≡ filter (λ name. not (bytes_eq x86_64 name)) architectures.now) }
 {
     let mut others = Texts::new(alloc);
-    for name in architectures {
+    for name in architectures.as_slice() {
         if !is_x86_64(name) {
             others.push(alloc, name)?;
         }

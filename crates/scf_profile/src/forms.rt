@@ -1,11 +1,12 @@
 //! Texts in arrays, and forms that depend on a container engine.
 
 ghost use Rattle.std.specs.Prelude.{◌≡◌, ◌==◌, ok_or, codes};
+ghost use Rattle.serde_json.specs.Data.{no_items};
 ghost use Rattle.serde_json.specs.Events.{items_len};
 ghost use Rattle.serde_json.specs.Find.{as_array, as_str};
 ghost use Rattle.serde_json.specs.View.{view, items_view};
 ghost use Rattle.scf_profile.specs.declared.load_fault.LoadFault.TheVariants.{Memory, Kind, EmptyNames};
-ghost use Rattle.scf_profile.specs.StatedProfile.{required, is_empty as empty_value, no_engine_form};
+ghost use Rattle.scf_profile.specs.StatedProfile.{required, optional, is_empty as empty_value, no_engine_form};
 ghost use Rattle.scf_profile.specs.StatedProfile.{strings_of as strings_stated};
 ghost use Rattle.scf_profile.specs.Steps.{◌>>=◌ as and_then, Gives, refused_if};
 ghost use Rattle.scf_profile.specs.internal.Results.{result_map};
@@ -42,6 +43,22 @@ pub(crate) fn check_no_engine_form(
     match member_of(object, name) {
         Some(found) if !is_empty(found) => Err(LoadFault::EngineForm { entry }),
         _ => Ok(()),
+    }
+}
+
+/// The items of a member of the object that has to be an array, none where it is absent.
+#[tactic(auto, using(crate::proofs::Loops::items_left))]
+pub(crate) fn find_items<'v>(
+    entry: Option<u32>,
+    name: &str,
+    object: &'v Value,
+) -> Result<&'v [Value], LoadFault>
+    ensures { result_map (λ items. items_view items.now) result
+        ≡ optional no_items entry name.now as_array (view object.now) }
+{
+    match member_of(object, name) {
+        None => Ok(&[]),
+        Some(found) => Ok(found.as_array().ok_or(LoadFault::Kind { entry })?),
     }
 }
 

@@ -17,7 +17,7 @@ ghost use Rattle.scf_profile.specs.Steps.{◌>>=◌ as and_then, refused_if, Giv
 ghost use Rattle.scf_profile.specs.internal.Results.{result_map};
 
 use crate::entry::Entry;
-use crate::forms::strings_of;
+use crate::forms::{find_items, strings_of};
 use crate::json_members::member_of;
 use crate::load_fault::LoadFault;
 use crate::texts::BorrowedTexts;
@@ -68,11 +68,12 @@ fn has_x86_64(names: &[&str]) -> bool
 }
 
 /// Refuses architectures without x86-64, unless there are none.
-pub(crate) fn check_architectures(names: &[&str]) -> Result<(), LoadFault>
+pub(crate) fn check_architectures(architectures: &BorrowedTexts) -> Result<(), LoadFault>
     ensures { result ≡ refused_if
-        (nat_lt 0 (length (texts_at names.now)) && not (list_any (bytes_eq x86_64) (texts_at names.now)))
+        (nat_lt 0 (length architectures.now) && not (list_any (bytes_eq x86_64) architectures.now))
         (faults.NoX8664 None) }
 {
+    let names = architectures.as_slice();
     if names.len() > 0 && !has_x86_64(names) {
         return Err(LoadFault::NoX8664 { entry: None });
     }
@@ -88,13 +89,7 @@ pub(crate) fn find_architectures(
     ensures { Gives faults.Memory result
         (and_then (optional no_items None (codes "architectures") as_array (view object.now)) (strings_stated None)) }
 {
-    match member_of(object, "architectures") {
-        None => Ok(BorrowedTexts::new(alloc)),
-        Some(found) => {
-            let items = found.as_array().ok_or(LoadFault::Kind { entry: None })?;
-            strings_of(alloc, None, items)
-        }
-    }
+    strings_of(alloc, None, find_items(None, "architectures", object)?)
 }
 
 /// What the entries of an array state, each with its place.
@@ -126,11 +121,5 @@ pub(crate) fn find_entries(alloc: Global, object: &Value) -> Result<Vec<Entry<'_
     ensures range { IfOk result (λ v. All IsEntry v.items) }
     ensures count { IfOk result (λ v. vec_len v ≤ 2 ^ 32) }
 {
-    match member_of(object, "syscalls") {
-        None => Ok(Vec::new(alloc)),
-        Some(found) => {
-            let items = found.as_array().ok_or(LoadFault::Kind { entry: None })?;
-            entries_of(alloc, items)
-        }
-    }
+    entries_of(alloc, find_items(None, "syscalls", object)?)
 }

@@ -63,12 +63,11 @@ fn read_root(alloc: Global, table: &CallTable, root: &Value) -> Result<Stated, L
     let object = find_seccomp(root)?;
     let default_answer = find_answer(None, "defaultAction", "defaultErrnoRet", object)?;
     let architectures = find_architectures(alloc, object)?;
-    let names = architectures.as_slice();
-    check_architectures(names)?;
+    check_architectures(&architectures)?;
     check_no_engine_form(None, "archMap", object)?;
     let entries = find_entries(alloc, object)?;
     let Expanded { rules, skipped } = expand(alloc, table, &entries)?;
-    let other_architectures = other_architectures(alloc, names)?;
+    let other_architectures = other_architectures(alloc, &architectures)?;
     table.within_range();
     Ok(Stated {
         default_answer,

@@ -1,14 +1,22 @@
-use Rattle.scf_profile.proofs.Common.{◌≡◌, arith, ap, sym, ◌∙◌, length, ltb, true, false, refl, lt-ltb, le-ltb, err_from_is_err_and, max_rules, profile_of, rules_from, skipped_names}
+use Rattle.scf_profile.proofs.Common.{◌≡◌, ◌≢◌, Result, Err, LoadFault, Loaded, loaded_of, arith, ap, sym, ◌∙◌, length, ltb, true, false, refl, lt-ltb, le-ltb, err_from_is_err_and, max_rules, profile_of, rules_from, skipped_names}
+use Rattle.std.specs.Result.{IsErrAnd}
+use Rattle.scf_profile.specs.declared.load_fault.LoadFault.TheVariants.{Memory}
+use Rattle.scf_profile.specs.declared.profile_text.Stated.{Stated}
+use Rattle.scf_profile.specs.Steps.{Gives}
+use Rattle.scf_profile.specs.internal.Results.{result_map}
 use Rattle.scf_profile.proofs.StatedRules.{stated_rules}
 use Rattle.scf_profile.proofs.profile_text.read_root.Goals as goal
+
+-- a fault that is handed on is what the root states, but for want of memory
+handed_on : (result : Result Stated LoadFault) (fault : LoadFault) (stated : Result Loaded LoadFault)
+    → IsErrAnd result (λ e. e ≡ fault) → (fault ≢ Memory → stated ≡ Err fault)
+    → Gives Memory (result_map loaded_of result) stated
+handed_on result fault stated is fails = let p = err_from_is_err_and result is in rw (p.1, p.2) fails
 
 pub returns-in_err-architectures-clause-value : goal.returns-in_err-architectures-clause-value
 unfolding profile_of
 returns-in_err-architectures-clause-value c =
-    let p =
-    err_from_is_err_and c.from_residual-in_err-architectures.result
-    c.from_residual-in_err-architectures.ensures.1 in
-    rw (p.1, p.2) (λ not_memory. rw (
+    handed_on _ _ _ c.from_residual-in_err-architectures.ensures.1 (λ not_memory. rw (
       ← c.in_ok-object.ensures,
       ← c.in_ok-default_answer.ensures.value,
       c.in_err-architectures.ensures not_memory,
@@ -17,39 +25,32 @@ returns-in_err-architectures-clause-value c =
 pub returns-in_err-check_architectures-clause-value : goal.returns-in_err-check_architectures-clause-value
 unfolding profile_of
 returns-in_err-check_architectures-clause-value c =
-    let p =
-    err_from_is_err_and c.from_residual-in_err-check_architectures.result
-    c.from_residual-in_err-check_architectures.ensures.1 in
-    rw (p.1, p.2) (λ _. rw (
+    handed_on _ _ _ c.from_residual-in_err-check_architectures.ensures.1 (λ _. rw (
       ← c.in_ok-object.ensures,
       ← c.in_ok-default_answer.ensures.value,
       c.in_ok-architectures.ensures,
-      ← rw c.as_slice-names.ensures at c.in_err-check_architectures.ensures,
+      ← c.in_err-check_architectures.ensures,
     ) refl)
 
 pub returns-in_err-check_no_engine_form-clause-value : goal.returns-in_err-check_no_engine_form-clause-value
 unfolding profile_of
 returns-in_err-check_no_engine_form-clause-value c =
-    let p =
-    err_from_is_err_and c.from_residual-in_err-check_no_engine_form.result
-    c.from_residual-in_err-check_no_engine_form.ensures.1 in
-    rw (p.1, p.2) (λ _. rw (
+    handed_on _ _ _ c.from_residual-in_err-check_no_engine_form.ensures.1 (λ _. rw (
       ← c.in_ok-object.ensures,
       ← c.in_ok-default_answer.ensures.value,
       c.in_ok-architectures.ensures,
-      ← rw c.as_slice-names.ensures at c.in_ok-check_architectures.ensures,
+      ← c.in_ok-check_architectures.ensures,
       ← c.in_err-check_no_engine_form.ensures,
     ) refl)
 
 pub returns-in_err-entries-clause-value : goal.returns-in_err-entries-clause-value
 unfolding profile_of
 returns-in_err-entries-clause-value c =
-    let p = err_from_is_err_and c.from_residual-in_err-entries.result c.from_residual-in_err-entries.ensures.1 in
-    rw (p.1, p.2) (λ not_memory. rw (
+    handed_on _ _ _ c.from_residual-in_err-entries.ensures.1 (λ not_memory. rw (
       ← c.in_ok-object.ensures,
       ← c.in_ok-default_answer.ensures.value,
       c.in_ok-architectures.ensures,
-      ← rw c.as_slice-names.ensures at c.in_ok-check_architectures.ensures,
+      ← c.in_ok-check_architectures.ensures,
       ← c.in_ok-check_no_engine_form.ensures,
       c.in_err-entries.ensures.value not_memory,
     ) refl)
@@ -57,8 +58,7 @@ returns-in_err-entries-clause-value c =
 pub returns-in_err-rules-clause-value : goal.returns-in_err-rules-clause-value
 unfolding profile_of
 returns-in_err-rules-clause-value c =
-    let p = err_from_is_err_and c.from_residual-in_err-rules.result c.from_residual-in_err-rules.ensures.1 in
-    rw (p.1, p.2) (λ not_memory.
+    handed_on _ _ _ c.from_residual-in_err-rules.ensures.1 (λ not_memory.
     let told = c.in_err-rules.ensures.err not_memory in
     let rules = rules_from c.args.table.now 0 c.in_ok-entries.entries.items in
     let many : ltb max_rules (length rules) ≡ true = rw (← c.deref.ensures.value) (lt-ltb _ _ told.1) in
@@ -66,7 +66,7 @@ returns-in_err-rules-clause-value c =
       ← c.in_ok-object.ensures,
       ← c.in_ok-default_answer.ensures.value,
       c.in_ok-architectures.ensures,
-      ← rw c.as_slice-names.ensures at c.in_ok-check_architectures.ensures,
+      ← c.in_ok-check_architectures.ensures,
       ← c.in_ok-check_no_engine_form.ensures,
       c.in_ok-entries.ensures.value,
       many,
@@ -84,18 +84,17 @@ returns-clause-value c =
     le-ltb max_rules _ (omega (arith, c.in_ok-rules.ensures.few, c.in_ok-rules.field-0.rules.ok.0)) in
     let skipped : skipped_names c.args.table.now entries ≡ c.in_ok-rules.field-0.skipped =
     sym (c.in_ok-rules.ensures.skipped ∙ ap (skipped_names c.args.table.now) c.deref.ensures.value) in
-    let others = rw c.as_slice-names.ensures at c.in_ok-other_architectures.ensures in
     rw (
       ← c.in_ok-object.ensures,
       ← c.in_ok-default_answer.ensures.value,
       c.in_ok-architectures.ensures,
-      ← rw c.as_slice-names.ensures at c.in_ok-check_architectures.ensures,
+      ← c.in_ok-check_architectures.ensures,
       ← c.in_ok-check_no_engine_form.ensures,
       c.in_ok-entries.ensures.value,
       is,
       few,
       skipped,
-      ← others,
+      ← c.in_ok-other_architectures.ensures,
     ) refl
 
 pub returns-clause-range : goal.returns-clause-range
