@@ -1,5 +1,5 @@
 -- The names that proofs of this crate cite, passed on from one place. Declares nothing.
-pub use Rattle.std.proofs.Common.{All, Bool, Bor, Contains, IsTrue, List, Some, [], ap, append_assoc, arith, rules as auto_rules, bit_and, cond, drop, eqb, false, get_or, inl, inr, leb, length, length-append, ltb, map, not, refl, rules, slice_index, subst, suc, sum_by, sym, take, true, zero, ℕ, ◌%◌, ◌*◌, ◌++◌, ◌+◌, ◌-◌, ◌/◌, ◌<◌, ◌^◌, ◌∙◌, ◌∷◌, ◌≡◌, ◌≢◌, ◌≤◌, ◌⊎◌}
+pub use Rattle.std.proofs.Common.{All, Bool, Bor, Contains, IsTrue, List, Some, [], ap, append_assoc, arith, rules as auto_rules, bit_and, cond, drop, eqb, false, get_or, inl, inr, leb, length, length-append, ltb, map, not, refl, rules, slice_get, slice_index, subst, suc, sum_by, sym, take, true, zero, ℕ, ◌%◌, ◌*◌, ◌++◌, ◌+◌, ◌-◌, ◌/◌, ◌<◌, ◌^◌, ◌∙◌, ◌∷◌, ◌≡◌, ◌≢◌, ◌≤◌, ◌⊎◌}
 pub use Rattle.std.proofs.Math.ListN.{length-take}
 pub use Rattle.std.proofs.Math.Seq.{drop-append-add, drop-drop}
 pub use Rattle.std.proofs.lemmas.Bool.{and_left, and_right}
@@ -11,7 +11,7 @@ pub use Rattle.std.proofs.lemmas.List.Sums.{sum_by-append, sum_by-cons, sum_by-l
 pub use Rattle.std.proofs.lemmas.Map.Steps.{length-le_from_distinct_below}
 pub use Rattle.std.proofs.lemmas.Nat.{and_mask}
 pub use Rattle.std.proofs.lemmas.Nat.Bits.{and_pow, bit_at-lt}
-pub use Rattle.std.proofs.lemmas.Option.{same_Some}
+pub use Rattle.std.proofs.lemmas.Option.{same_Some, slice_get-get_or}
 pub use Rattle.std.specs.Int.Bits.{and_zero_r}
 pub use Rattle.std.specs.List.{IsDistinct}
 pub use lib.Pointwise.{pointwise, pointwise_decides}

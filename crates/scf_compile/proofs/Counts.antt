@@ -1,31 +1,23 @@
 -- The distinct numbers of a profile's rules: how many there are, and the bounds that their search keeps.
-use Rattle.scf_compile.proofs.Common.{◌≡◌, ℕ, zero, suc, ◌+◌, ◌*◌, ◌/◌, ◌^◌, ◌<◌, ◌≤◌, Bool, not, eqb, List, [], ◌∷◌, length, get_or, map, All, refl, ap, subst, arith, inl, inr, sum_by, Contains, cases_eq, eq-eqb, ne_eqb, length-filter_both, All-contains, All-from_recursion, All-permutation, sum_by-IsPermutation, sum_by-le, x32_syscall_bit, Rule, IsByNumber, IsPlainRule, Profile, IsProfile, IsRule, numbers_of, rules_of, Answer, Stretch, digits_within, binary_digits, greatest, rule_bound, AllRules, AreServed, AreStretchesOf}
+use Rattle.scf_compile.proofs.Common.{◌≡◌, ℕ, zero, suc, ◌/◌, ◌^◌, ◌<◌, ◌≤◌, Bool, not, eqb, List, [], ◌∷◌, length, get_or, map, All, refl, ap, subst, arith, inl, inr, sum_by, Contains, cases_eq, eq-eqb, ne_eqb, length-filter_both, All-contains, All-from_recursion, All-permutation, sum_by-IsPermutation, sum_by-le, x32_syscall_bit, Rule, IsByNumber, IsPlainRule, Profile, IsProfile, IsRule, numbers_of, rules_of, Answer, Stretch, digits_within, binary_digits, greatest, rule_bound, AllRules, AreServed, AreStretchesOf}
 use Rattle.scf_compile.proofs.Filters.{Serve}
 use Rattle.scf_compile.proofs.Sizes.{few_conditions, number_there}
 
 -- ---- binary digits
-
-doubled : (half digits n : ℕ) → half < 2 ^ digits → n ≤ 2 * half + 1 → n < 2 ^ suc digits
-doubled half digits n lt le = omega arith
 
 digits_reach : (most n : ℕ) → n ≤ most → n < 2 ^ digits_within most n
 digits_reach zero n le = omega arith
 digits_reach (suc most) n le =
     elim (cases_eq n 0) [
       | inl none ↦ rw (eq-eqb n 0 none) (omega arith)
-      | inr some ↦ rw (ne_eqb n 0 some)
-          (doubled (n / 2) (digits_within most (n / 2)) n (digits_reach most (n / 2) (omega arith)) (omega arith))
+      | inr some ↦
+          let half = digits_reach most (n / 2) (omega arith) in
+          let whole : n < 2 ^ suc (digits_within most (n / 2)) = omega arith in rw (ne_eqb n 0 some) whole
     ]
-
-doubled_more : (count digits n : ℕ) → count < 2 ^ digits → n ≤ 1 + 2 * count → n ≤ 2 ^ suc digits
-doubled_more count digits n lt le = omega arith
 
 pub below_digits : (n : ℕ) → n < 2 ^ binary_digits n
 unfolding binary_digits
 below_digits n = digits_reach n n (omega arith)
-
-rule_bound_at_most : (rs : List Rule) → All IsRule rs → All (λ r. rule_bound r ≤ 50) rs
-rule_bound_at_most rs all k d lt = omega (arith, few_conditions (get_or rs k d).conditions (all k d lt).conditions)
 
 -- ---- the sums of one number's rules
 
@@ -83,8 +75,13 @@ module _ (p : Profile) (valid : IsProfile p) (sorted : List Rule) (ss : List Str
         serve = subst (λ (wanted : ℕ → List Rule). AreServed p.default_answer wanted 0 ss x32_syscall_bit)
             (λ i nr. by_number.kept nr i) laid.serve;
         small = omega arith;
-        below = omega (arith, few_rules p.rules, sum_by-le rule_bound 50 p.rules (rule_bound_at_most p.rules each));
+        below = omega (
+          arith,
+          few_rules p.rules,
+          sum_by-le rule_bound 50 p.rules
+              (λ k d lt. omega (arith, few_conditions (get_or p.rules k d).conditions (each k d lt).conditions)),
+        );
         halvings = suc (binary_digits count);
-        few = doubled_more count (binary_digits count) (length ss) (below_digits count) (omega arith);
+        few = omega (arith, below_digits count);
         quick = λ nr. omega (arith, sum_at_most p.rules nr);
       }

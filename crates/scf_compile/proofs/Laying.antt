@@ -1,5 +1,8 @@
 -- Stretches are put one behind another until each number has its rules.
-use Rattle.scf_compile.proofs.Common.{◌≡◌, ℕ, zero, suc, get_or, take, ◌+◌, ◌-◌, ◌*◌, ◌<◌, ◌≤◌, cond, ltb, Bor, All, List, [], ◌∷◌, ◌++◌, length, refl, sym, ap, ◌∙◌, subst, arith, inl, inr, eqb, length-append, sum_by, Contains, AllByRecursion, IsNonDecreasingBy, cases_lt, ne_eqb, nat_tests, length-map, map-append, take_all, take_more, All-contains_itself, All-filter, All-push, recursion_from_All, sum_by-cons, sum_by-append, Answer, x32_syscall_bit, Rule, rules_at, rules_of, IsRule, NumberRules, Stretch, rule_bound, IsCut, StandsFor, AreTelling, rules_bound, stretch_bound, AllRules, IsServed, AreServed, IsLaid, begins, goes_on, AreAmong, AreStretchesOf}
+use Rattle.scf_profile.proofs.Numbers.{contains_cons_cases}
+use Rattle.std.proofs.lemmas.List.Sums.{count_by-le-length, sum_by-le-sum_by}
+use Rattle.std.specs.List.{count_by}
+use Rattle.scf_compile.proofs.Common.{◌≡◌, ℕ, get_or, take, ◌+◌, ◌-◌, ◌*◌, ◌<◌, ◌≤◌, cond, ltb, Bor, All, List, [], ◌∷◌, ◌++◌, length, refl, sym, ap, ◌∙◌, subst, arith, inl, inr, eqb, length-append, sum_by, Contains, AllByRecursion, IsNonDecreasingBy, cases_lt, ne_eqb, nat_tests, length-map, map-append, take_all, take_more, All-contains_itself, All-filter, All-push, recursion_from_All, sum_by-cons, sum_by-append, Answer, x32_syscall_bit, Rule, rules_at, rules_of, IsRule, NumberRules, Stretch, rule_bound, IsCut, StandsFor, AreTelling, rules_bound, stretch_bound, AllRules, IsServed, AreServed, IsLaid, begins, goes_on, AreAmong, AreStretchesOf}
 
 -- ---- one stretch more
 
@@ -73,26 +76,20 @@ goes_on_last before first last rules some is alike =
 
 -- how many of some numbers are below a bound
 abbrev pub passed : ℕ → List ℕ → ℕ
-passed next [] = 0
-passed next (n ∷ ns) = cond (ltb n next) 1 0 + passed next ns
-
-passed_at_most : (ns : List ℕ) (next : ℕ) → passed next ns ≤ length ns
-passed_at_most [] next = omega arith
-passed_at_most (n ∷ ns) next = grind (arith, nat_tests, passed_at_most ns next)
+passed next numbers = count_by (λ n. ltb n next) numbers
 
 passed_rises : (ns : List ℕ) (next limit : ℕ) → next ≤ limit → passed next ns ≤ passed limit ns
-passed_rises [] next limit le = omega arith
-passed_rises (n ∷ ns) next limit le = grind (arith, nat_tests, passed_rises ns next limit le)
+passed_rises ns next limit le =
+    sum_by-le-sum_by (λ n. cond (ltb n next) 1 0) (λ n. cond (ltb n limit) 1 0) ns (λ n. grind (arith, nat_tests))
 
 passed_more : (ns : List ℕ) (next n : ℕ) → Contains ns n → next ≤ n → passed next ns + 1 ≤ passed (n + 1) ns
 passed_more [] next n h le = absurd (let lt : h.0 < 0 = h.1 in omega arith)
-passed_more (m ∷ ns) next n (zero, lt, e) le =
-    let rest = passed_rises ns next (n + 1) (omega arith) in
-    let same : m ≡ n = e in
-    grind (arith, nat_tests, rest, same)
-passed_more (m ∷ ns) next n (suc k, lt, e) le =
-    let rest = passed_more ns next n (k, omega arith, e) le in
-    grind (arith, nat_tests, rest)
+passed_more (m ∷ ns) next n h le =
+    rw (sum_by-cons (λ n. cond (ltb n next) 1 0) m ns, sum_by-cons (λ k. cond (ltb k (n + 1)) 1 0) m ns)
+    (elim (contains_cons_cases m ns n h) [
+      | inl same ↦ let rest = passed_rises ns next (n + 1) (omega arith) in grind (arith, nat_tests)
+      | inr later ↦ let rest = passed_more ns next n later le in grind (arith, nat_tests)
+    ])
 
 telling_bound : (default : Answer) (telling own : List (Bor Rule)) → 0 < length own → AreTelling default telling own
     → rules_bound (rules_at telling) ≤ 1 + sum_by rule_bound (rules_at own)
@@ -224,6 +221,6 @@ laid_all more laid one = record {
   own = laid.own;
   few = λ numbers among.
       let few = laid.few numbers among in
-      let most = passed_at_most numbers x32_syscall_bit in
+      let most = count_by-le-length (λ n. ltb n x32_syscall_bit) numbers in
       (omega arith, omega arith);
 }

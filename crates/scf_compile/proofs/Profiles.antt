@@ -1,6 +1,6 @@
 -- The first rule that a call meets gives the profile's answer.
 use Rattle.scf_compile.proofs.Common.{◌≡◌, ℕ, ◌<◌, false, List, [], ◌∷◌, refl, sym, subst, arith, inl, inr, cases_Bool, cases_eq, and_left, and_right, and_from, eq-eqb, ne_eqb, Contains-append_right, Answer, CallRecord, Rule, meets, all_hold, Profile, IsNative, ProfileAnswers, foreign, by_rule, by_default, rules_of, first_answer}
-use Rattle.scf_compile.proofs.Lists.{cases_of}
+use Rattle.scf_profile.proofs.Numbers.{contains_cons_cases}
 
 module _ (default : Answer) (call : CallRecord) where
   abbrev with_rules : List Rule → Profile
@@ -10,7 +10,7 @@ module _ (default : Answer) (call : CallRecord) where
       → ProfileAnswers (with_rules (x ∷ xs)) call n
   passed x xs n unmet (foreign other) = foreign other
   passed x xs n unmet (by_rule r native among met) = by_rule r native (Contains-append_right (x ∷ []) xs r among) met
-  passed x xs n unmet (by_default native none) = by_default native (λ r among. elim (cases_of x xs r among) [
+  passed x xs n unmet (by_default native none) = by_default native (λ r among. elim (contains_cons_cases x xs r among) [
     | inl e ↦ subst (λ (s : Rule). meets s call ≡ false) e unmet
     | inr rest ↦ none r rest
   ])

@@ -1,5 +1,5 @@
 -- The code of a filter keeps the rules of the checker, and answers within its bounds.
-use Rattle.scf_compile.proofs.Common.{◌≡◌, ℕ, zero, suc, ◌+◌, ◌-◌, ◌<◌, ◌≤◌, true, false, List, [], ◌∷◌, length, refl, sym, ap, ◌∙◌, arith, AllByRecursion, All-from_recursion, same_Some, Insn, Operation, LoadScratch, operation_of, bpf_maxinsns, RunAnswers, IsPlainInsn, IsPlainProgram, Stands, IsFine, IsFineAt, IsReturn, IsValidList, KeepsScratchRule, run_once, words_of, Profile, IsPlainProfile, SameAnswers, AnswersWithin, search_bound_of, IsFilterOf, Keeps, AreSound}
+use Rattle.scf_compile.proofs.Common.{◌≡◌, ℕ, zero, suc, ◌+◌, ◌-◌, ◌<◌, ◌≤◌, true, false, Bool, Some, List, [], ◌∷◌, length, refl, sym, ◌∙◌, arith, get_or, same_Some, slice_get, slice_get-get_or, Insn, Operation, return_with, LoadScratch, bpf_maxinsns, RunAnswers, IsPlainProgram, Stands, IsFine, IsFineAt, IsReturn, IsValidList, KeepsScratchRule, run_once, words_of, Profile, IsPlainProfile, SameAnswers, AnswersWithin, search_bound_of, IsFilterOf, Keeps, IsSound, AreSound}
 
 -- ---- the rules of the checker
 
@@ -7,34 +7,30 @@ fine_of : (operation : Operation) (i : Insn) (len place behind : ℕ) → place 
     → Keeps operation i behind → IsFine len place i operation
 fine_of operation i len place behind e h = grind arith
 
--- what is kept at a place, with so many instructions behind it
+-- what stands at a place is sound, with so many instructions behind it
+sound_at : {plain : Bool} (is : List Insn) (place : ℕ) (i : Insn) → AreSound plain is → slice_get is place ≡ Some i
+    → (behind : ℕ) × (place + 1 + behind ≡ length is) × IsSound plain i behind
+sound_at [] place i sound here = absurd (cc)
+sound_at (x ∷ xs) zero i sound here = (length xs, omega arith, rw (same_Some x i here) at sound.0)
+sound_at (x ∷ xs) (suc place) i sound here =
+    let rest = sound_at xs place i sound.1 here in (rest.0, omega (arith, rest.1), rest.2)
+
+-- what its operation keeps there
 kept_at : (is : List Insn) (place : ℕ) (i : Insn) (operation : Operation) → AreSound false is
     → Stands is place i operation → (behind : ℕ) × (place + 1 + behind ≡ length is) × Keeps operation i behind
-kept_at [] place i operation h stands = absurd (let here = stands.here in cc)
-kept_at (x ∷ xs) zero i operation h stands =
-    let same = same_Some x i stands.here in
-    let known = same_Some _ _ (sym h.0.known ∙ ap (λ (j : Insn). operation_of j.code) same ∙ stands.known) in
-    (length xs, omega arith, rw (known, same) at h.0.keeps)
-kept_at (x ∷ xs) (suc place) i operation h stands =
-    let f = kept_at xs place i operation h.1 (record { here = stands.here; known = stands.known }) in
-    (f.0, omega (arith, f.1), f.2)
-
-insn_at : (is : List Insn) (place : ℕ) → AreSound false is → place < length is
-    → (i : Insn) × (operation : Operation) × Stands is place i operation
-insn_at [] place h lt = absurd (omega arith)
-insn_at (x ∷ xs) zero h lt = (x, h.0.operation, record { here = refl; known = h.0.known })
-insn_at (x ∷ xs) (suc place) h lt =
-    let f = insn_at xs place h.1 (omega arith) in (f.0, f.1, record { here = f.2.here; known = f.2.known })
+kept_at is place i operation sound stands =
+    let there = sound_at is place i sound stands.here in
+    (there.0, there.1, rw (same_Some _ _ (sym there.2.known ∙ stands.known)) at there.2.keeps)
 
 fine_at : (is : List Insn) (place : ℕ) → AreSound false is → place < length is → IsFineAt is place
-fine_at is place h lt =
-    let there = insn_at is place h lt in
-    let kept = kept_at is place there.0 there.1 h there.2 in
+fine_at is place sound lt =
+    let here = slice_get-get_or is place (return_with 0) lt in
+    let there = sound_at is place _ sound here in
     record {
-      insn = there.0;
-      operation = there.1;
-      stands = there.2;
-      fine = fine_of there.1 there.0 (length is) place kept.0 kept.1 kept.2;
+      insn = get_or is place (return_with 0);
+      operation = there.2.operation;
+      stands = record { here = here; known = there.2.known };
+      fine = fine_of there.2.operation _ (length is) place there.0 there.1 there.2.keeps;
     }
 
 -- no instruction loads a scratch word
@@ -72,12 +68,9 @@ module _ {p : Profile} {code : List Insn} (filter : IsFilterOf p code) where
   keeps_scratch_rule = no_scratch code unasked
 
   pub is_plain : IsPlainProfile p → IsPlainProgram code
-  is_plain plain = All-from_recursion IsPlainInsn code (each code (filter.sound true (λ _. plain)))
-    where
-      each : (is : List Insn) → AreSound true is → AllByRecursion IsPlainInsn is
-      each [] h = tt
-      each (i ∷ is) h =
-          (record { operation = h.0.operation; known = h.0.known; plain = h.0.is_plain refl }, each is h.1)
+  is_plain plain k d lt =
+      let there = (sound_at code k _ (filter.sound true (λ _. plain)) (slice_get-get_or code k d lt)).2 in
+      record { operation = there.operation; known = there.known; plain = there.is_plain refl }
 
   pub answers_same : SameAnswers (RunAnswers code) p
   answers_same call fits =

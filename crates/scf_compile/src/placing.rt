@@ -1,6 +1,6 @@
 //! Code that is put together from its last instruction to its first, so that each jump goes to instructions that stand.
 
-ghost use Rattle.std.specs.Prelude.{◌-◌, ◌^◌, ◌<◌, ◌≤◌, [], ◌∷◌, IfNone, IfOk, IfSome, length};
+ghost use Rattle.std.specs.Prelude.{◌≡◌, ◌-◌, ◌^◌, ◌<◌, ◌≤◌, [], ◌∷◌, ◌++◌, IfNone, IfOk, IfSome, OnOk, length};
 ghost use Rattle.scf_compile.specs.internal.Placing.{branch_code, IsFirst, IsNear, IsOutOfReach, IsPut};
 
 use crate::insns::{jump_if, jump_over};
@@ -29,6 +29,16 @@ fn find(code: &VecDeque<Insn>, wanted: Insn) -> Option<Place>
     None
 }
 
+/// Puts instructions before the code.
+pub(crate) fn put_front(code: &mut VecDeque<Insn>, block: &[Insn]) -> Result<(), AllocError>
+    ensures { OnOk result (code.new.items ≡ block.now ++ code.old.items) }
+{
+    for i in (0..block.len()).rev() {
+        code.push_front(block[i])?;
+    }
+    Ok(())
+}
+
 /// Puts a block before the code, unless it is a single instruction that stands within a jump's reach.
 pub(crate) fn put_block(code: &mut VecDeque<Insn>, block: &[Insn]) -> Result<Place, AllocError>
     ensures { IfOk result (IsPut block.now code.old.items code.new.items) }
@@ -38,9 +48,7 @@ pub(crate) fn put_block(code: &mut VecDeque<Insn>, block: &[Insn]) -> Result<Pla
             return Ok(place);
         }
     }
-    for i in (0..block.len()).rev() {
-        code.push_front(block[i])?;
-    }
+    put_front(code, block)?;
     Ok(Place(code.len()))
 }
 

@@ -1,68 +1,58 @@
 //! The instructions of rules.
 
-ghost use Rattle.std.specs.Prelude.{◌≡◌, ◌++◌, ◌<◌, ◌≤◌, OnOk, length, All};
+ghost use Rattle.std.specs.Prelude.{◌≡◌, ◌++◌, ◌<◌, ◌≤◌, IfOk, OnOk, length, All};
 ghost use Rattle.scf_insn.specs.Kernel.{seccomp_data_args};
 ghost use Rattle.scf_profile.specs.ByNumber.{rules_at};
 ghost use Rattle.scf_profile.specs.Rule.{IsRule};
 ghost use Rattle.scf_compile.specs.internal.Filters.{conditions_code, rule_code, rules_code};
 
-use crate::blocks::{condition_len, put_condition};
+use crate::blocks::put_condition;
 use crate::insns::return_with;
 use scf_insn::{Answer, Insn};
 use scf_profile::{Condition, Rule};
-use std::alloc::AllocError;
+use std::alloc::{AllocError, Global};
+use std::collections::VecDeque;
 
-/// How many instructions test some conditions.
-fn conditions_len(conditions: &[Condition]) -> u8
-    requires { length conditions.now ≤ seccomp_data_args }
-    ensures len { result ≡ length (conditions_code conditions.now) }
-    ensures few { result ≤ 36 }
-{
-    let mut len = 0;
-    for condition in conditions {
-        len += condition_len(condition);
-    }
-    len
-}
-
-/// Tests conditions. Where one fails, what is left of them and one instruction more are passed.
-fn put_conditions(code: &mut Vec<Insn>, conditions: &[Condition]) -> Result<(), AllocError>
+/// Tests conditions before some code. Where one fails, what is left of them and one instruction more are passed.
+fn put_conditions(code: &mut VecDeque<Insn>, conditions: &[Condition]) -> Result<(), AllocError>
     requires few { length conditions.now ≤ seccomp_data_args }
     requires indices { All (λ c. c.index < seccomp_data_args) conditions.now }
-    ensures { OnOk result (code.new.items ≡ code.old.items ++ conditions_code conditions.now) }
+    ensures { OnOk result (code.new.items ≡ conditions_code conditions.now ++ code.old.items) }
 {
-    for i in 0..conditions.len() {
-        let out = conditions_len(&conditions[i + 1..]) + 1;
+    let behind = code.len();
+    for i in (0..conditions.len()).rev() {
+        let out = (code.len() - behind + 1) as u8;
         put_condition(code, &conditions[i], out)?;
     }
     Ok(())
 }
 
 /// Answers as a rule does where its conditions hold, else goes on behind.
-fn put_rule(code: &mut Vec<Insn>, rule: &Rule) -> Result<(), AllocError>
+fn put_rule(code: &mut VecDeque<Insn>, rule: &Rule) -> Result<(), AllocError>
     requires { IsRule rule.now }
-    ensures { OnOk result (code.new.items ≡ code.old.items ++ rule_code rule.now) }
+    ensures { OnOk result (code.new.items ≡ rule_code rule.now ++ code.old.items) }
 {
-    put_conditions(code, rule.conditions.as_slice())?;
-    code.push(return_with(rule.answer))?;
-    Ok(())
+    code.push_front(return_with(rule.answer))?;
+    put_conditions(code, rule.conditions.as_slice())
 }
 
 /// Some rules, one after another, and the default answer behind them. Nothing stands behind a rule without conditions.
-pub(crate) fn put_rules(
-    code: &mut Vec<Insn>,
+pub(crate) fn rules_block(
+    alloc: Global,
     rules: &[&Rule],
     default: Answer,
-) -> Result<(), AllocError>
+) -> Result<Vec<Insn>, AllocError>
     requires { All IsRule (rules_at rules.now) }
-    ensures { OnOk result (code.new.items ≡ code.old.items ++ rules_code default (rules_at rules.now)) }
+    ensures { IfOk result (λ block. block.items ≡ rules_code default (rules_at rules.now)) }
 {
-    for rule in rules {
-        put_rule(code, rule)?;
+    let mut block = VecDeque::new(alloc);
+    block.push_front(return_with(default))?;
+    for i in (0..rules.len()).rev() {
+        let rule = rules[i];
         if rule.conditions.as_slice().is_empty() {
-            return Ok(());
+            block.clear();
         }
+        put_rule(&mut block, rule)?;
     }
-    code.push(return_with(default))?;
-    Ok(())
+    Ok(Vec::from(block))
 }

@@ -6,7 +6,7 @@ ghost use Rattle.scf_compile.specs.internal.Filters.{IsSearchPut};
 ghost use Rattle.scf_compile.specs.internal.Stretches.{AllRules, stretch_bound};
 
 use crate::placing::{Place, put_block, put_branch};
-use crate::rules::put_rules;
+use crate::rules::rules_block;
 use crate::stretches::Stretch;
 use scf_insn::{Answer, Insn, Test};
 use std::alloc::{AllocError, Global};
@@ -30,7 +30,6 @@ pub(crate) fn put_search(
         let hit = put_search(alloc, code, high, default)?;
         return put_branch(code, Test::GreaterOrEqual, high[0].first, hit, miss);
     }
-    let mut block = Vec::new(alloc);
-    put_rules(&mut block, stretches[0].rules, default)?;
+    let block = rules_block(alloc, stretches[0].rules, default)?;
     put_block(code, &block)
 }

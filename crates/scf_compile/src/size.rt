@@ -1,21 +1,16 @@
 //! A count of instructions that the filter of a profile stays within.
 
-ghost use Rattle.std.specs.Prelude.{◌≡◌, ◌==◌, not};
+ghost use Rattle.std.specs.Prelude.{◌≡◌, ◌==◌};
 ghost use Rattle.std.specs.List.{list_any};
 ghost use Rattle.scf_compile.specs.SizeBound.{size_bound_of};
 
 use scf_profile::{Profile, Rule};
 
-/// Whether no earlier rule has the number.
-fn is_new(number: u32, earlier: &[Rule]) -> bool
-    ensures { result ≡ not (list_any (λ r. r.number == number) earlier.now) }
+/// Whether one of the rules has the number.
+fn has_number(number: u32, rules: &[Rule]) -> bool
+    ensures { result ≡ list_any (λ r. r.number == number) rules.now }
 {
-    for rule in earlier {
-        if rule.number == number {
-            return false;
-        }
-    }
-    true
+    rules.iter().any(|rule| rule.number == number)
 }
 
 /// 8, and 4 for each distinct call number, and for each rule 2 and 8 for each of its conditions. `compile` answers
@@ -27,7 +22,7 @@ pub fn size_bound(profile: &Profile) -> u64
     let mut bound = 8;
     for i in 0..rules.len() {
         let rule = &rules[i];
-        if is_new(rule.number, &rules[..i]) {
+        if !has_number(rule.number, &rules[..i]) {
             bound += 4;
         }
         bound += 2 + 8 * rule.conditions.as_slice().len() as u64;

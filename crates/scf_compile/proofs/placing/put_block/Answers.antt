@@ -1,22 +1,13 @@
-use Rattle.scf_compile.proofs.Common.{rules, ◌≡◌, ◌++◌, ◌-◌, List, drop, get_or, length, ap, ◌∙◌, subst, arith, inr, common_steps, drop_more, Insn, IsOutOfReach}
+use Rattle.scf_compile.proofs.Common.{rules, ◌≡◌, ◌++◌, List, get_or, length, ap, ◌∙◌, subst, arith, inr, Insn, IsOutOfReach}
 use Rattle.scf_compile.proofs.RuleCode.{first_near, from_first}
 use Rattle.scf_compile.proofs.placing.put_block.Goals as goal
 use Rattle.scf_compile.proofs.placing.put_block.Goals.{then-block-eq1+in_default, else-block-eq1}
 
-pub loop-i-preserved : goal.loop-i-preserved
-loop-i-preserved c =
-    let block = c.args.block.now in
-    let more = drop_more block (c.loop-i.i - 1) (record { code = 0; jt = 0; jf = 0; k = 0 }) (search rules) in
-    grind (arith, common_steps, more)
-
 pub returns : goal.returns
 returns c =
-    let code = c.loop-i.code.items in
-    let block = c.args.block.now in
+    let code = c.put_front.new.code.items in
     let here : c.len.result ≡ length code = search rules in
-    let all : c.loop-i.i ≡ 0 = search rules in
-    let whole : code ≡ block ++ c.args.code.now.items =
-    c.loop-i.invariant ∙ ap (λ n. drop n block ++ c.args.code.now.items) all in
+    let whole : code ≡ c.args.block.now ++ c.args.code.now.items = search rules in
     record {
       put = inr whole;
       behind = c.args.code.now.items;

@@ -12,16 +12,9 @@ put_search-requires t c =
     let ss = c.args.stretches.now in
     let sums = halved ss _ _ (length ss / 2) c.split_at.ensures.front c.split_at.ensures.back in
     let more = c.if-stretches-gt1.true in
-    let measure = c.decreases in (
-      omega arith,
-      (
-        omega arith,
-        (
-          rw c.split_at.ensures.front (all_parts IsRule (length ss / 2) ss c.requires.rules).0,
-          omega arith,
-        ),
-      ),
-    )
+    let measure = c.decreases in
+    let parts = all_parts IsRule (length ss / 2) ss c.requires.rules in
+    (omega arith, (omega arith, (rw c.split_at.ensures.front parts.0, omega arith)))
 
 pub put_search-requires-then-stretches-gt1 : goal.put_search-requires-then-stretches-gt1
 put_search-requires-then-stretches-gt1 t c =
@@ -29,16 +22,9 @@ put_search-requires-then-stretches-gt1 t c =
     let sums = halved ss _ _ (length ss / 2) c.split_at.ensures.front c.split_at.ensures.back in
     let more = c.if-stretches-gt1.true in
     let measure = c.decreases in
-    let put = put_len c.in_ok-miss.ensures in (
-      omega arith,
-      (
-        omega arith,
-        (
-          rw c.split_at.ensures.back (all_parts IsRule (length ss / 2) ss c.requires.rules).1,
-          omega arith,
-        ),
-      ),
-    )
+    let put = put_len c.in_ok-miss.ensures in
+    let parts = all_parts IsRule (length ss / 2) ss c.requires.rules in
+    (omega arith, (omega arith, (rw c.split_at.ensures.back parts.1, omega arith)))
 
 pub put_branch-requires-clause-hit : goal.put_branch-requires-clause-hit
 put_branch-requires-clause-hit t c = c.in_ok-hit.ensures.put.near

@@ -1,5 +1,5 @@
 use Rattle.scf_compile.proofs.Common.{◌≡◌, ◌++◌, drop}
-use Rattle.scf_compile.proofs.placing.put_block.Given as goal
+use Rattle.scf_compile.proofs.placing.put_front.Given as goal
 
 -- the block's instructions from a place on stand before what stood
 abbrev pub invariant-loop-i : goal.invariant-loop-i
