@@ -207,17 +207,18 @@ beside range is filled a =
 
 -- ---- intervals of which some lie below a range and some above it
 
-module _ (range : Interval) (is js ks : List Interval) (apart : AreApart (is ++ (js ++ ks)))
+module _ (range : Interval) (whole is js ks : List Interval) (cut : whole ≡ is ++ (js ++ ks)) (apart : AreApart whole)
     (below : All (λ i. i.high < range.low) is) (above : All (λ i. range.high < i.low) ks) where
   left : AreApart is × AreApart (js ++ ks) × AreBelow is (js ++ ks)
-  left = apart_split 0 is (js ++ ks) apart
+  left = apart_split 0 is (js ++ ks) (rw cut at apart)
 
   right : AreApart js × AreApart ks × AreBelow js ks
   right = apart_split 0 js ks left.1
 
-  split_within : ArePartsOf (LiesIn range) (is ++ (js ++ ks)) (filter_map (part_within range) js)
-  split_within =
-      let here = parts_of (LiesIn range) (part_within range) (within_part range) 0 js right.0 in (
+  pub cut_within : ArePartsOf (LiesIn range) whole (filter_map (part_within range) js)
+  cut_within =
+      let here = parts_of (LiesIn range) (part_within range) (within_part range) 0 js right.0 in
+      rw cut (
         here.0,
         λ x. grind (
           arith,
@@ -229,22 +230,23 @@ module _ (range : Interval) (is js ks : List Interval) (apart : AreApart (is ++ 
         ),
       )
 
-  split_outside : range.low ≤ range.high
-      → ArePartsOf (LiesOutside range) (is ++ (js ++ ks)) ((is ++ parts_beside range js) ++ ks)
-  split_outside filled =
-      let cut = parts_beside range js in
-      let here = beside range js filled right.0 in (
-        apart_append 0 (is ++ cut) ks
-            (apart_append 0 is cut left.0 here.0
+  pub cut_outside : range.low ≤ range.high
+      → ArePartsOf (LiesOutside range) whole ((is ++ parts_beside range js) ++ ks)
+  cut_outside filled =
+      let parts = parts_beside range js in
+      let here = beside range js filled right.0 in
+      rw cut (
+        apart_append 0 (is ++ parts) ks
+            (apart_append 0 is parts left.0 here.0
             (λ x y h k. left.2 x y h ((lies_append js ks y).1 (inl ((here.1 y).0 k).0)))) right.1
-            (λ x y h k. elim ((lies_append is cut x).0 h) [
+            (λ x y h k. elim ((lies_append is parts x).0 h) [
               | inl l ↦ left.2 x y l ((lies_append js ks y).1 (inr k))
               | inr c ↦ right.2 x y ((here.1 x).0 c).0 k
             ]),
         λ x. grind (
           arith,
-          lies_append (is ++ cut) ks x,
-          lies_append is cut x,
+          lies_append (is ++ parts) ks x,
+          lies_append is parts x,
           lies_append is (js ++ ks) x,
           lies_append js ks x,
           here.1 x,
@@ -252,15 +254,3 @@ module _ (range : Interval) (is js ks : List Interval) (apart : AreApart (is ++ 
           lies_over range ks x above,
         ),
       )
-
-pub cut_within : (range : Interval) (whole is js ks parts : List Interval)
-    → whole ≡ is ++ (js ++ ks) → AreApart whole → All (λ i. i.high < range.low) is → All (λ i. range.high < i.low) ks
-    → parts ≡ filter_map (part_within range) js → ArePartsOf (LiesIn range) whole parts
-cut_within range whole is js ks parts e a below above f =
-    rw (e, f) (split_within range is js ks (rw e at a) below above)
-
-pub cut_outside : (range : Interval) (whole is js ks parts : List Interval)
-    → whole ≡ is ++ (js ++ ks) → AreApart whole → All (λ i. i.high < range.low) is → All (λ i. range.high < i.low) ks
-    → range.low ≤ range.high → parts ≡ (is ++ parts_beside range js) ++ ks → ArePartsOf (LiesOutside range) whole parts
-cut_outside range whole is js ks parts e a below above filled f =
-    rw (e, f) (split_outside range is js ks (rw e at a) below above filled)
