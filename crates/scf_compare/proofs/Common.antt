@@ -31,7 +31,7 @@ pub use Rattle.scf_machine.proofs.Meets.{run_once}
 pub use Rattle.scf_machine.proofs.Runs.{fine_of, run_length, runs_safely, same_insn}
 pub use Rattle.scf_machine.proofs.Stacks.{one_answers, stack_answer_once}
 pub use Rattle.scf_profile.proofs.Answering.{one_answer}
-pub use Rattle.scf_profile.proofs.Common.{All-cons, All-contains, All-nil, AnswersRelated, HaveNoConflict, IfOk-weaker, IsPlainCondition, IsPlainRule, Profile, ProfileAnswers, SameAnswers, all_hold, and_le_l, by_default, by_rule, cases_Bool, le-ltb, length-map, list_any, meets, ne_eqb, numbers_of, or_comm, or_lt, rules_of}
+pub use Rattle.scf_profile.proofs.Common.{All-cons, All-contains, All-nil, AnswersRelated, Contains-append_right, Contains-get_or, cases_eq, HaveNoConflict, IfOk-weaker, IsPlainCondition, IsPlainRule, Profile, ProfileAnswers, SameAnswers, all_hold, and_le_l, by_default, by_rule, cases_Bool, le-ltb, length-map, list_any, meets, ne_eqb, numbers_of, or_comm, or_lt, rules_of}
 pub use Rattle.scf_profile.proofs.Numbers.{has_number, numbers_of-contains, numbers_of-push}
 pub use Rattle.scf_profile.specs.declared.condition.Condition.{Condition}
 pub use Rattle.scf_profile.specs.declared.condition.Operator.TheVariants.{Equal}
@@ -42,7 +42,7 @@ pub use Rattle.scf_compare.specs.Paths.{size_of_insn, tree_size}
 unfoldable pub use Rattle.scf_compare.specs.Paths.{tree_sizes}
 pub use Rattle.scf_compare.specs.Relation.{IsRelated}
 pub use Rattle.scf_compare.specs.Scope.{IsInScope, RelatedAnswersIn, SameAnswersIn}
-pub use Rattle.scf_compare.specs.Verdicts.{IsDecided, IsEndPlace, IsStackEndPlace, IsTrueBy}
+pub use Rattle.scf_compare.specs.Verdicts.{IsDecided, IsEndPlace, IsStackEndPlace, IsTrueBy, IsTrueOf, IsTrueOfStackBy}
 pub use Rattle.scf_compare.specs.declared.asking.Atoms.{Atoms}
 pub use Rattle.scf_compare.specs.declared.comparison.BothEnds.{BothEnds}
 pub use Rattle.scf_compare.specs.declared.comparison.FilterEnd.{FilterEnd}
@@ -61,7 +61,7 @@ pub use Rattle.scf_compare.specs.declared.scope.Scope.{Scope}
 pub use Rattle.scf_compare.specs.declared.scope.Scope.TheVariants.{Call, Native}
 pub use Rattle.scf_compare.specs.declared.stack.StackNode.TheVariants.{At}
 pub use Rattle.scf_compare.specs.declared.turn.Turn.{Turn}
-pub use Rattle.scf_compare.specs.declared.turn.Turn.TheVariants.{Ask, Fork}
+pub use Rattle.scf_compare.specs.declared.turn.Turn.TheVariants.{Split}
 pub use Rattle.scf_compare.specs.declared.value.Decision.{Decision}
 pub use Rattle.scf_compare.specs.declared.verdict.Verdict.{Verdict}
 pub use Rattle.scf_compare.specs.declared.verdict.Verdict.TheVariants.{Differs, Undecided, Unfinished}
@@ -80,5 +80,5 @@ pub use Rattle.scf_compare.specs.internal.Profiles.{IsAtCondition, KnowsRule, St
 pub use Rattle.scf_compare.specs.internal.Scopes.{AreWordsOf, AreWordsOfX86_64, compared_in}
 pub use Rattle.scf_compare.specs.internal.Stacks.{IsStackEnd, filter_at, stack_is_node, stack_is_plain, stack_reaches, stack_size}
 pub use Rattle.scf_compare.specs.internal.Stages.{GoesOver, IsTaken, LeadsTo, verdict_of_all}
-pub use Rattle.scf_compare.specs.internal.Trees.{Costs, GoesOn, StaysPlain, Tree}
+pub use Rattle.scf_compare.specs.internal.Trees.{Costs, GoesEither, GoesOn, StaysPlain, Tree}
 pub use Rattle.scf_compare.specs.internal.Values.{Decides, Describes, IsPlainDecision, StandsFor}

@@ -1,6 +1,6 @@
 -- The first rules of numbers, and what it says of a call that no rule before one has its number.
-use Rattle.scf_compare.proofs.Common.{◌≡◌, ◌≢◌, ℕ, zero, suc, ◌+◌, ◌≤◌, ◌||◌, Bool, true, false, cond, eqb, List, [], ◌∷◌, ◌++◌, length, take, drop, get_or, refl, sym, ap, subst, ◌∙◌, arith, All, map, slice_get, sum_by, Some, list_any, eq-eqb, get_or-le-sum_by, sum_by-append, length-map, slice_get-map, slice_get-get_or, slice_get_within, All-nil, All-cons, All-push, CallRecord, Rule, meets, numbers_of, rules_of, FirstRule, rules_size, number_size, AreFirstRules}
-use Rattle.scf_compare.proofs.Rules.{unmet_apart, contains_here, drop_here}
+use Rattle.scf_compare.proofs.Common.{◌≡◌, ◌≢◌, ℕ, zero, suc, ◌+◌, ◌≤◌, ◌||◌, ◌⊎◌, inl, inr, ◌<◌, Bool, true, false, cond, eqb, List, [], ◌∷◌, ◌++◌, length, take, drop, get_or, refl, sym, ap, subst, ◌∙◌, arith, All, Contains, Contains-append_right, Contains-get_or, map, ne_eqb, cases_eq, slice_get, sum_by, Some, list_any, eq-eqb, get_or-le-sum_by, sum_by-append, length-map, slice_get-map, slice_get-get_or, All-nil, All-cons, All-push, CallRecord, Rule, meets, numbers_of, numbers_of-contains, rules_of, FirstRule, rules_size, number_size, AreFirstRules}
+use Rattle.scf_compare.proofs.Rules.{unmet_apart, contains_here, conditions_count, drop_here}
 
 neither : (b c : Bool) → (b || c) ≡ false → (b ≡ false) × (c ≡ false)
 neither b c e = grind arith
@@ -73,14 +73,41 @@ module _ (firsts : List FirstRule) (rules : List Rule) (h : AreFirstRules firsts
       ≡ number_size rules first.number + sum_by (number_size rules) (drop (place + 1) (numbers_of rules))
   sum_at = sum_split (number_size rules) (numbers_of rules) place first.number number_at
 
-  pub within_sum : number_size rules first.number ≤ sum_by (number_size rules) (numbers_of rules)
-  within_sum =
-      let inside = slice_get_within (numbers_of rules) place first.number number_at in
-      let read : get_or (numbers_of rules) place first.number ≡ first.number =
-      let both : Some (get_or (numbers_of rules) place first.number) ≡ Some first.number =
-      sym (slice_get-get_or (numbers_of rules) place first.number inside) ∙ number_at in cc in
-      subst (λ n. number_size rules n ≤ sum_by (number_size rules) (numbers_of rules)) read
-      (get_or-le-sum_by (number_size rules) (numbers_of rules) place first.number inside)
+-- what a number adds to the spread is within the sum
+within_sum : (rules : List Rule) (number : ℕ) → Contains (numbers_of rules) number
+    → number_size rules number ≤ sum_by (number_size rules) (numbers_of rules)
+within_sum rules number (i, inside, is) =
+    subst (λ n. number_size rules n ≤ sum_by (number_size rules) (numbers_of rules)) is
+    (get_or-le-sum_by (number_size rules) (numbers_of rules) i number inside)
+
+rules_count : (rules : List Rule) → 1 ≤ rules_size rules
+rules_count [] = omega arith
+rules_count (r ∷ rules) = conditions_count r.conditions (rules_size rules)
+
+-- no rule has a number, or one does
+rule_with : (rules : List Rule) (number : ℕ)
+    → (rules_of number rules ≡ []) ⊎ ((r : Rule) × Contains rules r × (r.number ≡ number))
+rule_with [] number = inl refl
+rule_with (r ∷ rules) number = elim (cases_eq r.number number) [
+  | inl same ↦ inr (r, (0, omega arith, refl), same)
+  | inr apart ↦ elim (rule_with rules number) [
+    | inl none ↦ inl (ap (λ b. cond b (r ∷ rules_of number rules) (rules_of number rules)) (ne_eqb r.number number apart)
+        ∙ none)
+    | inr (s, has, same) ↦ inr (s, Contains-append_right (r ∷ []) rules s has, same)
+  ]
+]
+
+-- the rules of any number are within the sum, where there are rules
+pub told_size : (rules : List Rule) (number : ℕ) → 0 < length (numbers_of rules)
+    → rules_size (rules_of number rules) + 1 ≤ sum_by (number_size rules) (numbers_of rules)
+told_size rules number some = elim (rule_with rules number) [
+  | inl none ↦
+      let first = get_or (numbers_of rules) 0 0 in
+      let within = within_sum rules first (Contains-get_or (numbers_of rules) 0 0 some) in
+      rw none (omega (arith, within, rules_count (rules_of first rules)))
+  | inr (r, has, same) ↦ let within = within_sum rules r.number (numbers_of-contains rules r has) in
+      rw (← same) (omega (arith, within))
+]
 
 -- past the first rules there are no more numbers
 pub all_past : (firsts : List FirstRule) (rules : List Rule) → AreFirstRules firsts rules → (place : ℕ)
@@ -88,4 +115,4 @@ pub all_past : (firsts : List FirstRule) (rules : List Rule) → AreFirstRules f
 all_past firsts rules h place past = grind (arith, length-map)
 
 -- what is said of the sizes of first rules
-pub ruleset first_sizes = (size_at, sum_at, within_sum, slice_get-get_or)
+pub ruleset first_sizes = (size_at, sum_at, slice_get-get_or)

@@ -15,5 +15,6 @@ pub mod Rules
 pub mod Saturated
 pub mod Stacks
 pub mod Stages
+pub mod Turns
 pub mod Verdicts
 pub mod Ways

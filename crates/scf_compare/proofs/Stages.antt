@@ -1,5 +1,5 @@
 -- From one stage of an exploration to the next.
-use Rattle.scf_compare.proofs.Common.{◌≡◌, ◌∙◌, ℕ, ◌≤◌, ◌↔◌, inl, inr, List, true, false, arith, Option, Some, None, IsTrue, cases_Bool, Store, Atoms, BothEnds, Frontier, Turn, Ask, Fork, AsksOfWords, atoms_answer, StaysExact, KeepsEither, Compared, Tells, KnowsBoth, WereSeen, IsFrontier, LeadsTo, IsTaken, GoesOver, Tree, GoesOn, StaysPlain, Costs}
+use Rattle.scf_compare.proofs.Common.{◌≡◌, ◌∙◌, ℕ, ◌≤◌, ◌↔◌, inl, inr, List, true, false, arith, Option, Some, None, IsTrue, cases_Bool, Store, Atoms, BothEnds, Frontier, Turn, Split, AsksOfWords, atoms_answer, StaysExact, KeepsEither, Compared, Tells, KnowsBoth, WereSeen, IsFrontier, LeadsTo, IsTaken, GoesOver, Tree, GoesOn, StaysPlain, Costs}
 use Rattle.scf_compare.specs.declared.frontier.Branch.{Branch}
 use Rattle.scf_compare.proofs.Branches.{HasOpened, still_in_branch, in_opened, frontier_opened, size_opened, exact_opened}
 
@@ -18,7 +18,7 @@ module _ {F K N : Type 0} (store : Store F) (compared : Compared) (tree : K → 
       ↔ (store.allows old.facts (store.level old.facts) words × (atoms_answer left words ≡ true)))
       → (StaysExact left true → IsTrue (store.is_exact old.facts (store.level old.facts))
       → IsTrue (store.is_exact new.facts (store.level new.facts)))
-      → LeadsTo store compared tree old new (tree known) (Ask whole if_true if_false) if_true
+      → LeadsTo store compared tree old new (tree known) (Split (Some whole) if_true if_false) if_true
   asked known whole left if_true if_false proper asks same keeps opened learned exact =
       let other : Branch K N = record { known = known; node = if_false; learned = Some (left, false) } in
       record {
@@ -48,17 +48,18 @@ module _ {F K N : Type 0} (store : Store F) (compared : Compared) (tree : K → 
       }
 
   -- one way on is gone that no atom decides, and a branch stands open for the other
-  pub forked : (known : K) (if_true if_false : N) → (tree known).is_node if_true × (tree known).is_node if_false
+  pub forked : (known : K) (if_true if_false : N)
+      → Unit {0} × (tree known).is_node if_true × (tree known).is_node if_false
       → HasOpened store old new (record { known = known; node = if_false; learned = None })
       → ((words : List ℕ) → store.allows old.facts (store.level old.facts) words
       → store.allows new.facts (store.level new.facts) words)
-      → LeadsTo store compared tree old new (tree known) (Fork if_true if_false) if_true
+      → LeadsTo store compared tree old new (tree known) (Split None if_true if_false) if_true
   forked known if_true if_false proper opened still =
       let other : Branch K N = record { known = known; node = if_false; learned = None } in
       record {
         frontier =
-            frontier_opened store tree compared.in_scope old new other f opened (record { node = proper.1; asks = tt });
-        node = proper.0;
+            frontier_opened store tree compared.in_scope old new other f opened (record { node = proper.2; asks = tt });
+        node = proper.1;
         words = λ words ahead. elim ahead [
           | inl inside ↦ inl (still_in_branch store tree compared.in_scope old new other f opened words inside)
           | inr here ↦ elim here.1 [
@@ -67,7 +68,7 @@ module _ {F K N : Type 0} (store : Store F) (compared : Compared) (tree : K → 
           ]
         ];
         size = omega (arith, size_opened store tree compared.in_scope old new other f opened);
-        exact = λ all. absurd all.plain;
+        exact = λ all. absurd all.plain.0;
       }
 
   -- where a turn of a node leads

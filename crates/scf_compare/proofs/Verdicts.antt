@@ -1,9 +1,10 @@
 -- A verdict on words is one on call records.
-use Rattle.scf_compare.proofs.Common.{◌≡◌, ◌⊎◌, ℕ, List, subst, arith, Option, Answer, Insn, Operation, CallRecord, words_of, call_of, call_of-words_of, words_of-call_of, IsWords-words_of, IsRecord-call_of, Profile, ProfileAnswers, SameAnswers, Relation, Scope, Verdict, Differs, Undecided, Unfinished, IsRelated, IsInScope, RelatedAnswersIn, SameAnswersIn, IsEndPlace, IsStackEndPlace, IsTrueBy, IsDecided, AllRelated, IsTrueVerdict, IsPlaceOf, EndsWith, IsFilterEnd, flow_at, compared_in, IsStackEnd}
+use Rattle.scf_compare.proofs.Common.{◌≡◌, ◌⊎◌, ℕ, zero, suc, List, Contains, sym, subst, arith, Option, Answer, [], ◌∷◌, Insn, Operation, CallRecord, words_of, call_of, call_of-words_of, words_of-call_of, IsWords-words_of, IsRecord-call_of, Profile, ProfileAnswers, SameAnswers, RunAnswers, StackAnswers, one_answers, Relation, Scope, Verdict, Differs, Undecided, Unfinished, IsRelated, IsInScope, RelatedAnswersIn, SameAnswersIn, IsEndPlace, IsStackEndPlace, IsTrueBy, IsTrueOf, IsTrueOfStackBy, IsDecided, AllRelated, IsTrueVerdict, IsPlaceOf, EndsWith, IsFilterEnd, flow_at, compared_in, IsStackEnd}
 use Rattle.scf_insn.specs.declared.operation.Arithmetic.TheVariants.{Div}
 use Rattle.scf_insn.specs.declared.operation.Operand.TheVariants.{Index}
 use Rattle.scf_insn.specs.declared.operation.Operation.TheVariants.{Compute, ReturnConstant, ReturnAccumulator}
 use Rattle.scf_compare.specs.declared.scope.Scope.TheVariants.{All}
+use Rattle.scf_compare.specs.declared.relation.Relation.TheVariants as relations
 use Rattle.scf_compare.specs.declared.verdict.Verdict.TheVariants.{Same}
 
 -- a verdict that decides a claim decides another that holds exactly where the first one does
@@ -67,12 +68,41 @@ module _ (relation : Relation) (scope : Scope) (is_place : ℕ → Type 0) (answ
   true_by other among (Undecided at) h = among at h
   true_by other among Unfinished h = tt
 
--- all call records are answered alike where they are in the scope of all
-pub same_of_all : (answers : List ℕ → ℕ → Type 0) (p : Profile) → SameAnswersIn All answers p → SameAnswers answers p
-same_of_all answers p same = λ call is_record. same call is_record tt
+only : (insns one : List Insn) → Contains (insns ∷ []) one → one ≡ insns
+only insns one (zero, inside, is) = sym is
+only insns one (suc place, inside, is) = absurd (omega (arith, inside))
 
-pub all_of_same : (answers : List ℕ → ℕ → Type 0) (p : Profile) → SameAnswers answers p → SameAnswersIn All answers p
-all_of_same answers p same = λ call is_record in_scope. same call is_record
+-- a filter alone answers as the stack of it does
+module _ (insns : List Insn) (p : Profile) where
+  pub same_alone : SameAnswersIn All (StackAnswers (insns ∷ [])) p → SameAnswers (RunAnswers insns) p
+  same_alone same = λ call is_record.
+      let both = same call is_record tt in
+      record {
+        filter = both.filter;
+        profile = both.profile;
+        of_words = (one_answers insns (words_of call) both.filter).1 both.of_words;
+        of_profile = both.of_profile;
+        are_related = both.are_related;
+      }
+
+  pub alone_same : SameAnswers (RunAnswers insns) p → SameAnswersIn All (StackAnswers (insns ∷ [])) p
+  alone_same same = λ call is_record in_scope.
+      let both = same call is_record in
+      record {
+        filter = both.filter;
+        profile = both.profile;
+        of_words = (one_answers insns (words_of call) both.filter).0 both.of_words;
+        of_profile = both.of_profile;
+        are_related = both.are_related;
+      }
+
+  pub true_alone : (verdict : Verdict) → IsTrueOfStackBy relations.Same (insns ∷ []) p All verdict
+      → IsTrueOf insns p verdict
+  true_alone (Same steps) h = λ call is_record in_scope. same_alone h call is_record
+  true_alone (Differs call filter profile) h =
+      (h.0, tt, (one_answers insns (words_of call) filter.0).1 h.2, h.3, h.4)
+  true_alone (Undecided at) (one, has, ends) = subst (λ (filter : List Insn). IsEndPlace filter at) (only insns one has) ends
+  true_alone Unfinished h = tt
 
 ending : (operation : Operation) (i : Insn) (at : ℕ) (answer : Option Answer)
     → EndsWith (flow_at operation i at) i answer

@@ -1,30 +1,28 @@
 //! The comparison of a filter with a profile.
 
-ghost use Rattle.std.specs.Prelude.{◌≡◌, ◌*◌, All, IsTrue, IfOk};
+ghost use Rattle.std.specs.Prelude.{All, IsTrue, IfOk};
 ghost use Rattle.scf_machine.specs.Machine.{RunAnswers};
 ghost use Rattle.scf_machine.specs.Plain.{IsPlainProgram};
 ghost use Rattle.scf_machine.specs.Precedence.{StackAnswers};
 ghost use Rattle.scf_profile.specs.PlainProfile.{IsPlainProfile};
 ghost use Rattle.scf_profile.specs.SameAnswers.{SameAnswers};
-ghost use Rattle.scf_compare.specs.Effort.{spread, effort_of, effort_of_stack};
+ghost use Rattle.scf_compare.specs.Effort.{effort_of, effort_of_stack};
 ghost use Rattle.scf_compare.specs.Scope.{RelatedAnswersIn, SameAnswersIn};
 ghost use Rattle.scf_compare.specs.Verdicts.{IsTrueOf, IsTrueOfStack, IsTrueOfStackBy, IsWithin, IsDecided};
-ghost use Rattle.scf_compare.specs.internal.Compared.{AllRelated, IsTrueVerdict};
-ghost use Rattle.scf_compare.specs.internal.Ends.{IsPlaceOf};
-ghost use Rattle.scf_compare.specs.internal.Scopes.{compared_in};
 
 use crate::explore::explore;
 use crate::pair::{Pair, PairNode};
-use crate::party::FilterTree;
 use crate::profile_numbers::ProfileNumbers;
 use crate::relation::Relation;
 use crate::scope::{Scope, facts_of};
+use crate::stack::start_of;
 use crate::verdict::Verdict;
 use scf_facts::WordFacts;
 use scf_insn::Memory;
 use scf_machine::{FilterStack, Program};
 use scf_profile::Profile;
 use std::alloc::Global;
+use std::slice;
 
 /// Compares a program with a profile over every call record, in at most `limit` steps.
 ///
@@ -48,7 +46,8 @@ pub fn compare<F: WordFacts>(
         (SameAnswers (RunAnswers program.now) profile.now)
         limit (effort_of program.now profile.now)) }
 {
-    compare_party::<Program, F>(alloc, program, profile, Scope::All, Relation::Same, limit)
+    let filters = slice::from_ref(program);
+    compare_filters::<F>(alloc, filters, profile, Scope::All, Relation::Same, limit)
 }
 
 /// Compares what a stack of filters answers with a profile over the calls of a scope, in at most `limit` steps.
@@ -95,35 +94,33 @@ pub fn compare_by<F: WordFacts>(
         (RelatedAnswersIn relation scope (StackAnswers stack.now) profile.now)
         limit (effort_of_stack stack.now profile.now)) }
 {
-    compare_party::<FilterStack, F>(alloc, stack, profile, scope, relation, limit)
+    compare_filters::<F>(alloc, stack.filters(), profile, scope, relation, limit)
 }
 
-/// Compares a filter, or what answers as one, with a profile over the words of the calls of a scope by a relation.
-fn compare_party<A: FilterTree, F: WordFacts>(
+/// Compares what filters, the oldest first, answer with a profile over the calls of a scope by a relation.
+fn compare_filters<F: WordFacts>(
     alloc: Global,
-    filter: &A,
+    filters: &[Program],
     profile: &Profile,
     scope: Scope,
     relation: Relation,
     limit: u64,
 ) -> Result<Verdict, Memory>
-    ensures holds { IfOk result (
-        IsTrueVerdict
-        (compared_in relation scope (IsPlaceOf (A.is_end filter.now)) (A.answers filter.now) profile.now)) }
-    ensures within { IfOk result (IsWithin limit (A.whole_size filter.now * spread profile.now.rules)) }
-    ensures decided { IsTrue F.starts_exact → A.is_plain filter.now → IsPlainProfile profile.now
+    ensures holds { IfOk result (IsTrueOfStackBy relation filters.now profile.now scope) }
+    ensures within { IfOk result (IsWithin limit (effort_of_stack filters.now profile.now)) }
+    ensures decided { IsTrue F.starts_exact → All IsPlainProgram filters.now → IsPlainProfile profile.now
         → IfOk result (IsDecided
-        (AllRelated (compared_in relation scope (IsPlaceOf (A.is_end filter.now)) (A.answers filter.now) profile.now))
-        limit (A.whole_size filter.now * spread profile.now.rules)) }
+        (RelatedAnswersIn relation scope (StackAnswers filters.now) profile.now)
+        limit (effort_of_stack filters.now profile.now)) }
 {
     let numbers = ProfileNumbers::new(alloc, profile)?;
     let pair = Pair {
-        filter,
+        filters,
         profile: &numbers,
         scope,
         relation,
     };
     let facts: F = facts_of(alloc, scope)?;
-    let (known, start) = filter.start();
+    let (known, start) = start_of(filters);
     explore(alloc, &pair, facts, known, PairNode::AtFilter(start), limit)
 }

@@ -3,8 +3,8 @@
 ghost use Rattle.std.specs.Prelude.{◌<◌, ◌↔◌, ℕ, List, IsTrue};
 ghost use Rattle.scf_insn.specs.Words.{words_of, IsWords};
 ghost use Rattle.scf_compare.specs.internal.Compared.{Compared};
-ghost use Rattle.scf_compare.specs.internal.Ends.{IsEnd, Tells, KnowsBoth, IsOnlyAnswer};
-ghost use Rattle.scf_compare.specs.internal.Trees.{Tree, IsProper, GoesOn, Costs, StaysPlain};
+ghost use Rattle.scf_compare.specs.internal.Ends.{IsOnlyAnswer, both_endings};
+ghost use Rattle.scf_compare.specs.internal.Trees.{Tree, IsTurn};
 
 use crate::turn::Turn;
 use scf_facts::WordFacts;
@@ -44,13 +44,8 @@ pub(crate) trait Comparison {
         node: &Self::Node,
     ) -> Turn<Self::Node, BothEnds>
         requires { (tree self.now known.old).is_node node.now }
-        ensures proper { IsProper (tree self.now known.new) (IsEnd (compared self.now)) result }
-        ensures leads { (words : List ℕ) → F.allows facts.now (F.level facts.now) words
-            → (tree self.now known.old).reaches node.now words
-            → GoesOn (tree self.now known.new) (Tells (compared self.now)) result words }
-        ensures costs { Costs (tree self.now known.new) result ((tree self.now known.old).size node.now) }
-        ensures plain { (tree self.now known.old).is_plain node.now
-            → StaysPlain (tree self.now known.new) KnowsBoth result };
+        ensures { IsTurn (both_endings (compared self.now)) (F.allows facts.now (F.level facts.now))
+            (tree self.now known.old) node.now (tree self.now known.new) result };
 
     /// The two answers to a call, the filter's and the profile's. Neither has another.
     fn answers(&self, call: &CallRecord) -> (Answer, Answer)

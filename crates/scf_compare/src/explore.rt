@@ -99,11 +99,11 @@ fn advance<C: Comparison, F: WordFacts>(
 {
     match comparison.turn(&frontier.facts, known, &node) {
         Turn::Go(next) => Ok(Stage::At(next)),
-        Turn::Ask(atoms, if_true, if_false) => {
+        Turn::Split(Some(atoms), if_true, if_false) => {
             let next = ask(comparison, frontier, known, atoms, if_true, if_false)?;
             Ok(Stage::At(next))
         }
-        Turn::Fork(if_true, if_false) => {
+        Turn::Split(None, if_true, if_false) => {
             let next = fork(comparison, frontier, known, if_true, if_false)?;
             Ok(Stage::At(next))
         }

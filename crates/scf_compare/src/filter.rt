@@ -1,25 +1,23 @@
 //! A filter as a tree of questions: its ways are followed with what is known of the registers.
 
-ghost use Rattle.std.specs.Prelude.{◌≡◌, ◌+◌, ◌<◌, ℕ, List, Some, length, slice_get};
+ghost use Rattle.std.specs.Prelude.{◌≡◌, ◌<◌, ℕ, List, length};
 ghost use Rattle.scf_insn.specs.Words.{IsWords};
-ghost use Rattle.scf_insn.specs.Codes.{operation_of};
-ghost use Rattle.scf_machine.specs.Machine.{RunAnswers, RunsSafely};
+ghost use Rattle.scf_machine.specs.Machine.{RunsSafely};
 ghost use Rattle.scf_machine.specs.Plain.{IsPlainProgram};
 ghost use Rattle.scf_machine.specs.Rules.{IsValidList, Stands};
-ghost use Rattle.scf_compare.specs.internal.Trees.{IsProper, GoesOn, Costs, StaysPlain};
-ghost use Rattle.scf_compare.specs.internal.Ends.{FilterTells, KnowsAnswer};
 ghost use Rattle.scf_compare.specs.Paths.{tree_size};
-ghost use Rattle.scf_compare.specs.internal.Values.{AreValues, IsPlainValue, IsTestDecision};
-ghost use Rattle.scf_compare.specs.internal.Filters.{ComesTo, IsFilterEnd, IsTurnOf, filter_tree};
+ghost use Rattle.scf_compare.specs.internal.Filters.{IsTurnOf, endings_of_filter, filter_is_node, filter_is_plain};
+ghost use Rattle.scf_compare.specs.internal.Filters.{filter_reaches, filter_size, filter_tree};
+ghost use Rattle.scf_compare.specs.internal.Trees.{IsTurn};
+ghost use Rattle.scf_compare.specs.internal.Values.{AreValues};
 
 use crate::comparison::FilterEnd;
 use crate::flow::Flow;
-use crate::party::FilterTree;
 use crate::registers::Registers;
 use crate::turn::Turn;
 use crate::value::{Decision, Value};
-use scf_insn::{Answer, CallRecord, Insn, Operation, Test};
-use scf_machine::{Program, run};
+use scf_insn::{Answer, Insn, Operation, Test};
+use scf_machine::Program;
 
 /// A place of a filter, or the end of a division by 0.
 #[derive(Clone, Copy)]
@@ -28,43 +26,34 @@ pub(crate) enum FilterNode {
     Stopped(Answer, usize),
 }
 
-impl FilterTree for Program {
-    type Known = Registers;
+/// Where the tree of a filter begins, and what is known of the registers there.
+pub(crate) fn start_in_filter(program: &Program) -> (Registers, FilterNode)
+    ensures node { filter_is_node program.now result.0 result.1 }
+    ensures reached { (words : List ℕ) → filter_reaches program.now result.0 result.1 words }
+    ensures size { filter_size program.now result.1 ≡ tree_size program.now 0 }
+    ensures plain { IsPlainProgram program.now → filter_is_plain program.now result.0 result.1 }
+{
+    let _insns = program.insns();
+    (Registers::at_start(), FilterNode::At(0))
+}
 
-    type Node = FilterNode;
-
-    ghost answers = { RunAnswers };
-
-    ghost is_end = { IsFilterEnd };
-
-    ghost tree = { filter_tree };
-
-    ghost whole_size = { λ insns. tree_size insns 0 };
-
-    ghost is_plain = { IsPlainProgram };
-
-    fn start(&self) -> (Registers, FilterNode) {
-        let _insns = self.insns();
-        (Registers::at_start(), FilterNode::At(0))
+/// What comes next at a node of a filter, and what is known of its registers there.
+pub(crate) fn turn_in_filter(
+    program: &Program,
+    registers: &mut Registers,
+    node: FilterNode,
+) -> Turn<FilterNode, FilterEnd>
+    requires { filter_is_node program.now registers.old node }
+    ensures { IsTurn (endings_of_filter program.now) IsWords
+        (filter_tree program.now registers.old) node (filter_tree program.now registers.new) result }
+{
+    match node {
+        FilterNode::At(place) => turn_at(program.insns(), place, registers),
+        FilterNode::Stopped(answer, at) => Turn::End(FilterEnd {
+            answer: Some(answer),
+            at,
+        }),
     }
-
-    fn turn(&self, known: &mut Registers, node: &FilterNode) -> Turn<FilterNode, FilterEnd> {
-        match *node {
-            FilterNode::At(place) => turn_at(self.insns(), place, known),
-            FilterNode::Stopped(answer, at) => Turn::End(FilterEnd {
-                answer: Some(answer),
-                at,
-            }),
-        }
-    }
-
-    fn answer(&self, call: &CallRecord) -> Answer {
-        run(self, call).answer
-    }
-
-    ghost use Rattle.scf_compare.specs.internal.Laws.{node_counts};
-
-    ghost counts = { node_counts };
 }
 
 /// What comes next at the instruction of a place, and what is known of the registers there.
@@ -74,13 +63,8 @@ fn turn_at(insns: &[Insn], place: usize, registers: &mut Registers) -> Turn<Filt
     requires valid { IsValidList insns.now }
     requires safe { (words : List ℕ) → RunsSafely insns.now words }
     requires values { AreValues registers.old }
-    ensures proper { IsProper (filter_tree insns.now registers.new) (IsFilterEnd insns.now) result }
-    ensures leads { (words : List ℕ) → IsWords words
-        → ComesTo insns.now place registers.old words
-        → GoesOn (filter_tree insns.now registers.new) (FilterTells (RunAnswers insns.now)) result words }
-    ensures costs { Costs (filter_tree insns.now registers.new) result (tree_size insns.now place) }
-    ensures plain { IsPlainProgram insns.now → IsPlainValue registers.old.a
-        → StaysPlain (filter_tree insns.now registers.new) KnowsAnswer result }
+    ensures { IsTurn (endings_of_filter insns.now) IsWords (filter_tree insns.now registers.old)
+        (FilterNode.At place) (filter_tree insns.now registers.new) result }
 {
     let insn = insns[place];
     match insn.operation() {
@@ -102,13 +86,8 @@ fn turn_of(
     requires valid { IsValidList insns.now }
     requires safe { (words : List ℕ) → RunsSafely insns.now words }
     requires values { AreValues registers.old }
-    ensures proper { IsProper (filter_tree insns.now registers.new) (IsFilterEnd insns.now) result }
-    ensures leads { (words : List ℕ) → IsWords words
-        → ComesTo insns.now place registers.old words
-        → GoesOn (filter_tree insns.now registers.new) (FilterTells (RunAnswers insns.now)) result words }
-    ensures costs { Costs (filter_tree insns.now registers.new) result (tree_size insns.now place) }
-    ensures plain { IsPlainProgram insns.now → IsPlainValue registers.old.a
-        → StaysPlain (filter_tree insns.now registers.new) KnowsAnswer result }
+    ensures { IsTurn (endings_of_filter insns.now) IsWords (filter_tree insns.now registers.old)
+        (FilterNode.At place) (filter_tree insns.now registers.new) result }
 {
     match Flow::of(insns, place, insn, operation) {
         Flow::Next(next) => {
@@ -151,8 +130,8 @@ fn turn_by(
     match decision {
         Decision::Known(true) => Turn::Go(if_true),
         Decision::Known(false) => Turn::Go(if_false),
-        Decision::Asks(atoms, true) => Turn::Ask(atoms, if_true, if_false),
-        Decision::Asks(atoms, false) => Turn::Ask(atoms, if_false, if_true),
-        Decision::Open => Turn::Fork(if_true, if_false),
+        Decision::Asks(atoms, true) => Turn::Split(Some(atoms), if_true, if_false),
+        Decision::Asks(atoms, false) => Turn::Split(Some(atoms), if_false, if_true),
+        Decision::Open => Turn::Split(None, if_true, if_false),
     }
 }

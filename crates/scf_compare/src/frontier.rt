@@ -121,9 +121,9 @@ pub(crate) fn ask<C: Comparison, F: WordFacts>(
 ) -> Result<C::Node, Memory>
     requires frontier { IsFrontier F.WordFacts (C.tree comparison.now)
         (C.compared comparison.now).in_scope frontier.old }
-    requires proper { let turn = Turn.Ask atoms if_true if_false in
+    requires proper { let turn = Turn.Split (Some atoms) if_true if_false in
         IsProper (C.tree comparison.now known.now) (IsEnd (C.compared comparison.now)) turn }
-    ensures { let turn = Turn.Ask atoms if_true if_false in
+    ensures { let turn = Turn.Split (Some atoms) if_true if_false in
         IfOk result (LeadsTo F.WordFacts (C.compared comparison.now) (C.tree comparison.now)
         frontier.old frontier.new (C.tree comparison.now known.now) turn) }
 {
@@ -149,9 +149,9 @@ pub(crate) fn fork<C: Comparison, F: WordFacts>(
 ) -> Result<C::Node, Memory>
     requires frontier { IsFrontier F.WordFacts (C.tree comparison.now)
         (C.compared comparison.now).in_scope frontier.old }
-    requires proper { let turn = Turn.Fork if_true if_false in
+    requires proper { let turn = Turn.Split None if_true if_false in
         IsProper (C.tree comparison.now known.now) (IsEnd (C.compared comparison.now)) turn }
-    ensures { let turn = Turn.Fork if_true if_false in
+    ensures { let turn = Turn.Split None if_true if_false in
         IfOk result (LeadsTo F.WordFacts (C.compared comparison.now) (C.tree comparison.now)
         frontier.old frontier.new (C.tree comparison.now known.now) turn) }
 {

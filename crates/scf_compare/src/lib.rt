@@ -13,7 +13,6 @@ mod image;
 mod laws;
 mod offset;
 mod pair;
-mod party;
 mod plain;
 mod profile;
 mod profile_numbers;

@@ -1,59 +1,29 @@
 //! A profile as a tree of questions about the words of a call record.
 
-ghost use Rattle.std.specs.Prelude.{
-  ◌≡◌,
-  ◌≢◌,
-  ◌+◌,
-  ◌<◌,
-  ◌≤◌,
-  ℕ,
-  List,
-  All,
-  Some,
-  IfSome,
-  true,
-  false,
-  ⊤,
-  length,
-  take,
-  drop,
-  slice_get,
-  slice_index,
-};
+ghost use Rattle.std.specs.Prelude.{◌≡◌, ◌<◌, ◌≤◌, ℕ, List, All, Some, IfSome, false, length, take, drop};
+ghost use Rattle.std.specs.Prelude.{slice_get, slice_index};
 ghost use Rattle.scf_insn.specs.Words.{IsWords, argument, call_of};
 ghost use Rattle.scf_profile.specs.Limits.{max_rules};
 ghost use Rattle.scf_profile.specs.declared.condition.Condition.{Condition};
 ghost use Rattle.scf_profile.specs.declared.rule.Rule.{Rule};
-ghost use Rattle.scf_profile.specs.PlainProfile.{IsPlainProfile};
 ghost use Rattle.scf_profile.specs.Profile.{IsProfile, IsNative, Profile};
-ghost use Rattle.scf_profile.specs.ProfileAnswers.{ProfileAnswers};
 ghost use Rattle.scf_profile.specs.Rule.{meets};
-ghost use Rattle.scf_profile.specs.RulesByNumber.{numbers_of, rules_of};
+ghost use Rattle.scf_profile.specs.RulesByNumber.{rules_of};
 ghost use Rattle.scf_compare.specs.internal.Numbers.{AreFirstRules};
 ghost use Rattle.scf_compare.specs.internal.Conditions.{IsOnWay, way_size};
-ghost use Rattle.scf_compare.specs.Effort.{rules_size, spread};
-ghost use Rattle.scf_compare.specs.internal.Profiles.{
-  profile_with,
-  IsAtCondition,
-  StandsAt,
-  profile_tree,
-  profile_is_node,
-  profile_reaches,
-  profile_size,
-  size_of_rule,
-  size_of_rest,
-  size_behind,
-};
-ghost use Rattle.scf_compare.specs.internal.Trees.{IsProper, GoesOn, Costs, StaysPlain};
+ghost use Rattle.scf_compare.specs.Effort.{rules_size};
+ghost use Rattle.scf_compare.specs.internal.Profiles.{IsAtCondition, StandsAt, endings_of_profile, profile_with};
+ghost use Rattle.scf_compare.specs.internal.Profiles.{profile_is_node, profile_reaches, profile_size, profile_tree};
+ghost use Rattle.scf_compare.specs.internal.Profiles.{size_behind, size_of_rest, size_of_rule};
+ghost use Rattle.scf_compare.specs.internal.Trees.{IsTurn};
 
 use crate::asking::{Atoms, word_is};
-use crate::party::ProfileTree;
 use crate::profile_numbers::{FirstRule, ProfileNumbers};
 use crate::question::{ConditionPart, Way, question_of};
 use crate::turn::Turn;
 use scf_facts::{Atom, Tell, WordFacts};
+use scf_insn::Answer;
 use scf_insn::kernel::{AUDIT_ARCH_X86_64, X32_SYSCALL_BIT};
-use scf_insn::{Answer, CallRecord};
 use scf_profile::{Condition, FOREIGN_ANSWER, Rule};
 
 /// A node of a profile's tree.
@@ -71,34 +41,32 @@ pub(crate) enum ProfileNode {
     Answer(Answer),
 }
 
-impl ProfileTree for ProfileNumbers<'_> {
-    type Node = ProfileNode;
-
-    ghost answers = { λ tree words answer. ProfileAnswers tree.profile.now (call_of words) answer };
-
-    ghost tree = { λ numbers. profile_tree numbers.profile.now };
-
-    ghost whole_size = { λ numbers. spread numbers.profile.now.rules };
-
-    fn start(&self) -> ProfileNode {
-        ProfileNode::Architecture
-    }
-
+impl ProfileNumbers<'_> {
+    /// What comes next at a node, for the words that the facts allow.
     #[tactic(auto, using(scf_profile::specs::ProfileAnswers::foreign, crate::proofs::Bits::whole_words))]
-    fn turn<F: WordFacts>(&self, facts: &F, node: &ProfileNode) -> Turn<ProfileNode, Answer> {
+    pub(crate) fn turn<F: WordFacts>(
+        &self,
+        facts: &F,
+        node: ProfileNode,
+    ) -> Turn<ProfileNode, Answer>
+        requires { profile_is_node self.now.profile.now node }
+        ensures { let p = self.now.profile.now in
+            IsTurn (endings_of_profile p) (λ words. IsWords words × F.allows facts.now (F.level facts.now) words)
+            (profile_tree p) node (profile_tree p) result }
+    {
         let rules = self.profile.rules();
         let default_answer = self.profile.default_answer();
-        match *node {
-            ProfileNode::Architecture => Turn::Ask(
-                Atoms::One(word_is(1, AUDIT_ARCH_X86_64)),
+        match node {
+            ProfileNode::Architecture => Turn::Split(
+                Some(Atoms::One(word_is(1, AUDIT_ARCH_X86_64))),
                 ProfileNode::Range,
                 ProfileNode::Answer(FOREIGN_ANSWER),
             ),
-            ProfileNode::Range => Turn::Ask(
-                Atoms::One(Atom::Ge {
+            ProfileNode::Range => Turn::Split(
+                Some(Atoms::One(Atom::Ge {
                     word: 0,
                     value: X32_SYSCALL_BIT,
-                }),
+                })),
                 ProfileNode::Answer(FOREIGN_ANSWER),
                 ProfileNode::Number(0),
             ),
@@ -111,18 +79,6 @@ impl ProfileTree for ProfileNumbers<'_> {
             ProfileNode::Answer(answer) => Turn::End(answer),
         }
     }
-
-    fn answer(&self, call: &CallRecord) -> Answer {
-        call.within_widths();
-        let _rules = self.profile.rules();
-        self.profile.answer(call)
-    }
-
-    ghost use Rattle.scf_compare.specs.internal.Laws.{profile_node_counts, spread_counts};
-
-    ghost counts = { λ numbers. profile_node_counts numbers.profile.now };
-
-    ghost counts_whole = { λ numbers. spread_counts numbers.profile.now.rules };
 }
 
 /// The question about one of the distinct numbers, or the default answer past the last one.
@@ -137,29 +93,21 @@ fn ask_number<F: WordFacts>(
     place: usize,
 ) -> Turn<ProfileNode, Answer>
     requires { AreFirstRules firsts.now rules.now }
-    ensures proper { let p : Profile = profile_with default_answer rules.now in
-        IsProper (profile_tree p) (λ _. ⊤) result }
-    ensures leads { let p : Profile = profile_with default_answer rules.now in
-        (words : List ℕ) → IsWords words
-        → F.allows facts.now (F.level facts.now) words
-        → profile_reaches p (ProfileNode.Number place) words
-        → GoesOn (profile_tree p) (λ answer words. ProfileAnswers p (call_of words) answer.0) result words }
-    ensures costs { let p : Profile = profile_with default_answer rules.now in
-        Costs (profile_tree p) result (profile_size p (ProfileNode.Number place)) }
-    ensures plain { let p : Profile = profile_with default_answer rules.now in
-        IsPlainProfile p → StaysPlain (profile_tree p) (λ _. ⊤) result }
+    ensures { let p : Profile = profile_with default_answer rules.now in
+        IsTurn (endings_of_profile p) (λ words. IsWords words × F.allows facts.now (F.level facts.now) words)
+        (profile_tree p) (ProfileNode.Number place) (profile_tree p) result }
 {
-    if place == 0 {
-        if let Some(number) = told_number(facts) {
-            return ask_rules_of(default_answer, rules, firsts, number);
-        }
-    }
     if place >= firsts.len() {
         return Turn::End(default_answer);
     }
+    if place == 0 {
+        if let Some(number) = told_number(facts) {
+            return Turn::Go(next_rule(default_answer, rules, number, 0));
+        }
+    }
     let first = firsts[place];
-    Turn::Ask(
-        Atoms::One(word_is(0, first.number)),
+    Turn::Split(
+        Some(Atoms::One(word_is(0, first.number))),
         next_rule(default_answer, rules, first.number, first.place),
         ProfileNode::Number(place + 1),
     )
@@ -176,35 +124,6 @@ fn told_number<F: WordFacts>(facts: &F) -> Option<u32>
         Tell::Always => Some(number),
         Tell::Never | Tell::Maybe => None,
     }
-}
-
-/// What is asked of calls with a number: its first rule, or the default answer where it has none.
-#[tactic(auto, using(crate::proofs::Firsts::first_sizes))]
-fn ask_rules_of(
-    default_answer: Answer,
-    rules: &[Rule],
-    firsts: &[FirstRule],
-    number: u32,
-) -> Turn<ProfileNode, Answer>
-    requires { AreFirstRules firsts.now rules.now }
-    ensures proper { let p : Profile = profile_with default_answer rules.now in
-        IsProper (profile_tree p) (λ _. ⊤) result }
-    ensures leads { let p : Profile = profile_with default_answer rules.now in
-        (words : List ℕ) → IsNative (call_of words)
-        → (call_of words).nr ≡ number
-        → GoesOn (profile_tree p) (λ answer words. ProfileAnswers p (call_of words) answer.0) result words }
-    ensures costs { let p : Profile = profile_with default_answer rules.now in
-        Costs (profile_tree p) result (profile_size p (ProfileNode.Number 0)) }
-    ensures plain { let p : Profile = profile_with default_answer rules.now in
-        IsPlainProfile p → StaysPlain (profile_tree p) (λ _. ⊤) result }
-{
-    for place in 0..firsts.len() {
-        let first = firsts[place];
-        if first.number == number {
-            return Turn::Go(next_rule(default_answer, rules, number, first.place));
-        }
-    }
-    Turn::End(default_answer)
 }
 
 /// What is asked first of the rules of a number from a place on: a condition, or else what is answered.
@@ -265,20 +184,13 @@ fn ask_condition(
 ) -> Turn<ProfileNode, Answer>
     requires profile { IsProfile (profile_with default_answer rules.now) }
     requires node { profile_is_node (profile_with default_answer rules.now) (ProfileNode.Condition place index part) }
-    ensures proper { let p : Profile = profile_with default_answer rules.now in
-        IsProper (profile_tree p) (λ _. ⊤) result }
-    ensures leads { let p : Profile = profile_with default_answer rules.now in
-        (words : List ℕ) → IsWords words
-        → profile_reaches p (ProfileNode.Condition place index part) words
-        → GoesOn (profile_tree p) (λ answer words. ProfileAnswers p (call_of words) answer.0) result words }
-    ensures costs { let p : Profile = profile_with default_answer rules.now in
-        Costs (profile_tree p) result (profile_size p (ProfileNode.Condition place index part)) }
-    ensures plain { let p : Profile = profile_with default_answer rules.now in
-        IsPlainProfile p → StaysPlain (profile_tree p) (λ _. ⊤) result }
+    ensures { let p : Profile = profile_with default_answer rules.now in
+        IsTurn (endings_of_profile p) IsWords
+        (profile_tree p) (ProfileNode.Condition place index part) (profile_tree p) result }
 {
     let question = question_of(condition_at(rules, place, index), part);
-    Turn::Ask(
-        Atoms::One(question.atom),
+    Turn::Split(
+        Some(Atoms::One(question.atom)),
         follow(default_answer, rules, place, index, question.if_true),
         follow(default_answer, rules, place, index, question.if_false),
     )

@@ -1,6 +1,6 @@
 //! A stack of filters as a tree of questions: one filter is asked after another, the oldest first.
 
-ghost use Rattle.std.specs.Prelude.{◌≡◌, ◌+◌, ◌<◌, ◌≤◌, ℕ, List, [], All, IfSome, length, take, slice_index_or};
+ghost use Rattle.std.specs.Prelude.{◌≡◌, ◌+◌, ◌<◌, ℕ, List, All, IfSome, length, take};
 ghost use Rattle.scf_insn.specs.Words.{IsWords};
 ghost use Rattle.scf_insn.specs.declared.insn.Insn.{Insn};
 ghost use Rattle.scf_machine.specs.Machine.{RunAnswers};
@@ -8,18 +8,17 @@ ghost use Rattle.scf_machine.specs.Plain.{IsPlainProgram};
 ghost use Rattle.scf_machine.specs.Precedence.{StackAnswers};
 ghost use Rattle.scf_compare.specs.Effort.{stack_paths};
 ghost use Rattle.scf_compare.specs.internal.Ends.{FilterTells, KnowsAnswer};
-ghost use Rattle.scf_compare.specs.internal.Stacks.{IsOlder, IsStackEnd, OlderTells, filter_at};
-ghost use Rattle.scf_compare.specs.internal.Stacks.{stack_is_node, stack_reaches, stack_size};
-ghost use Rattle.scf_compare.specs.internal.Stacks.{stack_is_plain, stack_tree};
-ghost use Rattle.scf_compare.specs.internal.Trees.{IsProper, GoesOn, Costs, StaysPlain};
+ghost use Rattle.scf_compare.specs.internal.Stacks.{IsOlder, IsStackEnd, OlderTells, endings_of_stack, filter_at};
+ghost use Rattle.scf_compare.specs.internal.Stacks.{stack_is_node, stack_is_plain, stack_reaches, stack_size, stack_tree};
+ghost use Rattle.scf_compare.specs.internal.Trees.{IsTurn};
 
 use crate::comparison::FilterEnd;
-use crate::filter::FilterNode;
-use crate::party::FilterTree;
+use crate::filter::{FilterNode, start_in_filter, turn_in_filter};
 use crate::registers::Registers;
 use crate::turn::Turn;
-use scf_insn::{Action, Answer, CallRecord};
-use scf_machine::{FilterStack, Program};
+use StackNode::{At, Empty};
+use scf_insn::{Action, Answer};
+use scf_machine::Program;
 
 /// A node of a filter of a stack, with the end at which the older filters decide, if there are any.
 #[derive(Clone, Copy)]
@@ -30,59 +29,45 @@ pub(crate) enum StackNode {
     At(usize, Option<FilterEnd>, FilterNode),
 }
 
-impl FilterTree for FilterStack {
-    type Known = Registers;
-
-    type Node = StackNode;
-
-    ghost answers = { StackAnswers };
-
-    ghost is_end = { IsStackEnd };
-
-    ghost tree = { stack_tree };
-
-    ghost whole_size = { stack_paths };
-
-    ghost is_plain = { All IsPlainProgram };
-
-    fn start(&self) -> (Registers, StackNode) {
-        match self.get(0) {
-            Some(program) => {
-                let (known, node) = program.start();
-                (known, StackNode::At(0, None, node))
-            }
-            None => (Registers::at_start(), StackNode::Empty),
-        }
+/// Where the tree of filters begins, and what is known there.
+pub(crate) fn start_of(filters: &[Program]) -> (Registers, StackNode)
+    ensures node { stack_is_node filters.now result.0 result.1 }
+    ensures reached { (words : List ℕ) → stack_reaches filters.now result.0 result.1 words }
+    ensures size { stack_size filters.now result.1 ≡ stack_paths filters.now }
+    ensures plain { All IsPlainProgram filters.now → stack_is_plain filters.now result.0 result.1 }
+{
+    if filters.is_empty() {
+        return (Registers::at_start(), Empty);
     }
+    let (known, node) = start_in_filter(filter_of(filters, 0));
+    (known, At(0, None, node))
+}
 
-    fn turn(&self, known: &mut Registers, node: &StackNode) -> Turn<StackNode, FilterEnd> {
-        match *node {
-            StackNode::Empty => Turn::End(FilterEnd {
-                answer: Some(Answer::new(Action::Allow, 0)),
-                at: 0,
-            }),
-            StackNode::At(place, older, node) => turn_from(self, known, place, older, node),
-        }
+/// What comes next at a node of filters, and what is known of the registers there.
+pub(crate) fn turn_in_stack(
+    filters: &[Program],
+    registers: &mut Registers,
+    node: StackNode,
+) -> Turn<StackNode, FilterEnd>
+    requires { stack_is_node filters.now registers.old node }
+    ensures { IsTurn (endings_of_stack filters.now) IsWords
+        (stack_tree filters.now registers.old) node (stack_tree filters.now registers.new) result }
+{
+    match node {
+        Empty => Turn::End(FilterEnd {
+            answer: Some(Answer::new(Action::Allow, 0)),
+            at: 0,
+        }),
+        At(place, older, node) => turn_from(filters, registers, place, older, node),
     }
-
-    fn answer(&self, call: &CallRecord) -> Answer {
-        self.decide(call)
-    }
-
-    ghost use Rattle.scf_compare.specs.internal.Laws.{stack_node_counts};
-
-    ghost counts = { stack_node_counts };
 }
 
 /// The filter at a place.
-pub(crate) fn filter_of(stack: &FilterStack, place: usize) -> &Program
-    requires { place < length stack.now }
-    ensures { result.now ≡ filter_at stack.now place }
+fn filter_of(filters: &[Program], place: usize) -> &Program
+    requires { place < length filters.now }
+    ensures { result.now ≡ filter_at filters.now place }
 {
-    match stack.get(place) {
-        Some(program) => program,
-        None => unreachable!(),
-    }
+    &filters[place]
 }
 
 /// The end at which filters decide with one more, the newest: the one whose answer isn't known, the oldest of several,
@@ -117,50 +102,33 @@ fn decided_at(older: Option<FilterEnd>, newest: FilterEnd) -> FilterEnd
 /// newer one begins.
 #[tactic(auto, using(crate::specs::internal::Laws::paths_count, crate::specs::internal::Laws::scaled_costs))]
 fn turn_from(
-    stack: &FilterStack,
+    filters: &[Program],
     registers: &mut Registers,
     first: usize,
     decided: Option<FilterEnd>,
     begun: FilterNode,
 ) -> Turn<StackNode, FilterEnd>
-    requires { stack_is_node stack.now registers.old (StackNode.At first decided begun) }
-    ensures proper { IsProper (stack_tree stack.now registers.new) (IsStackEnd stack.now) result }
-    ensures leads { (words : List ℕ) → IsWords words
-        → stack_reaches stack.now registers.old (StackNode.At first decided begun) words
-        → GoesOn (stack_tree stack.now registers.new) (FilterTells (StackAnswers stack.now)) result words }
-    ensures costs { let size = stack_size stack.now (StackNode.At first decided begun) in
-        Costs (stack_tree stack.now registers.new) result size }
-    ensures plain { stack_is_plain stack.now registers.old (StackNode.At first decided begun)
-        → StaysPlain (stack_tree stack.now registers.new) KnowsAnswer result }
+    requires { stack_is_node filters.now registers.old (StackNode.At first decided begun) }
+    ensures { IsTurn (endings_of_stack filters.now) IsWords (stack_tree filters.now registers.old)
+        (StackNode.At first decided begun) (stack_tree filters.now registers.new) result }
 {
-    let count = stack.len();
     let mut place = first;
     let mut older = decided;
     let mut node = begun;
     loop {
-        match filter_of(stack, place).turn(registers, &node) {
-            Turn::Go(next) => return Turn::Go(StackNode::At(place, older, next)),
-            Turn::Ask(atoms, if_true, if_false) => {
-                return Turn::Ask(
-                    atoms,
-                    StackNode::At(place, older, if_true),
-                    StackNode::At(place, older, if_false),
-                );
-            }
-            Turn::Fork(if_true, if_false) => {
-                return Turn::Fork(
-                    StackNode::At(place, older, if_true),
-                    StackNode::At(place, older, if_false),
-                );
+        match turn_in_filter(filter_of(filters, place), registers, node) {
+            Turn::Go(next) => return Turn::Go(At(place, older, next)),
+            Turn::Split(asked, if_true, if_false) => {
+                return Turn::Split(asked, At(place, older, if_true), At(place, older, if_false));
             }
             Turn::End(end) => {
                 let decided = decided_at(older, end);
                 place += 1;
-                if place == count {
+                if place == filters.len() {
                     return Turn::End(decided);
                 }
                 older = Some(decided);
-                let (known, start) = filter_of(stack, place).start();
+                let (known, start) = start_in_filter(filter_of(filters, place));
                 *registers = known;
                 node = start;
             }

@@ -13,7 +13,6 @@ ghost use Rattle.scf_compare.specs.internal.Profiles.{number_size};
 
 use crate::flow::Flow;
 use crate::profile_numbers::has_number;
-use crate::stack::filter_of;
 use scf_insn::kernel::BPF_MAXINSNS;
 use scf_insn::{Insn, Operation};
 use scf_machine::{FilterStack, Program};
@@ -35,18 +34,18 @@ pub fn effort(program: &Program, profile: &Profile) -> u64
 pub fn effort_stack(stack: &FilterStack, profile: &Profile) -> u64
     ensures { result ≡ saturated (effort_of_stack stack.now profile.now) }
 {
-    let paths = paths_of_stack(stack);
+    let paths = paths_of_all(stack.filters());
     paths.saturating_mul(spread_of(profile.rules()))
 }
 
 /// The product of the sizes of the filters' trees of paths, the newest filter first.
 #[tactic(auto, using(crate::proofs::Stacks::paths_before, crate::proofs::Saturated::products))]
-fn paths_of_stack(stack: &FilterStack) -> u64
-    ensures { result ≡ saturated (stack_paths stack.now) }
+fn paths_of_all(filters: &[Program]) -> u64
+    ensures { result ≡ saturated (stack_paths filters.now) }
 {
     let mut product: u64 = 1;
-    for place in (0..stack.len()).rev() {
-        let paths = paths_of(filter_of(stack, place).insns());
+    for place in (0..filters.len()).rev() {
+        let paths = paths_of(filters[place].insns());
         product = paths.saturating_mul(product);
     }
     product

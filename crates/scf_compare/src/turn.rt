@@ -7,10 +7,8 @@ use crate::asking::Atoms;
 pub(crate) enum Turn<N, E> {
     /// One way on.
     Go(N),
-    /// Atoms decide: the first node where they hold, else the second.
-    Ask(Atoms, N, N),
-    /// No atom decides: either way may be taken.
-    Fork(N, N),
+    /// Atoms decide: the first node where they hold, else the second. Without atoms either way may be taken.
+    Split(Option<Atoms>, N, N),
     /// The tree ends.
     End(E),
 }

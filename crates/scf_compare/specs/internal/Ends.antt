@@ -5,6 +5,7 @@ use Rattle.scf_compare.specs.declared.comparison.BothEnds.{BothEnds}
 use Rattle.scf_compare.specs.declared.verdict.Verdict.{Verdict}
 use Rattle.scf_compare.specs.declared.verdict.Verdict.TheVariants.{Same, Differs, Undecided, Unfinished}
 use Rattle.scf_compare.specs.internal.Compared.{Compared, WordsRelated}
+use Rattle.scf_compare.specs.internal.Trees.{Endings}
 
 -- a place where ends are
 abbrev pub IsPlaceOf : (FilterEnd → Type 0) → ℕ → Type 0
@@ -25,9 +26,17 @@ IsEnd compared end = compared.is_place end.filter.at
 abbrev pub KnowsAnswer : FilterEnd → Type 0
 KnowsAnswer end = IsSome end.answer
 
+-- the ends of a tree of filters that answer so
+abbrev pub filter_endings : (FilterEnd → Type 0) → (List ℕ → ℕ → Type 0) → Endings FilterEnd
+filter_endings is_end answers = record { is_end = is_end; tells = FilterTells answers; tells_all = KnowsAnswer }
+
 -- the profile's answer is always known
 abbrev pub KnowsBoth : BothEnds → Type 0
 KnowsBoth end = KnowsAnswer end.filter
+
+-- the ends of a comparison's tree
+abbrev pub both_endings : Compared → Endings BothEnds
+both_endings compared = record { is_end = IsEnd compared; tells = Tells compared; tells_all = KnowsBoth }
 
 -- the words have no other answer
 abbrev pub IsOnlyAnswer : (List ℕ → ℕ → Type 0) → List ℕ → ℕ → Type 0

@@ -1,5 +1,5 @@
 -- A filter as a tree of questions.
-use Rattle.std.specs.Prelude.{◌≡◌, ◌<◌, ℕ, List, Option, Some, length, if◌then◌else◌}
+use Rattle.std.specs.Prelude.{◌≡◌, ◌<◌, ℕ, List, Option, None, Some, length, if◌then◌else◌}
 use Rattle.scf_insn.specs.declared.answer.Answer.{Answer}
 use Rattle.scf_insn.specs.declared.insn.Insn.{Insn}
 use Rattle.scf_insn.specs.declared.operation.Operation.{Operation}
@@ -13,12 +13,13 @@ use Rattle.scf_compare.specs.declared.flow.Flow.{Flow}
 use Rattle.scf_compare.specs.declared.flow.Flow.TheVariants.{DivideByIndex, ReturnConstant, ReturnAccumulator}
 use Rattle.scf_compare.specs.declared.registers.Registers.{Registers}
 use Rattle.scf_compare.specs.declared.turn.Turn.{Turn}
-use Rattle.scf_compare.specs.declared.turn.Turn.TheVariants.{Go, Ask, Fork}
+use Rattle.scf_compare.specs.declared.turn.Turn.TheVariants.{Go, Split}
 use Rattle.scf_compare.specs.declared.value.Decision.{Decision}
 use Rattle.scf_compare.specs.declared.value.Decision.TheVariants.{Known as Decided, Asks, Open}
 use Rattle.scf_compare.specs.Paths.{tree_size}
 use Rattle.scf_compare.specs.internal.Flow.{flow_at}
-use Rattle.scf_compare.specs.internal.Trees.{Tree}
+use Rattle.scf_compare.specs.internal.Ends.{filter_endings}
+use Rattle.scf_compare.specs.internal.Trees.{Endings, Tree}
 use Rattle.scf_compare.specs.internal.Values.{AreValues, IsPlainValue, Describes}
 
 -- The run over the words comes to a place with registers that the values stand for.
@@ -70,9 +71,12 @@ filter_tree insns registers = record {
   is_plain = filter_is_plain insns registers;
 }
 
+abbrev pub endings_of_filter : List Insn → Endings FilterEnd
+endings_of_filter insns = filter_endings (IsFilterEnd insns) (RunAnswers insns)
+
 -- the ways on from a test
 abbrev pub IsTurnOf : Decision → FilterNode → FilterNode → Turn FilterNode FilterEnd → Type 0
 IsTurnOf (Decided outcome) if_true if_false turn = turn ≡ Go (if outcome then if_true else if_false)
 IsTurnOf (Asks atoms holds) if_true if_false turn =
-    turn ≡ (if holds then Ask atoms if_true if_false else Ask atoms if_false if_true)
-IsTurnOf Open if_true if_false turn = turn ≡ Fork if_true if_false
+    turn ≡ (if holds then Split (Some atoms) if_true if_false else Split (Some atoms) if_false if_true)
+IsTurnOf Open if_true if_false turn = turn ≡ Split None if_true if_false

@@ -15,7 +15,7 @@ use Rattle.scf_compare.specs.declared.pair.PairNode.TheVariants.{AtFilter, AtPro
 use Rattle.scf_compare.specs.declared.registers.Registers.{Registers}
 use Rattle.scf_compare.specs.declared.stack.StackNode.{StackNode}
 use Rattle.scf_compare.specs.declared.stack.StackNode.TheVariants.{Empty, At as InStack}
-use Rattle.scf_compare.specs.internal.Stacks.{filter_at, stack_tree}
+use Rattle.scf_compare.specs.internal.Stacks.{filter_at, stack_size, stack_tree}
 use Rattle.scf_compare.specs.declared.profile.ProfileNode.{ProfileNode}
 use Rattle.scf_compare.specs.declared.profile.ProfileNode.TheVariants.{Architecture, Range, Number, Condition as OfCondition, Answer as Answers}
 use Rattle.scf_compare.specs.declared.question.ConditionPart.{ConditionPart}
@@ -27,7 +27,7 @@ use Rattle.scf_compare.specs.Effort.{spread, stack_paths}
 use Rattle.scf_compare.specs.internal.Profiles.{profile_tree, condition_size}
 use Rattle.scf_compare.specs.internal.Filters.{filter_size, filter_tree}
 use Rattle.scf_compare.specs.Paths.{size_of_insn, tree_sizes, tree_size}
-use Rattle.scf_compare.specs.internal.Pairs.{size_in_pair}
+use Rattle.scf_compare.specs.internal.Pairs.{pair_tree}
 
 -- one node and two trees behind it, with the same tree at each of their ends
 pub scaled_costs : (a b n scale : ℕ) → a + b + 1 ≤ n → 0 < scale → a * scale + b * scale + 1 ≤ n * scale
@@ -39,12 +39,6 @@ pub scaled_counts : (a scale : ℕ) → 0 < a → 0 < scale → 0 < a * scale
 scaled_counts a scale h s =
     let all : scale * 1 ≤ scale * a = mul-le-mul_left scale h in
     omega arith
-
--- each node of a pair counts
-pub pair_counts : {M N : Type 0} (filter : M → ℕ) (profile : N → ℕ) (whole : ℕ) → ((node : M) → 0 < filter node)
-    → ((node : N) → 0 < profile node) → 0 < whole → (node : PairNode M N) → 0 < size_in_pair filter profile whole node
-pair_counts filter profile whole f p w (AtFilter node) = scaled_counts (filter node) whole (f node) w
-pair_counts filter profile whole f p w (AtProfile end node) = p node
 
 insn_counts : (operation : Option Operation) (i : Insn) (later : List ℕ) → 0 < size_of_insn operation i later
 insn_counts (Some Jumps) i later = omega arith
@@ -101,3 +95,11 @@ profile_node_counts p (Answers answer) = omega arith
 
 pub spread_counts : (rules : List Rule) → 0 < spread rules
 spread_counts rules = omega arith
+
+-- each node of a pair counts
+pub pair_counts : (filters : List (List Insn)) (p : Profile) (registers : Registers) (node : PairNode)
+    → 0 < (pair_tree filters p registers).size node
+pair_counts filters p registers (AtFilter node) =
+    scaled_counts (stack_size filters node) (spread p.rules) (stack_node_counts filters registers node)
+    (spread_counts p.rules)
+pair_counts filters p registers (AtProfile end node) = profile_node_counts p node

@@ -1,5 +1,5 @@
 -- A profile as a tree of questions.
-use Rattle.std.specs.Prelude.{◌≡◌, ◌≢◌, ◌+◌, ℕ, List, true, false, All, Option, None, Some, take, drop, slice_get, sum_by}
+use Rattle.std.specs.Prelude.{◌≡◌, ◌≢◌, ◌+◌, ℕ, List, true, false, All, Option, None, Some, take, drop, slice_get, sum_by, ⊤}
 use Rattle.scf_insn.specs.declared.answer.Answer.{Answer}
 use Rattle.scf_insn.specs.declared.record.CallRecord.{CallRecord}
 use Rattle.scf_insn.specs.Kernel.{audit_arch_x86_64}
@@ -16,7 +16,7 @@ use Rattle.scf_compare.specs.declared.profile.ProfileNode.TheVariants.{Architect
 use Rattle.scf_compare.specs.declared.question.ConditionPart.{ConditionPart}
 use Rattle.scf_compare.specs.internal.Conditions.{IsAtPart, part_size}
 use Rattle.scf_compare.specs.Effort.{conditions_size, rules_size}
-use Rattle.scf_compare.specs.internal.Trees.{Tree}
+use Rattle.scf_compare.specs.internal.Trees.{Endings, Tree}
 
 abbrev pub profile_with : Answer → List Rule → Profile
 profile_with default_answer rules = record { default_answer = default_answer; rules = rules }
@@ -95,4 +95,12 @@ profile_tree p = record {
   reaches = profile_reaches p;
   size = profile_size p;
   is_plain = λ _. IsPlainProfile p;
+}
+
+-- the answer is known at each end
+abbrev pub endings_of_profile : Profile → Endings Answer
+endings_of_profile p = record {
+  is_end = λ _. ⊤;
+  tells = λ answer words. ProfileAnswers p (call_of words) answer.0;
+  tells_all = λ _. ⊤;
 }

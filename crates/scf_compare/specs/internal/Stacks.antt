@@ -9,9 +9,9 @@ use Rattle.scf_compare.specs.declared.registers.Registers.{Registers}
 use Rattle.scf_compare.specs.declared.stack.StackNode.{StackNode}
 use Rattle.scf_compare.specs.declared.stack.StackNode.TheVariants.{Empty, At}
 use Rattle.scf_compare.specs.Effort.{stack_paths}
-use Rattle.scf_compare.specs.internal.Ends.{FilterTells, KnowsAnswer}
+use Rattle.scf_compare.specs.internal.Ends.{FilterTells, KnowsAnswer, filter_endings}
 use Rattle.scf_compare.specs.internal.Filters.{IsFilterEnd, filter_is_node, filter_reaches, filter_size, filter_is_plain}
-use Rattle.scf_compare.specs.internal.Trees.{Tree}
+use Rattle.scf_compare.specs.internal.Trees.{Endings, Tree}
 
 -- the filter at a place of a stack
 abbrev pub filter_at : List (List Insn) → ℕ → List Insn
@@ -61,3 +61,6 @@ stack_tree filters registers = record {
   size = stack_size filters;
   is_plain = stack_is_plain filters registers;
 }
+
+abbrev pub endings_of_stack : List (List Insn) → Endings FilterEnd
+endings_of_stack filters = filter_endings (IsStackEnd filters) (StackAnswers filters)

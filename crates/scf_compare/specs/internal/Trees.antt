@@ -1,7 +1,8 @@
 -- Trees of questions about the words of a call record.
-use Rattle.std.specs.Prelude.{◌≡◌, ◌+◌, ◌≤◌, ◌⊎◌, ℕ, List, true, false}
+use Rattle.std.specs.Prelude.{◌≡◌, ◌+◌, ◌≤◌, ◌⊎◌, ℕ, List, Option, None, Some, true, false}
+use Rattle.scf_compare.specs.declared.asking.Atoms.{Atoms}
 use Rattle.scf_compare.specs.declared.turn.Turn.{Turn}
-use Rattle.scf_compare.specs.declared.turn.Turn.TheVariants.{Go, Ask, Fork, End}
+use Rattle.scf_compare.specs.declared.turn.Turn.TheVariants.{Go, Split, End}
 use Rattle.scf_compare.specs.internal.Asking.{AsksOfWords, atoms_answer, KeepsEither}
 
 -- A tree by its nodes: which there are, which words come to one, how many steps it takes to see all from one on, and
@@ -12,27 +13,39 @@ pub record Tree (N : Type 0) : Type 1 where
   pub size : N → ℕ
   pub is_plain : N → Type 0
 
+-- what is asked, if anything is, is about some of the sixteen words
+abbrev pub IsAsked : Option Atoms → Type 0
+IsAsked None = Unit {0}
+IsAsked (Some atoms) = AsksOfWords atoms
+
+-- the words go the one way or the other as what is asked says, and either way where nothing is
+abbrev pub GoesEither : Option Atoms → List ℕ → Type 0 → Type 0 → Type 0
+GoesEither None words first second = first ⊎ second
+GoesEither (Some atoms) words first second =
+    (atoms_answer atoms words ≡ true → first) × (atoms_answer atoms words ≡ false → second)
+
+-- something is asked, and exact facts stay exact with either answer
+abbrev pub KeepsAsked : Option Atoms → Type 0
+KeepsAsked None = ⊥
+KeepsAsked (Some atoms) = KeepsEither atoms
+
 -- A turn leads to nodes of the tree, and asks of some of the sixteen words.
 abbrev pub IsProper : {N E : Type 0} → Tree N → (E → Type 0) → Turn N E → Type 0
 IsProper tree is_end (Go next) = tree.is_node next
-IsProper tree is_end (Ask atoms if_true if_false) = AsksOfWords atoms × tree.is_node if_true × tree.is_node if_false
-IsProper tree is_end (Fork if_true if_false) = tree.is_node if_true × tree.is_node if_false
+IsProper tree is_end (Split asked if_true if_false) = IsAsked asked × tree.is_node if_true × tree.is_node if_false
 IsProper tree is_end (End end) = is_end end
 
 -- The words go on from a turn, and what an end tells is true of them.
 abbrev pub GoesOn : {N E : Type 0} → Tree N → (E → List ℕ → Type 0) → Turn N E → List ℕ → Type 0
 GoesOn tree tells (Go next) words = tree.reaches next words
-GoesOn tree tells (Ask atoms if_true if_false) words =
-    (atoms_answer atoms words ≡ true → tree.reaches if_true words)
-    × (atoms_answer atoms words ≡ false → tree.reaches if_false words)
-GoesOn tree tells (Fork if_true if_false) words = tree.reaches if_true words ⊎ tree.reaches if_false words
+GoesOn tree tells (Split asked if_true if_false) words =
+    GoesEither asked words (tree.reaches if_true words) (tree.reaches if_false words)
 GoesOn tree tells (End end) words = tells end words
 
 -- how many steps it takes to see all behind a turn
 abbrev pub turn_size : {N E : Type 0} → Tree N → Turn N E → ℕ
 turn_size tree (Go next) = tree.size next
-turn_size tree (Ask atoms if_true if_false) = tree.size if_true + tree.size if_false
-turn_size tree (Fork if_true if_false) = tree.size if_true + tree.size if_false
+turn_size tree (Split asked if_true if_false) = tree.size if_true + tree.size if_false
 turn_size tree (End end) = 0
 
 -- One step, and then what is seen behind the turn, are within a size.
@@ -43,7 +56,22 @@ Costs tree turn size = turn_size tree turn + 1 ≤ size
 -- an end tells all.
 abbrev pub StaysPlain : {N E : Type 0} → Tree N → (E → Type 0) → Turn N E → Type 0
 StaysPlain tree tells_all (Go next) = tree.is_plain next
-StaysPlain tree tells_all (Ask atoms if_true if_false) =
-    KeepsEither atoms × tree.is_plain if_true × tree.is_plain if_false
-StaysPlain tree tells_all (Fork if_true if_false) = ⊥
+StaysPlain tree tells_all (Split asked if_true if_false) =
+    KeepsAsked asked × tree.is_plain if_true × tree.is_plain if_false
 StaysPlain tree tells_all (End end) = tells_all end
+
+-- Which ends a tree has, what one tells of the words that come to it, and which tell all that is asked.
+pub record Endings (E : Type 0) : Type 1 where
+  pub is_end : E → Type 0
+  pub tells : E → List ℕ → Type 0
+  pub tells_all : E → Type 0
+
+-- A turn at a node, for what is known here, and the tree for what is known there, where the turn goes on: it leads to
+-- nodes, given words that come to the node go on, one step and what is behind the turn are within the node's size, and
+-- from a plain node all stays plain.
+pub record IsTurn {N E : Type 0} (endings : Endings E) (given : List ℕ → Type 0) (here : Tree N) (node : N)
+    (there : Tree N) (turn : Turn N E) : Type 0 where
+  pub proper : IsProper there endings.is_end turn
+  pub leads : (words : List ℕ) → given words → here.reaches node words → GoesOn there endings.tells turn words
+  pub costs : Costs there turn (here.size node)
+  pub plain : here.is_plain node → StaysPlain there endings.tells_all turn

@@ -1,23 +1,23 @@
-use Rattle.scf_compare.proofs.Common.{IfOk-weaker, RunAnswers, IsEndPlace, IsPlaceOf, IsFilterEnd}
-use Rattle.scf_compare.specs.declared.relation.Relation.TheVariants as relations
-use Rattle.scf_compare.specs.declared.scope.Scope.TheVariants.{All}
-use Rattle.scf_compare.proofs.Verdicts.{true_by, decided_in, decided_same, same_of_all, all_of_same, end_place}
+use Rattle.std.proofs.Math.Nat.{mul-one}
+use Rattle.scf_compare.proofs.Common.{[], All-cons, All-nil, IfOk-weaker, IsPlainProgram}
+use Rattle.scf_compare.proofs.Verdicts.{true_alone, decided_same, same_alone, alone_same}
 use Rattle.scf_compare.proofs.comparer.compare.Goals as goal
 
 pub returns-clause-holds : goal.returns-clause-holds
 returns-clause-holds g c =
-    let insns = c.args.program.now in
-    IfOk-weaker c.compare_party.result _ _
-    (true_by relations.Same All (IsPlaceOf (IsFilterEnd insns)) (RunAnswers insns) c.args.profile.now (IsEndPlace insns)
-    (end_place insns))
-    c.compare_party.ensures.holds
+    IfOk-weaker c.compare_filters.result _ _ (true_alone c.args.program.now c.args.profile.now)
+    (rw c.from_ref-filters.ensures.value at c.compare_filters.ensures.holds)
+
+pub returns-clause-within : goal.returns-clause-within
+returns-clause-within g c =
+    rw (c.from_ref-filters.ensures.value, mul-one) at c.compare_filters.ensures.within
 
 pub returns-clause-decided : goal.returns-clause-decided
-returns-clause-decided g c = λ exact plain plain_profile.
-    let insns = c.args.program.now in
-    let p = c.args.profile.now in
-    IfOk-weaker c.compare_party.result _ _
-    (λ verdict decided.
-    decided_same _ _ c.args.limit _ verdict (same_of_all (RunAnswers insns) p) (all_of_same (RunAnswers insns) p)
-    (decided_in relations.Same All (IsPlaceOf (IsFilterEnd insns)) (RunAnswers insns) p c.args.limit _ verdict decided))
-    (c.compare_party.ensures.decided exact plain plain_profile)
+returns-clause-decided g c =
+    let decided = rw (c.from_ref-filters.ensures.value, mul-one) at c.compare_filters.ensures.decided in
+    λ exact plain plain_profile.
+    IfOk-weaker c.compare_filters.result _ _
+    (λ verdict.
+    decided_same _ _ c.args.limit _ verdict (same_alone c.args.program.now c.args.profile.now)
+    (alone_same c.args.program.now c.args.profile.now))
+    (decided exact (All-cons IsPlainProgram c.args.program.now [] plain (All-nil IsPlainProgram)) plain_profile)

@@ -1,17 +1,19 @@
-use Rattle.scf_compare.proofs.Common.{Ask}
+use Rattle.scf_compare.proofs.Common.{Some, Split}
 use Rattle.scf_compare.proofs.Stages.{led, ended}
 use Rattle.scf_compare.proofs.explore.advance.Goals as goal
 
-pub returns-in-Ask-clause-stage : goal.returns-in-Ask-clause-stage
-returns-in-Ask-clause-stage g c =
+pub returns-in-Split-Some-default-default-clause-stage : goal.returns-in-Split-Some-default-default-clause-stage
+returns-in-Split-Some-default-default-clause-stage g c =
     let C = g.C.Comparison in
     let comparison = c.args.comparison.now in
     let tree = C.tree comparison in
-    let turn = c.in-Ask.ensures in
+    let asked = c.in-Split-Some-default-default in
+    let turn = rw (asked.is, asked.field-0-is) at c.turn.ensures in
     led g.F.WordFacts (C.compared comparison) tree c.args.frontier.now c.ask.new.frontier c.requires.frontier
     (tree c.args.known.now) c.args.node (tree c.turn.new.known)
-    (Ask c.in-Ask.atoms c.in-Ask.if_true c.in-Ask.if_false) c.in_ok-next-in-Ask.next
-    turn.leads turn.costs turn.plain c.in_ok-next-in-Ask.ensures _
+    (Split (Some asked.atoms) asked.if_true asked.if_false)
+    c.in_ok-next-in-Split-Some-default-default.next
+    turn.leads turn.costs turn.plain c.in_ok-next-in-Split-Some-default-default.ensures _
 
 pub returns-in-Some-2-clause-stage : goal.returns-in-Some-2-clause-stage
 returns-in-Some-2-clause-stage g c =

@@ -1,49 +1,44 @@
-use Rattle.scf_compare.proofs.Common.{common_steps, ◌*◌, ◌≤◌, arith, mul-le-mul_left}
+use Rattle.scf_compare.proofs.Common.{◌*◌, ◌≤◌, arith, mul-le-mul_left, spread_counts, scaled_costs, stack_size}
+use Rattle.scf_compare.specs.Effort.{spread}
+use Rattle.scf_compare.proofs.Turns.{goes_within}
 use Rattle.scf_compare.proofs.pair.PairComparison.turn.Goals as goal
 
-pub returns-in-Ask-clause-costs : goal.returns-in-Ask-clause-costs
-returns-in-Ask-clause-costs g c = grind (arith, common_steps)
+pub returns-in-Go : goal.returns-in-Go
+returns-in-Go g c =
+    let turn = rw c.in-Go.is at c.turn_in_stack.ensures in
+    rw c.in-AtFilter.is (record {
+      proper = turn.proper;
+      leads = λ words allowed come. (come.0, turn.leads words come.0 come.1);
+      costs = grind (arith, scaled_costs, spread_counts, turn.costs);
+      plain = λ plain. (turn.plain plain.0, plain.1);
+    })
 
-pub returns-in-Fork-clause-costs : goal.returns-in-Fork-clause-costs
-returns-in-Fork-clause-costs g c = grind (arith, common_steps)
+pub returns-in-Split : goal.returns-in-Split
+returns-in-Split g c =
+    let turn = rw c.in-Split.is at c.turn_in_stack.ensures in
+    rw c.in-AtFilter.is (record {
+      proper = turn.proper;
+      leads = λ words allowed come.
+          goes_within c.in-Split.asked words (λ first. (come.0, first)) (λ second. (come.0, second))
+          (turn.leads words come.0 come.1);
+      costs = grind (arith, scaled_costs, spread_counts, turn.costs);
+      plain = λ plain. let stays = turn.plain plain.0 in (stays.0, (stays.1, plain.1), (stays.2, plain.1));
+    })
 
-pub returns-in-End-clause-proper : goal.returns-in-End-clause-proper
-returns-in-End-clause-proper g c = c.ask_profile.ensures.proper c.turn.new.known
-
-pub returns-in-End-clause-leads : goal.returns-in-End-clause-leads
-returns-in-End-clause-leads g c =
-    let end = c.in-End.ensures in
-    let asked = c.ask_profile.ensures.leads c.turn.new.known in
-    λ words allowed. rw c.in-AtFilter.is (
-    λ come. asked words come.0 allowed (end.leads words come.0 come.1) (c.start-start.ensures.reached words come.0)
-    )
-
-pub returns-in-End-clause-costs : goal.returns-in-End-clause-costs
-returns-in-End-clause-costs g c =
-    let size = (g.A.FilterTree.tree c.args.self.now.filter.now c.args.known.now).size c.in-AtFilter.node in
-    let whole = g.B.ProfileTree.whole_size c.args.self.now.profile.now in
-    let counts : 1 ≤ size = c.in-End.ensures.costs in
+pub returns-in-End : goal.returns-in-End
+returns-in-End g c =
+    let turn = rw c.in-End.is at c.turn_in_stack.ensures in
+    let asked = c.ask_profile.ensures c.turn_in_stack.new.registers in
+    let size = stack_size c.args.self.now.filters.now c.in-AtFilter.node in
+    let whole = spread c.args.self.now.profile.now.profile.now.rules in
+    let counts : 1 ≤ size = turn.costs in
     let all : whole * 1 ≤ whole * size = mul-le-mul_left whole counts in
-    rw c.in-AtFilter.is (omega (arith, c.ask_profile.ensures.costs c.turn.new.known, c.start-start.ensures.size, all))
+    rw c.in-AtFilter.is (record {
+      proper = asked.proper;
+      leads = λ words allowed come. asked.leads words allowed (come.0, turn.leads words come.0 come.1, tt);
+      costs = omega (arith, asked.costs, all);
+      plain = λ plain. asked.plain (turn.plain plain.0, plain.1);
+    })
 
-pub returns-in-End-clause-plain : goal.returns-in-End-clause-plain
-returns-in-End-clause-plain g c =
-    let asked = c.ask_profile.ensures.plain c.turn.new.known in
-    rw c.in-AtFilter.is (λ plain. asked (c.in-End.ensures.plain plain.0) (plain.1 c.start-start.result))
-
-pub returns-in-AtProfile-clause-proper : goal.returns-in-AtProfile-clause-proper
-returns-in-AtProfile-clause-proper g c = c.ask_profile-in-AtProfile.ensures.proper c.args.known.now
-
-pub returns-in-AtProfile-clause-leads : goal.returns-in-AtProfile-clause-leads
-returns-in-AtProfile-clause-leads g c =
-    let asked = c.ask_profile-in-AtProfile.ensures.leads c.args.known.now in
-    λ words allowed. rw c.in-AtProfile.is (λ come. asked words come.0 allowed come.1 come.2)
-
-pub returns-in-AtProfile-clause-costs : goal.returns-in-AtProfile-clause-costs
-returns-in-AtProfile-clause-costs g c =
-    rw c.in-AtProfile.is (c.ask_profile-in-AtProfile.ensures.costs c.args.known.now)
-
-pub returns-in-AtProfile-clause-plain : goal.returns-in-AtProfile-clause-plain
-returns-in-AtProfile-clause-plain g c =
-    let asked = c.ask_profile-in-AtProfile.ensures.plain c.args.known.now in
-    rw c.in-AtProfile.is (λ plain. asked plain.0 plain.1)
+pub returns-in-AtProfile : goal.returns-in-AtProfile
+returns-in-AtProfile g c = rw c.in-AtProfile.is (c.ask_profile-in-AtProfile.ensures c.args.known.now)

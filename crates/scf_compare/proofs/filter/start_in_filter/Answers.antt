@@ -1,6 +1,6 @@
 use Rattle.scf_compare.proofs.Common.{refl, [], start}
-use Rattle.scf_compare.proofs.filter.ProgramFilterTree.start.Goals as goal
+use Rattle.scf_compare.proofs.filter.start_in_filter.Goals as goal
 
 pub returns-clause-reached : goal.returns-clause-reached
-returns-clause-reached c = λ words w.
+returns-clause-reached c = λ words.
     record { state = start; earlier = []; chain = refl; there = refl; describes = c.at_start.ensures.describes words }
