@@ -4,7 +4,7 @@ pub mod Common
 mod ContentLemmas
 mod FaultLemmas
 pub mod HeaderLemmas
-mod JointLemmas
 mod OptionLemmas
 mod PartyLemmas
 pub mod StackLemmas
+pub mod WritingLemmas

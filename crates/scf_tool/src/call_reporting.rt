@@ -1,6 +1,7 @@
 //! What the program prints of a comparison call by call.
+#![tactic(auto, using(crate::proofs::WritingLemmas::one_after_another))]
 
-ghost use Rattle.std.specs.Prelude.{◌≡◌, ◌++◌, codes, not, string_bytes, IfOk, Some, None, if◌then◌else◌};
+ghost use Rattle.std.specs.Prelude.{◌≡◌, ◌++◌, codes, find, map, not, string_bytes, IfOk};
 ghost use Rattle.std.specs.Fmt.{decimal};
 ghost use Rattle.std.specs.List.{flat_map, join_by};
 ghost use Rattle.scf_insn.specs.Streams.{Writes};
@@ -19,7 +20,8 @@ ghost use Rattle.scf_tool.specs.CallReports.{
 use crate::call_verification::{CallVerdict, CallsOutcome};
 use crate::gathered::Gathered;
 use crate::lines::write_answer;
-use crate::pieces::{LinePiece, write_pieces};
+use crate::pieces::LinePiece::{Decimal, Text};
+use crate::pieces::write_pieces;
 use crate::reporting::{
     failing, holding, write_answer_line, write_arguments, write_left_out, write_verdict, write_word,
 };
@@ -40,15 +42,20 @@ fn agrees(verdict: &Verdict) -> bool
     matches!(verdict, Verdict::Same { .. })
 }
 
-/// The verdict, where it isn't that the relation holds of all answers.
-fn unless_same(verdict: Verdict) -> Option<Verdict>
-    ensures { result ≡ (if not (is_same verdict) then Some verdict else None) }
+/// The first verdict that differs.
+fn first_difference(calls: &[CallVerdict]) -> Option<Verdict>
+    ensures { result ≡ find is_difference (map (λ call. call.verdict) calls.now) }
 {
-    if agrees(&verdict) {
-        None
-    } else {
-        Some(verdict)
-    }
+    let mut verdicts = calls.iter().map(|call| call.verdict);
+    verdicts.find(|verdict| differs(verdict))
+}
+
+/// The first verdict that isn't that the relation holds of all answers.
+fn first_other(calls: &[CallVerdict]) -> Option<Verdict>
+    ensures { result ≡ find (λ verdict. not (is_same verdict)) (map (λ call. call.verdict) calls.now) }
+{
+    let mut verdicts = calls.iter().map(|call| call.verdict);
+    verdicts.find(|verdict| !agrees(verdict))
 }
 
 /// The verdict that speaks for all calls: the first that differs, else the first that isn't Same. None where all
@@ -56,14 +63,7 @@ fn unless_same(verdict: Verdict) -> Option<Verdict>
 pub(crate) fn joint_verdict(calls: &[CallVerdict]) -> Option<Verdict>
     ensures { result ≡ joint_of calls.now }
 {
-    let mut first = None;
-    for call in calls {
-        if differs(&call.verdict) {
-            return Some(call.verdict);
-        }
-        first = first.or(unless_same(call.verdict));
-    }
-    first
+    first_difference(calls).or(first_other(calls))
 }
 
 fn write_joint<S: Sink>(
@@ -80,31 +80,23 @@ fn write_joint<S: Sink>(
     }
 }
 
-fn write_other<'a, S: Sink>(sink: &mut S, text: &'a String) -> Result<(), WriteFault>
-    ensures { Writes S.contents S.failures sink.old (codes "," ++ string_bytes text.now) result sink.new }
-{
-    write_pieces(
-        sink,
-        &[LinePiece::Text(","), LinePiece::Text(text.as_str())],
-    )
-}
-
 /// Writes texts, each behind a comma.
 fn write_others<S: Sink>(sink: &mut S, texts: &[String]) -> Result<(), WriteFault>
     ensures { Writes S.contents S.failures sink.old
         (flat_map (λ text. codes "," ++ string_bytes text) texts.now) result sink.new }
 {
     for text in texts {
-        write_other(sink, text)?;
+        write_pieces(sink, &[Text(","), Text(text.as_str())])?;
     }
     Ok(())
 }
 
-/// Writes texts with commas between.
-fn write_joined<S: Sink>(sink: &mut S, texts: &[String]) -> Result<(), WriteFault>
-    ensures { Writes S.contents S.failures sink.old (join_by string_bytes (codes ",") texts.now) result sink.new }
+/// Writes the names of a call with commas between.
+fn write_call_names<S: Sink>(sink: &mut S, names: &Texts) -> Result<(), WriteFault>
+    ensures { Writes S.contents S.failures sink.old
+        (join_by (λ name. name) (codes ",") names.now) result sink.new }
 {
-    match texts.split_first() {
+    match names.as_slice().split_first() {
         Some((first, others)) => {
             write_whole(sink, first.as_bytes())?;
             write_others(sink, others)
@@ -113,62 +105,15 @@ fn write_joined<S: Sink>(sink: &mut S, texts: &[String]) -> Result<(), WriteFaul
     }
 }
 
-fn write_call_names<S: Sink>(sink: &mut S, names: &Texts) -> Result<(), WriteFault>
-    ensures { Writes S.contents S.failures sink.old
-        (join_by (λ name. name) (codes ",") names.now) result sink.new }
-{
-    write_joined(sink, names.as_slice())
-}
-
-fn write_number<S: Sink>(sink: &mut S, number: u32) -> Result<(), WriteFault>
-    ensures { Writes S.contents S.failures sink.old (decimal number ++ codes " ") result sink.new }
-{
-    write_pieces(
-        sink,
-        &[LinePiece::Decimal(u64::from(number)), LinePiece::Text(" ")],
-    )
-}
-
 /// Writes the number and the names of a call.
 fn write_front<S: Sink>(sink: &mut S, call: &CallVerdict) -> Result<(), WriteFault>
     ensures { Writes S.contents S.failures sink.old
         ((decimal call.now.number ++ codes " ")
         ++ (join_by (λ name. name) (codes ",") call.now.names ++ codes " ")) result sink.new }
 {
-    write_number(sink, call.number)?;
+    write_pieces(sink, &[Decimal(u64::from(call.number)), Text(" ")])?;
     write_call_names(sink, &call.names)?;
     write_whole(sink, b" ")
-}
-
-/// Writes that a relation doesn't hold, in front of the arguments.
-fn write_failing<S: Sink>(sink: &mut S, relation: Relation) -> Result<(), WriteFault>
-    ensures { Writes S.contents S.failures sink.old ((said_of relation).1 ++ codes " args") result sink.new }
-{
-    write_pieces(
-        sink,
-        &[LinePiece::Text(failing(relation)), LinePiece::Text(" args")],
-    )
-}
-
-/// Writes that a relation doesn't hold, the arguments of a call and its two answers.
-fn write_answered<S: Sink>(
-    sink: &mut S,
-    relation: Relation,
-    arguments: &[u64],
-    filter: Answer,
-    profile: Answer,
-) -> Result<(), WriteFault>
-    ensures { Writes S.contents S.failures sink.old
-        (((said_of relation).1 ++ codes " args")
-        ++ (flat_map argument_text arguments.now
-        ++ (codes " filter " ++ (answer_text filter.0 ++ answer_line (codes " profile") profile.0))))
-        result sink.new }
-{
-    write_failing(sink, relation)?;
-    write_arguments(sink, arguments)?;
-    write_whole(sink, b" filter ")?;
-    write_answer(sink, filter)?;
-    write_answer_line(sink, " profile", profile)
 }
 
 fn write_found<S: Sink>(
@@ -183,7 +128,13 @@ fn write_found<S: Sink>(
             call,
             filter,
             profile,
-        } => write_answered(sink, relation, &call.args, *filter, *profile),
+        } => {
+            write_pieces(sink, &[Text(failing(relation)), Text(" args")])?;
+            write_arguments(sink, &call.args)?;
+            write_whole(sink, b" filter ")?;
+            write_answer(sink, *filter)?;
+            write_answer_line(sink, " profile", *profile)
+        }
         _ => write_verdict(sink, relation, verdict),
     }
 }
@@ -216,18 +167,6 @@ fn write_calls<S: Sink>(
     Ok(())
 }
 
-fn write_verdicts<S: Sink>(
-    sink: &mut S,
-    relation: Relation,
-    calls: &[CallVerdict],
-) -> Result<(), WriteFault>
-    ensures { Writes S.contents S.failures sink.old
-        (joint_text relation (joint_of calls.now) ++ flat_map (named_line relation) calls.now) result sink.new }
-{
-    write_joint(sink, relation, joint_verdict(calls))?;
-    write_calls(sink, relation, calls)
-}
-
 fn write_calls_outcome<S: Sink>(
     sink: &mut S,
     relation: Relation,
@@ -235,7 +174,8 @@ fn write_calls_outcome<S: Sink>(
 ) -> Result<(), WriteFault>
     ensures { Writes S.contents S.failures sink.old (calls_text relation outcome.now) result sink.new }
 {
-    write_verdicts(sink, relation, &outcome.calls)?;
+    write_joint(sink, relation, joint_verdict(&outcome.calls))?;
+    write_calls(sink, relation, &outcome.calls)?;
     write_left_out(sink, &outcome.skipped, &outcome.other_architectures)
 }
 

@@ -54,25 +54,21 @@ fn kept(alloc: Global, words: &[&str]) -> Result<Texts, AllocError>
     Ok(Texts::from_vec(list))
 }
 
-/// Compares a stack of filters with a profile over the records of a call by a relation.
+/// Compares parties over the records of a call by a relation.
 fn compare_call(
     alloc: Global,
-    stack: &FilterStack,
-    profile: &Profile,
+    parties: &Parties,
     call: &NamedCall<'_>,
     relation: Relation,
     limit: u64,
 ) -> Result<CallVerdict, Memory>
-    ensures { IfOk result (IsVerdictOnCall relation stack.now profile.now limit call.now) }
+    ensures { IfOk result
+        (IsVerdictOnCall relation parties.now.stack parties.now.loaded.profile limit call.now) }
 {
-    let verdict = compare_by::<WordSets>(
-        alloc,
-        stack,
-        profile,
-        Scope::Call(call.number),
-        relation,
-        limit,
-    )?;
+    let stack = &parties.stack;
+    let profile = &parties.loaded.profile;
+    let scope = Scope::Call(call.number);
+    let verdict = compare_by::<WordSets>(alloc, stack, profile, scope, relation, limit)?;
     Ok(CallVerdict {
         number: call.number,
         names: kept(alloc, &call.names)?,
@@ -80,22 +76,21 @@ fn compare_call(
     })
 }
 
-/// Compares a stack of filters with a profile over the records of each call of a table by a relation.
+/// Compares parties over the records of each call of their table by a relation.
 fn compare_calls(
     alloc: Global,
-    stack: &FilterStack,
-    profile: &Profile,
-    table: &CallTable,
+    parties: &Parties,
     relation: Relation,
     limit: u64,
 ) -> Result<Vec<CallVerdict>, Memory>
-    ensures { IfOk result (λ calls. (of_table : List NamedCall) × AreCallsOf table.now of_table
-        × AllZip (IsVerdictOnCall relation stack.now profile.now limit) of_table calls.items) }
+    ensures { IfOk result (λ calls. (of_table : List NamedCall) × AreCallsOf parties.now.names of_table
+        × AllZip (IsVerdictOnCall relation parties.now.stack parties.now.loaded.profile limit)
+        of_table calls.items) }
 {
-    let calls = table.calls(alloc)?;
+    let calls = parties.names.calls(alloc)?;
     let mut verdicts = Vec::new(alloc);
     for call in &calls {
-        let verdict = compare_call(alloc, stack, profile, call, relation, limit)?;
+        let verdict = compare_call(alloc, parties, call, relation, limit)?;
         verdicts.push(verdict)?;
     }
     Ok(verdicts)
@@ -112,15 +107,8 @@ pub(crate) fn compare_named_calls(
         → AreParties filters table profile parties
         → AreVerifiedCalls relation filters table profile limit outcome) }
 {
+    let calls = compare_calls(alloc, &parties, relation, limit)?;
     let loaded = parties.loaded;
-    let calls = compare_calls(
-        alloc,
-        &parties.stack,
-        &loaded.profile,
-        &parties.names,
-        relation,
-        limit,
-    )?;
     Ok(CallsOutcome {
         calls,
         skipped: loaded.skipped,

@@ -1,6 +1,6 @@
 //! The line that is printed of a fault.
 
-ghost use Rattle.std.specs.Prelude.{◌≡◌, ◌++◌, ◌∷◌, [], codes};
+ghost use Rattle.std.specs.Prelude.{◌≡◌, ◌∷◌, []};
 ghost use Rattle.std.specs.List.{flat_map};
 ghost use Rattle.scf_insn.specs.Streams.{Writes};
 ghost use Rattle.scf_tool.specs.Faults as table;
@@ -8,8 +8,10 @@ ghost use Rattle.scf_tool.specs.internal.Fields.{field_text, numbers_of_field, k
 
 use crate::bundle::BundleFault;
 use crate::fault::Fault;
-use crate::pieces::{LinePiece, write_pieces};
+use crate::pieces::LinePiece::{Decimal, Text};
+use crate::pieces::write_pieces;
 use crate::status::Status;
+use crate::status::Status::{CommandLine, Failed, Refused};
 use crate::verification::VerifyFault;
 use scf_compile::CompileFault;
 use scf_insn::{InputFault, ReadFault, Sink, WriteFault, write_whole};
@@ -39,71 +41,36 @@ pub(crate) struct FaultLine {
     pub kind: FaultKind,
 }
 
-/// No numbers.
-const NONE: [Option<FaultField>; 3] = [None, None, None];
-
 fn named(name: &'static str, number: usize) -> Option<FaultField>
     ensures { numbers_of_field result ≡ (name.now, number) ∷ [] }
 {
-    Some(FaultField {
-        name,
-        number: number as u64,
-    })
+    let number = number as u64;
+    Some(FaultField { name, number })
 }
 
-/// A kind without numbers that is a failure.
-fn failed(name: &'static str) -> FaultKind
-    ensures { kind_of result ≡ (Status.Failed, name.now, []) }
+/// A kind with these numbers.
+fn kind(status: Status, name: &'static str, fields: [Option<FaultField>; 3]) -> FaultKind
+    ensures { kind_of result ≡ (status, name.now, flat_map numbers_of_field fields) }
 {
     FaultKind {
-        status: Status::Failed,
+        status,
         name,
-        fields: NONE,
+        fields,
     }
 }
 
-/// A kind with one number that is a failure.
-fn failed_at(name: &'static str, number_name: &'static str, number: usize) -> FaultKind
-    ensures { kind_of result ≡ (Status.Failed, name.now, (number_name.now, number) ∷ []) }
+/// A kind without numbers.
+fn plain(status: Status, name: &'static str) -> FaultKind
+    ensures { kind_of result ≡ (status, name.now, []) }
 {
-    FaultKind {
-        status: Status::Failed,
-        name,
-        fields: [named(number_name, number), None, None],
-    }
+    kind(status, name, [None, None, None])
 }
 
-/// A kind without numbers that is a refusal.
-fn refused(name: &'static str) -> FaultKind
-    ensures { kind_of result ≡ (Status.Refused, name.now, []) }
+/// A kind with one number.
+fn placed(status: Status, name: &'static str, place: &'static str, number: usize) -> FaultKind
+    ensures { kind_of result ≡ (status, name.now, (place.now, number) ∷ []) }
 {
-    FaultKind {
-        status: Status::Refused,
-        name,
-        fields: NONE,
-    }
-}
-
-/// A kind without numbers that is a fault of the command line.
-fn wrong_words(name: &'static str) -> FaultKind
-    ensures { kind_of result ≡ (Status.CommandLine, name.now, []) }
-{
-    FaultKind {
-        status: Status::CommandLine,
-        name,
-        fields: NONE,
-    }
-}
-
-/// A kind with one number that is a refusal.
-fn refused_at(name: &'static str, number_name: &'static str, number: usize) -> FaultKind
-    ensures { kind_of result ≡ (Status.Refused, name.now, (number_name.now, number) ∷ []) }
-{
-    FaultKind {
-        status: Status::Refused,
-        name,
-        fields: [named(number_name, number), None, None],
-    }
+    kind(status, name, [named(place, number), None, None])
 }
 
 /// A kind that is a refusal, in an entry of a profile or outside of them.
@@ -111,8 +78,8 @@ fn refused_in(name: &'static str, entry: Option<u32>) -> FaultKind
     ensures { kind_of result ≡ (Status.Refused, name.now, table.in_entry entry) }
 {
     match entry {
-        Some(place) => refused_at(name, "entry", place as usize),
-        None => refused(name),
+        Some(place) => placed(Refused, name, "entry", place as usize),
+        None => plain(Refused, name),
     }
 }
 
@@ -120,9 +87,9 @@ fn input_kind(fault: InputFault) -> FaultKind
     ensures { kind_of result ≡ table.input_kind fault }
 {
     match fault {
-        InputFault::Read => failed("Read"),
-        InputFault::TooLong => failed("TooLong"),
-        InputFault::Memory => failed("Memory"),
+        InputFault::Read => plain(Failed, "Read"),
+        InputFault::TooLong => plain(Failed, "TooLong"),
+        InputFault::Memory => plain(Failed, "Memory"),
     }
 }
 
@@ -130,9 +97,9 @@ fn bundle_kind(fault: BundleFault) -> FaultKind
     ensures { kind_of result ≡ table.bundle_kind fault }
 {
     match fault {
-        BundleFault::Header { offset } => failed_at("Header", "offset", offset),
-        BundleFault::Short { offset } => failed_at("Short", "offset", offset),
-        BundleFault::Memory => failed("Memory"),
+        BundleFault::Header { offset } => placed(Failed, "Header", "offset", offset),
+        BundleFault::Short { offset } => placed(Failed, "Short", "offset", offset),
+        BundleFault::Memory => plain(Failed, "Memory"),
     }
 }
 
@@ -140,10 +107,10 @@ fn read_kind(fault: ReadFault) -> FaultKind
     ensures { kind_of result ≡ table.read_kind fault }
 {
     match fault {
-        ReadFault::Read => failed("Read"),
-        ReadFault::Truncated { offset } => failed_at("Truncated", "offset", offset),
-        ReadFault::TooLong => failed("TooLong"),
-        ReadFault::Memory => failed("Memory"),
+        ReadFault::Read => plain(Failed, "Read"),
+        ReadFault::Truncated { offset } => placed(Failed, "Truncated", "offset", offset),
+        ReadFault::TooLong => plain(Failed, "TooLong"),
+        ReadFault::Memory => plain(Failed, "Memory"),
     }
 }
 
@@ -151,21 +118,20 @@ fn check_kind(fault: CheckFault) -> FaultKind
     ensures { kind_of result ≡ table.check_kind fault }
 {
     match fault {
-        CheckFault::Empty => refused("Empty"),
-        CheckFault::TooLong => refused("TooLong"),
-        CheckFault::Code { at } => refused_at("Code", "at", at),
-        CheckFault::Load { at } => refused_at("Load", "at", at),
-        CheckFault::Scratch { at } => refused_at("Scratch", "at", at),
-        CheckFault::Divisor { at } => refused_at("Divisor", "at", at),
-        CheckFault::Shift { at } => refused_at("Shift", "at", at),
-        CheckFault::Jump { at } => refused_at("Jump", "at", at),
-        CheckFault::LastNotReturn => refused("LastNotReturn"),
-        CheckFault::Unset { at, word } => FaultKind {
-            status: Status::Refused,
-            name: "Unset",
-            fields: [named("at", at), named("word", usize::from(word)), None],
-        },
-        CheckFault::Memory => failed("Memory"),
+        CheckFault::Empty => plain(Refused, "Empty"),
+        CheckFault::TooLong => plain(Refused, "TooLong"),
+        CheckFault::Code { at } => placed(Refused, "Code", "at", at),
+        CheckFault::Load { at } => placed(Refused, "Load", "at", at),
+        CheckFault::Scratch { at } => placed(Refused, "Scratch", "at", at),
+        CheckFault::Divisor { at } => placed(Refused, "Divisor", "at", at),
+        CheckFault::Shift { at } => placed(Refused, "Shift", "at", at),
+        CheckFault::Jump { at } => placed(Refused, "Jump", "at", at),
+        CheckFault::LastNotReturn => plain(Refused, "LastNotReturn"),
+        CheckFault::Unset { at, word } => {
+            let fields = [named("at", at), named("word", usize::from(word)), None];
+            kind(Refused, "Unset", fields)
+        }
+        CheckFault::Memory => plain(Failed, "Memory"),
     }
 }
 
@@ -173,14 +139,14 @@ fn text_kind(fault: TextFault) -> FaultKind
     ensures { kind_of result ≡ table.text_kind fault }
 {
     match fault {
-        TextFault::NotAscii { line } => refused_at("NotAscii", "line", line),
-        TextFault::Mnemonic { line } => refused_at("Mnemonic", "line", line),
-        TextFault::Operand { line } => refused_at("Operand", "line", line),
-        TextFault::NumberRange { line } => refused_at("NumberRange", "line", line),
-        TextFault::Label { line } => refused_at("Label", "line", line),
-        TextFault::JumpTooFar { line } => refused_at("JumpTooFar", "line", line),
-        TextFault::TooLong { line } => refused_at("TooLong", "line", line),
-        TextFault::Memory => failed("Memory"),
+        TextFault::NotAscii { line } => placed(Refused, "NotAscii", "line", line),
+        TextFault::Mnemonic { line } => placed(Refused, "Mnemonic", "line", line),
+        TextFault::Operand { line } => placed(Refused, "Operand", "line", line),
+        TextFault::NumberRange { line } => placed(Refused, "NumberRange", "line", line),
+        TextFault::Label { line } => placed(Refused, "Label", "line", line),
+        TextFault::JumpTooFar { line } => placed(Refused, "JumpTooFar", "line", line),
+        TextFault::TooLong { line } => placed(Refused, "TooLong", "line", line),
+        TextFault::Memory => plain(Failed, "Memory"),
     }
 }
 
@@ -188,27 +154,11 @@ fn table_kind(fault: TableFault) -> FaultKind
     ensures { kind_of result ≡ table.table_kind fault }
 {
     match fault {
-        TableFault::Form { line } => refused_at("Form", "line", line),
-        TableFault::Name { line } => refused_at("Name", "line", line),
-        TableFault::Number { line } => refused_at("Number", "line", line),
-        TableFault::Repeated { line } => refused_at("Repeated", "line", line),
-        TableFault::Memory => failed("Memory"),
-    }
-}
-
-/// Two entries of a profile conflict on a call.
-fn conflict(number: u32, first: u32, second: u32) -> FaultKind
-    ensures { kind_of result ≡ table.load_kind (LoadFault.Conflict number first second) }
-{
-    let fields = [
-        named("number", number as usize),
-        named("first", first as usize),
-        named("second", second as usize),
-    ];
-    FaultKind {
-        status: Status::Refused,
-        name: "Conflict",
-        fields,
+        TableFault::Form { line } => placed(Refused, "Form", "line", line),
+        TableFault::Name { line } => placed(Refused, "Name", "line", line),
+        TableFault::Number { line } => placed(Refused, "Number", "line", line),
+        TableFault::Repeated { line } => placed(Refused, "Repeated", "line", line),
+        TableFault::Memory => plain(Failed, "Memory"),
     }
 }
 
@@ -216,7 +166,7 @@ fn load_kind(fault: LoadFault) -> FaultKind
     ensures { kind_of result ≡ table.load_kind fault }
 {
     match fault {
-        LoadFault::Json => refused("Json"),
+        LoadFault::Json => plain(Refused, "Json"),
         LoadFault::Missing { entry } => refused_in("Missing", entry),
         LoadFault::Kind { entry } => refused_in("Kind", entry),
         LoadFault::Action { entry } => refused_in("Action", entry),
@@ -228,13 +178,20 @@ fn load_kind(fault: LoadFault) -> FaultKind
         LoadFault::ErrnoRange { entry } => refused_in("ErrnoRange", entry),
         LoadFault::NoX8664 { entry } => refused_in("NoX8664", entry),
         LoadFault::EngineForm { entry } => refused_in("EngineForm", entry),
-        LoadFault::TooMany => refused("TooMany"),
+        LoadFault::TooMany => plain(Refused, "TooMany"),
         LoadFault::Conflict {
             number,
             first,
             second,
-        } => conflict(number, first, second),
-        LoadFault::Memory => failed("Memory"),
+        } => {
+            let fields = [
+                named("number", number as usize),
+                named("first", first as usize),
+                named("second", second as usize),
+            ];
+            kind(Refused, "Conflict", fields)
+        }
+        LoadFault::Memory => plain(Failed, "Memory"),
     }
 }
 
@@ -242,8 +199,8 @@ fn compile_kind(fault: CompileFault) -> FaultKind
     ensures { kind_of result ≡ table.compile_kind fault }
 {
     match fault {
-        CompileFault::TooLarge => refused("TooLarge"),
-        CompileFault::Memory => failed("Memory"),
+        CompileFault::TooLarge => plain(Refused, "TooLarge"),
+        CompileFault::Memory => plain(Failed, "Memory"),
     }
 }
 
@@ -251,8 +208,8 @@ fn push_kind(fault: PushFault) -> FaultKind
     ensures { kind_of result ≡ table.push_kind fault }
 {
     match fault {
-        PushFault::TooMany { total } => refused_at("TooMany", "total", total),
-        PushFault::Memory => failed("Memory"),
+        PushFault::TooMany { total } => placed(Refused, "TooMany", "total", total),
+        PushFault::Memory => plain(Failed, "Memory"),
     }
 }
 
@@ -274,7 +231,7 @@ fn verify_line(fault: VerifyFault) -> FaultLine
         VerifyFault::Table(fault) => line("table", table_kind(fault)),
         VerifyFault::ProfileRead(fault) => line("profile", input_kind(fault)),
         VerifyFault::Profile(fault) => line("profile", load_kind(fault)),
-        VerifyFault::Memory => line("compare", failed("Memory")),
+        VerifyFault::Memory => line("compare", plain(Failed, "Memory")),
     }
 }
 
@@ -284,13 +241,13 @@ impl Fault {
         ensures { fault_line_of result ≡ table.kind_of_fault self }
     {
         match self {
-            Fault::CommandLine => line("command", failed("Memory")),
-            Fault::NoCommand => line("command", wrong_words("NoCommand")),
-            Fault::Number(fault) => line("number", wrong_words(fault.name)),
-            Fault::Flags => line("command", wrong_words("Flags")),
+            Fault::CommandLine => line("command", plain(Failed, "Memory")),
+            Fault::NoCommand => line("command", plain(CommandLine, "NoCommand")),
+            Fault::Number(fault) => line("number", plain(CommandLine, fault.name)),
+            Fault::Flags => line("command", plain(CommandLine, "Flags")),
             Fault::Input(fault) => line("input", input_kind(fault)),
             Fault::Bundle(fault) => line("bundle", bundle_kind(fault)),
-            Fault::Parts => line("bundle", failed("Parts")),
+            Fault::Parts => line("bundle", plain(Failed, "Parts")),
             Fault::Text(fault) => line("text", text_kind(fault)),
             Fault::Compile(fault) => line("compile", compile_kind(fault)),
             Fault::Verify(fault) => verify_line(fault),
@@ -309,15 +266,15 @@ fn write_field<S: Sink>(sink: &mut S, field: Option<FaultField>) -> Result<(), W
     ensures { Writes S.contents S.failures sink.old (field_text field) result sink.new }
 {
     match field {
-        Some(field) => write_pieces(
-            sink,
-            &[
-                LinePiece::Text(" "),
-                LinePiece::Text(field.name),
-                LinePiece::Text(" "),
-                LinePiece::Decimal(field.number),
-            ],
-        ),
+        Some(field) => {
+            let words = [
+                Text(" "),
+                Text(field.name),
+                Text(" "),
+                Decimal(field.number),
+            ];
+            write_pieces(sink, &words)
+        }
         None => Ok(()),
     }
 }
@@ -332,28 +289,18 @@ fn write_fields<S: Sink>(sink: &mut S, fields: &[Option<FaultField>]) -> Result<
     Ok(())
 }
 
-/// Writes what a fault is of, and its kind.
-fn write_kind<'a, S: Sink>(sink: &mut S, source: &'a str, kind: &'a str) -> Result<(), WriteFault>
-    ensures { Writes S.contents S.failures sink.old
-        (codes "fault " ++ source.now ++ codes " " ++ kind.now) result sink.new }
-{
-    write_pieces(
-        sink,
-        &[
-            LinePiece::Text("fault "),
-            LinePiece::Text(source),
-            LinePiece::Text(" "),
-            LinePiece::Text(kind),
-        ],
-    )
-}
-
 /// Writes the line of a fault, without memory.
 pub(crate) fn write_fault<S: Sink>(sink: &mut S, fault: Fault) -> Result<(), WriteFault>
     ensures { Writes S.contents S.failures sink.old (table.printed_fault fault).1 result sink.new }
 {
     let line = fault.line();
-    write_kind(sink, line.source, line.kind.name)?;
+    let front = [
+        Text("fault "),
+        Text(line.source),
+        Text(" "),
+        Text(line.kind.name),
+    ];
+    write_pieces(sink, &front)?;
     write_fields(sink, &line.kind.fields)?;
     write_whole(sink, b"\n")
 }

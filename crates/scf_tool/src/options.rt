@@ -143,10 +143,7 @@ pub(crate) fn chosen<T: Copy>(
             found = Some(flag.1);
         }
     }
-    match found {
-        Some(choice) => Ok(choice),
-        None => Ok(without),
-    }
+    Ok(found.unwrap_or(without))
 }
 
 impl NumberOption {

@@ -6,6 +6,7 @@ ghost use Rattle.scf_insn.specs.Streams.{Writes};
 ghost use Rattle.scf_tool.specs.Numerals.{eight_digits};
 ghost use Rattle.scf_tool.specs.internal.Pieces.{line_piece_text};
 
+use LinePiece::{Decimal, EightDigits, Hexadecimal, Text};
 use scf_insn::{Sink, WriteFault, digit_byte, write_numeral, write_whole};
 
 /// A piece of a line.
@@ -39,10 +40,10 @@ fn write_piece<S: Sink>(sink: &mut S, piece: LinePiece<'_>) -> Result<(), WriteF
     ensures { Writes S.contents S.failures sink.old (line_piece_text piece.entry) result sink.new }
 {
     match piece {
-        LinePiece::Text(text) => write_whole(sink, text.as_bytes()),
-        LinePiece::Decimal(number) => write_numeral(sink, number, 10),
-        LinePiece::Hexadecimal(number) => write_numeral(sink, number, 16),
-        LinePiece::EightDigits(number) => write_whole(sink, &eight_digits_of(number)),
+        Text(text) => write_whole(sink, text.as_bytes()),
+        Decimal(number) => write_numeral(sink, number, 10),
+        Hexadecimal(number) => write_numeral(sink, number, 16),
+        EightDigits(number) => write_whole(sink, &eight_digits_of(number)),
     }
 }
 

@@ -1,4 +1,5 @@
 //! What the program prints of a comparison.
+#![tactic(auto, using(crate::proofs::WritingLemmas::one_after_another))]
 
 ghost use Rattle.std.specs.Prelude.{◌≡◌, ◌++◌, codes, string_bytes, IfOk};
 ghost use Rattle.std.specs.Fmt.{decimal};
@@ -18,12 +19,22 @@ ghost use Rattle.scf_tool.specs.Reports.{
 
 use crate::gathered::Gathered;
 use crate::lines::write_answer;
-use crate::pieces::{LinePiece, write_pieces};
+use crate::pieces::LinePiece::{Decimal, Hexadecimal, Text};
+use crate::pieces::write_pieces;
 use crate::verification::Outcome;
 use scf_compare::{Relation, Verdict};
 use scf_insn::{Answer, CallRecord, Memory, Sink, WriteFault, write_whole};
 use scf_profile::Texts;
 use std::alloc::Global;
+
+pub(crate) fn write_arguments<S: Sink>(sink: &mut S, arguments: &[u64]) -> Result<(), WriteFault>
+    ensures { Writes S.contents S.failures sink.old (flat_map argument_text arguments.now) result sink.new }
+{
+    for argument in arguments {
+        write_pieces(sink, &[Text(" 0x"), Hexadecimal(*argument)])?;
+    }
+    Ok(())
+}
 
 /// Writes the number, the architecture and the instruction pointer of a call.
 fn write_call_front<S: Sink>(sink: &mut S, call: &CallRecord) -> Result<(), WriteFault>
@@ -32,36 +43,16 @@ fn write_call_front<S: Sink>(sink: &mut S, call: &CallRecord) -> Result<(), Writ
         ++ codes " ip " ++ prefixed call.now.ip ++ codes " args")
         result sink.new }
 {
-    write_pieces(
-        sink,
-        &[
-            LinePiece::Text("call nr "),
-            LinePiece::Decimal(u64::from(call.nr)),
-            LinePiece::Text(" arch 0x"),
-            LinePiece::Hexadecimal(u64::from(call.arch)),
-            LinePiece::Text(" ip 0x"),
-            LinePiece::Hexadecimal(call.ip),
-            LinePiece::Text(" args"),
-        ],
-    )
-}
-
-fn write_argument<S: Sink>(sink: &mut S, argument: u64) -> Result<(), WriteFault>
-    ensures { Writes S.contents S.failures sink.old (argument_text argument) result sink.new }
-{
-    write_pieces(
-        sink,
-        &[LinePiece::Text(" 0x"), LinePiece::Hexadecimal(argument)],
-    )
-}
-
-pub(crate) fn write_arguments<S: Sink>(sink: &mut S, arguments: &[u64]) -> Result<(), WriteFault>
-    ensures { Writes S.contents S.failures sink.old (flat_map argument_text arguments.now) result sink.new }
-{
-    for argument in arguments {
-        write_argument(sink, *argument)?;
-    }
-    Ok(())
+    let front = [
+        Text("call nr "),
+        Decimal(u64::from(call.nr)),
+        Text(" arch 0x"),
+        Hexadecimal(u64::from(call.arch)),
+        Text(" ip 0x"),
+        Hexadecimal(call.ip),
+        Text(" args"),
+    ];
+    write_pieces(sink, &front)
 }
 
 fn write_call<S: Sink>(sink: &mut S, call: &CallRecord) -> Result<(), WriteFault>
@@ -72,12 +63,6 @@ fn write_call<S: Sink>(sink: &mut S, call: &CallRecord) -> Result<(), WriteFault
     write_whole(sink, b"\n")
 }
 
-fn write_who<S: Sink>(sink: &mut S, who: &str) -> Result<(), WriteFault>
-    ensures { Writes S.contents S.failures sink.old (who.now ++ codes " ") result sink.new }
-{
-    write_pieces(sink, &[LinePiece::Text(who), LinePiece::Text(" ")])
-}
-
 pub(crate) fn write_answer_line<S: Sink>(
     sink: &mut S,
     who: &str,
@@ -85,7 +70,7 @@ pub(crate) fn write_answer_line<S: Sink>(
 ) -> Result<(), WriteFault>
     ensures { Writes S.contents S.failures sink.old (answer_line who.now answer.0) result sink.new }
 {
-    write_who(sink, who)?;
+    write_pieces(sink, &[Text(who), Text(" ")])?;
     write_answer(sink, answer)?;
     write_whole(sink, b"\n")
 }
@@ -116,54 +101,7 @@ pub(crate) fn failing(relation: Relation) -> &'static str
 pub(crate) fn write_word<S: Sink>(sink: &mut S, word: &str) -> Result<(), WriteFault>
     ensures { Writes S.contents S.failures sink.old (word.now ++ codes "\n") result sink.new }
 {
-    write_pieces(sink, &[LinePiece::Text(word), LinePiece::Text("\n")])
-}
-
-/// Writes a call and its two answers.
-fn write_difference<S: Sink>(
-    sink: &mut S,
-    call: &CallRecord,
-    filter: Answer,
-    profile: Answer,
-) -> Result<(), WriteFault>
-    ensures { Writes S.contents S.failures sink.old
-        (call_line call.now ++ (answer_line (codes "filter") filter.0 ++ answer_line (codes "profile") profile.0))
-        result sink.new }
-{
-    write_call(sink, call)?;
-    write_answer_line(sink, "filter", filter)?;
-    write_answer_line(sink, "profile", profile)
-}
-
-fn write_undecided<S: Sink>(sink: &mut S, at: usize) -> Result<(), WriteFault>
-    ensures { Writes S.contents S.failures sink.old
-        (codes "undecided at " ++ decimal at ++ codes "\n") result sink.new }
-{
-    write_pieces(
-        sink,
-        &[
-            LinePiece::Text("undecided at "),
-            LinePiece::Decimal(at as u64),
-            LinePiece::Text("\n"),
-        ],
-    )
-}
-
-/// Writes that a relation doesn't hold, of a call and its two answers.
-fn write_failing<S: Sink>(
-    sink: &mut S,
-    relation: Relation,
-    call: &CallRecord,
-    filter: Answer,
-    profile: Answer,
-) -> Result<(), WriteFault>
-    ensures { Writes S.contents S.failures sink.old
-        (((said_of relation).1 ++ codes "\n") ++ (call_line call.now
-        ++ (answer_line (codes "filter") filter.0 ++ answer_line (codes "profile") profile.0)))
-        result sink.new }
-{
-    write_word(sink, failing(relation))?;
-    write_difference(sink, call, filter, profile)
+    write_pieces(sink, &[Text(word), Text("\n")])
 }
 
 pub(crate) fn write_verdict<S: Sink>(
@@ -179,8 +117,16 @@ pub(crate) fn write_verdict<S: Sink>(
             call,
             filter,
             profile,
-        } => write_failing(sink, relation, call, *filter, *profile),
-        Verdict::Undecided { at } => write_undecided(sink, *at),
+        } => {
+            write_word(sink, failing(relation))?;
+            write_call(sink, call)?;
+            write_answer_line(sink, "filter", *filter)?;
+            write_answer_line(sink, "profile", *profile)
+        }
+        Verdict::Undecided { at } => {
+            let line = [Text("undecided at "), Decimal(*at as u64), Text("\n")];
+            write_pieces(sink, &line)
+        }
         Verdict::Unfinished => write_whole(sink, b"unfinished\n"),
     }
 }
@@ -188,32 +134,18 @@ pub(crate) fn write_verdict<S: Sink>(
 fn write_name<'a, S: Sink>(sink: &mut S, word: &'a str, name: &'a String) -> Result<(), WriteFault>
     ensures { Writes S.contents S.failures sink.old (name_line word.now (string_bytes name.now)) result sink.new }
 {
-    write_pieces(
-        sink,
-        &[
-            LinePiece::Text(word),
-            LinePiece::Text(" "),
-            LinePiece::Text(name.as_str()),
-            LinePiece::Text("\n"),
-        ],
-    )
+    let line = [Text(word), Text(" "), Text(name.as_str()), Text("\n")];
+    write_pieces(sink, &line)
 }
 
 /// Writes a line for each name, behind a word.
-fn write_names<S: Sink>(sink: &mut S, word: &str, names: &[String]) -> Result<(), WriteFault>
-    ensures { Writes S.contents S.failures sink.old
-        (flat_map (λ name. name_line word.now (string_bytes name)) names.now) result sink.new }
+fn write_names<S: Sink>(sink: &mut S, word: &str, names: &Texts) -> Result<(), WriteFault>
+    ensures { Writes S.contents S.failures sink.old (flat_map (name_line word.now) names.now) result sink.new }
 {
-    for name in names {
+    for name in names.as_slice() {
         write_name(sink, word, name)?;
     }
     Ok(())
-}
-
-fn write_texts<S: Sink>(sink: &mut S, word: &str, names: &Texts) -> Result<(), WriteFault>
-    ensures { Writes S.contents S.failures sink.old (flat_map (name_line word.now) names.now) result sink.new }
-{
-    write_names(sink, word, names.as_slice())
 }
 
 /// Writes what was left out of a profile.
@@ -224,8 +156,8 @@ pub(crate) fn write_left_out<S: Sink>(
 ) -> Result<(), WriteFault>
     ensures { Writes S.contents S.failures sink.old (left_out_text skipped.now others.now) result sink.new }
 {
-    write_texts(sink, "skipped", skipped)?;
-    write_texts(sink, "other", others)
+    write_names(sink, "skipped", skipped)?;
+    write_names(sink, "other", others)
 }
 
 fn write_outcome<S: Sink>(

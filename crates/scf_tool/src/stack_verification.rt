@@ -25,14 +25,9 @@ pub(crate) fn compare_parties(
         → IsVerifiedBy relation filters table profile scope limit outcome) }
 {
     let loaded = parties.loaded;
-    let verdict = compare_by::<WordSets>(
-        alloc,
-        &parties.stack,
-        &loaded.profile,
-        scope,
-        relation,
-        limit,
-    )?;
+    let stack = &parties.stack;
+    let profile = &loaded.profile;
+    let verdict = compare_by::<WordSets>(alloc, stack, profile, scope, relation, limit)?;
     Ok(Outcome {
         verdict,
         skipped: loaded.skipped,

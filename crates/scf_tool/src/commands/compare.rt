@@ -38,44 +38,10 @@ fn status_of_verdict(verdict: &Verdict) -> Status
 fn status_of_joint(joint: Option<Verdict>) -> Status
     ensures { result ≡ option_map_or verdict_status joint Status.Well }
 {
-    match joint {
-        None => Status::Well,
-        Some(verdict) => status_of_verdict(&verdict),
-    }
+    joint.map_or(Status::Well, |verdict| status_of_verdict(&verdict))
 }
 
-/// The report on parties over the calls of a scope and by a relation.
-fn report_in(
-    alloc: Global,
-    scope: Scope,
-    relation: Relation,
-    parties: Parties,
-    limit: u64,
-) -> Result<Reply, Memory>
-    ensures { IfOk result (IsReportOn (Scopes.AtOnce scope) relation limit parties) }
-{
-    let outcome = compare_parties(alloc, parties, scope, relation, limit)?;
-    let status = status_of_verdict(&outcome.verdict);
-    let text = report_by(alloc, relation, &outcome)?;
-    Ok(Reply::Compared { text, status })
-}
-
-/// The report on parties, call by call and by a relation.
-fn report_each(
-    alloc: Global,
-    relation: Relation,
-    parties: Parties,
-    limit: u64,
-) -> Result<Reply, Memory>
-    ensures { IfOk result (IsReportOn Scopes.EachCall relation limit parties) }
-{
-    let outcome = compare_named_calls(alloc, parties, relation, limit)?;
-    let status = status_of_joint(joint_verdict(&outcome.calls));
-    let text = report_calls_by(alloc, relation, &outcome)?;
-    Ok(Reply::Compared { text, status })
-}
-
-/// The report on parties over the calls that are asked for.
+/// The report on parties over the calls that are asked for and by a relation.
 fn report_on(
     alloc: Global,
     scopes: Scopes,
@@ -86,8 +52,18 @@ fn report_on(
     ensures { IfOk result (IsReportOn scopes relation limit parties) }
 {
     match scopes {
-        Scopes::AtOnce(scope) => report_in(alloc, scope, relation, parties, limit),
-        Scopes::EachCall => report_each(alloc, relation, parties, limit),
+        Scopes::AtOnce(scope) => {
+            let outcome = compare_parties(alloc, parties, scope, relation, limit)?;
+            let status = status_of_verdict(&outcome.verdict);
+            let text = report_by(alloc, relation, &outcome)?;
+            Ok(Reply::Compared { text, status })
+        }
+        Scopes::EachCall => {
+            let outcome = compare_named_calls(alloc, parties, relation, limit)?;
+            let status = status_of_joint(joint_verdict(&outcome.calls));
+            let text = report_calls_by(alloc, relation, &outcome)?;
+            Ok(Reply::Compared { text, status })
+        }
     }
 }
 
@@ -129,13 +105,7 @@ pub(super) fn compare_bundle<R: Source>(
     let (Some(profile), Some(table), false) = (profile, table, contents.filters.is_empty()) else {
         return Err(Fault::Parts);
     };
-    Ok(compare_parts(
-        alloc,
-        &mut contents.filters,
-        profile,
-        table,
-        scopes,
-        relation,
-        limit,
-    )?)
+    let filters = &mut contents.filters;
+    let reply = compare_parts(alloc, filters, profile, table, scopes, relation, limit)?;
+    Ok(reply)
 }

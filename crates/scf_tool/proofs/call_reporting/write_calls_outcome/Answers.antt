@@ -1,12 +1,10 @@
-use Rattle.scf_tool.proofs.Common.{err_from_is_err_and, fails_first, writes_then}
+use Rattle.scf_tool.proofs.Common.{append_assoc, writes_then}
 use Rattle.scf_tool.proofs.call_reporting.write_calls_outcome.Goals as goal
-
-pub returns-in_err-write_verdicts : goal.returns-in_err-write_verdicts
-returns-in_err-write_verdicts g c =
-    rw (err_from_is_err_and c.from_residual.result c.from_residual.ensures.1).1
-    (fails_first _ (rw c.deref.ensures.value at c.in_err-write_verdicts.ensures))
 
 pub returns : goal.returns
 returns g c =
-    writes_then g.S.Sink.contents g.S.Sink.failures _ _ _ _ _ _
-    (rw c.deref.ensures.value at c.in_ok-write_verdicts.ensures) c.write_left_out.ensures
+    rw append_assoc
+    (writes_then g.S.Sink.contents g.S.Sink.failures _ _ _ _ _ _
+    (rw (c.joint_verdict.ensures, c.deref.ensures.value) at c.in_ok-write_joint.ensures)
+    (writes_then g.S.Sink.contents g.S.Sink.failures _ _ _ _ _ _
+    (rw c.deref-2.ensures.value at c.in_ok-write_calls.ensures) c.write_left_out.ensures))

@@ -1,9 +1,9 @@
-use Rattle.scf_tool.proofs.Common.{err_from_is_err_and, ◌++◌, String, codes, string_bytes, Global, each_fails}
+use Rattle.scf_tool.proofs.Common.{◌++◌, append-nil, String, codes, string_bytes, Global, err_from_is_err_and, each_fails}
 use Rattle.scf_tool.proofs.call_reporting.write_others.Goals as goal
 
-pub returns-in_err-write_other : goal.returns-in_err-write_other
-returns-in_err-write_other g c =
+pub returns-in_err-write_pieces : goal.returns-in_err-write_pieces
+returns-in_err-write_pieces g c =
     rw (err_from_is_err_and c.from_residual.result c.from_residual.ensures.1).1
     (each_fails (λ (text : String Global). codes "," ++ string_bytes text) c.args.texts.now c.loop-text.text-index
     c.text-item.result c.loop-text-test.true c.loop-text.invariant
-    (rw c.text-item.is at c.in_err-write_other.ensures))
+    (rw (c.as_str.ensures.value, append-nil, c.text-item.is) at c.in_err-write_pieces.ensures))

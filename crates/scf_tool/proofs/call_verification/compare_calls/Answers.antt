@@ -5,5 +5,5 @@ use Rattle.scf_tool.proofs.call_verification.compare_calls.Goals as goal
 pub loop-call-preserved : goal.loop-call-preserved
 loop-call-preserved c =
     rw (take_more _ _ c.call-item.result c.loop-call-test.true, c.in_ok-push.ensures.items)
-    (AllZip-more (IsVerdictOnCall c.args.relation c.args.stack.now c.args.profile.now c.args.limit) _ _ _ _
-    c.loop-call.invariant (rw c.call-item.is at c.in_ok-verdict.ensures))
+    (AllZip-more (IsVerdictOnCall c.args.relation c.args.parties.now.stack c.args.parties.now.loaded.profile
+    c.args.limit) _ _ _ _ c.loop-call.invariant (rw c.call-item.is at c.in_ok-verdict.ensures))

@@ -1,10 +1,9 @@
 use Rattle.std.specs.Fmt.{decimal}
-use Rattle.scf_tool.proofs.Common.{◌++◌, ℕ, codes, err_from_is_err_and, each_fails}
+use Rattle.scf_tool.proofs.Common.{◌++◌, ℕ, append-nil, codes, err_from_is_err_and, each_fails}
 use Rattle.scf_tool.proofs.lines.write_places.Goals as goal
 
-pub returns-in_err-write_place : goal.returns-in_err-write_place
-returns-in_err-write_place g c =
+pub returns-in_err-write_pieces : goal.returns-in_err-write_pieces
+returns-in_err-write_pieces g c =
     rw (err_from_is_err_and c.from_residual.result c.from_residual.ensures.1).1
     (each_fails (λ (place : ℕ). codes " " ++ decimal place) c.args.places.now c.loop-place.place-index _
-    c.loop-place-test.true c.loop-place.invariant
-    c.in_err-write_place.ensures)
+    c.loop-place-test.true c.loop-place.invariant (rw append-nil at c.in_err-write_pieces.ensures))
