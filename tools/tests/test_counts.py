@@ -57,6 +57,9 @@ class Counts(Case):
     def ran(self, text, *names):
         shutil.copy2(os.path.join(TOP, "tools", "tests", "__main__.py"), self.folder)
         self.file("test_made.py", text)
+        return self.run_all(*names)
+
+    def run_all(self, *names):
         status, out, err = self.run_words([sys.executable, self.folder, *names])
         self.assertEqual(err, "")
         return status, out.splitlines()
@@ -75,3 +78,18 @@ class Counts(Case):
     def test_no_test_at_all_is_no_success(self):
         self.assertEqual(self.ran("")[0], 1)
         self.assertEqual(self.ran("x = 1 /\n")[0], 1)
+
+    def test_modules_are_counted_together(self):
+        self.file("test_other.py", MADE)
+        status, lines = self.ran(MADE)
+        self.assertEqual((status, lines[-1]), (1, "4 passed, 6 failed, 6 skipped"))
+        self.assertEqual(lines.count("2 passed, 3 failed, 3 skipped"), 2)
+        self.assertIn("skipped: test_other.Some.test_skipped: for a reason", lines)
+        status, lines = self.run_all("test_made.Some.test_well", "test_other.Some.test_well")
+        self.assertEqual((status, lines[-1]), (0, "2 passed, 0 failed"))
+
+    def test_a_module_that_ends_early_is_a_failure(self):
+        for text in ("", "x = 1 /\n", "import os\nos._exit(0)\n", "import os\nos.kill(os.getpid(), 9)\n"):
+            self.file("test_early.py", text)
+            status, lines = self.ran(MADE, "test_made.Some.test_well", "test_early")
+            self.assertEqual((status, lines[-1]), (1, "1 passed, 1 failed"), text)
