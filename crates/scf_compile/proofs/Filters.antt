@@ -41,25 +41,21 @@ module _ {p : Profile} {ss : List Stretch} {searched killed ranged loaded : List
 
   ranged_put : ArePut (AllRules IsPlainRule ss) (2 + (1 + found.room)) [] ranged range
   ranged_put =
-      let stands = above_put.near.stands in
-      let stood = found.put.near.stands in
       branch_put x32 search GreaterOrEqual x32_syscall_bit (λ h m. tt)
-      (puts_join (AllRules IsPlainRule ss) found.put above_put (λ all. (all, tt))) above_put.some stands found.put.some
-      (omega (arith, (longer above_put).0)) test
+      (puts_join (AllRules IsPlainRule ss) found.put above_put (λ all. (all, tt))) above_put.some
+      above_put.near.stands found.put.some (omega (arith, found.put.near.stands, (longer above_put).0)) test
 
   len : (length loaded ≡ 1 + length ranged) × (length ranged ≤ 3 + found.room) × (0 < length ranged)
-  len =
-      let some = ranged_put.some in
-      let stands = ranged_put.near.stands in
-      (omega (arith, ap (λ (l : List Insn). length l) load), omega (arith, (longer ranged_put).1), omega arith)
+  len = (
+    omega (arith, ap (λ (l : List Insn). length l) load),
+    omega (arith, (longer ranged_put).1),
+    omega (arith, ranged_put.some, ranged_put.near.stands),
+  )
 
   pub answered_few : {answered : List Insn} {other : Place} → IsPut (return_with kill ∷ []) loaded answered other
       → length answered < 2 ^ 31
   answered_few beside =
-      let small = serve.small in
-      let below = serve.below in
-      let fits = found.small in
-      omega (arith, (longer (kill_put beside)).1, len.0, len.1)
+      omega (arith, serve.small, serve.below, found.small, (longer (kill_put beside)).1, len.0, len.1)
 
   module _ {answered tested code : List Insn} {other first : Place} (native : Place) (here : native.0 ≡ length loaded)
       (beside : IsPut (return_with kill ∷ []) loaded answered other)
@@ -77,23 +73,17 @@ module _ {p : Profile} {ss : List Stretch} {searched killed ranged loaded : List
 
     is_tested : code ≡ load_word 1 ∷ jump_if Equal audit_arch_x86_64 to_native to_other ∷ answered
     is_tested =
-        let near = beside_put.near.near in
-        whole ∙ ap (λ (l : List Insn). load_word 1 ∷ l) (rw (le-leb to_other 255 (omega arith)) at arch.whole)
+        let near = le-leb to_other 255 (omega (arith, beside_put.near.near)) in
+        whole ∙ ap (λ (l : List Insn). load_word 1 ∷ l) (rw near at arch.whole)
 
     filter_sound : (asked : Bool) → (IsTrue asked → IsPlainProfile p) → AreSound asked code
     filter_sound asked is =
-        let stands = beside_put.near.stands in
         let some = beside_put.some in
-        let native_stands : to_native < length answered = omega (arith, len.0, (longer beside_put).0) in
         let ranged_sound = ranged_put.sound asked (λ e. serve.plain (is e)) tt in
-        rw is_tested (
-          load_sound 1 (omega arith) (omega arith),
-          (
-            jump_sound Equal audit_arch_x86_64 to_native to_other native_stands (omega arith) (λ _. tt),
-            beside_put.sound asked (λ _. tt)
-                (rw load (load_sound 0 (omega arith) (omega (arith, len.2)), ranged_sound)),
-          ),
-        )
+        let own : AreSound asked loaded = rw load (load_sound 0 (omega arith) (omega (arith, len.2)), ranged_sound) in
+        let jump = jump_sound Equal audit_arch_x86_64 to_native to_other (omega (arith, len.0, (longer beside_put).0))
+        (omega (arith, beside_put.near.stands)) (λ _. tt) in
+        rw is_tested (load_sound 1 (omega arith) (omega arith), (jump, beside_put.sound asked (λ _. tt) own))
 
     module _ (call : CallRecord) (fits : IsRecord call) where
       abbrev native_answer : ℕ
@@ -141,8 +131,8 @@ module _ {p : Profile} {ss : List Stretch} {searched killed ranged loaded : List
     pub filter_put : IsFilterOf p code
     filter_put = record {
       some = omega (arith, ap (λ (l : List Insn). length l) is_tested);
-      small = let small = serve.small in let fits = found.small in
-          omega (arith, ap (λ (l : List Insn). length l) is_tested, (longer beside_put).1, len.0, len.1);
+      small = let all = ap (λ (l : List Insn). length l) is_tested in
+          omega (arith, serve.small, found.small, all, (longer beside_put).1, len.0, len.1);
       sound = filter_sound;
       answered = λ call fits. record {
         answer = cond (eqb call.arch audit_arch_x86_64) (native_answer call fits) kill;

@@ -33,15 +33,14 @@ module _ (default : Answer) (wanted : ℕ → List Rule) where
       let end = parts.2.2 in
       rw (same, is) (served_push 0 parts.0 limit earlier last parts.1 (record {
         first = own.first;
-        some = let some = own.some in omega arith;
+        some = omega (arith, own.some);
         stand = λ nr from below. elim (cases_lt nr next) [
           | inl inside ↦ own.stand nr from (omega arith)
           | inr past ↦
               let first = alike default in
-              let rest = stand nr past below in
-              record {
+              let rest = stand nr past below in record {
                 answers = λ call. first.answers call ∙ rest.answers call;
-                small = let m = first.small in let n = rest.small in omega arith;
+                small = omega (arith, first.small, rest.small);
               }
         ];
       }))

@@ -29,14 +29,14 @@ rule_answers cs answer n most others p f fine next le =
     let t = conditions_tests cs fine in
     let conditions = conditions_code cs in
     let own = return_with answer ∷ [] in
-    let few = t.len in
+    let whole = length-append (conditions ++ own) others in
     record {
-      some = let some = next.some in omega (arith, length-append (conditions ++ own) others);
-      len = let len = next.len in omega (arith, length-append (conditions ++ own) others, length-append conditions own);
+      some = omega (arith, next.some, whole);
+      len = omega (arith, t.len, next.len, whole, length-append conditions own);
       sound = λ asked rest is s.
           rw (append_assoc (conditions ++ own) others rest, append_assoc conditions own (others ++ rest))
           (t.sound asked (own ++ (others ++ rest)) (λ e. (is e).0) (omega arith)
-          (let some = next.some in omega (arith, length-append others rest))
+          (omega (arith, next.some, length-append others rest))
           (return_sound answer, next.sound asked rest (λ e. (is e).1) s));
       ends = λ call fits rest a.
           rw (append_assoc (conditions ++ own) others rest, append_assoc conditions own (others ++ rest))
@@ -137,14 +137,8 @@ answers_put {block} {before} {after} {place} plain is simple put = by_put put.pu
   where
     some : 0 < place.0
     some =
-        let has = is.some in
-        let stands = put.near.stands in
-        omega (
-          arith,
-          ap (λ (l : List Insn). length l) put.there,
-          length-append block put.behind,
-          length-drop (length after - place.0) after,
-        )
+        let there = ap (λ (l : List Insn). length l) put.there ∙ length-append block put.behind in
+        omega (arith, is.some, put.near.stands, there, length-drop (length after - place.0) after)
 
     by_put : (after ≡ before) ⊎ (after ≡ block ++ before) → ArePut plain (length block) before after place
     by_put (inl same) = record {

@@ -3,7 +3,7 @@ use Rattle.scf_compile.proofs.Common.{◌≡◌, ℕ, suc, ◌+◌, ◌*◌, ◌
 
 pub more : {words : List ℕ} {code : List Insn} {a answer m most : ℕ} → EndsWithin words code a answer m → m ≤ most
     → EndsWithin words code a answer most
-more e le = record { steps = e.steps; run = e.run; few = (let few = e.few in omega arith) }
+more e le = record { steps = e.steps; run = e.run; few = omega (arith, e.few) }
 
 -- what is behind an instruction, from some place on, is a part of the whole
 behind_is_part : (i : Insn) (behind : List Insn) (count : ℕ) → IsPart (drop count behind) (1 + count) (i ∷ behind)
@@ -30,12 +30,11 @@ module _ {words : List ℕ} {behind : List Insn} {answer most : ℕ} where
         count = let e = run.count in omega (arith, length-map run.earlier (moved n));
       } in
       let same : n + 0 ≡ n = omega arith in
-      let few = e.few in
       record {
         steps = 1 + e.steps;
         run = run_behind (i ∷ behind) words (at 0 a) (at n b) (at 0 a ∷ []) answer e.steps (goes, refl)
             (subst (λ (p : ℕ). IsRunFrom (i ∷ behind) words (at p b) answer e.steps) same rest);
-        few = omega arith;
+        few = omega (arith, e.few);
       }
 
   pub loads : {n : ℕ} (word a : ℕ) → word < 16 → slice_index words word ≡ n → EndsWithin words behind n answer most

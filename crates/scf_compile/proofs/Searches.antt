@@ -1,5 +1,5 @@
 -- The search of stretches finds that of each number.
-use Rattle.scf_compile.proofs.Common.{◌≡◌, ℕ, zero, suc, ◌+◌, ◌-◌, ◌*◌, ◌^◌, ◌<◌, ◌≤◌, All, List, [], ◌∷◌, ◌++◌, length, get_or, take, drop, sym, ap, ◌∙◌, arith, length-append, append_assoc, sum_by, length-take, length-drop, nat_tests, take-append-drop, All-take, All-drop, recursion_from_All, sum_by-cons, sum_by-append, Answer, Insn, CallRecord, Test, GreaterOrEqual, JumpIf, Constant, words_of, IsPlainOperation, Rule, rules_at, IsPlainRule, IsRule, Place, Stretch, rule_bound, jump_if, branch_code, code_from, IsFirst, IsPut, rules_code, ArePut, IsSearchPut, EndsWithin, AllRules, AreServed, first_answer, stretch_bound}
+use Rattle.scf_compile.proofs.Common.{◌≡◌, ℕ, zero, suc, ◌+◌, ◌-◌, ◌*◌, ◌^◌, ◌<◌, ◌≤◌, All, List, [], ◌∷◌, ◌++◌, length, get_or, take, drop, refl, sym, ap, ◌∙◌, arith, length-append, append_assoc, sum_by, length-take, length-drop, nat_tests, take-append-drop, All-take, All-drop, recursion_from_All, sum_by-cons, sum_by-append, Answer, Insn, CallRecord, Test, GreaterOrEqual, JumpIf, Constant, words_of, IsPlainOperation, Rule, rules_at, IsPlainRule, IsRule, Place, Stretch, rule_bound, jump_if, branch_code, code_from, IsFirst, IsPut, rules_code, ArePut, IsSearchPut, EndsWithin, AllRules, AreServed, first_answer, stretch_bound}
 use Rattle.scf_compile.proofs.Laying.{served_parts}
 use Rattle.scf_compile.proofs.Runs.{more}
 use Rattle.scf_compile.proofs.RuleCode.{rules_answer, rules_bounded, branch_ends, branch_sound, branch_few}
@@ -15,9 +15,8 @@ stays {plain} {n} {mid} p put le = ap (code_from p) put.whole ∙ from_behind pu
 pub longer : {plain : Type 0} {n : ℕ} {mid after : List Insn} {q : Place} → ArePut plain n mid after q
     → (length mid ≤ length after) × (length after ≤ n + length mid)
 longer {plain} {n} {mid} put =
-    let few = put.few in
     let len = ap (λ (l : List Insn). length l) put.whole ∙ length-append put.front mid in
-    (omega arith, omega arith)
+    (omega arith, omega (arith, put.few))
 
 pub puts_join : {before mid after : List Insn} {p q : Place} {m n : ℕ} {r s : Type 0} (plain : Type 0)
     → ArePut r m before mid p → ArePut s n mid after q → (plain → r × s) → ArePut plain (n + m) before after q
@@ -25,10 +24,7 @@ puts_join {before} plain under over parts = record {
   front = over.front ++ under.front;
   whole = over.whole ∙ ap (λ (l : List Insn). over.front ++ l) under.whole
       ∙ sym (append_assoc over.front under.front before);
-  few =
-      let a = under.few in
-      let b = over.few in
-      omega (arith, length-append over.front under.front);
+  few = omega (arith, under.few, over.few, length-append over.front under.front);
   some = over.some;
   near = over.near;
   sound = λ asked is s. over.sound asked (λ e. (parts (is e)).1) (under.sound asked (λ e. (parts (is e)).0) s);
@@ -48,8 +44,7 @@ branch_put {before} {both} {after} {q} {place} hit miss test constant is put som
       front = branch;
       whole = first.whole;
       few = branch_few test constant to_hit to_miss;
-      some = let all = first.first in
-          omega (arith, ap (λ (l : List Insn). length l) first.whole, length-append branch both);
+      some = omega (arith, first.first, ap (λ (l : List Insn). length l) first.whole, length-append branch both);
       near = first_near after place first.first;
       sound = λ asked none s. rw first.whole
           (branch_sound asked test constant to_hit to_miss both (omega arith) (omega arith) is s);
@@ -59,7 +54,7 @@ branch_put {before} {both} {after} {q} {place} hit miss test constant is put som
 
 pub put_len : {default : Answer} {ss : List Stretch} {before after : List Insn} {place : Place}
     → IsSearchPut default ss before after place → length after + 2 ≤ length before + sum_by stretch_bound ss
-put_len s = let small = s.small in omega (arith, (longer s.put).1)
+put_len s = omega (arith, s.small, (longer s.put).1)
 
 -- the first of some stretches begins at their lower bound
 begins_at : (default : Answer) (wanted : ℕ → List Rule) (low high : ℕ) (ss : List Stretch) (s : Stretch) → 0 < length ss
@@ -68,10 +63,10 @@ begins_at default wanted low high [] s some is served = absurd (omega arith)
 begins_at default wanted low high (t ∷ ss) s some is served =
     ap (λ (u : Stretch). u.first) is ∙ served.1.first
 
-pub halves_sum : (k : ℕ) (ss : List Stretch)
-    → sum_by stretch_bound (take k ss) + sum_by stretch_bound (drop k ss) ≡ sum_by stretch_bound ss
-halves_sum k ss = sym (sum_by-append stretch_bound (take k ss) (drop k ss))
-    ∙ ap (sum_by stretch_bound) (take-append-drop k ss)
+pub halves_sum : (k : ℕ) (ss low high : List Stretch) → low ≡ take k ss → high ≡ drop k ss
+    → sum_by stretch_bound low + sum_by stretch_bound high ≡ sum_by stretch_bound ss
+halves_sum k ss low high front back = rw (front, back) (sym (sum_by-append stretch_bound (take k ss) (drop k ss))
+    ∙ ap (sum_by stretch_bound) (take-append-drop k ss))
 
 pub all_parts : (P : Rule → Type 0) (k : ℕ) (ss : List Stretch) → AllRules P ss
     → AllRules P (take k ss) × AllRules P (drop k ss)
@@ -103,18 +98,14 @@ module _ (default : Answer) (k : ℕ) (ss : List Stretch) (s : Stretch) (some : 
       → IsFirst (branch_code GreaterOrEqual s.first (length both - to_hit.0) (length both - to_miss.0)) both after place
       → IsSearchPut default ss before after place
   search_branch {before} {mid} {both} {after} {to_miss} {to_hit} {place} under over first =
-      let hit_stands = over.put.near.stands in
-      let miss_stands = under.put.near.stands in
+      let stands = under.put.near.stands in
       record {
         room = 2 + (over.room + under.room);
-        small =
-            let a = under.small in
-            let b = over.small in
-            omega (arith, halves_sum k ss);
+        small = omega (arith, under.small, over.small, halves_sum k ss _ _ refl refl);
         put =
             branch_put to_hit to_miss GreaterOrEqual s.first (λ h m. tt)
             (puts_join (AllRules IsPlainRule ss) under.put over.put (all_parts IsPlainRule k ss))
-            over.put.some hit_stands under.put.some (omega (arith, (longer over.put).0)) first;
+            over.put.some over.put.near.stands under.put.some (omega (arith, (longer over.put).0)) first;
         ends = λ call wanted low high halvings fits served from below few.
             let parts = served_parts default wanted low high (take k ss) (drop k ss) (rw take-append-drop served) in
             let middle : s.first ≡ parts.0 =
@@ -122,7 +113,7 @@ module _ (default : Answer) (k : ℕ) (ss : List Stretch) (s : Stretch) (some : 
             rw (from_first after place first.first ∙ first.whole)
             (search_ends call wanted _ _ both halvings few
             (λ n e f. over.ends call wanted parts.0 high n fits parts.2 (omega arith) below f)
-            (λ n e f. rw (← stays to_miss over.put miss_stands) at
+            (λ n e f. rw (← stays to_miss over.put stands) at
             (under.ends call wanted low parts.0 n fits parts.1 from (omega arith) f)));
       }
 
@@ -139,15 +130,12 @@ search_one default s before after place fine put =
     let own = recursion_from_All IsRule rs (fine 0 s (omega arith)) in
     let bounded = rules_bounded rs in
     let code = rules_answer default rs own in
-    let len = code.len in
     record {
       room = length (rules_code default rs);
-      small = omega (arith, sum_by-cons stretch_bound s []);
+      small = omega (arith, code.len, sum_by-cons stretch_bound s []);
       put = answers_put (AllRules IsPlainRule (s ∷ [])) code
           (λ all. recursion_from_All IsPlainRule rs (all 0 s (omega arith))) put;
       ends = λ call wanted low high n fits served from below few.
-          let end = served.2 in
-          let stand = served.1.stand call.nr from (omega arith) in
-          let small = stand.small in
-          rw (← stand.answers call) (more (answers_there code put call fits call.nr) (omega arith));
+          let stand = served.1.stand call.nr from (omega (arith, served.2)) in
+          rw (← stand.answers call) (more (answers_there code put call fits call.nr) (omega (arith, stand.small)));
     }

@@ -33,7 +33,7 @@ tests_as : {code : List Insn} {hit miss : ℕ} {p : Type 0} {f : CallRecord → 
     (g : CallRecord → Bool) → Tests code hit miss most p f → most ≤ n → (q → p)
     → ((call : CallRecord) → IsRecord call → f call ≡ g call) → Tests code hit miss n q g
 tests_as most n q g t le plain same = record {
-  len = let len = t.len in omega arith;
+  len = omega (arith, t.len);
   sound = λ asked rest is. t.sound asked rest (λ h. plain (is h));
   ends = λ call fits rest answer left a over under.
       let is = same call fits in
@@ -57,11 +57,11 @@ both : {first second : List Insn} {hit miss m n : ℕ} {p q : Type 0} {f g : Cal
     → Tests first 0 (length second + miss) m p f → Tests second hit miss n q g
     → Tests (first ++ second) hit miss (m + n) (p × q) (λ call. cond (f call) (g call) false)
 both {first} {second} {hit} {miss} {m} {n} {p} {q} {f} {g} s t = record {
-  len = let a = s.len in let b = t.len in omega (arith, length-append first second);
+  len = omega (arith, s.len, t.len, length-append first second);
   sound = λ asked rest plain h w is.
-      rw (append_assoc first second rest)
-      (s.sound asked (second ++ rest) (λ e. (plain e).0) (omega (arith, length-append second rest))
-      (omega (arith, length-append second rest)) (t.sound asked rest (λ e. (plain e).1) h w is));
+      let len = length-append second rest in
+      rw (append_assoc first second rest) (s.sound asked (second ++ rest) (λ e. (plain e).0) (omega arith)
+      (omega arith) (t.sound asked rest (λ e. (plain e).1) h w is));
   ends = λ call fits rest answer left a over under.
       rw (append_assoc first second rest)
       (more (s.ends call fits (second ++ rest) answer (n + left) a
@@ -164,16 +164,11 @@ module _ (index : ℕ) (lt : index < 6) where
       (λ call. argument_low call index) in
       record {
         len = omega arith;
-        sound = λ asked rest _ h m s. (
-          load_sound (word + 1) (omega arith) (omega arith),
-          (
-            jump_sound SameWord (high value) 1 0 (omega arith) (omega arith) (λ _. tt),
-            (
-              jump_sound Above (high value) (2 + hit) (2 + miss) (omega arith) (omega arith) (λ _. tt),
-              low_tests.sound asked rest (λ _. plain) h m s,
-            ),
-          ),
-        );
+        sound = λ asked rest _ h m s.
+            let equal = jump_sound SameWord (high value) 1 0 (omega arith) (omega arith) (λ _. tt) in
+            let above = jump_sound Above (high value) (2 + hit) (2 + miss) (omega arith) (omega arith) (λ _. tt) in
+            let rest_sound = low_tests.sound asked rest (λ _. plain) h m s in
+            (load_sound (word + 1) (omega arith) (omega arith), (equal, (above, rest_sound)));
         ends = λ call fits rest answer left a over under.
             more (loads (word + 1) a (omega arith) (argument_high call index)
             (jumps {most = 4 + left} SameWord (high value) 1 0 (high (n call))

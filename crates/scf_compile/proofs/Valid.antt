@@ -75,11 +75,10 @@ module _ {p : Profile} {code : List Insn} (filter : IsFilterOf p code) where
   pub answers_same : SameAnswers (RunAnswers code) p
   answers_same call fits =
       let found = filter.answered call fits in
-      let run = found.of_words in
       record {
         filter = found.answer;
         profile = found.answer;
-        of_words = (run.steps, run.run);
+        of_words = (found.of_words.steps, found.of_words.run);
         of_profile = found.of_profile;
         are_related = refl;
       }
@@ -88,6 +87,4 @@ module _ {p : Profile} {code : List Insn} (filter : IsFilterOf p code) where
   answers_within call fits answer steps run =
       let found = filter.answered call fits in
       let own = found.of_words in
-      let same = (run_once code (words_of call) found.answer answer own.steps steps own.run run).1 in
-      let few = own.few in
-      omega arith
+      omega (arith, own.few, (run_once code (words_of call) found.answer answer own.steps steps own.run run).1)

@@ -4,9 +4,8 @@ use Rattle.scf_compile.proofs.compiler.compile.Goals as goal
 
 pub returns-then-as_slice-gt-BPF_MAXINSNS-clause-large : goal.returns-then-as_slice-gt-BPF_MAXINSNS-clause-large
 returns-then-as_slice-gt-BPF_MAXINSNS-clause-large c = λ _.
-    let more = c.if-as_slice-gt-BPF_MAXINSNS.true in
-    let small = c.in_ok-code.ensures.small in
-    omega (arith, more, ap (λ (l : List Insn). length l) c.as_slice.ensures.value)
+    let len = ap (λ (l : List Insn). length l) c.as_slice.ensures.value in
+    omega (arith, c.if-as_slice-gt-BPF_MAXINSNS.true, c.in_ok-code.ensures.small, len)
 
 pub returns-in-Ok-clause-same : goal.returns-in-Ok-clause-same
 returns-in-Ok-clause-same c = rw c.in-Ok.ensures.accepted.0 (answers_same c.in_ok-code.ensures)

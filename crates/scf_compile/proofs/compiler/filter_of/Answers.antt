@@ -22,26 +22,19 @@ pub put_search-requires : goal.put_search-requires
 put_search-requires c =
     let serve = served c.rules.ensures.profile c.default_answer-default.ensures c.rules.ensures.rules
     c.deref.ensures.value c.deref-2.ensures.value c.in_ok-sorted.ensures c.in_ok-stretches.ensures in
-    let small = serve.small in
-    let below = serve.below in
     record {
       some = serve.some;
       rules = serve.fine;
-      small = omega (arith, ap (λ (l : List Insn). length l) c.new-code.ensures.items);
+      small = omega (arith, serve.small, serve.below, ap (λ (l : List Insn). length l) c.new-code.ensures.items);
     }
 
 pub put_branch-requires-clause-few : goal.put_branch-requires-clause-few
 put_branch-requires-clause-few c =
     let serve = served c.rules.ensures.profile c.default_answer-default.ensures c.rules.ensures.rules
     c.deref.ensures.value c.deref-2.ensures.value c.in_ok-sorted.ensures c.in_ok-stretches.ensures in
-    let small = serve.small in
-    let below = serve.below in
-    omega (
-      arith,
-      ap (λ (l : List Insn). length l) c.new-code.ensures.items,
-      put_len c.in_ok-calls.ensures,
-      (longer (kill_put (rw c.return_with.ensures at c.in_ok-x32.ensures))).1,
-    )
+    let none = ap (λ (l : List Insn). length l) c.new-code.ensures.items in
+    let killed = (longer (kill_put (rw c.return_with.ensures at c.in_ok-x32.ensures))).1 in
+    omega (arith, serve.small, serve.below, none, put_len c.in_ok-calls.ensures, killed)
 
 pub put_branch-requires-2-clause-few : goal.put_branch-requires-2-clause-few
 put_branch-requires-2-clause-few c =

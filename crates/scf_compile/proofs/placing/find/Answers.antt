@@ -23,12 +23,10 @@ returns-then-eq-clause-some c =
 pub returns-clause-none : goal.returns-clause-none
 returns-clause-none c = λ k d lt.
     let code = c.args.code.now.items in
-    let i = c.loop-i.i in
     let front = length-take 255 code in
-    let all : k < i = search (rules, front, lt) in
-    let within = length-take i code in
-    let here = c.loop-i.invariant k d (omega (arith)) in
-    rw (get_or-take 255 code k d (omega arith)) (rw (get_or-take i code k d all) at here)
+    let all : k < c.loop-i.i = search (rules, front, lt) in
+    let here = c.loop-i.invariant k d (omega (arith, length-take c.loop-i.i code)) in
+    rw (get_or-take 255 code k d (omega arith)) (rw (get_or-take c.loop-i.i code k d all) at here)
 
 pub loop-i-preserved : goal.loop-i-preserved
 loop-i-preserved c =

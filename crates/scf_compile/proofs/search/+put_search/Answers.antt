@@ -1,30 +1,24 @@
-use Rattle.scf_compile.proofs.Common.{rules, ◌≡◌, ℕ, ◌+◌, ◌/◌, List, take, drop, length, arith, sum_by, IfOk-weaker, rules_at, IsRule, Stretch, IsFirst, IsPut, IsSearchPut, rules_code, stretch_bound}
+use Rattle.scf_compile.proofs.Common.{rules, ◌≡◌, ◌/◌, length, arith, IfOk-weaker, rules_at, IsRule, IsFirst, IsPut, IsSearchPut, rules_code}
 use Rattle.scf_compile.proofs.Searches.{longer, put_len, all_parts, halves_sum, one_is, search_branch, search_one}
 use Rattle.scf_compile.proofs.search.+put_search.Goals as goal
-
--- what the two halves have of the whole
-halved : (ss low high : List Stretch) (k : ℕ) → low ≡ take k ss → high ≡ drop k ss
-    → sum_by stretch_bound low + sum_by stretch_bound high ≡ sum_by stretch_bound ss
-halved ss low high k front back = rw (front, back) (halves_sum k ss)
 
 pub put_search-requires : goal.put_search-requires
 put_search-requires t c =
     let ss = c.args.stretches.now in
-    let sums = halved ss _ _ (length ss / 2) c.split_at.ensures.front c.split_at.ensures.back in
+    let sums = halves_sum (length ss / 2) ss _ _ c.split_at.ensures.front c.split_at.ensures.back in
     let more = c.if-stretches-gt1.true in
     let measure = c.decreases in
-    let parts = all_parts IsRule (length ss / 2) ss c.requires.rules in
-    (omega arith, (omega arith, (rw c.split_at.ensures.front parts.0, omega arith)))
+    let own = (all_parts IsRule (length ss / 2) ss c.requires.rules).0 in
+    (omega arith, (omega arith, (rw c.split_at.ensures.front own, omega arith)))
 
 pub put_search-requires-then-stretches-gt1 : goal.put_search-requires-then-stretches-gt1
 put_search-requires-then-stretches-gt1 t c =
     let ss = c.args.stretches.now in
-    let sums = halved ss _ _ (length ss / 2) c.split_at.ensures.front c.split_at.ensures.back in
+    let sums = halves_sum (length ss / 2) ss _ _ c.split_at.ensures.front c.split_at.ensures.back in
     let more = c.if-stretches-gt1.true in
     let measure = c.decreases in
-    let put = put_len c.in_ok-miss.ensures in
-    let parts = all_parts IsRule (length ss / 2) ss c.requires.rules in
-    (omega arith, (omega arith, (rw c.split_at.ensures.back parts.1, omega arith)))
+    let own = (all_parts IsRule (length ss / 2) ss c.requires.rules).1 in
+    (omega arith, (omega arith, (rw c.split_at.ensures.back own, omega (arith, put_len c.in_ok-miss.ensures))))
 
 pub put_branch-requires-clause-hit : goal.put_branch-requires-clause-hit
 put_branch-requires-clause-hit t c = c.in_ok-hit.ensures.put.near
@@ -37,7 +31,7 @@ put_branch-requires-clause-miss t c =
 pub put_branch-requires-clause-few : goal.put_branch-requires-clause-few
 put_branch-requires-clause-few t c =
     let ss = c.args.stretches.now in
-    let sums = halved ss _ _ (length ss / 2) c.split_at.ensures.front c.split_at.ensures.back in
+    let sums = halves_sum (length ss / 2) ss _ _ c.split_at.ensures.front c.split_at.ensures.back in
     omega (arith, put_len c.in_ok-miss.ensures, put_len c.in_ok-hit.ensures)
 
 pub returns-then-stretches-gt1 : goal.returns-then-stretches-gt1

@@ -1,4 +1,4 @@
-use Rattle.scf_compile.proofs.Common.{rules, ◌≡◌, ◌≤◌, true, List, ◌∷◌, length, refl, sym, ◌∙◌, arith, drop_all, sum_by-cons, pointwise, pointwise_decides, Answer, Condition, eq-value, Rule, rule_bound, StandsFor}
+use Rattle.scf_compile.proofs.Common.{rules, ◌≡◌, true, List, ◌∷◌, refl, sym, ◌∙◌, arith, drop_all, sum_by-cons, pointwise, pointwise_decides, Answer, Condition, eq-value, Rule, rule_bound, StandsFor}
 use Rattle.scf_compile.proofs.Lists.{next_at}
 use Rattle.scf_compile.proofs.stretches.are_alike.Goals as goal
 
@@ -40,6 +40,5 @@ returns c = λ told default.
     let rs = c.args.rules.now in
     let ss = c.args.others.now in
     let i = c.loop-i.i in
-    let end : length ss ≤ i = search rules in
-    c.loop-i.invariant.alike default (rw (drop_all i rs c.loop-i-test.false, drop_all i ss end)
+    c.loop-i.invariant.alike default (rw (drop_all i rs c.loop-i-test.false, drop_all i ss (search rules))
     (record { answers = λ call. refl; small = omega arith }))
