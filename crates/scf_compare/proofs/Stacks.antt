@@ -1,15 +1,10 @@
 -- The filters of a stack by their places.
-use Rattle.scf_compare.proofs.Common.{◌≡◌, ℕ, ◌+◌, ◌*◌, ◌-◌, ◌<◌, ◌≤◌, List, [], ◌∷◌, length, take, drop, refl, arith, ℤ, ◌<ℤ◌, ◌≤ℤ◌, int_lt, Bool, cond, Option, Some, All, IfSome, slice_get, slice_get-get_or, slice_get_within, Answer, Insn, rank_of, RunAnswers, IsPlainProgram, StackAnswers, with_newest, one_answers, stack_paths, tree_size, FilterEnd, IsFilterEnd, IsStackEnd, filter_at}
+use Rattle.scf_compare.proofs.Common.{◌≡◌, ℕ, ◌+◌, ◌*◌, ◌-◌, ◌<◌, ◌≤◌, List, [], ◌∷◌, length, take, drop, refl, arith, ℤ, ◌<ℤ◌, ◌≤ℤ◌, int_lt, Bool, cond, Option, Some, All, IfSome, slice_get, slice_get-get_or, Answer, Insn, rank_of, RunAnswers, IsPlainProgram, StackAnswers, with_newest, one_answers, stack_paths, tree_size, FilterEnd, IsFilterEnd, IsStackEnd, filter_at}
 use Rattle.scf_compare.proofs.Rules.{contains_here, drop_here}
 
 here : (filters : List (List Insn)) (place : ℕ) → place < length filters
     → slice_get filters place ≡ Some (filter_at filters place)
 here filters place inside = slice_get-get_or filters place [] inside
-
--- the filter that stands at a place
-pub filter_is : (filters : List (List Insn)) (place : ℕ) (filter : List Insn) → slice_get filters place ≡ Some filter
-    → filter ≡ filter_at filters place
-filter_is filters place filter found = grind (arith, here, slice_get_within)
 
 -- an end of one of the filters is an end of the stack
 pub is_stack_end : (filters : List (List Insn)) (place : ℕ) (end : FilterEnd) → place < length filters
