@@ -1,5 +1,5 @@
 -- What is put before a search makes it a filter.
-use Rattle.scf_compile.proofs.Common.{◌≡◌, ℕ, ◌+◌, ◌-◌, ◌*◌, ◌^◌, ◌<◌, ◌≤◌, Bool, true, false, cond, eqb, ltb, List, [], ◌∷◌, length, refl, ap, ◌∙◌, arith, sum_by, IsTrue, le-leb, eqb-true, eqb-false, nat_tests, Insn, CallRecord, Equal, GreaterOrEqual, audit_arch_x86_64, x32_syscall_bit, seccomp_ret_kill_process, words_of, IsRecord, IsPlainProfile, IsPlainRule, Profile, IsRule, ProfileAnswers, foreign, rules_of, Place, Stretch, search_bound_of, rule_bound, size_bound_of, jump_if, load_word, return_with, branch_code, code_from, IsFirst, IsPut, ArePut, IsSearchPut, IsFilterOf, EndsWithin, AreSound, AllRules, AreServed, first_answer, stretch_bound}
+use Rattle.scf_compile.proofs.Common.{◌≡◌, ℕ, ◌+◌, ◌-◌, ◌*◌, ◌^◌, ◌<◌, ◌≤◌, Bool, true, false, cond, eqb, ltb, List, [], ◌∷◌, length, refl, ap, ◌∙◌, arith, sum_by, IsTrue, le-leb, eqb-true, eqb-false, nat_tests, Insn, CallRecord, Equal, GreaterOrEqual, audit_arch_x86_64, x32_syscall_bit, seccomp_ret_kill_process, words_of, IsRecord, IsPlainProfile, IsPlainRule, Profile, IsRule, ProfileAnswers, foreign, rules_of, Place, Stretch, search_bound_of, rule_bound, size_bound_of, jump_if, load_word, return_with, branch_code, code_from, IsFirst, IsPut, ArePut, IsSearchPut, IsFilterOf, EndsWithin, IsSound, AreSound, AllRules, AreServed, first_answer, stretch_bound}
 use Rattle.scf_compile.proofs.Runs.{more, loads, jumps, load_sound, jump_sound}
 use Rattle.scf_compile.proofs.RuleCode.{return_answers, answers_put, answers_there, branch_ends, from_first}
 use Rattle.scf_compile.proofs.Searches.{stays, longer, puts_join, branch_put}
@@ -81,7 +81,8 @@ module _ {p : Profile} {ss : List Stretch} {searched killed ranged loaded : List
         let some = beside_put.some in
         let ranged_sound = ranged_put.sound asked (λ e. serve.plain (is e)) tt in
         let own : AreSound asked loaded = rw load (load_sound 0 (omega arith) (omega (arith, len.2)), ranged_sound) in
-        let jump = jump_sound Equal audit_arch_x86_64 to_native to_other (omega (arith, len.0, (longer beside_put).0))
+        let jump : IsSound asked (jump_if Equal audit_arch_x86_64 to_native to_other) (length answered) =
+        jump_sound Equal audit_arch_x86_64 to_native to_other (omega (arith, len.0, (longer beside_put).0))
         (omega (arith, beside_put.near.stands)) (λ _. tt) in
         rw is_tested (load_sound 1 (omega arith) (omega arith), (jump, beside_put.sound asked (λ _. tt) own))
 
