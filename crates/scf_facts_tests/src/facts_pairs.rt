@@ -1,6 +1,6 @@
 //! What stores of facts know where two atoms aren't both true.
 
-use crate::word_4::{ALL_BITS, above, arc, at_least, equal, is_told, learn, tell, undo};
+use crate::word_4::{ALL_BITS, above, arc, at_least, equal, is_told, learn, undo};
 use scf_facts::{Atom, AtomList, Tell, WordFacts, WordSets};
 use std::alloc::Global;
 use std::process::Abort;
@@ -135,96 +135,6 @@ fn sets_pick_another_number(rt: HostRuntime) {
         learn_not_both(&rt, &mut facts, refuted, is(0, 0));
         assert!(rt; facts.pick() == words_of(word_0, word_4), "{refuted:?}");
     }
-}
-
-/// Atoms on words 0 and 4.
-fn small_atoms() -> [Atom; 8] {
-    [
-        equal(ALL_BITS, 1),
-        equal(2, 2),
-        equal(1, 0),
-        at_least(1),
-        is(0, 2),
-        is(0, 0),
-        Atom::Gt { word: 0, value: 0 },
-        Atom::Arc {
-            word: 0,
-            first: 2,
-            last: 0,
-        },
-    ]
-}
-
-/// The places of the lists whose words 0 and 4 are below 3, and the others 0, as bits.
-const SMALL_LISTS: u32 = 0x1ff;
-
-/// The lists of these that give an atom this answer.
-fn giving(lists: u32, atom: Atom, holds: bool) -> u32 {
-    let mut giving = 0;
-    for place in 0..9u32 {
-        let number = if atom.word() == 0 {
-            place / 3
-        } else {
-            place % 3
-        };
-        if lists & (1 << place) != 0 && atom.answer(number) == holds {
-            giving |= 1 << place;
-        }
-    }
-    giving
-}
-
-/// Checks what is told, seen and picked against the lists that are left.
-fn check<F: WordFacts>(rt: &impl Abort, facts: &F, left: u32) {
-    for atom in small_atoms() {
-        let told = tell(rt, facts, atom);
-        assert!(rt;
-            told != Tell::Always || giving(left, atom, false) == 0,
-            "{atom:?}"
-        );
-        assert!(rt;
-            told != Tell::Never || giving(left, atom, true) == 0,
-            "{atom:?}"
-        );
-    }
-    assert!(rt; !facts.is_empty() || left == 0);
-    if let Some(words) = facts.pick() {
-        assert!(rt; words[0] < 3);
-        assert!(rt; words[4] < 3);
-        let place = 3 * words[0] + words[4];
-        assert!(rt; left & (1 << place) != 0, "{words:?}");
-    }
-}
-
-/// Learns each pair behind a mark, beside each answer.
-fn agrees_with_each_small_list<F: WordFacts>(rt: &impl Abort, alloc: Global) {
-    let mut facts = F::all(alloc).expect(rt, "no fault");
-    learn(rt, &mut facts, Atom::Ge { word: 0, value: 3 }, false);
-    learn(rt, &mut facts, at_least(3), false);
-    for answered in small_atoms() {
-        for holds in [false, true] {
-            facts.mark().expect(rt, "no fault");
-            learn(rt, &mut facts, answered, holds);
-            let left = giving(SMALL_LISTS, answered, holds);
-            for first in small_atoms() {
-                for second in small_atoms() {
-                    facts.mark().expect(rt, "no fault");
-                    learn_not_both(rt, &mut facts, first, second);
-                    let both = giving(left, first, true) & giving(left, second, true);
-                    check(rt, &facts, left ^ both);
-                    undo(rt, &mut facts);
-                }
-            }
-            check(rt, &facts, left);
-            undo(rt, &mut facts);
-        }
-    }
-}
-
-#[test]
-fn pairs_agree_with_each_small_list(rt: HostRuntime) {
-    agrees_with_each_small_list::<AtomList>(&rt, rt.alloc());
-    agrees_with_each_small_list::<WordSets>(&rt, rt.alloc());
 }
 
 /// How many pairs are learned.

@@ -14,8 +14,6 @@ mod facts_largest;
 #[cfg(test)]
 mod facts_pairs;
 #[cfg(test)]
-mod facts_walk;
-#[cfg(test)]
 mod word_4;
 #[cfg(test)]
 mod word_sets;
