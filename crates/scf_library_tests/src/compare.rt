@@ -1,6 +1,6 @@
 //! The comparer on worked pairs of a filter and a profile, and the effort of a comparison.
 
-use crate::fixtures::{assembled, is_true, profile_of};
+use crate::fixtures::{assembled, profile_of};
 use scf_compare::{Verdict, compare, effort, is_plain};
 use scf_facts::{AtomList, WordFacts, WordSets};
 use scf_insn::{Answer, CallRecord, low_half};
@@ -286,15 +286,9 @@ enum Store {
     Sets,
 }
 
-/// Whether this verdict is the one that is wanted, and can be true.
-fn is_wanted(
-    verdict: Verdict,
-    program: &Program,
-    profile: &Profile,
-    wanted: Wanted,
-    store: Store,
-) -> bool {
-    let is_kind = match (verdict, wanted) {
+/// Whether this verdict is the one that is wanted.
+fn is_wanted(verdict: Verdict, wanted: Wanted, store: Store) -> bool {
+    match (verdict, wanted) {
         (Verdict::Same { .. }, Wanted::Same) => true,
         (
             Verdict::Differs {
@@ -307,8 +301,7 @@ fn is_wanted(
         (Verdict::Differs { .. }, Wanted::NotSame) => true,
         (Verdict::Undecided { .. }, Wanted::NotSame) => store == Store::Atoms,
         _ => false,
-    };
-    is_kind && is_true(verdict, program, profile, wanted != Wanted::Same)
+    }
 }
 
 fn compare_pair<F: WordFacts>(rt: &impl Abort, alloc: Global, pair: &Pair, store: Store) {
@@ -316,7 +309,7 @@ fn compare_pair<F: WordFacts>(rt: &impl Abort, alloc: Global, pair: &Pair, store
     for limit in [pair.effort, pair.effort.wrapping_add(1), u64::MAX] {
         let verdict = compare::<F>(alloc, &program, &profile, limit).expect(rt, "no fault");
         assert!(rt;
-            is_wanted(verdict, &program, &profile, pair.wanted, store),
+            is_wanted(verdict, pair.wanted, store),
             "{} {}: {verdict:?}",
             pair.rest,
             pair.text
@@ -329,39 +322,6 @@ fn verdicts(rt: HostRuntime) {
     for pair in pairs() {
         compare_pair::<AtomList>(&rt, rt.alloc(), pair, Store::Atoms);
         compare_pair::<WordSets>(&rt, rt.alloc(), pair, Store::Sets);
-    }
-}
-
-/// Whether a verdict is `Same` within a limit, or the limit is below the effort and was reached.
-fn is_within(verdict: Verdict, limit: u64, effort: u64) -> bool {
-    match verdict {
-        Verdict::Same { steps } => steps <= limit,
-        Verdict::Unfinished => limit < effort,
-        _ => false,
-    }
-}
-
-fn limit_pair<F: WordFacts>(rt: &impl Abort, alloc: Global, pair: &Pair) {
-    let (program, profile) = made(rt, alloc, pair);
-    let none = compare::<F>(alloc, &program, &profile, 0).expect(rt, "no fault");
-    assert!(rt; none == Verdict::Unfinished);
-    for limit in 1..=pair.effort {
-        let verdict = compare::<F>(alloc, &program, &profile, limit).expect(rt, "no fault");
-        assert!(rt;
-            is_within(verdict, limit, pair.effort),
-            "{} {limit}: {verdict:?}",
-            pair.rest
-        );
-    }
-}
-
-#[test]
-fn limits(rt: HostRuntime) {
-    for pair in pairs() {
-        if pair.wanted == Wanted::Same {
-            limit_pair::<AtomList>(&rt, rt.alloc(), pair);
-            limit_pair::<WordSets>(&rt, rt.alloc(), pair);
-        }
     }
 }
 

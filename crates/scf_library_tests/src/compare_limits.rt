@@ -149,7 +149,7 @@ fn scratched(rt: &impl Abort, alloc: Global, count: usize) -> Program {
 }
 
 fn decide_long_pair<F: WordFacts>(rt: &impl Abort, alloc: Global) {
-    let profile = allowing(rt, alloc, 150);
+    let profile = allowing(rt, alloc, (0, 1, 150));
     let same = scratched(rt, alloc, 150);
     assert!(rt; !is_plain(&same));
     let verdict = compare::<F>(alloc, &same, &profile, DEFAULT_LIMIT).expect(rt, "no fault");

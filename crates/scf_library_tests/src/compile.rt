@@ -105,7 +105,7 @@ fn bounds(rt: HostRuntime) {
 #[test]
 fn many_numbers(rt: HostRuntime) {
     for (count, bound) in [(681, 4094), (682, 4100)] {
-        let profile = allowing(&rt, rt.alloc(), count);
+        let profile = allowing(&rt, rt.alloc(), (0, 1, count));
         assert!(rt; size_bound(&profile) == bound);
         let program = compile(rt.alloc(), &profile).expect(&rt, "no fault");
         let again = compile(rt.alloc(), &profile).expect(&rt, "no fault");
@@ -134,7 +134,7 @@ fn steps(rt: HostRuntime) {
             "{a0}"
         );
     }
-    let profile = allowing(&rt, rt.alloc(), 681);
+    let profile = allowing(&rt, rt.alloc(), (0, 1, 681));
     let program = compile(rt.alloc(), &profile).expect(&rt, "no fault");
     for (nr, answer) in [(0, ALLOW), (340, ALLOW), (680, ALLOW), (681, ERRNO_1)] {
         let found = run(&program, &call(nr, X86_64, [0; 6]));

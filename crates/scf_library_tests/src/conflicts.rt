@@ -10,36 +10,37 @@ use scf_profile::LoadFault;
 use scf_test_fixtures::filters::ALLOW_ALL;
 use scf_test_fixtures::kernel::{ALLOW, ERRNO_1, X86_64};
 use scf_test_fixtures::profiles::SOCKET_TABLE;
-use scf_test_fixtures::rules::Operator::{AtLeast, AtMost, Equal, Greater, Less, Masked, NotEqual};
-use scf_test_fixtures::rules::{BIT_32, Operator, condition_text};
-use std::alloc::{AllocError, Global};
+use std::alloc::Global;
+use std::fmt;
 use std::process::Abort;
 
 const MAX: u64 = u64::MAX;
 
-const BIT_63: u64 = 0x8000_0000_0000_0000;
+/// 2^32, which is past each low half.
+const BIT_32: u64 = 0x1_0000_0000;
 
-/// How an argument compares, and with what.
-type Asked = (Operator, u64);
+/// How an argument compares (OCI runtime specification, `op`), with what, and the second value of a mask.
+type Asked = (&'static str, u64, u64);
 
-/// The text of a rule of the call `a` by this action, with a condition on an argument where there is one.
-fn entry(
-    alloc: Global,
+/// Writes a rule of the call `a` by this action, with a condition on an argument where there is one.
+fn write_entry<W: fmt::Write>(
+    f: &mut W,
     action: &str,
     index: usize,
     asked: Option<Asked>,
-) -> Result<String, AllocError> {
-    let Some((operator, value)) = asked else {
-        return format!(in alloc; r#"{{"names":["a"],"action":"SCMP_ACT_{action}"}}"#);
-    };
-    let condition = condition_text(alloc, &(index, operator, value))?;
-    format!(in alloc; r#"{{"names":["a"],"action":"SCMP_ACT_{action}","args":[{condition}]}}"#)
+) -> fmt::Result {
+    write!(f, r#"{{"names":["a"],"action":"SCMP_ACT_{action}""#)?;
+    if let Some((operator, value, second)) = asked {
+        write!(
+            f,
+            r#","args":[{{"index":{index},"op":"SCMP_CMP_{operator}","value":{value},"valueTwo":{second}}}]"#
+        )?;
+    }
+    f.write_str("}")
 }
 
-/// A text of a profile that has these entries.
-fn with_entries(alloc: Global, entries: &str) -> Result<String, AllocError> {
-    format!(in alloc; r#"{{"defaultAction":"SCMP_ACT_KILL","syscalls":[{entries}]}}"#)
-}
+/// How the text of a profile begins before its entries.
+const HEAD: &str = r#"{"defaultAction":"SCMP_ACT_KILL","syscalls":["#;
 
 /// The fault of a profile whose call 7 has two rules, ALLOW and then ERRNO.
 fn fault_of(
@@ -48,12 +49,13 @@ fn fault_of(
     first: (usize, Option<Asked>),
     second: (usize, Option<Asked>),
 ) -> Option<LoadFault> {
+    let mut text = String::from_str(alloc, HEAD).expect(rt, "no fault");
     let (index, asked) = first;
-    let allowed = entry(alloc, "ALLOW", index, asked).expect(rt, "no fault");
+    write_entry(&mut text, "ALLOW", index, asked).expect(rt, "no fault");
+    text.push_str(",").expect(rt, "no fault");
     let (index, asked) = second;
-    let refused = entry(alloc, "ERRNO", index, asked).expect(rt, "no fault");
-    let entries = format!(in alloc; "{allowed},{refused}").expect(rt, "no fault");
-    let text = with_entries(alloc, entries.as_str()).expect(rt, "no fault");
+    write_entry(&mut text, "ERRNO", index, asked).expect(rt, "no fault");
+    text.push_str("]}").expect(rt, "no fault");
     loaded(rt, alloc, "a 7", text.as_bytes()).err()
 }
 
@@ -71,36 +73,36 @@ fn expected(conflict: bool) -> Option<LoadFault> {
 
 /// Conditions of two rules on one argument, and whether some number meets both.
 const PAIRS: &[(Option<Asked>, Option<Asked>, bool)] = &[
-    (Some((Less, 10)), Some((AtLeast, 10)), false),
-    (Some((AtMost, 10)), Some((AtLeast, 10)), true),
-    (Some((Masked(1), 1)), Some((Masked(0), 1)), false),
-    (Some((Masked(16), 255)), Some((Less, 16)), false),
-    (Some((Masked(16), 255)), Some((Less, 17)), true),
+    (Some(("LT", 10, 0)), Some(("GE", 10, 0)), false),
+    (Some(("LE", 10, 0)), Some(("GE", 10, 0)), true),
+    (Some(("MASKED_EQ", 1, 1)), Some(("MASKED_EQ", 1, 0)), false),
+    (Some(("MASKED_EQ", 255, 16)), Some(("LT", 16, 0)), false),
+    (Some(("MASKED_EQ", 255, 16)), Some(("LT", 17, 0)), true),
     (
-        Some((Masked(32), 18_446_744_073_709_551_600)),
-        Some((Greater, 47)),
+        Some(("MASKED_EQ", 18_446_744_073_709_551_600, 32)),
+        Some(("GT", 47, 0)),
         false,
     ),
     (
-        Some((Masked(32), 18_446_744_073_709_551_600)),
-        Some((Greater, 46)),
+        Some(("MASKED_EQ", 18_446_744_073_709_551_600, 32)),
+        Some(("GT", 46, 0)),
         true,
     ),
-    (Some((NotEqual, 5)), Some((Equal, 5)), false),
-    (Some((NotEqual, 5)), Some((NotEqual, 6)), true),
-    (Some((NotEqual, 5)), Some((Equal, 6)), true),
-    (Some((Masked(0), 0)), Some((Equal, 3)), true),
-    (Some((Masked(9), 0)), Some((Equal, 3)), true),
-    (Some((Masked(2), 6)), Some((Masked(3), 3)), true),
-    (Some((Masked(4), 6)), Some((Masked(3), 3)), false),
-    (Some((Less, 0)), None, false),
-    (Some((Less, 1)), None, true),
-    (Some((Greater, MAX)), None, false),
-    (Some((AtLeast, MAX)), None, true),
+    (Some(("NE", 5, 0)), Some(("EQ", 5, 0)), false),
+    (Some(("NE", 5, 0)), Some(("NE", 6, 0)), true),
+    (Some(("NE", 5, 0)), Some(("EQ", 6, 0)), true),
+    (Some(("MASKED_EQ", 0, 0)), Some(("EQ", 3, 0)), true),
+    (Some(("MASKED_EQ", 0, 9)), Some(("EQ", 3, 0)), true),
+    (Some(("MASKED_EQ", 6, 2)), Some(("MASKED_EQ", 3, 3)), true),
+    (Some(("MASKED_EQ", 6, 4)), Some(("MASKED_EQ", 3, 3)), false),
+    (Some(("LT", 0, 0)), None, false),
+    (Some(("LT", 1, 0)), None, true),
+    (Some(("GT", MAX, 0)), None, false),
+    (Some(("GE", MAX, 0)), None, true),
     (None, None, true),
-    (Some((Equal, 3)), Some((Equal, 0x1_0000_0003)), false),
-    (Some((NotEqual, 3)), Some((Equal, 0x1_0000_0003)), true),
-    (Some((AtLeast, BIT_32)), Some((AtMost, 0xffff_ffff)), false),
+    (Some(("EQ", 3, 0)), Some(("EQ", 0x1_0000_0003, 0)), false),
+    (Some(("NE", 3, 0)), Some(("EQ", 0x1_0000_0003, 0)), true),
+    (Some(("GE", BIT_32, 0)), Some(("LE", 0xffff_ffff, 0)), false),
 ];
 
 fn pairs() -> &'static [(Option<Asked>, Option<Asked>, bool)] {
@@ -121,82 +123,12 @@ fn two_rules(rt: HostRuntime) {
 
 #[test]
 fn other_arguments(rt: HostRuntime) {
-    let one = Some((Equal, 1));
+    let one = Some(("EQ", 1, 0));
     for (first, second) in [(0, 1), (1, 0), (0, 5), (5, 0)] {
         let found = fault_of(&rt, rt.alloc(), (first, one), (second, one));
         assert!(rt; found == expected(true), "{first} {second}");
-        let found = fault_of(&rt, rt.alloc(), (first, one), (second, Some((Less, 0))));
+        let found = fault_of(&rt, rt.alloc(), (first, one), (second, Some(("LT", 0, 0))));
         assert!(rt; found == expected(false), "{first} {second}");
-    }
-}
-
-/// Values whose bits are the lowest two, one in the middle, the highest, or all.
-const VALUES: [u64; 9] = [
-    0,
-    1,
-    2,
-    3,
-    BIT_32,
-    0x1_0000_0002,
-    BIT_63,
-    0x8000_0001_0000_0003,
-    MAX,
-];
-
-const OPERATORS: [Operator; 6] = [NotEqual, Less, AtMost, Equal, AtLeast, Greater];
-
-/// Each operator with each value; the mask with some second values.
-fn conditions(alloc: Global) -> Result<Vec<Asked>, AllocError> {
-    let mut all = Vec::new(alloc);
-    for value in VALUES {
-        for operator in OPERATORS {
-            all.push((operator, value))?;
-        }
-        for wanted in [0, 1, BIT_32, 0x8000_0000_0000_0002, MAX] {
-            all.push((Masked(wanted), value))?;
-        }
-    }
-    Ok(all)
-}
-
-/// Whether a condition holds of a number.
-fn holds((operator, value): Asked, number: u64) -> bool {
-    operator.holds(number, value)
-}
-
-/// Whether both hold of one of the numbers that have any of the bits of `VALUES` and all other bits or none of them, or
-/// of a number beside one of these.
-///
-/// Where both hold of any number, they do of one of these: of an end of the numbers of an order or of one beside it, of
-/// a masked value without another bit or with all of them, or of two masked values joined.
-fn meet(first: Asked, second: Asked) -> bool {
-    let others = !(BIT_63 | BIT_32 | 3);
-    for bits in 0u64..32 {
-        let low = bits & 3;
-        let middle = if bits & 4 == 0 { 0 } else { BIT_32 };
-        let high = if bits & 8 == 0 { 0 } else { BIT_63 };
-        let rest = if bits & 16 == 0 { 0 } else { others };
-        let number = low | middle | high | rest;
-        for near in [number.wrapping_sub(1), number, number.wrapping_add(1)] {
-            if holds(first, near) && holds(second, near) {
-                return true;
-            }
-        }
-    }
-    false
-}
-
-#[test]
-fn each_pair_of_operators(rt: HostRuntime) {
-    let all = conditions(rt.alloc()).expect(&rt, "no fault");
-    for first in &all {
-        for second in &all {
-            let found = fault_of(&rt, rt.alloc(), (2, Some(*first)), (2, Some(*second)));
-            assert!(rt;
-                found == expected(meet(*first, *second)),
-                "{first:?} {second:?}"
-            );
-        }
     }
 }
 
@@ -230,7 +162,7 @@ fn least_conflicts() -> &'static [(&'static str, Option<(u32, u32, u32)>)] {
 #[test]
 fn least_entries(rt: HostRuntime) {
     for (entries, least) in least_conflicts() {
-        let text = with_entries(rt.alloc(), entries).expect(&rt, "no fault");
+        let text = format!(in rt.alloc(); "{HEAD}{entries}]}}").expect(&rt, "no fault");
         let fault = least.map(|(number, first, second)| LoadFault::Conflict {
             number,
             first,
@@ -297,23 +229,21 @@ fn rules_of_an_engine(rt: HostRuntime) {
     }
 }
 
-/// A profile of 4096 entries for the call `a`, whose answers alternate and whose conditions exclude each other.
-fn many_rules(alloc: Global) -> Result<String, AllocError> {
-    let mut entries = String::new(alloc);
+/// Writes a profile of 4096 entries for the call `a`, whose answers alternate and whose conditions exclude each other.
+fn write_many<W: fmt::Write>(f: &mut W) -> fmt::Result {
+    f.write_str(HEAD)?;
     for value in 0..4096u64 {
         let action = if value % 2 == 0 { "ALLOW" } else { "LOG" };
-        let one = entry(alloc, action, 0, Some((Equal, value)))?;
-        entries.push_str(one.as_str())?;
-        if value != 4095 {
-            entries.push_str(",")?;
-        }
+        write_entry(f, action, 0, Some(("EQ", value, 0)))?;
+        f.write_str(if value == 4095 { "]}" } else { "," })?;
     }
-    with_entries(alloc, entries.as_str())
+    Ok(())
 }
 
 #[test]
 fn many_rules_of_one_call(rt: HostRuntime) {
-    let text = many_rules(rt.alloc()).expect(&rt, "no fault");
+    let mut text = String::new(rt.alloc());
+    write_many(&mut text).expect(&rt, "no fault");
     let profile = profile_of(&rt, rt.alloc(), "a 7", text.as_str());
     assert!(rt; profile.rules().len() == 4096);
     let answer = profile.answer(&call(7, X86_64, [4094, 0, 0, 0, 0, 0]));

@@ -2,16 +2,12 @@
 //!
 //! Tests run with ample memory. Where one is refused any, or a text isn't what it is to be, the test ends there.
 
-use scf_compare::Verdict;
 use scf_insn::{CallRecord, Insn};
-use scf_machine::{FilterStack, Program, check, run};
+use scf_machine::{FilterStack, Program, check};
 use scf_profile::{CallTable, LoadFault, Loaded, Profile, TableFault, load};
-use scf_test_fixtures::kernel::ERRNO_1;
-use scf_test_fixtures::rules::{
-    EACH_ALLOWED, Stated, dense, profile_text, stretches_of, table_text,
-};
 use scf_text::assemble;
 use std::alloc::Global;
+use std::fmt;
 use std::process::Abort;
 
 pub(crate) fn insn(code: u16, jt: u8, jf: u8, k: u32) -> Insn {
@@ -54,21 +50,39 @@ pub(crate) fn profile_of(rt: &impl Abort, alloc: Global, names: &str, text: &str
     profile
 }
 
-/// The profile that states this.
-pub(crate) fn stating(rt: &impl Abort, alloc: Global, stated: &Stated<'_>) -> Profile {
-    let table = table_text(alloc, stated.stretches).expect(rt, "no fault");
-    let text = profile_text(alloc, stated).expect(rt, "no fault");
-    profile_of(rt, alloc, table.as_str(), text.as_str())
+/// Numbers: the first, how far apart they are, and how many there are.
+pub(crate) type Numbers = (u32, u32, u32);
+
+/// Writes the table of numbers: the name of each is `c` and the number.
+fn write_table<W: fmt::Write>(f: &mut W, (first, apart, count): Numbers) -> fmt::Result {
+    for place in 0..count {
+        let number = first.saturating_add(place.saturating_mul(apart));
+        writeln!(f, "c{number} {number}")?;
+    }
+    Ok(())
 }
 
-/// The profile that allows so many numbers from 0 on.
-pub(crate) fn allowing(rt: &impl Abort, alloc: Global, count: u32) -> Profile {
-    let stretches = stretches_of(alloc, &[dense(0, count, EACH_ALLOWED)]).expect(rt, "no fault");
-    let stated = Stated {
-        default: ERRNO_1,
-        stretches: &stretches,
-    };
-    stating(rt, alloc, &stated)
+/// Writes the profile that allows these numbers, of which there is to be one.
+fn write_allowing<W: fmt::Write>(f: &mut W, (first, apart, count): Numbers) -> fmt::Result {
+    f.write_str(
+        r#"{"defaultAction":"SCMP_ACT_ERRNO","syscalls":[{"action":"SCMP_ACT_ALLOW","names":["#,
+    )?;
+    let mut comma = "";
+    for place in 0..count {
+        let number = first.saturating_add(place.saturating_mul(apart));
+        write!(f, r#"{comma}"c{number}""#)?;
+        comma = ",";
+    }
+    f.write_str("]}]}")
+}
+
+/// The profile that allows these numbers alone.
+pub(crate) fn allowing(rt: &impl Abort, alloc: Global, numbers: Numbers) -> Profile {
+    let mut table = String::new(alloc);
+    write_table(&mut table, numbers).expect(rt, "no fault");
+    let mut text = String::new(alloc);
+    write_allowing(&mut text, numbers).expect(rt, "no fault");
+    profile_of(rt, alloc, table.as_str(), text.as_str())
 }
 
 /// The filter of a text, which is given in two parts.
@@ -95,28 +109,4 @@ pub(crate) fn stack_of(
         push(rt, &mut stack, assembled(rt, alloc, head, rest));
     }
     stack
-}
-
-/// Whether a verdict at a sufficient limit can be true: `Same` can't where some call is known to be answered otherwise,
-/// and a shown call is run again.
-pub(crate) fn is_true(
-    verdict: Verdict,
-    program: &Program,
-    profile: &Profile,
-    are_apart: bool,
-) -> bool {
-    match verdict {
-        Verdict::Same { .. } => !are_apart,
-        Verdict::Differs {
-            call,
-            filter,
-            profile: stated,
-        } => {
-            run(program, &call).answer == filter
-                && profile.answer(&call) == stated
-                && filter != stated
-        }
-        Verdict::Undecided { at } => at < program.len(),
-        Verdict::Unfinished => false,
-    }
 }

@@ -7,8 +7,6 @@
 #![tactic(auto)]
 
 #[cfg(test)]
-mod changed_filters;
-#[cfg(test)]
 mod compare;
 #[cfg(test)]
 mod compare_calls;

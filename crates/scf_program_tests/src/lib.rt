@@ -1,6 +1,6 @@
 //! Tests of the program and its public calls from inside: readers and writers that fail in turn, what is asked of them,
-//! what is at its largest, and answers to thousands of calls. Tables of inputs with what is printed of them stand in
-//! tools/tests, which runs the built program.
+//! and what is at its largest. Tables of inputs with what is printed of them, and answers to thousands of calls, stand
+//! in tools/tests, which runs the built program.
 //!
 //! What is equal is asserted by `assert!`, and a result taken by `expect`, as in the tests of the libraries.
 #![tactic(auto)]
@@ -14,8 +14,6 @@ mod changed_bytes;
 #[cfg(test)]
 mod command_line;
 #[cfg(test)]
-mod efforts;
-#[cfg(test)]
 mod faults;
 #[cfg(test)]
 mod messages;
@@ -27,8 +25,6 @@ mod reporting;
 mod runs;
 #[cfg(test)]
 mod sizes;
-#[cfg(test)]
-mod stretches;
 #[cfg(test)]
 mod verification;
 #[cfg(test)]

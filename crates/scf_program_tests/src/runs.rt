@@ -82,8 +82,8 @@ pub(crate) fn run_with(
     run(alloc, &words, input, usize::MAX)
 }
 
-/// What is printed of an answer: its action and its data (Linux uapi seccomp.h).
-pub(crate) fn answer_text(alloc: Global, answer: u32) -> Result<String, AllocError> {
+/// The line that is printed of an answer: its action and its data (Linux uapi seccomp.h).
+pub(crate) fn answer_line(alloc: Global, answer: u32) -> Result<String, AllocError> {
     let name = match answer >> 16 {
         0x8000 => "KILL_PROCESS",
         0x0000 => "KILL_THREAD",
@@ -93,13 +93,7 @@ pub(crate) fn answer_text(alloc: Global, answer: u32) -> Result<String, AllocErr
         0x7ff0 => "TRACE",
         0x7ffc => "LOG",
         0x7fff => "ALLOW",
-        _ => return format!(in alloc; "UNNAMED {answer:#010x}"),
+        _ => return format!(in alloc; "UNNAMED {answer:#010x}\n"),
     };
-    format!(in alloc; "{name} {}", answer & 0xffff)
-}
-
-/// The line that is printed of an answer.
-pub(crate) fn answer_line(alloc: Global, answer: u32) -> Result<String, AllocError> {
-    let text = answer_text(alloc, answer)?;
-    format!(in alloc; "{text}\n")
+    format!(in alloc; "{name} {}\n", answer & 0xffff)
 }
