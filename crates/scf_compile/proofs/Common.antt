@@ -3,7 +3,7 @@ pub use Rattle.std.proofs.Common.{All, Bool, Bor, Contains, IsTrue, List, Some, 
 pub use Rattle.std.proofs.Math.ListN.{length-take}
 pub use Rattle.std.proofs.Math.Seq.{drop-append-add, drop-drop}
 pub use Rattle.std.proofs.lemmas.Bool.{and_left, and_right}
-pub use Rattle.std.proofs.lemmas.List.{get_or_default, map-append}
+pub use Rattle.std.proofs.lemmas.List.{get_or-append-add, get_or_append_left, get_or_default, map-append}
 pub use Rattle.std.proofs.lemmas.List.Elements.{All-drop, All-take}
 pub use Rattle.std.proofs.lemmas.List.Filters.{length-filter_both}
 pub use Rattle.std.proofs.lemmas.List.Sorted.{All-permutation, sum_by-IsPermutation}
@@ -50,7 +50,7 @@ pub use Rattle.scf_compile.specs.declared.placing.Place.{Place}
 pub use Rattle.scf_compile.specs.declared.stretches.Stretch.{Stretch}
 pub use Rattle.scf_compile.specs.internal.Blocks.{argument_word, bit_code, condition_code, exits, half_code_of, test_code, word_code}
 unfoldable pub use Rattle.scf_compile.specs.internal.Blocks.{half_code, masked_code, order_code}
-pub use Rattle.scf_compile.specs.internal.Filters.{ArePut, IsFilterOf, IsSearchPut, behind_rule, conditions_code, rule_code, rules_code}
+pub use Rattle.scf_compile.specs.internal.Filters.{ArePut, IsFilterOf, IsSearchOf, IsSearchPut, behind_rule, conditions_code, rule_code, rules_code}
 pub use Rattle.scf_compile.specs.internal.Insns.{and_with, jump_if, jump_over, load_word, return_with}
 pub use Rattle.scf_compile.specs.internal.Numbers.{IsCut}
 pub use Rattle.scf_compile.specs.internal.Placing.{IsFirst, IsNear, IsOutOfReach, IsPut, branch_code, code_from}

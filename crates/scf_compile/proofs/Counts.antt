@@ -1,6 +1,6 @@
 -- The distinct numbers of a profile's rules: how many there are, and the bounds that their search keeps.
-use Rattle.scf_compile.proofs.Common.{◌≡◌, ℕ, zero, suc, ◌/◌, ◌^◌, ◌<◌, ◌≤◌, Bool, not, eqb, List, [], ◌∷◌, length, get_or, map, All, refl, ap, subst, arith, inl, inr, sum_by, Contains, cases_eq, eq-eqb, ne_eqb, length-filter_both, All-contains, All-from_recursion, All-permutation, sum_by-IsPermutation, sum_by-le, x32_syscall_bit, Rule, IsByNumber, IsPlainRule, Profile, IsProfile, IsRule, numbers_of, rules_of, Answer, Stretch, digits_within, binary_digits, greatest, rule_bound, AllRules, AreServed, AreStretchesOf}
-use Rattle.scf_compile.proofs.Filters.{Serve}
+use Rattle.scf_compile.proofs.Common.{◌≡◌, ℕ, zero, suc, ◌+◌, ◌*◌, ◌/◌, ◌^◌, ◌<◌, ◌≤◌, Bool, not, eqb, List, [], ◌∷◌, length, get_or, map, All, refl, ap, arith, inl, inr, sum_by, Contains, cases_eq, eq-eqb, ne_eqb, length-filter_both, All-contains, All-from_recursion, All-permutation, sum_by-IsPermutation, sum_by-le, x32_syscall_bit, Rule, IsByNumber, IsPlainRule, Profile, IsProfile, IsRule, numbers_of, rules_of, Answer, Stretch, digits_within, binary_digits, greatest, rule_bound, AllRules, AreServed, AreStretchesOf, IsSearchOf, IsSearchPut, Insn, Place, stretch_bound, size_bound_of}
+use Rattle.scf_compile.proofs.Runs.{more}
 use Rattle.scf_compile.proofs.Sizes.{few_conditions, number_there}
 
 -- ---- binary digits
@@ -62,26 +62,29 @@ module _ (p : Profile) (valid : IsProfile p) (sorted : List Rule) (ss : List Str
       let fewer = length-filter_both others (λ number. not (others number)) (λ number. refl) (numbers_of rs) in
       omega (arith, few_rules rs)
 
-  -- The search of the stretches serves the profile.
-  pub serves : Serve p ss
-  serves =
+  bounds : (length ss ≤ 1 + 2 * count) × (5 + sum_by stretch_bound ss ≤ size_bound_of p) × (size_bound_of p < 2 ^ 31)
+  bounds =
       let few = laid.few (numbers_of p.rules) (λ nr. rw (by_number.kept nr) (number_there nr p.rules)) in
       let sums = sum_by-IsPermutation rule_bound p.rules sorted by_number.same in
       let rules = valid.few in
-      record {
-        some = some_served _ _ ss laid.serve;
-        fine = of_profile IsRule each;
-        plain = of_profile IsPlainRule;
-        serve = subst (λ (wanted : ℕ → List Rule). AreServed p.default_answer wanted 0 ss x32_syscall_bit)
-            (λ i nr. by_number.kept nr i) laid.serve;
-        small = omega arith;
-        below = omega (
-          arith,
-          few_rules p.rules,
-          sum_by-le rule_bound 50 p.rules
-              (λ k d lt. omega (arith, few_conditions (get_or p.rules k d).conditions (each k d lt).conditions)),
-        );
-        halvings = suc (binary_digits count);
-        few = omega (arith, below_digits count);
-        quick = λ nr. omega (arith, sum_at_most p.rules nr);
-      }
+      let most = sum_by-le rule_bound 50 p.rules
+      (λ k d lt. omega (arith, few_conditions (get_or p.rules k d).conditions (each k d lt).conditions)) in
+      (omega arith, omega arith, omega (arith, few_rules p.rules))
+
+  pub may_be_put : (0 < length ss) × AllRules IsRule ss × (sum_by stretch_bound ss < 2 ^ 32)
+  may_be_put = (some_served _ _ ss laid.serve, of_profile IsRule each, omega (arith, bounds.1, bounds.2))
+
+  -- The search of the stretches is that of the profile.
+  pub search_of_profile : {code : List Insn} {place : Place} → IsSearchPut p.default_answer ss [] code place
+      → IsSearchOf p code place
+  search_of_profile found = record {
+    some = found.put.some;
+    near = found.put.near;
+    small = (omega (arith, found.small, bounds.1), bounds.2);
+    sound = λ asked is. found.put.sound asked (λ e. of_profile IsPlainRule (is e)) tt;
+    ends = λ call fits below.
+        let few = below_digits count in
+        let ended = found.ends call (λ nr. rules_of nr sorted) 0 x32_syscall_bit (suc (binary_digits count)) fits
+        laid.serve (omega arith) below (omega (arith, bounds.0)) in
+        more (rw (by_number.kept call.nr) at ended) (omega (arith, sum_at_most p.rules call.nr));
+  }

@@ -8,7 +8,7 @@ ghost use Rattle.scf_insn.specs.Kernel.{bpf_maxinsns};
 ghost use Rattle.scf_profile.specs.SameAnswers.{SameAnswers};
 ghost use Rattle.scf_compile.specs.SearchBound.{AnswersWithin, search_bound_of};
 ghost use Rattle.scf_compile.specs.SizeBound.{size_bound_of};
-ghost use Rattle.scf_compile.specs.internal.Filters.{IsFilterOf};
+ghost use Rattle.scf_compile.specs.internal.Filters.{IsFilterOf, IsSearchOf};
 
 use crate::fault::CompileFault;
 use crate::insns::{load_word, return_with};
@@ -22,15 +22,23 @@ use scf_profile::{FOREIGN_ANSWER, Profile, rules_by_number};
 use std::alloc::Global;
 use std::collections::VecDeque;
 
-/// The instructions of the filter of a profile, however many there are.
-fn filter_of(alloc: Global, profile: &Profile) -> Result<Vec<Insn>, Memory>
-    ensures { IfOk result (λ code. IsFilterOf profile.now code.items) }
+/// The search of a profile's rules by the call number, and the place where it begins.
+fn search_of(alloc: Global, profile: &Profile) -> Result<(VecDeque<Insn>, Place), Memory>
+    ensures { IfOk result (λ found. IsSearchOf profile.now found.0.items found.1) }
 {
     let default = profile.default_answer();
     let sorted = rules_by_number(alloc, profile.rules())?;
     let stretches = stretches_of(alloc, &sorted, default)?;
     let mut code = VecDeque::new(alloc);
-    let calls = put_search(alloc, &mut code, &stretches, default)?;
+    let place = put_search(alloc, &mut code, &stretches, default)?;
+    Ok((code, place))
+}
+
+/// The instructions of the filter of a profile, however many there are.
+fn filter_of(alloc: Global, profile: &Profile) -> Result<Vec<Insn>, Memory>
+    ensures { IfOk result (λ code. IsFilterOf profile.now code.items) }
+{
+    let (mut code, calls) = search_of(alloc, profile)?;
     let x32 = put_block(&mut code, &[return_with(FOREIGN_ANSWER)])?;
     put_branch(&mut code, Test::GreaterOrEqual, X32_SYSCALL_BIT, x32, calls)?;
     code.push_front(load_word(0))?;

@@ -1,14 +1,16 @@
 -- The instructions of rules, and what is put together of them: a search of the call number, and the whole filter.
-use Rattle.std.specs.Prelude.{◌≡◌, ℕ, ◌+◌, ◌*◌, ◌^◌, ◌<◌, ◌≤◌, Bool, List, [], ◌∷◌, ◌++◌, length, sum_by, IsTrue}
+use Rattle.std.specs.Prelude.{◌≡◌, ℕ, ◌+◌, ◌-◌, ◌*◌, ◌^◌, ◌<◌, ◌≤◌, Bool, List, [], ◌∷◌, ◌++◌, length, sum_by, IsTrue}
 use Rattle.scf_insn.specs.declared.insn.Insn.{Insn}
 use Rattle.scf_insn.specs.declared.answer.Answer.{Answer}
 use Rattle.scf_insn.specs.declared.record.CallRecord.{CallRecord}
+use Rattle.scf_insn.specs.Kernel.{x32_syscall_bit}
 use Rattle.scf_insn.specs.Words.{IsRecord, words_of}
 use Rattle.scf_profile.specs.declared.condition.Condition.{Condition}
 use Rattle.scf_profile.specs.declared.rule.Rule.{Rule}
 use Rattle.scf_profile.specs.PlainProfile.{IsPlainProfile, IsPlainRule}
 use Rattle.scf_profile.specs.Profile.{Profile}
 use Rattle.scf_profile.specs.ProfileAnswers.{ProfileAnswers}
+use Rattle.scf_profile.specs.RulesByNumber.{rules_of}
 use Rattle.scf_compile.specs.declared.placing.Place.{Place}
 use Rattle.scf_compile.specs.declared.stretches.Stretch.{Stretch}
 use Rattle.scf_compile.specs.SearchBound.{search_bound_of}
@@ -39,11 +41,10 @@ abbrev pub rules_code : Answer → List Rule → List Insn
 rules_code default [] = return_with default.0 ∷ []
 rules_code default (r ∷ rs) = rule_code r ++ behind_rule r.conditions (rules_code default rs)
 
--- Some instructions are put before others, which stay sound with them, and plain where this is so.
-pub record ArePut (plain : Type 0) (room : ℕ) (before after : List Insn) (place : Place) : Type 0 where
-  pub front : List Insn
-  pub whole : after ≡ front ++ before
-  pub few : length front ≤ room
+-- Some instructions are put before others, which stay at their places, and sound with them, and plain where this is so.
+pub record ArePut (plain : Type 0) (before after : List Insn) (place : Place) : Type 0 where
+  pub longer : length before ≤ length after
+  pub stays : (p : Place) → p.0 ≤ length before → code_from p after ≡ code_from p before
   pub some : 0 < place.0
   pub near : IsNear place after
   pub sound : (asked : Bool) → (IsTrue asked → plain) → AreSound asked before → AreSound asked after
@@ -52,13 +53,23 @@ pub record ArePut (plain : Type 0) (room : ℕ) (before after : List Insn) (plac
 -- steps for each halving of the stretches.
 pub record IsSearchPut (default : Answer) (stretches : List Stretch) (before after : List Insn) (place : Place)
     : Type 0 where
-  pub room : ℕ
-  pub small : room + 2 ≤ sum_by stretch_bound stretches
-  pub put : ArePut (AllRules IsPlainRule stretches) room before after place
+  pub small : length after + 2 ≤ length before + sum_by stretch_bound stretches
+  pub put : ArePut (AllRules IsPlainRule stretches) before after place
   pub ends : (call : CallRecord) (wanted : ℕ → List Rule) (low high halvings : ℕ) → IsRecord call
       → AreServed default wanted low stretches high → low ≤ call.nr → call.nr < high → length stretches ≤ 2 ^ halvings
       → EndsWithin (words_of call) (code_from place after) call.nr (first_answer call default (wanted call.nr))
       (2 * halvings + (1 + sum_by rule_bound (wanted call.nr)))
+
+-- From a place on each call with a number that isn't one of x32 is answered by the profile's rules of the number. Seven
+-- instructions more are within the bound on the size, and five steps more within that on the steps.
+pub record IsSearchOf (p : Profile) (code : List Insn) (place : Place) : Type 0 where
+  pub some : 0 < place.0
+  pub near : IsNear place code
+  pub small : (length code + 7 ≤ size_bound_of p) × (size_bound_of p < 2 ^ 31)
+  pub sound : (plain : Bool) → (IsTrue plain → IsPlainProfile p) → AreSound plain code
+  pub ends : (call : CallRecord) → IsRecord call → call.nr < x32_syscall_bit
+      → EndsWithin (words_of call) (code_from place code) call.nr
+      (first_answer call p.default_answer (rules_of call.nr p.rules)) (search_bound_of p - 5)
 
 -- what the filter and the profile answer to a call
 pub record AnswersCall (p : Profile) (code : List Insn) (call : CallRecord) : Type 0 where

@@ -16,10 +16,11 @@ pub record IsNear (place : Place) (code : List Insn) : Type 0 where
   pub stands : place.0 ≤ length code
   pub near : length code < place.0 + 255
 
--- The block stands first, before the code that stood.
+-- The block, of no more than two instructions, stands first, before the code that stood.
 pub record IsFirst (block before after : List Insn) (place : Place) : Type 0 where
   pub whole : after ≡ block ++ before
   pub first : place.0 ≡ length after
+  pub few : length after ≤ 2 + length before
 
 -- no jump to the instruction from two instructions before the code is near enough
 abbrev pub IsOutOfReach : Insn → List Insn → Type 0
@@ -28,7 +29,10 @@ IsOutOfReach wanted code = All (λ insn. insn ≢ wanted) (take 255 code)
 -- The block stands at a place of the code, which is as it was before or has the block more: if this is one instruction,
 -- only where it was out of reach.
 pub record IsPut (block before after : List Insn) (place : Place) : Type 0 where
-  pub put : (after ≡ before) ⊎ (after ≡ block ++ before)
+  pub front : List Insn
+  pub whole : after ≡ front ++ before
+  pub put : (front ≡ []) ⊎ (front ≡ block)
+  pub few : length after ≤ length block + length before
   pub behind : List Insn
   pub there : code_from place after ≡ block ++ behind
   pub near : IsNear place after

@@ -1,4 +1,4 @@
-use Rattle.scf_compile.proofs.Common.{rules, ◌≡◌, ◌≢◌, take, ◌+◌, ◌-◌, ◌<◌, drop, length, get_or, refl, ap, ◌∙◌, arith, inl, common_steps, get_or-take, take_more, All-push}
+use Rattle.scf_compile.proofs.Common.{rules, ◌≡◌, ◌≢◌, take, ◌+◌, ◌-◌, ◌<◌, [], drop, length, get_or, refl, ap, ◌∙◌, arith, inl, common_steps, get_or-take, take_more, All-push}
 use Rattle.std.proofs.Common.{length-take}
 use Rattle.scf_compile.proofs.Lists.{next_at}
 use Rattle.scf_compile.proofs.placing.find.Goals as goal
@@ -13,7 +13,10 @@ returns-then-eq-clause-some c =
     let here : c.args.wanted ≡ get_or code i c.args.wanted = search rules in
     let passed : length code - (c.len-then-eq.result - i) ≡ i = omega arith in
     record {
+      front = [];
+      whole = refl;
       put = inl refl;
+      few = omega arith;
       behind = drop (i + 1) code;
       there = ap (λ n. drop n code) passed ∙ next_at code i c.args.wanted inside here;
       near = record { stands = omega arith; near = omega arith };

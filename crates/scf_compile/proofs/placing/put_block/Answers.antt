@@ -1,4 +1,4 @@
-use Rattle.scf_compile.proofs.Common.{rules, ◌≡◌, ◌++◌, List, get_or, length, ap, ◌∙◌, subst, arith, inr, Insn, IsOutOfReach}
+use Rattle.scf_compile.proofs.Common.{rules, ◌≡◌, ◌++◌, List, get_or, length, refl, ap, ◌∙◌, subst, arith, inr, length-append, Insn, IsOutOfReach}
 use Rattle.scf_compile.proofs.RuleCode.{first_near, from_first}
 use Rattle.scf_compile.proofs.placing.put_block.Goals as goal
 use Rattle.scf_compile.proofs.placing.put_block.Goals.{then-block-eq1+in_default, else-block-eq1}
@@ -9,7 +9,10 @@ returns c =
     let here : c.len.result ≡ length code = search rules in
     let whole : code ≡ c.args.block.now ++ c.args.code.now.items = search rules in
     record {
-      put = inr whole;
+      front = c.args.block.now;
+      whole = whole;
+      put = inr refl;
+      few = omega (arith, ap (λ (l : List Insn). length l) whole, length-append c.args.block.now c.args.code.now.items);
       behind = c.args.code.now.items;
       there = from_first code (record { 0 = c.len.result }) here ∙ whole;
       near = first_near code (record { 0 = c.len.result }) here;

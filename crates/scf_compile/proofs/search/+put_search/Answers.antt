@@ -1,50 +1,43 @@
-use Rattle.scf_compile.proofs.Common.{rules, ◌≡◌, ◌/◌, length, arith, IfOk-weaker, rules_at, IsRule, IsFirst, IsPut, IsSearchPut, rules_code}
-use Rattle.scf_compile.proofs.Searches.{longer, put_len, all_parts, halves_sum, one_is, search_branch, search_one}
+use Rattle.scf_compile.proofs.Common.{rules, ◌≡◌, ◌++◌, ap, arith, IfOk-weaker, sum_by, sum_by-append, rules_at, IsRule, IsFirst, IsPut, IsSearchPut, rules_code, stretch_bound}
+use Rattle.scf_compile.proofs.Searches.{all_parts, one_is, search_branch, search_one}
 use Rattle.scf_compile.proofs.search.+put_search.Goals as goal
 
 pub put_search-requires : goal.put_search-requires
 put_search-requires t c =
-    let ss = c.args.stretches.now in
-    let sums = halves_sum (length ss / 2) ss _ _ c.split_at.ensures.front c.split_at.ensures.back in
-    let more = c.if-stretches-gt1.true in
+    let whole = c.split_at.ensures.by_index.0 in
+    let sums = rw sum_by-append at (ap (sum_by stretch_bound) whole) in
     let measure = c.decreases in
-    let own = (all_parts IsRule (length ss / 2) ss c.requires.rules).0 in
-    (omega arith, (omega arith, (rw c.split_at.ensures.front own, omega arith)))
+    let own = (all_parts IsRule c.split_at.result.0.now c.split_at.result.1.now (rw whole at c.requires.rules)).0 in
+    (omega arith, (omega arith, (own, omega arith)))
 
 pub put_search-requires-then-stretches-gt1 : goal.put_search-requires-then-stretches-gt1
 put_search-requires-then-stretches-gt1 t c =
-    let ss = c.args.stretches.now in
-    let sums = halves_sum (length ss / 2) ss _ _ c.split_at.ensures.front c.split_at.ensures.back in
-    let more = c.if-stretches-gt1.true in
+    let whole = c.split_at.ensures.by_index.0 in
+    let sums = rw sum_by-append at (ap (sum_by stretch_bound) whole) in
     let measure = c.decreases in
-    let own = (all_parts IsRule (length ss / 2) ss c.requires.rules).1 in
-    (omega arith, (omega arith, (rw c.split_at.ensures.back own, omega (arith, put_len c.in_ok-miss.ensures))))
+    let own = (all_parts IsRule c.split_at.result.0.now c.split_at.result.1.now (rw whole at c.requires.rules)).1 in
+    (omega arith, (omega arith, (own, omega (arith, c.in_ok-miss.ensures.small))))
 
 pub put_branch-requires-clause-hit : goal.put_branch-requires-clause-hit
 put_branch-requires-clause-hit t c = c.in_ok-hit.ensures.put.near
 
 pub put_branch-requires-clause-miss : goal.put_branch-requires-clause-miss
 put_branch-requires-clause-miss t c =
-    let stands = c.in_ok-miss.ensures.put.near.stands in
-    omega (arith, (longer c.in_ok-hit.ensures.put).0)
+    omega (arith, c.in_ok-miss.ensures.put.near.stands, c.in_ok-hit.ensures.put.longer)
 
 pub put_branch-requires-clause-few : goal.put_branch-requires-clause-few
 put_branch-requires-clause-few t c =
-    let ss = c.args.stretches.now in
-    let sums = halves_sum (length ss / 2) ss _ _ c.split_at.ensures.front c.split_at.ensures.back in
-    omega (arith, put_len c.in_ok-miss.ensures, put_len c.in_ok-hit.ensures)
+    let sums = rw sum_by-append at (ap (sum_by stretch_bound) c.split_at.ensures.by_index.0) in
+    omega (arith, c.in_ok-miss.ensures.small, c.in_ok-hit.ensures.small)
 
 pub returns-then-stretches-gt1 : goal.returns-then-stretches-gt1
 returns-then-stretches-gt1 t c =
-    let ss = c.args.stretches.now in
     let s = c.index-high-0.result in
     let more = c.if-stretches-gt1.true in
-    let front = c.split_at.ensures.front in
-    let back = c.split_at.ensures.back in
-    IfOk-weaker c.put_branch.result (IsFirst _ _ _) (IsSearchPut c.args.default ss _ _)
-    (λ place first. search_branch c.args.default (length ss / 2) ss s (omega arith) (omega arith, omega arith)
-    (rw back at c.index-high-0.is) (rw front at c.in_ok-miss.ensures) (rw back at c.in_ok-hit.ensures)
-    (rw (← c.index-high-0.is) at first)) c.put_branch.ensures
+    rw c.split_at.ensures.by_index.0 (IfOk-weaker c.put_branch.result (IsFirst _ _ _)
+    (IsSearchPut c.args.default (c.split_at.result.0.now ++ c.split_at.result.1.now) _ _)
+    (λ place first. search_branch c.args.default _ _ s (omega arith) (omega arith, omega arith) c.index-high-0.is
+    c.in_ok-miss.ensures c.in_ok-hit.ensures (rw (← c.index-high-0.is) at first)) c.put_branch.ensures)
 
 pub returns : goal.returns
 returns t c =
