@@ -1,8 +1,5 @@
 -- Stretches are put one behind another until each number has its rules.
-use Rattle.scf_profile.proofs.Numbers.{contains_cons_cases}
-use Rattle.std.proofs.lemmas.List.Sums.{count_by-le-length, sum_by-le-sum_by}
-use Rattle.std.specs.List.{count_by}
-use Rattle.scf_compile.proofs.Common.{◌≡◌, ℕ, get_or, take, ◌+◌, ◌-◌, ◌*◌, ◌<◌, ◌≤◌, cond, ltb, Bor, All, List, [], ◌∷◌, ◌++◌, length, refl, sym, ap, ◌∙◌, subst, arith, inl, inr, eqb, length-append, sum_by, Contains, AllByRecursion, IsNonDecreasingBy, cases_lt, ne_eqb, nat_tests, length-map, map-append, take_all, take_more, All-contains_itself, All-filter, All-push, recursion_from_All, sum_by-cons, sum_by-append, Answer, x32_syscall_bit, Rule, rules_at, rules_of, IsRule, NumberRules, Stretch, rule_bound, IsCut, StandsFor, AreTelling, rules_bound, stretch_bound, AllRules, IsServed, AreServed, IsLaid, begins, goes_on, AreAmong, AreStretchesOf}
+use Rattle.scf_compile.proofs.Common.{contains_cons_cases, count_by-le-length, sum_by-le-sum_by, count_by, ◌≡◌, ℕ, get_or, take, ◌+◌, ◌-◌, ◌*◌, ◌<◌, ◌≤◌, cond, ltb, Bor, All, List, [], ◌∷◌, ◌++◌, length, refl, sym, ap, ◌∙◌, subst, arith, inl, inr, eqb, length-append, sum_by, Contains, AllByRecursion, IsNonDecreasingBy, cases_lt, ne_eqb, nat_tests, length-map, map-append, take_all, take_more, All-contains_itself, All-filter, All-push, recursion_from_All, sum_by-cons, sum_by-append, Answer, x32_syscall_bit, Rule, rules_at, rules_of, IsRule, NumberRules, Stretch, rule_bound, IsCut, StandsFor, AreTelling, rules_bound, stretch_bound, AllRules, IsServed, AreServed, IsLaid, begins, goes_on, AreAmong, AreStretchesOf}
 
 -- ---- one stretch more
 
@@ -45,20 +42,20 @@ module _ (default : Answer) (wanted : ℕ → List Rule) where
         ];
       }))
 
-all_rules_more : {before after : List Stretch} {first : ℕ} {rules : List (Bor Rule)} (P : Rule → Type 0)
-    → IsLaid before first rules after → AllRules P before → All P (rules_at rules) → AllRules P after
-all_rules_more {before} P (begins s f is put) h k =
-    rw put (All-push (λ (t : Stretch). All P (rules_at t.rules.now)) before s h (rw is k))
-all_rules_more P (goes_on earlier last is alike same) h k = rw same h
-
-laid_few : {before after : List Stretch} {first : ℕ} {rules : List (Bor Rule)} → IsLaid before first rules after
+laid_more : {before after : List Stretch} {first : ℕ} {rules : List (Bor Rule)} (P : Rule → Type 0)
+    → IsLaid before first rules after
     → (length after ≤ length before + 1)
     × (sum_by stretch_bound after ≤ sum_by stretch_bound before + rules_bound (rules_at rules))
-laid_few {before} {rules = rules} (begins s f is put) =
+    × (AllRules P before → All P (rules_at rules) → AllRules P after)
+laid_more {before} {rules = rules} P (begins s first is put) =
     let own = ap (λ (l : List (Bor Rule)). rules_bound (rules_at l)) is in
     let sums = sum_by-append stretch_bound before (s ∷ []) in
-    rw put (omega (arith, length-append before (s ∷ [])), omega (arith, own, sum_by-cons stretch_bound s []))
-laid_few (goes_on earlier last is alike same) = rw same (omega arith, omega arith)
+    rw put (
+      omega (arith, length-append before (s ∷ [])),
+      omega (arith, own, sum_by-cons stretch_bound s []),
+      λ h k. All-push (λ (t : Stretch). All P (rules_at t.rules.now)) before s h (rw is k),
+    )
+laid_more P (goes_on earlier last is alike same) = rw same (omega arith, omega arith, λ h k. h)
 
 -- the last of the stretches is the one that goes on
 pub goes_on_last : (before : List Stretch) (first : ℕ) (last : Stretch) (rules : List (Bor Rule)) → 0 < length before
@@ -90,19 +87,14 @@ passed_more (m ∷ ns) next n h le =
       | inr later ↦ let rest = passed_more ns next n later le in grind (arith, nat_tests)
     ])
 
-telling_bound : (default : Answer) (telling own : List (Bor Rule)) → 0 < length own → AreTelling default telling own
-    → rules_bound (rules_at telling) ≤ 1 + sum_by rule_bound (rules_at own)
-telling_bound default telling [] some is = absurd (omega arith)
-telling_bound default telling (r ∷ rs) some is = elim is.some [
-  | inl all ↦ rw all (omega arith)
-  | inr none ↦ rw none (omega (arith, sum_by-cons rule_bound r.now (rules_at rs)))
-]
-
-telling_all : (P : Rule → Type 0) (default : Answer) (telling own : List (Bor Rule)) → AreTelling default telling own
-    → All P (rules_at own) → All P (rules_at telling)
-telling_all P default telling own is h = elim is.some [
-  | inl all ↦ rw all h
-  | inr none ↦ rw none (λ k d lt. absurd (omega arith))
+telling_few : (P : Rule → Type 0) {default : Answer} {telling : List (Bor Rule)} (own : List (Bor Rule))
+    → 0 < length own → AreTelling default telling own
+    → (rules_bound (rules_at telling) ≤ 1 + sum_by rule_bound (rules_at own))
+    × (All P (rules_at own) → All P (rules_at telling))
+telling_few P [] some is = absurd (omega arith)
+telling_few P (r ∷ rs) some is = elim is.some [
+  | inl all ↦ rw all (omega arith, λ h. h)
+  | inr none ↦ rw none (omega (arith, sum_by-cons rule_bound r.now (rules_at rs)), λ h k d lt. absurd (omega arith))
 ]
 
 -- The stretches so far serve the numbers below `next`, and `rest` are the rules from it on. There may be as many
@@ -140,14 +132,14 @@ module _ {default : Answer} {rules : List Rule} {before after : List Stretch} {r
     serve = served_more default (λ nr. rules_of nr rules) before after next limit [] put laid.serve lt
         (λ nr from below. rw (laid.left nr from, none nr below)
         (record { answers = λ call. refl; small = omega arith }));
-    own = all_rules_more (Contains rules) put laid.own (λ k d lt. absurd (omega arith));
+    own = (laid_more (Contains rules) put).2 laid.own (λ k d lt. absurd (omega arith));
     inside = inside;
     rising = laid.rising;
     left = λ nr from. laid.left nr (omega arith);
     none = none;
     few = λ numbers among.
         let few = laid.few numbers among in
-        let one = laid_few put in
+        let one = laid_more (Contains rules) put in
         let rises = passed_rises numbers next limit (omega arith) in
         (omega arith, omega arith);
   }
@@ -162,10 +154,11 @@ module _ {default : Answer} {rules : List Rule} {before after : List Stretch} {r
       let own = rules_at lowest.rules.now in
       let is : own ≡ rules_of number rules = cut.own ∙ sym (laid.left number (omega arith)) in
       let some : 0 < length own = omega (arith, cut.some, length-map lowest.rules.now (λ (r : Bor Rule). r.now)) in
+      let few_tell = telling_few (Contains rules) lowest.rules.now cut.some tells in
       record {
         serve = served_more default (λ nr. rules_of nr rules) before after number (number + 1) telling put laid.serve
             (omega arith) (λ nr from below. let same : nr ≡ number = omega arith in rw (same, ← is) tells.stand);
-        own = all_rules_more (Contains rules) put laid.own (telling_all (Contains rules) default telling _ tells
+        own = (laid_more (Contains rules) put).2 laid.own (few_tell.1
             (rw is (All-filter (λ r. eqb r.number number) (Contains rules) rules (All-contains_itself rules))));
         inside = omega arith;
         rising = cut.rising;
@@ -173,8 +166,8 @@ module _ {default : Answer} {rules : List Rule} {before after : List Stretch} {r
         none = λ nr lt. cut.none nr (omega arith);
         few = λ numbers among.
             let few = laid.few numbers among in
-            let put_one = laid_few put in
-            let bound = telling_bound default telling lowest.rules.now cut.some tells in
+            let put_one = laid_more (Contains rules) put in
+            let bound = few_tell.0 in
             let sums : sum_by rule_bound (rules_at rest) ≡ sum_by rule_bound own + sum_by rule_bound (rules_at others) =
             ap (λ (l : List (Bor Rule)). sum_by rule_bound (rules_at l)) cut.whole
             ∙ ap (sum_by rule_bound) (map-append (λ (r : Bor Rule). r.now) lowest.rules.now others)
@@ -201,17 +194,9 @@ lowest_inside {rules = rules} {next = next} {rest = rest} lowest others laid cut
     let some : rules_of number (rules_at rest) ≡ [] → ⊥ = λ none.
     let len = ap (λ (l : List Rule). length l) (cut.own ∙ none) in
     omega (arith, cut.some, length-map lowest.rules.now (λ (r : Bor Rule). r.now)) in
-    let low : next ≤ number = elim (cases_lt number next) [
-      | inl lt ↦ absurd (some (laid.none number lt))
-      | inr le ↦ le
-    ] in (
-      low,
-      elim (cases_lt number x32_syscall_bit) [
-        | inl lt ↦ lt
-        | inr le ↦ absurd (some (sym (laid.left number low)
-            ∙ none_above rules number (recursion_from_All IsRule rules fine) le))
-      ],
-    )
+    let low : next ≤ number = grind (arith, laid.none number, some) in
+    let above = none_above rules number (recursion_from_All IsRule rules fine) in
+    (low, grind (arith, laid.left number low, above, some))
 
 pub laid_all : {default : Answer} {rules : List Rule} {ss : List Stretch} {rest : List (Bor Rule)} (more : ℕ)
     → LaidUpTo default rules ss x32_syscall_bit rest more → more ≤ 1 → AreStretchesOf default ss rules

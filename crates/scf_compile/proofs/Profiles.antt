@@ -1,6 +1,5 @@
 -- The first rule that a call meets gives the profile's answer.
-use Rattle.scf_compile.proofs.Common.{◌≡◌, ℕ, ◌<◌, false, List, [], ◌∷◌, refl, sym, subst, arith, inl, inr, cases_Bool, cases_eq, and_left, and_right, and_from, eq-eqb, ne_eqb, Contains-append_right, Answer, CallRecord, Rule, meets, all_hold, Profile, IsNative, ProfileAnswers, foreign, by_rule, by_default, rules_of, first_answer}
-use Rattle.scf_profile.proofs.Numbers.{contains_cons_cases}
+use Rattle.scf_compile.proofs.Common.{contains_cons_cases, ◌≡◌, ℕ, ◌<◌, false, List, [], ◌∷◌, refl, sym, subst, arith, inl, inr, cases_Bool, cases_eq, and_left, and_right, and_from, eq-eqb, ne_eqb, Contains-append_right, Answer, CallRecord, Rule, meets, all_hold, Profile, IsNative, ProfileAnswers, foreign, by_rule, by_default, rules_of, first_answer}
 
 module _ (default : Answer) (call : CallRecord) where
   abbrev with_rules : List Rule → Profile

@@ -4,7 +4,7 @@ use Rattle.scf_profile.specs.Condition.{holds}
 use Rattle.scf_profile.specs.declared.condition.Operator.TheVariants.{Equal, GreaterOrEqual}
 use Rattle.scf_profile.specs.declared.number_test.NumberTest.{NumberTest}
 use Rattle.scf_profile.specs.declared.number_test.NumberTest.TheVariants as tests
-use Rattle.scf_profile.specs.NumberTests.{IsPlainTest, test_by, test_of, tree_answer}
+use Rattle.scf_profile.specs.NumberTests.{IsPlainTest, comes_to, test_by, test_of, tree_answer}
 use Rattle.scf_profile.proofs.NumberTests.{decides, plain_of}
 use Rattle.scf_compile.proofs.Masks.{nothing_within, under_empty, under_full, wanted_of_power}
 use Rattle.scf_compile.proofs.Runs.{more, past, loads, masks, jumps, load_sound, mask_sound, jump_sound}
@@ -217,21 +217,15 @@ within_of c fine = by_operator c.op c.value c.value_two fine.value
 
 condition_tests : (c : Condition) (out : ℕ) → IsCondition c
     → Tests (condition_code c out) 0 out 6 (IsPlainCondition c) (λ call. holds c (argument call c.index))
-condition_tests c out fine = by_exits (test_of c).1 refl
+condition_tests c out fine =
+    tests_as 6 6 _ _ (by_exits (test_of c).1) (omega arith) (plain_of c)
+    (λ call fits. decides c (argument call c.index) (fits.args c.index))
   where
-    by_exits : (expected : Bool) → (test_of c).1 ≡ expected
+    by_exits : (expected : Bool)
         → Tests (test_code (test_of c).0 (argument_word c.index) (exits expected out).0 (exits expected out).1) 0 out 6
-        (IsPlainCondition c) (λ call. holds c (argument call c.index))
-    by_exits true e =
-        tests_as 6 6 _ _ (test_tests c.index fine.index (test_of c).0 0 out (within_of c fine)) (omega arith)
-        (plain_of c)
-        (λ call fits. rw e at (decides c (argument call c.index) (fits.args c.index)))
-    by_exits false e =
-        tests_as 6 6 _ _
-        (opposite (λ call. not (tree_answer (test_of c).0 (argument call c.index)))
-        (test_tests c.index fine.index (test_of c).0 out 0 (within_of c fine)) (λ call. refl)) (omega arith)
-        (plain_of c)
-        (λ call fits. rw e at (decides c (argument call c.index) (fits.args c.index)))
+        (IsPlainTest (test_of c).0) (λ call. comes_to ((test_of c).0, expected) (argument call c.index))
+    by_exits true = test_tests c.index fine.index (test_of c).0 0 out (within_of c fine)
+    by_exits false = opposite _ (test_tests c.index fine.index (test_of c).0 out 0 (within_of c fine)) (λ call. refl)
 
 -- Conditions one after another pass one instruction more where one of them fails.
 pub conditions_tests : (cs : List Condition) → AllByRecursion IsCondition cs

@@ -21,12 +21,8 @@ fn find(code: &VecDeque<Insn>, wanted: Insn) -> Option<Place>
     ensures some { IfSome result (IsPut (wanted ∷ []) code.now.items code.now.items) }
     ensures none { IfNone result (IsOutOfReach wanted code.now.items) }
 {
-    for i in 0..code.len().min(FARTHEST) {
-        if code[i] == wanted {
-            return Some(Place(code.len() - i));
-        }
-    }
-    None
+    let passed = code.iter().take(FARTHEST).position(|insn| *insn == wanted)?;
+    Some(Place(code.len() - passed))
 }
 
 /// Puts instructions before the code.

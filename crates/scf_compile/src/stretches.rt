@@ -25,18 +25,10 @@ pub(crate) struct Stretch<'a> {
 fn are_alike(rules: &[&Rule], others: &[&Rule]) -> bool
     ensures { IsTrue result → (default : Answer) → StandsFor default (rules_at rules.now) (rules_at others.now) }
 {
-    if rules.len() != others.len() {
-        return false;
-    }
-    for i in 0..rules.len() {
-        let (rule, other) = (rules[i], others[i]);
-        if rule.answer != other.answer
-            || rule.conditions.as_slice() != other.conditions.as_slice()
-        {
-            return false;
-        }
-    }
-    true
+    rules.len() == others.len()
+        && rules.iter().zip(others).all(|(rule, other)| {
+            rule.answer == other.answer && rule.conditions.as_slice() == other.conditions.as_slice()
+        })
 }
 
 /// The rules of a number, or none where all of them answer as the default does.

@@ -1,5 +1,4 @@
-use Rattle.scf_compile.proofs.Common.{rules, ◌≡◌, ◌<◌, ltb, leb, true, false, IsPartitionPoint, Bor, length, get_or, take, refl, sym, arith, length-take, nat_tests, get_or_default, take-append-drop, IsNonDecreasingBy-drop, IsPartitionedBy-leb, IsPartitionPoint-from_clause, Rule, number_at}
-use Rattle.scf_profile.proofs.ByNumber.{none_behind, none_between, own_rules, parts_of}
+use Rattle.scf_compile.proofs.Common.{none_behind, none_between, own_rules, parts_of, rules, ◌≡◌, ◌<◌, ltb, leb, true, false, IsPartitionPoint, Bor, length, get_or, take, refl, sym, arith, length-take, nat_tests, get_or_default, take-append-drop, IsNonDecreasingBy-drop, IsPartitionedBy-leb, IsPartitionPoint-from_clause, Rule, number_at}
 use Rattle.scf_compile.proofs.numbers.cut_lowest.Goals as goal
 
 pub returns : goal.returns

@@ -1,41 +1,34 @@
-use Rattle.scf_compile.proofs.Common.{rules, ◌≡◌, ◌≢◌, take, ◌+◌, ◌-◌, ◌<◌, [], drop, length, get_or, refl, ap, ◌∙◌, arith, inl, common_steps, get_or-take, take_more, All-push}
-use Rattle.std.proofs.Common.{length-take}
-use Rattle.scf_compile.proofs.Lists.{next_at}
+use Rattle.scf_compile.proofs.Common.{rules, tests, ◌≡◌, ◌≢◌, ◌+◌, ◌-◌, ◌<◌, ◌∷◌, [], drop, length, refl, sym, ap, ◌∙◌, arith, inl, drop_more, get_or-take, length-take, All-from_all_within, IsFirst-from_position, YieldsList-from_deque, YieldsList-from_take, Insn}
 use Rattle.scf_compile.proofs.placing.find.Goals as goal
 
-pub returns-then-eq-clause-some : goal.returns-then-eq-clause-some
-returns-then-eq-clause-some c =
+pub returns-in_err-passed-clause-none : goal.returns-in_err-passed-clause-none
+returns-in_err-passed-clause-none c =
+    let wanted = c.args.wanted in
+    let told = IsFirst-from_position c.position.new.self _ _ (λ insn. insn ≡ wanted) (λ insn. insn ≢ wanted)
+    c.position.ensures.ran (YieldsList-from_take 255 (YieldsList-from_deque c.args.code.now.items cc) cc)
+    (λ x q k. search (rules, tests)) (λ x q k. search (rules, tests)) in
+    rw c.from_residual.ensures (All-from_all_within (λ insn. insn ≢ wanted) _ (rw c.in_err-passed.was at told))
+
+pub returns-clause-some : goal.returns-clause-some
+returns-clause-some c =
     let code = c.args.code.now.items in
-    let i = c.loop-i.i in
-    let inside : i < length code = search rules in
-    let reached : i < 255 = search rules in
-    let len : c.len-then-eq.result ≡ length code = search rules in
-    let here : c.args.wanted ≡ get_or code i c.args.wanted = search rules in
-    let passed : length code - (c.len-then-eq.result - i) ≡ i = omega arith in
+    let wanted = c.args.wanted in
+    let i = c.in_ok-passed.passed in
+    let told = rw c.in_ok-passed.was at (IsFirst-from_position c.position.new.self _ _ (λ insn. insn ≡ wanted)
+    (λ insn. insn ≢ wanted) c.position.ensures.ran (YieldsList-from_take 255 (YieldsList-from_deque code cc) cc)
+    (λ x q k. search (rules, tests)) (λ x q k. search (rules, tests))) in
+    let inside : i < length code = omega (arith, told.0, length-take 255 code) in
+    let reached : i < 255 = omega (arith, told.0, length-take 255 code) in
+    let len : c.len.result ≡ length code = search rules in
+    let passed : length code - (c.len.result - i) ≡ i = omega arith in
     record {
       front = [];
       whole = refl;
       put = inl refl;
       few = omega arith;
       behind = drop (i + 1) code;
-      there = ap (λ n. drop n code) passed ∙ next_at code i c.args.wanted inside here;
+      there = ap (λ n. drop n code) passed ∙ drop_more code i wanted inside
+          ∙ ap (λ (insn : Insn). insn ∷ drop (i + 1) code) (sym (get_or-take 255 code i wanted reached) ∙ told.1 wanted);
       near = record { stands = omega arith; near = omega arith };
       once = λ insn is. inl refl;
     }
-
-pub returns-clause-none : goal.returns-clause-none
-returns-clause-none c = λ k d lt.
-    let code = c.args.code.now.items in
-    let front = length-take 255 code in
-    let all : k < c.loop-i.i = search (rules, front, lt) in
-    let here = c.loop-i.invariant k d (omega (arith, length-take c.loop-i.i code)) in
-    rw (get_or-take 255 code k d (omega arith)) (rw (get_or-take c.loop-i.i code k d all) at here)
-
-pub loop-i-preserved : goal.loop-i-preserved
-loop-i-preserved c =
-    let code = c.args.code.now.items in
-    let i = c.loop-i.i in
-    let inside : i < length code = search rules in
-    rw (take_more code i c.args.wanted inside)
-    (All-push (λ insn. insn ≢ c.args.wanted) (take i code) (get_or code i c.args.wanted) c.loop-i.invariant
-    (λ same. grind (arith, common_steps)))

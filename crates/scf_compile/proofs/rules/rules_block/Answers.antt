@@ -1,5 +1,4 @@
-use Rattle.scf_compile.proofs.Common.{rules, ◌≡◌, ◌-◌, ◌+◌, ◌<◌, Bor, List, [], ◌∷◌, drop, length, arith, refl, get_or-map, length-map, Insn, Condition, Rule, rules_at, behind_rule, rules_code}
-use Rattle.scf_compile.proofs.Lists.{next_at}
+use Rattle.scf_compile.proofs.Common.{rules, drop_more, ◌≡◌, ◌-◌, ◌+◌, ◌<◌, Bor, List, [], ◌∷◌, drop, length, arith, refl, get_or-map, length-map, Insn, Condition, Rule, rules_at, behind_rule, rules_code}
 use Rattle.scf_compile.proofs.rules.rules_block.Goals as goal
 use Rattle.scf_compile.proofs.rules.rules_block.Goals.{then-is_empty, else-is_empty}
 
@@ -31,4 +30,4 @@ loop-i-preserved c =
       | then-is_empty w ↦ behind_is r.now.conditions others _ (λ none. search rules) (λ some. absurd (search rules))
       | else-is_empty w ↦ behind_is r.now.conditions others _ (λ none. absurd (search rules)) (λ some. search rules)
     ] in
-    rw (next_at refs i r (search rules) c.index-rules-i.is, ← behind) c.in_ok-put_rule.ensures
+    rw (drop_more refs i r (search rules), ← c.index-rules-i.is, ← behind) c.in_ok-put_rule.ensures

@@ -1,44 +1,32 @@
-use Rattle.scf_compile.proofs.Common.{rules, ◌≡◌, true, List, ◌∷◌, refl, sym, ◌∙◌, arith, drop_all, sum_by-cons, pointwise, pointwise_decides, Answer, Condition, eq-value, Rule, rule_bound, StandsFor}
-use Rattle.scf_compile.proofs.Lists.{next_at}
+use Rattle.scf_compile.proofs.Common.{rules, tests, zip, YieldsList-from_slice, YieldsList-from_zip, cases_from_all, All-from_all_within, ◌≡◌, true, Bor, List, [], ◌∷◌, length, refl, arith, AllByRecursion, recursion_from_All, sum_by-cons, pointwise, pointwise_decides, Answer, Condition, eq-value, Rule, rules_at, rule_bound, StandsFor}
 use Rattle.scf_compile.proofs.stretches.are_alike.Goals as goal
 
 -- conditions that `==` takes as equal are
 same_conditions : (cs ds : List Condition) → pointwise eq-value.it cs ds ≡ true → cs ≡ ds
 same_conditions cs ds = (pointwise_decides {E = eq-value.it} (λ c d. (λ e. search rules, λ e. search rules)) cs ds).0
 
--- one more rule in front
-one_more : {default : Answer} {rs ss : List Rule} (r s : Rule) → r.conditions ≡ s.conditions → r.answer ≡ s.answer
-    → StandsFor default rs ss → StandsFor default (r ∷ rs) (s ∷ ss)
-one_more {rs = rs} {ss = ss} r s conditions answer rest = record {
-  answers = λ call. rw (conditions, answer, rest.answers call) refl;
-  small = rw (sum_by-cons rule_bound r rs, sum_by-cons rule_bound s ss, conditions)
-      (let small = rest.small in omega arith);
-}
+abbrev AreLike : Bor Rule × Bor Rule → Type 0
+AreLike p = (pointwise eq-value.it p.0.now.conditions p.1.now.conditions ≡ true) × (p.0.now.answer ≡ p.1.now.answer)
 
-pub loop-i-preserved : goal.loop-i-preserved
-loop-i-preserved c =
-    let i = c.loop-i.i in
-    let rule = c.index-rules-i.result in
-    let other = c.index-others-i.result in
-    let answer : rule.now.answer ≡ other.now.answer = search rules in
-    let told : pointwise eq-value.it c.as_slice.result.now c.as_slice-else-ne.result.now ≡ true = search rules in
-    let conditions : rule.now.conditions ≡ other.now.conditions =
-    sym c.as_slice.ensures ∙ same_conditions c.as_slice.result.now c.as_slice-else-ne.result.now told
-    ∙ c.as_slice-else-ne.ensures in
+-- rules that are alike one by one stand for one another
+alike : (default : Answer) (rs os : List (Bor Rule)) → length rs ≡ length os → AllByRecursion AreLike (zip rs os)
+    → StandsFor default (rules_at rs) (rules_at os)
+alike default [] [] len all = record { answers = λ call. refl; small = omega arith }
+alike default [] (o ∷ os) len all = absurd (omega arith)
+alike default (r ∷ rs) [] len all = absurd (omega arith)
+alike default (r ∷ rs) (o ∷ os) len all =
+    let rest = alike default rs os (omega arith) all.1 in
+    let conditions = same_conditions r.now.conditions o.now.conditions all.0.0 in
     record {
-      same_len = c.loop-i.invariant.same_len;
-      alike = λ default rest. c.loop-i.invariant.alike default
-          (rw (
-            next_at c.args.rules.now i rule c.loop-i-test.true c.index-rules-i.is,
-            next_at c.args.others.now i other (search rules) c.index-others-i.is,
-          )
-          (one_more rule.now other.now conditions answer rest));
+      answers = λ call. rw (conditions, all.0.1, rest.answers call) refl;
+      small = rw (sum_by-cons rule_bound r.now (rules_at rs), sum_by-cons rule_bound o.now (rules_at os), conditions)
+          (let small = rest.small in omega arith);
     }
 
-pub returns : goal.returns
-returns c = λ told default.
-    let rs = c.args.rules.now in
-    let ss = c.args.others.now in
-    let i = c.loop-i.i in
-    c.loop-i.invariant.alike default (rw (drop_all i rs c.loop-i-test.false, drop_all i ss (search rules))
-    (record { answers = λ call. refl; small = omega arith }))
+pub returns-then-rules-others : goal.returns-then-rules-others
+returns-then-rules-others c = λ yes default.
+    let told = cases_from_all c.all.new.self _ _ AreLike (λ _. Unit {0}) c.all.ensures.ran
+    (YieldsList-from_zip (YieldsList-from_slice c.args.rules.now cc) (YieldsList-from_slice c.args.others.now cc))
+    (λ x q k. search (rules, tests)) (λ x q k. tt) in
+    alike default _ _ c.if-rules-others.true
+    (recursion_from_All AreLike _ (All-from_all_within AreLike _ (rw yes at told)))
