@@ -14,12 +14,12 @@ pub use Rattle.std.proofs.lemmas.Nat.{and_mask}
 pub use Rattle.std.proofs.lemmas.Nat.Bits.{and_pow, bit_at-lt}
 pub use Rattle.std.proofs.lemmas.Option.{same_Some, slice_get-get_or}
 pub use Rattle.std.specs.Int.Bits.{and_zero_r}
-pub use Rattle.std.specs.List.{IsDistinct, count_by, zip}
+pub use Rattle.std.specs.List.{count_by, zip}
 pub use lib.Pointwise.{pointwise, pointwise_decides}
 pub use Rattle.scf_insn.proofs.Codes.{asks_for}
 pub use Rattle.scf_insn.proofs.Common.{IsPowerOfTwo, IsRecord, IsSimpleMask, and_from, and_mod, and_shr, argument, audit_arch_x86_64, bpf_maxinsns, drop_more, high, low, mask_kind, seccomp_ret_kill_process, words_of, x32_syscall_bit}
 unfoldable pub use Rattle.scf_insn.proofs.Common.{operation_of}
-pub use Rattle.scf_insn.proofs.Halves.{argument_high, argument_low, eqb_split, leb_split, ltb_split, masked_split}
+pub use Rattle.scf_insn.proofs.Halves.{argument_high, argument_low}
 pub use Rattle.scf_insn.proofs.Masks.{IsOfKind, is_of_kind}
 pub use Rattle.scf_insn.specs.declared.answer.Answer.{Answer}
 pub use Rattle.scf_insn.specs.declared.insn.Insn.{Insn}
@@ -33,10 +33,10 @@ pub use Rattle.scf_insn.specs.declared.operation.Test.{Test}
 pub use Rattle.scf_insn.specs.declared.operation.Test.TheVariants.{Greater as Above, GreaterOrEqual as AtLeast, CommonBit, Equal, GreaterOrEqual, Equal as SameWord}
 pub use Rattle.scf_insn.specs.declared.record.CallRecord.{CallRecord}
 pub use Rattle.scf_machine.proofs.Chains.{answer_of_part, chain_of_part, run_behind}
-pub use Rattle.scf_machine.proofs.Common.{All-push, Goes, IsFine, IsFineAt, IsPart, IsPlainInsn, IsPlainOperation, IsPlainProgram, IsReturn, IsRunFrom, IsValidList, KeepsScratchRule, RunAnswers, Stands, gets, holds, moved, slice_get_read, slice_get_within, step, take_more, test_holds}
+pub use Rattle.scf_machine.proofs.Common.{All-push, Goes, IsFine, IsFineAt, IsPart, IsPlainOperation, IsPlainProgram, IsReturn, IsRunFrom, IsValidList, KeepsScratchRule, RunAnswers, Stands, gets, holds, moved, slice_get_read, slice_get_within, step, take_more, test_holds}
 pub use Rattle.scf_machine.proofs.Meets.{run_once}
 pub use Rattle.scf_profile.proofs.ByNumber.{none_behind, none_between, number_at, own_rules, parts_of, references_rise}
-pub use Rattle.scf_profile.proofs.Common.{All-contains, All-contains_itself, All-filter, All-from_recursion, All-map, AllByRecursion, AreConditions, Contains-append_right, HaveDistinctIndices, IfOk-weaker, IsByNumber, IsCondition, IsNative, IsNonDecreasingBy, IsNonDecreasingBy-drop, IsPartitionPoint, IsPartitionPoint-from_clause, IsPartitionedBy-leb, IsPlainCondition, IsPlainProfile, IsPlainRule, IsProfile, IsRule, Profile, ProfileAnswers, SameAnswers, YieldsList-from_slice, all_hold, and_assoc, and_self, bit_at, cases_from_all, by_default, by_rule, cases_Bool, cases_eq, cases_lt, common_steps, compares, drop_all, eq-eqb, eqb-false, eqb-true, foreign, get_or-drop, get_or-map, get_or-take, le-leb, length-drop, length-map, list_any, lt-ltb, meets, nat_tests, ne_eqb, not_from_false, numbers_of, recursion_from_All, rules_at, rules_of, take-append-drop, take_all}
+pub use Rattle.scf_profile.proofs.Common.{All-contains, All-contains_itself, All-filter, All-from_recursion, All-map, AllByRecursion, AreConditions, Contains-append_right, HaveDistinctIndices, IfOk-weaker, IsByNumber, IsCondition, IsNative, IsNonDecreasingBy, IsNonDecreasingBy-drop, IsPartitionPoint, IsPartitionPoint-from_clause, IsPartitionedBy-leb, IsPlainCondition, IsPlainProfile, IsPlainRule, IsProfile, IsRule, Profile, ProfileAnswers, SameAnswers, YieldsList-from_slice, all_hold, and_assoc, and_self, bit_at, cases_from_all, by_default, by_rule, cases_Bool, cases_eq, cases_lt, common_steps, drop_all, eq-eqb, eqb-false, eqb-true, foreign, get_or-map, get_or-take, le-leb, length-drop, length-map, list_any, lt-ltb, meets, nat_tests, ne_eqb, not_from_false, numbers_of, recursion_from_All, rules_at, rules_of, take-append-drop, take_all}
 pub use Rattle.scf_profile.proofs.Numbers.{contains_cons_cases, contains_filtered, has_number, numbers_of-push}
 pub use Rattle.scf_profile.specs.contracts.condition.ConditionPartialEq.TheImpl.{eq-value}
 pub use Rattle.scf_profile.specs.declared.condition.Condition.{Condition}
@@ -51,7 +51,7 @@ pub use Rattle.scf_compile.specs.declared.placing.Place.{Place}
 pub use Rattle.scf_compile.specs.declared.stretches.Stretch.{Stretch}
 pub use Rattle.scf_compile.specs.internal.Blocks.{argument_word, bit_code, condition_code, exits, half_code_of, test_code, word_code}
 unfoldable pub use Rattle.scf_compile.specs.internal.Blocks.{half_code, masked_code, order_code}
-pub use Rattle.scf_compile.specs.internal.Filters.{ArePut, IsFilterOf, IsSearchOf, IsSearchPut, behind_rule, conditions_code, rule_code, rules_code}
+pub use Rattle.scf_compile.specs.internal.Filters.{ArePut, IsFilterOf, IsSearchOf, IsSearchPut, behind_rule, conditions_code, rules_code}
 pub use Rattle.scf_compile.specs.internal.Insns.{and_with, jump_if, jump_over, load_word, return_with}
 pub use Rattle.scf_compile.specs.internal.Numbers.{IsCut}
 pub use Rattle.scf_compile.specs.internal.Placing.{IsFirst, IsNear, IsOutOfReach, IsPut, branch_code, code_from}

@@ -3,7 +3,6 @@ pub mod Counts
 pub mod Filters
 pub mod Laying
 pub mod Masks
-pub mod Profiles
 pub mod RuleCode
 pub mod Runs
 pub mod Searches

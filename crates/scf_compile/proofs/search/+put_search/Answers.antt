@@ -18,13 +18,6 @@ put_search-requires-then-stretches-gt1 t c =
     let own = (all_parts IsRule c.split_at.result.0.now c.split_at.result.1.now (rw whole at c.requires.rules)).1 in
     (omega arith, (omega arith, (own, omega (arith, c.in_ok-miss.ensures.small))))
 
-pub put_branch-requires-clause-hit : goal.put_branch-requires-clause-hit
-put_branch-requires-clause-hit t c = c.in_ok-hit.ensures.put.near
-
-pub put_branch-requires-clause-miss : goal.put_branch-requires-clause-miss
-put_branch-requires-clause-miss t c =
-    omega (arith, c.in_ok-miss.ensures.put.near.stands, c.in_ok-hit.ensures.put.longer)
-
 pub put_branch-requires-clause-few : goal.put_branch-requires-clause-few
 put_branch-requires-clause-few t c =
     let sums = rw sum_by-append at (ap (sum_by stretch_bound) c.split_at.ensures.by_index.0) in
