@@ -109,7 +109,8 @@ answers_there is put call fits a = rw put.there (is.ends call fits put.behind a)
 -- ---- a branch that is put before some code
 
 module _ (test : Test) (constant : ℕ) (hit miss : Place) {before after : List Insn} {place : Place}
-    (put : IsFirst (branch_code test constant (length before - hit.0) (length before - miss.0)) before after place) where
+    (put : IsFirst (branch_code test constant (length before - hit.0) (length before - miss.0)) before after
+    place) where
   -- it goes to both places in as many steps as it has instructions, at most
   pub branch_ends : {words : List ℕ} {answer most : ℕ} (a n : ℕ) → length after ≤ n + length before
       → (test_holds test a constant ≡ true → EndsWithin words (code_from hit before) a answer most)

@@ -26,7 +26,8 @@ returns c =
       some = omega arith;
       own = own_rules number refs refs 0 count refl lower upper (omega arith);
       left = λ nr other.
-          rw (parts_of nr count refs, none_between number refs refs 0 count refl lower upper (omega arith) nr other) refl;
+          let between = none_between number refs refs 0 count refl lower upper (omega arith) nr other in
+          rw (parts_of nr count refs, between) refl;
       none = none_behind number refs refs 0 count refl lower upper (omega arith);
       rising = IsNonDecreasingBy-drop number_at count refs c.requires.rising;
     })

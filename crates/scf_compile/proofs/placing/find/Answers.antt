@@ -1,4 +1,4 @@
-use Rattle.scf_compile.proofs.Common.{rules, tests, ◌≡◌, ◌≢◌, ◌+◌, ◌-◌, ◌<◌, ◌∷◌, [], drop, length, refl, sym, ap, ◌∙◌, arith, inl, drop_more, get_or-take, length-take, All-from_all_within, IsFirst-from_position, YieldsList-from_deque, YieldsList-from_take, Insn}
+use Rattle.scf_compile.proofs.Common.{rules, tests, ◌≡◌, ◌≢◌, ◌+◌, ◌-◌, ◌<◌, ◌∷◌, [], drop, length, get_or, refl, sym, ap, ◌∙◌, arith, inl, drop_more, get_or-take, length-take, All-from_all_within, IsFirst-from_position, YieldsList-from_deque, YieldsList-from_take, Insn}
 use Rattle.scf_compile.proofs.placing.find.Goals as goal
 
 pub returns-in_err-passed-clause-none : goal.returns-in_err-passed-clause-none
@@ -20,6 +20,7 @@ returns-clause-some c =
     let inside : i < length code = omega (arith, told.0, length-take 255 code) in
     let reached : i < 255 = omega (arith, told.0, length-take 255 code) in
     let len : c.len.result ≡ length code = search rules in
+    let here : get_or code i wanted ≡ wanted = sym (get_or-take 255 code i wanted reached) ∙ told.1 wanted in
     let passed : length code - (c.len.result - i) ≡ i = omega arith in
     record {
       front = [];
@@ -28,7 +29,7 @@ returns-clause-some c =
       few = omega arith;
       behind = drop (i + 1) code;
       there = ap (λ n. drop n code) passed ∙ drop_more code i wanted inside
-          ∙ ap (λ (insn : Insn). insn ∷ drop (i + 1) code) (sym (get_or-take 255 code i wanted reached) ∙ told.1 wanted);
+          ∙ ap (λ (insn : Insn). insn ∷ drop (i + 1) code) here;
       near = record { stands = omega arith; near = omega arith };
       once = λ insn is. inl refl;
     }
