@@ -1,6 +1,6 @@
 //! The comparer on worked pairs of a filter and a profile, and the effort of a comparison.
 
-use crate::fixtures::{assembled, profile_of};
+use crate::fixtures::{assembled, compared, profile_of};
 use scf_compare::{Verdict, compare, effort, is_plain};
 use scf_facts::{AtomList, WordFacts, WordSets};
 use scf_insn::{Answer, CallRecord, low_half};
@@ -249,13 +249,11 @@ fn more_paths_than_can_be_counted(rt: HostRuntime) {
     let profile = profile_of(&rt, rt.alloc(), "", DEFAULT_ALLOW);
     let numbers = tests_of_numbers(&rt, rt.alloc());
     assert!(rt; effort(&numbers, &profile) == u64::MAX);
-    let verdict = compare::<WordSets>(rt.alloc(), &numbers, &profile, 1_000_000).expect(
-        &rt, "no fault",
-    );
+    let verdict = compared(&rt, rt.alloc(), &numbers, &profile, 1_000_000);
     assert!(rt; matches!(verdict, Verdict::Same { .. }), "{verdict:?}");
     let bits = tests_of_bits(&rt, rt.alloc());
     assert!(rt; effort(&bits, &profile) == u64::MAX);
-    let verdict = compare::<WordSets>(rt.alloc(), &bits, &profile, 1000).expect(&rt, "no fault");
+    let verdict = compared(&rt, rt.alloc(), &bits, &profile, 1000);
     assert!(rt;
         matches!(verdict, Verdict::Same { .. } | Verdict::Unfinished),
         "{verdict:?}"
@@ -275,7 +273,7 @@ fn overlapping_masks(rt: HostRuntime) {
     let profile = profile_of(&rt, rt.alloc(), "", DEFAULT_ALLOW);
     let program = assembled(&rt, rt.alloc(), GATE, OVERLAPPING_MASKS);
     assert!(rt; effort(&program, &profile) == 96);
-    let verdict = compare::<WordSets>(rt.alloc(), &program, &profile, 96).expect(&rt, "no fault");
+    let verdict = compared(&rt, rt.alloc(), &program, &profile, 96);
     assert!(rt; matches!(verdict, Verdict::Same { .. }), "{verdict:?}");
 }
 
@@ -326,34 +324,23 @@ fn verdicts(rt: HostRuntime) {
 }
 
 /// The call that is shown of a filter behind the gate and a profile.
-fn shown<F: WordFacts>(
-    rt: &impl Abort,
-    alloc: Global,
-    rest: &str,
-    table: &str,
-    text: &str,
-) -> CallRecord {
+fn shown(rt: &impl Abort, alloc: Global, rest: &str, table: &str, text: &str) -> CallRecord {
     let program = assembled(rt, alloc, GATE, rest);
     let profile = profile_of(rt, alloc, table, text);
-    let shown = match compare::<F>(alloc, &program, &profile, u64::MAX).expect(rt, "no fault") {
+    let shown = match compared(rt, alloc, &program, &profile, u64::MAX) {
         Verdict::Differs { call, .. } => Some(call),
         _ => None,
     };
     shown.expect(rt, "a call that is shown")
 }
 
-fn show_division<F: WordFacts>(rt: &impl Abort, alloc: Global) {
-    let call = shown::<F>(rt, alloc, DIVISION, "", DEFAULT_ALLOW);
-    let [argument, ..] = call.args;
-    assert!(rt; call.arch == X86_64 && low_half(argument) == 0, "{call:?}");
-}
-
 #[test]
 fn shown_calls(rt: HostRuntime) {
-    show_division::<AtomList>(&rt, rt.alloc());
-    show_division::<WordSets>(&rt, rt.alloc());
+    let call = shown(&rt, rt.alloc(), DIVISION, "", DEFAULT_ALLOW);
+    let [argument, ..] = call.args;
+    assert!(rt; call.arch == X86_64 && low_half(argument) == 0, "{call:?}");
     // The one bit that the filter doesn't test is set, and none that it tests.
-    let call = shown::<WordSets>(
+    let call = shown(
         &rt,
         rt.alloc(),
         CLONE_BY_FEWER_BITS,

@@ -1,8 +1,7 @@
 //! Stacks of filters against a profile, over the calls of one number.
 
-use crate::fixtures::{profile_of, stack_of};
-use scf_compare::{Scope, Verdict, compare_stack, effort_stack};
-use scf_facts::WordSets;
+use crate::fixtures::{compared_stack, profile_of, stack_of};
+use scf_compare::{Scope, Verdict, effort_stack};
 use scf_insn::Answer;
 use scf_machine::FilterStack;
 use scf_profile::Profile;
@@ -214,21 +213,13 @@ fn calls_of_one_number(rt: HostRuntime) {
         let effort = effort_stack(&stack, &profile);
         for (number, wanted) in row.calls {
             let scope = Scope::Call(*number);
-            let verdict = compare_stack::<WordSets>(
-                rt.alloc(),
-                &stack,
-                &profile,
-                scope,
-                effort,
-            ).expect(&rt, "no fault");
+            let verdict = compared_stack(&rt, rt.alloc(), &stack, &profile, scope, effort);
             assert!(rt;
                 is_wanted(verdict, &stack, &profile, *number, *wanted),
                 "{} {scope:?}: {verdict:?}",
                 row.text
             );
-            let none = compare_stack::<WordSets>(rt.alloc(), &stack, &profile, scope, 0).expect(
-                &rt, "no fault",
-            );
+            let none = compared_stack(&rt, rt.alloc(), &stack, &profile, scope, 0);
             assert!(rt; none == Verdict::Unfinished, "{} {scope:?}", row.text);
         }
     }
@@ -242,9 +233,7 @@ fn shown_arguments(rt: HostRuntime) {
     let profile = profile_of(&rt, rt.alloc(), SOCKET_TABLE, SOCKET_NOT_40);
     let effort = effort_stack(&stack, &profile);
     let scope = Scope::Call(41);
-    let verdict = compare_stack::<WordSets>(rt.alloc(), &stack, &profile, scope, effort).expect(
-        &rt, "no fault",
-    );
+    let verdict = compared_stack(&rt, rt.alloc(), &stack, &profile, scope, effort);
     let shown = match verdict {
         Verdict::Differs { call, .. } => Some((call.nr, call.arch, call.args[0])),
         _ => None,

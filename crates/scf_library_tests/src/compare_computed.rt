@@ -1,8 +1,7 @@
 //! Stacks with a filter whose answer is computed from two words and so unknown: what is undecided, what is shown.
 
-use crate::fixtures::{profile_of, stack_of};
-use scf_compare::{Scope, Verdict, compare_stack};
-use scf_facts::WordSets;
+use crate::fixtures::{compared_stack, profile_of, stack_of};
+use scf_compare::{Scope, Verdict};
 use scf_insn::Answer;
 use scf_test_fixtures::filters::{ALLOW_ALL, GATE, WITHOUT_READ};
 use scf_test_fixtures::kernel::ALLOW;
@@ -26,13 +25,7 @@ fn the_filter_whose_answer_is_unknown(rt: HostRuntime) {
     );
     for stack in [alone, newest, oldest, between] {
         let scope = Scope::Native;
-        let verdict = compare_stack::<WordSets>(
-            rt.alloc(),
-            &stack,
-            &profile,
-            scope,
-            u64::MAX,
-        ).expect(&rt, "no fault");
+        let verdict = compared_stack(&rt, rt.alloc(), &stack, &profile, scope, u64::MAX);
         assert!(rt; verdict == Verdict::Undecided { at: 12 });
     }
 }
@@ -46,13 +39,7 @@ fn a_difference_behind_an_unknown_answer(rt: HostRuntime) {
     // The profile refuses `read`, too.
     let profile = profile_of(&rt, rt.alloc(), READ_WRITE_TABLE, ALL_BUT_TWO);
     let stack = stack_of(&rt, rt.alloc(), &[(GATE, UNKNOWN_WRITE)]);
-    let verdict = compare_stack::<WordSets>(
-        rt.alloc(),
-        &stack,
-        &profile,
-        Scope::All,
-        u64::MAX,
-    ).expect(&rt, "no fault");
+    let verdict = compared_stack(&rt, rt.alloc(), &stack, &profile, Scope::All, u64::MAX);
     let is_shown = match verdict {
         Verdict::Differs { call, filter, .. } => call.nr == 0 && filter == Answer(ALLOW),
         _ => false,
@@ -63,16 +50,8 @@ fn a_difference_behind_an_unknown_answer(rt: HostRuntime) {
         rt.alloc(),
         &[(GATE, WITHOUT_READ), (GATE, UNKNOWN_WRITE)],
     );
-    let verdict = compare_stack::<WordSets>(
-        rt.alloc(),
-        &both,
-        &profile,
-        Scope::All,
-        u64::MAX,
-    ).expect(&rt, "no fault");
+    let verdict = compared_stack(&rt, rt.alloc(), &both, &profile, Scope::All, u64::MAX);
     assert!(rt; verdict == Verdict::Undecided { at: 14 });
-    let none = compare_stack::<WordSets>(rt.alloc(), &both, &profile, Scope::All, 0).expect(
-        &rt, "no fault",
-    );
+    let none = compared_stack(&rt, rt.alloc(), &both, &profile, Scope::All, 0);
     assert!(rt; none == Verdict::Unfinished);
 }

@@ -1,6 +1,6 @@
 //! The steps of a comparison: a limit is spent, and no more than what the facts leave is explored.
 
-use crate::fixtures::{allowing, assembled, profile_of};
+use crate::fixtures::{allowing, assembled, compared, profile_of};
 use scf_compare::{Verdict, compare, effort, is_plain};
 use scf_compile::compile;
 use scf_facts::{AtomList, WordFacts, WordSets};
@@ -129,9 +129,7 @@ fn many_tests_at_the_default_limit(rt: HostRuntime) {
     for count in [20, 60, 120] {
         let program = tests(&rt, rt.alloc(), count);
         assert!(rt; effort(&program, &profile) > DEFAULT_LIMIT, "{count}");
-        let verdict = compare::<WordSets>(rt.alloc(), &program, &profile, DEFAULT_LIMIT).expect(
-            &rt, "no fault",
-        );
+        let verdict = compared(&rt, rt.alloc(), &program, &profile, DEFAULT_LIMIT);
         assert!(rt; steps_of(verdict).is_some(), "{count}: {verdict:?}");
     }
 }

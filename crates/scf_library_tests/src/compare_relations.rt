@@ -1,7 +1,7 @@
 //! Filters against profiles by each of the three relations, in each scope.
 
-use crate::fixtures::{assembled, profile_of, push, stack_of};
-use scf_compare::{Relation, Scope, Verdict, compare_by, compare_stack, effort_stack};
+use crate::fixtures::{assembled, compared_stack, profile_of, push, stack_of};
+use scf_compare::{Relation, Scope, Verdict, compare_by, effort_stack};
 use scf_facts::{AtomList, WordFacts, WordSets};
 use scf_insn::Answer;
 use scf_machine::FilterStack;
@@ -344,6 +344,19 @@ fn is_wanted(
     }
 }
 
+/// What the comparer says of a stack and a profile by a relation.
+fn compared_by(
+    rt: &impl Abort,
+    alloc: Global,
+    stack: &FilterStack,
+    profile: &Profile,
+    scope: Scope,
+    relation: Relation,
+    limit: u64,
+) -> Verdict {
+    compare_by::<WordSets>(alloc, stack, profile, scope, relation, limit).expect(rt, "no fault")
+}
+
 #[test]
 fn stacks_by_each_relation(rt: HostRuntime) {
     for row in rows() {
@@ -352,31 +365,23 @@ fn stacks_by_each_relation(rt: HostRuntime) {
         let limit = effort_stack(&stack, &profile);
         let scope = row.scope;
         for (relation, wanted) in RELATIONS.into_iter().zip(row.wanted) {
-            let verdict = compare_by::<WordSets>(
-                rt.alloc(),
-                &stack,
-                &profile,
-                scope,
-                relation,
-                limit,
-            ).expect(&rt, "no fault");
+            let verdict = compared_by(&rt, rt.alloc(), &stack, &profile, scope, relation, limit);
             assert!(rt;
                 is_wanted(verdict, &stack, &profile, scope, wanted),
                 "{} {scope:?} {relation:?}: {verdict:?}",
                 row.text
             );
         }
-        let same = compare_stack::<WordSets>(rt.alloc(), &stack, &profile, scope, limit).expect(
-            &rt, "no fault",
-        );
-        let by_same = compare_by::<WordSets>(
+        let same = compared_stack(&rt, rt.alloc(), &stack, &profile, scope, limit);
+        let by_same = compared_by(
+            &rt,
             rt.alloc(),
             &stack,
             &profile,
             scope,
             Relation::Same,
             limit,
-        ).expect(&rt, "no fault");
+        );
         assert!(rt; by_same == same, "{} {scope:?}", row.text);
     }
 }
@@ -386,14 +391,7 @@ fn no_steps_by_any_relation(rt: HostRuntime) {
     let stack = stack_of(&rt, rt.alloc(), &[(GATE, ALLOW_ALL)]);
     let profile = profile_of(&rt, rt.alloc(), "", DEFAULT_ALLOW);
     for relation in RELATIONS {
-        let verdict = compare_by::<WordSets>(
-            rt.alloc(),
-            &stack,
-            &profile,
-            Scope::All,
-            relation,
-            0,
-        ).expect(&rt, "no fault");
+        let verdict = compared_by(&rt, rt.alloc(), &stack, &profile, Scope::All, relation, 0);
         assert!(rt; verdict == Verdict::Unfinished, "{relation:?}");
     }
 }

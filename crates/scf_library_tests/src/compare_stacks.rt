@@ -1,9 +1,8 @@
 //! Stacks of filters against a profile, in each of the three scopes.
 
-use crate::fixtures::{assembled, profile_of, push, stack_of};
-use scf_compare::{Scope, Verdict, compare_stack, effort_stack};
+use crate::fixtures::{assembled, compared_stack, profile_of, push, stack_of};
+use scf_compare::{Scope, Verdict, effort_stack};
 use scf_compile::compile;
-use scf_facts::WordSets;
 use scf_insn::Answer;
 use scf_machine::FilterStack;
 use scf_profile::Profile;
@@ -182,13 +181,7 @@ fn stacks_in_each_scope(rt: HostRuntime) {
             (Scope::Call(1), row.of_1),
         ] {
             let limit = row.effort;
-            let verdict = compare_stack::<WordSets>(
-                rt.alloc(),
-                &stack,
-                &profile,
-                scope,
-                limit,
-            ).expect(&rt, "no fault");
+            let verdict = compared_stack(&rt, rt.alloc(), &stack, &profile, scope, limit);
             assert!(rt;
                 is_wanted(verdict, &stack, &profile, scope, wanted),
                 "{} {scope:?}: {verdict:?}",
@@ -235,13 +228,7 @@ fn own_filters_beside_one_that_allows(rt: HostRuntime) {
             let stack = own_stack(&rt, rt.alloc(), &profile, own_first);
             let limit = effort_stack(&stack, &profile);
             for scope in [Scope::All, Scope::Native, Scope::Call(0), Scope::Call(56)] {
-                let verdict = compare_stack::<WordSets>(
-                    rt.alloc(),
-                    &stack,
-                    &profile,
-                    scope,
-                    limit,
-                ).expect(&rt, "no fault");
+                let verdict = compared_stack(&rt, rt.alloc(), &stack, &profile, scope, limit);
                 let is_same = matches!(verdict, Verdict::Same { .. });
                 assert!(rt; is_same, "{text} {own_first} {scope:?}: {verdict:?}");
             }

@@ -1,9 +1,8 @@
 //! Which rules conflict: those that some call meets both, and that answer it differently.
 
-use crate::fixtures::{assembled, call, loaded, profile_of};
-use scf_compare::{Verdict, compare, effort};
+use crate::fixtures::{assembled, call, compared, loaded, profile_of};
+use scf_compare::{Verdict, effort};
 use scf_compile::{compile, size_bound};
-use scf_facts::WordSets;
 use scf_insn::Answer;
 use scf_machine::run;
 use scf_profile::LoadFault;
@@ -198,7 +197,7 @@ fn overlapping_socket_rules(rt: HostRuntime) {
         assert!(rt; ran.steps <= 38, "{} steps", ran.steps);
     }
     let limit = effort(&filter, &profile);
-    let verdict = compare::<WordSets>(rt.alloc(), &filter, &profile, limit).expect(&rt, "no fault");
+    let verdict = compared(&rt, rt.alloc(), &filter, &profile, limit);
     assert!(rt; matches!(verdict, Verdict::Same { .. }), "{verdict:?}");
 }
 

@@ -2,6 +2,8 @@
 //!
 //! Tests run with ample memory. Where one is refused any, or a text isn't what it is to be, the test ends there.
 
+use scf_compare::{Scope, Verdict, compare, compare_stack};
+use scf_facts::WordSets;
 use scf_insn::{CallRecord, Insn};
 use scf_machine::{FilterStack, Program, check};
 use scf_profile::{CallTable, LoadFault, Loaded, Profile, TableFault, load};
@@ -109,4 +111,27 @@ pub(crate) fn stack_of(
         push(rt, &mut stack, assembled(rt, alloc, head, rest));
     }
     stack
+}
+
+/// What the comparer says, by `WordSets`, of a filter and a profile within a limit.
+pub(crate) fn compared(
+    rt: &impl Abort,
+    alloc: Global,
+    program: &Program,
+    profile: &Profile,
+    limit: u64,
+) -> Verdict {
+    compare::<WordSets>(alloc, program, profile, limit).expect(rt, "no fault")
+}
+
+/// The same of a stack, in a scope.
+pub(crate) fn compared_stack(
+    rt: &impl Abort,
+    alloc: Global,
+    stack: &FilterStack,
+    profile: &Profile,
+    scope: Scope,
+    limit: u64,
+) -> Verdict {
+    compare_stack::<WordSets>(alloc, stack, profile, scope, limit).expect(rt, "no fault")
 }
