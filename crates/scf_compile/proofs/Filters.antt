@@ -1,5 +1,5 @@
 -- What is put before a search makes it a filter.
-use Rattle.scf_compile.proofs.Common.{◌≡◌, ℕ, suc, ◌+◌, ◌-◌, ◌<◌, ◌≤◌, Bool, true, false, cond, eqb, ltb, List, [], ◌∷◌, length, refl, ap, arith, IsTrue, le-leb, eqb-true, eqb-false, nat_tests, Insn, CallRecord, Equal, GreaterOrEqual, audit_arch_x86_64, x32_syscall_bit, seccomp_ret_kill_process, words_of, IsRecord, IsPlainProfile, Profile, ProfileAnswers, foreign, rules_of, Place, search_bound_of, load_word, return_with, branch_code, IsFirst, IsPut, ArePut, IsSearchOf, IsFilterOf, EndsWithin, AreSound, first_answer, contains_cons_cases, sym, subst, inl, inr, cases_Bool, cases_eq, and_left, and_right, and_from, eq-eqb, ne_eqb, Contains-append_right, Answer, Rule, meets, all_hold, IsNative, by_rule, by_default}
+use Rattle.scf_compile.proofs.Common.{◌≡◌, ℕ, suc, ◌+◌, ◌-◌, ◌<◌, ◌≤◌, Bool, true, false, cond, eqb, ltb, List, [], ◌∷◌, length, refl, ap, arith, IsTrue, le-leb, eqb-true, eqb-false, nat_tests, Insn, CallRecord, Equal, GreaterOrEqual, audit_arch_x86_64, x32_syscall_bit, seccomp_ret_kill_process as kill, words_of, IsRecord, IsPlainProfile, Profile, ProfileAnswers, foreign, rules_of, Place, search_bound_of, load_word, return_with, branch_code, IsFirst, IsPut, ArePut, IsSearchOf, IsFilterOf, EndsWithin, AreSound, first_answer, contains_cons_cases, sym, subst, inl, inr, cases_Bool, cases_eq, and_left, and_right, and_from, eq-eqb, ne_eqb, Contains-append_right, Answer, Rule, meets, all_hold, IsNative, by_rule, by_default}
 use Rattle.scf_compile.proofs.Runs.{more, loads, load_sound}
 use Rattle.scf_compile.proofs.RuleCode.{Answers, return_answers, answers_put, answers_there, from_first}
 use Rattle.scf_compile.proofs.RuleCode.{branch_ends, branch_sound, branch_stays}
@@ -35,9 +35,6 @@ module _ (default : Answer) (call : CallRecord) where
       ]
 
 -- ---- the tests before a search
-
-abbrev kill : ℕ
-kill = seccomp_ret_kill_process
 
 kill_answers : Answers (return_with kill ∷ []) 1 (Unit {0}) (λ _. kill)
 kill_answers = return_answers kill 1 (Unit {0}) (omega arith)

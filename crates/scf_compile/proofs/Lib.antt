@@ -2,7 +2,6 @@ pub mod Common
 pub mod Counts
 pub mod Filters
 pub mod Laying
-pub mod Masks
 pub mod RuleCode
 pub mod Runs
 pub mod Searches

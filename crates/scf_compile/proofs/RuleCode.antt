@@ -1,5 +1,5 @@
 -- The code of rules, and what is put before some code.
-use Rattle.scf_compile.proofs.Common.{◌≡◌, ℕ, ◌+◌, ◌-◌, ◌*◌, ◌<◌, ◌≤◌, Bool, true, false, cond, leb, List, [], ◌∷◌, ◌++◌, drop, length, ap, ◌∙◌, arith, inl, inr, length-append, append_assoc, sum_by, length-drop, IsTrue, AllByRecursion, cases_Bool, recursion_from_All, sum_by-cons, drop-append-add, Insn, Answer, CallRecord, Test, JumpIf, Constant, words_of, IsRecord, test_holds, IsPlainOperation, Condition, Rule, IsPlainCondition, IsPlainRule, all_hold, IsCondition, IsRule, Place, rule_bound, jump_if, jump_over, return_with, branch_code, code_from, IsNear, IsFirst, IsPut, conditions_code, behind_rule, rules_code, ArePut, EndsWithin, AreSound, first_answer, rules_bound}
+use Rattle.scf_compile.proofs.Common.{◌≡◌, ℕ, ◌+◌, ◌-◌, ◌*◌, ◌<◌, ◌≤◌, Bool, true, false, cond, leb, List, [], ◌∷◌, ◌++◌, drop, length, ap, ◌∙◌, arith, inl, inr, length-append, append_assoc, sum_by, length-drop, IsTrue, AllByRecursion, cases_Bool, recursion_from_All, sum_by-cons, drop-append-add, Insn, Answer, CallRecord, Test, JumpIf, Constant, words_of, IsRecord, test_holds, IsPlainOperation, Condition, Rule, IsPlainCondition, IsPlainRule, all_hold, IsCondition, IsRule, Place, rule_bound, jump_if, jump_over, return_with, branch_code, code_from, IsFirst, IsPut, conditions_code, behind_rule, rules_code, ArePut, EndsWithin, AreSound, first_answer, rules_bound}
 use Rattle.scf_compile.proofs.Runs.{more, past, answers, jumps, passes, jump_sound, pass_sound, return_sound}
 use Rattle.scf_compile.proofs.Tests.{conditions_tests}
 
@@ -80,9 +80,6 @@ pub from_first : (code : List Insn) (place : Place) → place.0 ≡ length code 
 from_first code place is =
     let passed : length code - place.0 ≡ 0 = omega arith in
     ap (λ (n : ℕ). drop n code) passed
-
-pub first_near : (code : List Insn) (place : Place) → place.0 ≡ length code → IsNear place code
-first_near code place is = record { stands = omega arith; near = omega arith }
 
 -- code that answers is put before some code, or stands there
 pub answers_put : {block before after : List Insn} {place : Place} {most : ℕ} {p : Type 0} {f : CallRecord → ℕ}

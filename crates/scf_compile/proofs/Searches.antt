@@ -3,7 +3,7 @@ use Rattle.scf_compile.proofs.Common.{◌≡◌, ℕ, zero, suc, ◌+◌, ◌-�
 use Rattle.scf_compile.proofs.Laying.{served_parts}
 use Rattle.scf_compile.proofs.Runs.{more}
 use Rattle.scf_compile.proofs.RuleCode.{rules_answer, rules_bounded, branch_ends, branch_sound, branch_stays}
-use Rattle.scf_compile.proofs.RuleCode.{from_first, first_near, answers_put, answers_there}
+use Rattle.scf_compile.proofs.RuleCode.{from_first, answers_put, answers_there}
 
 -- the first of some stretches begins at their lower bound
 begins_at : (default : Answer) (wanted : ℕ → List Rule) (low high : ℕ) (ss : List Stretch) (s : Stretch) → 0 < length ss
@@ -52,7 +52,7 @@ module _ (default : Answer) (lower upper : List Stretch) (s : Stretch) (some : 0
           longer = omega (arith, branch.0);
           stays = λ p le. branch.1 p (omega arith) ∙ hit.stays p (omega arith) ∙ miss.stays p le;
           some = omega (arith, first.first, hit.some, branch.0);
-          near = first_near after place first.first;
+          near = record { stands = omega (arith, first.first); near = omega (arith, first.first) };
           sound = λ asked is sound.
               branch_sound GreaterOrEqual s.first to_hit to_miss first asked (λ h m. tt)
               (omega (arith, hit.some, hit.near.stands)) (omega (arith, miss.some, miss.near.stands))

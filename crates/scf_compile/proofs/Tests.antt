@@ -1,13 +1,49 @@
 -- The code of a condition: how long it is, that it is sound, and how it goes on.
-use Rattle.scf_compile.proofs.Common.{◌≡◌, ℕ, ◌+◌, ◌*◌, ◌<◌, ◌≤◌, ◌^◌, ◌≢◌, Bool, true, false, cond, eqb, ltb, not, List, [], ◌∷◌, ◌++◌, drop, length, refl, sym, ap, ◌∙◌, arith, append_assoc, bit_and, length-append, slice_index, IsTrue, AllByRecursion, eqb-true, eqb-false, nat_tests, and_mask, and_shr, and_mod, and_assoc, and_self, Insn, CallRecord, Test, SameWord, Above, AtLeast, CommonBit, JumpIf, Constant, MaskKind, Empty, OneBit, Full, Mixed, mask_kind, IsSimpleMask, low, high, words_of, argument, IsRecord, argument_low, argument_high, IsOfKind, is_of_kind, test_holds, IsPlainOperation, Operator, NotEqual, Less, LessOrEqual, Greater, MaskedEqual, Condition, IsPlainCondition, all_hold, IsCondition, jump_if, word_code, order_code, bit_code, half_code_of, half_code, masked_code, test_code, exits, condition_code, argument_word, conditions_code, EndsWithin, AreSound}
+use Rattle.scf_compile.proofs.Common.{◌≡◌, ℕ, ◌+◌, ◌*◌, ◌<◌, ◌≤◌, ◌^◌, ◌≢◌, Bool, true, false, cond, eqb, ltb, not, List, [], ◌∷◌, ◌++◌, drop, length, refl, sym, ap, ◌∙◌, arith, append_assoc, bit_and, length-append, slice_index, IsTrue, AllByRecursion, eqb-true, eqb-false, nat_tests, and_mask, and_shr, and_mod, and_assoc, and_self, Insn, CallRecord, Test, SameWord, Above, AtLeast, CommonBit, JumpIf, Constant, MaskKind, Empty, OneBit, Full, Mixed, mask_kind, IsSimpleMask, low, high, words_of, argument, IsRecord, argument_low, argument_high, IsOfKind, is_of_kind, test_holds, IsPlainOperation, Operator, NotEqual, Less, LessOrEqual, Greater, MaskedEqual, Condition, IsPlainCondition, all_hold, IsCondition, jump_if, word_code, order_code, bit_code, half_code_of, half_code, masked_code, test_code, exits, condition_code, argument_word, conditions_code, EndsWithin, AreSound, ◌-◌, inl, inr, ◌⊎◌, IsPowerOfTwo, bit_at, and_zero_r, cases_eq, eq-eqb, and_pow, bit_at-lt}
 use Rattle.scf_profile.specs.Condition.{holds}
 use Rattle.scf_profile.specs.declared.condition.Operator.TheVariants.{Equal, GreaterOrEqual}
 use Rattle.scf_profile.specs.declared.number_test.NumberTest.{NumberTest}
 use Rattle.scf_profile.specs.declared.number_test.NumberTest.TheVariants as tests
 use Rattle.scf_profile.specs.NumberTests.{IsPlainTest, comes_to, test_by, test_of, tree_answer}
 use Rattle.scf_profile.proofs.NumberTests.{decides, plain_of}
-use Rattle.scf_compile.proofs.Masks.{nothing_within, under_empty, under_full, wanted_of_power}
 use Rattle.scf_compile.proofs.Runs.{more, past, loads, masks, jumps, load_sound, mask_sound, jump_sound}
+
+-- ---- what a word has under a mask, by the kind of the mask
+
+-- under no bit each word has what is wanted
+under_empty : (n mask wanted : ℕ) → mask ≡ 0 → bit_and wanted mask ≡ wanted → eqb (bit_and n mask) wanted ≡ true
+under_empty n mask wanted none within =
+    let nothing : (m : ℕ) → bit_and m mask ≡ 0 = λ m. ap (λ (k : ℕ). bit_and m k) none ∙ and_zero_r m in
+    eq-eqb (bit_and n mask) wanted (nothing n ∙ sym (nothing wanted) ∙ within)
+
+nothing_within : (mask wanted : ℕ) → mask ≡ 0 → bit_and wanted mask ≡ wanted → wanted ≡ 0
+nothing_within mask wanted none within = sym within ∙ ap (λ (m : ℕ). bit_and wanted m) none ∙ and_zero_r wanted
+
+-- a word under all bits is itself
+under_full : (n mask : ℕ) → n < 2 ^ 32 → mask ≡ 2 ^ 32 - 1 → bit_and n mask ≡ n
+under_full n mask lt all = ap (λ (k : ℕ). bit_and n k) all ∙ and_mask n 32 ∙ omega arith
+
+-- a word under one bit is nothing or the bit
+under_power : (n k : ℕ) → (bit_and n (2 ^ k) ≡ 0) ⊎ (bit_and n (2 ^ k) ≡ 2 ^ k)
+under_power n k = elim (cases_eq (bit_at n k) 0) [
+  | inl none ↦ inl (and_pow n k ∙ ap (λ (b : ℕ). b * 2 ^ k) none ∙ omega arith)
+  | inr some ↦ inr (let one : bit_at n k ≡ 1 = omega (arith, bit_at-lt n k) in
+      and_pow n k ∙ ap (λ (b : ℕ). b * 2 ^ k) one ∙ omega arith)
+]
+
+-- so where the bit is wanted, a word has it exactly where it isn't nothing
+wanted_of_power : (n mask wanted : ℕ) → IsPowerOfTwo mask → bit_and wanted mask ≡ wanted → wanted ≢ 0
+    → not (eqb (bit_and n mask) 0) ≡ eqb (bit_and n mask) wanted
+wanted_of_power n mask wanted (k, e) within some = elim (under_power wanted k) [
+  | inl none ↦ absurd (some (sym within ∙ ap (λ (m : ℕ). bit_and wanted m) e ∙ none))
+  | inr all ↦
+      let bit : wanted ≡ 2 ^ k = sym within ∙ ap (λ (m : ℕ). bit_and wanted m) e ∙ all in
+      let power : bit_and n mask ≡ bit_and n (2 ^ k) = ap (λ (m : ℕ). bit_and n m) e in
+      elim (under_power n k) [
+        | inl nothing ↦ grind (arith, nat_tests, power, nothing, bit, some)
+        | inr has ↦ grind (arith, nat_tests, power, has, bit, some)
+      ]
+]
 
 -- The code tests something of a call, in no more than so many instructions and steps: it goes on `hit` instructions
 -- behind it where this is met, and else `miss`.

@@ -33,21 +33,9 @@ fine_at is place sound lt =
       fine = fine_of there.2.operation _ (length is) place there.0 there.1 there.2.keeps;
     }
 
--- no instruction loads a scratch word
-no_scratch : (is : List Insn) → AreSound false is → KeepsScratchRule is
-no_scratch is h place n earlier loads path =
-    absurd (kept_at is place loads.insn (LoadScratch loads.register) h loads.stands).2
-
 -- nothing stands behind the last instruction, so that it can only answer
 returns_at_end : (operation : Operation) (i : Insn) → Keeps operation i 0 → IsReturn operation
 returns_at_end operation i h = grind arith
-
-last_returns : (code : List Insn) → AreSound false code → 0 < length code → (i : Insn) (operation : Operation)
-    → Stands code (length code - 1) i operation → IsReturn operation
-last_returns code h some i operation stands =
-    let kept = kept_at code (length code - 1) i operation h stands in
-    let last : kept.0 ≡ 0 = omega (arith, kept.1) in
-    returns_at_end operation i (rw last at kept.2)
 
 -- ---- what a filter promises
 
@@ -61,11 +49,16 @@ module _ {p : Profile} {code : List Insn} (filter : IsFilterOf p code) where
     some = filter.some;
     few = few;
     each = λ place lt. fine_at code place unasked lt;
-    last = last_returns code unasked filter.some;
+    last = λ i operation stands.
+        let kept = kept_at code (length code - 1) i operation unasked stands in
+        let last : kept.0 ≡ 0 = omega (arith, kept.1, filter.some) in
+        returns_at_end operation i (rw last at kept.2);
   }
 
+  -- no instruction loads a scratch word
   pub keeps_scratch_rule : KeepsScratchRule code
-  keeps_scratch_rule = no_scratch code unasked
+  keeps_scratch_rule place n earlier loads path =
+      absurd (kept_at code place loads.insn (LoadScratch loads.register) unasked loads.stands).2
 
   pub is_plain : IsPlainProfile p → IsPlainProgram code
   is_plain plain k d lt =

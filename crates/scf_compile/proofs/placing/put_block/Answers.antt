@@ -1,5 +1,5 @@
 use Rattle.scf_compile.proofs.Common.{rules, ◌≡◌, ◌++◌, List, get_or, length, refl, ap, ◌∙◌, subst, arith, inr, length-append, Insn, IsOutOfReach}
-use Rattle.scf_compile.proofs.RuleCode.{first_near, from_first}
+use Rattle.scf_compile.proofs.RuleCode.{from_first}
 use Rattle.scf_compile.proofs.placing.put_block.Goals as goal
 use Rattle.scf_compile.proofs.placing.put_block.Goals.{then-block-eq1+in_default, else-block-eq1}
 
@@ -15,7 +15,7 @@ returns c =
       few = omega (arith, ap (λ (l : List Insn). length l) whole, length-append c.args.block.now c.args.code.now.items);
       behind = c.args.code.now.items;
       there = from_first code (record { 0 = c.len.result }) here ∙ whole;
-      near = first_near code (record { 0 = c.len.result }) here;
+      near = record { stands = omega (arith, here); near = omega (arith, here) };
       once = λ insn is. inr (elim c.if-block-eq1.branch [
         | then-block-eq1+in_default w ↦
             subst (λ (i : Insn). IsOutOfReach i c.args.code.now.items)
