@@ -129,6 +129,24 @@ class Hostile(Case):
         self.assertTrue(out.startswith(b"differs\n"))
         self.ends(["compile"], with_table(profile, table), (0, None), (1, b"fault compile TooLarge\n"))
 
+    def test_each_of_many_calls(self):
+        """Each call that the table names is compared by itself, with a profile that has rules for all of them."""
+        table = b"".join(b"c%d %d\n" % (number, number) for number in range(4096))
+        entries = b",".join(b'{"names":["c%d"],"action":"SCMP_ACT_ALLOW"}' % number for number in range(4096))
+        profile = b'{"defaultAction":"SCMP_ACT_KILL","syscalls":[%s]}' % entries
+        bundle = part("filter", GATE + ret(ALLOW)) + with_table(profile, table)
+        self.ends(["compare", "--calls"], bundle, (0, b"same\n"))
+
+    def test_numbers_apart(self):
+        """Behind the search of a filter only the numbers of its stretch are asked: all of them behind each would take
+        more than a million steps."""
+        table = b"".join(b"c%d %d\n" % (number, number) for number in range(0, 3600, 3))
+        entries = b",".join(b'{"names":["c%d"],"action":"SCMP_ACT_ALLOW"}' % number for number in range(0, 3600, 3))
+        both = with_table(b'{"defaultAction":"SCMP_ACT_KILL","syscalls":[%s]}' % entries, table)
+        status, compiled, _, _ = run(["compile"], both)
+        self.assertEqual(status, 0)
+        self.ends(["compare", "--limit", "20000"], part("filter", compiled) + both, (0, b"same\n"))
+
     def test_rules_that_nearly_conflict(self):
         """Of one number, with two answers by turns, each pair apart on one argument: every pair is looked at."""
         entries = b",".join(

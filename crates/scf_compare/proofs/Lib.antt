@@ -1,7 +1,7 @@
 pub mod Bits
 pub mod Branches
 pub mod Common
-pub mod Firsts
+pub mod Sorted
 pub mod Flows
 pub mod Halves
 pub mod Headline

@@ -1,5 +1,5 @@
 -- The rules of a profile and their conditions, one after another.
-use Rattle.scf_compare.proofs.Common.{◌≡◌, ◌≢◌, ℕ, zero, suc, ◌+◌, ◌*◌, ◌<◌, ◌≤◌, ◌&&◌, Bool, true, false, eqb, List, [], ◌∷◌, ◌++◌, Some, length, take, drop, get_or, refl, sym, ap, subst, ◌∙◌, arith, slice_get, All, Contains, eq-eqb, ne_eqb, and_parts, take_all, All-push, All-contains, slice_get-get_or, slice_get_within, CallRecord, argument, Condition, Rule, all_hold, meets, numbers_of, rules_of, numbers_of-contains, ConditionPart, High, IsAtPart, conditions_size, StandsAt, IsAtCondition, KnowsRule, condition_size, size_behind}
+use Rattle.scf_compare.proofs.Common.{◌≡◌, ◌≢◌, ℕ, zero, suc, ◌+◌, ◌*◌, ◌<◌, ◌≤◌, ◌&&◌, Bool, true, false, eqb, List, [], ◌∷◌, ◌++◌, Some, length, take, drop, get_or, refl, sym, ap, subst, ◌∙◌, arith, slice_get, All, Contains, eq-eqb, ne_eqb, and_parts, All-push, slice_get-get_or, slice_get_within, CallRecord, argument, Condition, Rule, all_hold, meets, rules_of, ConditionPart, High, IsAtPart, conditions_size, StandsAt, IsAtCondition, KnowsRule, condition_size, size_behind}
 use Rattle.scf_profile.specs.Condition.{holds}
 
 -- ---- which rules a call meets
@@ -66,28 +66,6 @@ unmet_more call rules place r here before unmet =
     rw (one, take_here rules place r here)
     (All-push (λ earlier. meets earlier call ≡ false) (take place rules) r before unmet)
 
--- where every rule up to the end is unmet, every rule is
-pub unmet_all : (call : CallRecord) (rules : List Rule) (place : ℕ) → length rules ≤ place
-    → All (λ earlier. meets earlier call ≡ false) (take place rules) → (r : Rule) → Contains rules r
-    → meets r call ≡ false
-unmet_all call rules place past unmet r in_rules = grind (arith, take_all)
-
--- a call whose number no rule has meets none
-pub unmet_numbers : (call : CallRecord) (rules : List Rule) (place : ℕ) → length (numbers_of rules) ≤ place
-    → All (λ number. call.nr ≢ number) (take place (numbers_of rules)) → (r : Rule) → Contains rules r
-    → meets r call ≡ false
-unmet_numbers call rules place past apart r in_rules =
-    unmet_apart call r
-    (All-contains (λ number. call.nr ≢ number) (numbers_of rules) r.number
-    (subst (λ (xs : List ℕ). All (λ number. call.nr ≢ number) xs) (take_all place (numbers_of rules) past) apart)
-    (numbers_of-contains rules r in_rules))
-
-pub apart_more : (nr : ℕ) (numbers : List ℕ) (place number : ℕ) → slice_get numbers place ≡ Some number
-    → All (λ n. nr ≢ n) (take place numbers) → nr ≢ number → All (λ n. nr ≢ n) (take (place + 1) numbers)
-apart_more nr numbers place number here before apart =
-    let one : place + 1 ≡ suc place = omega arith in
-    rw (one, take_here numbers place number here) (All-push (λ n. nr ≢ n) (take place numbers) number before apart)
-
 -- ---- the rules of a number
 
 kept : (r : Rule) (rules : List Rule) (number : ℕ) → r.number ≡ number
@@ -125,10 +103,6 @@ pub size_at_condition : (rules : List Rule) (place index : ℕ) (rule : Rule) (c
 size_at_condition rules place index rule c here first = grind (arith, conditions_more)
 
 -- ---- what the code reads
-
-pub read_here : {X : Type 0} (xs : List X) (place : ℕ) (x : X) → place < length xs → x ≡ get_or xs place x
-    → slice_get xs place ≡ Some x
-read_here xs place x inside is = slice_get-get_or xs place x inside ∙ ap (λ y. Some y) (sym is)
 
 pub same_here : {X : Type 0} (xs : List X) (place : ℕ) (x y : X) → slice_get xs place ≡ Some x
     → slice_get xs place ≡ Some y → x ≡ y

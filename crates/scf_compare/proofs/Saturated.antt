@@ -22,13 +22,6 @@ sum_grows f rules place r here =
     ∙ ap (λ n. sum_by f (numbers_of (take place rules)) + n)
     (sum_of_one f (has_number r.number (take place rules)) r.number)
 
-pub numbers_grow : (rules : List Rule) (place : ℕ) (r : Rule) → slice_get rules place ≡ Some r
-    → numbers_of (take (place + 1) rules) ≡ numbers_of (take place rules)
-    ++ cond (has_number r.number (take place rules)) [] (r.number ∷ [])
-numbers_grow rules place r here =
-    let one : place + 1 ≡ suc place = omega arith in
-    rw (one, take_here rules place r here) (numbers_of-push (take place rules) r)
-
 -- the conditions from one on, by those behind it
 pub conditions_step : (conditions : List Condition) (place behind : ℕ) → 0 < place → place ≤ length conditions
     → conditions_size (drop (place - 1) conditions) behind

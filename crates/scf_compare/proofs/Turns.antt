@@ -1,5 +1,5 @@
 -- How words go on from a turn.
-use Rattle.scf_compare.proofs.Common.{◌⊎◌, inl, inr, ℕ, List, Option, None, Some, Atoms, GoesEither}
+use Rattle.scf_compare.proofs.Common.{inl, inr, ℕ, List, Option, None, Some, Atoms, GoesEither}
 
 -- what follows from either way of words follows for what is asked
 pub goes_within : (asked : Option Atoms) (words : List ℕ) {first second first_too second_too : Type 0}

@@ -10,9 +10,9 @@ ghost use Rattle.scf_compare.specs.Effort.{effort_of, effort_of_stack};
 ghost use Rattle.scf_compare.specs.Scope.{RelatedAnswersIn, SameAnswersIn};
 ghost use Rattle.scf_compare.specs.Verdicts.{IsTrueOf, IsTrueOfStack, IsTrueOfStackBy, IsWithin, IsDecided};
 
+use crate::by_number::ByNumber;
 use crate::explore::explore;
 use crate::pair::{Pair, PairNode};
-use crate::profile_numbers::ProfileNumbers;
 use crate::relation::Relation;
 use crate::scope::{Scope, facts_of};
 use crate::stack::start_of;
@@ -113,10 +113,9 @@ fn compare_filters<F: WordFacts>(
         (RelatedAnswersIn relation scope (StackAnswers filters.now) profile.now)
         limit (effort_of_stack filters.now profile.now)) }
 {
-    let numbers = ProfileNumbers::new(alloc, profile)?;
     let pair = Pair {
         filters,
-        profile: &numbers,
+        profile: ByNumber::new(alloc, profile)?,
         scope,
         relation,
     };

@@ -2,6 +2,7 @@
 #![tactic(auto)]
 
 mod asking;
+mod by_number;
 mod comparer;
 mod comparison;
 mod conjunction;
@@ -15,7 +16,6 @@ mod offset;
 mod pair;
 mod plain;
 mod profile;
-mod profile_numbers;
 mod question;
 mod registers;
 mod relation;

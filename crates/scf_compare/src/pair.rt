@@ -1,18 +1,16 @@
 //! Filters and a profile as one tree of questions.
 
-ghost use Rattle.std.specs.Prelude.{ℕ, List};
-ghost use Rattle.scf_insn.specs.Words.{IsWords};
 ghost use Rattle.scf_machine.specs.Precedence.{StackAnswers};
-ghost use Rattle.scf_compare.specs.internal.Ends.{FilterTells, IsPlaceOf, both_endings};
+ghost use Rattle.scf_compare.specs.internal.Ends.{IsPlaceOf, both_endings};
 ghost use Rattle.scf_compare.specs.internal.Pairs.{pair_tree};
 ghost use Rattle.scf_compare.specs.internal.Profiles.{profile_is_node};
 ghost use Rattle.scf_compare.specs.internal.Scopes.{compared_in};
 ghost use Rattle.scf_compare.specs.internal.Stacks.{IsStackEnd};
 ghost use Rattle.scf_compare.specs.internal.Trees.{IsTurn};
 
+use crate::by_number::ByNumber;
 use crate::comparison::{BothEnds, Comparison, FilterEnd};
 use crate::profile::ProfileNode;
-use crate::profile_numbers::ProfileNumbers;
 use crate::registers::Registers;
 use crate::relation::Relation;
 use crate::scope::Scope;
@@ -31,10 +29,10 @@ pub(crate) enum PairNode {
 }
 
 /// Filters, the oldest first, and the profile that they are compared with on the calls of a scope, by a relation.
-#[derive(Clone, Copy)]
+#[derive(Drop)]
 pub(crate) struct Pair<'a> {
     pub(crate) filters: &'a [Program],
-    pub(crate) profile: &'a ProfileNumbers<'a>,
+    pub(crate) profile: ByNumber<'a>,
     pub(crate) scope: Scope,
     pub(crate) relation: Relation,
 }
@@ -45,9 +43,9 @@ impl Comparison for Pair<'_> {
     type Node = PairNode;
 
     ghost compared = { λ pair. compared_in pair.relation pair.scope (IsPlaceOf (IsStackEnd pair.filters.now))
-        (StackAnswers pair.filters.now) pair.profile.now.profile.now };
+        (StackAnswers pair.filters.now) pair.profile.profile };
 
-    ghost tree = { λ pair. pair_tree pair.filters.now pair.profile.now.profile.now };
+    ghost tree = { λ pair. pair_tree pair.filters.now pair.profile };
 
     fn turn<F: WordFacts>(
         &self,
@@ -69,7 +67,7 @@ impl Comparison for Pair<'_> {
 
     fn answers(&self, call: &CallRecord) -> (Answer, Answer) {
         call.within_widths();
-        let profile = self.profile.profile;
+        let profile = self.profile.profile();
         let _rules = profile.rules();
         (decide(self.filters, call), profile.answer(call))
     }
@@ -82,7 +80,7 @@ impl Comparison for Pair<'_> {
 
     ghost of_words = { λ _ words within. within.0 };
 
-    ghost counts = { λ pair. pair_counts pair.filters.now pair.profile.now.profile.now };
+    ghost counts = { λ pair. pair_counts pair.filters.now pair.profile };
 }
 
 impl Pair<'_> {
@@ -93,13 +91,13 @@ impl Pair<'_> {
         end: FilterEnd,
         node: ProfileNode,
     ) -> Turn<PairNode, BothEnds>
-        requires node { profile_is_node self.now.profile.now.profile.now node }
+        requires node { profile_is_node self.now.profile node }
         requires end { IsStackEnd self.now.filters.now end }
         ensures { (registers : Registers) → let filters = self.now.filters.now in
-            let p = self.now.profile.now.profile.now in
+            let s = self.now.profile in
             IsTurn (both_endings (compared_in self.now.relation self.now.scope (IsPlaceOf (IsStackEnd filters))
-            (StackAnswers filters) p)) (F.allows facts.now (F.level facts.now))
-            (pair_tree filters p registers) (PairNode.AtProfile end node) (pair_tree filters p registers) result }
+            (StackAnswers filters) s.profile)) (F.allows facts.now (F.level facts.now))
+            (pair_tree filters s registers) (PairNode.AtProfile end node) (pair_tree filters s registers) result }
     {
         match self.profile.turn(facts, node) {
             Turn::Go(next) => Turn::Go(AtProfile(end, next)),

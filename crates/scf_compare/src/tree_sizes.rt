@@ -12,7 +12,6 @@ ghost use Rattle.scf_compare.specs.Paths.{tree_size};
 ghost use Rattle.scf_compare.specs.internal.Profiles.{number_size};
 
 use crate::flow::Flow;
-use crate::profile_numbers::has_number;
 use scf_insn::kernel::BPF_MAXINSNS;
 use scf_insn::{Insn, Operation};
 use scf_machine::{FilterStack, Program};
@@ -140,6 +139,13 @@ fn size_of_number(rules: &[Rule], place: usize) -> u64
     } else {
         size_of_rules(rules, number).saturating_add(1)
     }
+}
+
+/// Whether one of the rules has the number.
+fn has_number(rules: &[Rule], number: u32) -> bool
+    ensures { result ≡ list_any (λ rule. rule.number == number) rules.now }
+{
+    rules.iter().any(|rule| rule.number == number)
 }
 
 /// The size of the tree of the rules of a number, the last one first.

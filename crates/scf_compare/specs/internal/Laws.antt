@@ -21,13 +21,13 @@ use Rattle.scf_compare.specs.declared.profile.ProfileNode.TheVariants.{Architect
 use Rattle.scf_compare.specs.declared.question.ConditionPart.{ConditionPart}
 use Rattle.scf_compare.specs.declared.question.ConditionPart.TheVariants.{High, Above, Low}
 use Rattle.scf_profile.specs.declared.rule.Rule.{Rule}
-use Rattle.scf_profile.specs.Profile.{Profile}
 use Rattle.scf_compare.specs.internal.Conditions.{part_size}
 use Rattle.scf_compare.specs.Effort.{spread, stack_paths}
 use Rattle.scf_compare.specs.internal.Profiles.{profile_tree, condition_size}
 use Rattle.scf_compare.specs.internal.Filters.{filter_size, filter_tree}
 use Rattle.scf_compare.specs.Paths.{size_of_insn, tree_sizes, tree_size}
 use Rattle.scf_compare.specs.internal.Pairs.{pair_tree}
+use Rattle.scf_compare.specs.internal.SortedProfiles.{SortedProfile}
 
 -- one node and two trees behind it, with the same tree at each of their ends
 pub scaled_costs : (a b n scale : ℕ) → a + b + 1 ≤ n → 0 < scale → a * scale + b * scale + 1 ≤ n * scale
@@ -85,21 +85,21 @@ condition_counts rules place index part None = omega arith
 condition_counts rules place index part (Some rule) = part_counts part _ _
 
 -- each node of a profile's tree counts
-pub profile_node_counts : (p : Profile) (node : ProfileNode) → 0 < (profile_tree p).size node
-profile_node_counts p Architecture = omega arith
-profile_node_counts p Range = omega arith
-profile_node_counts p (Number place) = omega arith
-profile_node_counts p (OfCondition place index part) =
-    condition_counts p.rules place index part (slice_get p.rules place)
-profile_node_counts p (Answers answer) = omega arith
+pub profile_node_counts : (s : SortedProfile) (node : ProfileNode) → 0 < (profile_tree s).size node
+profile_node_counts s Architecture = omega arith
+profile_node_counts s Range = omega arith
+profile_node_counts s (Number place) = omega arith
+profile_node_counts s (OfCondition place index part) =
+    condition_counts s.rules place index part (slice_get s.rules place)
+profile_node_counts s (Answers answer) = omega arith
 
 pub spread_counts : (rules : List Rule) → 0 < spread rules
 spread_counts rules = omega arith
 
 -- each node of a pair counts
-pub pair_counts : (filters : List (List Insn)) (p : Profile) (registers : Registers) (node : PairNode)
-    → 0 < (pair_tree filters p registers).size node
-pair_counts filters p registers (AtFilter node) =
-    scaled_counts (stack_size filters node) (spread p.rules) (stack_node_counts filters registers node)
-    (spread_counts p.rules)
-pair_counts filters p registers (AtProfile end node) = profile_node_counts p node
+pub pair_counts : (filters : List (List Insn)) (s : SortedProfile) (registers : Registers) (node : PairNode)
+    → 0 < (pair_tree filters s registers).size node
+pair_counts filters s registers (AtFilter node) =
+    scaled_counts (stack_size filters node) (spread s.profile.rules) (stack_node_counts filters registers node)
+    (spread_counts s.profile.rules)
+pair_counts filters s registers (AtProfile end node) = profile_node_counts s node

@@ -1,5 +1,6 @@
--- A profile as a tree of questions.
-use Rattle.std.specs.Prelude.{◌≡◌, ◌≢◌, ◌+◌, ℕ, List, true, false, All, Option, None, Some, take, drop, slice_get, sum_by, ⊤}
+-- A profile as a tree of questions, whose rules are asked in the order of their numbers.
+use Rattle.std.specs.Prelude.{◌≡◌, ◌≢◌, ◌+◌, ◌<◌, leb, ℕ, List, true, false, All, Option, None, Some, take, drop, slice_get, sum_by, ⊤}
+use Rattle.std.specs.List.{filter}
 use Rattle.scf_insn.specs.declared.answer.Answer.{Answer}
 use Rattle.scf_insn.specs.declared.record.CallRecord.{CallRecord}
 use Rattle.scf_insn.specs.Kernel.{audit_arch_x86_64}
@@ -8,7 +9,7 @@ use Rattle.scf_profile.specs.declared.condition.Condition.{Condition}
 use Rattle.scf_profile.specs.declared.rule.Rule.{Rule}
 use Rattle.scf_profile.specs.Rule.{all_hold, meets}
 use Rattle.scf_profile.specs.Profile.{Profile, IsNative}
-use Rattle.scf_profile.specs.PlainProfile.{IsPlainProfile}
+use Rattle.scf_profile.specs.PlainProfile.{IsPlainRule}
 use Rattle.scf_profile.specs.ProfileAnswers.{ProfileAnswers}
 use Rattle.scf_profile.specs.RulesByNumber.{numbers_of, rules_of}
 use Rattle.scf_compare.specs.declared.profile.ProfileNode.{ProfileNode}
@@ -16,10 +17,8 @@ use Rattle.scf_compare.specs.declared.profile.ProfileNode.TheVariants.{Architect
 use Rattle.scf_compare.specs.declared.question.ConditionPart.{ConditionPart}
 use Rattle.scf_compare.specs.internal.Conditions.{IsAtPart, part_size}
 use Rattle.scf_compare.specs.Effort.{conditions_size, rules_size}
+use Rattle.scf_compare.specs.internal.SortedProfiles.{SortedProfile}
 use Rattle.scf_compare.specs.internal.Trees.{Endings, Tree}
-
-abbrev pub profile_with : Answer → List Rule → Profile
-profile_with default_answer rules = record { default_answer = default_answer; rules = rules }
 
 -- A rule stands at a place of rules, and a condition at a place of its conditions.
 pub record StandsAt (rules : List Rule) (place : ℕ) (index : ℕ) (rule : Rule) (condition : Condition) : Type 0 where
@@ -60,41 +59,48 @@ KnowsRule rules place index call part None = ⊥
 KnowsRule rules place index call part (Some rule) =
     IsAtCondition rules place index rule call × KnowsPart call part (slice_get rule.conditions index)
 
-abbrev pub profile_is_node : Profile → ProfileNode → Type 0
-profile_is_node p Architecture = Unit {0}
-profile_is_node p Range = Unit {0}
-profile_is_node p (Number place) = Unit {0}
-profile_is_node p (OfCondition place index part) =
-    (rule : Rule) × (condition : Condition) × StandsAt p.rules place index rule condition
-profile_is_node p (Answers answer) = Unit {0}
+abbrev pub profile_is_node : SortedProfile → ProfileNode → Type 0
+profile_is_node s Architecture = Unit {0}
+profile_is_node s Range = Unit {0}
+profile_is_node s (Number low) = Unit {0}
+profile_is_node s (OfCondition place index part) =
+    (rule : Rule) × (condition : Condition) × StandsAt s.rules place index rule condition
+profile_is_node s (Answers answer) = Unit {0}
 
-abbrev pub profile_reaches : Profile → ProfileNode → List ℕ → Type 0
-profile_reaches p Architecture words = Unit {0}
-profile_reaches p Range words = (call_of words).arch ≡ audit_arch_x86_64
-profile_reaches p (Number place) words =
-    IsNative (call_of words) × All (λ number. (call_of words).nr ≢ number) (take place (numbers_of p.rules))
-profile_reaches p (OfCondition place index part) words =
-    KnowsRule p.rules place index (call_of words) part (slice_get p.rules place)
-profile_reaches p (Answers answer) words = ProfileAnswers p (call_of words) answer.0
+-- no rule with a number below `low` has that of the call
+abbrev pub IsFrom : ℕ → List Rule → CallRecord → Type 0
+IsFrom low rules call = All (λ r. r.number < low → call.nr ≢ r.number) rules
+
+abbrev pub profile_reaches : SortedProfile → ProfileNode → List ℕ → Type 0
+profile_reaches s Architecture words = Unit {0}
+profile_reaches s Range words = (call_of words).arch ≡ audit_arch_x86_64
+profile_reaches s (Number low) words = IsNative (call_of words) × IsFrom low s.rules (call_of words)
+profile_reaches s (OfCondition place index part) words =
+    KnowsRule s.rules place index (call_of words) part (slice_get s.rules place)
+profile_reaches s (Answers answer) words = ProfileAnswers s.profile (call_of words) answer.0
 
 -- what a number adds to the spread of the rules
 abbrev pub number_size : List Rule → ℕ → ℕ
 number_size rules number = 1 + rules_size (rules_of number rules)
 
-abbrev pub profile_size : Profile → ProfileNode → ℕ
-profile_size p Architecture = 5 + sum_by (number_size p.rules) (numbers_of p.rules)
-profile_size p Range = 3 + sum_by (number_size p.rules) (numbers_of p.rules)
-profile_size p (Number place) = 1 + sum_by (number_size p.rules) (drop place (numbers_of p.rules))
-profile_size p (OfCondition place index part) = condition_size p.rules place index part (slice_get p.rules place)
-profile_size p (Answers answer) = 1
+-- what the numbers from one on add to it
+abbrev pub sizes_from : List Rule → ℕ → ℕ
+sizes_from rules low = sum_by (number_size rules) (filter (leb low) (numbers_of rules))
+
+abbrev pub profile_size : SortedProfile → ProfileNode → ℕ
+profile_size s Architecture = 5 + sum_by (number_size s.profile.rules) (numbers_of s.profile.rules)
+profile_size s Range = 3 + sum_by (number_size s.profile.rules) (numbers_of s.profile.rules)
+profile_size s (Number low) = 1 + sizes_from s.profile.rules low
+profile_size s (OfCondition place index part) = condition_size s.rules place index part (slice_get s.rules place)
+profile_size s (Answers answer) = 1
 
 -- all of a plain profile's nodes are plain
-abbrev pub profile_tree : Profile → Tree ProfileNode
-profile_tree p = record {
-  is_node = profile_is_node p;
-  reaches = profile_reaches p;
-  size = profile_size p;
-  is_plain = λ _. IsPlainProfile p;
+abbrev pub profile_tree : SortedProfile → Tree ProfileNode
+profile_tree s = record {
+  is_node = profile_is_node s;
+  reaches = profile_reaches s;
+  size = profile_size s;
+  is_plain = λ _. All IsPlainRule s.rules;
 }
 
 -- the answer is known at each end

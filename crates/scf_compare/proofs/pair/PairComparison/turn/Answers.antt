@@ -30,7 +30,7 @@ returns-in-End g c =
     let turn = rw c.in-End.is at c.turn_in_stack.ensures in
     let asked = c.ask_profile.ensures c.turn_in_stack.new.registers in
     let size = stack_size c.args.self.now.filters.now c.in-AtFilter.node in
-    let whole = spread c.args.self.now.profile.now.profile.now.rules in
+    let whole = spread c.args.self.now.profile.profile.rules in
     let counts : 1 ≤ size = turn.costs in
     let all : whole * 1 ≤ whole * size = mul-le-mul_left whole counts in
     rw c.in-AtFilter.is (record {
