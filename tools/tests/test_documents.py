@@ -16,7 +16,7 @@ SOURCES = {
     "TableFault": ["table"], "LoadFault": ["profile"], "CompileFault": ["compile"], "PushFault": ["stack"],
 }
 # These are made of others, or are printed in another way.
-OTHERS = {"VerifyFault", "WriteFault", "NumberFault", "NumeralFault"}
+OTHERS = {"VerifyFault", "WriteFault", "NumberFault", "NumeralFault", "RequestFault"}
 
 
 def enums():

@@ -46,8 +46,8 @@ pub use Rattle.scf_compare.specs.Effort.{conditions_size, rules_size, saturated,
 pub use Rattle.scf_compare.specs.Headline.{DiffersIsShown, EveryRunEnds, SameIsTrue}
 pub use Rattle.scf_compare.specs.Paths.{size_of_insn, tree_size}
 unfoldable pub use Rattle.scf_compare.specs.Paths.{tree_sizes}
-pub use Rattle.scf_compare.specs.Relation.{IsRelated}
-pub use Rattle.scf_compare.specs.Scope.{IsInScope, RelatedAnswersIn, SameAnswersIn}
+pub use Rattle.scf_profile.specs.Relation.{IsRelated}
+pub use Rattle.scf_profile.specs.Scope.{IsInScope, RelatedAnswersIn, SameAnswersIn}
 pub use Rattle.scf_compare.specs.Verdicts.{IsDecided, IsEndPlace, IsStackEndPlace, IsTrueBy, IsTrueOf, IsTrueOfStackBy}
 pub use Rattle.scf_compare.specs.declared.asking.Atoms.{Atoms}
 pub use Rattle.scf_compare.specs.declared.comparison.BothEnds.{BothEnds}
@@ -60,10 +60,10 @@ pub use Rattle.scf_compare.specs.declared.image.Image.{Image}
 pub use Rattle.scf_compare.specs.declared.question.ConditionPart.{ConditionPart}
 pub use Rattle.scf_compare.specs.declared.question.ConditionPart.TheVariants.{High}
 pub use Rattle.scf_compare.specs.declared.registers.Registers.{Registers}
-pub use Rattle.scf_compare.specs.declared.relation.Relation.{Relation}
-pub use Rattle.scf_compare.specs.declared.relation.Relation.TheVariants.{NoLess, NoMore, Same}
-pub use Rattle.scf_compare.specs.declared.scope.Scope.{Scope}
-pub use Rattle.scf_compare.specs.declared.scope.Scope.TheVariants.{Call, Native}
+pub use Rattle.scf_profile.specs.declared.relation.Relation.{Relation}
+pub use Rattle.scf_profile.specs.declared.relation.Relation.TheVariants.{NoLess, NoMore, Same}
+pub use Rattle.scf_profile.specs.declared.scope.Scope.{Scope}
+pub use Rattle.scf_profile.specs.declared.scope.Scope.TheVariants.{Call, Native}
 pub use Rattle.scf_compare.specs.declared.stack.StackNode.TheVariants.{At}
 pub use Rattle.scf_compare.specs.declared.turn.Turn.{Turn}
 pub use Rattle.scf_compare.specs.declared.turn.Turn.TheVariants.{Split}

@@ -3,8 +3,8 @@ use Rattle.scf_compare.proofs.Common.{◌≡◌, ◌⊎◌, ℕ, zero, suc, List
 use Rattle.scf_insn.specs.declared.operation.Arithmetic.TheVariants.{Div}
 use Rattle.scf_insn.specs.declared.operation.Operand.TheVariants.{Index}
 use Rattle.scf_insn.specs.declared.operation.Operation.TheVariants.{Compute, ReturnConstant, ReturnAccumulator}
-use Rattle.scf_compare.specs.declared.scope.Scope.TheVariants.{All}
-use Rattle.scf_compare.specs.declared.relation.Relation.TheVariants as relations
+use Rattle.scf_profile.specs.declared.scope.Scope.TheVariants.{All}
+use Rattle.scf_profile.specs.declared.relation.Relation.TheVariants as relations
 use Rattle.scf_compare.specs.declared.verdict.Verdict.TheVariants.{Same}
 
 -- a verdict that decides a claim decides another that holds exactly where the first one does

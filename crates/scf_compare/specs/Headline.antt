@@ -10,11 +10,11 @@ use Rattle.scf_machine.specs.Precedence.{StackAnswers}
 use Rattle.scf_machine.specs.Rules.{IsFilter}
 use Rattle.scf_profile.specs.Profile.{Profile, IsProfile}
 use Rattle.scf_profile.specs.ProfileAnswers.{ProfileAnswers}
-use Rattle.scf_compare.specs.declared.relation.Relation.{Relation}
-use Rattle.scf_compare.specs.declared.scope.Scope.{Scope}
+use Rattle.scf_profile.specs.declared.relation.Relation.{Relation}
+use Rattle.scf_profile.specs.declared.scope.Scope.{Scope}
 use Rattle.scf_compare.specs.declared.verdict.Verdict.TheVariants.{Same, Differs}
-use Rattle.scf_compare.specs.Relation.{IsRelated}
-use Rattle.scf_compare.specs.Scope.{IsInScope}
+use Rattle.scf_profile.specs.Relation.{IsRelated}
+use Rattle.scf_profile.specs.Scope.{IsInScope}
 use Rattle.scf_compare.specs.Verdicts.{IsTrueOfStackBy}
 
 -- Over every call record a program that keeps the rules runs to an answer and never faults, and every run of it takes

@@ -1,7 +1,5 @@
 pub mod Effort
 pub mod Headline
 pub mod Paths
-pub mod Relation
-pub mod Scope
 pub mod Verdicts
 pub mod internal

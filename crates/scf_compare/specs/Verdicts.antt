@@ -13,12 +13,12 @@ use Rattle.scf_machine.specs.Rules.{Stands}
 use Rattle.scf_profile.specs.Profile.{Profile}
 use Rattle.scf_profile.specs.ProfileAnswers.{ProfileAnswers}
 use Rattle.scf_profile.specs.SameAnswers.{AreSame}
-use Rattle.scf_compare.specs.declared.relation.Relation.{Relation}
-use Rattle.scf_compare.specs.declared.scope.Scope.{Scope}
+use Rattle.scf_profile.specs.declared.relation.Relation.{Relation}
+use Rattle.scf_profile.specs.declared.scope.Scope.{Scope}
 use Rattle.scf_compare.specs.declared.verdict.Verdict.{Verdict}
 use Rattle.scf_compare.specs.declared.verdict.Verdict.TheVariants.{Same, Differs, Undecided, Unfinished}
-use Rattle.scf_compare.specs.Relation.{IsRelated}
-use Rattle.scf_compare.specs.Scope.{AllAreRelated, IsInScope}
+use Rattle.scf_profile.specs.Relation.{IsRelated}
+use Rattle.scf_profile.specs.Scope.{AllAreRelated, IsInScope}
 
 -- What a verdict on a filter and a profile claims: that the relation holds of the answers to every call record of the
 -- scope; that this record is of the scope, and that they answer it so and so, of which the relation doesn't hold; and

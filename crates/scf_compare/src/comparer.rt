@@ -7,20 +7,19 @@ ghost use Rattle.scf_machine.specs.Precedence.{StackAnswers};
 ghost use Rattle.scf_profile.specs.PlainProfile.{IsPlainProfile};
 ghost use Rattle.scf_profile.specs.SameAnswers.{SameAnswers};
 ghost use Rattle.scf_compare.specs.Effort.{effort_of, effort_of_stack};
-ghost use Rattle.scf_compare.specs.Scope.{RelatedAnswersIn, SameAnswersIn};
+ghost use Rattle.scf_profile.specs.Scope.{RelatedAnswersIn, SameAnswersIn};
 ghost use Rattle.scf_compare.specs.Verdicts.{IsTrueOf, IsTrueOfStack, IsTrueOfStackBy, IsWithin, IsDecided};
 
 use crate::by_number::ByNumber;
 use crate::explore::explore;
 use crate::pair::{Pair, PairNode};
-use crate::relation::Relation;
-use crate::scope::{Scope, facts_of};
+use crate::scope::facts_of;
 use crate::stack::start_of;
 use crate::verdict::Verdict;
 use scf_facts::WordFacts;
 use scf_insn::Memory;
 use scf_machine::{FilterStack, Program};
-use scf_profile::Profile;
+use scf_profile::{Profile, Relation, Scope};
 use std::alloc::Global;
 use std::slice;
 

@@ -9,10 +9,9 @@ ghost use Rattle.scf_machine.specs.Precedence.{StackAnswers};
 ghost use Rattle.scf_profile.specs.Profile.{Profile, HaveNoConflict};
 ghost use Rattle.scf_profile.specs.ProfileAnswers.{ProfileAnswers};
 ghost use Rattle.scf_compare.specs.Headline.{Headline};
-ghost use Rattle.scf_compare.specs.Scope.{IsInScope, RelatedAnswersIn, SameAnswersIn};
+ghost use Rattle.scf_profile.specs.Scope.{IsInScope, RelatedAnswersIn, SameAnswersIn};
 
-use crate::relation::Relation;
-use crate::scope::Scope;
+use scf_profile::{Relation, Scope};
 
 /// A stack that answers as a profile does lets through no more of each call than the profile, and no less.
 pub fn same_is_no_more_and_no_less()

@@ -12,14 +12,13 @@ use crate::by_number::ByNumber;
 use crate::comparison::{BothEnds, Comparison, FilterEnd};
 use crate::profile::ProfileNode;
 use crate::registers::Registers;
-use crate::relation::Relation;
-use crate::scope::Scope;
 use crate::stack::{StackNode, turn_in_stack};
 use crate::turn::Turn;
 use PairNode::{AtFilter, AtProfile};
 use scf_facts::WordFacts;
 use scf_insn::{Answer, CallRecord};
 use scf_machine::{Program, decide};
+use scf_profile::{Relation, Scope};
 
 /// A node of the tree of the filters, or one of the profile's behind an end of it.
 #[derive(Clone, Copy)]

@@ -7,18 +7,8 @@ use crate::asking::word_is;
 use scf_facts::{Atom, WordFacts};
 use scf_insn::Memory;
 use scf_insn::kernel::{AUDIT_ARCH_X86_64, X32_SYSCALL_BIT};
+use scf_profile::Scope;
 use std::alloc::Global;
-
-/// Which calls are compared.
-#[derive(Clone, Copy, Debug, PartialEq, Eq)]
-pub enum Scope {
-    /// Every call record.
-    All,
-    /// Those of x86-64 with a number that x32 calls don't have.
-    Native,
-    /// Those of x86-64 with this number.
-    Call(u32),
-}
 
 /// Facts that allow the words of the calls that are compared.
 pub(crate) fn facts_of<F: WordFacts>(alloc: Global, scope: Scope) -> Result<F, Memory>

@@ -11,9 +11,11 @@ pub mod Profile
 pub mod ProfileAnswers
 pub mod Reasons
 pub mod References
+pub mod Relation
 pub mod Rule
 pub mod RulesByNumber
 pub mod SameAnswers
+pub mod Scope
 pub mod StatedProfile
 pub mod Steps
 pub mod Table

@@ -3,6 +3,7 @@
 use scf_insn::{InputFault, ReadFault};
 use scf_machine::{CheckFault, PushFault};
 use scf_profile::{LoadFault, TableFault};
+use scf_request::RequestFault;
 use scf_tool::{BundleFault, NumberFault, VerifyFault};
 
 /// Faults of bundles, and what they print.
@@ -34,6 +35,24 @@ fn options(rt: HostRuntime) {
     ] {
         let shown = format!(in rt.alloc(); "{}", NumberFault { name }).expect(&rt, "no fault");
         assert!(rt; shown.as_str() == wanted);
+    }
+}
+
+/// Faults of requests, and what they print.
+const REQUESTS: &[(RequestFault, &str)] = &[
+    (RequestFault::NoCommand, "no command is named"),
+    (
+        RequestFault::Number(NumberFault { name: "a5" }),
+        "the option a5 is no number in its range",
+    ),
+    (RequestFault::Flags, "two flags exclude each other"),
+];
+
+#[test]
+fn requests(rt: HostRuntime) {
+    for (fault, wanted) in REQUESTS {
+        let shown = format!(in rt.alloc(); "{fault}").expect(&rt, "no fault");
+        assert!(rt; shown.as_str() == *wanted);
     }
 }
 

@@ -1,4 +1,4 @@
-//! Bundles, comparisons from bytes and what is printed of them.
+//! Words, bundles, comparisons from bytes and what is printed of them.
 
 use crate::rows::{ALLOW_ALL, BUNDLE, CLONE, MASKED, TABLE};
 use crate::shown::Found;
@@ -6,6 +6,7 @@ use crate::twice::twice;
 use scf_compare::{Relation, Scope, Verdict};
 use scf_insn::{Answer, CallRecord, Counted, Memory};
 use scf_profile::Texts;
+use scf_request::{Contents, Request, parse, request_of};
 use scf_tool::{
     CallsOutcome, Outcome, report, report_by, report_calls, report_calls_by, split, verify,
     verify_by, verify_calls, verify_calls_by, verify_stack,
@@ -35,6 +36,36 @@ fn split_bundle(rt: &impl Print, alloc: Global) -> io::Result<()> {
             print!(rt; " {:?} {} {}", part.kind, part.start, part.length)?;
         }
         println!(rt; "")?;
+    }
+    Ok(())
+}
+
+fn hold_bundle(rt: &impl Print, alloc: Global) -> io::Result<()> {
+    if let Some(contents) = twice(rt, "Contents::of", || Contents::of(alloc, BUNDLE))? {
+        let filters = contents.filters.len();
+        let profiles = contents.profiles.len();
+        println!(rt;
+            "Contents::of {filters} {profiles} {}",
+            contents.tables.len()
+        )?;
+    }
+    Ok(())
+}
+
+/// What the words ask for; None where they ask for nothing.
+fn request_in(alloc: Global, words: &[&str]) -> Result<Option<Request>, Memory> {
+    match parse(alloc, words) {
+        Ok(matches) => Ok(request_of(&matches).ok()),
+        Err(_) => Err(Memory),
+    }
+}
+
+fn parse_words(rt: &impl Print, alloc: Global) -> io::Result<()> {
+    let words = ["scf", "run", "--nr", "41", "--a0", "0x10"];
+    let request = twice(rt, "parse", || request_in(alloc, &words))?;
+    if let Some(Some(Request::Run(call))) = request {
+        let argument = call.args[0];
+        println!(rt; "parse run nr {} a0 {argument}", call.nr)?;
     }
     Ok(())
 }
@@ -185,7 +216,9 @@ fn report_difference(rt: &impl Print, alloc: Global) -> io::Result<()> {
 }
 
 pub(crate) fn try_all(rt: &impl Print, alloc: Global) -> io::Result<()> {
+    parse_words(rt, alloc)?;
     split_bundle(rt, alloc)?;
+    hold_bundle(rt, alloc)?;
     report_difference(rt, alloc)?;
     verify_filter(rt, alloc)?;
     verify_two(rt, alloc)?;

@@ -27,19 +27,19 @@ use Rattle.scf_compile.specs.declared.fault.CompileFault.TheVariants as compiles
 use Rattle.scf_compile.specs.SizeBound.{size_bound_of}
 use Rattle.scf_tool.specs.declared.fault.Fault.{Fault}
 use Rattle.scf_tool.specs.declared.fault.Fault.TheVariants as faults
-use Rattle.scf_compare.specs.declared.relation.Relation.{Relation}
+use Rattle.scf_profile.specs.declared.relation.Relation.{Relation}
 use Rattle.scf_tool.specs.declared.reply.Reply.{Reply}
 use Rattle.scf_tool.specs.declared.reply.Reply.TheVariants.{Accepted, Ran, Decided, Asked, Bytes, Compared}
-use Rattle.scf_tool.specs.declared.request.Request.{Request}
-use Rattle.scf_tool.specs.declared.request.Request.TheVariants as requests
-use Rattle.scf_tool.specs.declared.request.Scopes.{Scopes}
-use Rattle.scf_tool.specs.declared.request.Scopes.TheVariants.{AtOnce, EachCall}
+use Rattle.scf_request.specs.declared.request.Request.{Request}
+use Rattle.scf_request.specs.declared.request.Request.TheVariants as requests
+use Rattle.scf_request.specs.declared.request.Scopes.{Scopes}
+use Rattle.scf_request.specs.declared.request.Scopes.TheVariants.{AtOnce, EachCall}
 use Rattle.scf_tool.specs.declared.verification.VerifyFault.{VerifyFault}
 use Rattle.scf_tool.specs.declared.verification.VerifyFault.TheVariants as verifies
 use Rattle.scf_tool.specs.declared.call_verification.CallsOutcome.{CallsOutcome}
 use Rattle.scf_tool.specs.declared.verification.Outcome.{Outcome}
 use Rattle.scf_tool.specs.declared.status.Status.TheVariants.{Well}
-use Rattle.scf_tool.specs.Bundle.{IsBundle, IsBundleFault}
+use Rattle.scf_request.specs.Bundle.{IsBundle, IsBundleFault}
 use Rattle.scf_tool.specs.CallReports.{calls_text, joint_of}
 use Rattle.scf_tool.specs.Lines.{traced_text}
 use Rattle.scf_tool.specs.FilterStacks.{HasStack, HasNoStack}

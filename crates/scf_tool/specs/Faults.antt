@@ -18,8 +18,10 @@ use Rattle.scf_profile.specs.declared.load_fault.LoadFault.{LoadFault}
 use Rattle.scf_profile.specs.declared.load_fault.LoadFault.TheVariants as loads
 use Rattle.scf_compile.specs.declared.fault.CompileFault.{CompileFault}
 use Rattle.scf_compile.specs.declared.fault.CompileFault.TheVariants as compiles
-use Rattle.scf_tool.specs.declared.bundle.BundleFault.{BundleFault}
-use Rattle.scf_tool.specs.declared.bundle.BundleFault.TheVariants as bundles
+use Rattle.scf_request.specs.declared.bundle.BundleFault.{BundleFault}
+use Rattle.scf_request.specs.declared.bundle.BundleFault.TheVariants as bundles
+use Rattle.scf_request.specs.declared.request_fault.RequestFault.{RequestFault}
+use Rattle.scf_request.specs.declared.request_fault.RequestFault.TheVariants as requests
 use Rattle.scf_tool.specs.declared.verification.VerifyFault.{VerifyFault}
 use Rattle.scf_tool.specs.declared.verification.VerifyFault.TheVariants as verifies
 use Rattle.scf_tool.specs.declared.status.Status.{Status}
@@ -125,11 +127,14 @@ verify_kind (verifies.Profile fault) = (codes "profile", load_kind fault)
 verify_kind verifies.Memory = (codes "compare", (Failed, codes "Memory", []))
 
 -- the name of an option stands in place of a kind
+abbrev pub request_kind : RequestFault → List ℕ × Kind
+request_kind requests.NoCommand = (codes "command", (CommandLine, codes "NoCommand", []))
+request_kind (requests.Number fault) = (codes "number", (CommandLine, fault.name.now, []))
+request_kind requests.Flags = (codes "command", (CommandLine, codes "Flags", []))
+
 abbrev pub kind_of_fault : Fault → List ℕ × Kind
 kind_of_fault faults.CommandLine = (codes "command", (Failed, codes "Memory", []))
-kind_of_fault faults.NoCommand = (codes "command", (CommandLine, codes "NoCommand", []))
-kind_of_fault (faults.Number fault) = (codes "number", (CommandLine, fault.name.now, []))
-kind_of_fault faults.Flags = (codes "command", (CommandLine, codes "Flags", []))
+kind_of_fault (faults.Request fault) = request_kind fault
 kind_of_fault (faults.Input fault) = (codes "input", input_kind fault)
 kind_of_fault (faults.Bundle fault) = (codes "bundle", bundle_kind fault)
 kind_of_fault faults.Parts = (codes "bundle", (Failed, codes "Parts", []))

@@ -1,14 +1,11 @@
-pub mod Bundle
 pub mod CallReports
 pub mod Commands
 pub mod Faults
 pub mod FilterStacks
 pub mod Lines
 pub mod Numerals
-pub mod Options
 pub mod Replies
 pub mod Reports
-pub mod Requests
 pub mod Runs
 pub mod Statuses
 pub mod Verifying

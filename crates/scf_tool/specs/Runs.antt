@@ -1,51 +1,21 @@
 -- Whole runs of the program: from its words and standard input to what it prints and its exit status.
-use Rattle.std.specs.Prelude.{◌≡◌, ◌⊎◌, ℕ, true, false, List, [], ◌∷◌, ◌++◌, codes, map, Option, Some, Result, Ok, Err}
-use Rattle.clap.specs.declared.builder.action.ArgAction.TheVariants.{SetTrue}
-use Rattle.clap.specs.Words.{App, IsAmong, Rule, Shape, Text, fault_of, new_app, new_rule, subcommand_of}
+use Rattle.std.specs.Prelude.{◌≡◌, ◌⊎◌, ℕ, List, [], codes, Option, Result, Ok, Err}
+use Rattle.clap.specs.Words.{IsAmong, Text, fault_of, subcommand_of}
 use Rattle.clap.specs.declared.error.kind.ErrorKind.{ErrorKind}
 use Rattle.clap.specs.declared.error.kind.ErrorKind.TheVariants.{DisplayHelp, DisplayVersion}
 use Rattle.scf_insn.specs.Streams.{TakesAll, TakesBeginning}
+use Rattle.scf_request.specs.CommandLine.{scf}
+use Rattle.scf_request.specs.Requests.{AsksFor, IsRequest}
+use Rattle.scf_request.specs.declared.request.Request.{Request}
 use Rattle.scf_tool.specs.declared.fault.Fault.{Fault}
 use Rattle.scf_tool.specs.declared.fault.Fault.TheVariants as faults
 use Rattle.scf_tool.specs.declared.reply.Reply.{Reply}
 use Rattle.scf_tool.specs.declared.reply.Reply.TheVariants as replies
-use Rattle.scf_tool.specs.declared.request.Request.{Request}
 use Rattle.scf_tool.specs.declared.status.Status.{Status}
 use Rattle.scf_tool.specs.declared.status.Status.TheVariants.{Well, CommandLine}
 use Rattle.scf_tool.specs.Commands.{IsTrueReply}
-use Rattle.scf_tool.specs.Options.{NumberOption}
 use Rattle.scf_tool.specs.Replies.{printed}
-use Rattle.scf_tool.specs.Requests.{AsksFor, Command, IsRequest, command_word, options_of, words_of_command}
-use Rattle.scf_tool.specs.Requests.Command.{Ask, Asm, Check, Compare, Compile, Decide, Dis, Run}
 use Rattle.scf_tool.specs.Statuses.{LeavesInput, status_code}
-
--- ---- the command line, as its reader sees it
-
--- an option takes one value, behind its name and two dashes
-abbrev pub option_rule : NumberOption → Rule
-option_rule o = record (new_rule o.name) { long = Some o.name; value_names = 1 }
-
--- a flag takes none
-abbrev pub flag_rule : List ℕ → Rule
-flag_rule name = record (new_rule name) { long = Some name; action = Some SetTrue }
-
-abbrev pub shape_with : List ℕ → List NumberOption → Shape
-shape_with name options = record (new_app name).top { rules = map option_rule options }
-
-abbrev pub shape_for : Command → Shape
-shape_for command =
-    record (new_app (command_word command)).top {
-      rules = map option_rule (options_of command) ++ map flag_rule (words_of_command command).2;
-    }
-
--- a command is named, and there is `--version`
-abbrev pub scf_shape : Shape
-scf_shape = record (new_app (codes "scf")).top { is_leaf = false; has_version = true; subcommand_required = true }
-
-abbrev pub scf : App
-scf = record { top = scf_shape; subs = map shape_for (Check ∷ Run ∷ Decide ∷ Dis ∷ Asm ∷ Compile ∷ Compare ∷ Ask ∷ []) }
-
--- ---- how a run ends
 
 -- help and the version are well
 abbrev pub kind_status : ErrorKind → Status
@@ -60,7 +30,9 @@ SpeaksOfWords words (Ok (replies.CommandLine text status)) =
     (kind : ErrorKind) × IsAmong kind (fault_of scf words) × (status ≡ kind_status kind)
 SpeaksOfWords words (Ok reply) = ⊥
 SpeaksOfWords words (Err faults.CommandLine) = Unit {0}
-SpeaksOfWords words (Err fault) = (fault_of scf words ≡ []) × AsksFor (subcommand_of scf words) (Err fault)
+SpeaksOfWords words (Err (faults.Request fault)) =
+    (fault_of scf words ≡ []) × AsksFor (subcommand_of scf words) (Err fault)
+SpeaksOfWords words (Err fault) = ⊥
 
 -- The words ask for this, and what the run ends with is true of standard input.
 pub record IsAnswered {R : Type 0} (words : List Text) (remaining : R → Option (List ℕ)) (failures : R → ℕ)

@@ -5,8 +5,8 @@ use Rattle.scf_compare.specs.declared.verdict.Verdict.TheVariants.{Same, Differs
 use Rattle.scf_insn.specs.declared.input.InputFault.TheVariants as inputs
 use Rattle.scf_tool.specs.declared.fault.Fault.{Fault}
 use Rattle.scf_tool.specs.declared.fault.Fault.TheVariants.{Input, Verify}
-use Rattle.scf_tool.specs.declared.request.Request.{Request}
-use Rattle.scf_tool.specs.declared.request.Request.TheVariants as requests
+use Rattle.scf_request.specs.declared.request.Request.{Request}
+use Rattle.scf_request.specs.declared.request.Request.TheVariants as requests
 use Rattle.scf_tool.specs.declared.status.Status.{Status}
 use Rattle.scf_tool.specs.declared.status.Status.TheVariants.{Well, Refused, CommandLine, Failed, Open}
 use Rattle.scf_tool.specs.Verifying.{HasEnded, HasFailedWhere, LeavesFilterReader}

@@ -7,8 +7,8 @@ use Rattle.scf_profile.specs.NamedCalls.{AreCallsOf}
 use Rattle.scf_profile.specs.References.{texts_at}
 use Rattle.scf_profile.specs.declared.named_call.NamedCall.{NamedCall}
 use Rattle.scf_profile.specs.Profile.{Profile}
-use Rattle.scf_compare.specs.declared.relation.Relation.{Relation}
-use Rattle.scf_compare.specs.declared.scope.Scope.TheVariants.{Call}
+use Rattle.scf_profile.specs.declared.relation.Relation.{Relation}
+use Rattle.scf_profile.specs.declared.scope.Scope.TheVariants.{Call}
 use Rattle.scf_tool.specs.declared.call_verification.CallVerdict.{CallVerdict}
 use Rattle.scf_tool.specs.declared.call_verification.CallsOutcome.{CallsOutcome}
 use Rattle.scf_tool.specs.declared.verification.VerifyFault.{VerifyFault}

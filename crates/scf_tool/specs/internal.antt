@@ -1,7 +1,6 @@
-pub mod Contents
+pub mod Explaining
 pub mod Fields
 pub mod Gathering
-pub mod Parsing
 pub mod Pieces
 pub mod Reporting
 pub mod Verification

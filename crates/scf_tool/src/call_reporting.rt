@@ -25,9 +25,9 @@ use crate::pieces::write_pieces;
 use crate::reporting::{
     failing, holding, write_answer_line, write_arguments, write_left_out, write_verdict, write_word,
 };
-use scf_compare::{Relation, Verdict};
+use scf_compare::Verdict;
 use scf_insn::{Answer, Memory, Sink, WriteFault, write_whole};
-use scf_profile::Texts;
+use scf_profile::{Relation, Texts};
 use std::alloc::Global;
 
 fn differs(verdict: &Verdict) -> bool

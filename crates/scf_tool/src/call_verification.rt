@@ -15,11 +15,11 @@ ghost use Rattle.scf_tool.specs.internal.Verification.{AreParties};
 
 use crate::parties::{Parties, read_parties};
 use crate::verification::VerifyFault;
-use scf_compare::{Relation, Scope, Verdict, compare_by};
+use scf_compare::{Verdict, compare_by};
 use scf_facts::WordSets;
 use scf_insn::{Memory, Source};
 use scf_machine::FilterStack;
-use scf_profile::{CallTable, NamedCall, Profile, Texts};
+use scf_profile::{CallTable, NamedCall, Profile, Relation, Scope, Texts};
 use std::alloc::{AllocError, Global};
 
 /// A call that a table names, and what the comparison over its records comes to.

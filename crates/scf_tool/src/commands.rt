@@ -1,6 +1,7 @@
 //! The program's commands.
 
-ghost use Rattle.std.specs.Prelude.{map};
+ghost use Rattle.std.specs.Prelude.{◌≡◌, ◌≢◌, ◌∷◌, [], length, map, MatchOption};
+ghost use Rattle.scf_profile.specs.References.{texts_at};
 ghost use Rattle.scf_tool.specs.Commands.{IsTrueReply};
 ghost use Rattle.scf_tool.specs.Runs.{Ends, IsRunOfProgram};
 ghost use Rattle.scf_tool.specs.Statuses.{LeavesInput};
@@ -11,16 +12,16 @@ mod profile;
 mod stack;
 mod text;
 
-use crate::command_line::{explain, parse, refuse_memory};
+use crate::command_line::{explain, refuse_memory};
 use crate::fault::Fault;
 use crate::gathered::Gathered;
 use crate::reply::{LINE_ROOM, Reply, print_ending, status_of};
-use crate::request::{Request, request_of};
 use crate::status::Status;
 use compare::compare_bundle;
 use filter::{check_filter, list_filter, run_filter, trace_filter};
 use profile::{ask_profile, compile_profile};
 use scf_insn::{Sink, Source};
+use scf_request::{Request, parse, request_of};
 use stack::decide_stack;
 use std::alloc::Global;
 use std::convert::AsStr;
@@ -28,6 +29,16 @@ use text::assemble_text;
 
 /// The most bytes of standard input, where it isn't one filter.
 const MAX_INPUT: usize = 16_777_216;
+
+/// The one of a list, where it has no more.
+fn only<'a>(list: &[&'a [u8]]) -> Option<&'a [u8]>
+    ensures { MatchOption result (length list.now ≢ 1) (λ one. texts_at list.now ≡ one.now ∷ []) }
+{
+    match list {
+        [one] => Some(one),
+        _ => None,
+    }
+}
 
 /// What a request ends with.
 fn answer<R: Source>(alloc: Global, request: &Request, input: &mut R) -> Result<Reply, Fault>

@@ -3,11 +3,10 @@
 ghost use Rattle.std.specs.Prelude.{◌≡◌};
 ghost use Rattle.scf_tool.specs.declared.fault.Fault.TheVariants as faults;
 
-use crate::bundle::BundleFault;
-use crate::options::NumberFault;
 use crate::verification::VerifyFault;
 use scf_compile::CompileFault;
 use scf_insn::{InputFault, ReadFault};
+use scf_request::{BundleFault, RequestFault};
 use scf_text::TextFault;
 
 /// Why a command ends early: what is wrong, and how.
@@ -15,12 +14,8 @@ use scf_text::TextFault;
 pub(crate) enum Fault {
     /// Memory was refused while the command line was read.
     CommandLine,
-    /// The words name no command.
-    NoCommand,
-    /// An option's text is no number in its range.
-    Number(NumberFault),
-    /// Flags are given that exclude each other.
-    Flags,
+    /// The words ask for nothing that can be done.
+    Request(RequestFault),
     /// Standard input isn't read.
     Input(InputFault),
     Bundle(BundleFault),
@@ -32,11 +27,11 @@ pub(crate) enum Fault {
     Verify(VerifyFault),
 }
 
-impl From<NumberFault> for Fault {
-    ghost from_gives = { λ fault e. e ≡ faults.Number fault };
+impl From<RequestFault> for Fault {
+    ghost from_gives = { λ fault e. e ≡ faults.Request fault };
 
-    fn from(fault: NumberFault) -> Fault {
-        Fault::Number(fault)
+    fn from(fault: RequestFault) -> Fault {
+        Fault::Request(fault)
     }
 }
 

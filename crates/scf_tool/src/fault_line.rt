@@ -6,7 +6,6 @@ ghost use Rattle.scf_insn.specs.Streams.{Writes};
 ghost use Rattle.scf_tool.specs.Faults as table;
 ghost use Rattle.scf_tool.specs.internal.Fields.{field_text, numbers_of_field, kind_of, fault_line_of};
 
-use crate::bundle::BundleFault;
 use crate::fault::Fault;
 use crate::pieces::LinePiece::{Decimal, Text};
 use crate::pieces::write_pieces;
@@ -17,6 +16,7 @@ use scf_compile::CompileFault;
 use scf_insn::{InputFault, ReadFault, Sink, WriteFault, write_whole};
 use scf_machine::{CheckFault, PushFault};
 use scf_profile::{LoadFault, TableFault};
+use scf_request::{BundleFault, RequestFault};
 use scf_text::TextFault;
 
 /// A number that a fault names.
@@ -235,6 +235,17 @@ fn verify_line(fault: VerifyFault) -> FaultLine
     }
 }
 
+/// What a fault of a request is of, and its kind.
+fn request_line(fault: RequestFault) -> FaultLine
+    ensures { fault_line_of result ≡ table.request_kind fault }
+{
+    match fault {
+        RequestFault::NoCommand => line("command", plain(CommandLine, "NoCommand")),
+        RequestFault::Number(fault) => line("number", plain(CommandLine, fault.name)),
+        RequestFault::Flags => line("command", plain(CommandLine, "Flags")),
+    }
+}
+
 impl Fault {
     /// What the fault is of, its kind, its numbers and its exit status.
     fn line(self) -> FaultLine
@@ -242,9 +253,7 @@ impl Fault {
     {
         match self {
             Fault::CommandLine => line("command", plain(Failed, "Memory")),
-            Fault::NoCommand => line("command", plain(CommandLine, "NoCommand")),
-            Fault::Number(fault) => line("number", plain(CommandLine, fault.name)),
-            Fault::Flags => line("command", plain(CommandLine, "Flags")),
+            Fault::Request(fault) => request_line(fault),
             Fault::Input(fault) => line("input", input_kind(fault)),
             Fault::Bundle(fault) => line("bundle", bundle_kind(fault)),
             Fault::Parts => line("bundle", plain(Failed, "Parts")),

@@ -6,13 +6,13 @@ ghost use Rattle.scf_machine.specs.Stack.{IsPush};
 ghost use Rattle.scf_tool.specs.Commands.{NoReadFailed};
 ghost use Rattle.scf_tool.specs.FilterStacks.{HasStack, HasNoStack, HaveEnded, HaveStopped, IsNotPushed};
 ghost use Rattle.scf_tool.specs.Verifying.{HasEnded, IsFilter, LeavesFilterReader};
-ghost use Rattle.scf_tool.specs.internal.Contents.{rest_of};
+ghost use Rattle.scf_request.specs.Contents.{rest_of};
 
-use crate::contents::PartReader;
 use crate::filter::read_filter;
 use crate::verification::VerifyFault;
 use scf_insn::Source;
 use scf_machine::FilterStack;
+use scf_request::PartReader;
 use std::alloc::Global;
 
 /// Pushes the filter that a reader has.

@@ -4,16 +4,16 @@ ghost use Rattle.std.specs.Prelude.{map, Some, IfOk, IfErr};
 ghost use Rattle.scf_tool.specs.Commands.{NoReadFailed};
 ghost use Rattle.scf_tool.specs.Verifying.{LeavesProfileReader, LeavesTableReader};
 ghost use Rattle.scf_tool.specs.VerifyingStacks.{IsRefusedStack, LeavesFilterReaders};
-ghost use Rattle.scf_tool.specs.internal.Contents.{rest_of};
+ghost use Rattle.scf_request.specs.Contents.{rest_of};
 ghost use Rattle.scf_tool.specs.internal.Verification.{AreParties};
 
-use crate::contents::PartReader;
 use crate::filter_stack::{read_stack, stack_of};
 use crate::stated::stated_by;
 use crate::verification::{VerifyFault, read_profile, read_table};
 use scf_insn::Source;
 use scf_machine::FilterStack;
 use scf_profile::{CallTable, Loaded, MAX_TEXT_LEN};
+use scf_request::PartReader;
 use std::alloc::Global;
 
 /// What is compared: a stack of filters and a profile, with the table that names the calls.

@@ -22,9 +22,9 @@ use crate::lines::write_answer;
 use crate::pieces::LinePiece::{Decimal, Hexadecimal, Text};
 use crate::pieces::write_pieces;
 use crate::verification::Outcome;
-use scf_compare::{Relation, Verdict};
+use scf_compare::Verdict;
 use scf_insn::{Answer, CallRecord, Memory, Sink, WriteFault, write_whole};
-use scf_profile::Texts;
+use scf_profile::{Relation, Texts};
 use std::alloc::Global;
 
 pub(crate) fn write_arguments<S: Sink>(sink: &mut S, arguments: &[u64]) -> Result<(), WriteFault>

@@ -7,9 +7,10 @@ ghost use Rattle.scf_tool.specs.internal.Verification.{AreParties};
 
 use crate::parties::{Parties, read_parties};
 use crate::verification::{Outcome, VerifyFault};
-use scf_compare::{Relation, Scope, compare_by};
+use scf_compare::compare_by;
 use scf_facts::WordSets;
 use scf_insn::{Memory, Source};
+use scf_profile::{Relation, Scope};
 use std::alloc::Global;
 
 /// Compares a stack of filters with a profile over the calls of a scope and by a relation.

@@ -4,10 +4,10 @@ use Rattle.scf_insn.specs.Kernel.{audit_arch_x86_64}
 use Rattle.scf_insn.specs.Words.{IsWords, call_of}
 use Rattle.scf_profile.specs.Profile.{Profile}
 use Rattle.scf_profile.specs.ProfileAnswers.{ProfileAnswers}
-use Rattle.scf_compare.specs.declared.relation.Relation.{Relation}
-use Rattle.scf_compare.specs.declared.scope.Scope.{Scope}
-use Rattle.scf_compare.specs.Relation.{IsRelated}
-use Rattle.scf_compare.specs.Scope.{IsInScope}
+use Rattle.scf_profile.specs.declared.relation.Relation.{Relation}
+use Rattle.scf_profile.specs.declared.scope.Scope.{Scope}
+use Rattle.scf_profile.specs.Relation.{IsRelated}
+use Rattle.scf_profile.specs.Scope.{IsInScope}
 use Rattle.scf_compare.specs.internal.Compared.{Compared}
 
 abbrev pub AreWordsOf : Scope → List ℕ → Type 0

@@ -1,9 +1,9 @@
 -- The reply of a comparison, by what is compared.
 use Rattle.std.specs.Prelude.{ℕ, List, map, Ok, Some}
-use Rattle.scf_compare.specs.declared.relation.Relation.{Relation}
+use Rattle.scf_profile.specs.declared.relation.Relation.{Relation}
 use Rattle.scf_tool.specs.declared.parties.Parties.{Parties}
 use Rattle.scf_tool.specs.declared.reply.Reply.{Reply}
-use Rattle.scf_tool.specs.declared.request.Scopes.{Scopes}
+use Rattle.scf_request.specs.declared.request.Scopes.{Scopes}
 use Rattle.scf_tool.specs.Commands.{ComparesParts}
 use Rattle.scf_tool.specs.internal.Verification.{AreParties}
 

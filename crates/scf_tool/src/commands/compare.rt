@@ -4,23 +4,23 @@ ghost use Rattle.std.specs.Prelude.{◌≡◌, map, IfOk, IfErr, Ok, Err};
 ghost use Rattle.std.specs.Option.{option_map_or};
 ghost use Rattle.scf_tool.specs.Commands.{Compares, ComparesParts};
 ghost use Rattle.scf_tool.specs.Statuses.{LeavesWhole, verdict_status};
-ghost use Rattle.scf_tool.specs.internal.Contents.{rest_of};
+ghost use Rattle.scf_request.specs.Contents.{rest_of};
 ghost use Rattle.scf_tool.specs.internal.Reporting.{IsReportOn};
 
 use crate::call_reporting::{joint_verdict, report_calls_by};
 use crate::call_verification::compare_named_calls;
-use crate::commands::MAX_INPUT;
-use crate::contents::{Contents, PartReader, only};
+use crate::commands::{MAX_INPUT, only};
 use crate::fault::Fault;
 use crate::parties::{Parties, parties_in};
 use crate::reply::Reply;
 use crate::reporting::report_by;
-use crate::request::Scopes;
 use crate::stack_verification::compare_parties;
 use crate::status::Status;
 use crate::verification::VerifyFault;
-use scf_compare::{Relation, Scope, Verdict};
+use scf_compare::Verdict;
 use scf_insn::{Memory, Source, read_input};
+use scf_profile::{Relation, Scope};
+use scf_request::{Contents, PartReader, Scopes};
 use std::alloc::Global;
 
 /// The exit status that goes with a verdict.

@@ -5,7 +5,7 @@ ghost use Rattle.scf_insn.specs.Words.{words_of};
 ghost use Rattle.scf_machine.specs.Path.{IsPathOf};
 ghost use Rattle.scf_text.specs.Listing.{text_of};
 ghost use Rattle.scf_tool.specs.Commands.{EndsOnFilter, Lists};
-ghost use Rattle.scf_tool.specs.declared.request.Request.TheVariants as requests;
+ghost use Rattle.scf_request.specs.declared.request.Request.TheVariants as requests;
 ghost use Rattle.scf_tool.specs.Lines.{traced_text};
 ghost use Rattle.scf_tool.specs.Statuses.{LeavesFilter};
 

@@ -4,8 +4,7 @@ ghost use Rattle.std.specs.Prelude.{IfOk, IfErr, Ok, Err};
 ghost use Rattle.scf_tool.specs.Commands.{CantLoad, Compiles, EndsOnProfile, GivesReason, IsStated};
 ghost use Rattle.scf_tool.specs.Statuses.{LeavesWhole};
 
-use crate::commands::MAX_INPUT;
-use crate::contents::{Contents, only};
+use crate::commands::{MAX_INPUT, only};
 use crate::fault::Fault;
 use crate::gathered::encoding_of;
 use crate::reply::Reply;
@@ -14,6 +13,7 @@ use crate::verification::VerifyFault;
 use scf_compile::{CompileFault, compile};
 use scf_insn::{CallRecord, Source, read_input};
 use scf_profile::Loaded;
+use scf_request::Contents;
 use std::alloc::Global;
 
 /// What a profile and a table state, however long they are.

@@ -4,11 +4,11 @@ ghost use Rattle.scf_tool.specs.Commands.{DecidesCall, EndsOnFilters};
 ghost use Rattle.scf_tool.specs.Statuses.{LeavesWhole};
 
 use crate::commands::MAX_INPUT;
-use crate::contents::Contents;
 use crate::fault::Fault;
 use crate::filter_stack::stack_of;
 use crate::reply::Reply;
 use scf_insn::{CallRecord, Source, read_input};
+use scf_request::Contents;
 use std::alloc::Global;
 
 /// `decide`: what a stack of filters answers to a call.

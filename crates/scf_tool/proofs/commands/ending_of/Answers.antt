@@ -1,11 +1,5 @@
-use Rattle.scf_tool.proofs.Common.{◌≡◌, ◌⊎◌, ℕ, List, Option, [], map, inl, inr, refl, subst, Result, Ok, Err, err_from_is_err_and, IsAmong, Row, Text, fault_of, subcommand_of, ErrorKind, OutOfMemory, Fault, Reply, CommandLine, AsksFor, SpeaksOfWords, scf, Explains}
-use Rattle.scf_tool.specs.declared.fault.Fault.TheVariants as faults
+use Rattle.scf_tool.proofs.Common.{◌≡◌, ◌⊎◌, ℕ, List, Option, map, inl, inr, refl, subst, Result, Ok, Err, err_from_is_err_and, IsAmong, Row, Text, fault_of, ErrorKind, OutOfMemory, Fault, Reply, CommandLine, AsksFor, SpeaksOfWords, scf, Explains}
 use Rattle.scf_tool.proofs.commands.ending_of.Goals as goal
-
-refused : (words : List Text) (fault : Fault) → fault_of scf words ≡ [] → AsksFor (subcommand_of scf words) (Err fault)
-    → SpeaksOfWords words (Err fault)
-refused words faults.CommandLine taken asks = tt
-refused words fault taken asks = (taken, asks)
 
 explained : (words : List Text) (kind : ErrorKind) (reply : Result Reply Fault)
     → (kind ≡ OutOfMemory) ⊎ IsAmong kind (fault_of scf words) → Explains kind reply → SpeaksOfWords words reply
@@ -16,11 +10,10 @@ explained words kind (Err fault) h e = rw e tt
 
 pub returns-in_err-request_of-in-Ok : goal.returns-in_err-request_of-in-Ok
 returns-in_err-request_of-in-Ok g c =
-    let words = map g.T.AsStr.text c.args.words.now in
     let p = err_from_is_err_and c.from_residual.result c.from_residual.ensures.1 in
     let asks = subst (λ (asked : Option (List ℕ × List Row)). AsksFor asked (Err c.in_err-request_of-in-Ok.field-0.0))
     c.in-Ok.ensures.matches c.in_err-request_of-in-Ok.ensures in
-    rw (p.1, p.2) (inl (refused words c.in_err-request_of-in-Ok.field-0.0 c.in-Ok.ensures.kinds asks, refl))
+    rw (p.1, p.2) (inl ((c.in-Ok.ensures.kinds, asks), refl))
 
 pub returns-in-Err : goal.returns-in-Err
 returns-in-Err g c = inl (

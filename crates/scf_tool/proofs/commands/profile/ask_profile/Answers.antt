@@ -1,8 +1,8 @@
 use Rattle.std.proofs.Common.{rules, ◌≡◌, ℕ, List, [], ◌∷◌, length, Ok, map, refl, arith}
 use Rattle.scf_insn.proofs.Common.{nat_tests}
-use Rattle.scf_tool.specs.Bundle.{IsBundle}
+use Rattle.scf_request.specs.Bundle.{IsBundle}
 use Rattle.scf_tool.specs.Commands.{ReadsInput}
-use Rattle.scf_tool.specs.internal.Contents.{rest_of}
+use Rattle.scf_request.specs.Contents.{rest_of}
 use Rattle.scf_tool.proofs.commands.profile.ask_profile.Goals as goal
 
 none_of : {X : Type 0} (f : X → List ℕ) (xs : List X) → length xs ≡ 0 → map f xs ≡ []

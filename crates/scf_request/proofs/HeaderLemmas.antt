@@ -1,0 +1,147 @@
+-- A header ends at the first line end, so bytes begin with at most one.
+use Rattle.scf_request.proofs.Common.{◌≡◌, ◌≢◌, ℕ, zero, suc, ◌+◌, ◌<◌, ◌≤◌, ◌^◌, true, false, List, [], ◌∷◌, ◌++◌, not, eqb, length, get_or, take, drop, codes, Option, Some, Err, unwrap_or, refl, sym, ap, subst, ◌∙◌, append_assoc, arith, length-append, list_all, MatchOption, list_all-append, is_digit, digits_value, AllDigits, and_from, and_parts, eqb-false, false≢true, ltb-true, ne_eqb, not-true, cond_some, append_cancel_left, append_cancel_right, drop_more, take-append-drop, digits_value-lt, pow-le-pow_right, numeral, ReadsNumber, NumeralFault, PartKind, Filter, Profile, Table, kind_word, IsHeader, HasHeader}
+
+-- ---- the digits of a header
+
+-- one to eight decimal digits that write a count
+abbrev pub IsCount : List ℕ → ℕ → Type 0
+IsCount digits count = (length digits ≤ 8) × (numeral 10 digits ≡ Some count)
+
+all_digits : (ds : List ℕ) → list_all (λ d. is_digit d 10) ds ≡ true → AllDigits 10 ds
+all_digits [] h = tt
+all_digits (d ∷ ds) h = let both = and_parts (is_digit d 10) (list_all (λ e. is_digit e 10) ds) h in
+    (ltb-true _ 10 both.0, all_digits ds both.1)
+
+-- a numeral has digits alone, and their value
+numeral_parts : (ds : List ℕ) (n : ℕ) → numeral 10 ds ≡ Some n
+    → (list_all (λ d. is_digit d 10) ds ≡ true) × (digits_value 10 ds ≡ n)
+numeral_parts ds n h = grind (arith, and_parts, cond_some)
+
+pub count_is_small : (ds : List ℕ) (n : ℕ) → IsCount ds n → n < 2 ^ 64
+count_is_small ds n h = grind (arith, all_digits, digits_value-lt, numeral_parts, pow-le-pow_right)
+
+-- ---- lines
+
+-- no byte is a line end
+abbrev pub IsLine : List ℕ → Type 0
+IsLine bs = list_all (λ b. not (eqb b 10)) bs ≡ true
+
+pub line_join : (xs ys : List ℕ) → IsLine xs → IsLine ys → IsLine (xs ++ ys)
+line_join xs ys h k = list_all-append (λ b. not (eqb b 10)) xs ys ∙ and_from _ _ h k
+
+digits_are_line : (ds : List ℕ) → list_all (λ d. is_digit d 10) ds ≡ true → IsLine ds
+digits_are_line [] h = refl
+digits_are_line (d ∷ ds) h =
+    let both = and_parts (is_digit d 10) (list_all (λ e. is_digit e 10) ds) h in
+    let other : eqb d 10 ≡ false = ne_eqb d 10
+    (λ e. let end : is_digit 10 10 ≡ true =
+    subst (λ (b : ℕ). is_digit b 10 ≡ true) e both.0 in absurd (false≢true end)) in
+    and_from (not (eqb d 10)) _ (rw other refl) (digits_are_line ds both.1)
+
+word_is_line : (kind : PartKind) → IsLine (kind_word kind)
+word_is_line kind = grind arith
+
+header_is_line : (kind : PartKind) (digits : List ℕ) (n : ℕ) → IsCount digits n
+    → IsLine (kind_word kind ++ (codes " " ++ digits))
+header_is_line kind digits n h = grind (arith, digits_are_line, line_join, numeral_parts, word_is_line)
+
+-- bytes begin with at most one line
+pub same_line : (a b r s : List ℕ) → IsLine a → IsLine b → a ++ 10 ∷ r ≡ b ++ 10 ∷ s → a ≡ b
+same_line [] [] r s h k e = refl
+same_line [] (y ∷ b) r s h k e =
+    let both = and_parts (not (eqb y 10)) (list_all (λ x. not (eqb x 10)) b) k in
+    let end : 10 ≡ y = ap (λ (l : List ℕ). get_or l 0 0) e in absurd
+    (eqb-false y 10 (not-true (eqb y 10) both.0) (sym end))
+same_line (x ∷ a) [] r s h k e =
+    let both = and_parts (not (eqb x 10)) (list_all (λ y. not (eqb y 10)) a) h in
+    let end : x ≡ 10 = ap (λ (l : List ℕ). get_or l 0 0) e in absurd (eqb-false x 10 (not-true (eqb x 10) both.0) end)
+same_line (x ∷ a) (y ∷ b) r s h k e =
+    let first = and_parts (not (eqb x 10)) (list_all (λ z. not (eqb z 10)) a) h in
+    let second = and_parts (not (eqb y 10)) (list_all (λ z. not (eqb z 10)) b) k in
+    let heads : x ≡ y = ap (λ (l : List ℕ). get_or l 0 0) e in
+    let tails : a ++ 10 ∷ r ≡ b ++ 10 ∷ s = ap (λ (l : List ℕ). drop 1 l) e in
+    let rest : a ≡ b = same_line a b r s first.1 second.1 tails in
+    rw (heads, rest) refl
+
+-- the bytes in front of the first line end are a line
+pub line_before : (bs : List ℕ) (n : ℕ) → n ≤ length bs → ((k : ℕ) → k < n → get_or bs k 0 ≢ 10) → IsLine (take n bs)
+line_before bs zero le h = refl
+line_before [] (suc n) le h = refl
+line_before (b ∷ bs) (suc n) le h =
+    let inside : n ≤ length bs = omega arith in
+    and_from (not (eqb b 10)) _ (rw (ne_eqb b 10 (h 0 (omega arith))) refl)
+    (line_before bs n inside (λ k lt. h (suc k) (omega arith)))
+
+-- ---- headers
+
+same_word : (k l : PartKind) (a b : List ℕ) → kind_word k ++ (codes " " ++ a) ≡ kind_word l ++ (codes " " ++ b)
+    → (k ≡ l) × (a ≡ b)
+same_word k l a b h = grind (arith, append_cancel_left, false≢true)
+
+some_value : (m n : ℕ) → Some m ≡ Some n → m ≡ n
+some_value m n e = ap (λ (o : Option ℕ). unwrap_or o 0) e
+
+-- What two headers in front of the same bytes have in common: everything.
+pub record SameHeader (h g : List ℕ) (k l : PartKind) (m n : ℕ) (r s : List ℕ) : Type 0 where
+  pub header : h ≡ g
+  pub kind : k ≡ l
+  pub count : m ≡ n
+  pub rest : r ≡ s
+
+pub same_header : (h g : List ℕ) (k l : PartKind) (m n : ℕ) (r s : List ℕ) → IsHeader h k m → IsHeader g l n
+    → h ++ r ≡ g ++ s → SameHeader h g k l m n r s
+same_header h g k l m n r s a b e =
+    let first = header_is_line k a.digits m a.is_count in
+    let second = header_is_line l b.digits n b.is_count in
+    let left : h ++ r ≡ (kind_word k ++ (codes " " ++ a.digits)) ++ 10 ∷ r =
+    rw a.text (append_assoc (kind_word k ++ (codes " " ++ a.digits)) (codes "\n") r) in
+    let right : g ++ s ≡ (kind_word l ++ (codes " " ++ b.digits)) ++ 10 ∷ s =
+    rw b.text (append_assoc (kind_word l ++ (codes " " ++ b.digits)) (codes "\n") s) in
+    let line : kind_word k ++ (codes " " ++ a.digits) ≡ kind_word l ++ (codes " " ++ b.digits) =
+    same_line _ _ r s first second (sym left ∙ e ∙ right) in
+    let parts = same_word k l a.digits b.digits line in
+    let header : h ≡ g = a.text ∙ ap (λ (xs : List ℕ). xs ++ codes "\n") line ∙ sym b.text in
+    let numbers : numeral 10 a.digits ≡ numeral 10 b.digits = ap (λ (ds : List ℕ). numeral 10 ds) parts.1 in
+    record {
+      header = header;
+      kind = parts.0;
+      count = let some : Some m ≡ Some n = sym a.is_count.1 ∙ numbers ∙ b.is_count.1 in some_value m n some;
+      rest = append_cancel_left h r s (e ∙ ap (λ (xs : List ℕ). xs ++ s) (sym header));
+    }
+
+-- a header has its line end
+pub header_some : (h : List ℕ) (k : PartKind) (n : ℕ) → IsHeader h k n → 0 < length h
+header_some h k n a = rw (a.text, length-append) (omega arith)
+
+-- the header in front ends at the first line end
+pub header_by_line : (bs : List ℕ) (k : PartKind) (n end : ℕ) → end < length bs → get_or bs end 0 ≡ 10
+    → ((i : ℕ) → i < end → get_or bs i 0 ≢ 10) → HasHeader bs k n → IsHeader (take end bs ++ codes "\n") k n
+header_by_line bs k n end inside here before found =
+    let a = found.is_header in
+    let line = kind_word k ++ (codes " " ++ a.digits) in
+    let left : bs ≡ line ++ 10 ∷ found.rest =
+    found.whole ∙ ap (λ (xs : List ℕ). xs ++ found.rest) a.text ∙ append_assoc line (codes "\n") found.rest in
+    let right : bs ≡ take end bs ++ 10 ∷ drop (end + 1) bs =
+    sym (take-append-drop end bs) ∙ ap (λ (xs : List ℕ). take end bs ++ xs)
+    (drop_more bs end 0 inside ∙ ap (λ (b : ℕ). b ∷ drop (end + 1) bs) here) in
+    let same : line ≡ take end bs = same_line line (take end bs) found.rest (drop (end + 1) bs)
+    (header_is_line k a.digits n a.is_count) (line_before bs end (omega arith) before) (sym left ∙ right) in
+    record { digits = a.digits; is_count = a.is_count; text = ap (λ (xs : List ℕ). xs ++ codes "\n") (sym same) }
+
+-- ---- what a header's reader asks
+
+pub no_count : (ds : List ℕ) (n : ℕ) (e : NumeralFault) → ReadsNumber (numeral 10 ds) (Err e) → IsCount ds n → ⊥
+no_count ds n e h1 h2 = grind (arith, count_is_small)
+
+-- what is said of the digits of a line is said of the header that it ends
+pub header_by_count : (kind : PartKind) (line digits : List ℕ) (counted : Option ℕ)
+    → line ≡ kind_word kind ++ (codes " " ++ digits)
+    → MatchOption counted ((n : ℕ) → IsCount digits n → ⊥) (IsCount digits)
+    → MatchOption counted ((n : ℕ) → IsHeader (line ++ codes "\n") kind n → ⊥) (IsHeader (line ++ codes "\n") kind)
+header_by_count kind line digits counted h1 h2 = grind (arith, append_cancel_right, same_word)
+
+pub no_kind : (h : List ℕ) → ((n : ℕ) → IsHeader h Filter n → ⊥) → ((n : ℕ) → IsHeader h Profile n → ⊥)
+    → ((n : ℕ) → IsHeader h Table n → ⊥) → (k : PartKind) (n : ℕ) → IsHeader h k n → ⊥
+no_kind h a b c Filter n = a n
+no_kind h a b c Profile n = b n
+no_kind h a b c Table n = c n

@@ -1,0 +1,6 @@
+mod BundleLemmas
+mod CommandLineLemmas
+pub mod Common
+mod ContentLemmas
+mod HeaderLemmas
+mod OptionLemmas

@@ -1,0 +1,36 @@
+use Rattle.scf_request.proofs.Common.{◌≡◌, ◌+◌, ◌-◌, take, drop, refl, sym, arith, length-drop, take-append-drop}
+use Rattle.scf_request.proofs.BundleLemmas.{part_in_front, some_left, tail}
+use Rattle.scf_request.proofs.bundle.part_at.Goals as goal
+
+pub returns-in_default-clause-fault : goal.returns-in_default-clause-fault
+returns-in_default-clause-fault c = (
+  refl,
+  some_left c.args.offset c.args.bytes.now c.requires,
+  rw (tail c.args.offset c.args.bytes.now) at c.in_default.ensures.none,
+)
+
+pub returns-then-rest-header-clause-fault : goal.returns-then-rest-header-clause-fault
+returns-then-rest-header-clause-fault c =
+    let header = c.in-Some.header in
+    let rest = drop c.args.offset c.args.bytes.now in (
+      refl,
+      header.kind,
+      header.count,
+      record {
+        header = take header.length rest;
+        rest = drop header.length rest;
+        is_header = rw (tail c.args.offset c.args.bytes.now) at c.in-Some.ensures.some.1;
+        whole = sym (take-append-drop header.length rest);
+      },
+      rw (length-drop header.length rest) (rw (tail c.args.offset c.args.bytes.now) at c.if-rest-header.true),
+    )
+
+pub returns-clause-part : goal.returns-clause-part
+returns-clause-part c =
+    let header = c.in-Some.header in
+    let rest = drop c.args.offset c.args.bytes.now in
+    let sum : c.args.offset + header.length + header.count - c.args.offset ≡ header.length + header.count =
+    omega arith in
+    let whole = tail c.args.offset c.args.bytes.now in
+    rw sum (part_in_front c.args.offset rest _ header.length (rw whole at c.in-Some.ensures.some.0)
+    (rw whole at c.if-rest-header.false) (rw whole at c.in-Some.ensures.some.1) refl)

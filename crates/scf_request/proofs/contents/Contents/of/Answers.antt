@@ -1,0 +1,31 @@
+use Rattle.scf_request.proofs.Common.{List, arith, subst, sym, Part, Filter, Profile, Table, SpellsBundle}
+use Rattle.scf_request.proofs.BundleLemmas.{part_inside}
+use Rattle.scf_request.proofs.ContentLemmas.{next_held}
+use Rattle.scf_request.proofs.contents.Contents.of.Goals as goal
+
+pub held-requires : goal.held-requires
+held-requires c =
+    let none : Part = record { kind = Filter; start = 0; length = 0 } in
+    let spelled =
+    subst (λ (parts : List Part). SpellsBundle c.args.bytes.now parts) (sym c.deref-part-items.ensures.value)
+    c.in_ok-parts.ensures.parts in
+    omega (
+      arith,
+      part_inside 0 c.args.bytes.now c.deref-part-items.result.now c.loop-part.part-index none spelled
+          c.loop-part-test.true,
+    )
+
+pub loop-part-preserved : goal.loop-part-preserved
+loop-part-preserved c =
+    let before = c.loop-part.invariant in
+    let added = c.in_ok-add.ensures in
+    let is = c.held.ensures in
+    let inside = c.loop-part-test.true in
+    record {
+      filters = next_held Filter c.args.bytes.now _ c.deref-part-items.result.now c.loop-part.part-index _ _ _ inside
+          is before.filters added.0;
+      profiles = next_held Profile c.args.bytes.now _ c.deref-part-items.result.now c.loop-part.part-index _ _ _ inside
+          is before.profiles added.1;
+      tables = next_held Table c.args.bytes.now _ c.deref-part-items.result.now c.loop-part.part-index _ _ _ inside is
+          before.tables added.2;
+    }

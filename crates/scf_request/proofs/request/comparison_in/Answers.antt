@@ -1,0 +1,37 @@
+use Rattle.scf_request.proofs.Common.{◌≡◌, ◌∙◌, ap, inl, inr, refl, sym, subst, None, Some, List, ℕ, err_from_is_err_and, found_of, rows_of, Compare, NumberOption, limit_option, number_in}
+use Rattle.scf_request.proofs.OptionLemmas.{none_wrong, one_wrong}
+use Rattle.scf_request.proofs.request.comparison_in.Goals as goal
+
+pub returns-in_err-limit : goal.returns-in_err-limit
+returns-in_err-limit c =
+    let p = err_from_is_err_and c.from_residual.result c.from_residual.ensures.1 in
+    let rows = rows_of (found_of c.args.options.now) in
+    let none =
+    subst (λ (o : NumberOption). number_in rows o ≡ None) c.limit_option.ensures c.in_err-limit.ensures.err in
+    let name : c.limit_option.result.name.now ≡ limit_option.name =
+    ap (λ (o : NumberOption). o.name) c.limit_option.ensures in
+    rw (p.1, p.2) (
+      Compare,
+      rows,
+      refl,
+      one_wrong limit_option rows none
+          ∙ ap (λ (name : List ℕ). Some name) (sym (c.in_err-limit.ensures.named ∙ name)),
+    )
+
+pub returns-in_err-scopes : goal.returns-in_err-scopes
+returns-in_err-scopes c =
+    let p = err_from_is_err_and c.from_residual-in_err-scopes.result c.from_residual-in_err-scopes.ensures.1 in
+    let rows = rows_of (found_of c.args.options.now) in
+    let some = subst (λ (o : NumberOption). number_in rows o ≡ Some c.in_ok-limit.limit) c.limit_option.ensures
+    c.in_ok-limit.ensures.ok in
+    rw (p.1, p.2, c.in_err-scopes.ensures.flags)
+    (rows, refl, none_wrong limit_option rows _ some, inl c.in_err-scopes.ensures.more)
+
+pub returns-in_err-relation : goal.returns-in_err-relation
+returns-in_err-relation c =
+    let p = err_from_is_err_and c.from_residual-in_err-relation.result c.from_residual-in_err-relation.ensures.1 in
+    let rows = rows_of (found_of c.args.options.now) in
+    let some = subst (λ (o : NumberOption). number_in rows o ≡ Some c.in_ok-limit.limit) c.limit_option.ensures
+    c.in_ok-limit.ensures.ok in
+    rw (p.1, p.2, c.in_err-relation.ensures.flags)
+    (rows, refl, none_wrong limit_option rows _ some, inr c.in_err-relation.ensures.more)

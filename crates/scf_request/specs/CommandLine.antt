@@ -1,0 +1,31 @@
+-- The command line of the program, as its reader sees it.
+use Rattle.std.specs.Prelude.{ℕ, true, false, List, [], ◌∷◌, ◌++◌, codes, map, Some}
+use Rattle.clap.specs.declared.builder.action.ArgAction.TheVariants.{SetTrue}
+use Rattle.clap.specs.Words.{App, Rule, Shape, new_app, new_rule}
+use Rattle.scf_request.specs.Options.{NumberOption}
+use Rattle.scf_request.specs.Requests.{Command, command_word, options_of, words_of_command}
+use Rattle.scf_request.specs.Requests.Command.{Ask, Asm, Check, Compare, Compile, Decide, Dis, Run}
+
+-- an option takes one value, behind its name and two dashes
+abbrev pub option_rule : NumberOption → Rule
+option_rule o = record (new_rule o.name) { long = Some o.name; value_names = 1 }
+
+-- a flag takes none
+abbrev pub flag_rule : List ℕ → Rule
+flag_rule name = record (new_rule name) { long = Some name; action = Some SetTrue }
+
+abbrev pub shape_with : List ℕ → List NumberOption → Shape
+shape_with name options = record (new_app name).top { rules = map option_rule options }
+
+abbrev pub shape_for : Command → Shape
+shape_for command =
+    record (new_app (command_word command)).top {
+      rules = map option_rule (options_of command) ++ map flag_rule (words_of_command command).2;
+    }
+
+-- a command is named, and there is `--version`
+abbrev pub scf_shape : Shape
+scf_shape = record (new_app (codes "scf")).top { is_leaf = false; has_version = true; subcommand_required = true }
+
+abbrev pub scf : App
+scf = record { top = scf_shape; subs = map shape_for (Check ∷ Run ∷ Decide ∷ Dis ∷ Asm ∷ Compile ∷ Compare ∷ Ask ∷ []) }

@@ -1,0 +1,6 @@
+pub mod Bundle
+pub mod CommandLine
+pub mod Contents
+pub mod Options
+pub mod Requests
+pub mod internal

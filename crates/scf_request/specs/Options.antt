@@ -1,0 +1,94 @@
+-- The options of the program, and the numbers that they spell.
+use Rattle.std.specs.Prelude.{◌≡◌, ℕ, Bool, false, ◌-◌, ◌^◌, List, [], ◌∷◌, codes, bytes_eq, map, find, nat_le, is_none, Option, Some, None, Result, Ok, Err, option_map, if◌then◌else◌}
+use Rattle.std.specs.List.{filter_map}
+use Rattle.std.specs.Option.{option_and_then, option_map_or}
+use Rattle.clap.specs.Words.{Row, first_of}
+use Rattle.scf_insn.specs.declared.record.CallRecord.{CallRecord}
+use Rattle.scf_insn.specs.Kernel.{audit_arch_x86_64}
+use Rattle.scf_insn.specs.Numbers.{number_of}
+use Rattle.scf_profile.specs.declared.relation.Relation.{Relation}
+use Rattle.scf_profile.specs.declared.relation.Relation.TheVariants.{Same, NoMore, NoLess}
+use Rattle.scf_request.specs.declared.options.NumberFault.{NumberFault}
+use Rattle.scf_request.specs.declared.request.Scopes.{Scopes}
+use Rattle.scf_profile.specs.declared.scope.Scope.TheVariants as scopes
+use Rattle.scf_request.specs.declared.request.Scopes.TheVariants.{AtOnce, EachCall}
+
+-- An option that takes a number: its name, the number that it has without a text, and the greatest that it may have.
+pub record NumberOption : Type 0 where
+  pub name : List ℕ
+  pub default : ℕ
+  pub most : ℕ
+
+-- the number of an option by its text, and None where the text is no number in its range
+abbrev pub number_by : NumberOption → Option (List ℕ) → Option ℕ
+number_by o None = Some o.default
+number_by o (Some text) = option_and_then (λ n. if nat_le n o.most then Some n else None) (number_of text)
+
+-- the number of an option among the values that a command line gives
+abbrev pub number_in : List Row → NumberOption → Option ℕ
+number_in rows o = number_by o (first_of o.name rows)
+
+-- an option of 32 bits, and one of 64
+abbrev pub word_option : List ℕ → ℕ → NumberOption
+word_option name default = record { name = name; default = default; most = 2 ^ 32 - 1 }
+
+abbrev pub long_option : List ℕ → ℕ → NumberOption
+long_option name default = record { name = name; default = default; most = 2 ^ 64 - 1 }
+
+-- the options of a call record, in the order of its fields; without one the architecture is x86-64's
+abbrev pub call_options : List NumberOption
+call_options =
+    word_option (codes "nr") 0 ∷ word_option (codes "arch") audit_arch_x86_64 ∷ map (λ name. long_option name 0)
+    (codes "ip" ∷ codes "a0" ∷ codes "a1" ∷ codes "a2" ∷ codes "a3" ∷ codes "a4" ∷ codes "a5" ∷ [])
+
+-- the most steps of a comparison
+abbrev pub limit_option : NumberOption
+limit_option = long_option (codes "limit") 1000000
+
+-- the numbers of a record, in the order of its fields
+abbrev pub numbers_of_record : CallRecord → List ℕ
+numbers_of_record call = call.nr ∷ call.arch ∷ call.ip ∷ call.args
+
+-- the name of the first of some options whose text is no number in its range
+abbrev pub first_wrong : List NumberOption → List Row → Option (List ℕ)
+first_wrong options rows = option_map (λ o. o.name) (find (λ o. is_none (number_in rows o)) options)
+
+-- What the options of a call record spell: the record of their numbers, or the first that spells none.
+abbrev pub SpellsCall : List Row → Result CallRecord NumberFault → Type 0
+SpellsCall rows (Ok call) = map Some (numbers_of_record call) ≡ map (number_in rows) call_options
+SpellsCall rows (Err fault) = first_wrong call_options rows ≡ Some fault.name.now
+
+-- A flag is given where its name has the text `true`.
+abbrev pub is_given : List Row → List ℕ → Bool
+is_given rows name = option_map_or (λ text. bytes_eq text (codes "true")) (first_of name rows) false
+
+-- ---- flags of which at most one may be given
+
+-- what the flags of a group stand for that are given
+abbrev pub given_of : {A : Type 0} → List Row → List (List ℕ × A) → List A
+given_of rows group = filter_map (λ flag. if is_given rows flag.0 then Some flag.1 else None) group
+
+-- the one of them, where none is more than one of them, and what stands without any
+abbrev pub one_of : {A : Type 0} → A → List A → Option A
+one_of without [] = Some without
+one_of without (one ∷ []) = Some one
+one_of without (one ∷ other ∷ more) = None
+
+-- what a group comes to, of what stands without a flag and of its flags: None where more than one of them is given
+abbrev pub choice_in : {A : Type 0} → List Row → A × List (List ℕ × A) → Option A
+choice_in rows group = one_of group.0 (given_of rows group.1)
+
+-- over which calls a comparison goes: all without a flag
+abbrev pub scope_flags : Scopes × List (List ℕ × Scopes)
+scope_flags = (AtOnce scopes.All, (codes "native", AtOnce scopes.Native) ∷ (codes "calls", EachCall) ∷ [])
+
+-- by which relation it goes: by the same answers without a flag
+abbrev pub relation_flags : Relation × List (List ℕ × Relation)
+relation_flags = (Same, (codes "no-more", NoMore) ∷ (codes "no-less", NoLess) ∷ [])
+
+abbrev pub flag_names : {A : Type 0} → A × List (List ℕ × A) → List (List ℕ)
+flag_names group = map (λ flag. flag.0) group.1
+
+-- the flag that has the path of a run shown
+abbrev pub path_flag : List ℕ
+path_flag = codes "path"

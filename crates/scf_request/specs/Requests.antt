@@ -1,0 +1,66 @@
+-- What the program is asked for by its words.
+use Rattle.std.specs.Prelude.{◌≡◌, ◌⊎◌, ℕ, true, false, List, [], ◌∷◌, ◌++◌, codes, map, Option, Some, None, Result, Ok, Err}
+use Rattle.clap.specs.Words.{Row}
+use Rattle.scf_request.specs.declared.request_fault.RequestFault.{RequestFault}
+use Rattle.scf_request.specs.declared.request_fault.RequestFault.TheVariants.{Number, NoCommand, Flags}
+use Rattle.scf_request.specs.declared.request.Request.{Request}
+use Rattle.scf_request.specs.declared.request.Request.TheVariants as requests
+use Rattle.scf_request.specs.Options.{NumberOption, call_options, choice_in, first_wrong, is_given, limit_option, number_in, flag_names, numbers_of_record, path_flag, relation_flags, scope_flags}
+
+pub data Command : Type 0 where
+  Ask Asm Check Compare Compile Decide Dis Run : Command
+
+-- the words of each command: its own, those of its options, each with a number, and those of its flags
+abbrev pub words_of_command : Command → List ℕ × List NumberOption × List (List ℕ)
+words_of_command Ask = (codes "ask", call_options, [])
+words_of_command Asm = (codes "asm", [], [])
+words_of_command Check = (codes "check", [], [])
+words_of_command Compare = (codes "compare", limit_option ∷ [], flag_names scope_flags ++ flag_names relation_flags)
+words_of_command Compile = (codes "compile", [], [])
+words_of_command Decide = (codes "decide", call_options, [])
+words_of_command Dis = (codes "dis", [], [])
+words_of_command Run = (codes "run", call_options, path_flag ∷ [])
+
+abbrev pub command_word : Command → List ℕ
+command_word command = (words_of_command command).0
+
+abbrev pub options_of : Command → List NumberOption
+options_of command = (words_of_command command).1
+
+-- the command of a request, and the numbers of its options
+abbrev pub asked_by : Request → Command × List ℕ
+asked_by (requests.Ask call) = (Ask, numbers_of_record call)
+asked_by requests.Assemble = (Asm, [])
+asked_by requests.Check = (Check, [])
+asked_by (requests.Compare limit scopes relation) = (Compare, limit ∷ [])
+asked_by requests.Compile = (Compile, [])
+asked_by (requests.Decide call) = (Decide, numbers_of_record call)
+asked_by requests.List = (Dis, [])
+asked_by (requests.Run call) = (Run, numbers_of_record call)
+asked_by (requests.Trace call) = (Run, numbers_of_record call)
+
+-- the flags of a request are given, and no other
+abbrev pub HasFlags : List Row → Request → Type 0
+HasFlags rows (requests.Compare limit scopes relation) =
+    (choice_in rows scope_flags ≡ Some scopes) × (choice_in rows relation_flags ≡ Some relation)
+HasFlags rows (requests.Run call) = is_given rows path_flag ≡ false
+HasFlags rows (requests.Trace call) = is_given rows path_flag ≡ true
+HasFlags rows request = Unit {0}
+
+-- A word and the values of options spell a request: they name its command, spell its numbers and give its flags.
+pub record IsRequest (asked : Option (List ℕ × List Row)) (request : Request) : Type 0 where
+  pub rows : List Row
+  pub command : asked ≡ Some (command_word (asked_by request).0, rows)
+  pub numbers : map Some (asked_by request).1 ≡ map (number_in rows) (options_of (asked_by request).0)
+  pub flags : HasFlags rows request
+
+-- What a command's word and the values of its options ask for, or why they don't: the first option of the command
+-- whose text is no number in its range; where there is none, flags of a comparison that exclude each other; no command.
+abbrev pub AsksFor : Option (List ℕ × List Row) → Result Request RequestFault → Type 0
+AsksFor asked (Ok request) = IsRequest asked request
+AsksFor asked (Err (Number fault)) = (command : Command) × (rows : List Row)
+    × (asked ≡ Some (command_word command, rows)) × (first_wrong (options_of command) rows ≡ Some fault.name.now)
+AsksFor asked (Err Flags) = (rows : List Row) × (asked ≡ Some (command_word Compare, rows))
+    × (first_wrong (options_of Compare) rows ≡ None)
+    × ((choice_in rows scope_flags ≡ None) ⊎ (choice_in rows relation_flags ≡ None))
+AsksFor asked (Err NoCommand) = (command : Command) (rows : List Row) → asked ≡ Some (command_word command, rows) → ⊥

@@ -1,0 +1,211 @@
+//! Bundles: files one after another, each behind a header that says what it is and how many bytes it has.
+
+ghost use Rattle.std.specs.Prelude.{◌≡◌, ◌≢◌, ◌+◌, ◌-◌, ◌<◌, ◌≤◌, ◌++◌, ◌∷◌, [], ℕ, List, codes, length, take, drop};
+ghost use Rattle.std.specs.Prelude.{slice_index, MatchOption, IfSome, IfNone, IfOk, IfErr};
+ghost use Rattle.scf_request.specs.Bundle as spec;
+ghost use Rattle.scf_insn.specs.Numbers.{numeral};
+ghost use Rattle.scf_request.specs.Bundle.{kind_word, IsHeader, HasHeader, IsBundlePart, IsFaultAt, SpellsBundle};
+ghost use Rattle.scf_request.specs.Bundle.{IsBundleFault};
+
+use scf_insn::parse_numeral;
+use std::alloc::{AllocError, AllocFailed, Global};
+use thiserror::Error;
+
+/// What a part of a bundle is.
+#[derive(Clone, Copy, Debug, PartialEq, Eq)]
+pub enum PartKind {
+    Filter,
+    Profile,
+    Table,
+}
+
+/// A part of a bundle, and where its bytes stand, in bytes from the front.
+#[derive(Clone, Copy, Debug, PartialEq, Eq)]
+pub struct Part {
+    pub kind: PartKind,
+    pub start: usize,
+    pub length: usize,
+}
+
+/// Why bytes are no bundle.
+#[derive(Clone, Copy, Debug, PartialEq, Eq, Error)]
+pub enum BundleFault {
+    #[error("no header stands at byte {offset}")]
+    Header { offset: usize },
+    #[error("fewer bytes follow than the header at byte {offset} says")]
+    Short { offset: usize },
+    #[error("out of memory")]
+    Memory,
+}
+
+impl From<AllocError> for BundleFault {
+    ghost use Rattle.std.specs.Prelude.{◌≡◌};
+    ghost use Rattle.scf_request.specs.declared.bundle.BundleFault.TheVariants.{Memory};
+
+    ghost from_gives = { λ _ e. e ≡ Memory };
+
+    fn from(_e: AllocError) -> BundleFault {
+        BundleFault::Memory
+    }
+}
+
+impl<T: Drop> From<AllocFailed<T>> for BundleFault {
+    ghost use Rattle.std.specs.Prelude.{◌≡◌};
+    ghost use Rattle.scf_request.specs.declared.bundle.BundleFault.TheVariants.{Memory};
+
+    ghost from_gives = { λ _ e. e ≡ Memory };
+
+    fn from(_e: AllocFailed<T>) -> BundleFault {
+        BundleFault::Memory
+    }
+}
+
+impl PartKind {
+    /// The word that names the kind.
+    fn word(self) -> &'static [u8]
+        ensures { result.now ≡ kind_word self }
+    {
+        match self {
+            PartKind::Filter => b"filter",
+            PartKind::Profile => b"profile",
+            PartKind::Table => b"table",
+        }
+    }
+}
+
+/// What a header says, and how long it is.
+#[derive(Clone, Copy)]
+struct Header {
+    kind: PartKind,
+    count: usize,
+    length: usize,
+}
+
+/// The count that the digits of a header write.
+fn count_of(digits: &[u8]) -> Option<usize>
+    ensures { MatchOption result
+        ((n : ℕ) → (length digits.now ≤ 8) × (numeral 10 digits.now ≡ Some n) → ⊥)
+        (λ n. (length digits.now ≤ 8) × (numeral 10 digits.now ≡ Some n)) }
+{
+    if digits.len() > 8 {
+        return None;
+    }
+    match parse_numeral(digits, 10) {
+        Ok(count) => Some(count as usize),
+        Err(_) => None,
+    }
+}
+
+/// The count in a header of this kind, given without its line end.
+fn count_in(kind: PartKind, line: &[u8]) -> Option<usize>
+    ensures { MatchOption result
+        ((n : ℕ) → IsHeader (line.now ++ codes "\n") kind n → ⊥)
+        (IsHeader (line.now ++ codes "\n") kind) }
+{
+    let digits = line.strip_prefix(kind.word())?.strip_prefix(b" ")?;
+    count_of(digits)
+}
+
+/// The kind and the count in a header, given without its line end.
+fn said_in(line: &[u8]) -> Option<(PartKind, usize)>
+    ensures { MatchOption result
+        ((kind : PartKind) (n : ℕ) → IsHeader (line.now ++ codes "\n") kind n → ⊥)
+        (λ said. IsHeader (line.now ++ codes "\n") said.0 said.1) }
+{
+    if let Some(count) = count_in(PartKind::Filter, line) {
+        return Some((PartKind::Filter, count));
+    }
+    if let Some(count) = count_in(PartKind::Profile, line) {
+        return Some((PartKind::Profile, count));
+    }
+    match count_in(PartKind::Table, line) {
+        Some(count) => Some((PartKind::Table, count)),
+        None => None,
+    }
+}
+
+/// The place of the first line end.
+fn line_len(bytes: &[u8]) -> Option<usize>
+    ensures found { IfSome result (λ n. n < length bytes.now × (slice_index bytes.now n ≡ 10)) }
+    ensures first { IfSome result (λ n. (k : ℕ) → k < n → slice_index bytes.now k ≢ 10) }
+    ensures none { IfNone result ((k : ℕ) → k < length bytes.now → slice_index bytes.now k ≢ 10) }
+{
+    for (at, byte) in bytes.iter().enumerate() {
+        if *byte == b'\n' {
+            return Some(at);
+        }
+    }
+    None
+}
+
+/// The header that stands in front.
+fn header_of(bytes: &[u8]) -> Option<Header>
+    ensures some { IfSome result (λ h. (h.length ≤ length bytes.now)
+        × IsHeader (take h.length bytes.now) h.kind h.count) }
+    ensures none { IfNone result ((kind : PartKind) (count : ℕ) → HasHeader bytes.now kind count → ⊥) }
+{
+    let end = line_len(bytes)?;
+    let (kind, count) = said_in(&bytes[..end])?;
+    Some(Header {
+        kind,
+        count,
+        length: end + 1,
+    })
+}
+
+/// The part at an offset.
+fn part_at(bytes: &[u8], offset: usize) -> Result<Part, BundleFault>
+    requires { offset < length bytes.now }
+    ensures inside { IfOk result (λ part. (offset < part.start + part.length)
+        × (part.start + part.length ≤ length bytes.now)) }
+    ensures part { IfOk result (λ part. IsBundlePart offset part
+        (take (part.start + part.length - offset) (drop offset bytes.now))) }
+    ensures fault { IfErr result (IsFaultAt (drop offset bytes.now) offset) }
+{
+    let rest = &bytes[offset..];
+    let Some(header) = header_of(rest) else {
+        return Err(BundleFault::Header { offset });
+    };
+    if rest.len() - header.length < header.count {
+        return Err(BundleFault::Short { offset });
+    }
+    Ok(Part {
+        kind: header.kind,
+        start: offset + header.length,
+        length: header.count,
+    })
+}
+
+/// What a part of a bundle holds.
+pub(crate) fn held<'a>(bytes: &'a [u8], part: Part) -> &'a [u8]
+    requires { part.start + part.length ≤ length bytes.now }
+    ensures { result.now ≡ spec.held bytes.now part }
+{
+    &bytes[part.start..part.start + part.length]
+}
+
+/// The parts that the bytes spell as a bundle: parts one after another, each a header and its bytes, and nothing
+/// between or behind them.
+///
+/// A header is one of the words `filter`, `profile` and `table`, one space, 1 to 8 decimal digits and LF. The digits
+/// give the count of bytes that follow. `Header` has the first offset behind whole parts at which no header stands,
+/// though the bytes go on, and `Short` the first whose header says more bytes than follow.
+pub fn split(alloc: Global, bytes: &[u8]) -> Result<Vec<Part>, BundleFault>
+    ensures parts { IfOk result (λ parts. SpellsBundle bytes.now parts.items) }
+    // No other list of parts is spelled.
+    ensures only { IfOk result (λ parts. (others : List Part) → SpellsBundle bytes.now others → others ≡ parts.items) }
+    ensures fault { IfErr result (IsBundleFault bytes.now) }
+    ensures none { IfErr result (λ fault. fault ≢ BundleFault.Memory
+        → (parts : List Part) → SpellsBundle bytes.now parts → ⊥) }
+    // Where no whole part stands in front, no memory is wanted.
+    ensures first { (fault : BundleFault) → IsFaultAt bytes.now 0 fault → result ≡ Err fault }
+{
+    let mut parts = Vec::new(alloc);
+    let mut offset = 0;
+    while offset < bytes.len() {
+        let part = part_at(bytes, offset)?;
+        parts.push(part)?;
+        offset = part.start + part.length;
+    }
+    Ok(parts)
+}

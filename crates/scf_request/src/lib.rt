@@ -1,0 +1,16 @@
+//! What the program is asked for: the words of its command line, and the parts of a bundle.
+#![tactic(auto)]
+
+mod bundle;
+mod command_line;
+mod contents;
+mod options;
+mod request;
+mod request_fault;
+
+pub use bundle::{BundleFault, Part, PartKind, split};
+pub use command_line::parse;
+pub use contents::{Contents, PartReader};
+pub use options::{NumberFault, record_of};
+pub use request::{Request, Scopes, request_of};
+pub use request_fault::RequestFault;

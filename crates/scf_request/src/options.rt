@@ -1,0 +1,188 @@
+//! Options of the command line, each of which takes a number.
+
+ghost use Rattle.std.specs.Prelude.{◌≡◌, ◌≤◌, Some, None, IfOk, IfErr};
+ghost use Rattle.clap.specs.Words.{found_of, rows_of};
+ghost use Rattle.scf_request.specs.Options as table;
+ghost use Rattle.scf_request.specs.internal.Parsing.{flags_in, option_of, options_kept};
+
+use crate::request::Scopes;
+use crate::request_fault::RequestFault;
+use clap::ArgMatches;
+use scf_insn::kernel::AUDIT_ARCH_X86_64;
+use scf_insn::{CallRecord, parse_number};
+use scf_profile::{Relation, Scope};
+use thiserror::Error;
+
+/// An option whose text is no number in its range.
+#[derive(Clone, Copy, Debug, PartialEq, Eq, Error)]
+#[error("the option {name} is no number in its range")]
+pub struct NumberFault {
+    pub name: &'static str,
+}
+
+/// An option that takes a number.
+#[derive(Clone, Copy)]
+pub(crate) struct NumberOption {
+    pub name: &'static str,
+    /// The number that it has where it has no text.
+    pub default: u64,
+    /// The greatest number that it may have.
+    pub most: u64,
+    /// What the help says of it.
+    pub help: &'static str,
+}
+
+/// The greatest number of 32 bits.
+const MAX_WORD: u64 = 0xffff_ffff;
+
+/// An option of 32 bits.
+fn word(name: &'static str, default: u64, help: &'static str) -> NumberOption
+    ensures { option_of result ≡ table.word_option name.now default }
+{
+    NumberOption {
+        name,
+        default,
+        most: MAX_WORD,
+        help,
+    }
+}
+
+/// An option of 64 bits.
+fn long(name: &'static str, default: u64, help: &'static str) -> NumberOption
+    ensures { option_of result ≡ table.long_option name.now default }
+{
+    NumberOption {
+        name,
+        default,
+        most: u64::MAX,
+        help,
+    }
+}
+
+/// The options that say what call a filter is asked about.
+pub(crate) fn call_options() -> [NumberOption; 9]
+    ensures { options_kept result ≡ table.call_options }
+{
+    let arch = "The architecture [default: 0xc000003e, x86-64]";
+    [
+        word("nr", 0, "The number of the call [default: 0]"),
+        word("arch", u64::from(AUDIT_ARCH_X86_64), arch),
+        long("ip", 0, "The instruction pointer [default: 0]"),
+        long("a0", 0, "Argument 0 [default: 0]"),
+        long("a1", 0, "Argument 1 [default: 0]"),
+        long("a2", 0, "Argument 2 [default: 0]"),
+        long("a3", 0, "Argument 3 [default: 0]"),
+        long("a4", 0, "Argument 4 [default: 0]"),
+        long("a5", 0, "Argument 5 [default: 0]"),
+    ]
+}
+
+/// How many steps a comparison takes at most.
+pub(crate) fn limit_option() -> NumberOption
+    ensures { option_of result ≡ table.limit_option }
+{
+    let help = "The most steps of the comparison [default: 1000000]";
+    long("limit", 1_000_000, help)
+}
+
+/// The flag that leaves all but the native calls out of a comparison.
+pub(crate) const NATIVE_FLAG: &str = "native";
+
+/// The flag by which each named call is compared by itself.
+pub(crate) const CALLS_FLAG: &str = "calls";
+
+/// The flag that asks whether no more is let through.
+pub(crate) const NO_MORE_FLAG: &str = "no-more";
+
+/// The flag that asks whether no less is let through.
+pub(crate) const NO_LESS_FLAG: &str = "no-less";
+
+/// The flag that has the path of a run shown.
+pub(crate) const PATH_FLAG: &str = "path";
+
+/// Over which calls a comparison goes, by its flags.
+pub(crate) const SCOPE_FLAGS: [(&str, Scopes); 2] = [
+    (NATIVE_FLAG, Scopes::AtOnce(Scope::Native)),
+    (CALLS_FLAG, Scopes::EachCall),
+];
+
+/// By which relation a comparison goes, by its flags.
+pub(crate) const RELATION_FLAGS: [(&str, Relation); 2] = [
+    (NO_MORE_FLAG, Relation::NoMore),
+    (NO_LESS_FLAG, Relation::NoLess),
+];
+
+/// Whether a flag is given.
+pub(crate) fn is_given(matches: &ArgMatches<'_>, name: &str) -> bool
+    ensures { result ≡ table.is_given (rows_of (found_of matches.now)) name.now }
+{
+    match matches.get_str(name) {
+        Some(text) => text == "true",
+        None => false,
+    }
+}
+
+/// What the flag of a group stands for that is given, and `without` where none is. More than one is a fault.
+pub(crate) fn chosen<T: Copy>(
+    matches: &ArgMatches<'_>,
+    group: &[(&'static str, T)],
+    without: T,
+) -> Result<T, RequestFault>
+    ensures one { IfOk result (λ choice.
+        table.choice_in (rows_of (found_of matches.now)) (without, flags_in group.now) ≡ Some choice) }
+    ensures more { IfErr result (λ fault.
+        table.choice_in (rows_of (found_of matches.now)) (without, flags_in group.now) ≡ None) }
+    ensures flags { IfErr result (λ fault. fault ≡ RequestFault.Flags) }
+{
+    let mut found = None;
+    for flag in group {
+        if is_given(matches, flag.0) {
+            if found.is_some() {
+                return Err(RequestFault::Flags);
+            }
+            found = Some(flag.1);
+        }
+    }
+    Ok(found.unwrap_or(without))
+}
+
+impl NumberOption {
+    /// The number that the option spells, or its default where it has no text.
+    pub(crate) fn number_in(self, matches: &ArgMatches<'_>) -> Result<u64, NumberFault>
+        requires { self.default ≤ self.most }
+        ensures ok { IfOk result (λ n. table.number_in (rows_of (found_of matches.now)) (option_of self) ≡ Some n) }
+        ensures within { IfOk result (λ n. n ≤ self.most) }
+        ensures err { IfErr result (λ fault. table.number_in (rows_of (found_of matches.now)) (option_of self) ≡ None) }
+        ensures named { IfErr result (λ fault. fault.name.now ≡ self.name.now) }
+    {
+        let Some(text) = matches.get_str(self.name) else {
+            return Ok(self.default);
+        };
+        match parse_number(text.as_bytes()) {
+            Ok(number) if number <= self.most => Ok(number),
+            _ => Err(NumberFault { name: self.name }),
+        }
+    }
+}
+
+/// The call record that the options `nr`, `arch`, `ip` and `a0` to `a5` of these matches spell. Without a text `arch`
+/// is that of x86-64, and the others are 0. The fault names the first, in this order, whose text is no number in its
+/// range: decimal digits, or `0x` or `0X` and hexadecimal digits, below 2^32 for `nr` and `arch` and below 2^64 for
+/// the others.
+pub fn record_of(matches: &ArgMatches<'_>) -> Result<CallRecord, NumberFault>
+    ensures { table.SpellsCall (rows_of (found_of matches.now)) result }
+{
+    let [nr, arch, ip, a0, a1, a2, a3, a4, a5] = call_options();
+    let nr = nr.number_in(matches)? as u32;
+    let arch = arch.number_in(matches)? as u32;
+    let ip = ip.number_in(matches)?;
+    let args = [
+        a0.number_in(matches)?,
+        a1.number_in(matches)?,
+        a2.number_in(matches)?,
+        a3.number_in(matches)?,
+        a4.number_in(matches)?,
+        a5.number_in(matches)?,
+    ];
+    Ok(CallRecord { nr, arch, ip, args })
+}
