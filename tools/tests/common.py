@@ -4,10 +4,12 @@ import importlib.machinery
 import importlib.util
 import json
 import os
+import resource
 import shutil
 import struct
 import subprocess
 import tempfile
+import time
 import unittest
 
 TOP = os.path.dirname(os.path.dirname(os.path.dirname(os.path.abspath(__file__))))
@@ -15,6 +17,9 @@ SCF = os.path.join(TOP, "scf")
 TABLE = os.path.join(TOP, "tables", "x86_64.table")
 X86_64, I386 = 0xC000003E, 0x40000003
 ALLOW, EPERM, KILL_PROCESS, KILL_THREAD = 0x7FFF0000, 0x00050001, 0x80000000, 0
+# How long anything is waited for, in seconds, before it counts as something that hangs. It measures nothing: on a slow
+# machine that does much else, what takes a minute elsewhere takes a quarter of an hour.
+PATIENCE = 3600
 
 
 def tool(name):
@@ -54,6 +59,32 @@ def filter_of(allowed, default=EPERM, foreign=KILL_PROCESS):
     tests = b"".join(jeq(number, len(allowed) - at, 0) for at, number in enumerate(allowed))
     return (load(4) + jeq(X86_64, 1, 0) + ret(foreign) + load(0) + jge(0x40000000, 0, 1) + ret(foreign) + tests
             + ret(default) + ret(ALLOW))
+
+
+def comes(holds):
+    """Whether something holds in the end."""
+    until = time.monotonic() + PATIENCE
+    while not holds():
+        if time.monotonic() > until:
+            return False
+        time.sleep(0.005)
+    return True
+
+
+def taken():
+    """The seconds of a processor that the children took which have ended; other load adds little to them."""
+    used = resource.getrusage(resource.RUSAGE_CHILDREN)
+    return used.ru_utime + used.ru_stime
+
+
+def limited(seconds, memory=None):
+    """What a child does before it runs a tool: it and all that it runs are ended by SIGXCPU, each once it took so many
+    seconds of a processor, and are refused more bytes of address space."""
+    def limit():
+        resource.setrlimit(resource.RLIMIT_CPU, (seconds, seconds + 1))
+        if memory is not None:
+            resource.setrlimit(resource.RLIMIT_AS, (memory, memory))
+    return limit
 
 
 def profile_of(*names, default="SCMP_ACT_ERRNO"):
@@ -96,15 +127,23 @@ class Case(unittest.TestCase):
             file.write(data if isinstance(data, bytes) else data.encode())
         return path
 
-    def run_words(self, words, given=b"", **settings):
-        """The status, what was printed, and what was said on standard error."""
+    def run_words(self, words, given=b"", seconds=None, **settings):
+        """The status, what was printed, and what was said on standard error.
+
+        With `seconds` it fails where it and all that it runs take more of them from the processors.
+        """
         if isinstance(given, bytes):
             settings["input"] = given
         else:
             settings["stdin"] = given
+        if seconds is not None:
+            settings["preexec_fn"] = limited(seconds + 1)
+        before = taken()
         done = subprocess.run(words, stdout=settings.pop("stdout", subprocess.PIPE), stderr=subprocess.PIPE,
-                              timeout=300, check=False,
+                              timeout=PATIENCE, check=False,
                               cwd=settings.pop("cwd", self.folder), **settings)
+        if seconds is not None:
+            self.assertLess(taken() - before, seconds, words[:9])
         return done.returncode, (done.stdout or b"").decode(), done.stderr.decode()
 
     def run_tool(self, name, *words, given=b"", **settings):

@@ -9,7 +9,7 @@ import sys
 import time
 import unittest
 
-from common import ALLOW, EPERM, TOP, Case, jeq, load, ret
+from common import ALLOW, EPERM, TOP, Case, comes, jeq, load, ret
 
 sys.path.insert(0, os.path.join(TOP, "tools"))
 from scftools import processes  # noqa: E402 pylint: disable=wrong-import-position
@@ -74,6 +74,14 @@ def ended(child):
     child.stdout.close()
 
 
+def let_on(fifo):
+    """Lets one go on that waits for a writer of a pipe, if one does."""
+    try:
+        os.close(os.open(fifo, os.O_WRONLY | os.O_NONBLOCK))
+    except OSError:
+        pass
+
+
 def why_not_here():
     """Why this machine doesn't show the filters of a process, or None where it does."""
     read, write = os.pipe()
@@ -121,12 +129,26 @@ class Confined(Case):
 
     def wait_for(self, thread, states):
         """Waits until a thread is in one of these states."""
-        until = time.monotonic() + 10
-        while time.monotonic() < until:
-            if status_of(thread)["State"][0] in states:
-                return
-            time.sleep(0.005)
-        self.fail(f"{thread} is in state {status_of(thread)['State']}, and not in {states}")
+        if not comes(lambda: status_of(thread)["State"][0] in states):
+            self.fail(f"{thread} is in state {status_of(thread)['State']}, and not in {states}")
+
+    def stuck(self, *threads):
+        """A child that waits in vfork(2) and doesn't stop before the pipe that is answered, too, has a writer."""
+        child = self.child(*threads)
+        fifo = os.path.join(self.folder, "fifo")
+        os.mkfifo(fifo)
+        self.addCleanup(let_on, fifo)
+        self.do(child, f"os.posix_spawn('/bin/true', ['true'], {{}}, file_actions=[(os.POSIX_SPAWN_OPEN, 0, {fifo!r}, "
+                       f"os.O_RDONLY, 0)])")
+        self.wait_for(child.pid, "D")
+        return child, fifo
+
+    def strict_child(self):
+        """A process in the strict mode of seccomp(2)."""
+        child = self.child([])
+        self.do(child, "library.prctl(22, 1, 0, 0, 0) or os.read(0, 1)")
+        self.assertTrue(comes(lambda: status_of(child.pid)["Seccomp"] == "1"))
+        return child
 
     def runs_on(self, child):
         """Nothing traces any thread of the child, and all of them run on."""
@@ -134,7 +156,8 @@ class Confined(Case):
         for name in os.listdir(f"/proc/{child.pid}/task"):
             status = status_of(name)
             self.assertEqual(status["TracerPid"], "0")
-            self.assertIn(status["State"][0], "SR")
+            # D where it waits for a page of memory
+            self.assertIn(status["State"][0], "SRD")
         self.do(child, "print('here', flush=True)")
         self.assertEqual(child.stdout.readline(), "here\n")
 

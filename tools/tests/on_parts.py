@@ -8,7 +8,7 @@ import re
 import subprocess
 import unittest
 
-from common import SCF, TOP, part
+from common import PATIENCE, SCF, TOP, part
 
 # The program itself, which is run many times; the launcher builds it where it isn't current.
 PROGRAM = os.path.join(TOP, "crates", "scf", "out", "scf")
@@ -64,8 +64,8 @@ def ran(words, given=b"", **settings):
     """What the program prints on these bytes, and its status. It says nothing on standard error."""
     if "stdin" not in settings:
         settings["input"] = given
-    done = subprocess.run([PROGRAM, *words], stdout=subprocess.PIPE, stderr=subprocess.PIPE, timeout=120, check=False,
-                          **settings)
+    done = subprocess.run([PROGRAM, *words], stdout=subprocess.PIPE, stderr=subprocess.PIPE, timeout=PATIENCE,
+                          check=False, **settings)
     if done.stderr:
         raise AssertionError(done.stderr)
     return done.stdout, done.returncode

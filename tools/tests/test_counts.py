@@ -1,4 +1,4 @@
-"""tools/tests: what its last line counts, on a made folder of tests."""
+"""tools/tests: what its last line counts, on a made folder of tests; a run that takes too much of a processor fails."""
 import os
 import shutil
 import sys
@@ -93,3 +93,12 @@ class Counts(Case):
             self.file("test_early.py", text)
             status, lines = self.ran(MADE, "test_made.Some.test_well", "test_early")
             self.assertEqual((status, lines[-1]), (1, "1 passed, 1 failed"), text)
+
+
+class Seconds(Case):
+    def test_a_run_that_takes_more_fails(self):
+        """One that doesn't end, and two processes that take more together and not alone."""
+        two = "import os, time\nother = os.fork()\nwhile time.process_time() < 0.7:\n    pass\nother and os.wait()\n"
+        for script in ("while True:\n    pass\n", two):
+            with self.assertRaises(self.failureException):
+                self.run_words([sys.executable, "-c", script], seconds=1)

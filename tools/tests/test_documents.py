@@ -7,7 +7,7 @@ import shutil
 import subprocess
 import unittest
 
-from common import ALLOW, SCF, TABLE, TOP, Case, filter_of, insn, jeq, load, part, profile_of, ret, tool
+from common import ALLOW, PATIENCE, SCF, TABLE, TOP, Case, filter_of, insn, jeq, load, part, profile_of, ret, tool
 
 # Which enum of the program is printed for which sources; for some, only these of its kinds.
 SOURCES = {
@@ -253,7 +253,7 @@ class Readme(Case):
         script = "".join(f"{command}printf '\\nstatus %s of command {at}\\n' \"$?\"\n" for at,
                          command in enumerate(commands))
         done = subprocess.run(["sh"], input=script.encode(), cwd=self.folder, stdout=subprocess.PIPE,
-                              stderr=subprocess.PIPE, timeout=300, check=False)
+                              stderr=subprocess.PIPE, timeout=PATIENCE, check=False)
         printed = re.split(r"\nstatus ([0-9]+) of command [0-9]+\n", done.stdout.decode())
         self.assertEqual(len(printed), 2 * len(commands) + 1, done.stderr.decode())
         return [(command, printed[2 * at], int(printed[2 * at + 1])) for at,

@@ -10,7 +10,8 @@ import sys
 import time
 import unittest
 
-from common import ALLOW, EPERM, I386, KILL_PROCESS, SCF, TOP, X86_64, jeq, jge, load, module, profile_of, ret, tool
+from common import (ALLOW, EPERM, I386, KILL_PROCESS, PATIENCE, SCF, TOP, X86_64, comes, jeq, jge, load, module,
+                    profile_of, ret, tool)
 from confined import CHILD, NEWEST, OLDEST, OTHER, Confined, ended, here, processes, status_of
 
 filters_of = module("filters-of")
@@ -116,38 +117,25 @@ class Programs(Confined):
         self.assertEqual((done.returncode, done.stdout), (3, ""))
         self.assertIn("this tool runs under a filter itself", done.stderr)
 
-    def stuck(self):
-        """A child that doesn't stop before something is written to the file that is answered, too."""
-        child = self.child([OLDEST], [OLDEST])
-        fifo = os.path.join(self.folder, "fifo")
-        os.mkfifo(fifo)
-        self.do(child, f"os.posix_spawn('/bin/true', ['true'], {{}}, file_actions=[(os.POSIX_SPAWN_OPEN, 0, {fifo!r}, "
-                       f"os.O_RDONLY, 0)])")
-        self.wait_for(child.pid, "D")
-        return child, fifo
-
     def traced(self, child):
         """Waits until a child is traced."""
-        until = time.monotonic() + 10
-        while status_of(child.pid)["TracerPid"] == "0" and time.monotonic() < until:
-            time.sleep(0.005)
+        self.assertTrue(comes(lambda: status_of(child.pid)["TracerPid"] != "0"))
 
     @here
     def test_a_signal_while_threads_are_held(self):
         """The tool ends by it, says so, and the process runs on; a signal that is ignored ends nothing."""
-        child, fifo = self.stuck()
+        child, fifo = self.stuck([OLDEST], [OLDEST])
         for number in (signal.SIGTERM, signal.SIGINT, signal.SIGHUP):
             # whoever runs the tests may ignore it, as nohup does
             held = subprocess.Popen([tool("filters-of"), str(child.pid), "out"], stdout=subprocess.PIPE,
                                     stderr=subprocess.PIPE, text=True, cwd=self.folder,
                                     preexec_fn=lambda heeded=number: signal.signal(heeded, signal.SIG_DFL))
             self.traced(child)
-            began = time.monotonic()
             held.send_signal(number)
-            out, err = held.communicate(timeout=20)
+            out, err = held.communicate(timeout=PATIENCE)
+            # so it was ended by the signal, and not since the child didn't stop, which it says after some seconds
             self.assertEqual((held.returncode, out, err),
                              (-number, "", f"filters-of: ended by {number.name}; what was held runs on\n"))
-            self.assertLess(time.monotonic() - began, 5)
             self.assertEqual(status_of(child.pid)["TracerPid"], "0")
         ignoring = ("import os, signal, sys; signal.signal(signal.SIGHUP, signal.SIG_IGN); "
                     "os.execv(sys.argv[1], sys.argv[1:])")
@@ -155,9 +143,8 @@ class Programs(Confined):
                                 stdout=subprocess.PIPE, stderr=subprocess.PIPE, text=True, cwd=self.folder)
         self.traced(child)
         held.send_signal(signal.SIGHUP)
-        time.sleep(0.1)
         with open(fifo, "wb"):
-            self.assertEqual(held.communicate(timeout=20), ("out/0.bpf\n", ""))
+            self.assertEqual(held.communicate(timeout=PATIENCE), ("out/0.bpf\n", ""))
         self.wait_for(child.pid, "S")
         self.runs_on(child)
 
@@ -330,11 +317,7 @@ class VerifyProcess(Confined):
 
     @here
     def test_strict_mode(self):
-        child = self.child([])
-        self.do(child, "library.prctl(22, 1, 0, 0, 0) or os.read(0, 1)")
-        until = time.monotonic() + 10
-        while status_of(child.pid)["Seccomp"] != "1" and time.monotonic() < until:
-            time.sleep(0.005)
+        child = self.strict_child()
         self.assertEqual(self.verify(child, ALLOWS_ALL),
                          (4, f"# {self.called(child)} has no filter, but the strict mode of seccomp(2)\n"))
         self.assertEqual(self.run_tool("filters-of", str(child.pid), "out")[0], 3)
@@ -406,7 +389,8 @@ class VerifyProcess(Confined):
         self.do(child, "import signal; library.prctl(15, b'before'); "
                        "signal.signal(signal.SIGUSR1, lambda *_: library.prctl(15, b'behind')); print(1, flush=True)")
         self.assertEqual(child.stdout.readline(), "1\n")
-        tree = self.made_tree(f"#!/bin/sh\ncat >/dev/null\nkill -USR1 {child.pid}\nsleep 0.2\necho same\n")
+        tree = self.made_tree(f"#!/bin/sh\ncat >/dev/null\nkill -USR1 {child.pid}\n"
+                              f"while [ \"$(cat /proc/{child.pid}/comm)\" = before ]; do sleep 0.01; done\necho same\n")
         status, out, _ = self.run_words([f"{tree}/tools/verify-process", str(child.pid), self.file("p", ALLOWS_ALL)])
         self.assertEqual((status, comments(out)[-1]),
                          (0, f"process {child.pid} (before) has 1 filter, of 1 instructions"))
@@ -519,7 +503,7 @@ class Containers(Confined):
         self.addCleanup(subprocess.run, [runtime, "delete", "--force", name], stderr=subprocess.DEVNULL, check=False)
         with open(os.path.join(self.folder, "said"), "w+b") as said:
             done = subprocess.run([runtime, "run", "--detach", "--pid-file", "pid", name], cwd=where, check=False,
-                                  stdin=subprocess.DEVNULL, stdout=said, stderr=said, timeout=60)
+                                  stdin=subprocess.DEVNULL, stdout=said, stderr=said, timeout=PATIENCE)
             said.seek(0)
             return f"{runtime}: {said.read().decode(errors='replace').strip()}" if done.returncode else None
 

@@ -1,19 +1,19 @@
 """Inputs made to hurt: each ends in its named answer, soon and in little memory.
 
 What is expected comes from the formats: an answer, a fault's line, or one of two verdicts where both are true. The
-bounds on time and memory are some ten times what is measured, so that what grows with the square of an input fails.
+bounds on time and memory leave room for slow machines; what grows with the square of a long input is beyond them.
 """
 import json
 import os
 import subprocess
 import tempfile
 import threading
-import time
 
-from common import ALLOW, KILL_PROCESS, SCF, X86_64, Case, insn, jeq, jge, load, part, ret
+from common import ALLOW, KILL_PROCESS, SCF, X86_64, Case, insn, jeq, jge, limited, load, part, ret
 
 LIMIT_OF_FILTER, LIMIT_OF_TEXT, LIMIT_OF_INPUT = 32768, 4194304, 16777216
-SECONDS, MEGABYTES = 20, 640
+# Seconds of a processor: 1.8 are measured of a text of many labels, and 0.9 of a million steps.
+SECONDS, MEGABYTES = 30, 640
 GATE = load(4) + jeq(X86_64, 0, 2) + load(0) + jge(0x40000000, 0, 1) + ret(KILL_PROCESS)
 ALLOWS = b'{"defaultAction":"SCMP_ACT_ALLOW"}'
 ALLOWS_COMPILED = GATE + ret(ALLOW)
@@ -33,10 +33,10 @@ def beside(value):
 
 
 def run(words, data):
-    """The status, what was printed, the seconds and the megabytes that it took."""
+    """The status, what was printed, the seconds of a processor and the megabytes that it took."""
     with tempfile.TemporaryFile() as out:
-        began = time.monotonic()
-        child = subprocess.Popen([SCF, *words], stdin=subprocess.PIPE, stdout=out, stderr=subprocess.DEVNULL)
+        child = subprocess.Popen([SCF, *words], stdin=subprocess.PIPE, stdout=out, stderr=subprocess.DEVNULL,
+                                 preexec_fn=limited(SECONDS))
 
         def feed():
             try:
@@ -51,7 +51,7 @@ def run(words, data):
         child.returncode = os.waitstatus_to_exitcode(ended)
         feeder.join()
         out.seek(0)
-        return child.returncode, out.read(), time.monotonic() - began, used.ru_maxrss / 1024
+        return child.returncode, out.read(), used.ru_utime + used.ru_stime, used.ru_maxrss / 1024
 
 
 class Hostile(Case):

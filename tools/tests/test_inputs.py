@@ -5,13 +5,14 @@ import shutil
 import subprocess
 import sys
 import tempfile
-import time
 import unittest
 
-from common import ALLOW, EPERM, TABLE, Case, filter_of, jeq, profile_of, ret, tool
+from common import ALLOW, EPERM, PATIENCE, TABLE, Case, filter_of, jeq, limited, profile_of, ret, taken, tool
 
-# Of a tool that reads an endless input: some ten times what is measured on a machine that does nothing else.
-SECONDS, MEGABYTES = 10, 128
+# Of a tool that reads an endless input: seconds of a processor, and megabytes. A third of a second is measured on a
+# machine that does nothing else; most of it goes to the starts of processes, which may take fifty times as long on one
+# that does much else. One that reads on for ever is ended then, or refused more memory than SPACE.
+SECONDS, MEGABYTES, SPACE = 60, 128, 2 << 30
 FILTER, TEXT = 32768, 4194304
 
 
@@ -27,10 +28,10 @@ with open(sys.argv[1], "w") as file:
 def run(words, **settings):
     """The status, what was printed, what was said, the seconds and the megabytes that a tool took."""
     with tempfile.TemporaryFile() as out, tempfile.TemporaryFile() as err, tempfile.NamedTemporaryFile() as told:
-        begun = time.monotonic()
+        before = taken()
         subprocess.run([sys.executable, "-ISc", SMALL, told.name, tool(words[0]), *words[1:]], stdout=out, stderr=err,
-                       check=True, **settings)
-        spent = time.monotonic() - begun
+                       check=True, timeout=PATIENCE, preexec_fn=limited(SECONDS, SPACE), **settings)
+        spent = taken() - before
         status, kilobytes = map(int, told.read().split())
         out.seek(0)
         err.seek(0)

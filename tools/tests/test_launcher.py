@@ -2,13 +2,12 @@
 import os
 import shutil
 import subprocess
-import threading
 import time
 
-from common import TOP, Case
+from common import TOP, Case, comes
 
-# Builds a program that prints its source, and notes each time that it was asked. `rt ci` prints what it is told, and
-# builds the programs that the gate tries.
+# Builds a program that prints its source, and notes each time that it was asked; once it has read the source it does
+# what it is told to do meanwhile. `rt ci` prints what it is told, and builds the programs that the gate tries.
 RT = """#!/bin/sh
 echo "asked: $*" >>"$ASKED"
 case $1 in
@@ -19,7 +18,6 @@ ci) printf '%s\\n' "$CI"
 run) [ "${FAILS-}" = "" ] || exit 1
     text=$(cat src/main.rt)
     [ -z "${MEANWHILE-}" ] || sh -c "$MEANWHILE"
-    [ -z "${SLOW-}" ] || sleep "$SLOW"
     mkdir -p out && printf '#!/bin/sh\\necho "%s" "$@"\\n' "$text" >out/scf.new
     chmod +x out/scf.new && mv out/scf.new out/scf
     exec out/scf --help ;;
@@ -63,6 +61,11 @@ class Tree(Case):
             file.write(text)
         os.utime(self.source, (time.time() - age,) * 2)
 
+    def in_the_first(self, meanwhile):
+        """What the kit does meanwhile, so that this is done in the first build alone."""
+        once = self.file("once", f"[ ! -e {self.folder}/did ] || exit 0\n: >{self.folder}/did\n{meanwhile}\n")
+        return f"sh {once}"
+
 
 class Launcher(Tree):
     """./scf."""
@@ -100,22 +103,14 @@ class Launcher(Tree):
         self.assertEqual(self.launch()[1], "one\n")
 
     def test_a_source_that_changes_while_it_is_built(self):
-        def change():
-            time.sleep(0.5)
-            self.write("two")
-
-        changer = threading.Thread(target=change)
-        changer.start()
-        status, out, err = self.launch(SLOW="1")
-        changer.join()
+        status, out, err = self.launch(MEANWHILE=self.in_the_first("printf two >src/main.rt"))
         self.assertEqual((status, out), (0, "two\n"))
         self.assertIn("a source changed meanwhile", err)
         self.assertEqual(self.builds(), 2)
 
     def changed_back(self, meanwhile):
         """What is printed where the first of two builds sees another source, which is changed back before it ends."""
-        once = self.file("once", f"[ ! -e {self.folder}/did ] || exit 0\n: >{self.folder}/did\n{meanwhile}\n")
-        status, out, err = self.launch(MEANWHILE=f"sh {once}")
+        status, out, err = self.launch(MEANWHILE=self.in_the_first(meanwhile))
         self.assertEqual((status, self.builds()), (0, 2), err)
         self.assertIn("a source changed meanwhile", err)
         self.assertEqual(self.launch(), (0, out, ""))
@@ -198,20 +193,39 @@ class Launcher(Tree):
         self.assertIn("the program was not built", err)
         self.assertEqual(self.launch()[1], "two\n")
 
+    def begin(self, *words, **more):
+        """A run that isn't waited for."""
+        return subprocess.Popen([os.path.join(self.tree, "scf"), *words], env={**self.env, **more},
+                                stdout=subprocess.PIPE, stderr=subprocess.PIPE)
+
+    def building(self):
+        """A run that is building a source which has changed since; and a file, without which the build goes on."""
+        begun, held = os.path.join(self.folder, "begun"), self.file("held", b"")
+        first = self.begin(MEANWHILE=self.in_the_first(f": >{begun}; while [ -e {held} ]; do sleep 0.01; done"))
+        self.assertTrue(comes(lambda: os.path.exists(begun)))
+        self.write("two")
+        return first, held
+
     def test_a_failed_build_beside_a_running_one(self):
         """The first builds the old source; it changes; the second fails; the next mustn't take what the first built."""
-        first = subprocess.Popen([os.path.join(self.tree, "scf")], env={**self.env, "SLOW": "1"},
-                                 stdout=subprocess.PIPE, stderr=subprocess.PIPE)
-        time.sleep(0.4)
-        self.write("two")
-        self.launch(FAILS="1")
+        # where nothing can be locked the second doesn't wait for the first
+        os.chmod(self.file("bin/flock", "#!/bin/sh\nexit 1\n"), 0o755)
+        first, held = self.building()
+        self.assertEqual(self.launch(FAILS="1")[:2], (125, ""))
+        os.remove(held)
         first.communicate()
         self.assertEqual(self.launch()[1], "two\n")
 
+    def test_a_run_beside_a_build(self):
+        """It waits, and has what was built of the changed source."""
+        first, held = self.building()
+        second = self.begin(FAILS="1")
+        os.remove(held)
+        self.assertEqual([run.communicate()[0] for run in (first, second)], [b"two\n"] * 2)
+        self.assertEqual((second.returncode, self.builds()), (0, 2))
+
     def test_two_runs_at_once(self):
-        runs = [subprocess.Popen([os.path.join(self.tree, "scf"), str(at)], env={**self.env, "SLOW": "0.5"},
-                                 stdout=subprocess.PIPE, stderr=subprocess.PIPE)
-                for at in range(4)]
+        runs = [self.begin(str(at), MEANWHILE="sleep 0.5") for at in range(4)]
         said = [run.communicate() for run in runs]
         self.assertEqual([out for out, _ in said], [b"one %d\n" % at for at in range(4)])
         self.assertEqual(sorted(err.count(b"\n") for _, err in said), [0, 0, 0, 1])
@@ -338,13 +352,15 @@ class Gate(Tree):
         self.assertEqual(self.gate("0 passed, 0 failed", "print('1 passed, 0 failed')\n", makes="x")[0], 0)
 
     def test_output_comes_as_it_is_printed(self):
+        """The kit goes on once its first line was read, or after a minute, which it says."""
+        held = self.file("held", b"")
         with open(os.path.join(self.folder, "kit", "bin", "rt"), "w", encoding="utf-8") as file:
-            file.write("#!/usr/bin/env python3\nimport sys, time\nprint('early')\n"
-                       "time.sleep(3 * (sys.argv[1] == 'ci'))\n"
-                       "print('1 passed, 0 failed')\n")
-        begun = time.monotonic()
+            file.write("#!/usr/bin/env python3\nimport os, sys, time\nprint('early')\n"
+                       "until = time.monotonic() + 60 * (sys.argv[1] == 'ci')\n"
+                       f"while os.path.exists({held!r}) and time.monotonic() < until:\n    time.sleep(0.01)\n"
+                       f"print('late' if os.path.exists({held!r}) else 'in time')\nprint('1 passed, 0 failed')\n")
         with subprocess.Popen([os.path.join(self.tree, "test")], env=self.env, stdout=subprocess.PIPE,
                               stderr=subprocess.DEVNULL) as gate:
             self.assertEqual(gate.stdout.readline(), b"early\n")
-            self.assertLess(time.monotonic() - begun, 2.5)
-            gate.communicate()
+            os.remove(held)
+            self.assertEqual(gate.stdout.read().split(b"\n")[:2], [b"in time", b"1 passed, 0 failed"])

@@ -156,9 +156,9 @@ class Judged(Case):
          "args": [{"index": 0, "op": "SCMP_CMP_EQ", "value": 40}]},
         {"names": ["bpf"], "action": "SCMP_ACT_TRACE"}, {"names": ["ptrace"], "action": "SCMP_ACT_LOG"}]}
 
-    def needs(self, log, *words, profile=None):
+    def needs(self, log, *words, profile=None, **settings):
         return self.run_tool("needs", *words, self.file("log", log),
-                             self.file("p.json", json.dumps(profile or self.PROFILE)))
+                             self.file("p.json", json.dumps(profile or self.PROFILE)), **settings)
 
     def judged(self, log, status, profile=None):
         """The fate of each call, by name, as --json and the lines tell it."""
@@ -364,25 +364,23 @@ class Hostile(Judged):
             self.assertTrue(all(line.isprintable() for line in out.split("\n")))
 
     def test_huge_lines_and_logs(self):
+        """In time that doesn't grow with the square of a line or of the lines; up to two seconds are measured."""
         for log in ("socket(" + "1<" * 40000, "socket(" + "[" * 1000000, 'socket("' + "\\" * 1000000,
                     "socket(" + "," * 1000000 + ") = 3", "socket(" + "3</a" * 300000, "socket(" + "/*" * 500000,
                     "1|" * 500000, "socket(" + "1|" * 30000 + "1) = 3", "9" * 1000000, "[" * 1000000,
                     "".join(f"{it} read(1 <unfinished ...>\n" for it in range(50000)),
                     "".join(f"{it} read(1) = 1\n" for it in range(50000)),
                     "".join(f"no_such_{it}(1) = 1\n" for it in range(2000))):
-            begun = time.monotonic()
-            status, out, err = self.needs(log)
-            self.assertIn(status, (0, 1, 4))
-            self.assertEqual(err, "")
-            self.assertLess(time.monotonic() - begun, 20, log[:30])
+            status, _, err = self.needs(log, seconds=30)
+            self.assertIn(status, (0, 1, 4), log[:30])
+            self.assertEqual(err, "", log[:30])
 
     def test_many_values(self):
         log = "".join(f"wait4({it}) = 1\n" for it in range(2, 6002))
-        begun = time.monotonic()
-        status, out, _ = self.needs(log)
+        # each of the thousand is judged by two runs of scf, which takes four seconds in all
+        status, out, _ = self.needs(log, seconds=120)
         self.assertEqual(status, 1)
         self.assertIn("# not judged, since there are more than 1000: 5000 calls with other arguments\n", out)
-        self.assertLess(time.monotonic() - begun, 60)
 
     def test_a_log_without_an_end(self):
         status, out, err = self.run_tool("needs", "/dev/zero", self.file("p.json", profile_of("read")))

@@ -11,7 +11,7 @@ import time
 import unittest
 from unittest import mock
 
-from common import TOP, tool
+from common import PATIENCE, TOP, comes, tool
 from confined import Confined, FakeKernel, here
 from test_filters_of import MOUNT, ROOT, UMOUNT2, refuses, refusing
 
@@ -162,7 +162,7 @@ class OfProcesses(Hook):
         child, late = self.child([]), self.file("late", refusing(MOUNT))
         begun = threading.Timer(0.5, lambda: self.do(child, f"confine([{late!r}])"))
         begun.start()
-        self.assertEqual(self.hook(child, refuses("mount"), "--wait=20")[0], 0)
+        self.assertEqual(self.hook(child, refuses("mount"), "--wait=60")[0], 0)
         begun.join()
 
     def test_how_long_it_waits(self):
@@ -190,7 +190,7 @@ class OfProcesses(Hook):
             status, lines = self.hook(child, profile, *words, "--kill")
             self.assertNotEqual(status, 0)
             self.assertEqual(lines[-1], f"process {child.pid} was killed")
-            self.assertEqual(child.wait(10), -signal.SIGKILL)
+            self.assertEqual(child.wait(PATIENCE), -signal.SIGKILL)
         child = self.child([refusing(UMOUNT2)])
         self.assertEqual(self.hook(child, refuses("umount2"), "--kill")[0], 0)
         self.runs_on(child)
@@ -232,7 +232,7 @@ class OfProcesses(Hook):
             value = json.loads(out)
             self.assertEqual((found, err, value["status"], value["verdict"], value["id"], value["killed"]),
                              (status, "", status, verdict, "box", bool(words)))
-        self.assertEqual(child.wait(10), -signal.SIGKILL)
+        self.assertEqual(child.wait(PATIENCE), -signal.SIGKILL)
 
     def test_names_of_a_stranger_in_the_profile(self):
         status, lines = self.hook(self.child([refusing(MOUNT)]), refuses("mount", "\x1b[2J\nsame"))
@@ -309,9 +309,10 @@ class Runtimes(Hook):
         other = self.file("other.json", json.dumps(config))
         path = {"env": [f"PATH={os.environ['PATH']}"]}
         config["linux"]["seccomp"] = loaded
+        # a runtime may take long to load the filter
         config["hooks"] = {"poststart": [
             {"path": "/bin/cp", "args": ["cp", other, f"{where}/config.json"], **path},
-            {"path": tool("oci-hook"), "args": ["oci-hook", *words], **path}]}
+            {"path": tool("oci-hook"), "args": ["oci-hook", "--wait=60", *words], **path}]}
         self.file("box/config.json", json.dumps(config))
 
     def run_runtime(self, runtime):
@@ -322,25 +323,36 @@ class Runtimes(Hook):
         with open(os.path.join(self.folder, "said"), "w+b") as said:
             done = subprocess.run([*self.words, "run", "--detach", "--pid-file", f"{self.folder}/pid", self.name],
                                   cwd=f"{self.folder}/box", check=False, stdin=subprocess.DEVNULL, stdout=said,
-                                  stderr=said, timeout=120)
+                                  stderr=said, timeout=PATIENCE)
             said.seek(0)
             return done.returncode, said.read().decode(errors="replace")
 
-    def container(self, runtime, refused, *words):
+    def runs(self, is_to_end):
+        """Whether the container's process runs a moment later; one that is to end is waited for."""
+        name = f"{self.folder}/pid"
+        if not os.path.exists(name):
+            return False
+        with open(name, encoding="ascii") as file:
+            pid = int(file.read())
+        os.remove(name)
+
+        def has_ended():
+            return processes.Kernel().status_of(pid).get("State", "Z")[0] in "ZX"
+
+        if is_to_end:
+            return not comes(has_ended)
+        time.sleep(0.3)
+        return not has_ended()
+
+    def container(self, runtime, refused, *words, is_to_end=False):
         """How a runtime ended whose hook finds a profile that refuses these calls, what it said, and whether the
-        container's process runs a moment later."""
+        container's process runs on."""
         if not shutil.which(runtime) or not self.busybox:
             self.skipTest(f"there is no {runtime}, or no busybox, here")
         self.configure(runtime, json.loads(refuses(*refused)), words)
         try:
             status, said = self.run_runtime(runtime)
-            runs = False
-            if os.path.exists(f"{self.folder}/pid"):
-                time.sleep(0.3)
-                with open(f"{self.folder}/pid", encoding="ascii") as file:
-                    runs = processes.Kernel().status_of(int(file.read())).get("State", "Z")[0] not in "ZX"
-                os.remove(f"{self.folder}/pid")
-            return status, said, runs
+            return status, said, self.runs(is_to_end)
         finally:
             subprocess.run([*self.words, "delete", "--force", self.name], stderr=subprocess.DEVNULL, check=False)
 
@@ -354,7 +366,7 @@ class Runtimes(Hook):
     def test_runc(self):
         """A container whose hook fails is refused."""
         self.starts("runc")
-        status, said, runs = self.container("runc", ["mount", "chroot"])
+        status, said, runs = self.container("runc", ["mount", "chroot"], is_to_end=True)
         self.assertEqual((status, runs), (1, False), said)
         self.assertIn(f"container {self.name}: not confined as configured (differs)", said)
         status, said, runs = self.container("runc", ["mount"], "--policy", "no-more")
@@ -364,7 +376,7 @@ class Runtimes(Hook):
         """A container whose hook fails runs on, but for --kill."""
         self.starts("crun")
         self.assertEqual(self.container("crun", ["mount", "chroot"])[::2], (0, True))
-        self.assertEqual(self.container("crun", ["mount", "chroot"], "--kill")[2], False)
+        self.assertEqual(self.container("crun", ["mount", "chroot"], "--kill", is_to_end=True)[2], False)
 
 
 if __name__ == "__main__":

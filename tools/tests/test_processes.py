@@ -11,8 +11,8 @@ import time
 import unittest
 from unittest import mock
 
-from common import ALLOW, Case, ret
-from confined import NEWEST, OLDEST, OTHER, Confined, FakeKernel, here, processes, status_of
+from common import ALLOW, PATIENCE, Case, ret
+from confined import NEWEST, OLDEST, OTHER, Confined, FakeKernel, here, processes
 
 SEIZE, INTERRUPT, DETACH, GET = (processes.PTRACE_SEIZE, processes.PTRACE_INTERRUPT, processes.PTRACE_DETACH,
                                  processes.PTRACE_SECCOMP_GET_FILTER)
@@ -283,7 +283,7 @@ class Real(Confined):
 
     def look(self, child, **settings):
         kernel = processes.Kernel()
-        return processes.look_at_process(kernel, processes.process_of(kernel, child.pid), **settings)
+        return processes.look_at_process(kernel, processes.process_of(kernel, child.pid), patience=PATIENCE, **settings)
 
     def test_threads_with_filters_of_their_own(self):
         """Filters of one length, in threads of one count of filters, are told apart; a thread has none."""
@@ -314,9 +314,11 @@ class Real(Confined):
         kernel, held = processes.Kernel(), []
         name_of = kernel.name_of
         kernel.name_of = lambda it: held.append(kernel.threads_of(it)) or name_of(it)
-        for _ in range(5):
+        until = time.monotonic() + PATIENCE
+        # five times, and until some are begun
+        while (len(held) < 5 or len(held[-1]) == 1) and time.monotonic() < until:
             time.sleep(0.005)
-            found = processes.look_at_process(kernel, child.pid)
+            found = processes.look_at_process(kernel, child.pid, patience=PATIENCE)
             self.assertEqual([stack.threads for stack in found.stacks], [{child.pid: held[-1]}])
         self.assertGreater(len(held[-1]), 1)
 
@@ -367,11 +369,7 @@ class Real(Confined):
         self.assertIn("is this tool itself", str(caught.exception))
 
     def test_strict_mode(self):
-        child = self.child([])
-        self.do(child, "library.prctl(22, 1, 0, 0, 0) or os.read(0, 1)")
-        until = time.monotonic() + 10
-        while status_of(child.pid)["Seccomp"] != "1" and time.monotonic() < until:
-            time.sleep(0.005)
+        child = self.strict_child()
         self.assertEqual([(stack.filters, stack.is_strict) for stack in self.look(child).stacks], [((), True)])
 
     def test_a_stopped_process_stays_stopped(self):
@@ -402,7 +400,7 @@ class Real(Confined):
 
         sender = threading.Thread(target=send, daemon=True)
         sender.start()
-        until = time.monotonic() + 60
+        until = time.monotonic() + PATIENCE
         while sender.is_alive() and time.monotonic() < until:
             self.look(child)
         self.assertEqual(came, ["\n"] * 300)
@@ -410,12 +408,7 @@ class Real(Confined):
 
     def test_one_that_waits_for_its_child_in_vfork(self):
         """It stops no sooner than the child runs on: that is said, and both run on."""
-        child = self.child([OLDEST])
-        fifo = os.path.join(self.folder, "fifo")
-        os.mkfifo(fifo)
-        self.do(child, f"os.posix_spawn('/bin/true', ['true'], {{}}, file_actions=[(os.POSIX_SPAWN_OPEN, 0, {fifo!r}, "
-                       f"os.O_RDONLY, 0)])")
-        self.wait_for(child.pid, "D")
+        child, fifo = self.stuck([OLDEST])
         said = subprocess.run([sys.executable, "-c", TRY, os.path.dirname(os.path.dirname(processes.__file__)),
                                str(child.pid), "0.5"], stdout=subprocess.PIPE, text=True, check=True).stdout
         self.assertEqual(said, f"process {child.pid} didn't stop within 0.5 seconds: its state is D (disk sleep)\n")
@@ -431,9 +424,11 @@ class Real(Confined):
                            "library.recv(pair[0].fileno(), ctypes.create_string_buffer(1), 1, 0)", "4"),
                           ("library.usleep(300000)", "0")):
             child = self.child([OLDEST])
-            self.do(child, f"import socket, struct; ctypes.set_errno(0); {call}; print(ctypes.get_errno(), flush=True)")
+            self.do(child, f"import socket, struct; ctypes.set_errno(0); print('begins', flush=True); {call}; "
+                           f"print(ctypes.get_errno(), flush=True)")
+            # from then on it sleeps in this call alone
+            self.assertEqual(child.stdout.readline(), "begins\n")
             self.wait_for(child.pid, "S")
-            time.sleep(0.05)
             self.look(child)
             self.assertEqual(child.stdout.readline(), f"{end}\n", call)
 
