@@ -3,7 +3,6 @@ import ctypes
 import errno
 import json
 import os
-import signal
 import subprocess
 import sys
 import time

@@ -375,7 +375,8 @@ class Pair:
 
 def corners(pair, dice):
     """Arguments by the constants of the condition and of the filter: shifted, turned and their neighbours."""
-    constants = {k for code, _, _, k in pair.program if code not in (LD, RET)} | {pair.asked.value & WORD, pair.asked.two}
+    constants = {k for code, _, _, k in pair.program if code not in (LD, RET)}
+    constants |= {pair.asked.value & WORD, pair.asked.two}
     shifts = {k for code, _, _, k in pair.program if code in (LSH, RSH, LDX) and k < 32} | {16}
     shifts |= {k.bit_length() - 1 for k in constants if k & (k - 1) == 0 and k}
     shifted = {it for k in constants for by in shifts for it in (k << by & WORD, k >> by)}

@@ -36,8 +36,8 @@ class Hostile(Case):
         """
         out = os.path.join(self.folder, "out")
         with open(path, "rb") as given, open(out, "wb") as printed, open(f"{out}.said", "w+b") as said:
-            done = subprocess.run([tool("plain-profile"), "--keep-first", "-"], stdin=given, stdout=printed, stderr=said,
-                                  timeout=PATIENCE, check=False, preexec_fn=limited(SECONDS, MEMORY))
+            done = subprocess.run([tool("plain-profile"), "--keep-first", "-"], stdin=given, stdout=printed,
+                                  stderr=said, timeout=PATIENCE, check=False, preexec_fn=limited(SECONDS, MEMORY))
             said.seek(max(said.seek(0, os.SEEK_END) - 20000, 0))
             text = said.read().decode()
         self.assertIn(done.returncode, status if isinstance(status, tuple) else (status,), text[-300:])

@@ -22,8 +22,8 @@ from scftools.kernel_child import Setting  # noqa: E402
 # linux/prctl.h, linux/seccomp.h
 PR_SET_NO_NEW_PRIVS, PR_SET_SECCOMP, SECCOMP_MODE_FILTER = 38, 22, 2
 NR_SECCOMP, NR_PTRACE = 317, 101
-# The most seconds of one processor that the gate's part takes: 44 are measured on a machine that does nothing else, and
-# 69 on one that does. Most of them go to the starts of some ten thousand processes, which slow machines are slowest at.
+# The most seconds of one processor that the gate's part takes: 33 are measured, 69 on a machine that does much else.
+# Most of them go to the starts of some ten thousand processes, which slow machines are slowest at.
 MOST_SECONDS = 700
 
 
@@ -272,7 +272,8 @@ class LeftOut(Asked):
         status, lines = self.asked("--programs=0", preexec_fn=filtered(refusing(NR_PTRACE)))
         self.assertEqual((status, lines[1:]), (0, [
             "skipped: a tracer, which isn't allowed here",
-            "skipped: calls: this process has filters already, which answer them, too", "0 passed, 0 failed, 2 skipped"]))
+            "skipped: calls: this process has filters already, which answer them, too",
+            "0 passed, 0 failed, 2 skipped"]))
 
 
 class Words(Case):

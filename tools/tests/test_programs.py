@@ -13,8 +13,8 @@ sys.path.append(os.path.join(TOP, "tools"))
 
 from scftools import tables  # noqa: E402
 
-TOOLS = ("ask", "bundle", "check", "compare", "compare-profiles", "compile", "decide", "explain", "lint", "list", "needs",
-         "run", "surface")
+TOOLS = ("ask", "bundle", "check", "compare", "compare-profiles", "compile", "decide", "explain", "lint", "list",
+         "needs", "run", "surface")
 NATIVE = load(4) + jeq(X86_64, 1, 0) + ret(KILL_PROCESS) + load(0) + jge(0x40000000, 0, 1) + ret(KILL_PROCESS)
 # A is the number times the number, which isn't followed where the number isn't known.
 SQUARE = NATIVE + insn(0x07, 0) + insn(0x2C, 0) + jeq(49, 0, 1) + ret(EPERM) + ret(ALLOW)
@@ -323,8 +323,8 @@ class Objects(Case):
                          {"status": 1, "scope": "all", "verdict": "differs", **sides, **why, **fates, "calls": [],
                           **left_out})
         self.assertEqual(found("--native", wrong, profile),
-                         {"status": 1, "scope": "native", "verdict": "differs", **sides, **why, **fates, "calls": [line],
-                          **left_out})
+                         {"status": 1, "scope": "native", "verdict": "differs", **sides, **why, **fates,
+                          "calls": [line], **left_out})
         self.assertEqual(found("--calls", wrong, profile),
                          {"status": 1, "scope": "calls", "verdict": "differs", **fates, "calls": [line], **left_out})
         jump = found(same, self.file("bad.bpf", jeq(0, 9, 0) + ret(ALLOW)), profile)
