@@ -216,6 +216,17 @@ class Launcher(Tree):
         first.communicate()
         self.assertEqual(self.launch()[1], "two\n")
 
+    def test_a_failed_build_beside_a_running_one_of_a_source_that_comes_back(self):
+        """What the second one clears away doesn't hide from the first that a source was changed and changed back."""
+        os.chmod(self.file("bin/flock", "#!/bin/sh\nexit 1\n"), 0o755)
+        first, held = self.building()
+        self.assertEqual(self.launch(FAILS="1")[:2], (125, ""))
+        self.write("one")
+        os.remove(held)
+        out, err = first.communicate()
+        self.assertEqual((out, self.builds()), (b"one\n", 3))
+        self.assertIn(b"a source changed meanwhile", err)
+
     def test_a_run_beside_a_build(self):
         """It waits, and has what was built of the changed source."""
         first, held = self.building()
