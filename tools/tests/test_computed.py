@@ -1,7 +1,10 @@
-"""Filters that compute from a word before they test it, against profiles: which of them scf finds to be the same."""
+"""Filters that compute from a word before they test it, against profiles: which of them scf finds to be the same, and
+what it says of stacks with one whose answer is computed from two words and so unknown."""
 import json
 
 from common import SCF, Case, part
+from on_parts import ALL, ALLOW, NO_TABLE, READ_WRITE_TABLE, OnProgram, a_profile, a_table, behind_gate, bundle
+from worked import ALL_BUT_TWO, MADE, MOST, WITHOUT_READ
 
 # The gate: calls of x86-64 with a number below 0x40000000 go on, with the number in the accumulator.
 GATE = "ld [4]; jeq #0xc000003e, 1, 0; ret #0x80000000; ld [0]; jge #0x40000000, 0, 1; ret #0x80000000;"
@@ -113,6 +116,10 @@ READS = [
     ("jeq #0, 1, 0; ret #0x50001; ld #0; ret a", "differs"),
     ("jeq #0, 0, 2; ld #0x7fff0000; ret a; ret #0x50001", "same"),
 ]
+# Behind the gate, which has six instructions: allow each call, but by what is computed from two words, which isn't
+# known; and each call but `write`, whose answer is ERRNO 1 by such a computation.
+UNKNOWN = behind_gate("ld [16]; tax; ld [24]; add x; mul #0; add #0x7fff0000; ret a")
+UNKNOWN_WRITE = behind_gate("jeq #1, 1, 0; ret #0x7fff0000; ld [16]; tax; ld [24]; add x; mul #0; add #0x50001; ret a")
 
 
 def profile_of(name, *conditions):
@@ -143,3 +150,20 @@ class Computed(Case):
 
     def test_computed_from_the_number(self):
         self.are_compared(READS, profile_of("read"), b"read 0\n")
+
+
+class Unknown(OnProgram):
+    def test_the_filter_whose_answer_is_unknown(self):
+        """Its place is named, wherever it stands in the stack."""
+        for stack in ([UNKNOWN], [ALLOW, UNKNOWN], [UNKNOWN, ALLOW], [ALLOW, UNKNOWN, ALLOW]):
+            self.prints(["compare", "--native", "--limit", str(MOST)], bundle([*stack, ALL, NO_TABLE]),
+                        "undecided at 12\n", 4)
+
+    def test_a_difference_behind_an_unknown_answer(self):
+        """It is shown: the profile refuses `read`, too."""
+        rest = [a_profile(ALL_BUT_TWO), a_table(READ_WRITE_TABLE)]
+        number, _, _, ours, _ = self.shown(["compare", "--limit", str(MOST)], bundle([UNKNOWN_WRITE, *rest]))
+        self.assertEqual((number, ours), (0, MADE))
+        both = bundle([behind_gate(WITHOUT_READ[1]), UNKNOWN_WRITE, *rest])
+        self.prints(["compare", "--limit", str(MOST)], both, "undecided at 14\n", 4)
+        self.prints(["compare", "--limit", "0"], both, "unfinished\n", 4)

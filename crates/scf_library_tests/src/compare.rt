@@ -1,16 +1,17 @@
-//! The comparer on worked pairs of a filter and a profile, and the effort of a comparison.
+//! The comparer on worked pairs of a filter and a profile by a list of atoms, and the effort of a comparison. What is
+//! said by sets of numbers is tested on the program.
 
-use crate::fixtures::{assembled, compared, profile_of};
+use crate::fixtures::{APART, assembled, profile_of};
 use scf_compare::{Verdict, compare, effort, is_plain};
-use scf_facts::{AtomList, WordFacts, WordSets};
-use scf_insn::{Answer, CallRecord, low_half};
+use scf_facts::AtomList;
+use scf_insn::Answer;
 use scf_machine::Program;
 use scf_profile::Profile;
 use scf_test_fixtures::filters::{
     ALLOW_ALL, ARCH_GATE, CLONE_BY_AND, CLONE_BY_FEWER_BITS, CLONE_BY_JSET, DIVISION, GATE,
     ONE_MASK_TWICE, OVERLAPPING_MASKS,
 };
-use scf_test_fixtures::kernel::{ALLOW, KILL_THREAD, X86_64};
+use scf_test_fixtures::kernel::{ALLOW, KILL_THREAD};
 use scf_test_fixtures::profiles::{
     CLONE_MASK, CLONE_TABLE, DEFAULT_ALLOW, EXTREMES, ONE_CALL, READ_TABLE, READ_WRITE_TABLE,
     SOCKET_TABLE, TWO_RULES,
@@ -26,12 +27,12 @@ const OTHER_STORED: &str =
     "st M[3]; ld #0x7fff0001; st M[4]; ldx M[3]; txa; jeq #0, 0, 2; ld M[4]; ret a; ret #0x50001";
 
 /// What a comparison comes to at a sufficient limit.
-#[derive(Clone, Copy, PartialEq, Eq)]
+#[derive(Clone, Copy)]
 enum Wanted {
     Same,
     /// A call that these two answer so, the filter first.
     Shown(u32, u32),
-    /// Some call, or `Undecided` with a list of atoms.
+    /// Some call, or `Undecided`.
     NotSame,
 }
 
@@ -166,194 +167,139 @@ const PAIRS: &[Pair] = &[
         effort: 64,
         wanted: Wanted::NotSame,
     },
+    Pair {
+        head: "",
+        rest: ALLOW_ALL,
+        table: SOCKET_TABLE,
+        text: APART,
+        effort: 64,
+        wanted: Wanted::NotSame,
+    },
 ];
 
 fn pairs() -> &'static [Pair] {
     PAIRS
 }
 
-/// The filter and the profile of a pair.
-fn made(rt: &impl Abort, alloc: Global, pair: &Pair) -> (Program, Profile) {
-    (
-        assembled(rt, alloc, pair.head, pair.rest),
-        profile_of(rt, alloc, pair.table, pair.text),
-    )
-}
-
-#[test]
-fn efforts(rt: HostRuntime) {
-    for pair in pairs() {
-        let (program, profile) = made(&rt, rt.alloc(), pair);
-        assert!(rt;
-            effort(&program, &profile) == pair.effort,
-            "{} {}",
-            pair.rest,
-            pair.text
-        );
-    }
-}
-
-/// A filter of so many jumps with one target each.
-fn jumps(rt: &impl Abort, alloc: Global, count: usize) -> Program {
-    let text = "jeq #7, 0, 0;".repeat(alloc, count).expect(rt, "no fault");
-    assembled(rt, alloc, text.as_str(), ALLOW_ALL)
-}
-
-#[test]
-fn largest_efforts(rt: HostRuntime) {
-    let profile = profile_of(&rt, rt.alloc(), "", DEFAULT_ALLOW);
-    // 8 times one less than a power of two, while that fits.
-    for (count, expected) in [
-        (0, 8),
-        (1, 24),
-        (59, 9223372036854775800),
-        (60, 18446744073709551608),
-        (61, u64::MAX),
-        (63, u64::MAX),
-        (64, u64::MAX),
-        (4095, u64::MAX),
-    ] {
-        let program = jumps(&rt, rt.alloc(), count);
-        assert!(rt; effort(&program, &profile) == expected, "{count}");
-    }
-}
-
-/// A test of the low word of the first argument for each number below 64, whose two ways are one.
-fn tests_of_numbers(rt: &impl Abort, alloc: Global) -> Program {
-    let mut text = String::from_str(alloc, "ld [16];").expect(rt, "no fault");
-    for number in 0..64 {
-        let one = format!(in alloc; "jeq #{number}, 0, 0;").expect(rt, "no fault");
-        text.push_str(one.as_str()).expect(rt, "no fault");
-    }
-    text.push_str(ALLOW_ALL).expect(rt, "no fault");
-    assembled(rt, alloc, GATE, text.as_str())
-}
-
-/// A test of each bit of the first argument, whose two ways are one.
-fn tests_of_bits(rt: &impl Abort, alloc: Global) -> Program {
-    let mut text = String::new(alloc);
-    for word in [16, 20] {
-        let load = format!(in alloc; "ld [{word}];").expect(rt, "no fault");
-        text.push_str(load.as_str()).expect(rt, "no fault");
-        for bit in 0u32..32 {
-            let one = format!(in alloc; "jset #{}, 0, 0;", 1u32 << bit).expect(rt, "no fault");
-            text.push_str(one.as_str()).expect(rt, "no fault");
-        }
-    }
-    text.push_str(ALLOW_ALL).expect(rt, "no fault");
-    assembled(rt, alloc, GATE, text.as_str())
-}
-
-#[test]
-fn more_paths_than_can_be_counted(rt: HostRuntime) {
-    let profile = profile_of(&rt, rt.alloc(), "", DEFAULT_ALLOW);
-    let numbers = tests_of_numbers(&rt, rt.alloc());
-    assert!(rt; effort(&numbers, &profile) == u64::MAX);
-    let verdict = compared(&rt, rt.alloc(), &numbers, &profile, 1_000_000);
-    assert!(rt; matches!(verdict, Verdict::Same { .. }), "{verdict:?}");
-    let bits = tests_of_bits(&rt, rt.alloc());
-    assert!(rt; effort(&bits, &profile) == u64::MAX);
-    let verdict = compared(&rt, rt.alloc(), &bits, &profile, 1000);
-    assert!(rt;
-        matches!(verdict, Verdict::Same { .. } | Verdict::Unfinished),
-        "{verdict:?}"
-    );
-}
-
-#[test]
-fn effort_of_the_longest_filter(rt: HostRuntime) {
-    let profile = profile_of(&rt, rt.alloc(), "", DEFAULT_ALLOW);
-    let loads = "ld #0;".repeat(rt.alloc(), 4095).expect(&rt, "no fault");
-    let program = assembled(&rt, rt.alloc(), loads.as_str(), ALLOW_ALL);
-    assert!(rt; effort(&program, &profile) == 32768);
-}
-
-#[test]
-fn overlapping_masks(rt: HostRuntime) {
-    let profile = profile_of(&rt, rt.alloc(), "", DEFAULT_ALLOW);
-    let program = assembled(&rt, rt.alloc(), GATE, OVERLAPPING_MASKS);
-    assert!(rt; effort(&program, &profile) == 96);
-    let verdict = compared(&rt, rt.alloc(), &program, &profile, 96);
-    assert!(rt; matches!(verdict, Verdict::Same { .. }), "{verdict:?}");
-}
-
-/// Which of two stores of facts is asked.
-#[derive(Clone, Copy, PartialEq, Eq)]
-enum Store {
-    Atoms,
-    Sets,
-}
-
 /// Whether this verdict is the one that is wanted.
-fn is_wanted(verdict: Verdict, wanted: Wanted, store: Store) -> bool {
+fn is_wanted(verdict: Verdict, wanted: Wanted) -> bool {
     match (verdict, wanted) {
         (Verdict::Same { .. }, Wanted::Same) => true,
         (
             Verdict::Differs {
                 filter,
-                profile: stated,
+                profile,
                 ..
             },
-            Wanted::Shown(wanted_filter, wanted_stated),
-        ) => filter == Answer(wanted_filter) && stated == Answer(wanted_stated),
-        (Verdict::Differs { .. }, Wanted::NotSame) => true,
-        (Verdict::Undecided { .. }, Wanted::NotSame) => store == Store::Atoms,
+            Wanted::Shown(of_filter, of_profile),
+        ) => { filter == Answer(of_filter) && profile == Answer(of_profile) }
+        (Verdict::Differs { .. } | Verdict::Undecided { .. }, Wanted::NotSame) => true,
         _ => false,
     }
 }
 
-fn compare_pair<F: WordFacts>(rt: &impl Abort, alloc: Global, pair: &Pair, store: Store) {
-    let (program, profile) = made(rt, alloc, pair);
-    for limit in [pair.effort, pair.effort.wrapping_add(1), u64::MAX] {
-        let verdict = compare::<F>(alloc, &program, &profile, limit).expect(rt, "no fault");
+/// Whether the verdict on a filter and a profile within a limit is the one that is wanted.
+fn says(
+    rt: &impl Abort,
+    alloc: Global,
+    program: &Program,
+    profile: &Profile,
+    limit: u64,
+    wanted: Wanted,
+) -> bool {
+    let verdict = compare::<AtomList>(alloc, program, profile, limit).expect(rt, "no fault");
+    is_wanted(verdict, wanted)
+}
+
+#[test]
+fn efforts_and_verdicts(rt: HostRuntime) {
+    for pair in pairs() {
+        let program = assembled(&rt, rt.alloc(), pair.head, pair.rest);
+        let profile = profile_of(&rt, rt.alloc(), pair.table, pair.text);
+        let steps = effort(&program, &profile);
         assert!(rt;
-            is_wanted(verdict, pair.wanted, store),
-            "{} {}: {verdict:?}",
+            steps == pair.effort,
+            "{} {}: {steps}",
             pair.rest,
             pair.text
+        );
+        for limit in [steps, steps.wrapping_add(1), u64::MAX] {
+            let is_so = says(&rt, rt.alloc(), &program, &profile, limit, pair.wanted);
+            assert!(rt; is_so, "{} {}", pair.rest, pair.text);
+        }
+    }
+}
+
+/// A test of the low word of the first argument for each number below 64, whose two ways are one.
+const TESTS_OF_NUMBERS: &str =
+    "ld [16]; jeq #0, 0, 0; jeq #1, 0, 0; jeq #2, 0, 0; jeq #3, 0, 0; jeq #4, 0, 0; jeq #5, 0, 0; \
+    jeq #6, 0, 0; jeq #7, 0, 0; jeq #8, 0, 0; jeq #9, 0, 0; jeq #10, 0, 0; jeq #11, 0, 0; jeq #12, 0, 0; \
+    jeq #13, 0, 0; jeq #14, 0, 0; jeq #15, 0, 0; jeq #16, 0, 0; jeq #17, 0, 0; jeq #18, 0, 0; jeq #19, 0, 0; \
+    jeq #20, 0, 0; jeq #21, 0, 0; jeq #22, 0, 0; jeq #23, 0, 0; jeq #24, 0, 0; jeq #25, 0, 0; jeq #26, 0, 0; \
+    jeq #27, 0, 0; jeq #28, 0, 0; jeq #29, 0, 0; jeq #30, 0, 0; jeq #31, 0, 0; jeq #32, 0, 0; jeq #33, 0, 0; \
+    jeq #34, 0, 0; jeq #35, 0, 0; jeq #36, 0, 0; jeq #37, 0, 0; jeq #38, 0, 0; jeq #39, 0, 0; jeq #40, 0, 0; \
+    jeq #41, 0, 0; jeq #42, 0, 0; jeq #43, 0, 0; jeq #44, 0, 0; jeq #45, 0, 0; jeq #46, 0, 0; jeq #47, 0, 0; \
+    jeq #48, 0, 0; jeq #49, 0, 0; jeq #50, 0, 0; jeq #51, 0, 0; jeq #52, 0, 0; jeq #53, 0, 0; jeq #54, 0, 0; \
+    jeq #55, 0, 0; jeq #56, 0, 0; jeq #57, 0, 0; jeq #58, 0, 0; jeq #59, 0, 0; jeq #60, 0, 0; jeq #61, 0, 0; \
+    jeq #62, 0, 0; jeq #63, 0, 0; ret #0x7fff0000";
+
+/// A test of each bit of the first argument, whose two ways are one.
+const TESTS_OF_BITS: &str =
+    "ld [16]; jset #0x1, 0, 0; jset #0x2, 0, 0; jset #0x4, 0, 0; jset #0x8, 0, 0; jset #0x10, 0, 0; \
+    jset #0x20, 0, 0; jset #0x40, 0, 0; jset #0x80, 0, 0; jset #0x100, 0, 0; jset #0x200, 0, 0; \
+    jset #0x400, 0, 0; jset #0x800, 0, 0; jset #0x1000, 0, 0; jset #0x2000, 0, 0; jset #0x4000, 0, 0; \
+    jset #0x8000, 0, 0; jset #0x10000, 0, 0; jset #0x20000, 0, 0; jset #0x40000, 0, 0; jset #0x80000, 0, 0; \
+    jset #0x100000, 0, 0; jset #0x200000, 0, 0; jset #0x400000, 0, 0; jset #0x800000, 0, 0; \
+    jset #0x1000000, 0, 0; jset #0x2000000, 0, 0; jset #0x4000000, 0, 0; jset #0x8000000, 0, 0; \
+    jset #0x10000000, 0, 0; jset #0x20000000, 0, 0; jset #0x40000000, 0, 0; jset #0x80000000, 0, 0; ld [20]; \
+    jset #0x1, 0, 0; jset #0x2, 0, 0; jset #0x4, 0, 0; jset #0x8, 0, 0; jset #0x10, 0, 0; jset #0x20, 0, 0; \
+    jset #0x40, 0, 0; jset #0x80, 0, 0; jset #0x100, 0, 0; jset #0x200, 0, 0; jset #0x400, 0, 0; \
+    jset #0x800, 0, 0; jset #0x1000, 0, 0; jset #0x2000, 0, 0; jset #0x4000, 0, 0; jset #0x8000, 0, 0; \
+    jset #0x10000, 0, 0; jset #0x20000, 0, 0; jset #0x40000, 0, 0; jset #0x80000, 0, 0; \
+    jset #0x100000, 0, 0; jset #0x200000, 0, 0; jset #0x400000, 0, 0; jset #0x800000, 0, 0; \
+    jset #0x1000000, 0, 0; jset #0x2000000, 0, 0; jset #0x4000000, 0, 0; jset #0x8000000, 0, 0; \
+    jset #0x10000000, 0, 0; jset #0x20000000, 0, 0; jset #0x40000000, 0, 0; jset #0x80000000, 0, 0; ret #0x7fff0000";
+
+/// A text so many times, with another one behind it, and the effort of that filter beside a profile without rules.
+const EFFORTS: &[(&'static str, usize, &'static str, u64)] = &[
+    // 8 times one less than a power of two, while that fits.
+    ("jeq #7, 0, 0;", 0, ALLOW_ALL, 8),
+    ("jeq #7, 0, 0;", 1, ALLOW_ALL, 24),
+    ("jeq #7, 0, 0;", 59, ALLOW_ALL, 9223372036854775800),
+    ("jeq #7, 0, 0;", 60, ALLOW_ALL, 18446744073709551608),
+    ("jeq #7, 0, 0;", 61, ALLOW_ALL, u64::MAX),
+    ("jeq #7, 0, 0;", 63, ALLOW_ALL, u64::MAX),
+    ("jeq #7, 0, 0;", 64, ALLOW_ALL, u64::MAX),
+    ("jeq #7, 0, 0;", 4095, ALLOW_ALL, u64::MAX),
+    // 24 times a power of two, less 16.
+    ("jge #7, 1, 0; ja 0;", 20, ALLOW_ALL, 25165808),
+    ("jge #7, 1, 0; ja 0;", 60, ALLOW_ALL, u64::MAX),
+    ("jge #7, 1, 0; ja 0;", 120, ALLOW_ALL, u64::MAX),
+    ("ld #0;", 4095, ALLOW_ALL, 32768),
+    (GATE, 1, OVERLAPPING_MASKS, 96),
+    (GATE, 1, TESTS_OF_NUMBERS, u64::MAX),
+    (GATE, 1, TESTS_OF_BITS, u64::MAX),
+];
+
+fn rows_of_efforts() -> &'static [(&'static str, usize, &'static str, u64)] {
+    EFFORTS
+}
+
+#[test]
+fn efforts_of_many_paths(rt: HostRuntime) {
+    let profile = profile_of(&rt, rt.alloc(), "", DEFAULT_ALLOW);
+    for (part, count, rest, expected) in rows_of_efforts() {
+        let text = part.repeat(rt.alloc(), *count).expect(&rt, "no fault");
+        let program = assembled(&rt, rt.alloc(), text.as_str(), rest);
+        assert!(rt;
+            effort(&program, &profile) == *expected,
+            "{count} of {part}"
         );
     }
 }
 
-#[test]
-fn verdicts(rt: HostRuntime) {
-    for pair in pairs() {
-        compare_pair::<AtomList>(&rt, rt.alloc(), pair, Store::Atoms);
-        compare_pair::<WordSets>(&rt, rt.alloc(), pair, Store::Sets);
-    }
-}
-
-/// The call that is shown of a filter behind the gate and a profile.
-fn shown(rt: &impl Abort, alloc: Global, rest: &str, table: &str, text: &str) -> CallRecord {
-    let program = assembled(rt, alloc, GATE, rest);
-    let profile = profile_of(rt, alloc, table, text);
-    let shown = match compared(rt, alloc, &program, &profile, u64::MAX) {
-        Verdict::Differs { call, .. } => Some(call),
-        _ => None,
-    };
-    shown.expect(rt, "a call that is shown")
-}
-
-#[test]
-fn shown_calls(rt: HostRuntime) {
-    let call = shown(&rt, rt.alloc(), DIVISION, "", DEFAULT_ALLOW);
-    let [argument, ..] = call.args;
-    assert!(rt; call.arch == X86_64 && low_half(argument) == 0, "{call:?}");
-    // The one bit that the filter doesn't test is set, and none that it tests.
-    let call = shown(
-        &rt,
-        rt.alloc(),
-        CLONE_BY_FEWER_BITS,
-        CLONE_TABLE,
-        CLONE_MASK,
-    );
-    let [argument, ..] = call.args;
-    assert!(rt; call.nr == 56 && call.arch == X86_64, "{call:?}");
-    assert!(rt; low_half(argument) & 0x7e02_0000 == 0x0200_0000, "{call:?}");
-}
-
 /// Filters, and whether they are plain.
-const FILTERS: [(&str, bool); 12] = [
+const FILTERS: &[(&'static str, bool)] = &[
     (ALLOW_ALL, true),
     (ARCH_GATE, true),
     ("ja 0; ret #0", true),
@@ -371,10 +317,14 @@ const FILTERS: [(&str, bool); 12] = [
     ("tax; ret #0", false),
 ];
 
+fn filters() -> &'static [(&'static str, bool)] {
+    FILTERS
+}
+
 #[test]
 fn plain_filters(rt: HostRuntime) {
-    for (text, expected) in FILTERS {
+    for (text, expected) in filters() {
         let program = assembled(&rt, rt.alloc(), "", text);
-        assert!(rt; is_plain(&program) == expected, "{text}");
+        assert!(rt; is_plain(&program) == *expected, "{text}");
     }
 }

@@ -1,7 +1,7 @@
 //! The steps of a comparison: a limit is spent, and no more than what the facts leave is explored.
 
-use crate::fixtures::{allowing, assembled, compared, profile_of};
-use scf_compare::{Verdict, compare, effort, is_plain};
+use crate::fixtures::{allowing, assembled, profile_of};
+use scf_compare::{Verdict, compare, is_plain};
 use scf_compile::compile;
 use scf_facts::{AtomList, WordFacts, WordSets};
 use scf_machine::Program;
@@ -24,20 +24,20 @@ const UNORDERED: &str = r#"{"defaultAction":"SCMP_ACT_ERRNO","syscalls":[
     {"names":["socket"],"action":"SCMP_ACT_TRAP",
     "args":[{"index":1,"value":4294967296,"op":"SCMP_CMP_GE"}]}]}"#;
 
-/// Tables, and profiles that their own filters are compared with.
-const PROFILES: &[(&'static str, &'static str)] = &[
-    ("", DEFAULT_ALLOW),
-    (READ_TABLE, ONE_CALL),
-    ("read 4095", ONE_CALL),
-    (SOCKET_TABLE, SOCKET_NOT_40),
-    (READ_WRITE_TABLE, EXTREMES),
-    (CLONE_TABLE, CLONE_MASK),
-    (SOCKET_TABLE, TWO_RULES),
-    ("read 0\nwrite 1\nclose 3\nsocket 41\nfutex 202", UNORDERED),
-];
-
-/// Filters behind the gate that answer as a profile does, with its table.
-const FILTERS: &[(&'static str, &'static str, &'static str)] = &[
+/// Filters behind the gate that answer as a profile does, none where it is the profile's own, and tables and profiles.
+const ALIKE: &[(&'static str, &'static str, &'static str)] = &[
+    ("", "", DEFAULT_ALLOW),
+    ("", READ_TABLE, ONE_CALL),
+    ("", "read 4095", ONE_CALL),
+    ("", SOCKET_TABLE, SOCKET_NOT_40),
+    ("", READ_WRITE_TABLE, EXTREMES),
+    ("", CLONE_TABLE, CLONE_MASK),
+    ("", SOCKET_TABLE, TWO_RULES),
+    (
+        "",
+        "read 0\nwrite 1\nclose 3\nsocket 41\nfutex 202",
+        UNORDERED,
+    ),
     (ALLOW_ALL, "", DEFAULT_ALLOW),
     (
         "jeq #0, 0, 1; ret #0x7fff0000; ret #0x50001",
@@ -52,12 +52,8 @@ const FILTERS: &[(&'static str, &'static str, &'static str)] = &[
     (CLONE_BY_JSET, CLONE_TABLE, CLONE_MASK),
 ];
 
-fn profiles() -> &'static [(&'static str, &'static str)] {
-    PROFILES
-}
-
-fn filters() -> &'static [(&'static str, &'static str, &'static str)] {
-    FILTERS
+fn alike() -> &'static [(&'static str, &'static str, &'static str)] {
+    ALIKE
 }
 
 /// The steps of a verdict that says `Same`.
@@ -85,52 +81,18 @@ fn spends<F: WordFacts>(
 }
 
 #[test]
-fn limits_are_spent_on_own_filters(rt: HostRuntime) {
-    for (table, text) in profiles() {
+fn limits_are_spent(rt: HostRuntime) {
+    for (rest, table, text) in alike() {
         let profile = profile_of(&rt, rt.alloc(), table, text);
-        let program = compile(rt.alloc(), &profile).expect(&rt, "no fault");
-        assert!(rt;
-            spends::<WordSets>(&rt, rt.alloc(), &program, &profile),
-            "{text}"
-        );
-    }
-}
-
-#[test]
-fn limits_are_spent_on_other_filters(rt: HostRuntime) {
-    for (rest, table, text) in filters() {
-        let profile = profile_of(&rt, rt.alloc(), table, text);
-        let program = assembled(&rt, rt.alloc(), GATE, rest);
-        assert!(rt;
-            spends::<AtomList>(&rt, rt.alloc(), &program, &profile),
-            "{rest}"
-        );
-        assert!(rt;
-            spends::<WordSets>(&rt, rt.alloc(), &program, &profile),
-            "{rest}"
-        );
-    }
-}
-
-/// A filter of so many tests behind the gate, each of which goes both ways to the next one.
-fn tests(rt: &impl Abort, alloc: Global, count: usize) -> Program {
-    let mut text = String::from_str(alloc, "ld [16];").expect(rt, "no fault");
-    for n in 0..count {
-        let one = format!(in alloc; "jge #{n}, 1, 0; ja 0;").expect(rt, "no fault");
-        text.push_str(one.as_str()).expect(rt, "no fault");
-    }
-    text.push_str(ALLOW_ALL).expect(rt, "no fault");
-    assembled(rt, alloc, GATE, text.as_str())
-}
-
-#[test]
-fn many_tests_at_the_default_limit(rt: HostRuntime) {
-    let profile = profile_of(&rt, rt.alloc(), "", DEFAULT_ALLOW);
-    for count in [20, 60, 120] {
-        let program = tests(&rt, rt.alloc(), count);
-        assert!(rt; effort(&program, &profile) > DEFAULT_LIMIT, "{count}");
-        let verdict = compared(&rt, rt.alloc(), &program, &profile, DEFAULT_LIMIT);
-        assert!(rt; steps_of(verdict).is_some(), "{count}: {verdict:?}");
+        let is_own = rest.is_empty();
+        let program = if is_own {
+            compile(rt.alloc(), &profile).expect(&rt, "no fault")
+        } else {
+            assembled(&rt, rt.alloc(), GATE, rest)
+        };
+        let are_spent = spends::<WordSets>(&rt, rt.alloc(), &program, &profile)
+            && (is_own || spends::<AtomList>(&rt, rt.alloc(), &program, &profile));
+        assert!(rt; are_spent, "{rest} {text}");
     }
 }
 
@@ -146,23 +108,20 @@ fn scratched(rt: &impl Abort, alloc: Global, count: usize) -> Program {
     assembled(rt, alloc, GATE, text.as_str())
 }
 
-fn decide_long_pair<F: WordFacts>(rt: &impl Abort, alloc: Global) {
-    let profile = allowing(rt, alloc, (0, 1, 150));
-    let same = scratched(rt, alloc, 150);
-    assert!(rt; !is_plain(&same));
-    let verdict = compare::<F>(alloc, &same, &profile, DEFAULT_LIMIT).expect(rt, "no fault");
-    assert!(rt; steps_of(verdict).is_some(), "{verdict:?}");
-    let fewer = scratched(rt, alloc, 149);
-    let verdict = compare::<F>(alloc, &fewer, &profile, DEFAULT_LIMIT).expect(rt, "no fault");
-    let shown = match verdict {
-        Verdict::Differs { call, .. } => Some((call.nr, call.arch)),
-        _ => None,
-    };
-    assert!(rt; shown == Some((149, X86_64)), "{verdict:?}");
-}
-
 #[test]
 fn long_pairs_that_are_not_plain(rt: HostRuntime) {
-    decide_long_pair::<AtomList>(&rt, rt.alloc());
-    decide_long_pair::<WordSets>(&rt, rt.alloc());
+    let profile = allowing(&rt, rt.alloc(), (0, 1, 150));
+    for (count, is_same) in [(150, true), (149, false)] {
+        let program = scratched(&rt, rt.alloc(), count);
+        assert!(rt; !is_plain(&program));
+        let verdict = compare::<AtomList>(rt.alloc(), &program, &profile, DEFAULT_LIMIT).expect(
+            &rt, "no fault",
+        );
+        let is_wanted = match verdict {
+            Verdict::Same { .. } => is_same,
+            Verdict::Differs { call, .. } => !is_same && call.nr == 149 && call.arch == X86_64,
+            _ => false,
+        };
+        assert!(rt; is_wanted, "{count}: {verdict:?}");
+    }
 }

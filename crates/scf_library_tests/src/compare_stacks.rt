@@ -1,130 +1,172 @@
-//! Stacks of filters against a profile, in each of the three scopes.
+//! Stacks of filters against a profile, by sets of numbers: efforts, and what the command doesn't show, which wants a
+//! filter at least, and takes single numbers from a table alone.
 
-use crate::fixtures::{assembled, compared_stack, profile_of, push, stack_of};
-use scf_compare::{Scope, Verdict, effort_stack};
-use scf_compile::compile;
+use crate::fixtures::{profile_of, stack_of};
+use scf_compare::Relation::{NoLess, NoMore, Same};
+use scf_compare::Scope::{All, Call, Native};
+use scf_compare::{Relation, Scope, Verdict, compare_by, compare_stack, effort_stack};
+use scf_facts::WordSets;
 use scf_insn::Answer;
 use scf_machine::FilterStack;
 use scf_profile::Profile;
 use scf_test_fixtures::filters::{ALLOW_ALL, CLONE_BY_AND, GATE, WITHOUT_READ, WITHOUT_WRITE};
 use scf_test_fixtures::kernel::{ALLOW, ERRNO_1, KILL_PROCESS, X86_64};
 use scf_test_fixtures::profiles::{
-    ALL_BUT_TWO, CLONE_MASK, CLONE_TABLE, DEFAULT_ALLOW, EXTREMES, ONE_CALL, READ_TABLE,
-    READ_WRITE_TABLE, SOCKET_NOT_40, SOCKET_TABLE,
+    ALL_BUT_TWO, CLONE_MASK, CLONE_TABLE, DEFAULT_ALLOW, ONE_CALL, READ_TABLE, READ_WRITE_TABLE,
 };
 use std::alloc::Global;
 use std::process::Abort;
 
 const LOGGED_READ: &str = "ld [0]; jeq #0, 0, 1; ret #0x7ffc0000; ret #0x7fff0000";
 
-/// What a comparison comes to.
-#[derive(Clone, Copy, Debug, PartialEq, Eq)]
-enum Wanted {
-    Same,
-    /// A call that the stack and the profile answer so.
-    Shown(u32, u32),
-    /// Any call.
-    Differs,
-}
+/// The answers of stack and profile to a call that is shown, none where the relation holds.
+type Shown = Option<(u32, u32)>;
+
+/// All is allowed, where the profile kills the process.
+const FOREIGN: Shown = Some((ALLOW, KILL_PROCESS));
 
 /// The filters of a stack, the oldest first, by their texts behind heads, with the table and the text of a profile, the
-/// effort of the two, and what is wanted over all calls, over the native ones and over those of number 1.
+/// effort of the two, and what is shown of scopes by relations.
 struct Row {
     filters: &'static [(&'static str, &'static str)],
     table: &'static str,
     text: &'static str,
     effort: u64,
-    all: Wanted,
-    native: Wanted,
-    of_1: Wanted,
+    shown: &'static [(Scope, Relation, Shown)],
 }
 
 const ROWS: &[Row] = &[
+    // No filter.
     Row {
         filters: &[],
         table: "",
         text: DEFAULT_ALLOW,
         effort: 8,
-        all: Wanted::Shown(ALLOW, KILL_PROCESS),
-        native: Wanted::Same,
-        of_1: Wanted::Same,
+        shown: &[
+            (All, Same, FOREIGN),
+            (All, NoMore, FOREIGN),
+            (All, NoLess, None),
+            (Native, Same, None),
+            (Native, NoMore, None),
+            (Native, NoLess, None),
+            (Call(1), Same, None),
+        ],
     },
     Row {
-        filters: &[(GATE, ALLOW_ALL)],
+        filters: &[],
+        table: READ_TABLE,
+        text: ONE_CALL,
+        effort: 10,
+        shown: &[
+            (Call(0), Same, None),
+            (Call(1), Same, Some((ALLOW, ERRNO_1))),
+            (Call(0x4000_0000), Same, FOREIGN),
+        ],
+    },
+    // Numbers from those of x32 on, which no table names.
+    Row {
+        filters: &[(GATE, "jeq #1, 0, 1; ret #0x50002; ret #0x7fff0000")],
         table: "",
+        text: DEFAULT_ALLOW,
+        effort: 72,
+        shown: &[
+            (Call(0x4000_0000), Same, None),
+            (Call(0x4000_0001), Same, None),
+            (Call(0xffff_ffff), Same, None),
+        ],
+    },
+    Row {
+        filters: &[("", ALLOW_ALL)],
+        table: "",
+        text: DEFAULT_ALLOW,
+        effort: 8,
+        shown: &[
+            (Call(0x4000_0000), Same, FOREIGN),
+            (Call(0xffff_ffff), Same, FOREIGN),
+        ],
+    },
+    Row {
+        filters: &[(
+            "ld [4]; jeq #0xc000003e, 1, 0; ret #0;",
+            "ld [0]; jge #0x40000000, 0, 1; ret #0x80000000; ret #0x7fff0000",
+        )],
+        table: READ_TABLE,
         text: DEFAULT_ALLOW,
         effort: 56,
-        all: Wanted::Same,
-        native: Wanted::Same,
-        of_1: Wanted::Same,
-    },
-    Row {
-        filters: &[("", ALLOW_ALL), (GATE, ALLOW_ALL)],
-        table: "",
-        text: DEFAULT_ALLOW,
-        effort: 56,
-        all: Wanted::Same,
-        native: Wanted::Same,
-        of_1: Wanted::Same,
-    },
-    Row {
-        filters: &[(GATE, ALLOW_ALL), (GATE, ALLOW_ALL)],
-        table: "",
-        text: DEFAULT_ALLOW,
-        effort: 392,
-        all: Wanted::Same,
-        native: Wanted::Same,
-        of_1: Wanted::Same,
-    },
-    Row {
-        filters: &[(GATE, CLONE_BY_AND), (GATE, CLONE_BY_AND)],
-        table: CLONE_TABLE,
-        text: CLONE_MASK,
-        effort: 2704,
-        all: Wanted::Same,
-        native: Wanted::Same,
-        of_1: Wanted::Same,
+        shown: &[
+            (Call(0x4000_0000), Same, None),
+            (Call(0xffff_ffff), Same, None),
+        ],
     },
     Row {
         filters: &[("", WITHOUT_READ), ("", WITHOUT_WRITE)],
         table: READ_WRITE_TABLE,
         text: ALL_BUT_TWO,
         effort: 192,
-        all: Wanted::Differs,
-        native: Wanted::Same,
-        of_1: Wanted::Same,
+        shown: &[(Call(0x4000_0000), Same, FOREIGN)],
+    },
+    // Efforts of some filters together.
+    Row {
+        filters: &[(GATE, ALLOW_ALL)],
+        table: "",
+        text: DEFAULT_ALLOW,
+        effort: 56,
+        shown: &[(All, Same, None)],
+    },
+    Row {
+        filters: &[("", ALLOW_ALL), (GATE, ALLOW_ALL)],
+        table: "",
+        text: DEFAULT_ALLOW,
+        effort: 56,
+        shown: &[(All, Same, None)],
+    },
+    Row {
+        filters: &[(GATE, ALLOW_ALL), (GATE, ALLOW_ALL)],
+        table: "",
+        text: DEFAULT_ALLOW,
+        effort: 392,
+        shown: &[(All, Same, None)],
+    },
+    Row {
+        filters: &[(GATE, CLONE_BY_AND), (GATE, CLONE_BY_AND)],
+        table: CLONE_TABLE,
+        text: CLONE_MASK,
+        effort: 2704,
+        shown: &[(All, Same, None)],
     },
     Row {
         filters: &[(GATE, WITHOUT_WRITE), (GATE, WITHOUT_READ)],
         table: READ_WRITE_TABLE,
         text: ALL_BUT_TWO,
         effort: 1200,
-        all: Wanted::Same,
-        native: Wanted::Same,
-        of_1: Wanted::Same,
+        shown: &[(All, Same, None)],
     },
     Row {
         filters: &[("", WITHOUT_READ), ("", LOGGED_READ), ("", WITHOUT_WRITE)],
         table: READ_WRITE_TABLE,
         text: ALL_BUT_TWO,
         effort: 768,
-        all: Wanted::Differs,
-        native: Wanted::Same,
-        of_1: Wanted::Same,
+        shown: &[(Native, Same, None)],
     },
     Row {
         filters: &[("", WITHOUT_READ), ("", ALLOW_ALL)],
         table: READ_WRITE_TABLE,
         text: ALL_BUT_TWO,
         effort: 48,
-        all: Wanted::Differs,
-        native: Wanted::Shown(ALLOW, ERRNO_1),
-        of_1: Wanted::Shown(ALLOW, ERRNO_1),
+        shown: &[(Native, Same, Some((ALLOW, ERRNO_1)))],
     },
 ];
 
 fn rows() -> &'static [Row] {
     ROWS
+}
+
+fn is_in_scope(scope: Scope, nr: u32, arch: u32) -> bool {
+    match scope {
+        All => true,
+        Native => arch == X86_64 && nr < 0x4000_0000,
+        Call(number) => arch == X86_64 && nr == number,
+    }
 }
 
 /// Whether a verdict is the one that is wanted: a call that it shows lies in the scope, and is asked again.
@@ -133,40 +175,55 @@ fn is_wanted(
     stack: &FilterStack,
     profile: &Profile,
     scope: Scope,
-    wanted: Wanted,
+    shown: Shown,
 ) -> bool {
-    match (verdict, wanted) {
-        (Verdict::Same { .. }, Wanted::Same) => true,
+    match (verdict, shown) {
+        (Verdict::Same { .. }, None) => true,
         (
             Verdict::Differs {
                 call,
                 filter,
                 profile: stated,
             },
-            Wanted::Shown(..) | Wanted::Differs,
+            Some((of_stack, of_profile)),
         ) => {
-            let is_in_scope = match scope {
-                Scope::All => true,
-                Scope::Native => call.arch == X86_64 && call.nr < 0x4000_0000,
-                Scope::Call(number) => call.arch == X86_64 && call.nr == number,
-            };
-            let is_shown = match wanted {
-                Wanted::Shown(of_stack, of_profile) => {
-                    filter == Answer(of_stack) && stated == Answer(of_profile)
-                }
-                Wanted::Differs | Wanted::Same => filter != stated,
-            };
-            is_shown
+            filter == Answer(of_stack)
+                && stated == Answer(of_profile)
                 && stack.decide(&call) == filter
                 && profile.answer(&call) == stated
-                && is_in_scope
+                && is_in_scope(scope, call.nr, call.arch)
         }
         _ => false,
     }
 }
 
+/// Whether the verdict on a stack and a profile by a relation is the one that is wanted, `Unfinished` by no step; and
+/// by the same answers it is what a stack is compared by.
+fn says(
+    rt: &impl Abort,
+    alloc: Global,
+    stack: &FilterStack,
+    profile: &Profile,
+    wanted: (Scope, Relation, Shown),
+    limit: u64,
+) -> bool {
+    let (scope, relation, shown) = wanted;
+    let verdict = compare_by::<WordSets>(alloc, stack, profile, scope, relation, limit).expect(
+        rt, "no fault",
+    );
+    let same = compare_stack::<WordSets>(alloc, stack, profile, scope, limit).expect(
+        rt, "no fault",
+    );
+    let is_so = if limit == 0 {
+        verdict == Verdict::Unfinished
+    } else {
+        is_wanted(verdict, stack, profile, scope, shown)
+    };
+    is_so && (relation != Same || same == verdict)
+}
+
 #[test]
-fn stacks_in_each_scope(rt: HostRuntime) {
+fn stacks_in_scopes_by_relations(rt: HostRuntime) {
     for row in rows() {
         let stack = stack_of(&rt, rt.alloc(), row.filters);
         let profile = profile_of(&rt, rt.alloc(), row.table, row.text);
@@ -175,62 +232,10 @@ fn stacks_in_each_scope(rt: HostRuntime) {
             "{}",
             row.text
         );
-        for (scope, wanted) in [
-            (Scope::All, row.all),
-            (Scope::Native, row.native),
-            (Scope::Call(1), row.of_1),
-        ] {
-            let limit = row.effort;
-            let verdict = compared_stack(&rt, rt.alloc(), &stack, &profile, scope, limit);
-            assert!(rt;
-                is_wanted(verdict, &stack, &profile, scope, wanted),
-                "{} {scope:?}: {verdict:?}",
-                row.text
-            );
-        }
-    }
-}
-
-/// Tables and profiles.
-const PROFILES: &[(&'static str, &'static str)] = &[
-    ("", DEFAULT_ALLOW),
-    (READ_TABLE, ONE_CALL),
-    (SOCKET_TABLE, SOCKET_NOT_40),
-    (READ_WRITE_TABLE, EXTREMES),
-    (CLONE_TABLE, CLONE_MASK),
-    (READ_WRITE_TABLE, ALL_BUT_TWO),
-];
-
-fn profiles() -> &'static [(&'static str, &'static str)] {
-    PROFILES
-}
-
-/// A stack of the filter of a profile and of one that allows all calls.
-fn own_stack(rt: &impl Abort, alloc: Global, profile: &Profile, own_first: bool) -> FilterStack {
-    let mut stack = FilterStack::new(alloc);
-    let own = compile(alloc, profile).expect(rt, "no fault");
-    let allowing = assembled(rt, alloc, "", ALLOW_ALL);
-    if own_first {
-        push(rt, &mut stack, own);
-        push(rt, &mut stack, allowing);
-    } else {
-        push(rt, &mut stack, allowing);
-        push(rt, &mut stack, own);
-    }
-    stack
-}
-
-#[test]
-fn own_filters_beside_one_that_allows(rt: HostRuntime) {
-    for (table, text) in profiles() {
-        let profile = profile_of(&rt, rt.alloc(), table, text);
-        for own_first in [true, false] {
-            let stack = own_stack(&rt, rt.alloc(), &profile, own_first);
-            let limit = effort_stack(&stack, &profile);
-            for scope in [Scope::All, Scope::Native, Scope::Call(0), Scope::Call(56)] {
-                let verdict = compared_stack(&rt, rt.alloc(), &stack, &profile, scope, limit);
-                let is_same = matches!(verdict, Verdict::Same { .. });
-                assert!(rt; is_same, "{text} {own_first} {scope:?}: {verdict:?}");
+        for wanted in row.shown {
+            for limit in [0, row.effort] {
+                let is_so = says(&rt, rt.alloc(), &stack, &profile, *wanted, limit);
+                assert!(rt; is_so, "{wanted:?} {limit}");
             }
         }
     }

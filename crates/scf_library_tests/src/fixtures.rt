@@ -1,16 +1,20 @@
-//! What several tests need: numbers, calls, and what is assembled, loaded, compiled and compared of texts.
+//! What several tests need: numbers, calls, and what is assembled and loaded of texts.
 //!
 //! Tests run with ample memory. Where one is refused any, or a text isn't what it is to be, the test ends there.
 
-use scf_compare::{Scope, Verdict, compare, compare_stack};
-use scf_facts::WordSets;
 use scf_insn::{CallRecord, Insn};
 use scf_machine::{FilterStack, Program, check};
-use scf_profile::{CallTable, LoadFault, Loaded, Profile, TableFault, load};
+use scf_profile::{CallTable, Loaded, Profile, TableFault, load};
 use scf_text::assemble;
 use std::alloc::Global;
 use std::fmt;
 use std::process::Abort;
+
+/// Two rules of one call that no call meets both, though they answer differently.
+pub(crate) const APART: &str = r#"{"defaultAction":"SCMP_ACT_ERRNO","syscalls":[
+    {"names":["socket"],"action":"SCMP_ACT_ERRNO","errnoRet":22,
+    "args":[{"index":0,"value":16,"op":"SCMP_CMP_EQ"},{"index":2,"value":9,"op":"SCMP_CMP_EQ"}]},
+    {"names":["socket"],"action":"SCMP_ACT_ALLOW","args":[{"index":2,"value":9,"op":"SCMP_CMP_NE"}]}]}"#;
 
 pub(crate) fn insn(code: u16, jt: u8, jf: u8, k: u32) -> Insn {
     Insn { code, jt, jf, k }
@@ -31,15 +35,10 @@ pub(crate) fn table(alloc: Global, text: &str) -> Result<CallTable, TableFault> 
     CallTable::read(alloc, text.as_bytes())
 }
 
-/// What is loaded of a table's and a profile's text. The table is to be one.
-pub(crate) fn loaded(
-    rt: &impl Abort,
-    alloc: Global,
-    names: &str,
-    text: &[u8],
-) -> Result<Loaded, LoadFault> {
+/// What is loaded of a table's and a profile's text.
+pub(crate) fn loaded(rt: &impl Abort, alloc: Global, names: &str, text: &str) -> Loaded {
     let names = table(alloc, names).expect(rt, "no fault");
-    load(alloc, text, &names)
+    load(alloc, text.as_bytes(), &names).expect(rt, "no fault")
 }
 
 /// The profile of a table's and a profile's text.
@@ -48,17 +47,17 @@ pub(crate) fn profile_of(rt: &impl Abort, alloc: Global, names: &str, text: &str
         profile,
         skipped: _skipped,
         other_architectures: _others,
-    } = loaded(rt, alloc, names, text.as_bytes()).expect(rt, "no fault");
+    } = loaded(rt, alloc, names, text);
     profile
 }
 
-/// Numbers: the first, how far apart they are, and how many there are.
+/// Numbers: the first, how far apart they are modulo 2^32, and how many there are.
 pub(crate) type Numbers = (u32, u32, u32);
 
 /// Writes the table of numbers: the name of each is `c` and the number.
 fn write_table<W: fmt::Write>(f: &mut W, (first, apart, count): Numbers) -> fmt::Result {
     for place in 0..count {
-        let number = first.saturating_add(place.saturating_mul(apart));
+        let number = first.wrapping_add(place.wrapping_mul(apart));
         writeln!(f, "c{number} {number}")?;
     }
     Ok(())
@@ -71,7 +70,7 @@ fn write_allowing<W: fmt::Write>(f: &mut W, (first, apart, count): Numbers) -> f
     )?;
     let mut comma = "";
     for place in 0..count {
-        let number = first.saturating_add(place.saturating_mul(apart));
+        let number = first.wrapping_add(place.wrapping_mul(apart));
         write!(f, r#"{comma}"c{number}""#)?;
         comma = ",";
     }
@@ -100,6 +99,12 @@ pub(crate) fn push(rt: &impl Abort, stack: &mut FilterStack, program: Program) {
     assert!(rt; is_pushed);
 }
 
+/// A filter more that gives one answer to each call.
+pub(crate) fn push_answer(rt: &impl Abort, alloc: Global, stack: &mut FilterStack, answer: u32) {
+    let list = vec![in alloc; insn(0x06, 0, 0, answer); 1].expect(rt, "no fault");
+    push(rt, stack, check(alloc, list).expect(rt, "no fault"))
+}
+
 /// The stack of the filters of these texts, each given in two parts, the oldest first.
 pub(crate) fn stack_of(
     rt: &impl Abort,
@@ -111,27 +116,4 @@ pub(crate) fn stack_of(
         push(rt, &mut stack, assembled(rt, alloc, head, rest));
     }
     stack
-}
-
-/// What the comparer says, by `WordSets`, of a filter and a profile within a limit.
-pub(crate) fn compared(
-    rt: &impl Abort,
-    alloc: Global,
-    program: &Program,
-    profile: &Profile,
-    limit: u64,
-) -> Verdict {
-    compare::<WordSets>(alloc, program, profile, limit).expect(rt, "no fault")
-}
-
-/// The same of a stack, in a scope.
-pub(crate) fn compared_stack(
-    rt: &impl Abort,
-    alloc: Global,
-    stack: &FilterStack,
-    profile: &Profile,
-    scope: Scope,
-    limit: u64,
-) -> Verdict {
-    compare_stack::<WordSets>(alloc, stack, profile, scope, limit).expect(rt, "no fault")
 }

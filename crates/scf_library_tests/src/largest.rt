@@ -1,16 +1,18 @@
 //! Each call once at its largest, with ample memory: the exact answer, worked out beside the libraries.
 
-use crate::fixtures::{call, insn, profile_of, push, table};
+use crate::fixtures::{allowing, assembled, call, insn, profile_of, push_answer, table};
 use scf_compare::{Scope, Verdict, compare_stack, effort_stack};
 use scf_facts::WordSets;
 use scf_insn::faults::{Failing, Reader, Writer};
 use scf_insn::{Answer, InputFault, Insn, ReadFault, read_input, read_program, write_program};
-use scf_machine::{FilterStack, PushFault, check};
-use scf_profile::{CallTable, Reason, rules_by_number};
+use scf_machine::{FilterStack, PushFault, run, trace};
+use scf_profile::{CallTable, NamedCall, Reason, rules_by_number};
+use scf_test_fixtures::filters::ALLOW_ALL;
 use scf_test_fixtures::kernel::{ALLOW, ERRNO, ERRNO_1, X86_64};
 use scf_test_fixtures::profiles::DEFAULT_ALLOW;
 use scf_text::{assemble, disassemble, tokens};
 use std::alloc::{AllocError, Global};
+use std::fmt;
 use std::process::Abort;
 
 /// An instruction of any code for each place, and its bytes (filter.h: code, jt, jf, k, little-endian).
@@ -84,37 +86,37 @@ fn listing_of_the_longest_lines(rt: HostRuntime) {
     assert!(rt; found.as_slice() == insns.as_slice());
 }
 
-/// Each line has a label and a jump in 8 tokens, 192 empty statements and a comment.
+/// Each line has a jump in 7 tokens, 193 empty statements and a comment.
 #[test]
 fn text_of_4096_lines_of_200_tokens(rt: HostRuntime) {
-    let empty = " ;".repeat(rt.alloc(), 192).expect(&rt, "no fault");
+    let empty = " ;".repeat(rt.alloc(), 193).expect(&rt, "no fault");
     let empty = empty.as_str();
-    let mut text = String::new(rt.alloc());
-    let mut insns = Vec::new(rt.alloc());
-    for place in 0..4095u32 {
-        let line = format!(in rt.alloc();
-            "L{place}: jgt #{place}, L{}, 0{empty} // ret a; jgt #1, 2, 3\n",
-            place + 1
-        )
-        .expect(&rt, "no fault");
-        text.push_str(line.as_str()).expect(&rt, "no fault");
-        insns.push(insn(0x25, 0, 0, place)).expect(&rt, "no fault");
-    }
-    text.push_str("L4095: ret #0x7fff0000")
-        .expect(&rt, "no fault");
-    insns.push(insn(0x06, 0, 0, ALLOW)).expect(&rt, "no fault");
+    let line = format!(in rt.alloc(); "jgt #7, 0, 0{empty} // ret a; jgt #1, 2, 3\n").expect(
+        &rt, "no fault",
+    );
+    let text = line.repeat(rt.alloc(), 4096).expect(&rt, "no fault");
+    let insns = vec![in rt.alloc(); insn(0x25, 0, 0, 7); 4096].expect(&rt, "no fault");
     let found = assemble(rt.alloc(), text.as_bytes()).expect(&rt, "no fault");
     assert!(rt; found.as_slice() == insns.as_slice());
     let pieces = tokens(rt.alloc(), text.as_bytes()).expect(&rt, "no fault");
-    // of the last line `L4095`, `:`, `ret`, `#` and a number
-    assert!(rt; pieces.len() == 4095 * 201 + 5);
+    assert!(rt; pieces.len() == 4096 * 200);
 }
 
-/// A filter that gives this answer.
-fn push_answer(rt: &impl Abort, alloc: Global, stack: &mut FilterStack, answer: u32) {
-    let mut insns = Vec::new(alloc);
-    insns.push(insn(0x06, 0, 0, answer)).expect(rt, "no fault");
-    push(rt, stack, check(alloc, insns).expect(rt, "no fault"))
+/// A longest filter: loads and jumps to the next place by turns, and a return.
+#[test]
+fn longest_path(rt: HostRuntime) {
+    let pair = "ld #9; ja 0;"
+        .repeat(rt.alloc(), 2047)
+        .expect(&rt, "no fault");
+    let program = assembled(&rt, rt.alloc(), pair.as_str(), "ld #9; ret #0x7fff0000");
+    let call = call(0, X86_64, [0; 6]);
+    let ran = run(&program, &call);
+    assert!(rt; program.len() == 4096 && ran.answer == Answer(ALLOW) && ran.steps == 4096);
+    let path = trace(rt.alloc(), &program, &call).expect(&rt, "no fault");
+    assert!(rt; path.answer == Answer(ALLOW) && path.places.len() == 4096);
+    for (steps, place) in path.places.iter().enumerate() {
+        assert!(rt; *place == steps);
+    }
 }
 
 /// A stack of as many filters as it takes, whose second oldest gives this answer: each counts its one instruction, and
@@ -134,10 +136,12 @@ fn as_many_filters_as_a_stack_takes(rt: HostRuntime) {
     let mut stack = full_stack(&rt, rt.alloc(), ERRNO | 9);
     let native = call(0, X86_64, [0; 6]);
     assert!(rt; stack.len() == 6554 && stack.decide(&native) == Answer(ERRNO | 9));
-    let more = vec![in rt.alloc(); insn(0x06, 0, 0, ALLOW); 1].expect(&rt, "no fault");
-    let more = check(rt.alloc(), more).expect(&rt, "no fault");
-    let fault = stack.push(more).err().map(|(fault, _)| fault);
-    assert!(rt; fault == Some(PushFault::TooMany { total: 32771 }) && stack.len() == 6554);
+    let more = assembled(&rt, rt.alloc(), ALLOW_ALL, "");
+    let is_refused = match stack.push(more) {
+        Ok(()) => false,
+        Err((fault, back)) => fault == PushFault::TooMany { total: 32771 } && back.len() == 1,
+    };
+    assert!(rt; is_refused && stack.len() == 6554);
 }
 
 /// What the comparison of such a stack with a profile that allows all says of the native calls.
@@ -169,107 +173,61 @@ fn full_stacks_beside_a_profile(rt: HostRuntime) {
 /// What the names of a number begin with. With the number behind each, they are in the order of their bytes.
 const BEGINS: [&str; 8] = ["B", "Z", "_", "a", "a_", "az", "z", "zz"];
 
-/// A table of 5,000 numbers: three times the multiples of 7919 under the prime 5003, three of which aren't there. Each
-/// has eight names.
-fn names_of_5000(alloc: Global) -> Result<String, AllocError> {
-    let mut text = String::new(alloc);
+/// Writes a table of 5,000 numbers, three times those below that, which have eight names each.
+fn write_names<W: fmt::Write>(f: &mut W) -> fmt::Result {
     for begin in ["zz", "a", "_", "Z", "a_", "B", "az", "z"] {
         for multiple in 0..5000u32 {
-            let number = multiple * 7919 % 5003 * 3;
-            let line = format!(in alloc; "{begin}{number} {number}\n")?;
-            text.push_str(line.as_str())?;
+            let number = multiple * 7919 % 5000 * 3;
+            writeln!(f, "{begin}{number} {number}")?;
         }
     }
-    Ok(text)
+    Ok(())
 }
 
-/// The numbers that it has, rising: what it lacks are the multiples by 5000, 5001 and 5002.
-fn numbers_of_5000(alloc: Global) -> Result<Vec<u32>, AllocError> {
-    let mut numbers = Vec::new(alloc);
-    for rest in 0..5003u32 {
-        if ![1258, 4174, 2087].contains(&rest) {
-            numbers.push(3 * rest)?;
+/// Whether a call has this number and the eight names of it, under which the table has it, too.
+fn has_its_names(table: &CallTable, call: &NamedCall<'_>, number: usize) -> bool {
+    for (name, begin) in call.names.iter().zip(&BEGINS) {
+        if !name.starts_with(begin) || table.number_of(name) != Some(call.number) {
+            return false;
         }
     }
-    Ok(numbers)
-}
-
-/// Whether these are the eight names of a number, and the table has it under each.
-fn are_names(
-    alloc: Global,
-    table: &CallTable,
-    names: &[&str],
-    number: u32,
-) -> Result<bool, AllocError> {
-    for (name, begin) in names.iter().zip(&BEGINS) {
-        let wanted = format!(in alloc; "{begin}{number}")?;
-        if *name != wanted.as_str() || table.number_of(wanted.as_str()) != Some(number) {
-            return Ok(false);
-        }
-    }
-    Ok(names.len() == BEGINS.len())
+    call.number as usize == number && call.names.len() == 8
 }
 
 #[test]
 fn table_of_5000_numbers_of_8_names(rt: HostRuntime) {
-    let text = names_of_5000(rt.alloc()).expect(&rt, "no fault");
+    let mut text = String::new(rt.alloc());
+    write_names(&mut text).expect(&rt, "no fault");
     let names = table(rt.alloc(), text.as_str()).expect(&rt, "no fault");
-    let numbers = numbers_of_5000(rt.alloc()).expect(&rt, "no fault");
     let calls = names.calls(rt.alloc()).expect(&rt, "no fault");
-    assert!(rt; calls.len() == 5000 && numbers.len() == 5000);
-    for (call, number) in calls.iter().zip(&numbers) {
-        assert!(rt; call.number == *number);
-        let has_names = are_names(rt.alloc(), &names, call.names.as_slice(), *number).expect(
-            &rt, "no fault",
-        );
-        assert!(rt; has_names, "{number}");
+    assert!(rt; calls.len() == 5000);
+    for (place, call) in calls.iter().enumerate() {
+        assert!(rt; has_its_names(&names, call, 3 * place), "{place}");
     }
-    for lacked in ["a3774", "a6261", "a12522"] {
+    for lacked in ["a1", "a14998", "a15000"] {
         assert!(rt; names.number_of(lacked).is_none(), "{lacked}");
     }
 }
 
-/// A table of the numbers from 7 to 4102, and the text of a profile whose one entry allows them, the last one first.
-fn falling_numbers(alloc: Global) -> Result<(String, String), AllocError> {
-    let mut names = String::new(alloc);
-    for number in 7..4103u32 {
-        let line = format!(in alloc; "c{number} {number}\n")?;
-        names.push_str(line.as_str())?;
-    }
-    let mut entry = String::new(alloc);
-    for below in 0..4096u32 {
-        let comma = if below == 0 { "" } else { "," };
-        let name = format!(in alloc; "{comma}\"c{}\"", 4102 - below)?;
-        entry.push_str(name.as_str())?;
-    }
-    let entry = entry.as_str();
-    let text = format!(in alloc;
-        r#"{{"defaultAction":"SCMP_ACT_ERRNO","syscalls":[{{"names":[{entry}],"action":"SCMP_ACT_ALLOW"}}]}}"#
-    )?;
-    Ok((names, text))
-}
-
+/// The numbers from 7 to 4102, of which the profile's one entry names the last one first.
 #[test]
 fn profile_of_4096_numbers(rt: HostRuntime) {
-    let (names, text) = falling_numbers(rt.alloc()).expect(&rt, "no fault");
-    let profile = profile_of(&rt, rt.alloc(), names.as_str(), text.as_str());
-    assert!(rt;
-        profile
-            .rules()
-            .first()
-            .is_some_and(|rule| rule.number == 4102)
-    );
-    let sorted = rules_by_number(rt.alloc(), profile.rules()).expect(&rt, "no fault");
+    let profile = allowing(&rt, rt.alloc(), (4102, u32::MAX, 4096));
+    let rules = profile.rules();
+    assert!(rt; rules.len() == 4096 && rules[0].number == 4102);
+    let sorted = rules_by_number(rt.alloc(), rules).expect(&rt, "no fault");
     assert!(rt; sorted.len() == 4096);
-    for (rule, number) in sorted.iter().zip(7u32..) {
-        assert!(rt; rule.number == number);
-        let one = call(number, X86_64, [0; 6]);
-        assert!(rt; profile.answer(&one) == Answer(ALLOW), "{number}");
-        assert!(rt; profile.reason(&one) == Reason::Entry(0), "{number}");
+    for (place, rule) in sorted.iter().enumerate() {
+        assert!(rt; rule.number as usize == place + 7, "{place}");
     }
-    for number in [6, 4103] {
+    for number in 6..4104u32 {
         let one = call(number, X86_64, [0; 6]);
-        assert!(rt; profile.answer(&one) == Answer(ERRNO_1), "{number}");
-        assert!(rt; profile.reason(&one) == Reason::Default, "{number}");
+        let found = (profile.answer(&one), profile.reason(&one));
+        let wanted = if number == 6 || number == 4103 {
+            (Answer(ERRNO_1), Reason::Default)
+        } else {
+            (Answer(ALLOW), Reason::Entry(0))
+        };
+        assert!(rt; found == wanted, "{number}");
     }
 }

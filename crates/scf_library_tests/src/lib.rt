@@ -9,10 +9,6 @@
 #[cfg(test)]
 mod compare;
 #[cfg(test)]
-mod compare_calls;
-#[cfg(test)]
-mod compare_computed;
-#[cfg(test)]
 mod compare_limits;
 #[cfg(test)]
 mod compare_relations;
@@ -20,8 +16,6 @@ mod compare_relations;
 mod compare_stacks;
 #[cfg(test)]
 mod compile;
-#[cfg(test)]
-mod conflicts;
 #[cfg(test)]
 mod fixtures;
 #[cfg(test)]
@@ -31,15 +25,7 @@ mod machine;
 #[cfg(test)]
 mod messages;
 #[cfg(test)]
-mod named_calls;
-#[cfg(test)]
-mod paths;
-#[cfg(test)]
 mod profile;
-#[cfg(test)]
-mod reasons;
-#[cfg(test)]
-mod searches;
 #[cfg(test)]
 mod streams;
 #[cfg(test)]

@@ -4,7 +4,7 @@ use crate::fixtures::insn;
 use scf_insn::faults::{Failing, Reader, Writer};
 use scf_insn::{
     CallRecord, Counted, Failed, InputFault, Insn, MaskKind, ReadFault, Sink, Source, WriteFault,
-    mask_kind, read_input, read_program, write_numeral, write_program,
+    high_half, low_half, mask_kind, read_input, read_program, write_numeral, write_program,
 };
 use std::alloc::Global;
 
@@ -259,6 +259,7 @@ fn words_of_records(rt: HostRuntime) {
     ];
     assert!(rt; call.words() == words);
     assert!(rt; call.word(7) == 2);
+    assert!(rt; low_half(call.ip) == 0x5566_7788 && high_half(call.ip) == 0x1122_3344);
     assert!(rt; CallRecord::from_words(&words) == call);
     assert!(rt; CallRecord::from_bytes(call.to_bytes()) == call);
 }

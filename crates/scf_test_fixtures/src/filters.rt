@@ -19,10 +19,6 @@ pub const STORED_ONE_WAY: &str = "ld [0]; jeq #0, 1, 0; st M[1]; ld M[1]; ret a"
 
 pub const STORED_BOTH_WAYS: &str = "ld [0]; jeq #0, 1, 0; st M[1]; st M[1]; ld M[1]; ret a";
 
-/// Allows number 39 alone, with labels and a comment.
-pub const LABELLED: &str =
-    "ld [0] // number\njeq #39, yes, no\nno: ret #0x50001\nyes: ret #0x7fff0000\n";
-
 /// Allow each call but one.
 pub const WITHOUT_READ: &str = "ld [0]; jeq #0, 0, 1; ret #0x50001; ret #0x7fff0000";
 

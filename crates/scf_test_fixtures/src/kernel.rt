@@ -3,8 +3,6 @@
 /// Answers (Linux uapi seccomp.h): an action, and its data in the low half.
 pub const ALLOW: u32 = 0x7fff_0000;
 
-pub const LOG: u32 = 0x7ffc_0000;
-
 pub const ERRNO: u32 = 0x0005_0000;
 
 pub const ERRNO_1: u32 = 0x0005_0001;
@@ -13,10 +11,5 @@ pub const KILL_PROCESS: u32 = 0x8000_0000;
 
 pub const KILL_THREAD: u32 = 0;
 
-/// Architectures (Linux uapi audit.h).
+/// The architecture x86-64 (Linux uapi audit.h).
 pub const X86_64: u32 = 0xc000_003e;
-
-pub const I386: u32 = 0x4000_0003;
-
-/// The first number of x32 (Linux uapi unistd.h), behind those of x86-64.
-pub const X32: u32 = 0x4000_0000;
