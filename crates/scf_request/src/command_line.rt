@@ -191,7 +191,8 @@ fn program_for<'a, T: AsStr>(alloc: Global, words: &[T]) -> Result<Command<'a>, 
     program(alloc)
 }
 
-/// What the words say, the first being the program's name.
+/// What the words say, the first being the program's name. The error is help, the version, what is wrong with the
+/// words, or want of memory.
 pub fn parse<'a, T: AsStr>(alloc: Global, words: &'a [T]) -> Result<ArgMatches<'a>, Error>
     ensures matches { IfOk result (λ m. subcommand_rows_of m ≡ subcommand_of scf (map T.text words.now)) }
     ensures kinds { FailsBy (fault_of scf (map T.text words.now)) result }

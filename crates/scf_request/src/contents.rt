@@ -1,7 +1,7 @@
 //! What the parts of a bundle hold.
 
-ghost use Rattle.std.specs.Prelude.{◌≡◌, IfOk, IfErr};
-ghost use Rattle.scf_request.specs.Bundle.{IsBundleFault};
+ghost use Rattle.std.specs.Prelude.{◌≡◌, Err, IfOk, IfErr};
+ghost use Rattle.scf_request.specs.Bundle.{IsBundleFault, IsFaultAt};
 ghost use Rattle.scf_request.specs.Contents.{IsHeldBy, rest_of};
 ghost use Rattle.scf_request.specs.internal.Contents.{AddsPart};
 
@@ -31,10 +31,11 @@ impl<'a> Contents<'a> {
         Ok(())
     }
 
-    /// What the parts hold that these bytes spell as a bundle.
+    /// What the parts hold that these bytes spell as a bundle; the faults are those of `split`.
     pub fn of(alloc: Global, bytes: &'a [u8]) -> Result<Contents<'a>, BundleFault>
         ensures bundle { IfOk result (IsHeldBy bytes.now) }
         ensures fault { IfErr result (IsBundleFault bytes.now) }
+        ensures first { (fault : BundleFault) → IsFaultAt bytes.now 0 fault → result ≡ Err fault }
     {
         let parts = split(alloc, bytes)?;
         let mut contents = Contents {

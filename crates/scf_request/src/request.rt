@@ -66,7 +66,8 @@ fn run_in(options: &ArgMatches<'_>) -> Result<Request, RequestFault>
     }
 }
 
-/// What the matches of the words ask for.
+/// What the matches of the words ask for. The fault is that no command is named, or the first option of the command
+/// whose text is no number in its range, or that flags exclude each other.
 pub fn request_of(matches: &ArgMatches<'_>) -> Result<Request, RequestFault>
     ensures { AsksFor (subcommand_rows_of matches.now) result }
 {
