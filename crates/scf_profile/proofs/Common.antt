@@ -16,11 +16,12 @@ pub use Rattle.std.proofs.lemmas.Iterator.Search.{any_from_yields_List, true_fro
 pub use Rattle.std.proofs.lemmas.List.{get_or-drop, get_or-map, get_or-take, get_or_past, length-map, length-take, map-append}
 pub use Rattle.std.proofs.lemmas.List.Elements.{All-append, All-cons, All-contains, All-contains_itself, All-filter, All-from_recursion, All-head, All-map, All-more, All-nil, All-same, All-tail, All-weaker, Contains-append_right, Contains-get_or, filter-append, filter_map-append, recursion_from_All}
 pub use Rattle.std.proofs.lemmas.List.Kept.{IsStrictlySortedBy-filter}
-pub use Rattle.std.proofs.lemmas.List.Sorted.{IsNonDecreasingBy-drop, IsNonDecreasingBy-from_sort_by_key, IsNonDecreasingBy-take, IsPartitionPoint-from_clause, IsPartitionedBy-leb, IsPartitionedBy-ltb, IsPermutation-map}
+pub use Rattle.std.proofs.lemmas.List.Filters.{sum_by-filter_both}
+pub use Rattle.std.proofs.lemmas.List.Sorted.{Contains-permutation, IsNonDecreasingBy-drop, IsNonDecreasingBy-from_sort_by_key, IsNonDecreasingBy-take, IsPartitionPoint-from_clause, IsPartitionedBy-leb, IsPartitionedBy-ltb, IsPermutation-map, IsPermutation-cons, IsPermutation-refl, IsPermutation-remove, IsPermutation-sym, IsPermutation-trans, length_permutation, sum_by-IsPermutation}
 pub use Rattle.std.proofs.lemmas.List.Splits.{length-slice_split, slice_split-cons_yes, slice_split_at, slice_split_none}
-pub use Rattle.std.proofs.lemmas.List.Sums.{AllPass-from_list_all, list_all-from_AllPass}
+pub use Rattle.std.proofs.lemmas.List.Sums.{AllPass-from_list_all, list_all-from_AllPass, sum_by-cons}
 pub use Rattle.std.proofs.lemmas.Map.Entries.{lookup-filter-values, option_filter}
-pub use Rattle.std.proofs.lemmas.Map.Keys.{IsDistinct-from_sorted, IsStrictlyIncreasing-from_sorted}
+pub use Rattle.std.proofs.lemmas.Map.Keys.{IsDistinct-IsPermutation, IsDistinct-from_sorted, IsDistinct-head, IsDistinct-tail, IsStrictlyIncreasing-from_sorted}
 pub use Rattle.std.proofs.lemmas.Map.Lookups.{exact_bytes, exact_unsigned}
 pub use Rattle.std.proofs.lemmas.Map.Text.{btree_map_updates_text, is_eq-slice_cmp}
 pub use Rattle.std.proofs.lemmas.Map.Views.{All-found, Contains-keys_from_lookup, IsSome-lookup_from_Contains, btree_map_contains_key_iff, tells_apart}
@@ -34,7 +35,8 @@ pub use Rattle.std.specs.Cmp.Lexicographic.{nat_list_cmp_total, slice_cmp}
 pub use Rattle.std.specs.FinMap.{get, get-empty, get-from_entries, get-insert, insert, same_map}
 pub use Rattle.std.specs.Int.{bit_at}
 pub use Rattle.std.specs.Int.Bits.{and_self, or_add_and}
-pub use Rattle.std.specs.List.{cons_option, filter, find, fold, list_any, reduce, slice_split}
+pub use Rattle.std.specs.List.{cons_option, filter, find, fold, list_any, reduce, remove, slice_split, sum_by}
+unfoldable pub use Rattle.std.specs.List.{IsDistinct}
 pub use Rattle.std.specs.List.Sorted.{IsNonDecreasingBy, IsPartitionPoint, IsPermutation, IsStableByKey, IsStrictlyIncreasing, IsStrictlySortedBy, ties}
 pub use Rattle.std.specs.Map.{keys_of}
 pub use Rattle.std.specs.Option.{option_map_or}
@@ -44,16 +46,17 @@ pub use Rattle.std.specs.Str.Lines.{lines, lines_of_parts, strip_carriage_return
 pub use Rattle.std.specs.declared.alloc.AllocError.{AllocError}
 pub use Rattle.std.specs.declared.cmp.Ordering.{Ordering}
 pub use Rattle.std.specs.declared.cmp.Ordering.TheVariants.{Less}
-pub use Rattle.scf_insn.proofs.Common.{AllByRecursion, IsRecord, and_parts, argument, audit_arch_x86_64, cases_eq, cases_lt, common_steps, drop_all, eq-eqb, eqb-false, eqb-true, err_from_is_err_and, list_all, lookup, lt-ltb, nat_tests, ne_eqb, seccomp_data_args, seccomp_ret_kill_process, take-append-drop, take_all, x32_syscall_bit}
+pub use Rattle.scf_insn.proofs.Common.{AllByRecursion, IsRecord, and_parts, argument, audit_arch_x86_64, cases_eq, cases_lt, common_steps, drop_all, eq-eqb, eqb-false, eqb-true, err_from_is_err_and, list_all, lookup, lt-ltb, nat_tests, ne_eqb, seccomp_data_args, seccomp_ret_kill_process, take-append-drop, take_all, take_more, x32_syscall_bit}
 pub use Rattle.scf_insn.specs.declared.answer.Answer.{Answer}
 pub use Rattle.scf_insn.specs.declared.record.CallRecord.{CallRecord}
-pub use Rattle.scf_profile.specs.ByNumber.{IsByNumber, rules_at}
 pub use Rattle.scf_profile.specs.Condition.{compares, holds}
 unfoldable pub use Rattle.scf_profile.specs.JsonMembers.{each}
 pub use Rattle.scf_profile.specs.Limits.{max_rules}
 pub use Rattle.scf_profile.specs.Loading.{EntriesConflict, IsText, Loads, Refuses, TestsGive}
 pub use Rattle.scf_profile.specs.NamedCalls.{AreCallsOf, HasItsNames}
 pub use Rattle.scf_profile.specs.Names.{named, names_of}
+pub use Rattle.scf_profile.specs.ByNumber.{IsByNumber, rules_at}
+pub use Rattle.scf_profile.specs.NumberRules.{AreNumbersOf}
 pub use Rattle.scf_profile.specs.PlainProfile.{IsPlainCondition, IsPlainProfile, IsPlainRule}
 pub use Rattle.scf_profile.specs.Profile.{Profile as Answering, HaveNoConflict, IsNative, IsProfile, Profile}
 pub use Rattle.scf_profile.specs.ProfileAnswers.{ProfileAnswers, by_default, by_rule, foreign}
@@ -73,6 +76,7 @@ pub use Rattle.scf_profile.specs.declared.load_fault.LoadFault.{LoadFault}
 pub use Rattle.scf_profile.specs.declared.load_fault.LoadFault.TheVariants.{Kind}
 pub use Rattle.scf_profile.specs.declared.loaded.Loaded.{Loaded}
 pub use Rattle.scf_profile.specs.declared.named_call.NamedCall.{NamedCall}
+pub use Rattle.scf_profile.specs.declared.number_rules.NumberRules.{NumberRules}
 pub use Rattle.scf_profile.specs.declared.number_set.NumberSet.{NumberSet}
 pub use Rattle.scf_profile.specs.declared.number_set.NumberSet.TheVariants.{Masked}
 pub use Rattle.scf_profile.specs.declared.reason.Reason.{Reason}
@@ -85,4 +89,5 @@ pub use Rattle.scf_profile.specs.internal.NamesByNumber.{AreByNumber, Named, nam
 pub use Rattle.scf_profile.specs.internal.NumberSets.{HaveCommonNumber, IsGreatestOf, IsLeastOf, IsNumberSet}
 pub use Rattle.scf_profile.specs.internal.Overlaps.{HoldAt, Overlap, OverlapAt}
 pub use Rattle.scf_profile.specs.internal.Refusals.{NamesLeastConflict}
+pub use Rattle.scf_profile.specs.internal.RulesUnder.{AreUnder, Under, number_rules, rules_under}
 pub use Rattle.scf_profile.specs.internal.Stated.{IsLoaded, loaded_of}

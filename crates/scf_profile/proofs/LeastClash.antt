@@ -1,6 +1,7 @@
 -- The least of clashes, rule by rule.
-use Rattle.scf_profile.proofs.Common.{◌≡◌, ℕ, ◌<◌, length, List, Option, Some, None, All, ◌⊎◌, inl, inr, sym, subst, eqb, arith, Bor, refl, get_or, Any, IfSome, Contains, eq-eqb, nat_tests, get_or-map, length-map, All-contains, All-contains_itself, All-filter, All-same, All-map, Clash, Rule, IsBoundedBy, IsClashBounded, IsClashOf, IsLeastClash, rules_at, EntriesConflict, Conflicts, rules_of}
+use Rattle.scf_profile.proofs.Common.{◌≡◌, ℕ, ◌<◌, length, List, Option, Some, None, All, ◌⊎◌, inl, inr, sym, subst, eqb, arith, refl, get_or, Any, IfSome, Contains, eq-eqb, nat_tests, All-contains, All-contains_itself, Clash, NumberRules, AreNumbersOf, All-weaker, ap, ◌∙◌, Rule, IsBoundedBy, IsClashBounded, IsLeastClash, EntriesConflict, Conflicts, rules_of}
 use Rattle.scf_profile.proofs.Numbers.{contains_filtered}
+use Rattle.scf_profile.proofs.NumberLists.{number_among, own_all}
 
 -- one of two
 pub one_of_two : (P Q : Clash → Type 0) (first second one : Option Clash) → ((c : Clash) → Q c → P c)
@@ -12,41 +13,23 @@ one_of_two P Q first (Some c) one weaker h k (inr e) = rw e (weaker c k)
 same_number : (r s : Rule) → Conflicts r s → r.number ≡ s.number
 same_number r s conflict = grind (arith, nat_tests, conflict.meets_first, conflict.meets_second)
 
--- a later rule, and references to the rules of its number
-module _ (rules : List Rule) (own : List (Bor Rule)) (later : Rule)
-    (is : rules_at own ≡ rules_of later.number rules) where
-  -- what holds of all rules holds of those
-  pub all_own : (P : Rule → Type 0) → All P rules → All (λ r. P r.now) own
-  all_own P all k d lt =
-      let passing = All-filter (λ r. eqb r.number later.number) P rules all in
-      let inside : k < length (rules_at own) = omega (arith, length-map own (λ (r : Bor Rule). r.now)) in
-      subst P (get_or-map (λ (r : Bor Rule). r.now) own k d d.now lt)
-      (All-same P (rules_at own) (rules_of later.number rules) is passing k d.now inside)
+-- the least of one that was known and others
+pub one_more : (P Q : Clash → Type 0) (least more : Option Clash) → ((c : Clash) → Q c → P c) → IfSome least P
+    → IfSome more (λ c. (least ≡ Some c) ⊎ Q c) → IfSome more P
+one_more P Q least None weaker had found = tt
+one_more P Q least (Some c) weaker had (inl e) = rw e at had
+one_more P Q least (Some c) weaker had (inr q) = weaker c q
 
-  -- the clashes with the later rule are those of its number's rules
-  pub all_bounded : (least : Option Clash) → All (λ r. IsClashBounded least later r.now) own
-      → All (IsClashBounded least later) rules
-  all_bounded least bounds k d lt c clash =
-      let r = get_or rules k d in
-      let passes = eq-eqb r.number later.number (same_number r later clash.conflict) in
-      let among = contains_filtered (λ (s : Rule). eqb s.number later.number) rules r passes
-      (All-contains_itself rules k d lt) in
-      All-contains (IsClashBounded least later) (rules_at own) r
-      (All-map (IsClashBounded least later) (λ (r : Bor Rule). r.now) own bounds)
-      (subst (λ (rs : List Rule). Contains rs r) (sym is) among) c clash
+-- what is bounded stays so by a lesser clash
+pub still_bounded : (least more : Option Clash) → ((c : Clash) → IsBoundedBy least c → IsBoundedBy more c)
+    → (rules laters : List Rule) → All (λ later. All (IsClashBounded least later) rules) laters
+    → All (λ later. All (IsClashBounded more later) rules) laters
+still_bounded least more keeps rules laters =
+    All-weaker (λ later. All (IsClashBounded least later) rules) (λ later. All (IsClashBounded more later) rules)
+    (λ later h. All-weaker (IsClashBounded least later) (IsClashBounded more later) (λ r b c is. keeps c (b c is)) rules h)
+    laters
 
-  pub conflict_more : Contains rules later → (least more : Option Clash)
-      → IfSome least (λ c. EntriesConflict rules c.first c.second c.number)
-      → IfSome more (λ c. (least ≡ Some c) ⊎ Any (λ r. IsClashOf r.now later c) own)
-      → IfSome more (λ c. EntriesConflict rules c.first c.second c.number)
-  conflict_more has least None had found = tt
-  conflict_more has least (Some c) had (inl e) = rw e at had
-  conflict_more has least (Some c) had (inr (k, r, lt, at, clash)) =
-      let among = All-contains (λ s. Contains rules s.now) own r (all_own (Contains rules) (All-contains_itself rules))
-      (k, lt, at) in
-      (among.0, r.now, among.1, among.2, (has.0, later, has.1, has.2, clash))
-
-abbrev AreBounded : List Rule → Option Clash → Type 0
+abbrev pub AreBounded : List Rule → Option Clash → Type 0
 AreBounded rules least = All (λ later. All (IsClashBounded least later) rules) rules
 
 bounded : (rules : List Rule) (least : Option Clash) → AreBounded rules least → (first second number : ℕ)
@@ -65,3 +48,50 @@ least_found rules (Some c) all found = record {
   least_first = λ f n e. (bounded rules (Some c) all f c.second n e).first refl;
   least_number = λ n e. (bounded rules (Some c) all c.first c.second n e).number refl refl;
 }
+
+-- ---- the rules of each number
+
+module _ (numbers : List NumberRules) (rules : List Rule) (are : AreNumbersOf numbers rules) where
+  its_rules : (own : NumberRules) → Contains numbers own → own.rules.items ≡ rules_of own.number rules
+  its_rules own has =
+      All-contains (λ (o : NumberRules). o.rules.items ≡ rules_of o.number rules) numbers own are.own has
+
+  among : (own : NumberRules) → Contains numbers own → (r : Rule) → r.number ≡ own.number → Contains rules r
+      → Contains own.rules.items r
+  among own has r same inside =
+      subst (λ (rs : List Rule). Contains rs r) (sym (its_rules own has))
+      (contains_filtered (λ (s : Rule). eqb s.number own.number) rules r (eq-eqb r.number own.number same) inside)
+
+  -- clashes among rules of one number are all
+  pub all_bounded : (least : Option Clash) → All (λ own. AreBounded own.rules.items least) numbers
+      → AreBounded rules least
+  all_bounded least bounds k d lt j e inside c clash =
+      let later = get_or rules k d in
+      let r = get_or rules j e in
+      let here = All-contains_itself rules k d lt in
+      elim (number_among numbers rules are later.number) [
+        | inl (own, has, is) ↦
+            let own_bounds =
+            All-contains (λ (o : NumberRules). AreBounded o.rules.items least) numbers own bounds has in
+            All-contains (IsClashBounded least later) own.rules.items r
+            (All-contains (λ l. All (IsClashBounded least l) own.rules.items) own.rules.items later own_bounds
+            (among own has later (sym is) here))
+            (among own has r (same_number r later clash.conflict ∙ sym is) (All-contains_itself rules j e inside)) c clash
+        | inr none ↦
+            let there = contains_filtered (λ (s : Rule). eqb s.number later.number) rules later
+            (eq-eqb later.number later.number refl) here in
+            absurd (let lt : there.0 < length (rules_of later.number rules) = there.1 in
+            let nothing = ap (λ (rs : List Rule). length rs) none in omega arith)
+      ]
+
+  pub all_found : (least : Option Clash)
+      → IfSome least (λ c. Any (λ own. EntriesConflict own.rules.items c.first c.second c.number) numbers)
+      → IfSome least (λ c. EntriesConflict rules c.first c.second c.number)
+  all_found None h = tt
+  all_found (Some c) (k, own, lt, at, (i, r, i_lt, i_is, (j, later, j_lt, j_is, clash))) =
+      let inside : (s : Rule) → Contains own.rules.items s → Contains rules s =
+      λ s. All-contains (Contains rules) own.rules.items s (All-contains (λ (o : NumberRules). All (Contains rules) o.rules.items) numbers own
+      (own_all numbers rules are (Contains rules) (All-contains_itself rules)) (k, lt, at)) in
+      let one = inside r (i, i_lt, i_is) in
+      let two = inside later (j, j_lt, j_is) in
+      (one.0, r, one.1, one.2, (two.0, later, two.1, two.2, clash))

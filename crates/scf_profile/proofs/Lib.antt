@@ -8,6 +8,7 @@ pub mod Loops
 pub mod Masks
 pub mod NamedCalls
 pub mod NamesOf
+pub mod NumberLists
 pub mod NumberTests
 pub mod Numbers
 pub mod Overlaps

@@ -1,5 +1,5 @@
 -- The distinct numbers of rules.
-use Rattle.scf_profile.proofs.Common.{◌≡◌, ℕ, zero, suc, ◌<◌, ◌++◌, Bool, true, false, not, cond, eqb, ◌||◌, ◌⊎◌, List, [], ◌∷◌, refl, sym, ap, ◌∙◌, arith, inl, inr, Contains, filter, list_any, cases_eq, cases_Bool, eq-eqb, ne_eqb, cond-true, not_from_false, or_right, Contains-append_right, filter-append, Rule, numbers_of}
+use Rattle.scf_profile.proofs.Common.{◌≡◌, ℕ, zero, suc, ◌<◌, ◌++◌, Bool, true, false, not, cond, eqb, ◌||◌, ◌⊎◌, List, [], ◌∷◌, refl, sym, ap, ◌∙◌, arith, inl, inr, Contains, filter, list_any, cases_eq, cases_Bool, eq-eqb, ne_eqb, cond-true, not_from_false, or_right, Contains-append_right, filter-append, Rule, numbers_of, rules_of}
 
 -- whether some rule has the number
 abbrev pub has_number : ℕ → List Rule → Bool
@@ -56,5 +56,19 @@ numbers_of-contains (x ∷ xs) r h =
         | inr apart ↦ Contains-append_right (x.number ∷ []) _ r.number
             (contains_filtered (λ number. not (eqb number x.number)) (numbers_of xs) r.number
             (not_from_false _ (ne_eqb r.number x.number apart)) (numbers_of-contains xs r later))
+      ]
+    ]
+
+-- the number is that of a rule, or no rule has it
+pub number_there : (nr : ℕ) (rs : List Rule) → Contains (numbers_of rs) nr ⊎ (rules_of nr rs ≡ [])
+number_there nr [] = inr refl
+number_there nr (r ∷ rs) =
+    elim (cases_eq r.number nr) [
+      | inl same ↦ inl (0, omega arith, same)
+      | inr apart ↦ elim (number_there nr rs) [
+        | inl later ↦ inl (Contains-append_right (r.number ∷ []) _ nr
+            (contains_filtered (λ number. not (eqb number r.number)) (numbers_of rs) nr
+            (not_from_false _ (ne_eqb nr r.number (λ e. apart (sym e)))) later))
+        | inr none ↦ inr (rw (ne_eqb r.number nr apart) none)
       ]
     ]

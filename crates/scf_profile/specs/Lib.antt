@@ -5,6 +5,7 @@ pub mod Limits
 pub mod Loading
 pub mod NamedCalls
 pub mod Names
+pub mod NumberRules
 pub mod NumberTests
 pub mod PlainProfile
 pub mod Profile

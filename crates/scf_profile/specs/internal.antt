@@ -5,4 +5,5 @@ pub mod NumberSets
 pub mod Overlaps
 pub mod Refusals
 pub mod Results
+pub mod RulesUnder
 pub mod Stated

@@ -1,14 +1,15 @@
 //! Conflicts among rules: the least one, among all pairs of one number.
 
-ghost use Rattle.std.specs.Prelude.{◌≡◌, ◌⊎◌, IfOk, IfSome, All, Any, Some};
+ghost use Rattle.std.specs.Prelude.{◌≡◌, ◌⊎◌, IfSome, List, All, Any, Some};
 ghost use Rattle.scf_profile.specs.declared.conflict.Clash.{Clash};
+ghost use Rattle.scf_profile.specs.declared.rule.Rule.{Rule};
 ghost use Rattle.scf_profile.specs.internal.Clashes.{IsBoundedBy, IsClashBounded, IsClashOf, IsLeastClash};
+ghost use Rattle.scf_profile.specs.Loading.{EntriesConflict};
+ghost use Rattle.scf_profile.specs.NumberRules.{AreNumbersOf};
 ghost use Rattle.scf_profile.specs.Rule.{IsRule};
 
-use crate::by_number::{rules_by_number, rules_of_number};
+use crate::number_rules::NumberRules;
 use crate::rule::Rule;
-use scf_insn::Memory;
-use std::alloc::Global;
 
 /// Two entries that conflict, and the number of the calls on which they do.
 ///
@@ -53,11 +54,11 @@ fn clash_of(rule: &Rule, later: &Rule) -> Option<Clash>
 }
 
 /// The least of a clash and those of the rules with a later one.
-fn least_with(rules: &[&Rule], later: &Rule, known: Option<Clash>) -> Option<Clash>
-    requires rules { All (λ r. IsRule r.now) rules.now }
+fn least_with(rules: &[Rule], later: &Rule, known: Option<Clash>) -> Option<Clash>
+    requires rules { All IsRule rules.now }
     requires later { IsRule later.now }
-    ensures one { IfSome result (λ c. (known ≡ Some c) ⊎ Any (λ r. IsClashOf r.now later.now c) rules.now) }
-    ensures bounds { All (λ r. IsClashBounded result later.now r.now) rules.now }
+    ensures one { IfSome result (λ c. (known ≡ Some c) ⊎ Any (λ r. IsClashOf r later.now c) rules.now) }
+    ensures bounds { All (IsClashBounded result later.now) rules.now }
     ensures keeps { (c : Clash) → IsBoundedBy known c → IsBoundedBy result c }
 {
     let mut least = known;
@@ -67,15 +68,28 @@ fn least_with(rules: &[&Rule], later: &Rule, known: Option<Clash>) -> Option<Cla
     least
 }
 
-/// The least conflict among rules, each of which is tested with those of its number. `Err`: a growth was refused.
-pub(crate) fn least_conflict(alloc: Global, rules: &[Rule]) -> Result<Option<Clash>, Memory>
+/// The least of a clash and those among rules.
+fn least_among(rules: &[Rule], known: Option<Clash>) -> Option<Clash>
     requires { All IsRule rules.now }
-    ensures { IfOk result (λ least. IsLeastClash rules.now least) }
+    ensures one { IfSome result (λ c. (known ≡ Some c) ⊎ EntriesConflict rules.now c.first c.second c.number) }
+    ensures bounds { All (λ later. All (IsClashBounded result later) rules.now) rules.now }
+    ensures keeps { (c : Clash) → IsBoundedBy known c → IsBoundedBy result c }
 {
-    let sorted = rules_by_number(alloc, rules)?;
-    let mut least = None;
+    let mut least = known;
     for later in rules {
-        least = least_with(rules_of_number(&sorted, later.number), later, least);
+        least = least_with(rules, later, least);
     }
-    Ok(least)
+    least
+}
+
+/// The least conflict among rules, each of which is tested with those of its number.
+pub(crate) fn least_conflict(numbers: &[NumberRules]) -> Option<Clash>
+    requires { All (λ own. All IsRule own.rules.items) numbers.now }
+    ensures { (rules : List Rule) → AreNumbersOf numbers.now rules → IsLeastClash rules result }
+{
+    let mut least = None;
+    for own in numbers {
+        least = least_among(&own.rules, least);
+    }
+    least
 }

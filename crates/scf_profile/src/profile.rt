@@ -4,11 +4,13 @@ ghost use Rattle.std.specs.Prelude.{◌≡◌, ◌<◌, ◌↔◌, IsTrue, All, 
 ghost use Rattle.std.specs.List.{find, reduce};
 ghost use Rattle.scf_insn.specs.Kernel.{seccomp_data_args};
 ghost use Rattle.scf_profile.specs.Profile.{IsProfile, IsNative};
+ghost use Rattle.scf_profile.specs.NumberRules.{AreNumbersOf};
 ghost use Rattle.scf_profile.specs.PlainProfile.{IsPlainProfile, IsPlainRule};
 ghost use Rattle.scf_profile.specs.ProfileAnswers.{ProfileAnswers};
 ghost use Rattle.scf_profile.specs.Reasons.{IsReason, entries_met};
 ghost use Rattle.scf_profile.specs.Rule.{meets};
 
+use crate::number_rules::NumberRules;
 use crate::reason::Reason;
 use crate::rule::Rule;
 use scf_insn::kernel::{AUDIT_ARCH_X86_64, SECCOMP_RET_KILL_PROCESS, X32_SYSCALL_BIT};
@@ -25,9 +27,11 @@ pub const FOREIGN_ANSWER: Answer = Answer(SECCOMP_RET_KILL_PROCESS);
 pub struct Profile {
     default_answer: Answer,
     rules: Vec<Rule>,
+    numbers: Vec<NumberRules>,
 }
 
 impl Model for Profile {
+    ghost use Rattle.scf_profile.specs.NumberRules.{AreNumbersOf};
     ghost use Rattle.scf_profile.specs.Profile.{Profile, IsProfile};
 
     ghost Value = { Profile };
@@ -35,18 +39,25 @@ impl Model for Profile {
     ghost view = { λ p. record { default_answer = p.default_answer; rules = p.rules.items } };
 
     ghost invariant = { λ p. IsProfile
-        (record { default_answer = p.default_answer; rules = p.rules.items }) };
+        (record { default_answer = p.default_answer; rules = p.rules.items })
+        × AreNumbersOf p.numbers.items p.rules.items };
 }
 
 impl Profile {
-    /// The profile of a default answer, and of rules that don't conflict.
-    pub(crate) fn new(default_answer: Answer, rules: Vec<Rule>) -> Profile
-        requires { IsProfile (record { default_answer = default_answer; rules = rules.items }) }
+    /// The profile of a default answer, of rules that don't conflict, and of their numbers.
+    pub(crate) fn new(
+        default_answer: Answer,
+        rules: Vec<Rule>,
+        numbers: Vec<NumberRules>,
+    ) -> Profile
+        requires profile { IsProfile (record { default_answer = default_answer; rules = rules.items }) }
+        requires numbers { AreNumbersOf numbers.items rules.items }
         ensures { result ≡ record { default_answer = default_answer; rules = rules.items } }
     {
         Profile {
             default_answer,
             rules,
+            numbers,
         }
     }
 
@@ -63,6 +74,14 @@ impl Profile {
         ensures profile { IsProfile self.now }
     {
         &self.rules
+    }
+
+    /// The numbers that the rules have, rising, each with its rules in the order of the text.
+    pub fn numbers(&self) -> &[NumberRules]
+        ensures numbers { AreNumbersOf result.now self.now.rules }
+        ensures profile { IsProfile self.now }
+    {
+        &self.numbers
     }
 
     /// Whether both 32-bit halves of each mask are simple: no bit, one bit or all of them.

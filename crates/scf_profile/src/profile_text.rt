@@ -19,6 +19,7 @@ use crate::forms::check_no_engine_form;
 use crate::limits::MAX_TEXT_LEN;
 use crate::load_fault::LoadFault;
 use crate::loaded::Loaded;
+use crate::number_rules::by_number;
 use crate::object::{check_architectures, find_architectures, find_entries, find_seccomp};
 use crate::profile::Profile;
 use crate::rule::Rule;
@@ -84,14 +85,15 @@ fn without_conflict(alloc: Global, stated: Stated) -> Result<Loaded, LoadFault>
     ensures ok { IfOk result (IsLoaded stated) }
     ensures err { IfErr result (NamesLeastConflict stated.rules.items) }
 {
-    match least_conflict(alloc, &stated.rules)? {
+    let numbers = by_number(alloc, &stated.rules)?;
+    match least_conflict(&numbers) {
         Some(clash) => Err(LoadFault::Conflict {
             number: clash.number,
             first: clash.first,
             second: clash.second,
         }),
         None => Ok(Loaded {
-            profile: Profile::new(stated.default_answer, stated.rules),
+            profile: Profile::new(stated.default_answer, stated.rules, numbers),
             skipped: stated.skipped,
             other_architectures: stated.other_architectures,
         }),

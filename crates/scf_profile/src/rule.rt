@@ -1,6 +1,6 @@
 //! Rules: which calls one meets, and what it answers.
 
-ghost use Rattle.std.specs.Prelude.{◌≡◌, ◌<◌, ◌↔◌, IsTrue, All};
+ghost use Rattle.std.specs.Prelude.{◌≡◌, ◌<◌, ◌↔◌, IsTrue, IfOk, All};
 ghost use Rattle.scf_insn.specs.Kernel.{seccomp_data_args};
 ghost use Rattle.scf_profile.specs.PlainProfile.{IsPlainRule};
 ghost use Rattle.scf_profile.specs.Rule.{Conflicts, IsRule, all_hold as all_conditions_hold, meets};
@@ -8,6 +8,7 @@ ghost use Rattle.scf_profile.specs.Rule.{Conflicts, IsRule, all_hold as all_cond
 use crate::condition::{Condition, Conditions};
 use crate::overlap::conditions_overlap;
 use scf_insn::{Answer, CallRecord};
+use std::alloc::{AllocError, Global};
 
 /// A rule gives its answer to the calls of its number of which all its conditions hold.
 #[derive(Debug, Drop)]
@@ -20,6 +21,18 @@ pub struct Rule {
 }
 
 impl Rule {
+    /// The same rule again.
+    pub(crate) fn try_clone(&self, alloc: Global) -> Result<Rule, AllocError>
+        ensures { IfOk result (λ r. r ≡ self.now) }
+    {
+        Ok(Rule {
+            number: self.number,
+            conditions: self.conditions.try_clone(alloc)?,
+            answer: self.answer,
+            entry: self.entry,
+        })
+    }
+
     /// Whether each of its masks is simple.
     pub(crate) fn is_plain(&self) -> bool
         ensures { IsTrue result ↔ IsPlainRule self.now }

@@ -1,9 +1,10 @@
-use Rattle.scf_profile.proofs.Common.{take, All, IfSome, IsClashBounded, EntriesConflict}
+use Rattle.scf_profile.proofs.Common.{take, All, Any, IfSome, EntriesConflict, IsClashBounded}
 use Rattle.scf_profile.proofs.conflict.least_conflict.Given as goal
 
--- the least of the clashes with the later rules so far
-abbrev pub invariant-loop-later : goal.invariant-loop-later
-invariant-loop-later l = record {
-  one : IfSome l.least (λ c. EntriesConflict l.rules c.first c.second c.number);
-  bounds : All (λ later. All (IsClashBounded l.least later) l.rules) (take l.later-index l.rules);
+-- the least of the clashes among the rules of the numbers so far
+abbrev pub invariant-loop-own : goal.invariant-loop-own
+invariant-loop-own l = record {
+  one : IfSome l.least (λ c. Any (λ own. EntriesConflict own.rules.items c.first c.second c.number) l.numbers);
+  bounds : All (λ own. All (λ later. All (IsClashBounded l.least later) own.rules.items) own.rules.items)
+      (take l.own-index l.numbers);
 }

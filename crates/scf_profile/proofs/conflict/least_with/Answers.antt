@@ -1,10 +1,10 @@
-use Rattle.scf_profile.proofs.Common.{◌≡◌, ◌⊎◌, Some, subst, sym, inr, Bor, Any, All-more, All-weaker, Rule, IsClashBounded, IsClashOf, IsRule}
+use Rattle.scf_profile.proofs.Common.{◌≡◌, ◌⊎◌, Some, subst, sym, inr, Any, All-more, All-weaker, Rule, IsClashBounded, IsClashOf, IsRule}
 use Rattle.scf_profile.proofs.LeastClash.{one_of_two}
 use Rattle.scf_profile.proofs.conflict.least_with.Goals as goal
 
 pub clash_of-requires-clause-rule : goal.clash_of-requires-clause-rule
 clash_of-requires-clause-rule c =
-    subst (λ (r : Bor Rule). IsRule r.now) (sym c.rule-item.is)
+    subst (λ (r : Rule). IsRule r) (sym c.rule-item.is)
     (c.requires.rules c.loop-rule.rule-index c.rule-item.result c.loop-rule-test.true)
 
 pub loop-rule-preserved : goal.loop-rule-preserved
@@ -12,16 +12,16 @@ loop-rule-preserved c =
     let rules = c.args.rules.now in
     let later = c.args.later.now in
     let i = c.loop-rule.rule-index in
-    let Bounded : Bor Rule → Type 0 = λ r. IsClashBounded c.lesser-least.result later r.now in
+    let Bounded = IsClashBounded c.lesser-least.result later in
     record {
       one =
-          one_of_two (λ d. (c.args.known ≡ Some d) ⊎ Any (λ r. IsClashOf r.now later d) rules)
-          (IsClashOf c.rule-item.result.now later) c.loop-rule.least c.clash_of.result c.lesser-least.result
+          one_of_two (λ d. (c.args.known ≡ Some d) ⊎ Any (λ r. IsClashOf r later d) rules)
+          (IsClashOf c.rule-item.result later) c.loop-rule.least c.clash_of.result c.lesser-least.result
           (λ d is. inr (i, c.rule-item.result, c.loop-rule-test.true, sym c.rule-item.is, is))
           c.loop-rule.invariant.one c.clash_of.ensures.some c.lesser-least.ensures.one;
       bounds =
           All-more Bounded rules i c.rule-item.result c.loop-rule-test.true
-          (All-weaker (λ r. IsClashBounded c.loop-rule.least later r.now) Bounded
+          (All-weaker (IsClashBounded c.loop-rule.least later) Bounded
           (λ r h d is. c.lesser-least.ensures.keeps d (h d is)) _ c.loop-rule.invariant.bounds)
           (subst Bounded c.rule-item.is (λ d is. c.lesser-least.ensures.bound d (c.clash_of.ensures.all d is)));
       keeps = λ d h. c.lesser-least.ensures.keeps d (c.loop-rule.invariant.keeps d h);

@@ -1,18 +1,24 @@
-use Rattle.scf_profile.proofs.Common.{List, ℕ, refl, subst, Rule, EntriesConflict}
+use Rattle.scf_profile.proofs.Common.{refl, All, All-same, IsRule, NumberRules}
+use Rattle.scf_profile.proofs.NumberLists.{own_all}
 use Rattle.scf_profile.proofs.StatedRules.{have_no_conflict, profile_of_rules}
 use Rattle.scf_profile.proofs.profile_text.without_conflict.Goals as goal
 
-pub new-requires : goal.new-requires
-new-requires c =
+pub least_conflict-requires : goal.least_conflict-requires
+least_conflict-requires c =
+    All-same (λ (own : NumberRules). All IsRule own.rules.items) _ _ c.deref-2.ensures.value
+    (own_all _ _ c.in_ok-numbers.ensures IsRule (All-same IsRule _ _ c.deref.ensures.value c.requires.rules.each))
+
+pub new-requires-clause-profile : goal.new-requires-clause-profile
+new-requires-clause-profile c =
     profile_of_rules c.args.stated.default_answer c.args.stated.rules.items c.requires.default_answer c.requires.rules
-    (subst (λ (rules : List Rule). (first second number : ℕ) → EntriesConflict rules first second number → ⊥)
-    c.deref.ensures.value (rw c.in-None.is at c.in_ok-clash.ensures))
+    (c.in-None.ensures c.args.stated.rules.items
+    (rw (c.deref-2.ensures.value, ← c.deref.ensures.value) c.in_ok-numbers.ensures))
 
 pub returns-in-None-clause-ok : goal.returns-in-None-clause-ok
 returns-in-None-clause-ok c =
     rw c.new.ensures (
       refl,
       have_no_conflict c.args.stated.rules.items c.requires.rules
-          (subst (λ (rules : List Rule). (first second number : ℕ) → EntriesConflict rules first second number → ⊥)
-          c.deref.ensures.value (rw c.in-None.is at c.in_ok-clash.ensures)),
+          (c.in-None.ensures c.args.stated.rules.items
+          (rw (c.deref-2.ensures.value, ← c.deref.ensures.value) c.in_ok-numbers.ensures)),
     )

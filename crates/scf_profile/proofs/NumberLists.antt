@@ -1,0 +1,316 @@
+-- The numbers that rules have, each with its rules.
+use Rattle.scf_profile.proofs.Common.{◌≡◌, ◌≢◌, ℕ, zero, suc, ◌+◌, ◌<◌, ◌⊎◌, AllByRecursion, Bool, true, false, not, cond, eqb, length, List, [], ◌∷◌, map, get_or, All, refl, sym, ap, ◌∙◌, subst, arith, inl, inr, Contains, filter, cases_eq, eq-eqb, ne_eqb, nat_tests, length-map, get_or-map, All-filter, All-from_recursion, All-map, All-same, All-contains, Contains-append_right, recursion_from_All, IsPermutation, IsStrictlyIncreasing, Rule, numbers_of, rules_of, NumberRules, AreNumbersOf, sum_by, IsPermutation-cons, IsPermutation-refl, IsPermutation-remove, IsPermutation-sym, IsPermutation-trans, IsDistinct, IsDistinct-IsPermutation, IsDistinct-head, IsDistinct-tail, Contains-permutation, length_permutation, sum_by-IsPermutation, sum_by-cons, remove, All-contains_itself, All-weaker, All-head, All-tail, AreUnder, Under, number_rules, rules_under, Global, Vec, keys_of, value_of, nat_cmp, nat_cmp_total, exact_unsigned, IsOrdered, IsStrictlyIncreasing-from_sorted, btree_map_contains_key_iff, All-found, is_some, ltb, lt-ltb, add-one, Some, ◌++◌, filter-append, append-nil}
+use Rattle.std.proofs.Common.{length-append}
+use Rattle.scf_profile.proofs.Numbers.{contains_cons_cases, number_there}
+
+-- ---- lists of distinct numbers
+
+eqb_flips : (x y : ℕ) → eqb x y ≡ eqb y x
+eqb_flips x y = grind (arith, nat_tests)
+
+-- the first of distinct numbers isn't among the others
+first_alone : (x : ℕ) (xs : List ℕ) → IsDistinct eqb (x ∷ xs) → (n : ℕ) → Contains xs n → n ≢ x
+first_alone x xs distinct n (k, lt, at) e =
+    let apart = All-from_recursion (λ y. eqb x y ≡ false) xs (IsDistinct-head eqb x xs distinct) k n lt in
+    grind (arith, nat_tests, apart, at, e)
+
+-- an element of a list with one in front is that one, or another's
+not_first : (x : ℕ) (xs : List ℕ) (n : ℕ) → n ≢ x → Contains (x ∷ xs) n → Contains xs n
+not_first x xs n apart has = elim (contains_cons_cases x xs n has) [ inl e ↦ absurd (apart (sym e)) | inr later ↦ later ]
+
+-- distinct numbers that are the same ones stand in another order
+same_numbers : (xs ys : List ℕ) → IsDistinct eqb xs → IsDistinct eqb ys → ((n : ℕ) → Contains xs n → Contains ys n)
+    → ((n : ℕ) → Contains ys n → Contains xs n) → IsPermutation xs ys
+same_numbers [] [] dx dy to from = IsPermutation-refl []
+same_numbers [] (y ∷ ys) dx dy to from =
+    let has = from y (0, omega arith, refl) in absurd (let lt : has.0 < 0 = has.1 in omega arith)
+same_numbers (x ∷ xs) ys dx dy to from =
+    let at = to x (0, omega arith, refl) in
+    let others = remove ys at.0 in
+    let moved : IsPermutation ys (x ∷ others) = IsPermutation-remove ys at.0 x at.1 (sym at.2) in
+    let apart = IsDistinct-IsPermutation eqb eqb_flips ys (x ∷ others) moved dy in
+    let rest = same_numbers xs others (IsDistinct-tail eqb x xs dx) (IsDistinct-tail eqb x others apart)
+    (λ n has. not_first x others n (first_alone x xs dx n has)
+    (Contains-permutation ys (x ∷ others) n moved (to n (Contains-append_right (x ∷ []) xs n has))))
+    (λ n has. not_first x xs n (first_alone x others apart n has)
+    (from n (Contains-permutation (x ∷ others) ys n (IsPermutation-sym ys (x ∷ others) moved)
+    (Contains-append_right (x ∷ []) others n has)))) in
+    IsPermutation-trans (x ∷ xs) (x ∷ others) ys (IsPermutation-cons x xs others rest)
+    (IsPermutation-sym ys (x ∷ others) moved)
+
+-- numbers that rise from each to the next rise from each to all later ones
+pub rises : (ns : List ℕ) → IsStrictlyIncreasing ns → (i j : ℕ) → i < j → j < length ns → get_or ns i 0 < get_or ns j 0
+rises ns up i zero before inside = absurd (omega arith)
+rises ns up i (suc j) before inside =
+    let one : j + 1 ≡ suc j = omega arith in
+    let last = subst (λ k. get_or ns j 0 < get_or ns k 0) one (up j (omega arith)) in
+    elim (cases_eq i j) [
+      | inl same ↦ subst (λ k. get_or ns k 0 < get_or ns (suc j) 0) (sym same) last
+      | inr apart ↦ let rest = rises ns up i j (omega arith) (omega arith) in omega arith
+    ]
+
+risen_tail : (n : ℕ) (ns : List ℕ) → IsStrictlyIncreasing (n ∷ ns) → IsStrictlyIncreasing ns
+risen_tail n ns up k lt =
+    let one : k + 1 ≡ suc k = omega arith in
+    subst (λ j. get_or ns k 0 < get_or ns j 0) (sym one)
+    (subst (λ j. get_or (n ∷ ns) (suc k) 0 < get_or (n ∷ ns) j 0) (add-one (suc k)) (up (suc k) (omega arith)))
+
+risen_distinct : (ns : List ℕ) → IsStrictlyIncreasing ns → IsDistinct eqb ns
+unfolding IsDistinct
+risen_distinct [] up = tt
+risen_distinct (n ∷ ns) up = (
+  recursion_from_All (λ m. eqb n m ≡ false) ns (λ k d lt.
+      let above = rises (n ∷ ns) up 0 (suc k) (omega arith) (omega arith) in
+      grind (arith, nat_tests, above, get_or_inside ns k d lt)),
+  risen_distinct ns (risen_tail n ns up),
+)
+  where
+    get_or_inside : (ns : List ℕ) (k d : ℕ) → k < length ns → get_or ns k d ≡ get_or ns k 0
+    get_or_inside [] k d lt = absurd (omega arith)
+    get_or_inside (m ∷ ms) zero d lt = refl
+    get_or_inside (m ∷ ms) (suc k) d lt = get_or_inside ms k d (omega arith)
+
+-- the distinct numbers but the first
+others_distinct : (first : ℕ) (ns : List ℕ) → IsDistinct eqb ns
+    → let others = filter (λ n. not (eqb n first)) ns in
+    AllByRecursion (λ n. eqb first n ≡ false) others × IsDistinct eqb others
+unfolding IsDistinct
+others_distinct first [] distinct = (tt, tt)
+others_distinct first (n ∷ ns) distinct =
+    let rest = others_distinct first ns distinct.1 in
+    let P : ℕ → Type 0 = λ m. eqb n m ≡ false in
+    elim (cases_eq n first) [
+      | inl same ↦ rw (eq-eqb n first same) rest
+      | inr apart ↦ rw (ne_eqb n first apart) (
+        (ne_eqb first n (λ e. apart (sym e)), rest.0),
+        (
+          recursion_from_All P _ (All-filter (λ m. not (eqb m first)) P ns (All-from_recursion P ns distinct.0)),
+          rest.1,
+        ),
+      )
+    ]
+
+numbers_distinct : (rules : List Rule) → IsDistinct eqb (numbers_of rules)
+unfolding IsDistinct
+numbers_distinct [] = tt
+numbers_distinct (r ∷ rules) = others_distinct r.number (numbers_of rules) (numbers_distinct rules)
+
+-- ---- rules under their numbers
+
+-- a number of rules is among the distinct ones
+some_rules : (rules : List Rule) (nr : ℕ) → 0 < length (rules_of nr rules) → Contains (numbers_of rules) nr
+some_rules rules nr some =
+    elim (number_there nr rules) [
+      | inl there ↦ there
+      | inr none ↦ absurd (let nothing = ap (λ (rs : List Rule). length rs) none in omega arith)
+    ]
+
+contains_from_filter : (p : ℕ → Bool) (ns : List ℕ) (n : ℕ) → Contains (filter p ns) n → Contains ns n
+contains_from_filter p ns n has =
+    All-contains (Contains ns) (filter p ns) n (All-filter p (Contains ns) ns (All-contains_itself ns)) has
+
+-- a distinct number is that of some rule
+rules_there : (rules : List Rule) (nr : ℕ) → Contains (numbers_of rules) nr → 0 < length (rules_of nr rules)
+rules_there [] nr has = absurd (let lt : has.0 < 0 = has.1 in omega arith)
+rules_there (r ∷ rules) nr has =
+    elim (cases_eq r.number nr) [
+      | inl same ↦ rw (eq-eqb r.number nr same) (omega arith)
+      | inr apart ↦ rw (ne_eqb r.number nr apart) (elim (contains_cons_cases r.number _ nr has) [
+        | inl same ↦ absurd (apart same)
+        | inr later ↦ rules_there rules nr (contains_from_filter (λ number. not (eqb number r.number)) (numbers_of rules) nr later)
+      ])
+    ]
+
+-- one more rule under its number
+pub one_under : (front : List Rule) (r : Rule) (old new : Under) → AreUnder front old
+    → rules_under new r.number ≡ rules_under old r.number ++ r ∷ [] → is_some (value_of nat_cmp new r.number) ≡ true
+    → ((n : ℕ) → n ≢ r.number → value_of nat_cmp new n ≡ value_of nat_cmp old n) → AreUnder (front ++ r ∷ []) new
+one_under front r old new under push has others = record {
+  kept = λ n. elim (cases_eq r.number n) [
+    | inl same ↦ subst (λ m. rules_under new m ≡ rules_of m (front ++ r ∷ [])) same
+        (push ∙ ap (λ (l : List Rule). l ++ r ∷ []) (under.kept r.number) ∙ sym (filter-append (λ s. eqb s.number r.number) front (r ∷ [])
+        ∙ ap (λ b. rules_of r.number front ++ cond b (r ∷ []) []) (eq-eqb r.number r.number refl)))
+    | inr apart ↦ rw (others n (λ e. apart (sym e))) (under.kept n ∙ sym (filter-append (λ s. eqb s.number n) front (r ∷ [])
+        ∙ ap (λ b. rules_of n front ++ cond b (r ∷ []) []) (ne_eqb r.number n apart) ∙ append-nil (rules_of n front)))
+  ];
+  numbers_in = λ n. elim (cases_eq r.number n) [
+    | inl same ↦ subst (λ m. is_some (value_of nat_cmp new m) ≡ ltb 0 (length (rules_under new m))) same
+        (has ∙ sym (ap (λ (l : List Rule). ltb 0 (length l)) push ∙ lt-ltb 0 (length (rules_under old r.number ++ r ∷ []))
+        (omega (arith, length-append (rules_under old r.number) (r ∷ [])))))
+    | inr apart ↦ rw (others n (λ e. apart (sym e))) (under.numbers_in n)
+  ];
+}
+
+numbers_told : (es : List (ℕ × Vec Rule Global)) → map (λ own. own.number) (map number_rules es) ≡ keys_of es
+numbers_told [] = refl
+numbers_told (e ∷ es) = ap (λ (ns : List ℕ). e.0 ∷ ns) (numbers_told es)
+
+module _ (rules : List Rule) (under : Under) (kept : AreUnder rules under) (ordered : IsOrdered nat_cmp under) where
+  is_there : (nr : ℕ) → is_some (value_of nat_cmp under nr) ≡ ltb 0 (length (rules_of nr rules))
+  is_there nr = kept.numbers_in nr ∙ ap (λ (l : List Rule). ltb 0 (length l)) (kept.kept nr)
+
+  keys_rise : IsStrictlyIncreasing (keys_of under.entries)
+  keys_rise = IsStrictlyIncreasing-from_sorted _ ordered
+
+  same_keys : IsPermutation (numbers_of rules) (keys_of under.entries)
+  same_keys =
+      same_numbers (numbers_of rules) (keys_of under.entries) (numbers_distinct rules)
+      (risen_distinct (keys_of under.entries) keys_rise)
+      (λ nr has. (btree_map_contains_key_iff nat_cmp_total exact_unsigned under nr).0
+      (is_there nr ∙ lt-ltb 0 (length (rules_of nr rules)) (rules_there rules nr has)))
+      (λ nr has.
+      let told = sym (is_there nr) ∙ (btree_map_contains_key_iff nat_cmp_total exact_unsigned under nr).1 has in
+      some_rules rules nr (grind (arith, nat_tests)))
+
+  its_rules : (e : ℕ × Vec Rule Global) → value_of nat_cmp under e.0 ≡ Some e.1 → e.1.items ≡ rules_of e.0 rules
+  its_rules e found =
+      let there : rules_under under e.0 ≡ e.1.items = rw found refl in sym there ∙ kept.kept e.0
+
+  -- the numbers of a tree over their rules
+  pub are_numbers : AreNumbersOf (map number_rules under.entries) rules
+  are_numbers =
+      let told = sym (numbers_told under.entries) in
+      record {
+        rising = subst IsStrictlyIncreasing told keys_rise;
+        same = subst (IsPermutation (numbers_of rules)) told same_keys;
+        own =
+            All-map (λ (own : NumberRules). own.rules.items ≡ rules_of own.number rules) number_rules under.entries
+            (λ k d lt. its_rules (get_or under.entries k d) (All-found nat_cmp_total under ordered k d lt));
+      }
+
+-- ---- what crates above cite
+
+abbrev number_in : NumberRules → ℕ
+number_in own = own.number
+
+-- an element of mapped ones is that of an element
+contains_mapped : {X : Type 0} (f : X → ℕ) (xs : List X) (n : ℕ) → Contains (map f xs) n
+    → (x : X) × Contains xs x × (f x ≡ n)
+contains_mapped f xs n has =
+    All-contains (λ m. (x : _) × Contains xs x × (f x ≡ m)) (map f xs) n
+    (All-map (λ m. (x : _) × Contains xs x × (f x ≡ m)) f xs
+    (All-weaker (Contains xs) (λ y. (x : _) × Contains xs x × (f x ≡ f y)) (λ y h. (y, h, refl)) xs
+    (All-contains_itself xs))) has
+
+sum_of_map : {X : Type 0} (f : ℕ → ℕ) (g : X → ℕ) (xs : List X) → sum_by f (map g xs) ≡ sum_by (λ x. f (g x)) xs
+sum_of_map f g [] = refl
+sum_of_map f g (x ∷ xs) =
+    sum_by-cons f (g x) (map g xs) ∙ ap (λ n. f (g x) + n) (sum_of_map f g xs) ∙ sym (sum_by-cons (λ x. f (g x)) x xs)
+
+-- sums of what is the same of each element
+same_sums : {X : Type 0} (f g : X → ℕ) (xs : List X) → All (λ x. f x ≡ g x) xs → sum_by f xs ≡ sum_by g xs
+same_sums f g [] h = refl
+same_sums f g (x ∷ xs) h =
+    let rest = same_sums f g xs (All-tail (λ y. f y ≡ g y) x xs h) in
+    let first = All-head (λ x. f x ≡ g x) x xs h in
+    omega (arith, rest, first, sum_by-cons f x xs, sum_by-cons g x xs)
+
+-- numbers but one
+abbrev others_of : ℕ → List ℕ → List ℕ
+others_of number = filter (λ n. not (eqb n number))
+
+others_same : (n : ℕ) (ns : List ℕ) → AllByRecursion (λ m. eqb n m ≡ false) ns → others_of n ns ≡ ns
+others_same n [] h = refl
+others_same n (m ∷ ns) h = rw (eqb_flips m n, h.0) (ap (λ (l : List ℕ). m ∷ l) (others_same n ns h.1))
+
+-- what is summed up of rules is summed up number by number
+module _ (f : Rule → ℕ) where
+  abbrev sum_at : List Rule → ℕ → ℕ
+  sum_at rules nr = sum_by f (rules_of nr rules)
+
+  sum_with : (r : Rule) (rules : List Rule) (nr : ℕ) → eqb r.number nr ≡ false → sum_at (r ∷ rules) nr ≡ sum_at rules nr
+  sum_with r rules nr apart = rw apart refl
+
+  -- a number is taken out of distinct ones
+  taken_out : (rules : List Rule) (ns : List ℕ) (nr : ℕ) → IsDistinct eqb ns
+      → Contains ns nr ⊎ (rules_of nr rules ≡ [])
+      → sum_at rules nr + sum_by (sum_at rules) (others_of nr ns) ≡ sum_by (sum_at rules) ns
+  unfolding IsDistinct
+  taken_out rules [] nr distinct (inl has) = absurd (let lt : has.0 < 0 = has.1 in omega arith)
+  taken_out rules [] nr distinct (inr none) =
+      let nothing : sum_at rules nr ≡ 0 = ap (λ (rs : List Rule). sum_by f rs) none in omega arith
+  taken_out rules (n ∷ ns) nr distinct there =
+      elim (cases_eq n nr) [
+        | inl same ↦
+            let gone = subst (λ m. others_of m ns ≡ ns) same (others_same n ns distinct.0) in
+            let rest : sum_by (sum_at rules) (others_of nr (n ∷ ns)) ≡ sum_by (sum_at rules) ns =
+            rw (eq-eqb n nr same) (ap (λ (l : List ℕ). sum_by (sum_at rules) l) gone) in
+            omega (arith, rest, ap (sum_at rules) same, sum_by-cons (sum_at rules) n ns)
+        | inr apart ↦
+            let rest = taken_out rules ns nr distinct.1 (later there (λ e. apart (sym e))) in
+            rw (ne_eqb n nr apart) (omega (
+              arith,
+              rest,
+              sum_by-cons (sum_at rules) n (others_of nr ns),
+              sum_by-cons (sum_at rules) n ns,
+            ))
+      ]
+    where
+      later : Contains (n ∷ ns) nr ⊎ (rules_of nr rules ≡ []) → nr ≢ n → Contains ns nr ⊎ (rules_of nr rules ≡ [])
+      later (inl has) apart = inl (not_first n ns nr apart has)
+      later (inr none) apart = inr none
+
+  sum_in_parts : (rules : List Rule) → sum_by (sum_at rules) (numbers_of rules) ≡ sum_by f rules
+  sum_in_parts [] = refl
+  sum_in_parts (r ∷ rules) =
+      let nr = r.number in
+      let ns = numbers_of rules in
+      let g = sum_at (r ∷ rules) in
+      let own : g nr ≡ f r + sum_at rules nr = rw (eq-eqb nr nr refl) (sum_by-cons f r (rules_of nr rules)) in
+      let others = same_sums g (sum_at rules) (others_of nr ns)
+      (λ k d lt. sum_with r rules _
+      (All-from_recursion (λ n. eqb nr n ≡ false) (others_of nr ns) (others_distinct nr ns (numbers_distinct rules)).0 k d lt)) in
+      omega (
+        arith,
+        own,
+        others,
+        taken_out rules ns nr (numbers_distinct rules) (number_there nr rules),
+        sum_in_parts rules,
+        sum_by-cons g nr (others_of nr ns),
+        sum_by-cons f r rules,
+      )
+
+module _ (numbers : List NumberRules) (rules : List Rule) (are : AreNumbersOf numbers rules) where
+  pub numbers_rise : (i j : ℕ) (d : NumberRules) → i < j → j < length numbers
+      → (get_or numbers i d).number < (get_or numbers j d).number
+  numbers_rise i j d before inside =
+      let len = length-map numbers number_in in
+      let up = rises (map number_in numbers) are.rising i j before (omega arith) in
+      rw (get_at i (omega arith), get_at j inside) at up
+    where
+      get_at : (k : ℕ) → k < length numbers → get_or (map number_in numbers) k 0 ≡ (get_or numbers k d).number
+      get_at k lt = get_or-map number_in numbers k d 0 lt
+
+  -- a number has its rules there, or no rule has it
+  pub number_among : (nr : ℕ) → ((own : NumberRules) × Contains numbers own × (own.number ≡ nr)) ⊎ (rules_of nr rules ≡ [])
+  number_among nr =
+      elim (number_there nr rules) [
+        | inl there ↦ inl (contains_mapped number_in numbers nr
+            (Contains-permutation (numbers_of rules) (map number_in numbers) nr are.same there))
+        | inr none ↦ inr none
+      ]
+
+  pub count_of_numbers : length numbers ≡ length (numbers_of rules)
+  count_of_numbers =
+      sym (length-map numbers number_in) ∙ length_permutation (numbers_of rules) (map number_in numbers) are.same
+
+  pub sum_of_numbers : (f : ℕ → ℕ) → sum_by (λ (own : NumberRules). f own.number) numbers ≡ sum_by f (numbers_of rules)
+  sum_of_numbers f =
+      sym (sum_of_map f number_in numbers) ∙ sum_by-IsPermutation f (numbers_of rules) (map number_in numbers) are.same
+
+  pub sum_of_own : (f : List Rule → ℕ)
+      → sum_by (λ (own : NumberRules). f own.rules.items) numbers ≡ sum_by (λ nr. f (rules_of nr rules)) (numbers_of rules)
+  sum_of_own f =
+      same_sums (λ own. f own.rules.items) (λ own. f (rules_of own.number rules)) numbers
+      (All-weaker _ (λ own. f own.rules.items ≡ f (rules_of own.number rules)) (λ own e. ap f e) numbers are.own)
+      ∙ sum_of_numbers (λ nr. f (rules_of nr rules))
+
+  pub sum_of_rules : (f : Rule → ℕ)
+      → sum_by (λ (own : NumberRules). sum_by f own.rules.items) numbers ≡ sum_by f rules
+  sum_of_rules f = sum_of_own (sum_by f) ∙ sum_in_parts f rules
+
+  pub own_all : (P : Rule → Type 0) → All P rules → All (λ own. All P own.rules.items) numbers
+  own_all P all =
+      All-weaker (λ own. own.rules.items ≡ rules_of own.number rules) (λ own. All P own.rules.items)
+      (λ own e. All-same P own.rules.items (rules_of own.number rules) e
+      (All-filter (λ r. eqb r.number own.number) P rules all)) numbers are.own

@@ -1,0 +1,64 @@
+//! The rules of a profile by call number.
+
+ghost use Rattle.std.specs.Prelude.{◌≡◌, ◌≢◌, ℕ, ◌++◌, ◌∷◌, [], is_some, map, true, IfOk, OnOk};
+ghost use Rattle.std.specs.BTreeMap.{get, IsOrdered};
+ghost use Rattle.std.specs.Ordering.{nat_cmp};
+ghost use Rattle.scf_profile.specs.NumberRules.{AreNumbersOf};
+ghost use Rattle.scf_profile.specs.internal.RulesUnder.{AreUnder, number_rules, rules_under};
+
+use crate::rule::Rule;
+use std::alloc::{AllocError, Global};
+use std::collections::BTreeMap;
+
+/// A call number that a profile has rules for, and these rules in the order of the text.
+#[derive(Debug, Drop)]
+pub struct NumberRules {
+    pub number: u32,
+    pub rules: Vec<Rule>,
+}
+
+/// Adds a rule to those of its number.
+fn add_rule(under: &mut BTreeMap<u32, Vec<Rule>>, rule: Rule) -> Result<(), AllocError>
+    ensures rules { OnOk result (rules_under under.new rule.number ≡ rules_under under.old rule.number ++ rule ∷ []) }
+    ensures has { OnOk result (is_some (get nat_cmp under.new rule.number) ≡ true) }
+    ensures others { OnOk result ((n : ℕ) → n ≢ rule.number → get nat_cmp under.new n ≡ get nat_cmp under.old n) }
+{
+    under.entry(rule.number)?.or_default().push(rule)?;
+    Ok(())
+}
+
+/// The rules under their numbers.
+fn rules_under_numbers(
+    alloc: Global,
+    rules: &[Rule],
+) -> Result<BTreeMap<u32, Vec<Rule>>, AllocError>
+    ensures { IfOk result (AreUnder rules.now) }
+{
+    let mut under = BTreeMap::new(alloc);
+    for rule in rules {
+        add_rule(&mut under, rule.try_clone(alloc)?)?;
+    }
+    Ok(under)
+}
+
+/// The numbers of a tree from numbers to rules.
+fn numbers_of_tree(
+    alloc: Global,
+    under: BTreeMap<u32, Vec<Rule>>,
+) -> Result<Vec<NumberRules>, AllocError>
+    ensures numbers { IfOk result (λ numbers. numbers.items ≡ map number_rules under.entries) }
+    ensures ordered { IsOrdered nat_cmp under }
+{
+    under
+        .into_iter()
+        .map(|(number, rules)| NumberRules { number, rules })
+        .collect(alloc)
+}
+
+/// The numbers that rules have, rising, each with its rules in their order. `Err`: a growth was refused.
+pub(crate) fn by_number(alloc: Global, rules: &[Rule]) -> Result<Vec<NumberRules>, AllocError>
+    ensures { IfOk result (λ numbers. AreNumbersOf numbers.items rules.now) }
+{
+    let under = rules_under_numbers(alloc, rules)?;
+    numbers_of_tree(alloc, under)
+}
