@@ -1,7 +1,7 @@
 -- The distinct numbers of a profile's rules: how many there are, and the bounds that their search keeps.
-use Rattle.scf_compile.proofs.Common.{◌≡◌, ℕ, zero, suc, ◌+◌, ◌*◌, ◌/◌, ◌^◌, ◌<◌, ◌≤◌, Bool, not, eqb, List, [], ◌∷◌, length, get_or, map, All, refl, ap, arith, inl, inr, sum_by, Contains, cases_eq, eq-eqb, ne_eqb, length-filter_both, All-contains, All-from_recursion, All-permutation, sum_by-IsPermutation, sum_by-le, x32_syscall_bit, Rule, IsByNumber, IsPlainRule, Profile, IsProfile, IsRule, numbers_of, rules_of, Answer, Stretch, digits_within, binary_digits, greatest, rule_bound, AllRules, AreServed, AreStretchesOf, IsSearchOf, IsSearchPut, Insn, Place, stretch_bound, size_bound_of}
+use Rattle.scf_compile.proofs.Common.{◌≡◌, ℕ, zero, suc, ◌/◌, ◌^◌, ◌<◌, ◌≤◌, List, [], ◌∷◌, length, map, All, ap, arith, inl, inr, sum_by, Contains, cases_eq, eq-eqb, ne_eqb, All-contains, x32_syscall_bit, Rule, IsPlainRule, Profile, IsProfile, IsRule, numbers_of, number_there, rules_of, Answer, Stretch, digits_within, binary_digits, greatest, rule_bound, AllRules, AreServed, AreStretchesOf, IsSearchOf, IsSearchPut, Insn, Place, stretch_bound}
 use Rattle.scf_compile.proofs.Runs.{more}
-use Rattle.scf_compile.proofs.Sizes.{few_conditions, number_there}
+use Rattle.scf_compile.proofs.Sizes.{rules_valid, size_small}
 
 -- ---- binary digits
 
@@ -43,36 +43,20 @@ some_served : (default : Answer) (wanted : ℕ → List Rule) (ss : List Stretch
 some_served default wanted [] serve = absurd (omega arith)
 some_served default wanted (s ∷ ss) serve = omega arith
 
-module _ (p : Profile) (valid : IsProfile p) (sorted : List Rule) (ss : List Stretch)
-    (by_number : IsByNumber sorted p.rules) (laid : AreStretchesOf p.default_answer ss sorted) where
+module _ (p : Profile) (valid : IsProfile p) (ss : List Stretch)
+    (laid : AreStretchesOf p.default_answer ss p.rules) where
   abbrev count : ℕ
   count = length (numbers_of p.rules)
 
   of_profile : (P : Rule → Type 0) → All P p.rules → AllRules P ss
-  of_profile P all k d lt j r inside =
-      All-contains P sorted _ (All-permutation P p.rules sorted by_number.same all) (laid.own k d lt j r inside)
-
-  each : All IsRule p.rules
-  each = All-from_recursion IsRule p.rules valid.each
-
-  few_rules : (rs : List Rule) → length (numbers_of rs) ≤ length rs
-  few_rules [] = omega arith
-  few_rules (r ∷ rs) =
-      let others : ℕ → Bool = λ number. not (eqb number r.number) in
-      let fewer = length-filter_both others (λ number. not (others number)) (λ number. refl) (numbers_of rs) in
-      omega (arith, few_rules rs)
-
-  bounds : (length ss ≤ 1 + 2 * count) × (5 + sum_by stretch_bound ss ≤ size_bound_of p) × (size_bound_of p < 2 ^ 31)
-  bounds =
-      let few = laid.few (numbers_of p.rules) (λ nr. rw (by_number.kept nr) (number_there nr p.rules)) in
-      let sums = sum_by-IsPermutation rule_bound p.rules sorted by_number.same in
-      let rules = valid.few in
-      let most = sum_by-le rule_bound 50 p.rules
-      (λ k d lt. omega (arith, few_conditions (get_or p.rules k d).conditions (each k d lt).conditions)) in
-      (omega arith, omega arith, omega (arith, few_rules p.rules))
+  of_profile P all k d lt j r inside = All-contains P p.rules _ all (laid.own k d lt j r inside)
 
   pub may_be_put : (0 < length ss) × AllRules IsRule ss × (sum_by stretch_bound ss < 2 ^ 32)
-  may_be_put = (some_served _ _ ss laid.serve, of_profile IsRule each, omega (arith, bounds.1, bounds.2))
+  may_be_put = (
+    some_served _ _ ss laid.serve,
+    of_profile IsRule (rules_valid p valid),
+    omega (arith, laid.small, size_small p valid),
+  )
 
   -- The search of the stretches is that of the profile.
   pub search_of_profile : {code : List Insn} {place : Place} → IsSearchPut p.default_answer ss [] code place
@@ -80,11 +64,10 @@ module _ (p : Profile) (valid : IsProfile p) (sorted : List Rule) (ss : List Str
   search_of_profile found = record {
     some = found.put.some;
     near = found.put.near;
-    small = (omega (arith, found.small, bounds.1), bounds.2);
+    small = (omega (arith, found.small, laid.small), size_small p valid);
     sound = λ asked is. found.put.sound asked (λ e. of_profile IsPlainRule (is e)) tt;
     ends = λ call fits below.
         let few = below_digits count in
-        let ended = found.ends call (λ nr. rules_of nr sorted) 0 x32_syscall_bit (suc (binary_digits count)) fits
-        laid.serve (omega arith) below (omega (arith, bounds.0)) in
-        more (rw (by_number.kept call.nr) at ended) (omega (arith, sum_at_most p.rules call.nr));
+        more (found.ends call (λ nr. rules_of nr p.rules) 0 x32_syscall_bit (suc (binary_digits count)) fits laid.serve
+        (omega arith) below (omega (arith, laid.few))) (omega (arith, sum_at_most p.rules call.nr));
   }

@@ -1,38 +1,23 @@
 -- What is put before a search makes it a filter.
-use Rattle.scf_compile.proofs.Common.{◌≡◌, ℕ, suc, ◌+◌, ◌-◌, ◌<◌, ◌≤◌, Bool, true, false, cond, eqb, ltb, List, [], ◌∷◌, length, refl, ap, arith, IsTrue, le-leb, eqb-true, eqb-false, nat_tests, Insn, CallRecord, Equal, GreaterOrEqual, audit_arch_x86_64, x32_syscall_bit, seccomp_ret_kill_process as kill, words_of, IsRecord, IsPlainProfile, Profile, ProfileAnswers, foreign, rules_of, Place, search_bound_of, load_word, return_with, branch_code, IsFirst, IsPut, ArePut, IsSearchOf, IsFilterOf, EndsWithin, AreSound, first_answer, contains_cons_cases, sym, subst, inl, inr, cases_Bool, cases_eq, and_left, and_right, and_from, eq-eqb, ne_eqb, Contains-append_right, Answer, Rule, meets, all_hold, IsNative, by_rule, by_default}
+use Rattle.scf_compile.proofs.Common.{◌≡◌, ℕ, suc, ◌+◌, ◌-◌, ◌<◌, ◌≤◌, Bool, true, false, cond, eqb, ltb, find, List, [], ◌∷◌, length, refl, ap, arith, IsTrue, le-leb, eqb-true, eqb-false, nat_tests, Insn, CallRecord, Equal, GreaterOrEqual, audit_arch_x86_64, x32_syscall_bit, seccomp_ret_kill_process as kill, words_of, IsRecord, IsPlainProfile, Profile, ProfileAnswers, foreign, rules_of, Place, search_bound_of, load_word, return_with, branch_code, IsFirst, IsPut, ArePut, IsSearchOf, IsFilterOf, EndsWithin, AreSound, first_answer, sym, inl, inr, cases_Bool, cases_eq, eq-eqb, ne_eqb, Answer, Rule, meets, all_hold}
+use Rattle.std.specs.Option.{option_map_or}
+use Rattle.scf_profile.proofs.Answering.{answered as profile_answers}
 use Rattle.scf_compile.proofs.Runs.{more, loads, load_sound}
 use Rattle.scf_compile.proofs.RuleCode.{Answers, return_answers, answers_put, answers_there, from_first}
 use Rattle.scf_compile.proofs.RuleCode.{branch_ends, branch_sound, branch_stays}
 
--- ---- the first rule that a call meets gives the profile's answer
-
-module _ (default : Answer) (call : CallRecord) where
-  abbrev with_rules : List Rule → Profile
-  with_rules rs = record { default_answer = default; rules = rs }
-
-  passed : (x : Rule) (xs : List Rule) (n : ℕ) → meets x call ≡ false → ProfileAnswers (with_rules xs) call n
-      → ProfileAnswers (with_rules (x ∷ xs)) call n
-  passed x xs n unmet (foreign other) = foreign other
-  passed x xs n unmet (by_rule r native among met) = by_rule r native (Contains-append_right (x ∷ []) xs r among) met
-  passed x xs n unmet (by_default native none) = by_default native (λ r among. elim (contains_cons_cases x xs r among) [
-    | inl e ↦ subst (λ (s : Rule). meets s call ≡ false) e unmet
-    | inr rest ↦ none r rest
-  ])
-
-  first_met : (rs : List Rule) → IsNative call
-      → ProfileAnswers (with_rules rs) call (first_answer call default (rules_of call.nr rs))
-  first_met [] native = by_default native (λ r h. absurd (let lt : h.0 < 0 = h.1 in omega arith))
-  first_met (x ∷ xs) native =
-      let rest = first_met xs native in
-      elim (cases_eq x.number call.nr) [
-        | inr other ↦ rw (ne_eqb x.number call.nr other)
-            (passed x xs _ (and_left _ _ (ne_eqb call.nr x.number (λ e. other (sym e)))) rest)
-        | inl same ↦ elim (cases_Bool (all_hold call x.conditions)) [
-          | inl met ↦ rw (eq-eqb x.number call.nr same, met)
-              (by_rule x native (0, omega arith, refl) (and_from _ _ (eq-eqb call.nr x.number (sym same)) met))
-          | inr unmet ↦ rw (eq-eqb x.number call.nr same, unmet) (passed x xs _ (and_right _ _ unmet) rest)
-        ]
-      ]
+-- the first of the rules with its number that a call meets is the first of all
+first_met : (default : Answer) (call : CallRecord) (rs : List Rule)
+    → first_answer call default (rules_of call.nr rs)
+    ≡ option_map_or (λ (r : Rule). r.answer.0) (find (λ r. meets r call) rs) default.0
+first_met default call [] = refl
+first_met default call (x ∷ xs) =
+    let rest = first_met default call xs in
+    elim (cases_eq x.number call.nr) [
+      | inr other ↦ rw (ne_eqb x.number call.nr other, ne_eqb call.nr x.number (λ e. other (sym e))) rest
+      | inl same ↦ rw (eq-eqb x.number call.nr same, eq-eqb call.nr x.number (sym same))
+          (elim (cases_Bool (all_hold call x.conditions)) [ inl met ↦ rw met refl | inr unmet ↦ rw unmet rest ])
+    ]
 
 -- ---- the tests before a search
 
@@ -115,7 +100,8 @@ module _ {p : Profile} {searched killed ranged loaded answered tested code : Lis
         foreign (λ native. let lt = native.nr in absurd (grind (arith, nat_tests, above, lt)))
     of_profile true true own lower =
         let below : call.nr < x32_syscall_bit = grind (arith, nat_tests, lower) in
-        first_met p.default_answer call p.rules (record { arch = eqb-true _ _ own; nr = below })
+        rw (first_met p.default_answer call p.rules)
+        (profile_answers p call (record { arch = eqb-true _ _ own; nr = below }) _ refl)
 
   -- The code is the profile's filter.
   pub filter_put : IsFilterOf p code

@@ -1,5 +1,5 @@
 -- Stretches are put one behind another until each number has its rules.
-use Rattle.scf_compile.proofs.Common.{contains_cons_cases, count_by-le-length, sum_by-le-sum_by, count_by, ◌≡◌, ℕ, get_or, take, ◌+◌, ◌-◌, ◌*◌, ◌<◌, ◌≤◌, cond, ltb, Bor, All, List, [], ◌∷◌, ◌++◌, length, refl, sym, ap, ◌∙◌, subst, arith, inl, inr, eqb, length-append, sum_by, Contains, AllByRecursion, IsNonDecreasingBy, cases_lt, ne_eqb, nat_tests, length-map, map-append, take_all, take_more, All-contains_itself, All-filter, All-push, recursion_from_All, sum_by-cons, sum_by-append, Answer, x32_syscall_bit, Rule, rules_at, rules_of, IsRule, NumberRules, Stretch, rule_bound, IsCut, StandsFor, AreTelling, rules_bound, stretch_bound, AllRules, IsServed, AreServed, IsLaid, begins, goes_on, AreAmong, AreStretchesOf}
+use Rattle.scf_compile.proofs.Common.{◌≡◌, ℕ, get_or, take, ◌+◌, ◌-◌, ◌*◌, ◌<◌, ◌≤◌, All, List, [], ◌∷◌, ◌++◌, length, map, refl, sym, ap, ◌∙◌, subst, arith, inl, inr, eqb, not, length-append, length-map, get_or-map, get_or_default, sum_by, Contains, cases_eq, cases_lt, eq-eqb, take_all, take_more, All-cons, All-contains_itself, All-head, All-permutation, All-tail, All-filter, All-push, sum_by-cons, sum_by-append, Answer, x32_syscall_bit, Rule, numbers_of, rules_of, NumberRules, AreNumbersOf, Stretch, rule_bound, StandsFor, AreTelling, rules_bound, stretch_bound, IsServed, AreServed, IsLaid, begins, goes_on, AreStretchesUpTo, AreStretchesOf, contains_filtered, Contains-permutation, sum_by_more, number_there, rises, count_of_numbers, sum_of_rules}
 
 -- ---- one stretch more
 
@@ -17,50 +17,73 @@ module _ (default : Answer) (wanted : ℕ → List Rule) where
   served_parts low high (s ∷ ss) ts served =
       let rest = served_parts served.0 high ss ts served.2 in (rest.0, (served.0, served.1, rest.1), rest.2)
 
-  served_more : (before after : List Stretch) (next limit : ℕ) (rules : List (Bor Rule))
-      → IsLaid before next rules after → AreServed default wanted 0 before next → next < limit
-      → ((nr : ℕ) → next ≤ nr → nr < limit → StandsFor default (rules_at rules) (wanted nr))
-      → AreServed default wanted 0 after limit
-  served_more before after next limit rules (begins s first is put) served lt stand =
-      rw put (served_push 0 next limit before s served
-      (record { first = first; some = lt; stand = λ nr from below. rw is (stand nr from below) }))
-  served_more before after next limit rules (goes_on earlier last is alike same) served lt stand =
-      let parts = served_parts 0 next earlier (last ∷ []) (rw is at served) in
-      let own = parts.2.1 in
-      let end = parts.2.2 in
-      rw (same, is) (served_push 0 parts.0 limit earlier last parts.1 (record {
-        first = own.first;
-        some = omega (arith, own.some);
-        stand = λ nr from below. elim (cases_lt nr next) [
-          | inl inside ↦ own.stand nr from (omega arith)
-          | inr past ↦
-              let first = alike default in
-              let rest = stand nr past below in record {
-                answers = λ call. first.answers call ∙ rest.answers call;
-                small = omega (arith, first.small, rest.small);
-              }
-        ];
-      }))
+-- ---- the stretches up to a number
 
-laid_more : {before after : List Stretch} {first : ℕ} {rules : List (Bor Rule)} (P : Rule → Type 0)
-    → IsLaid before first rules after
-    → (length after ≤ length before + 1)
-    × (sum_by stretch_bound after ≤ sum_by stretch_bound before + rules_bound (rules_at rules))
-    × (AllRules P before → All P (rules_at rules) → AllRules P after)
-laid_more {before} {rules = rules} P (begins s first is put) =
-    let own = ap (λ (l : List (Bor Rule)). rules_bound (rules_at l)) is in
-    let sums = sum_by-append stretch_bound before (s ∷ []) in
-    rw put (
-      omega (arith, length-append before (s ∷ [])),
-      omega (arith, own, sum_by-cons stretch_bound s []),
-      λ h k. All-push (λ (t : Stretch). All P (rules_at t.rules.now)) before s h (rw is k),
-    )
-laid_more P (goes_on earlier last is alike same) = rw same (omega arith, omega arith, λ h k. h)
+module _ {default : Answer} {rules : List Rule} {next most bound : ℕ} {before : List Stretch}
+    (laid : AreStretchesUpTo next most bound default before rules) where
+  pub laid_within : {end m b : ℕ} → next ≡ end → most ≤ m → bound ≤ b → AreStretchesUpTo end m b default before rules
+  laid_within same few small = record {
+    serve = rw (← same) laid.serve;
+    own = laid.own;
+    few = omega (arith, laid.few);
+    small = omega (arith, laid.small);
+  }
+
+  -- some of the rules apply up to another number
+  laid_more : {after : List Stretch} {others : List Rule} (end : ℕ) → IsLaid before next others after → next < end
+      → All (Contains rules) others
+      → ((nr : ℕ) → next ≤ nr → nr < end → StandsFor default others (rules_of nr rules))
+      → AreStretchesUpTo end (most + 1) (bound + rules_bound others) default after rules
+  laid_more end (begins s first is put) lt own stand = rw put (record {
+    serve = served_push default (λ nr. rules_of nr rules) 0 next end before s laid.serve
+        (record { first = first; some = lt; stand = λ nr from below. rw is (stand nr from below) });
+    own = All-push (λ (t : Stretch). All (Contains rules) t.rules.now) before s laid.own (rw is own);
+    few = omega (arith, laid.few, length-append before (s ∷ []));
+    small = omega (
+      arith,
+      laid.small,
+      ap rules_bound is,
+      sum_by-append stretch_bound before (s ∷ []),
+      sum_by-cons stretch_bound s [],
+    );
+  })
+  laid_more end (goes_on earlier last is alike same) lt own stand =
+      let parts = served_parts default (λ nr. rules_of nr rules) 0 next earlier (last ∷ []) (rw is at laid.serve) in
+      let old = parts.2.1 in
+      let past = parts.2.2 in
+      rw same (record {
+        serve = rw is (served_push default (λ nr. rules_of nr rules) 0 parts.0 end earlier last parts.1 (record {
+          first = old.first;
+          some = omega (arith, old.some);
+          stand = λ nr from below. elim (cases_lt nr next) [
+            | inl inside ↦ old.stand nr from (omega arith)
+            | inr later ↦
+                let first = alike default in
+                let rest = stand nr later below in record {
+                  answers = λ call. first.answers call ∙ rest.answers call;
+                  small = omega (arith, first.small, rest.small);
+                }
+          ];
+        }));
+        own = laid.own;
+        few = omega (arith, laid.few);
+        small = omega (arith, laid.small);
+      })
+
+  -- no rules apply up to another number
+  pub laid_gap : {after : List Stretch} (end : ℕ) → (next < end → IsLaid before next [] after)
+      → (end ≤ next → after ≡ before) → next ≤ end → ((nr : ℕ) → next ≤ nr → nr < end → rules_of nr rules ≡ [])
+      → AreStretchesUpTo end (most + 1) (bound + 3) default after rules
+  laid_gap end some none le nothing = elim (cases_lt next end) [
+    | inl lt ↦ laid_more end (some lt) lt (λ k d lt. absurd (omega arith))
+        (λ nr from below. rw (nothing nr from below) (record { answers = λ call. refl; small = omega arith }))
+    | inr past ↦ rw (none past) (laid_within (omega arith) (omega arith) (omega arith))
+  ]
 
 -- the last of the stretches is the one that goes on
-pub goes_on_last : (before : List Stretch) (first : ℕ) (last : Stretch) (rules : List (Bor Rule)) → 0 < length before
+pub goes_on_last : (before : List Stretch) (first : ℕ) (last : Stretch) (rules : List Rule) → 0 < length before
     → last ≡ get_or before (length before - 1) last
-    → ((default : Answer) → StandsFor default (rules_at last.rules.now) (rules_at rules))
+    → ((default : Answer) → StandsFor default last.rules.now rules)
     → IsLaid before first rules before
 goes_on_last before first last rules some is alike =
     let k = length before - 1 in
@@ -70,141 +93,117 @@ goes_on_last before first last rules some is alike =
 
 -- ---- the numbers one after another
 
--- how many of some numbers are below a bound
-abbrev pub passed : ℕ → List ℕ → ℕ
-passed next numbers = count_by (λ n. ltb n next) numbers
+abbrev number_in : NumberRules → ℕ
+number_in own = own.number
 
-passed_rises : (ns : List ℕ) (next limit : ℕ) → next ≤ limit → passed next ns ≤ passed limit ns
-passed_rises ns next limit le =
-    sum_by-le-sum_by (λ n. cond (ltb n next) 1 0) (λ n. cond (ltb n limit) 1 0) ns (λ n. grind (arith, nat_tests))
+abbrev own_bound : NumberRules → ℕ
+own_bound own = sum_by rule_bound own.rules.items
 
-passed_more : (ns : List ℕ) (next n : ℕ) → Contains ns n → next ≤ n → passed next ns + 1 ≤ passed (n + 1) ns
-passed_more [] next n h le = absurd (let lt : h.0 < 0 = h.1 in omega arith)
-passed_more (m ∷ ns) next n h le =
-    rw (sum_by-cons (λ n. cond (ltb n next) 1 0) m ns, sum_by-cons (λ k. cond (ltb k (n + 1)) 1 0) m ns)
-    (elim (contains_cons_cases m ns n h) [
-      | inl same ↦ let rest = passed_rises ns next (n + 1) (omega arith) in grind (arith, nat_tests)
-      | inr later ↦ let rest = passed_more ns next n later le in grind (arith, nat_tests)
-    ])
+-- what holds of the number of each rule holds of the distinct ones
+numbers_all : (P : ℕ → Type 0) (rules : List Rule) → All (λ r. P r.number) rules → All P (numbers_of rules)
+numbers_all P [] all = λ k d lt. absurd (omega arith)
+numbers_all P (r ∷ rs) all =
+    All-cons P r.number _ (All-head (λ s. P s.number) r rs all)
+    (All-filter (λ nr. not (eqb nr r.number)) P (numbers_of rs)
+    (numbers_all P rs (All-tail (λ s. P s.number) r rs all)))
 
-telling_few : (P : Rule → Type 0) {default : Answer} {telling : List (Bor Rule)} (own : List (Bor Rule))
-    → 0 < length own → AreTelling default telling own
-    → (rules_bound (rules_at telling) ≤ 1 + sum_by rule_bound (rules_at own))
-    × (All P (rules_at own) → All P (rules_at telling))
-telling_few P [] some is = absurd (omega arith)
-telling_few P (r ∷ rs) some is = elim is.some [
-  | inl all ↦ rw all (omega arith, λ h. h)
-  | inr none ↦ rw none (omega (arith, sum_by-cons rule_bound r.now (rules_at rs)), λ h k d lt. absurd (omega arith))
+telling_few : {default : Answer} {telling : List Rule} (rules own : List Rule) → 0 < length own
+    → AreTelling default telling own → All (Contains rules) own
+    → (rules_bound telling ≤ 1 + sum_by rule_bound own) × All (Contains rules) telling
+telling_few rules [] some is all = absurd (omega arith)
+telling_few rules (r ∷ rs) some is all = elim is.some [
+  | inl same ↦ rw same (omega arith, all)
+  | inr none ↦ rw none (omega (arith, sum_by-cons rule_bound r rs), λ k d lt. absurd (omega arith))
 ]
 
--- The stretches so far serve the numbers below `next`, and `rest` are the rules from it on. There may be as many
--- stretches `more` than two for each number.
-pub record LaidUpTo (default : Answer) (rules : List Rule) (ss : List Stretch) (next : ℕ) (rest : List (Bor Rule))
-    (more : ℕ) : Type 0 where
-  pub serve : AreServed default (λ nr. rules_of nr rules) 0 ss next
-  pub own : AllRules (Contains rules) ss
+-- The first `k` of the numbers are laid, no more than two stretches for each, and the next one is `next` or above it.
+pub record AreLaid (default : Answer) (numbers : List NumberRules) (rules : List Rule) (ss : List Stretch) (next k : ℕ)
+    : Type 0 where
+  pub laid : AreStretchesUpTo next (2 * k) (4 * k + sum_by own_bound (take k numbers)) default ss rules
   pub inside : next ≤ x32_syscall_bit
-  pub rising : IsNonDecreasingBy (λ r. r.now.number) rest
-  pub left : (nr : ℕ) → next ≤ nr → rules_of nr rules ≡ rules_of nr (rules_at rest)
-  pub none : (nr : ℕ) → nr < next → rules_of nr (rules_at rest) ≡ []
-  pub few : (numbers : List ℕ) → AreAmong numbers rules → (length ss ≤ 2 * passed next numbers + more)
-      × (sum_by stretch_bound ss + sum_by rule_bound (rules_at rest)
-      ≤ 4 * passed next numbers + sum_by rule_bound rules + 3 * more)
+  pub above : (j : ℕ) → j < k → get_or (map number_in numbers) j 0 < next
+  pub within : k < length numbers → next ≤ get_or (map number_in numbers) k 0
 
-pub laid_none : (default : Answer) (refs : List (Bor Rule)) → IsNonDecreasingBy (λ r. r.now.number) refs
-    → LaidUpTo default (rules_at refs) [] 0 refs 0
-laid_none default refs rising = record {
-  serve = refl;
-  own = λ k d lt. absurd (omega arith);
+pub laid_none : (default : Answer) (numbers : List NumberRules) (rules : List Rule)
+    → AreLaid default numbers rules [] 0 0
+laid_none default numbers rules = record {
+  laid = record { serve = refl; own = λ k d lt. absurd (omega arith); few = omega arith; small = omega arith };
   inside = omega arith;
-  rising = rising;
-  left = λ nr from. refl;
-  none = λ nr lt. absurd (omega arith);
-  few = λ numbers among. (omega arith, omega arith);
+  above = λ j lt. absurd (omega arith);
+  within = λ lt. omega arith;
 }
 
-module _ {default : Answer} {rules : List Rule} {before after : List Stretch} {rest : List (Bor Rule)} where
-  -- a stretch without rules, up to the next of the numbers or to the end
-  pub laid_gap : (next limit : ℕ) → LaidUpTo default rules before next rest 0 → IsLaid before next [] after
-      → next < limit → limit ≤ x32_syscall_bit → ((nr : ℕ) → nr < limit → rules_of nr (rules_at rest) ≡ [])
-      → LaidUpTo default rules after limit rest 1
-  laid_gap next limit laid put lt inside none = record {
-    serve = served_more default (λ nr. rules_of nr rules) before after next limit [] put laid.serve lt
-        (λ nr from below. rw (laid.left nr from, none nr below)
-        (record { answers = λ call. refl; small = omega arith }));
-    own = (laid_more (Contains rules) put).2 laid.own (λ k d lt. absurd (omega arith));
-    inside = inside;
-    rising = laid.rising;
-    left = λ nr from. laid.left nr (omega arith);
-    none = none;
-    few = λ numbers among.
-        let few = laid.few numbers among in
-        let one = laid_more (Contains rules) put in
-        let rises = passed_rises numbers next limit (omega arith) in
-        (omega arith, omega arith);
-  }
+module _ (numbers : List NumberRules) (rules : List Rule) (are : AreNumbersOf numbers rules) where
+  abbrev ns : List ℕ
+  ns = map number_in numbers
 
-  -- the stretch of the lowest number, or one more number of the last stretch
-  pub laid_own : (lowest : NumberRules) (others telling : List (Bor Rule)) (more : ℕ)
-      → LaidUpTo default rules before lowest.number rest more → more ≤ 1 → IsCut rest lowest others
-      → lowest.number < x32_syscall_bit → AreTelling default telling lowest.rules.now
-      → IsLaid before lowest.number telling after → LaidUpTo default rules after (lowest.number + 1) others 0
-  laid_own lowest others telling more laid one cut inside tells put =
-      let number = lowest.number in
-      let own = rules_at lowest.rules.now in
-      let is : own ≡ rules_of number rules = cut.own ∙ sym (laid.left number (omega arith)) in
-      let some : 0 < length own = omega (arith, cut.some, length-map lowest.rules.now (λ (r : Bor Rule). r.now)) in
-      let few_tell = telling_few (Contains rules) lowest.rules.now cut.some tells in
-      record {
-        serve = served_more default (λ nr. rules_of nr rules) before after number (number + 1) telling put laid.serve
-            (omega arith) (λ nr from below. let same : nr ≡ number = omega arith in rw (same, ← is) tells.stand);
-        own = (laid_more (Contains rules) put).2 laid.own (few_tell.1
-            (rw is (All-filter (λ r. eqb r.number number) (Contains rules) rules (All-contains_itself rules))));
-        inside = omega arith;
-        rising = cut.rising;
-        left = λ nr from. laid.left nr (omega arith) ∙ cut.left nr (λ e. omega arith);
-        none = λ nr lt. cut.none nr (omega arith);
-        few = λ numbers among.
-            let few = laid.few numbers among in
-            let put_one = laid_more (Contains rules) put in
-            let bound = few_tell.0 in
-            let sums : sum_by rule_bound (rules_at rest) ≡ sum_by rule_bound own + sum_by rule_bound (rules_at others) =
-            ap (λ (l : List (Bor Rule)). sum_by rule_bound (rules_at l)) cut.whole
-            ∙ ap (sum_by rule_bound) (map-append (λ (r : Bor Rule). r.now) lowest.rules.now others)
-            ∙ sum_by-append rule_bound own (rules_at others) in
-            elim (among number) [
-              | inl named ↦ let passes = passed_more numbers number number named (omega arith) in
-                  (omega arith, omega arith)
-              | inr none ↦ absurd (let nothing = ap (λ (l : List Rule). length l) (is ∙ none) in omega (arith, some))
-            ];
-      }
+  len : length ns ≡ length numbers
+  len = length-map numbers number_in
 
-none_above : (rs : List Rule) (nr : ℕ) → AllByRecursion IsRule rs → x32_syscall_bit ≤ nr → rules_of nr rs ≡ []
-none_above [] nr fine le = refl
-none_above (r ∷ rs) nr fine le =
-    let lt = fine.0.number in
-    rw (ne_eqb r.number nr (λ e. omega arith)) (none_above rs nr fine.1 le)
+  rise : (i j : ℕ) → i < j → j < length numbers → get_or ns i 0 < get_or ns j 0
+  rise i j lt inside = rises ns are.rising i j lt (omega (arith, len))
 
--- the lowest number of the rules that are left is none of those before
-pub lowest_inside : {default : Answer} {rules : List Rule} {ss : List Stretch} {next more : ℕ} {rest : List (Bor Rule)}
-    (lowest : NumberRules) (others : List (Bor Rule)) → LaidUpTo default rules ss next rest more
-    → IsCut rest lowest others → All IsRule rules → (next ≤ lowest.number) × (lowest.number < x32_syscall_bit)
-lowest_inside {rules = rules} {next = next} {rest = rest} lowest others laid cut fine =
-    let number = lowest.number in
-    let some : rules_of number (rules_at rest) ≡ [] → ⊥ = λ none.
-    let len = ap (λ (l : List Rule). length l) (cut.own ∙ none) in
-    omega (arith, cut.some, length-map lowest.rules.now (λ (r : Bor Rule). r.now)) in
-    let low : next ≤ number = grind (arith, laid.none number, some) in
-    let above = none_above rules number (recursion_from_All IsRule rules fine) in
-    (low, grind (arith, laid.left number low, above, some))
+  pub each_number : (P : ℕ → Type 0) → All (λ r. P r.number) rules → All (λ own. P own.number) numbers
+  each_number P all k d lt =
+      let own = All-permutation P (numbers_of rules) ns are.same (numbers_all P rules all) k 0 in
+      rw (get_or-map number_in numbers k d 0 lt) at (own (omega (arith, len)))
 
-pub laid_all : {default : Answer} {rules : List Rule} {ss : List Stretch} {rest : List (Bor Rule)} (more : ℕ)
-    → LaidUpTo default rules ss x32_syscall_bit rest more → more ≤ 1 → AreStretchesOf default ss rules
-laid_all more laid one = record {
-  serve = laid.serve;
-  own = laid.own;
-  few = λ numbers among.
-      let few = laid.few numbers among in
-      let most = count_by-le-length (λ n. ltb n x32_syscall_bit) numbers in
-      (omega arith, omega arith);
-}
+  -- each number has rules
+  own_some : All (λ own. 0 < length own.rules.items) numbers
+  own_some k d lt =
+      rw (are.own k d lt) (each_number (λ nr. 0 < length (rules_of nr rules)) (λ j r inside.
+      let s = get_or rules j r in
+      let there = contains_filtered (λ t. eqb t.number s.number) rules s (eq-eqb _ _ refl)
+      (j, inside, get_or_default rules j s r inside) in
+      omega (arith, there.1)) k d lt)
+
+  module _ {default : Answer} {ss : List Stretch} {next k : ℕ} (laid : AreLaid default numbers rules ss next k) where
+    -- no rules have a number below the next one
+    none_between : (nr : ℕ) → next ≤ nr → (k < length numbers → nr < get_or ns k 0)
+        → rules_of nr rules ≡ []
+    none_between nr from below = elim (number_there nr rules) [
+      | inl named ↦
+          let at = Contains-permutation (numbers_of rules) ns nr are.same named in
+          let here = get_or_default ns at.0 nr 0 at.1 in
+          absurd (elim (cases_lt at.0 k) [
+            | inl earlier ↦ omega (arith, laid.above at.0 earlier, at.2)
+            | inr later ↦ let close = below (omega (arith, at.1, len)) in elim (cases_eq k at.0) [
+              | inl same ↦ omega (arith, rw same at close, at.2)
+              | inr apart ↦ omega (arith, rise k at.0 (omega arith) (omega (arith, at.1, len)), at.2)
+            ]
+          ])
+      | inr none ↦ none
+    ]
+
+    pub laid_all : {after : List Stretch} → k ≡ length numbers → (next < x32_syscall_bit → IsLaid ss next [] after)
+        → (x32_syscall_bit ≤ next → after ≡ ss) → AreStretchesOf default after rules
+    laid_all all some none =
+        let sums : sum_by own_bound (take k numbers) ≡ sum_by rule_bound rules =
+        ap (sum_by own_bound) (take_all k numbers (omega arith)) ∙ sum_of_rules numbers rules are rule_bound in
+        let count = count_of_numbers numbers rules are in
+        laid_within (laid_gap laid.laid x32_syscall_bit some none laid.inside
+        (λ nr from below. none_between nr from (λ lt. absurd (omega arith)))) refl (omega arith) (omega arith)
+
+    pub laid_own : {mid telling after : _} (own : NumberRules) → own ≡ get_or numbers k own → k < length numbers
+        → own.number < x32_syscall_bit → (next < own.number → IsLaid ss next [] mid) → (own.number ≤ next → mid ≡ ss)
+        → AreTelling default telling own.rules.items → IsLaid mid own.number telling after
+        → AreLaid default numbers rules after (own.number + 1) (k + 1)
+    laid_own own is lt below some none tells put =
+        let here : get_or ns k 0 ≡ own.number = get_or-map number_in numbers k own 0 lt ∙ ap number_in (sym is) in
+        let its = rw (← is) at (are.own k own lt) in
+        let few_tell = telling_few rules own.rules.items (rw (← is) at (own_some k own lt)) tells (rw its
+        (All-filter (λ r. eqb r.number own.number) (Contains rules) rules (All-contains_itself rules))) in
+        let gap = laid_gap laid.laid own.number some none (omega (arith, laid.within lt))
+        (λ nr from below. none_between nr from (λ lt. omega arith)) in
+        let sums = rw (← is) at (sum_by_more own_bound numbers k own lt) in
+        record {
+          laid = laid_within (laid_more gap (own.number + 1) put (omega arith) few_tell.1
+              (λ nr from below. let same : nr ≡ own.number = omega arith in rw (same, ← its) tells.stand))
+              refl (omega arith) (omega (arith, few_tell.0));
+          inside = omega arith;
+          above = λ j earlier. elim (cases_eq j k) [
+            | inl same ↦ rw same (omega arith)
+            | inr apart ↦ omega (arith, rise j k (omega arith) lt)
+          ];
+          within = λ more. omega (arith, rise k (k + 1) (omega arith) more);
+        }

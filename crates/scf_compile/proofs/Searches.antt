@@ -1,5 +1,5 @@
 -- The search of stretches finds that of each number.
-use Rattle.scf_compile.proofs.Common.{◌≡◌, ℕ, zero, suc, ◌+◌, ◌-◌, ◌*◌, ◌^◌, ◌<◌, ◌≤◌, List, [], ◌∷◌, ◌++◌, length, get_or, get_or-append-add, get_or_append_left, sym, ap, ◌∙◌, arith, length-append, sum_by, nat_tests, recursion_from_All, sum_by-cons, sum_by-append, Answer, Insn, CallRecord, IsRecord, GreaterOrEqual, words_of, Rule, rules_at, IsPlainRule, IsRule, Place, Stretch, rule_bound, branch_code, IsFirst, IsPut, rules_code, IsSearchPut, EndsWithin, AllRules, AreServed, first_answer, stretch_bound}
+use Rattle.scf_compile.proofs.Common.{◌≡◌, ℕ, zero, suc, ◌+◌, ◌-◌, ◌*◌, ◌^◌, ◌<◌, ◌≤◌, List, [], ◌∷◌, ◌++◌, length, get_or, get_or-append-add, get_or_append_left, sym, ap, ◌∙◌, arith, length-append, sum_by, nat_tests, recursion_from_All, sum_by-cons, sum_by-append, Answer, Insn, CallRecord, IsRecord, GreaterOrEqual, words_of, Rule, IsPlainRule, IsRule, Place, Stretch, rule_bound, branch_code, IsFirst, IsPut, rules_code, IsSearchPut, EndsWithin, AllRules, AreServed, first_answer, stretch_bound}
 use Rattle.scf_compile.proofs.Laying.{served_parts}
 use Rattle.scf_compile.proofs.Runs.{more}
 use Rattle.scf_compile.proofs.RuleCode.{rules_answer, rules_bounded, branch_ends, branch_sound, branch_stays}
@@ -70,10 +70,10 @@ one_is (t ∷ []) s some one is = ap (λ (u : Stretch). u ∷ []) (sym is)
 one_is (t ∷ u ∷ ss) s some one is = absurd (omega arith)
 
 pub search_one : (default : Answer) (s : Stretch) (before after : List Insn) (place : Place)
-    → AllRules IsRule (s ∷ []) → IsPut (rules_code default (rules_at s.rules.now)) before after place
+    → AllRules IsRule (s ∷ []) → IsPut (rules_code default s.rules.now) before after place
     → IsSearchPut default (s ∷ []) before after place
 search_one default s before after place fine put =
-    let rs = rules_at s.rules.now in
+    let rs = s.rules.now in
     let own = recursion_from_All IsRule rs (fine 0 s (omega arith)) in
     let bounded = rules_bounded rs in
     let code = rules_answer default rs own in

@@ -1,5 +1,5 @@
 -- How long the code of a filter is.
-use Rattle.scf_compile.proofs.Common.{◌≡◌, ℕ, ◌+◌, ◌<◌, ◌≤◌, ◌⊎◌, Bool, true, false, not, cond, eqb, List, [], ◌∷◌, ◌++◌, length, map, get_or, take, refl, sym, ap, ◌∙◌, arith, inl, inr, length-append, sum_by, Contains, AllByRecursion, list_any, cases_eq, ne_eqb, not_from_false, ◌≢◌, All-from_recursion, All-map, Contains-append_right, recursion_from_All, length-map, take_more, sum_by-cons, sum_by-append, length-le_from_distinct_below, Condition, Rule, IsCondition, AreConditions, HaveDistinctIndices, numbers_of, rules_of, rule_bound, contains_filtered, numbers_of-push, has_number}
+use Rattle.scf_compile.proofs.Common.{◌≡◌, ℕ, ◌<◌, ◌≤◌, ◌^◌, Bool, true, false, not, eqb, List, [], ◌∷◌, length, map, get_or, refl, arith, inl, inr, All, AllByRecursion, list_any, cases_eq, ne_eqb, ◌≢◌, All-from_recursion, All-map, recursion_from_All, length-map, length-le_from_distinct_below, length-filter_both, sum_by-le, Condition, Rule, IsRule, IsCondition, AreConditions, HaveDistinctIndices, numbers_of, rule_bound, Profile, IsProfile, size_bound_of}
 use Rattle.std.specs.List.{IsDistinct}
 
 -- ---- no more than six conditions
@@ -29,39 +29,20 @@ few_conditions cs fine =
     (λ i h. below_six cs i fine.each h) in
     omega (arith, few, length-map cs (λ (c : Condition). c.index))
 
--- ---- the distinct numbers
+-- ---- the bound
 
--- the number is that of a rule, or no rule has it
-pub number_there : (nr : ℕ) (rs : List Rule) → Contains (numbers_of rs) nr ⊎ (rules_of nr rs ≡ [])
-number_there nr [] = inr refl
-number_there nr (r ∷ rs) =
-    elim (cases_eq r.number nr) [
-      | inl same ↦ inl (0, omega arith, same)
-      | inr apart ↦ elim (number_there nr rs) [
-        | inl later ↦ inl (Contains-append_right (r.number ∷ []) _ nr
-            (contains_filtered (λ number. not (eqb number r.number)) (numbers_of rs) nr
-            (not_from_false _ (ne_eqb nr r.number (λ e. apart (sym e)))) later))
-        | inr none ↦ inr (rw (ne_eqb r.number nr apart) none)
-      ]
-    ]
+few_numbers : (rs : List Rule) → length (numbers_of rs) ≤ length rs
+few_numbers [] = omega arith
+few_numbers (r ∷ rs) =
+    let others : ℕ → Bool = λ number. not (eqb number r.number) in
+    let fewer = length-filter_both others (λ number. not (others number)) (λ number. refl) (numbers_of rs) in
+    omega (arith, few_numbers rs)
 
--- ---- the bound, rule by rule
+pub rules_valid : (p : Profile) → IsProfile p → All IsRule p.rules
+rules_valid p valid = All-from_recursion IsRule p.rules valid.each
 
--- the bound of the rules up to a place: that of the last one has a new number, or one that stands there
-pub bound_with : (rules : List Rule) (i : ℕ) (r : Rule) (there : Bool) → i < length rules → r ≡ get_or rules i r
-    → there ≡ has_number r.number (take i rules)
-    → (length (numbers_of (take (i + 1) rules)) ≡ length (numbers_of (take i rules)) + cond there 0 1)
-    × (sum_by rule_bound (take (i + 1) rules) ≡ sum_by rule_bound (take i rules) + rule_bound r)
-bound_with rules i r there lt is h =
-    let front = take i rules in
-    let more : take (i + 1) rules ≡ front ++ r ∷ [] =
-    take_more rules i r lt ∙ ap (λ (s : Rule). front ++ s ∷ []) (sym is) in
-    rw (more, h) (
-      ap (λ (ns : List ℕ). length ns) (numbers_of-push front r) ∙ counted (has_number r.number front),
-      omega (arith, sum_by-append rule_bound front (r ∷ []), sum_by-cons rule_bound r []),
-    )
-  where
-    counted : (there : Bool) → length (numbers_of (take i rules) ++ cond there [] (r.number ∷ []))
-        ≡ length (numbers_of (take i rules)) + cond there 0 1
-    counted true = length-append (numbers_of (take i rules)) []
-    counted false = length-append (numbers_of (take i rules)) (r.number ∷ [])
+pub size_small : (p : Profile) → IsProfile p → size_bound_of p < 2 ^ 31
+size_small p valid =
+    let most = sum_by-le rule_bound 50 p.rules (λ k d lt.
+    omega (arith, few_conditions (get_or p.rules k d).conditions (rules_valid p valid k d lt).conditions)) in
+    omega (arith, few_numbers p.rules, valid.few)

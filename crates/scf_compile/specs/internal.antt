@@ -1,6 +1,5 @@
 pub mod Insns
 pub mod Blocks
-pub mod Numbers
 pub mod Stretches
 pub mod Placing
 pub mod Runs

@@ -18,7 +18,7 @@ use crate::stretches::stretches_of;
 use scf_insn::kernel::{AUDIT_ARCH_X86_64, BPF_MAXINSNS, X32_SYSCALL_BIT};
 use scf_insn::{Insn, Memory, Test};
 use scf_machine::{CheckFault, Program, check};
-use scf_profile::{FOREIGN_ANSWER, Profile, rules_by_number};
+use scf_profile::{FOREIGN_ANSWER, Profile};
 use std::alloc::Global;
 use std::collections::VecDeque;
 
@@ -27,8 +27,7 @@ fn search_of(alloc: Global, profile: &Profile) -> Result<(VecDeque<Insn>, Place)
     ensures { IfOk result (λ found. IsSearchOf profile.now found.0.items found.1) }
 {
     let default = profile.default_answer();
-    let sorted = rules_by_number(alloc, profile.rules())?;
-    let stretches = stretches_of(alloc, &sorted, default)?;
+    let stretches = stretches_of(alloc, profile.numbers(), default)?;
     let mut code = VecDeque::new(alloc);
     let place = put_search(alloc, &mut code, &stretches, default)?;
     Ok((code, place))
@@ -54,6 +53,7 @@ fn filter_of(alloc: Global, profile: &Profile) -> Result<Vec<Insn>, Memory>
 /// of distinct numbers, and for the rules of one number 2 and 8 for each condition. A profile whose masks are simple
 /// gives a plain program. `TooLarge` comes only where `size_bound` exceeds `BPF_MAXINSNS`, and `Memory` where a growth
 /// was refused.
+#[tactic(auto, using(crate::proofs::Valid::answers_same, crate::proofs::Valid::is_plain))]
 pub fn compile(alloc: Global, profile: &Profile) -> Result<Program, CompileFault>
     ensures same { IfOk result (λ program. SameAnswers (RunAnswers program) profile.now) }
     ensures searched { IfOk result (λ program. AnswersWithin program (search_bound_of profile.now)) }

@@ -5,7 +5,6 @@ mod blocks;
 mod compiler;
 mod fault;
 mod insns;
-mod numbers;
 mod placing;
 mod rules;
 mod search;

@@ -26,6 +26,7 @@ fn find(code: &VecDeque<Insn>, wanted: Insn) -> Option<Place>
 }
 
 /// Puts instructions before the code.
+#[tactic(auto, using(crate::proofs::Common::drop_more))]
 pub(crate) fn put_front(code: &mut VecDeque<Insn>, block: &[Insn]) -> Result<(), AllocError>
     ensures { OnOk result (code.new.items ≡ block.now ++ code.old.items) }
 {

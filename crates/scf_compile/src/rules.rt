@@ -2,7 +2,6 @@
 
 ghost use Rattle.std.specs.Prelude.{◌≡◌, ◌++◌, ◌<◌, ◌≤◌, IfOk, OnOk, length, All};
 ghost use Rattle.scf_insn.specs.Kernel.{seccomp_data_args};
-ghost use Rattle.scf_profile.specs.ByNumber.{rules_at};
 ghost use Rattle.scf_profile.specs.Rule.{IsRule};
 ghost use Rattle.scf_compile.specs.internal.Filters.{conditions_code, rule_code, rules_code};
 
@@ -28,6 +27,7 @@ fn put_conditions(code: &mut VecDeque<Insn>, conditions: &[Condition]) -> Result
 }
 
 /// Answers as a rule does where its conditions hold, else goes on behind.
+#[tactic(auto, using(crate::proofs::Sizes::few_conditions))]
 fn put_rule(code: &mut VecDeque<Insn>, rule: &Rule) -> Result<(), AllocError>
     requires { IsRule rule.now }
     ensures { OnOk result (code.new.items ≡ rule_code rule.now ++ code.old.items) }
@@ -39,16 +39,16 @@ fn put_rule(code: &mut VecDeque<Insn>, rule: &Rule) -> Result<(), AllocError>
 /// Some rules, one after another, and the default answer behind them. Nothing stands behind a rule without conditions.
 pub(crate) fn rules_block(
     alloc: Global,
-    rules: &[&Rule],
+    rules: &[Rule],
     default: Answer,
 ) -> Result<Vec<Insn>, AllocError>
-    requires { All IsRule (rules_at rules.now) }
-    ensures { IfOk result (λ block. block.items ≡ rules_code default (rules_at rules.now)) }
+    requires { All IsRule rules.now }
+    ensures { IfOk result (λ block. block.items ≡ rules_code default rules.now) }
 {
     let mut block = VecDeque::new(alloc);
     block.push_front(return_with(default))?;
     for i in (0..rules.len()).rev() {
-        let rule = rules[i];
+        let rule = &rules[i];
         if rule.conditions.as_slice().is_empty() {
             block.clear();
         }

@@ -1,14 +1,12 @@
 -- The rules that apply from each number on.
 use Rattle.std.specs.Prelude.{◌≡◌, ℕ, ◌+◌, ◌*◌, ◌<◌, ◌≤◌, ◌⊎◌, All, Contains, List, [], ◌∷◌, ◌++◌, length, sum_by}
 use Rattle.std.specs.Prelude.{if◌then◌else◌}
-use Rattle.std.specs.Borrow.{Bor}
 use Rattle.scf_insn.specs.declared.answer.Answer.{Answer}
 use Rattle.scf_insn.specs.declared.record.CallRecord.{CallRecord}
 use Rattle.scf_insn.specs.Kernel.{x32_syscall_bit}
 use Rattle.scf_profile.specs.declared.rule.Rule.{Rule}
-use Rattle.scf_profile.specs.ByNumber.{rules_at}
 use Rattle.scf_profile.specs.Rule.{all_hold}
-use Rattle.scf_profile.specs.RulesByNumber.{rules_of}
+use Rattle.scf_profile.specs.RulesByNumber.{numbers_of, rules_of}
 use Rattle.scf_compile.specs.declared.stretches.Stretch.{Stretch}
 use Rattle.scf_compile.specs.SizeBound.{rule_bound}
 
@@ -24,8 +22,8 @@ pub record StandsFor (default : Answer) (rules others : List Rule) : Type 0 wher
   pub small : sum_by rule_bound rules ≤ sum_by rule_bound others
 
 -- The rules of a number that tell: they stand for all of them, and are all or none.
-pub record AreTelling (default : Answer) (telling own : List (Bor Rule)) : Type 0 where
-  pub stand : StandsFor default (rules_at telling) (rules_at own)
+pub record AreTelling (default : Answer) (telling own : List Rule) : Type 0 where
+  pub stand : StandsFor default telling own
   pub some : (telling ≡ own) ⊎ (telling ≡ [])
 
 -- a count of instructions that a stretch stays within: with its share of the tests of the call number
@@ -34,17 +32,17 @@ rules_bound [] = 3
 rules_bound (r ∷ rs) = 1 + sum_by rule_bound (r ∷ rs)
 
 abbrev pub stretch_bound : Stretch → ℕ
-stretch_bound s = rules_bound (rules_at s.rules.now)
+stretch_bound s = rules_bound s.rules.now
 
 -- what holds of each rule of some stretches
 abbrev pub AllRules : (Rule → Type 0) → List Stretch → Type 0
-AllRules P stretches = All (λ s. All P (rules_at s.rules.now)) stretches
+AllRules P stretches = All (λ s. All P s.rules.now) stretches
 
 -- The stretch begins at the lower bound, and up to the other one its rules stand for those wanted of each number.
 pub record IsServed (default : Answer) (wanted : ℕ → List Rule) (s : Stretch) (low high : ℕ) : Type 0 where
   pub first : s.first ≡ low
   pub some : low < high
-  pub stand : (nr : ℕ) → low ≤ nr → nr < high → StandsFor default (rules_at s.rules.now) (wanted nr)
+  pub stand : (nr : ℕ) → low ≤ nr → nr < high → StandsFor default s.rules.now (wanted nr)
 
 -- the numbers from one bound up to another have a stretch each: every stretch goes on up to the next one
 abbrev pub AreServed : Answer → (ℕ → List Rule) → ℕ → List Stretch → ℕ → Type 0
@@ -53,20 +51,24 @@ AreServed default wanted low (s ∷ ss) high =
     (middle : ℕ) × IsServed default wanted s low middle × AreServed default wanted middle ss high
 
 -- From a number on the rules apply: a stretch of them stands behind the others, or the last one's stand for them.
-pub data IsLaid (before : List Stretch) (first : ℕ) (rules : List (Bor Rule)) (after : List Stretch) : Type 0 where
+pub data IsLaid (before : List Stretch) (first : ℕ) (rules : List Rule) (after : List Stretch) : Type 0 where
   begins : (s : Stretch) → s.first ≡ first → s.rules.now ≡ rules → after ≡ before ++ s ∷ []
       → IsLaid before first rules after
   goes_on : (earlier : List Stretch) (last : Stretch) → before ≡ earlier ++ last ∷ []
-      → ((default : Answer) → StandsFor default (rules_at last.rules.now) (rules_at rules)) → after ≡ before
+      → ((default : Answer) → StandsFor default last.rules.now rules) → after ≡ before
       → IsLaid before first rules after
 
--- the numbers of the rules are among these
-abbrev pub AreAmong : List ℕ → List Rule → Type 0
-AreAmong numbers rules = (nr : ℕ) → Contains numbers nr ⊎ (rules_of nr rules ≡ [])
+-- Each number below `end` is served by one of the stretches, which have some of the rules. They are at most so many,
+-- and so are the instructions that they stay within.
+pub record AreStretchesUpTo (end most bound : ℕ) (default : Answer) (stretches : List Stretch) (rules : List Rule)
+    : Type 0 where
+  pub serve : AreServed default (λ nr. rules_of nr rules) 0 stretches end
+  pub own : AllRules (Contains rules) stretches
+  pub few : length stretches ≤ most
+  pub small : sum_by stretch_bound stretches ≤ bound
 
 -- These are the stretches of the rules: each number is served by one, and they are few and small.
-pub record AreStretchesOf (default : Answer) (stretches : List Stretch) (rules : List Rule) : Type 0 where
-  pub serve : AreServed default (λ nr. rules_of nr rules) 0 stretches x32_syscall_bit
-  pub own : AllRules (Contains rules) stretches
-  pub few : (numbers : List ℕ) → AreAmong numbers rules → (length stretches ≤ 1 + 2 * length numbers)
-      × (sum_by stretch_bound stretches ≤ 3 + 4 * length numbers + sum_by rule_bound rules)
+abbrev pub AreStretchesOf : Answer → List Stretch → List Rule → Type 0
+AreStretchesOf default stretches rules =
+    let count = length (numbers_of rules) in
+    AreStretchesUpTo x32_syscall_bit (1 + 2 * count) (3 + 4 * count + sum_by rule_bound rules) default stretches rules

@@ -1,22 +1,6 @@
-use Rattle.scf_compile.proofs.Common.{rules, ◌≡◌, ◌++◌, ap, arith, IfOk-weaker, sum_by, sum_by-append, rules_at, IsRule, IsFirst, IsPut, IsSearchPut, rules_code, stretch_bound}
-use Rattle.scf_compile.proofs.Searches.{all_parts, one_is, search_branch, search_one}
+use Rattle.scf_compile.proofs.Common.{rules, ◌≡◌, ◌++◌, ap, arith, IfOk-weaker, sum_by, sum_by-append, IsFirst, IsPut, IsSearchPut, rules_code, stretch_bound}
+use Rattle.scf_compile.proofs.Searches.{one_is, search_branch, search_one}
 use Rattle.scf_compile.proofs.search.+put_search.Goals as goal
-
-pub put_search-requires : goal.put_search-requires
-put_search-requires t c =
-    let whole = c.split_at.ensures.by_index.0 in
-    let sums = rw sum_by-append at (ap (sum_by stretch_bound) whole) in
-    let measure = c.decreases in
-    let own = (all_parts IsRule c.split_at.result.0.now c.split_at.result.1.now (rw whole at c.requires.rules)).0 in
-    (omega arith, (omega arith, (own, omega arith)))
-
-pub put_search-requires-then-stretches-gt1 : goal.put_search-requires-then-stretches-gt1
-put_search-requires-then-stretches-gt1 t c =
-    let whole = c.split_at.ensures.by_index.0 in
-    let sums = rw sum_by-append at (ap (sum_by stretch_bound) whole) in
-    let measure = c.decreases in
-    let own = (all_parts IsRule c.split_at.result.0.now c.split_at.result.1.now (rw whole at c.requires.rules)).1 in
-    (omega arith, (omega arith, (own, omega (arith, c.in_ok-miss.ensures.small))))
 
 pub put_branch-requires-clause-few : goal.put_branch-requires-clause-few
 put_branch-requires-clause-few t c =
@@ -38,7 +22,7 @@ returns t c =
     let s = c.index-stretches-0.result in
     let one = c.if-stretches-gt1.false in
     let is = one_is ss s c.requires.some (omega arith) c.index-stretches-0.is in
-    let block : c.deref.result.now ≡ rules_code c.args.default (rules_at s.rules.now) = search rules in
+    let block : c.deref.result.now ≡ rules_code c.args.default s.rules.now = search rules in
     IfOk-weaker c.put_block.result (IsPut c.deref.result.now c.args.code.now.items c.put_block.new.code.items)
     (IsSearchPut c.args.default ss _ _)
     (λ place put. rw is (search_one c.args.default s _ _ place (rw is at c.requires.rules) (rw block at put)))

@@ -1,25 +1,25 @@
-use Rattle.scf_compile.proofs.Common.{rules, tests, zip, YieldsList-from_slice, YieldsList-from_zip, cases_from_all, All-from_all_within, ◌≡◌, true, Bor, List, [], ◌∷◌, length, refl, arith, AllByRecursion, recursion_from_All, sum_by-cons, pointwise, pointwise_decides, Answer, Condition, eq-value, Rule, rules_at, rule_bound, StandsFor}
+use Rattle.scf_compile.proofs.Common.{rules, tests, zip, YieldsList-from_slice, YieldsList-from_zip, cases_from_all, All-from_all_within, ◌≡◌, true, List, [], ◌∷◌, length, refl, arith, AllByRecursion, recursion_from_All, sum_by-cons, pointwise, pointwise_decides, Answer, Condition, eq-value, Rule, rule_bound, StandsFor}
 use Rattle.scf_compile.proofs.stretches.are_alike.Goals as goal
 
 -- conditions that `==` takes as equal are
 same_conditions : (cs ds : List Condition) → pointwise eq-value.it cs ds ≡ true → cs ≡ ds
 same_conditions cs ds = (pointwise_decides {E = eq-value.it} (λ c d. (λ e. search rules, λ e. search rules)) cs ds).0
 
-abbrev AreLike : Bor Rule × Bor Rule → Type 0
-AreLike p = (pointwise eq-value.it p.0.now.conditions p.1.now.conditions ≡ true) × (p.0.now.answer ≡ p.1.now.answer)
+abbrev AreLike : Rule × Rule → Type 0
+AreLike p = (pointwise eq-value.it p.0.conditions p.1.conditions ≡ true) × (p.0.answer ≡ p.1.answer)
 
 -- rules that are alike one by one stand for one another
-alike : (default : Answer) (rs os : List (Bor Rule)) → length rs ≡ length os → AllByRecursion AreLike (zip rs os)
-    → StandsFor default (rules_at rs) (rules_at os)
+alike : (default : Answer) (rs os : List Rule) → length rs ≡ length os → AllByRecursion AreLike (zip rs os)
+    → StandsFor default rs os
 alike default [] [] len all = record { answers = λ call. refl; small = omega arith }
 alike default [] (o ∷ os) len all = absurd (omega arith)
 alike default (r ∷ rs) [] len all = absurd (omega arith)
 alike default (r ∷ rs) (o ∷ os) len all =
     let rest = alike default rs os (omega arith) all.1 in
-    let conditions = same_conditions r.now.conditions o.now.conditions all.0.0 in
+    let conditions = same_conditions r.conditions o.conditions all.0.0 in
     record {
       answers = λ call. rw (conditions, all.0.1, rest.answers call) refl;
-      small = rw (sum_by-cons rule_bound r.now (rules_at rs), sum_by-cons rule_bound o.now (rules_at os), conditions)
+      small = rw (sum_by-cons rule_bound r rs, sum_by-cons rule_bound o os, conditions)
           (let small = rest.small in omega arith);
     }
 

@@ -1,4 +1,4 @@
-use Rattle.scf_compile.proofs.Common.{rules, ◌≡◌, Bor, List, [], ◌∷◌, refl, sym, ap, inl, inr, arith, AllByRecursion, cases_Bool, All-map, recursion_from_All, Answer, CallRecord, Rule, rules_at, all_hold, first_answer}
+use Rattle.scf_compile.proofs.Common.{rules, ◌≡◌, List, [], ◌∷◌, refl, sym, ap, inl, inr, arith, AllByRecursion, cases_Bool, recursion_from_All, Answer, CallRecord, Rule, all_hold, first_answer}
 use Rattle.scf_compile.proofs.stretches.telling_rules.Goals as goal
 
 of_default : (default : Answer) (call : CallRecord) (rs : List Rule) → AllByRecursion (λ r. r.answer ≡ default) rs
@@ -12,11 +12,9 @@ of_default default call (r ∷ rs) h =
 
 pub returns-then-all : goal.returns-then-all
 returns-then-all c =
-    let own = c.args.own.now.rules.now in
-    let default = c.args.default in
-    let P : Rule → Type 0 = λ r. r.answer ≡ default in
-    let all = recursion_from_All P (rules_at own) (All-map P (λ (r : Bor Rule). r.now) own (search rules)) in
+    let own = c.args.own.now.rules.items in
+    let all = recursion_from_All (λ r. r.answer ≡ c.args.default) own (search rules) in
     record {
-      stand = record { answers = λ call. sym (of_default default call (rules_at own) all); small = omega arith };
+      stand = record { answers = λ call. sym (of_default c.args.default call own all); small = omega arith };
       some = inr refl;
     }
