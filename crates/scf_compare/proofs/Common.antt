@@ -1,14 +1,12 @@
 -- The names that proofs of this crate cite, passed on from one place. Declares nothing.
-pub use Rattle.std.proofs.Common.{All, Bool, Contains, IfOk, IfSome, IsSome, IsTrue, List, None, Option, Some, [], ap, arith, bit_and, bit_or, bit_xor, cond, drop, eqb, false, filter, get_or, if◌then◌else◌, inl, inr, int_lt, leb, length, length-append, length-take, map, nat_le, nat_lt, not, refl, rules, slice_get, slice_index, slice_index_or, subst, suc, sum_by, sym, take, true, zero, zero-add, ℕ, ℤ, ◌%◌, ◌&&◌, ◌*◌, ◌++◌, ◌+◌, ◌-◌, ◌/◌, ◌<ℤ◌, ◌<◌, ◌==◌, ◌^◌, ◌||◌, ◌↔◌, ◌∙◌, ◌∷◌, ◌≡◌, ◌≢◌, ◌≤ℤ◌, ◌≤◌, ◌⊎◌}
+pub use Rattle.std.proofs.Common.{All, Bool, Contains, IfOk, IfSome, IsSome, IsTrue, List, None, Option, Some, [], ap, arith, bit_and, bit_or, bit_xor, cond, drop, eqb, false, get_or, if◌then◌else◌, inl, inr, int_lt, leb, length, length-append, length-take, map, nat_le, nat_lt, not, refl, rules, slice_get, slice_index, slice_index_or, subst, suc, sym, take, true, zero, zero-add, ℕ, ℤ, ◌%◌, ◌&&◌, ◌*◌, ◌++◌, ◌+◌, ◌-◌, ◌/◌, ◌<ℤ◌, ◌<◌, ◌==◌, ◌^◌, ◌↔◌, ◌∙◌, ◌∷◌, ◌≡◌, ◌≢◌, ◌≤ℤ◌, ◌≤◌, ◌⊎◌}
 pub use Rattle.std.proofs.Math.Nat.{add_comm, div-eq_of_lt, div-mul-le_self, div-one, eq-or-lt_of_le, lt_of_mul-lt-mul_right, mod-eq_of_lt, mod-le, mul-lt-mul_of_pos_right, mul_comm}
 pub use Rattle.std.proofs.Math.Pow.{shr_mono}
-pub use Rattle.std.proofs.lemmas.List.Sums.{get_or-le-sum_by, sum_by-append, sum_by-cons}
+pub use Rattle.std.proofs.lemmas.List.Sums.{sum_by-append, sum_by-drop_more, sum_by-take-drop}
 pub use Rattle.std.proofs.lemmas.Nat.{and_block, and_mask, div-add-mod', le_or_l, le_or_r, or_block, or_shr, pow-add, shl-shr, shr-shr, xor_block, xor_comm, xor_mod, xor_shr}
-pub use Rattle.std.proofs.lemmas.List.Sorted.{All-permutation, Contains-permutation, IsPermutation-sym}
-pub use Rattle.std.proofs.lemmas.List.Filters.{sum_by-filter_both}
-pub use Rattle.std.proofs.lemmas.Option.{IfSome_then, get_or_from_slice_get, slice_get-map}
+pub use Rattle.std.proofs.lemmas.List.Elements.{All-contains_itself, All-filter, filter_passes}
+pub use Rattle.std.proofs.lemmas.Option.{IfSome_then, get_or_from_slice_get, slice_get-map, slice_get_read}
 pub use Rattle.std.specs.Option.{option_map}
-pub use Rattle.std.specs.Borrow.{Bor}
 pub use Rattle.std.specs.Int.Bits.{xor_disjoint, xor_zero_l, xor_zero_r}
 pub use Rattle.scf_facts.proofs.Common.{All-push, IsSameLevel, and_assoc, and_comm, and_le_r, and_parts, and_zero_r, atom_answer, bit_at-lt, bit_at-zero, bit_at_and, bit_at_or, bit_at_xor, common_steps, div-lt_iff_lt-mul, eq-eqb, eqb-true, le-div_iff_mul-le, mod-lt, pow_mono, pow_pos, same_from_bits, shr_split, steps_from, take_all, xor_lt}
 pub use Rattle.scf_facts.proofs.HighMasks.{beyond_mask, of_multiple, one_more}
@@ -19,7 +17,7 @@ pub use Rattle.scf_facts.specs.declared.word_facts.WordFacts.{Ghosts as Store}
 pub use Rattle.scf_insn.proofs.CallWords.{IsRecord-call_of, IsWords-words_of, call_of-words_of, word_below, words_of-call_of}
 pub use Rattle.scf_insn.proofs.Common.{IsRecord, IsSimpleMask, IsWords, and_shr, argument, bpf_memwords, call_of, degree_of, fate_of, high, low, mul-le-mul_left, rank_of, words_of, x32_syscall_bit}
 unfoldable pub use Rattle.scf_insn.proofs.Common.{operation_of}
-pub use Rattle.scf_insn.proofs.Halves.{argument_high, argument_low, masked_split}
+pub use Rattle.scf_insn.proofs.Halves.{argument_high, argument_low}
 pub use Rattle.scf_insn.specs.declared.answer.Answer.{Answer}
 pub use Rattle.scf_insn.specs.declared.answer.Fate.{Fate}
 pub use Rattle.scf_insn.specs.declared.insn.Insn.{Insn}
@@ -31,17 +29,18 @@ pub use Rattle.scf_insn.specs.declared.operation.Register.TheVariants.{A}
 pub use Rattle.scf_insn.specs.declared.operation.Test.TheVariants.{CommonBit}
 pub use Rattle.scf_insn.specs.declared.record.CallRecord.{CallRecord}
 pub use Rattle.scf_machine.proofs.Common.{Ends, Fault, Faults, Goes, IsFine, IsPlainInsn, IsPlainProgram, IsReturn, IsValidList, Outcome, RunAnswers, RunsSafely, StackAnswers, Stands, State, effect, holds, ints, jumps_to, loads, operand_of, sets, slice_get-get_or, slice_get_within, start, step, unless, with_newest}
-pub use Rattle.scf_machine.proofs.Meets.{run_once}
 pub use Rattle.scf_machine.proofs.Runs.{fine_of, run_length, runs_safely, same_insn}
 pub use Rattle.scf_machine.proofs.Stacks.{one_answers, stack_answer_once}
 pub use Rattle.scf_profile.proofs.Answering.{one_answer}
-pub use Rattle.scf_profile.proofs.Common.{All-cons, All-contains, All-nil, AnswersRelated, Contains-append_right, Contains-get_or, cases_eq, HaveNoConflict, IfOk-weaker, IsPlainCondition, IsPlainRule, Profile, ProfileAnswers, SameAnswers, all_hold, and_le_l, by_default, by_rule, cases_Bool, le-ltb, length-map, list_any, meets, ne_eqb, numbers_of, or_comm, or_lt, rules_of}
-pub use Rattle.scf_profile.proofs.ByNumber.{number_at, references_rise}
-pub use Rattle.scf_profile.proofs.Common.{All-from_recursion, IsByNumber, IsCondition, IsNative, IsNonDecreasingBy, IsNonDecreasingBy-drop, IsPartitionPoint, IsPartitionPoint-from_clause, IsPartitionedBy-ltb, IsProfile, IsRule, cases_Bool, cases_lt, get_or-drop, get_or-map, get_or-take, length-drop, ltb, nat_tests, rules_at}
-pub use Rattle.scf_profile.proofs.Numbers.{has_number, numbers_of-contains, numbers_of-push}
+pub use Rattle.scf_profile.proofs.Common.{All-cons, All-contains, All-nil, AnswersRelated, cases_eq, HaveNoConflict, IfOk-weaker, IsPlainCondition, IsPlainRule, Profile, ProfileAnswers, SameAnswers, all_hold, and_le_l, by_default, by_rule, cases_Bool, le-ltb, meets, ne_eqb, or_comm, or_lt, rules_of}
+pub use Rattle.scf_profile.proofs.Common.{All-from_recursion, IsNative, IsRule, cases_Bool, cases_lt, get_or-take}
+pub use Rattle.scf_profile.proofs.NumberLists.{number_among, numbers_rise, own_all, sum_of_own}
+pub use Rattle.scf_profile.proofs.Numbers.{contains_filtered}
 pub use Rattle.scf_profile.specs.declared.condition.Condition.{Condition}
-pub use Rattle.scf_profile.specs.declared.condition.Operator.TheVariants.{Equal}
+pub use Rattle.scf_profile.specs.declared.condition.Operator.TheVariants.{Equal, NotEqual}
+pub use Rattle.scf_profile.specs.declared.number_rules.NumberRules.{NumberRules}
 pub use Rattle.scf_profile.specs.declared.rule.Rule.{Rule}
+pub use Rattle.scf_profile.specs.NumberRules.{AreNumbersOf}
 pub use Rattle.scf_compare.specs.Effort.{conditions_size, rules_size, saturated, stack_paths}
 pub use Rattle.scf_compare.specs.Headline.{DiffersIsShown, EveryRunEnds, SameIsTrue}
 pub use Rattle.scf_compare.specs.Paths.{size_of_insn, tree_size}
@@ -57,7 +56,7 @@ pub use Rattle.scf_compare.specs.declared.flow.Flow.{Flow}
 pub use Rattle.scf_compare.specs.declared.flow.Flow.TheVariants.{Branch, DivideByIndex, Jump, Next, ReturnAccumulator, ReturnConstant}
 pub use Rattle.scf_compare.specs.declared.frontier.Frontier.{Frontier}
 pub use Rattle.scf_compare.specs.declared.image.Image.{Image}
-pub use Rattle.scf_compare.specs.declared.question.ConditionPart.{ConditionPart}
+pub use Rattle.scf_compare.specs.declared.profile.ConditionPlace.{ConditionPlace}
 pub use Rattle.scf_compare.specs.declared.question.ConditionPart.TheVariants.{High}
 pub use Rattle.scf_compare.specs.declared.registers.Registers.{Registers}
 pub use Rattle.scf_profile.specs.declared.relation.Relation.{Relation}
@@ -74,15 +73,15 @@ pub use Rattle.scf_compare.specs.internal.Asking.{AsksOfWords, KeepsEither, Stay
 pub use Rattle.scf_compare.specs.internal.Compared.{AllRelated, Compared, IsTrueVerdict}
 pub use Rattle.scf_compare.specs.internal.Conditions.{IsAtPart}
 pub use Rattle.scf_compare.specs.internal.Ends.{FilterTells, IsPlaceOf, KnowsBoth, Tells, WereAllSeen, WereSeen}
-pub use Rattle.scf_compare.specs.internal.Filters.{ComesTo, EndsWith, IsFilterEnd, IsTurnOf, filter_is_plain, filter_size, filter_tree}
+pub use Rattle.scf_compare.specs.internal.Filters.{ComesTo, EndsWith, IsFilterEnd, IsTurnOf, filter_size, filter_tree}
 pub use Rattle.scf_compare.specs.internal.Flow.{IsInside, UsesScratch, flow_at, size_of_flow}
 pub use Rattle.scf_compare.specs.internal.Frontier.{AreExact, GivesLearned, IsAhead, IsBranch, IsExact, IsExactBranch, IsFrontier, IsInBranch, LearnsExactly, open_size}
 pub use Rattle.scf_compare.specs.internal.Images.{AreShiftedAlike, IsWhole, image_number, shifted_word}
 pub use Rattle.scf_compare.specs.internal.Laws.{paths_count, scaled_costs, spread_counts}
+pub use Rattle.scf_compare.specs.internal.NumberedProfiles.{IsNumbered, NumberedProfile}
 pub use Rattle.scf_compare.specs.internal.Offsets.{signed_sum}
-pub use Rattle.scf_compare.specs.internal.Profiles.{IsAtCondition, IsFrom, KnowsRule, StandsAt, condition_size, number_size, size_behind, size_of_rule, sizes_from}
+pub use Rattle.scf_compare.specs.internal.Profiles.{IsAtCondition, IsAtRule, IsFrom, numbers_size, own_conditions, own_rules, size_behind}
 pub use Rattle.scf_compare.specs.internal.Scopes.{AreWordsOf, AreWordsOfX86_64, compared_in}
-pub use Rattle.scf_compare.specs.internal.SortedProfiles.{IsSorted, SortedProfile}
 pub use Rattle.scf_compare.specs.internal.Stacks.{IsStackEnd, filter_at, stack_is_node, stack_is_plain, stack_reaches, stack_size}
 pub use Rattle.scf_compare.specs.internal.Stages.{GoesOver, IsTaken, LeadsTo, verdict_of_all}
 pub use Rattle.scf_compare.specs.internal.Trees.{Costs, GoesEither, GoesOn, StaysPlain, Tree}

@@ -1,12 +1,12 @@
 pub mod Bits
 pub mod Branches
 pub mod Common
-pub mod Sorted
 pub mod Flows
 pub mod Halves
 pub mod Headline
 pub mod Images
 pub mod Joins
+pub mod Numbered
 pub mod Offsets
 pub mod Orders
 pub mod PlainFlows

@@ -1,5 +1,5 @@
 -- The rules of a profile and their conditions, one after another.
-use Rattle.scf_compare.proofs.Common.{◌≡◌, ◌≢◌, ℕ, zero, suc, ◌+◌, ◌*◌, ◌<◌, ◌≤◌, ◌&&◌, Bool, true, false, eqb, List, [], ◌∷◌, ◌++◌, Some, length, take, drop, get_or, refl, sym, ap, subst, ◌∙◌, arith, slice_get, All, Contains, eq-eqb, ne_eqb, and_parts, All-push, slice_get-get_or, slice_get_within, CallRecord, argument, Condition, Rule, all_hold, meets, rules_of, ConditionPart, High, IsAtPart, conditions_size, StandsAt, IsAtCondition, KnowsRule, condition_size, size_behind}
+use Rattle.scf_compare.proofs.Common.{◌≡◌, ◌≢◌, ℕ, zero, suc, ◌+◌, ◌*◌, ◌<◌, ◌&&◌, Bool, true, false, eqb, List, [], ◌∷◌, ◌++◌, Some, length, take, drop, get_or, sym, ap, subst, ◌∙◌, arith, slice_get, All, Contains, eq-eqb, ne_eqb, and_parts, All-push, slice_get-get_or, slice_get_read, slice_get_within, CallRecord, argument, Condition, Rule, all_hold, meets, conditions_size, rules_size}
 use Rattle.scf_profile.specs.Condition.{holds}
 
 -- ---- which rules a call meets
@@ -44,7 +44,7 @@ drop_here [] i x here = absurd (cc)
 drop_here (y ∷ xs) zero x here = let same : y ≡ x = cc in ap (λ z. z ∷ xs) same
 drop_here (y ∷ xs) (suc i) x here = drop_here xs i x here
 
-pub take_here : {X : Type 0} (xs : List X) (i : ℕ) (x : X) → slice_get xs i ≡ Some x
+take_here : {X : Type 0} (xs : List X) (i : ℕ) (x : X) → slice_get xs i ≡ Some x
     → take (suc i) xs ≡ take i xs ++ x ∷ []
 take_here [] i x here = absurd (cc)
 take_here (y ∷ xs) zero x here = let same : y ≡ x = cc in ap (λ z. z ∷ []) same
@@ -57,32 +57,12 @@ contains_here xs i x here =
     let same : get_or xs i x ≡ x = cc in
     (i, within, same)
 
--- each rule before a place is unmet, and so is the rule there
-pub unmet_more : (call : CallRecord) (rules : List Rule) (place : ℕ) (r : Rule) → slice_get rules place ≡ Some r
-    → All (λ earlier. meets earlier call ≡ false) (take place rules) → meets r call ≡ false
-    → All (λ earlier. meets earlier call ≡ false) (take (place + 1) rules)
-unmet_more call rules place r here before unmet =
+-- what holds before a place and there holds before the next one
+pub all_more : {X : Type 0} (P : X → Type 0) (xs : List X) (place : ℕ) (x : X) → slice_get xs place ≡ Some x
+    → All P (take place xs) → P x → All P (take (place + 1) xs)
+all_more P xs place x here before holds =
     let one : place + 1 ≡ suc place = omega arith in
-    rw (one, take_here rules place r here)
-    (All-push (λ earlier. meets earlier call ≡ false) (take place rules) r before unmet)
-
--- ---- the rules of a number
-
-kept : (r : Rule) (rules : List Rule) (number : ℕ) → r.number ≡ number
-    → rules_of number (r ∷ rules) ≡ r ∷ rules_of number rules
-kept r rules number same = grind arith
-
-pub rules_kept : (rules : List Rule) (place number : ℕ) (r : Rule) → slice_get rules place ≡ Some r → r.number ≡ number
-    → rules_of number (drop place rules) ≡ r ∷ rules_of number (drop (place + 1) rules)
-rules_kept rules place number r here same = grind (arith, drop_here, kept)
-
--- ---- what is known at a condition
-
-pub knows : (rules : List Rule) (place index : ℕ) (call : CallRecord) (asked : ConditionPart) (rule : Rule)
-    (condition : Condition) → StandsAt rules place index rule condition → IsAtCondition rules place index rule call
-    → IsAtPart condition asked (argument call condition.index)
-    → KnowsRule rules place index call asked (slice_get rules place)
-knows rules place index call asked rule condition stands at_rule at_part = grind arith
+    rw (one, take_here xs place x here) (All-push P (take place xs) x before holds)
 
 -- ---- sizes
 
@@ -92,15 +72,10 @@ pub conditions_more : (conditions : List Condition) (index : ℕ) (c : Condition
     ≡ 3 + 2 * conditions_size (drop (index + 1) conditions) fails + 2 * fails
 conditions_more conditions index c fails here = grind (arith, drop_here)
 
-pub conditions_count : (conditions : List Condition) (fails : ℕ) → 1 ≤ conditions_size conditions fails
-conditions_count [] fails = omega arith
-conditions_count (c ∷ conditions) fails = omega arith
-
-pub size_at_condition : (rules : List Rule) (place index : ℕ) (rule : Rule) (c : Condition)
-    → slice_get rules place ≡ Some rule → slice_get rule.conditions index ≡ Some c
-    → condition_size rules place index High (slice_get rules place)
-    ≤ conditions_size (drop index rule.conditions) (size_behind rules place rule)
-size_at_condition rules place index rule c here first = grind (arith, conditions_more)
+-- the rules from one on
+pub rules_more : (rules : List Rule) (place : ℕ) (r : Rule) → slice_get rules place ≡ Some r
+    → rules_size (drop place rules) ≡ conditions_size r.conditions (rules_size (drop (place + 1) rules))
+rules_more rules place r here = grind (arith, drop_here)
 
 -- ---- what the code reads
 
@@ -108,9 +83,12 @@ pub same_here : {X : Type 0} (xs : List X) (place : ℕ) (x y : X) → slice_get
     → slice_get xs place ≡ Some y → x ≡ y
 same_here xs place x y a b = let both : Some x ≡ Some y = sym a ∙ b in cc
 
-pub none_of : {X : Type 0} (xs : List X) → length xs ≡ 0 → xs ≡ []
-none_of [] e = refl
-none_of (x ∷ xs) e = absurd (omega arith)
+-- what is read of a list stands there
+pub read_at : {X : Type 0} (read xs : List X) (place : ℕ) (x : X) → read ≡ xs → place < length read
+    → x ≡ get_or read place x → slice_get xs place ≡ Some x
+read_at read xs place x same inside is =
+    slice_get_read xs (length read) place x (ap length same) inside
+    (is ∙ ap (λ (l : List _). get_or l place x) same)
 
 pub some_of : (n : ℕ) (b : Bool) → b ≡ eqb n 0 → b ≡ false → 0 < n
 some_of n b e f = grind arith

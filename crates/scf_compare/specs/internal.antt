@@ -8,11 +8,11 @@ pub mod Flow
 pub mod Frontier
 pub mod Images
 pub mod Laws
+pub mod NumberedProfiles
 pub mod Offsets
 pub mod Pairs
 pub mod Profiles
 pub mod Scopes
-pub mod SortedProfiles
 pub mod Stacks
 pub mod Stages
 pub mod Trees

@@ -1,41 +1,39 @@
-//! A profile with its rules in the order of their call numbers.
+//! A profile with the numbers of its rules.
 
-ghost use Rattle.std.specs.Prelude.{◌≡◌, IfOk};
-ghost use Rattle.scf_profile.specs.ByNumber.{rules_at};
+ghost use Rattle.std.specs.Prelude.{◌≡◌};
 
-use scf_insn::Memory;
-use scf_profile::{Profile, Rule, rules_by_number};
-use std::alloc::Global;
+use scf_profile::{NumberRules, Profile};
 use std::marker::Model;
 
-/// A profile, and its rules in the order of their numbers, those of one number in their order.
+/// A profile and its numbers, each with its rules.
 #[derive(Drop)]
 pub(crate) struct ByNumber<'a> {
     profile: &'a Profile,
-    rules: Vec<&'a Rule>,
+    numbers: &'a [NumberRules],
 }
 
 impl<'a> Model for ByNumber<'a> {
-    ghost use Rattle.scf_profile.specs.ByNumber.{rules_at};
-    ghost use Rattle.scf_compare.specs.internal.SortedProfiles.{SortedProfile, IsSorted};
+    ghost use Rattle.scf_compare.specs.internal.NumberedProfiles.{IsNumbered, NumberedProfile};
 
-    ghost Value = { SortedProfile };
+    ghost Value = { NumberedProfile };
 
-    ghost view = { λ s. record { profile = s.profile.now; rules = rules_at s.rules.items } };
+    ghost view = { λ s. record { profile = s.profile.now; numbers = s.numbers.now } };
 
-    ghost invariant = { λ s. IsSorted (record { profile = s.profile.now; rules = rules_at s.rules.items }) };
+    ghost invariant = { λ s. IsNumbered (record { profile = s.profile.now; numbers = s.numbers.now }) };
 }
 
 impl<'a> ByNumber<'a> {
-    ghost use Rattle.scf_compare.specs.internal.SortedProfiles.{IsSorted};
+    ghost use Rattle.scf_compare.specs.internal.NumberedProfiles.{IsNumbered};
 
-    /// A profile with its rules put in that order. `Err`: a growth was refused.
-    pub(crate) fn new(alloc: Global, profile: &'a Profile) -> Result<ByNumber<'a>, Memory>
-        ensures profile { IfOk result (λ s. s.profile ≡ profile.now) }
-        ensures sorted { IfOk result IsSorted }
+    /// A profile with its numbers.
+    pub(crate) fn new(profile: &'a Profile) -> ByNumber<'a>
+        ensures profile { result.profile ≡ profile.now }
+        ensures numbered { IsNumbered result }
     {
-        let rules = rules_by_number(alloc, profile.rules())?;
-        Ok(ByNumber { profile, rules })
+        ByNumber {
+            profile,
+            numbers: profile.numbers(),
+        }
     }
 
     /// The profile.
@@ -45,11 +43,11 @@ impl<'a> ByNumber<'a> {
         self.profile
     }
 
-    /// Its rules in the order of their numbers.
-    pub(crate) fn rules(&self) -> &[&'a Rule]
-        ensures rules { rules_at result.now ≡ self.now.rules }
-        ensures sorted { IsSorted self.now }
+    /// Its numbers, rising, each with its rules.
+    pub(crate) fn numbers(&self) -> &[NumberRules]
+        ensures numbers { result.now ≡ self.now.numbers }
+        ensures numbered { IsNumbered self.now }
     {
-        &self.rules
+        self.numbers
     }
 }

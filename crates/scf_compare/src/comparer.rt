@@ -114,7 +114,7 @@ fn compare_filters<F: WordFacts>(
 {
     let pair = Pair {
         filters,
-        profile: ByNumber::new(alloc, profile)?,
+        profile: ByNumber::new(profile),
         scope,
         relation,
     };

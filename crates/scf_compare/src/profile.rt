@@ -1,21 +1,15 @@
 //! A profile as a tree of questions about the words of a call record.
 
-ghost use Rattle.std.specs.Prelude.{◌≡◌, ◌<◌, ◌≤◌, ℕ, List, All, Some, IfSome, IsTrue, false, length, take, drop};
+ghost use Rattle.std.specs.Prelude.{◌≡◌, ◌≢◌, ◌<◌, ◌≤◌, ℕ, List, All, Contains, Some, IsTrue, length, take, drop};
 ghost use Rattle.std.specs.Prelude.{slice_get, slice_index};
-ghost use Rattle.std.specs.List.Sorted.{IsNonDecreasingBy};
-ghost use Rattle.scf_insn.specs.Kernel.{seccomp_data_args};
 ghost use Rattle.scf_insn.specs.Words.{IsWords, argument, call_of};
 ghost use Rattle.scf_profile.specs.declared.condition.Condition.{Condition};
-ghost use Rattle.scf_profile.specs.declared.rule.Rule.{Rule};
-ghost use Rattle.scf_profile.specs.ByNumber.{rules_at};
-ghost use Rattle.scf_profile.specs.Profile.{IsNative};
-ghost use Rattle.scf_profile.specs.Rule.{meets};
-ghost use Rattle.scf_profile.specs.RulesByNumber.{rules_of};
+ghost use Rattle.scf_profile.specs.Rule.{IsRule};
 ghost use Rattle.scf_compare.specs.internal.Conditions.{IsOnWay, way_size};
-ghost use Rattle.scf_compare.specs.Effort.{rules_size};
-ghost use Rattle.scf_compare.specs.internal.Profiles.{IsAtCondition, IsFrom, StandsAt, endings_of_profile};
-ghost use Rattle.scf_compare.specs.internal.Profiles.{profile_is_node, profile_reaches, profile_size, profile_tree};
-ghost use Rattle.scf_compare.specs.internal.Profiles.{size_behind, size_of_rest, size_of_rule};
+ghost use Rattle.scf_compare.specs.Effort.{conditions_size, rules_size};
+ghost use Rattle.scf_compare.specs.internal.Profiles.{IsAtCondition, IsAtRule, IsFrom, StandsAt, endings_of_profile};
+ghost use Rattle.scf_compare.specs.internal.Profiles.{own_conditions, own_rules, profile_is_node, profile_reaches};
+ghost use Rattle.scf_compare.specs.internal.Profiles.{profile_size, profile_tree, size_behind, size_of_rest};
 ghost use Rattle.scf_compare.specs.internal.Trees.{IsTurn};
 
 use crate::asking::{Atoms, word_is};
@@ -25,19 +19,30 @@ use crate::turn::Turn;
 use scf_facts::{Atom, Tell, WordFacts};
 use scf_insn::Answer;
 use scf_insn::kernel::{AUDIT_ARCH_X86_64, X32_SYSCALL_BIT};
-use scf_profile::{Condition, FOREIGN_ANSWER, Rule};
+use scf_profile::{FOREIGN_ANSWER, Rule};
 
-/// A node of a profile's tree. Its rules stand in the order of their numbers.
+/// Where a condition stands, by places from 0.
+#[derive(Clone, Copy)]
+pub(crate) struct ConditionPlace {
+    /// The place of its rule's number among the numbers.
+    number: usize,
+    /// The place of its rule among those of the number.
+    rule: usize,
+    /// Its own place among the rule's conditions.
+    condition: usize,
+}
+
+/// A node of a profile's tree.
 #[derive(Clone, Copy)]
 pub(crate) enum ProfileNode {
     /// Is the call one of x86-64?
     Architecture,
     /// Is its number past those of x86-64?
     Range,
-    /// Is its number the least one of the rules that isn't below this?
-    Number(u32),
-    /// Does a condition hold, by the places of its rule and of itself in it?
-    Condition(usize, usize, ConditionPart),
+    /// Is its number the one at this place, or one behind it?
+    Number(usize),
+    /// Does a condition hold?
+    Condition(ConditionPlace, ConditionPart),
     /// The profile answers so.
     Answer(Answer),
 }
@@ -69,162 +74,169 @@ impl ByNumber<'_> {
                 ProfileNode::Answer(FOREIGN_ANSWER),
                 ProfileNode::Number(0),
             ),
-            ProfileNode::Number(low) => self.ask_number(facts, low),
-            ProfileNode::Condition(rule, condition, part) => {
-                self.ask_condition(rule, condition, part)
-            }
+            ProfileNode::Number(place) => self.ask_number(facts, place),
+            ProfileNode::Condition(at, part) => self.ask_condition(at, part),
             ProfileNode::Answer(answer) => Turn::End(answer),
         }
     }
 
-    /// The question about the least of the numbers that aren't below one, or the default answer past the last of them.
+    /// The question about the number at a place, or the default answer past the last of them.
     ///
-    /// Where the facts tell the number of the call, its rules are asked at once. Numbers that they tell to be too low
-    /// or too high for it aren't asked.
-    fn ask_number<F: WordFacts>(&self, facts: &F, low: u32) -> Turn<ProfileNode, Answer>
+    /// Numbers that the facts tell to be too low or too high for the call's aren't asked: where they tell the call's
+    /// number, that one is asked first, and its rules are entered at once.
+    fn ask_number<F: WordFacts>(&self, facts: &F, place: usize) -> Turn<ProfileNode, Answer>
         ensures { IsTurn (endings_of_profile self.now.profile)
             (λ words. IsWords words × F.allows facts.now (F.level facts.now) words)
-            (profile_tree self.now) (ProfileNode.Number low) (profile_tree self.now) result }
+            (profile_tree self.now) (ProfileNode.Number place) (profile_tree self.now) result }
     {
-        let profile = self.profile();
-        let rules = self.rules();
-        let from = told_from(facts, rules, low);
-        let place = place_from(rules, from);
-        if place >= rules.len() {
-            return Turn::End(profile.default_answer());
+        let default_answer = self.profile().default_answer();
+        let numbers = self.numbers();
+        let from = self.told_from(facts, place);
+        if from >= numbers.len() {
+            return Turn::End(default_answer);
         }
-        if low == 0 {
-            if let Some(number) = told_number(facts) {
-                return Turn::Go(self.next_rule(number, place_from(rules, number)));
-            }
-        }
-        let rule = rules[place];
-        if is_told_below(facts, rule.number) {
-            return Turn::End(profile.default_answer());
+        let own = &numbers[from];
+        if is_told_below(facts, own.number) {
+            return Turn::End(default_answer);
         }
         Turn::Split(
-            Some(Atoms::One(word_is(0, rule.number))),
-            self.first_of_rule(place),
-            ProfileNode::Number(rule.number + 1),
+            Some(Atoms::One(word_is(0, own.number))),
+            self.next_rule(from, 0),
+            ProfileNode::Number(from + 1),
         )
     }
 
-    /// What is asked of the rules of a number from a place on, before which no rule of it is met: a condition, or else
-    /// what is answered.
-    fn next_rule(&self, number: u32, place: usize) -> ProfileNode
-        requires place { place ≤ length self.now.rules }
-        requires behind { All (λ r. number ≤ r.number) (drop place self.now.rules) }
-        ensures node { profile_is_node self.now result }
-        ensures reached { (words : List ℕ) → IsNative (call_of words)
-            → (call_of words).nr ≡ number
-            → All (λ earlier. meets earlier (call_of words) ≡ false) (take place self.now.rules)
-            → profile_reaches self.now result words }
-        ensures size { profile_size self.now result ≤ rules_size (rules_of number (drop place self.now.rules)) }
+    /// The place from which on the numbers are asked, where none before one is the call's: at the first of them a later
+    /// one, if the facts tell it.
+    fn told_from<F: WordFacts>(&self, facts: &F, place: usize) -> usize
+        ensures later { place ≤ result }
+        ensures told { (words : List ℕ) → IsWords words
+            → F.allows facts.now (F.level facts.now) words
+            → IsFrom place self.now.numbers (call_of words)
+            → IsFrom result self.now.numbers (call_of words) }
     {
-        let rules = self.rules();
-        if place < rules.len() && rules[place].number == number {
-            self.first_of_rule(place)
+        if place > 0 {
+            return place;
+        }
+        self.least_told(facts)
+    }
+
+    /// The place of the greatest number that the call's is told not to be below, as a search by halves finds it, or 0.
+    fn least_told<F: WordFacts>(&self, facts: &F) -> usize
+        ensures { (words : List ℕ) → IsWords words
+            → F.allows facts.now (F.level facts.now) words
+            → IsFrom result self.now.numbers (call_of words) }
+    {
+        let numbers = self.numbers();
+        let mut least = 0;
+        let mut first = 0;
+        let mut last = numbers.len();
+        while first < last {
+            let middle = first + (last - first) / 2;
+            let own = &numbers[middle];
+            let from = Atom::Ge {
+                word: 0,
+                value: own.number,
+            };
+            match facts.tell(from) {
+                Tell::Always => {
+                    least = middle;
+                    first = middle + 1;
+                }
+                Tell::Never | Tell::Maybe => last = middle,
+            }
+        }
+        least
+    }
+
+    /// The rules of the number at a place.
+    fn rules_at(&self, number: usize) -> &[Rule]
+        requires { number < length self.now.numbers }
+        ensures own { result.now ≡ own_rules self.now.numbers number }
+        ensures known { All (λ r. Contains self.now.profile.rules r) result.now }
+        ensures valid { All IsRule result.now }
+    {
+        let own = &self.numbers()[number];
+        &own.rules
+    }
+
+    /// What is asked of the rules of a number from one on, before which none is met: that one's first condition, or
+    /// behind the last one the default answer.
+    fn next_rule(&self, number: usize, rule: usize) -> ProfileNode
+        requires { number < length self.now.numbers }
+        ensures node { profile_is_node self.now result }
+        ensures reached { (words : List ℕ) → IsAtRule self.now number rule (call_of words)
+            → profile_reaches self.now result words }
+        ensures size { profile_size self.now result ≤ rules_size (drop rule (own_rules self.now.numbers number)) }
+    {
+        if rule < self.rules_at(number).len() {
+            self.next_condition(ConditionPlace {
+                number,
+                rule,
+                condition: 0,
+            })
         } else {
             ProfileNode::Answer(self.profile().default_answer())
         }
     }
 
-    /// What is asked first of a rule: its first condition, or its answer where it has none.
-    fn first_of_rule(&self, place: usize) -> ProfileNode
-        requires { place < length self.now.rules }
+    /// What is asked of a rule from a condition on, before which all hold: that condition, or behind the last one what
+    /// the rule answers.
+    fn next_condition(&self, at: ConditionPlace) -> ProfileNode
+        requires number { at.number < length self.now.numbers }
+        requires rule { at.rule < length (own_rules self.now.numbers at.number) }
         ensures node { profile_is_node self.now result }
-        ensures reached { (words : List ℕ) (rule : Rule) → slice_get self.now.rules place ≡ Some rule
-            → IsAtCondition self.now.rules place 0 rule (call_of words)
+        ensures reached { (words : List ℕ) → IsAtCondition self.now at (call_of words)
             → profile_reaches self.now result words }
-        ensures size { (rule : Rule) → slice_get self.now.rules place ≡ Some rule
-            → profile_size self.now result ≤ size_of_rule self.now.rules place rule }
+        ensures size { profile_size self.now result
+            ≤ conditions_size (drop at.condition (own_conditions self.now.numbers at)) (size_behind self.now.numbers at) }
     {
-        let rule = self.rules()[place];
-        if rule.conditions.as_slice().is_empty() {
-            ProfileNode::Answer(rule.answer)
+        let rule = &self.rules_at(at.number)[at.rule];
+        if at.condition < rule.conditions.as_slice().len() {
+            ProfileNode::Condition(at, ConditionPart::High)
         } else {
-            ProfileNode::Condition(place, 0, ConditionPart::High)
+            ProfileNode::Answer(rule.answer)
         }
     }
 
     /// The next question of a condition.
-    fn ask_condition(
-        &self,
-        place: usize,
-        index: usize,
-        part: ConditionPart,
-    ) -> Turn<ProfileNode, Answer>
-        requires { profile_is_node self.now (ProfileNode.Condition place index part) }
+    fn ask_condition(&self, at: ConditionPlace, part: ConditionPart) -> Turn<ProfileNode, Answer>
+        requires { StandsAt self.now.numbers at }
         ensures { IsTurn (endings_of_profile self.now.profile) IsWords
-            (profile_tree self.now) (ProfileNode.Condition place index part) (profile_tree self.now) result }
+            (profile_tree self.now) (ProfileNode.Condition at part) (profile_tree self.now) result }
     {
-        let question = question_of(self.condition_at(place, index), part);
+        let rule = &self.rules_at(at.number)[at.rule];
+        let conditions = rule.conditions.as_slice();
+        let question = question_of(conditions[at.condition], part);
         Turn::Split(
             Some(Atoms::One(question.atom)),
-            self.follow(place, index, question.if_true),
-            self.follow(place, index, question.if_false),
+            self.follow(at, question.if_true),
+            self.follow(at, question.if_false),
         )
     }
 
-    /// The condition at a place of a rule's conditions.
-    fn condition_at(&self, place: usize, index: usize) -> Condition
-        requires { (rule : Rule) × (condition : Condition) × StandsAt self.now.rules place index rule condition }
-        ensures stands { (rule : Rule) → slice_get self.now.rules place ≡ Some rule
-            → slice_get rule.conditions index ≡ Some result }
-        ensures index { result.index < seccomp_data_args }
-    {
-        self.rules()[place].conditions.as_slice()[index]
-    }
-
     /// Where a way on from a condition leads.
-    fn follow(&self, place: usize, index: usize, way: Way) -> ProfileNode
-        requires { profile_is_node self.now (ProfileNode.Condition place index ConditionPart.High) }
+    fn follow(&self, at: ConditionPlace, way: Way) -> ProfileNode
+        requires stands { StandsAt self.now.numbers at }
+        requires rule { at.rule < usize.MAX }
+        requires condition { at.condition < usize.MAX }
         ensures node { profile_is_node self.now result }
-        ensures reached { (words : List ℕ) (rule : Rule) (condition : Condition)
-            → StandsAt self.now.rules place index rule condition
-            → IsAtCondition self.now.rules place index rule (call_of words)
+        ensures reached { (words : List ℕ) (condition : Condition)
+            → slice_get (own_conditions self.now.numbers at) at.condition ≡ Some condition
+            → IsAtCondition self.now at (call_of words)
             → IsOnWay condition way (argument (call_of words) condition.index)
             → profile_reaches self.now result words }
-        ensures size { (rule : Rule) → slice_get self.now.rules place ≡ Some rule
-            → profile_size self.now result
-            ≤ way_size way (size_of_rest self.now.rules place index rule) (size_behind self.now.rules place rule) }
+        ensures size { profile_size self.now result
+            ≤ way_size way (size_of_rest self.now.numbers at) (size_behind self.now.numbers at) }
     {
-        let rule = self.rules()[place];
         match way {
-            Way::Holds => {
-                let conditions = rule.conditions.as_slice();
-                if index + 1 == conditions.len() {
-                    ProfileNode::Answer(rule.answer)
-                } else {
-                    ProfileNode::Condition(place, index + 1, ConditionPart::High)
-                }
-            }
-            Way::Fails => self.next_rule(rule.number, place + 1),
-            Way::Then(part) => ProfileNode::Condition(place, index, part),
+            Way::Holds => self.next_condition(ConditionPlace {
+                condition: at.condition + 1,
+                ..at
+            }),
+            Way::Fails => self.next_rule(at.number, at.rule + 1),
+            Way::Then(part) => ProfileNode::Condition(at, part),
         }
-    }
-}
-
-/// The place of the first rule whose number isn't below one, or their count.
-fn place_from(rules: &[&Rule], low: u32) -> usize
-    requires { IsNonDecreasingBy (λ r. r.number) (rules_at rules.now) }
-    ensures within { result ≤ length rules.now }
-    ensures before { All (λ r. r.number < low) (take result (rules_at rules.now)) }
-    ensures behind { All (λ r. low ≤ r.number) (drop result (rules_at rules.now)) }
-{
-    rules.partition_point(|rule| rule.number < low)
-}
-
-/// The call number of all that the facts allow, where they tell that it is one.
-fn told_number<F: WordFacts>(facts: &F) -> Option<u32>
-    ensures { IfSome result (λ number. (words : List ℕ) → IsWords words
-        → F.allows facts.now (F.level facts.now) words
-        → slice_index words 0 ≡ number) }
-{
-    let [number, ..] = facts.pick()?;
-    match facts.tell(word_is(0, number)) {
-        Tell::Always => Some(number),
-        Tell::Never | Tell::Maybe => None,
     }
 }
 
@@ -239,46 +251,4 @@ fn is_told_below<F: WordFacts>(facts: &F, number: u32) -> bool
         value: number,
     };
     matches!(facts.tell(from), Tell::Never)
-}
-
-/// The greatest number of a rule that the call's number is told not to be below, as a search by halves finds it, or 0.
-fn least_told<F: WordFacts>(facts: &F, rules: &[&Rule]) -> u32
-    ensures { (words : List ℕ) → IsWords words
-        → F.allows facts.now (F.level facts.now) words
-        → result ≤ slice_index words 0 }
-{
-    let mut least = 0;
-    let mut first = 0;
-    let mut last = rules.len();
-    while first < last {
-        let middle = first + (last - first) / 2;
-        let number = rules[middle].number;
-        let from = Atom::Ge {
-            word: 0,
-            value: number,
-        };
-        match facts.tell(from) {
-            Tell::Always => {
-                least = number;
-                first = middle + 1;
-            }
-            Tell::Never | Tell::Maybe => last = middle,
-        }
-    }
-    least
-}
-
-/// From which number on the rules are asked, where none below `low` is left: at the first of them a greater one, if the
-/// facts tell it.
-fn told_from<F: WordFacts>(facts: &F, rules: &[&Rule], low: u32) -> u32
-    ensures least { low ≤ result }
-    ensures told { (words : List ℕ) → IsWords words
-        → F.allows facts.now (F.level facts.now) words
-        → IsFrom low (rules_at rules.now) (call_of words)
-        → IsFrom result (rules_at rules.now) (call_of words) }
-{
-    if low > 0 {
-        return low;
-    }
-    least_told(facts, rules)
 }

@@ -1,15 +1,10 @@
 //! The effort of a comparison.
 
-ghost use Rattle.std.specs.Prelude.{◌≡◌, ◌<◌, ◌≤◌, ◌==◌, ◌∷◌, ℕ, List, Some, if◌then◌else◌, length, slice_index};
-ghost use Rattle.std.specs.Prelude.{slice_get, take};
-ghost use Rattle.std.specs.List.{list_any};
-ghost use Rattle.scf_profile.specs.declared.rule.Rule.{Rule};
+ghost use Rattle.std.specs.Prelude.{◌≡◌, ◌<◌, ◌≤◌, ℕ, length, slice_index};
 ghost use Rattle.scf_machine.specs.Rules.{IsValidList, Stands};
-ghost use Rattle.scf_profile.specs.RulesByNumber.{rules_of};
 ghost use Rattle.scf_compare.specs.Effort.{conditions_size, rules_size, spread, stack_paths, effort_of};
 ghost use Rattle.scf_compare.specs.Effort.{effort_of_stack, saturated};
 ghost use Rattle.scf_compare.specs.Paths.{tree_size};
-ghost use Rattle.scf_compare.specs.internal.Profiles.{number_size};
 
 use crate::flow::Flow;
 use scf_insn::kernel::BPF_MAXINSNS;
@@ -24,7 +19,7 @@ pub fn effort(program: &Program, profile: &Profile) -> u64
     ensures { result ≡ saturated (effort_of program.now profile.now) }
 {
     let paths = paths_of(program.insns());
-    paths.saturating_mul(spread_of(profile.rules()))
+    paths.saturating_mul(spread_of(profile))
 }
 
 /// How many steps a comparison of a stack takes at most, or 2^64-1 where they are more: the product of the sizes of the
@@ -34,7 +29,7 @@ pub fn effort_stack(stack: &FilterStack, profile: &Profile) -> u64
     ensures { result ≡ saturated (effort_of_stack stack.now profile.now) }
 {
     let paths = paths_of_all(stack.filters());
-    paths.saturating_mul(spread_of(profile.rules()))
+    paths.saturating_mul(spread_of(profile))
 }
 
 /// The product of the sizes of the filters' trees of paths, the newest filter first.
@@ -113,62 +108,29 @@ fn size_of(insns: &[Insn], place: usize, insn: Insn, operation: Operation, sizes
     }
 }
 
-/// The spread of a profile with these rules: 8, and for each distinct number 1 and the size of its rules.
-fn spread_of(rules: &[Rule]) -> u64
-    ensures { result ≡ saturated (spread rules.now) }
+/// The spread of a profile: 8, and for each of its numbers 1 and the size of its rules.
+fn spread_of(profile: &Profile) -> u64
+    ensures { result ≡ saturated (spread profile.now.rules) }
 {
     let mut sum: u64 = 8;
-    for place in 0..rules.len() {
-        sum = sum.saturating_add(size_of_number(rules, place));
+    for own in profile.numbers() {
+        sum = sum
+            .saturating_add(size_of_rules(&own.rules))
+            .saturating_add(1);
     }
     sum
 }
 
-/// What the number of the rule at a place adds to the spread, where no rule before it has the number.
-fn size_of_number(rules: &[Rule], place: usize) -> u64
-    requires { place < length rules.now }
-    ensures { (rule : Rule) → slice_get rules.now place ≡ Some rule
-        → result ≡ saturated (
-        if list_any (λ r. r.number == rule.number) (take place rules.now)
-        then 0
-        else number_size rules.now rule.number) }
-{
-    let number = rules[place].number;
-    if has_number(&rules[..place], number) {
-        0
-    } else {
-        size_of_rules(rules, number).saturating_add(1)
-    }
-}
-
-/// Whether one of the rules has the number.
-fn has_number(rules: &[Rule], number: u32) -> bool
-    ensures { result ≡ list_any (λ rule. rule.number == number) rules.now }
-{
-    rules.iter().any(|rule| rule.number == number)
-}
-
 /// The size of the tree of the rules of a number, the last one first.
-fn size_of_rules(rules: &[Rule], number: u32) -> u64
-    ensures { result ≡ saturated (rules_size (rules_of number rules.now)) }
+#[tactic(auto, using(crate::proofs::Saturated::rules_step))]
+fn size_of_rules(rules: &[Rule]) -> u64
+    ensures { result ≡ saturated (rules_size rules.now) }
 {
     let mut size = 1;
     for place in (0..rules.len()).rev() {
-        size = size_with_rule(&rules[place], number, size);
+        size = size_of_conditions(rules[place].conditions.as_slice(), size);
     }
     size
-}
-
-/// The size of the tree of the rules of a number once a rule stands before the others.
-fn size_with_rule(rule: &Rule, number: u32, size: u64) -> u64
-    ensures { (others : List Rule) → size ≡ saturated (rules_size (rules_of number others))
-        → result ≡ saturated (rules_size (rules_of number (rule.now ∷ others))) }
-{
-    if rule.number == number {
-        size_of_conditions(rule.conditions.as_slice(), size)
-    } else {
-        size
-    }
 }
 
 /// The size of the tree of conditions, where the one behind a condition that fails has this size.

@@ -1,5 +1,5 @@
 -- Laws that the trees are given with.
-use Rattle.std.specs.Prelude.{◌+◌, ◌*◌, ◌<◌, ◌≤◌, ℕ, List, [], ◌∷◌, Option, None, Some, slice_get, drop}
+use Rattle.std.specs.Prelude.{◌+◌, ◌*◌, ◌<◌, ◌≤◌, ℕ, List, [], ◌∷◌, Option, Some, drop}
 use Rattle.std.proofs.Common.{zero, suc, arith}
 use Rattle.std.proofs.Math.Nat.{mul-le-mul_left}
 use Rattle.scf_insn.specs.declared.insn.Insn.{Insn}
@@ -23,11 +23,11 @@ use Rattle.scf_compare.specs.declared.question.ConditionPart.TheVariants.{High, 
 use Rattle.scf_profile.specs.declared.rule.Rule.{Rule}
 use Rattle.scf_compare.specs.internal.Conditions.{part_size}
 use Rattle.scf_compare.specs.Effort.{spread, stack_paths}
-use Rattle.scf_compare.specs.internal.Profiles.{profile_tree, condition_size}
+use Rattle.scf_compare.specs.internal.Profiles.{numbers_size, profile_tree}
 use Rattle.scf_compare.specs.internal.Filters.{filter_size, filter_tree}
 use Rattle.scf_compare.specs.Paths.{size_of_insn, tree_sizes, tree_size}
 use Rattle.scf_compare.specs.internal.Pairs.{pair_tree}
-use Rattle.scf_compare.specs.internal.SortedProfiles.{SortedProfile}
+use Rattle.scf_compare.specs.internal.NumberedProfiles.{NumberedProfile}
 
 -- one node and two trees behind it, with the same tree at each of their ends
 pub scaled_costs : (a b n scale : ℕ) → a + b + 1 ≤ n → 0 < scale → a * scale + b * scale + 1 ≤ n * scale
@@ -79,27 +79,21 @@ part_counts High holds fails = omega arith
 part_counts Above holds fails = omega arith
 part_counts Low holds fails = omega arith
 
-condition_counts : (rules : List Rule) (place index : ℕ) (part : ConditionPart) (found : Option Rule)
-    → 0 < condition_size rules place index part found
-condition_counts rules place index part None = omega arith
-condition_counts rules place index part (Some rule) = part_counts part _ _
-
 -- each node of a profile's tree counts
-pub profile_node_counts : (s : SortedProfile) (node : ProfileNode) → 0 < (profile_tree s).size node
+pub profile_node_counts : (s : NumberedProfile) (node : ProfileNode) → 0 < (profile_tree s).size node
 profile_node_counts s Architecture = omega arith
 profile_node_counts s Range = omega arith
 profile_node_counts s (Number place) = omega arith
-profile_node_counts s (OfCondition place index part) =
-    condition_counts s.rules place index part (slice_get s.rules place)
+profile_node_counts s (OfCondition at part) = part_counts part _ _
 profile_node_counts s (Answers answer) = omega arith
 
 pub spread_counts : (rules : List Rule) → 0 < spread rules
 spread_counts rules = omega arith
 
 -- each node of a pair counts
-pub pair_counts : (filters : List (List Insn)) (s : SortedProfile) (registers : Registers) (node : PairNode)
+pub pair_counts : (filters : List (List Insn)) (s : NumberedProfile) (registers : Registers) (node : PairNode)
     → 0 < (pair_tree filters s registers).size node
 pair_counts filters s registers (AtFilter node) =
-    scaled_counts (stack_size filters node) (spread s.profile.rules) (stack_node_counts filters registers node)
-    (spread_counts s.profile.rules)
+    scaled_counts (stack_size filters node) (8 + numbers_size s.numbers) (stack_node_counts filters registers node)
+    (omega arith)
 pair_counts filters s registers (AtProfile end node) = profile_node_counts s node

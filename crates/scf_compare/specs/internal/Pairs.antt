@@ -1,5 +1,5 @@
 -- Filters and a profile as one tree: the filters are asked first, and the profile at each end of their tree.
-use Rattle.std.specs.Prelude.{◌*◌, ℕ, List, All}
+use Rattle.std.specs.Prelude.{◌+◌, ◌*◌, ℕ, List, All}
 use Rattle.scf_insn.specs.declared.insn.Insn.{Insn}
 use Rattle.scf_insn.specs.Words.{IsWords}
 use Rattle.scf_machine.specs.Precedence.{StackAnswers}
@@ -7,14 +7,13 @@ use Rattle.scf_profile.specs.PlainProfile.{IsPlainRule}
 use Rattle.scf_compare.specs.declared.pair.PairNode.{PairNode}
 use Rattle.scf_compare.specs.declared.pair.PairNode.TheVariants.{AtFilter, AtProfile}
 use Rattle.scf_compare.specs.declared.registers.Registers.{Registers}
-use Rattle.scf_compare.specs.Effort.{spread}
 use Rattle.scf_compare.specs.internal.Ends.{FilterTells, KnowsAnswer}
-use Rattle.scf_compare.specs.internal.Profiles.{profile_is_node, profile_reaches, profile_size}
-use Rattle.scf_compare.specs.internal.SortedProfiles.{SortedProfile}
+use Rattle.scf_compare.specs.internal.NumberedProfiles.{NumberedProfile}
+use Rattle.scf_compare.specs.internal.Profiles.{numbers_size, profile_is_node, profile_reaches, profile_size}
 use Rattle.scf_compare.specs.internal.Stacks.{IsStackEnd, stack_is_node, stack_is_plain, stack_reaches, stack_size}
 use Rattle.scf_compare.specs.internal.Trees.{Tree}
 
-module _ (filters : List (List Insn)) (s : SortedProfile) where
+module _ (filters : List (List Insn)) (s : NumberedProfile) where
   abbrev pub pair_is_node : Registers → PairNode → Type 0
   pair_is_node registers (AtFilter node) = stack_is_node filters registers node
   pair_is_node registers (AtProfile end node) = IsStackEnd filters end × profile_is_node s node
@@ -26,12 +25,12 @@ module _ (filters : List (List Insn)) (s : SortedProfile) where
 
   -- each end of the tree of the filters has the whole tree of the profile behind it
   abbrev pub pair_size : PairNode → ℕ
-  pair_size (AtFilter node) = stack_size filters node * spread s.profile.rules
+  pair_size (AtFilter node) = stack_size filters node * (8 + numbers_size s.numbers)
   pair_size (AtProfile end node) = profile_size s node
 
   abbrev pub pair_is_plain : Registers → PairNode → Type 0
-  pair_is_plain registers (AtFilter node) = stack_is_plain filters registers node × All IsPlainRule s.rules
-  pair_is_plain registers (AtProfile end node) = KnowsAnswer end × All IsPlainRule s.rules
+  pair_is_plain registers (AtFilter node) = stack_is_plain filters registers node × All IsPlainRule s.profile.rules
+  pair_is_plain registers (AtProfile end node) = KnowsAnswer end × All IsPlainRule s.profile.rules
 
   -- the tree, for what is known of the registers at the nodes of the filters
   abbrev pub pair_tree : Registers → Tree PairNode

@@ -1,106 +1,104 @@
--- A profile as a tree of questions, whose rules are asked in the order of their numbers.
-use Rattle.std.specs.Prelude.{◌≡◌, ◌≢◌, ◌+◌, ◌<◌, leb, ℕ, List, true, false, All, Option, None, Some, take, drop, slice_get, sum_by, ⊤}
-use Rattle.std.specs.List.{filter}
+-- A profile as a tree of questions, whose numbers are asked in their order, and the rules of one in theirs.
+use Rattle.std.specs.Prelude.{◌≡◌, ◌≢◌, ◌+◌, ◌<◌, ℕ, List, [], true, false, All, Some, length, map, take, drop, slice_get, slice_index_or, sum_by, ⊤}
 use Rattle.scf_insn.specs.declared.answer.Answer.{Answer}
 use Rattle.scf_insn.specs.declared.record.CallRecord.{CallRecord}
 use Rattle.scf_insn.specs.Kernel.{audit_arch_x86_64}
 use Rattle.scf_insn.specs.Words.{call_of, argument}
 use Rattle.scf_profile.specs.declared.condition.Condition.{Condition}
-use Rattle.scf_profile.specs.declared.rule.Rule.{Rule}
+use Rattle.scf_profile.specs.declared.number_rules.NumberRules.{NumberRules}
 use Rattle.scf_profile.specs.Rule.{all_hold, meets}
 use Rattle.scf_profile.specs.Profile.{Profile, IsNative}
 use Rattle.scf_profile.specs.PlainProfile.{IsPlainRule}
 use Rattle.scf_profile.specs.ProfileAnswers.{ProfileAnswers}
-use Rattle.scf_profile.specs.RulesByNumber.{numbers_of, rules_of}
+use Rattle.scf_profile.specs.declared.rule.Rule.{Rule}
+use Rattle.scf_profile.specs.RulesByNumber.{rules_of}
+use Rattle.scf_compare.specs.declared.profile.ConditionPlace.{ConditionPlace}
 use Rattle.scf_compare.specs.declared.profile.ProfileNode.{ProfileNode}
 use Rattle.scf_compare.specs.declared.profile.ProfileNode.TheVariants.{Architecture, Range, Number, Condition as OfCondition, Answer as Answers}
 use Rattle.scf_compare.specs.declared.question.ConditionPart.{ConditionPart}
 use Rattle.scf_compare.specs.internal.Conditions.{IsAtPart, part_size}
 use Rattle.scf_compare.specs.Effort.{conditions_size, rules_size}
-use Rattle.scf_compare.specs.internal.SortedProfiles.{SortedProfile}
+use Rattle.scf_compare.specs.internal.NumberedProfiles.{NumberedProfile}
 use Rattle.scf_compare.specs.internal.Trees.{Endings, Tree}
 
--- A rule stands at a place of rules, and a condition at a place of its conditions.
-pub record StandsAt (rules : List Rule) (place : ℕ) (index : ℕ) (rule : Rule) (condition : Condition) : Type 0 where
-  pub rule_here : slice_get rules place ≡ Some rule
-  pub condition_here : slice_get rule.conditions index ≡ Some condition
+-- the rules of the number at a place
+abbrev pub own_rules : List NumberRules → ℕ → List Rule
+own_rules numbers place = slice_index_or (map (λ own. own.rules.items) numbers) place []
 
--- A native call has a rule's number, meets no rule before it, and the rule's conditions before one hold of it.
-pub record IsAtCondition (rules : List Rule) (place : ℕ) (index : ℕ) (rule : Rule) (call : CallRecord) : Type 0 where
+-- the conditions of the rule at a place of them
+abbrev pub own_conditions : List NumberRules → ConditionPlace → List Condition
+own_conditions numbers at = slice_index_or (map (λ r. r.conditions) (own_rules numbers at.number)) at.rule []
+
+-- There is a number, a rule of it and a condition of the rule.
+pub record StandsAt (numbers : List NumberRules) (at : ConditionPlace) : Type 0 where
+  pub number : at.number < length numbers
+  pub rule : at.rule < length (own_rules numbers at.number)
+  pub condition : at.condition < length (own_conditions numbers at)
+
+-- A native call's number has the rules of the number at a place, and the call meets none of them before one.
+pub record IsAtRule (s : NumberedProfile) (number rule : ℕ) (call : CallRecord) : Type 0 where
   pub native : IsNative call
-  pub number : call.nr ≡ rule.number
-  pub unmet : All (λ earlier. meets earlier call ≡ false) (take place rules)
-  pub held : all_hold call (take index rule.conditions) ≡ true
+  pub own : rules_of call.nr s.profile.rules ≡ own_rules s.numbers number
+  pub unmet : All (λ earlier. meets earlier call ≡ false) (take rule (own_rules s.numbers number))
 
--- the size of what is asked once a rule failed
-abbrev pub size_behind : List Rule → ℕ → Rule → ℕ
-size_behind rules place rule = rules_size (rules_of rule.number (drop (place + 1) rules))
+-- The call is at a rule of a number, and the rule's conditions before one hold of it.
+pub record IsAtCondition (s : NumberedProfile) (at : ConditionPlace) (call : CallRecord) : Type 0 where
+  pub at_rule : IsAtRule s at.number at.rule call
+  pub held : all_hold call (take at.condition (own_conditions s.numbers at)) ≡ true
 
--- the size of what is asked once a condition of a rule holds
-abbrev pub size_of_rest : List Rule → ℕ → ℕ → Rule → ℕ
-size_of_rest rules place index rule = conditions_size (drop (index + 1) rule.conditions) (size_behind rules place rule)
+-- The call is at a condition, and this much is known of the argument when a part of it is asked.
+pub record KnowsPart (s : NumberedProfile) (at : ConditionPlace) (part : ConditionPart) (call : CallRecord)
+    : Type 0 where
+  pub at_condition : IsAtCondition s at call
+  pub condition : Condition
+  pub here : slice_get (own_conditions s.numbers at) at.condition ≡ Some condition
+  pub known : IsAtPart condition part (argument call condition.index)
 
--- the size of what is asked at a rule
-abbrev pub size_of_rule : List Rule → ℕ → Rule → ℕ
-size_of_rule rules place rule = conditions_size rule.conditions (size_behind rules place rule)
+-- the call has none of the numbers before a place
+abbrev pub IsFrom : ℕ → List NumberRules → CallRecord → Type 0
+IsFrom place numbers call = All (λ own. call.nr ≢ own.number) (take place numbers)
 
-abbrev pub condition_size : List Rule → ℕ → ℕ → ConditionPart → Option Rule → ℕ
-condition_size rules place index part None = 1
-condition_size rules place index part (Some rule) =
-    part_size part (size_of_rest rules place index rule) (size_behind rules place rule)
-
--- what is known of a call when a part of a condition of a rule is asked
-abbrev pub KnowsPart : CallRecord → ConditionPart → Option Condition → Type 0
-KnowsPart call part None = ⊥
-KnowsPart call part (Some condition) = IsAtPart condition part (argument call condition.index)
-
-abbrev pub KnowsRule : List Rule → ℕ → ℕ → CallRecord → ConditionPart → Option Rule → Type 0
-KnowsRule rules place index call part None = ⊥
-KnowsRule rules place index call part (Some rule) =
-    IsAtCondition rules place index rule call × KnowsPart call part (slice_get rule.conditions index)
-
-abbrev pub profile_is_node : SortedProfile → ProfileNode → Type 0
+abbrev pub profile_is_node : NumberedProfile → ProfileNode → Type 0
 profile_is_node s Architecture = Unit {0}
 profile_is_node s Range = Unit {0}
-profile_is_node s (Number low) = Unit {0}
-profile_is_node s (OfCondition place index part) =
-    (rule : Rule) × (condition : Condition) × StandsAt s.rules place index rule condition
+profile_is_node s (Number place) = Unit {0}
+profile_is_node s (OfCondition at part) = StandsAt s.numbers at
 profile_is_node s (Answers answer) = Unit {0}
 
--- no rule with a number below `low` has that of the call
-abbrev pub IsFrom : ℕ → List Rule → CallRecord → Type 0
-IsFrom low rules call = All (λ r. r.number < low → call.nr ≢ r.number) rules
-
-abbrev pub profile_reaches : SortedProfile → ProfileNode → List ℕ → Type 0
+abbrev pub profile_reaches : NumberedProfile → ProfileNode → List ℕ → Type 0
 profile_reaches s Architecture words = Unit {0}
 profile_reaches s Range words = (call_of words).arch ≡ audit_arch_x86_64
-profile_reaches s (Number low) words = IsNative (call_of words) × IsFrom low s.rules (call_of words)
-profile_reaches s (OfCondition place index part) words =
-    KnowsRule s.rules place index (call_of words) part (slice_get s.rules place)
+profile_reaches s (Number place) words = IsNative (call_of words) × IsFrom place s.numbers (call_of words)
+profile_reaches s (OfCondition at part) words = KnowsPart s at part (call_of words)
 profile_reaches s (Answers answer) words = ProfileAnswers s.profile (call_of words) answer.0
 
--- what a number adds to the spread of the rules
-abbrev pub number_size : List Rule → ℕ → ℕ
-number_size rules number = 1 + rules_size (rules_of number rules)
+-- the size of what is asked once a rule failed
+abbrev pub size_behind : List NumberRules → ConditionPlace → ℕ
+size_behind numbers at = rules_size (drop (at.rule + 1) (own_rules numbers at.number))
 
--- what the numbers from one on add to it
-abbrev pub sizes_from : List Rule → ℕ → ℕ
-sizes_from rules low = sum_by (number_size rules) (filter (leb low) (numbers_of rules))
+-- the size of what is asked once a condition of a rule holds
+abbrev pub size_of_rest : List NumberRules → ConditionPlace → ℕ
+size_of_rest numbers at =
+    conditions_size (drop (at.condition + 1) (own_conditions numbers at)) (size_behind numbers at)
 
-abbrev pub profile_size : SortedProfile → ProfileNode → ℕ
-profile_size s Architecture = 5 + sum_by (number_size s.profile.rules) (numbers_of s.profile.rules)
-profile_size s Range = 3 + sum_by (number_size s.profile.rules) (numbers_of s.profile.rules)
-profile_size s (Number low) = 1 + sizes_from s.profile.rules low
-profile_size s (OfCondition place index part) = condition_size s.rules place index part (slice_get s.rules place)
+-- what numbers add to the spread
+abbrev pub numbers_size : List NumberRules → ℕ
+numbers_size numbers = sum_by (λ own. 1 + rules_size own.rules.items) numbers
+
+abbrev pub profile_size : NumberedProfile → ProfileNode → ℕ
+profile_size s Architecture = 5 + numbers_size s.numbers
+profile_size s Range = 3 + numbers_size s.numbers
+profile_size s (Number place) = 1 + numbers_size (drop place s.numbers)
+profile_size s (OfCondition at part) = part_size part (size_of_rest s.numbers at) (size_behind s.numbers at)
 profile_size s (Answers answer) = 1
 
 -- all of a plain profile's nodes are plain
-abbrev pub profile_tree : SortedProfile → Tree ProfileNode
+abbrev pub profile_tree : NumberedProfile → Tree ProfileNode
 profile_tree s = record {
   is_node = profile_is_node s;
   reaches = profile_reaches s;
   size = profile_size s;
-  is_plain = λ _. All IsPlainRule s.rules;
+  is_plain = λ _. All IsPlainRule s.profile.rules;
 }
 
 -- the answer is known at each end

@@ -1,4 +1,5 @@
-use Rattle.scf_compare.proofs.Common.{All-permutation, IfOk-weaker, IsPlainRule, IfOk, Profile, StackAnswers, IsStackEndPlace, IsPlaceOf, IsStackEnd, IsTrueVerdict, compared_in, subst}
+use Rattle.scf_compare.proofs.Common.{subst, IfOk-weaker, IfOk, Profile, StackAnswers, IsStackEndPlace, IsPlaceOf, IsStackEnd, IsTrueVerdict, compared_in}
+use Rattle.scf_compare.proofs.Numbered.{numbers_spread}
 use Rattle.scf_compare.proofs.Verdicts.{true_by, decided_in, stack_end_place}
 use Rattle.scf_compare.proofs.comparer.compare_filters.Goals as goal
 
@@ -12,20 +13,21 @@ returns-clause-holds g c =
     (subst (λ (p : Profile).
     IfOk c.explore.result
     (IsTrueVerdict (compared_in c.args.relation c.args.scope places (StackAnswers filters) p)))
-    c.in_ok-new.ensures.profile c.explore.ensures.holds)
+    c.new.ensures.profile c.explore.ensures.holds)
 
 pub returns-clause-within : goal.returns-clause-within
-returns-clause-within g c = rw (c.start_of-start.ensures.size, c.in_ok-new.ensures.profile) at c.explore.ensures.within
+returns-clause-within g c =
+    rw (c.start_of-start.ensures.size, numbers_spread _ _ c.new.ensures.numbered.numbers, c.new.ensures.profile)
+    at c.explore.ensures.within
 
 pub returns-clause-decided : goal.returns-clause-decided
 returns-clause-decided g c = λ exact plain plain_profile.
     let filters = c.args.filters.now in
-    let plain_tree =
-    All-permutation IsPlainRule _ _ c.in_ok-new.ensures.sorted.by_number.same
-    (rw (← c.in_ok-new.ensures.profile) at plain_profile) in
+    let plain_tree = rw (← c.new.ensures.profile) at plain_profile in
     let decided =
     c.explore.ensures.decided (c.in_ok-facts.ensures.exact exact) (c.start_of-start.ensures.plain plain, plain_tree) in
     IfOk-weaker c.explore.result _ _
     (decided_in c.args.relation c.args.scope (IsPlaceOf (IsStackEnd filters)) (StackAnswers filters) c.args.profile.now
     c.args.limit _)
-    (rw (c.start_of-start.ensures.size, c.in_ok-new.ensures.profile) at decided)
+    (rw (c.start_of-start.ensures.size, numbers_spread _ _ c.new.ensures.numbered.numbers, c.new.ensures.profile)
+    at decided)

@@ -1,5 +1,5 @@
-use Rattle.scf_compare.proofs.Common.{◌≡◌, ◌+◌, take, sum_by, numbers_of, number_size, saturated}
+use Rattle.scf_compare.proofs.Common.{◌≡◌, ◌+◌, take, numbers_size, saturated}
 use Rattle.scf_compare.proofs.tree_sizes.spread_of.Given as goal
 
-abbrev pub invariant-loop-place : goal.invariant-loop-place
-invariant-loop-place l = l.sum ≡ saturated (8 + sum_by (number_size l.rules) (numbers_of (take l.place l.rules)))
+abbrev pub invariant-loop-own : goal.invariant-loop-own
+invariant-loop-own l = l.sum ≡ saturated (8 + numbers_size (take l.own-index l.own-items))

@@ -1,23 +1,42 @@
-use Rattle.scf_compare.proofs.Common.{All-contains, arith, rules, common_steps, IsPlainRule, IsPlainCondition}
-use Rattle.scf_compare.proofs.Rules.{contains_here}
+use Rattle.scf_compare.proofs.Common.{◌≡◌, ◌<◌, List, get_or, sym, ap, ◌∙◌, subst, arith, rules, length, Some, slice_get, slice_get-get_or, All, All-contains, Contains, Condition, argument, call_of, IsPlainRule, IsPlainCondition, IsAtPart, own_conditions, own_rules}
+use Rattle.scf_compare.proofs.Rules.{read_at, same_here}
+use Rattle.scf_compare.proofs.Numbered.{conditions_read, no_condition}
 use Rattle.scf_compare.proofs.by_number.ByNumber.ask_condition.Goals as goal
 
 pub returns : goal.returns
 returns c =
-    let known = c.args.self.now.rules in
-    let rule = c.requires.0 in
-    let stands = c.requires.2 in
-    let condition = c.condition_at.result in
-    let here = c.condition_at.ensures.stands rule stands.rule_here in
+    let s = c.args.self.now in
+    let at = c.args.at in
+    let read = c.as_slice-conditions.result.now in
+    let rule = c.index-rules_at-at.result in
+    let condition = get_or read at.condition no_condition in
+    let conditions = own_conditions s.numbers at in
+    let among : at.rule < length c.rules_at.result.now =
+    omega (arith, c.requires.rule, ap length c.rules_at.ensures.own) in
+    let stands = read_at _ (own_rules s.numbers at.number) at.rule rule c.rules_at.ensures.own among
+    c.index-rules_at-at.is in
+    let same : read ≡ conditions = c.as_slice-conditions.ensures ∙ sym (conditions_read s.numbers at rule stands) in
+    let inside : at.condition < length read = omega (arith, c.requires.condition, ap length same) in
+    let here : slice_get conditions at.condition ≡ Some condition =
+    subst (λ (cs : List Condition). slice_get cs at.condition ≡ Some condition) same
+    (slice_get-get_or read at.condition no_condition inside) in
     record {
       proper = search rules;
-      leads = search rules;
-      costs = grind (arith, common_steps);
+      leads = λ words w r.
+          let one = same_here conditions at.condition r.condition condition r.here here in
+          let known =
+          subst (λ (d : Condition). IsAtPart d c.args.part (argument (call_of words) d.index)) one r.known in
+          let ways = c.question_of-question.ensures.splits words w known in (
+            λ e. c.follow.ensures.reached words condition here r.at_condition (ways.0 e),
+            λ e. c.follow-2.ensures.reached words condition here r.at_condition (ways.1 e),
+          );
+      costs = omega (arith, c.question_of-question.ensures.costs, c.follow.ensures.size, c.follow-2.ensures.size);
       plain = λ plain.
-          let plain_rule =
-          All-contains IsPlainRule known rule plain (contains_here known c.args.place rule stands.rule_here) in
-          let plain_condition =
-          All-contains IsPlainCondition rule.conditions condition plain_rule.conditions
-          (contains_here rule.conditions c.args.index condition here) in
+          let known =
+          subst (Contains s.profile.rules) (sym c.index-rules_at-at.is) (c.rules_at.ensures.known at.rule rule among) in
+          let plain_conditions =
+          subst (All IsPlainCondition) (sym c.as_slice-conditions.ensures)
+          (All-contains IsPlainRule s.profile.rules rule plain known).conditions in
+          let plain_condition = plain_conditions at.condition no_condition inside in
           (c.question_of-question.ensures.keeps plain_condition, plain, plain);
     }

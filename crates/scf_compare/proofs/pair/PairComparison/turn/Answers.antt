@@ -1,5 +1,4 @@
-use Rattle.scf_compare.proofs.Common.{◌*◌, ◌≤◌, arith, mul-le-mul_left, spread_counts, scaled_costs, stack_size}
-use Rattle.scf_compare.specs.Effort.{spread}
+use Rattle.scf_compare.proofs.Common.{◌+◌, ◌*◌, ◌≤◌, arith, mul-le-mul_left, scaled_costs, numbers_size, stack_size}
 use Rattle.scf_compare.proofs.Turns.{goes_within}
 use Rattle.scf_compare.proofs.pair.PairComparison.turn.Goals as goal
 
@@ -9,7 +8,7 @@ returns-in-Go g c =
     rw c.in-AtFilter.is (record {
       proper = turn.proper;
       leads = λ words allowed come. (come.0, turn.leads words come.0 come.1);
-      costs = grind (arith, scaled_costs, spread_counts, turn.costs);
+      costs = grind (arith, scaled_costs, turn.costs);
       plain = λ plain. (turn.plain plain.0, plain.1);
     })
 
@@ -21,7 +20,7 @@ returns-in-Split g c =
       leads = λ words allowed come.
           goes_within c.in-Split.asked words (λ first. (come.0, first)) (λ second. (come.0, second))
           (turn.leads words come.0 come.1);
-      costs = grind (arith, scaled_costs, spread_counts, turn.costs);
+      costs = grind (arith, scaled_costs, turn.costs);
       plain = λ plain. let stays = turn.plain plain.0 in (stays.0, (stays.1, plain.1), (stays.2, plain.1));
     })
 
@@ -30,7 +29,7 @@ returns-in-End g c =
     let turn = rw c.in-End.is at c.turn_in_stack.ensures in
     let asked = c.ask_profile.ensures c.turn_in_stack.new.registers in
     let size = stack_size c.args.self.now.filters.now c.in-AtFilter.node in
-    let whole = spread c.args.self.now.profile.profile.rules in
+    let whole = 8 + numbers_size c.args.self.now.profile.numbers in
     let counts : 1 ≤ size = turn.costs in
     let all : whole * 1 ≤ whole * size = mul-le-mul_left whole counts in
     rw c.in-AtFilter.is (record {

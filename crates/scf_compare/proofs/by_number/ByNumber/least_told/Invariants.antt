@@ -1,11 +1,11 @@
-use Rattle.scf_compare.proofs.Common.{◌-◌, ◌≤◌, ℕ, List, length, IsWords, slice_index}
-use Rattle.scf_compare.proofs.profile.least_told.Given as goal
+use Rattle.scf_compare.proofs.Common.{◌-◌, ◌≤◌, ℕ, List, length, IsFrom, IsWords, call_of}
+use Rattle.scf_compare.proofs.by_number.ByNumber.least_told.Given as goal
 
 abbrev pub invariant-loop-first : goal.invariant-loop-first
 invariant-loop-first g l = record {
-  inside : l.last ≤ length l.rules;
+  inside : l.last ≤ length l.numbers;
   told : (words : List ℕ) → IsWords words → g.F.WordFacts.allows l.facts (g.F.WordFacts.level l.facts) words
-      → l.least ≤ slice_index words 0;
+      → IsFrom l.least l.numbers (call_of words);
 }
 
 abbrev pub decreases-loop-first : goal.decreases-loop-first

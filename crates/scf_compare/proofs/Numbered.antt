@@ -1,0 +1,153 @@
+-- A profile's numbers: which rules a call can still meet, and how many steps the numbers take.
+use Rattle.scf_compare.proofs.Common.{◌≡◌, ◌≢◌, ℕ, zero, suc, ◌+◌, ◌<◌, ◌≤◌, false, true, eqb, List, [], ◌∷◌, Some, length, map, drop, get_or, sym, ap, ◌∙◌, subst, arith, inl, inr, slice_get, slice_get-get_or, slice_get-map, slice_get_within, get_or_from_slice_get, option_map, get_or-take, length-take, take_all, cases_lt, cases_eq, eq-eqb, eqb-true, All, All-contains, All-contains_itself, All-filter, filter_passes, contains_filtered, Contains, CallRecord, Condition, NotEqual, NumberRules, Rule, IsNative, ProfileAnswers, by_rule, by_default, meets, rules_of, AreNumbersOf, number_among, numbers_rise, sum_of_own, sum_by-drop_more, sum_by-take-drop, conditions_size, rules_size, numbers_size, own_conditions, own_rules, size_behind, IsAtCondition, IsAtRule, IsFrom, ConditionPlace, IsNumbered, NumberedProfile}
+use Rattle.scf_compare.specs.Effort.{spread}
+use Rattle.scf_compare.proofs.Rules.{contains_here, met_by, rules_more, unmet_apart}
+
+-- ---- what is read
+
+-- what is mapped of an element that stands there
+mapped_here : {X Y : Type 0} (f : X → Y) (xs : List X) (place : ℕ) (x : X) (none : Y) → slice_get xs place ≡ Some x
+    → get_or (map f xs) place none ≡ f x
+mapped_here f xs place x none here =
+    get_or_from_slice_get (map f xs) place (f x) none (slice_get-map f xs place ∙ ap (option_map f) here)
+
+pub own_read : (numbers : List NumberRules) (place : ℕ) (own : NumberRules) → slice_get numbers place ≡ Some own
+    → own_rules numbers place ≡ own.rules.items
+own_read numbers place own here = mapped_here (λ (o : NumberRules). o.rules.items) numbers place own [] here
+
+pub conditions_read : (numbers : List NumberRules) (at : ConditionPlace) (rule : Rule)
+    → slice_get (own_rules numbers at.number) at.rule ≡ Some rule → own_conditions numbers at ≡ rule.conditions
+conditions_read numbers at rule here =
+    mapped_here (λ (r : Rule). r.conditions) (own_rules numbers at.number) at.rule rule [] here
+
+-- what holds of each element holds of one that stands there
+pub at_place : {X : Type 0} (P : X → Type 0) (xs : List X) (place : ℕ) (x : X) → All P xs → slice_get xs place ≡ Some x
+    → P x
+at_place P xs place x all here = All-contains P xs x all (contains_here xs place x here)
+
+-- some rule, and the condition that a read past the end of conditions gives
+abbrev pub no_rule : Rule
+no_rule = record { number = 0; conditions = []; answer = record { 0 = 0 }; entry = 0 }
+
+abbrev pub no_condition : Condition
+no_condition = record { index = 0; op = NotEqual; value = 0; value_two = 0 }
+
+-- ---- what a profile answers
+
+-- the rules of a number that stands there are those of it
+pub own_kept : (s : NumberedProfile) → IsNumbered s → (place : ℕ) (own : NumberRules)
+    → slice_get s.numbers place ≡ Some own → own_rules s.numbers place ≡ rules_of own.number s.profile.rules
+own_kept s numbered place own here =
+    own_read s.numbers place own here
+    ∙ at_place (λ (o : NumberRules). o.rules.items ≡ rules_of o.number s.profile.rules) s.numbers place own
+    numbered.numbers.own here
+
+-- the rules of a number are rules, and have it
+own_rule : (nr : ℕ) (rules : List Rule) (r : Rule) → Contains (rules_of nr rules) r
+    → Contains rules r × (r.number ≡ nr)
+own_rule nr rules r has = (
+  All-contains (Contains rules) (rules_of nr rules) r
+      (All-filter (λ (q : Rule). eqb q.number nr) (Contains rules) rules (All-contains_itself rules)) has,
+  eqb-true r.number nr
+      (All-contains (λ q. eqb q.number nr ≡ true) (rules_of nr rules) r
+      (filter_passes (λ (q : Rule). eqb q.number nr) rules) has),
+)
+
+module _ (s : NumberedProfile) (call : CallRecord) where
+  -- a rule that the call is at, all of whose conditions hold of it
+  pub by_own_rule : (at : ConditionPlace) (r : Rule) → IsAtCondition s at call
+      → slice_get (own_rules s.numbers at.number) at.rule ≡ Some r → length r.conditions ≤ at.condition
+      → ProfileAnswers s.profile call r.answer.0
+  by_own_rule at r is here all =
+      let own = own_rule call.nr s.profile.rules r
+      (subst (λ (rs : List Rule). Contains rs r) (sym is.at_rule.own)
+      (contains_here (own_rules s.numbers at.number) at.rule r here)) in
+      let held = rw (conditions_read s.numbers at r here, take_all at.condition r.conditions all) at is.held in
+      by_rule r is.at_rule.native own.0 (met_by call r (sym own.1) held)
+
+  -- a native call that meets none of the rules of its number
+  unmet_own : IsNative call → All (λ r. meets r call ≡ false) (rules_of call.nr s.profile.rules)
+      → ProfileAnswers s.profile call s.profile.default_answer.0
+  unmet_own native unmet = by_default native (λ r has. elim (cases_eq r.number call.nr) [
+    | inl same ↦ All-contains (λ q. meets q call ≡ false) (rules_of call.nr s.profile.rules) r unmet
+        (contains_filtered (λ (q : Rule). eqb q.number call.nr) s.profile.rules r (eq-eqb r.number call.nr same) has)
+    | inr apart ↦ unmet_apart call r (λ e. apart (sym e))
+  ])
+
+  -- a call past the last rule of its number
+  pub past_rules : (number rule : ℕ) → IsAtRule s number rule call → length (own_rules s.numbers number) ≤ rule
+      → ProfileAnswers s.profile call s.profile.default_answer.0
+  past_rules number rule is past =
+      unmet_own is.native
+      (rw is.own (rw (take_all rule (own_rules s.numbers number) past) at is.unmet))
+
+  -- a call with none of the numbers
+  pub of_no_number : IsNumbered s → IsNative call → All (λ own. call.nr ≢ own.number) s.numbers
+      → ProfileAnswers s.profile call s.profile.default_answer.0
+  of_no_number numbered native apart = elim (number_among s.numbers s.profile.rules numbered.numbers call.nr) [
+    | inl (own, has, same) ↦
+        absurd (All-contains (λ o. call.nr ≢ o.number) s.numbers own apart has (sym same))
+    | inr none ↦ unmet_own native (rw none (λ k d lt. absurd (omega arith)))
+  ]
+
+-- ---- which numbers a call can still have
+
+module _ (numbers : List NumberRules) (rules : List Rule) (are : AreNumbersOf numbers rules) (call : CallRecord)
+    (place : ℕ) (own : NumberRules) (here : slice_get numbers place ≡ Some own) where
+  -- a number that isn't below one has none of those before it
+  pub from_number : own.number ≤ call.nr → IsFrom place numbers call
+  from_number least k d lt =
+      let within = slice_get_within numbers place own here in
+      let before : k < place = omega (arith, length-take place numbers) in
+      let rise = numbers_rise numbers rules are k place d before within in
+      let same = ap (λ (o : NumberRules). o.number) (get_or_from_slice_get numbers place own d here) in
+      rw (get_or-take place numbers k d before) (λ e. absurd (omega (arith, rise, same, e, least)))
+
+  -- one that has none before a number, and is below that one, has none
+  pub from_above : IsFrom place numbers call → call.nr < own.number → All (λ o. call.nr ≢ o.number) numbers
+  from_above from above k d lt = elim (cases_lt k place) [
+    | inl early ↦ rw (get_or-take place numbers k d early) at (from k d (omega (arith, length-take place numbers)))
+    | inr late ↦ λ e.
+        let same = ap (λ (o : NumberRules). o.number) (get_or_from_slice_get numbers place own d here) in
+        elim (cases_eq k place) [
+          | inl at_it ↦ absurd (let here_too = ap (λ n. (get_or numbers n d).number) at_it in omega (arith, here_too))
+          | inr behind ↦
+              absurd (let rise = numbers_rise numbers rules are place k d (omega arith) lt in omega (arith, rise))
+        ]
+  ]
+
+-- ---- how many steps the numbers take
+
+-- what the numbers add to the spread
+pub numbers_spread : (numbers : List NumberRules) (rules : List Rule) → AreNumbersOf numbers rules
+    → 8 + numbers_size numbers ≡ spread rules
+numbers_spread numbers rules are =
+    ap (λ n. 8 + n) (sum_of_own numbers rules are (λ (own : List Rule). 1 + rules_size own))
+
+-- the rules of a number from one on
+pub rule_size : (numbers : List NumberRules) (at : ConditionPlace) → at.rule < length (own_rules numbers at.number)
+    → conditions_size (own_conditions numbers at) (size_behind numbers at)
+    ≡ rules_size (drop at.rule (own_rules numbers at.number))
+rule_size numbers at inside =
+    let rules = own_rules numbers at.number in
+    let here = slice_get-get_or rules at.rule no_rule inside in
+    rw (conditions_read numbers at _ here) (sym (rules_more rules at.rule _ here))
+
+sizes_fewer : (numbers : List NumberRules) (place from : ℕ) → place ≤ from
+    → numbers_size (drop from numbers) ≤ numbers_size (drop place numbers)
+sizes_fewer numbers zero from le =
+    omega (arith, sum_by-take-drop (λ (own : NumberRules). 1 + rules_size own.rules.items) numbers from)
+sizes_fewer numbers (suc place) zero le = absurd (omega arith)
+sizes_fewer [] (suc place) (suc from) le = omega arith
+sizes_fewer (own ∷ numbers) (suc place) (suc from) le = sizes_fewer numbers place from (omega arith)
+
+-- the rules of a number, and what is behind it, of the numbers from a place on
+pub sizes_from : (numbers : List NumberRules) (place from : ℕ) (own : NumberRules) → place ≤ from
+    → slice_get numbers from ≡ Some own
+    → 1 + rules_size (own_rules numbers from) + numbers_size (drop (from + 1) numbers)
+    ≤ numbers_size (drop place numbers)
+sizes_from numbers place from own le here =
+    let f = λ (o : NumberRules). 1 + rules_size o.rules.items in
+    let more = sum_by-drop_more f numbers from own (slice_get_within numbers from own here) in
+    let same = ap f (get_or_from_slice_get numbers from own own here) in
+    rw (own_read numbers from own here) (omega (arith, sizes_fewer numbers place from le, more, same))
