@@ -6,7 +6,7 @@ use scf_facts::WordSets;
 use scf_insn::faults::{Failing, Reader, Writer};
 use scf_insn::{Answer, InputFault, Insn, ReadFault, read_input, read_program, write_program};
 use scf_machine::{FilterStack, PushFault, run, trace};
-use scf_profile::{CallTable, NamedCall, Reason, rules_by_number};
+use scf_profile::{CallTable, NamedCall, Reason};
 use scf_test_fixtures::filters::ALLOW_ALL;
 use scf_test_fixtures::kernel::{ALLOW, ERRNO, ERRNO_1, X86_64};
 use scf_test_fixtures::profiles::DEFAULT_ALLOW;
@@ -215,10 +215,10 @@ fn profile_of_4096_numbers(rt: HostRuntime) {
     let profile = allowing(&rt, rt.alloc(), (4102, u32::MAX, 4096));
     let rules = profile.rules();
     assert!(rt; rules.len() == 4096 && rules[0].number == 4102);
-    let sorted = rules_by_number(rt.alloc(), rules).expect(&rt, "no fault");
-    assert!(rt; sorted.len() == 4096);
-    for (place, rule) in sorted.iter().enumerate() {
-        assert!(rt; rule.number as usize == place + 7, "{place}");
+    let numbers = profile.numbers();
+    assert!(rt; numbers.len() == 4096);
+    for (place, own) in numbers.iter().enumerate() {
+        assert!(rt; own.number as usize == place + 7 && own.rules.len() == 1, "{place}");
     }
     for number in 6..4104u32 {
         let one = call(number, X86_64, [0; 6]);

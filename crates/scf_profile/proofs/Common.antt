@@ -9,15 +9,12 @@ pub use Rattle.std.proofs.Math.ListN.{length-drop}
 pub use Rattle.std.proofs.Math.Seq.{drop-cons}
 pub use Rattle.std.proofs.lemmas.Bool.{both_ways, cases_Bool, cases_cond, cases_order, cond-true, false≢true, le-leb, le-ltb, not_from_false, or_parts, or_right}
 pub use Rattle.std.proofs.lemmas.Cmp.{nat_cmp_total}
-pub use Rattle.std.proofs.lemmas.Fn.{always_returns_same}
 pub use Rattle.std.proofs.lemmas.Iterator.{YieldsList-from_slice, cases_from_all}
-pub use Rattle.std.proofs.lemmas.Iterator.Consumers.{map_from_collect}
 pub use Rattle.std.proofs.lemmas.Iterator.Search.{any_from_yields_List, true_from_All}
-pub use Rattle.std.proofs.lemmas.List.{get_or-drop, get_or-map, get_or-take, get_or_past, length-map, length-take, map-append}
+pub use Rattle.std.proofs.lemmas.List.{get_or-map, get_or-take, get_or_past, length-map, length-take, map-append}
 pub use Rattle.std.proofs.lemmas.List.Elements.{All-append, All-cons, All-contains, All-contains_itself, All-filter, All-from_recursion, All-head, All-map, All-more, All-nil, All-same, All-tail, All-weaker, Contains-append_right, Contains-get_or, filter-append, filter_map-append, recursion_from_All}
 pub use Rattle.std.proofs.lemmas.List.Kept.{IsStrictlySortedBy-filter}
-pub use Rattle.std.proofs.lemmas.List.Filters.{sum_by-filter_both}
-pub use Rattle.std.proofs.lemmas.List.Sorted.{Contains-permutation, IsNonDecreasingBy-drop, IsNonDecreasingBy-from_sort_by_key, IsNonDecreasingBy-take, IsPartitionPoint-from_clause, IsPartitionedBy-leb, IsPartitionedBy-ltb, IsPermutation-map, IsPermutation-cons, IsPermutation-refl, IsPermutation-remove, IsPermutation-sym, IsPermutation-trans, length_permutation, sum_by-IsPermutation}
+pub use Rattle.std.proofs.lemmas.List.Sorted.{Contains-permutation, IsPermutation-cons, IsPermutation-refl, IsPermutation-remove, IsPermutation-sym, IsPermutation-trans, length_permutation, sum_by-IsPermutation}
 pub use Rattle.std.proofs.lemmas.List.Splits.{length-slice_split, slice_split-cons_yes, slice_split_at, slice_split_none}
 pub use Rattle.std.proofs.lemmas.List.Sums.{AllPass-from_list_all, list_all-from_AllPass, sum_by-cons}
 pub use Rattle.std.proofs.lemmas.Map.Entries.{lookup-filter-values, option_filter}
@@ -37,13 +34,12 @@ pub use Rattle.std.specs.Int.{bit_at}
 pub use Rattle.std.specs.Int.Bits.{and_self, or_add_and}
 pub use Rattle.std.specs.List.{cons_option, filter, find, fold, list_any, reduce, remove, slice_split, sum_by}
 unfoldable pub use Rattle.std.specs.List.{IsDistinct}
-pub use Rattle.std.specs.List.Sorted.{IsNonDecreasingBy, IsPartitionPoint, IsPermutation, IsStableByKey, IsStrictlyIncreasing, IsStrictlySortedBy, ties}
+pub use Rattle.std.specs.List.Sorted.{IsPermutation, IsStrictlyIncreasing}
 pub use Rattle.std.specs.Map.{keys_of}
 pub use Rattle.std.specs.Option.{option_map_or}
-pub use Rattle.std.specs.Ordering.{eq_by_cmp, is_eq, is_lt, nat_cmp}
+pub use Rattle.std.specs.Ordering.{eq_by_cmp, is_eq, nat_cmp}
 pub use Rattle.std.specs.Str.{IsUtf8, bytes_eq}
 pub use Rattle.std.specs.Str.Lines.{lines, lines_of_parts, strip_carriage_return}
-pub use Rattle.std.specs.declared.alloc.AllocError.{AllocError}
 pub use Rattle.std.specs.declared.cmp.Ordering.{Ordering}
 pub use Rattle.std.specs.declared.cmp.Ordering.TheVariants.{Less}
 pub use Rattle.scf_insn.proofs.Common.{AllByRecursion, IsRecord, and_parts, argument, audit_arch_x86_64, cases_eq, cases_lt, common_steps, drop_all, eq-eqb, eqb-false, eqb-true, err_from_is_err_and, list_all, lookup, lt-ltb, nat_tests, ne_eqb, seccomp_data_args, seccomp_ret_kill_process, take-append-drop, take_all, take_more, x32_syscall_bit}
@@ -55,7 +51,6 @@ pub use Rattle.scf_profile.specs.Limits.{max_rules}
 pub use Rattle.scf_profile.specs.Loading.{EntriesConflict, IsText, Loads, Refuses, TestsGive}
 pub use Rattle.scf_profile.specs.NamedCalls.{AreCallsOf, HasItsNames}
 pub use Rattle.scf_profile.specs.Names.{named, names_of}
-pub use Rattle.scf_profile.specs.ByNumber.{IsByNumber, rules_at}
 pub use Rattle.scf_profile.specs.NumberRules.{AreNumbersOf}
 pub use Rattle.scf_profile.specs.PlainProfile.{IsPlainCondition, IsPlainProfile, IsPlainRule}
 pub use Rattle.scf_profile.specs.Profile.{Profile as Answering, HaveNoConflict, IsNative, IsProfile, Profile}

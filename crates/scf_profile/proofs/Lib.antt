@@ -1,5 +1,4 @@
 pub mod Answering
-pub mod ByNumber
 pub mod Common
 pub mod ConditionLists
 pub mod Cuts

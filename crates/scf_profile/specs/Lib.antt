@@ -1,4 +1,3 @@
-pub mod ByNumber
 pub mod Condition
 pub mod JsonMembers
 pub mod Limits

@@ -3,7 +3,6 @@
 
 mod action;
 mod args;
-mod by_number;
 mod condition;
 mod conflict;
 mod entry;
@@ -31,7 +30,6 @@ mod table_fault;
 mod table_line;
 mod texts;
 
-pub use by_number::rules_by_number;
 pub use condition::{Condition, Conditions, Operator};
 pub use laws::{answer_of_reason, condition_by_halves, one_answer, some_answer};
 pub use limits::{MAX_RULES, MAX_TEXT_LEN};

@@ -3,7 +3,7 @@
 use crate::rows::{CONFIG, TABLE};
 use crate::shown::{Answered, Words};
 use crate::twice::twice;
-use scf_profile::{CallTable, Loaded, NamedCall, Rule, load, rules_by_number};
+use scf_profile::{CallTable, Loaded, NamedCall, Rule, load};
 use std::alloc::Global;
 use std::{fmt, io};
 
@@ -89,23 +89,10 @@ pub(crate) fn loaded_of(
     Ok(read)
 }
 
-fn sort(rt: &impl Print, alloc: Global, rules: &[Rule]) -> io::Result<()> {
-    if let Some(sorted) = twice(rt, "rules_by_number", || rules_by_number(alloc, rules))? {
-        print!(rt; "rules_by_number")?;
-        for rule in sorted {
-            print!(rt; "{}", Ruled(rule))?;
-        }
-        println!(rt; "")?;
-    }
-    Ok(())
-}
-
 pub(crate) fn try_all(rt: &impl Print, alloc: Global, table: &CallTable) -> io::Result<()> {
     if let Some(calls) = twice(rt, "CallTable::calls", || table.calls(alloc))? {
         println!(rt; "CallTable::calls{}", Named(&calls))?;
     }
-    match loaded_of(rt, alloc, table, CONFIG)? {
-        Some(loaded) => sort(rt, alloc, loaded.profile.rules()),
-        None => Ok(()),
-    }
+    loaded_of(rt, alloc, table, CONFIG)?;
+    Ok(())
 }
