@@ -189,7 +189,8 @@ impl ByNumber<'_> {
         ensures reached { (words : List ℕ) → IsAtCondition self.now at (call_of words)
             → profile_reaches self.now result words }
         ensures size { profile_size self.now result
-            ≤ conditions_size (drop at.condition (own_conditions self.now.numbers at)) (size_behind self.now.numbers at) }
+            ≤ conditions_size (drop at.condition (own_conditions self.now.numbers at))
+            (size_behind self.now.numbers at) }
     {
         let rule = &self.rules_at(at.number)[at.rule];
         if at.condition < rule.conditions.as_slice().len() {

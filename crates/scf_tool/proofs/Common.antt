@@ -1,6 +1,6 @@
 -- The names that proofs of this crate cite, passed on from one place. Declares nothing.
 pub use Rattle.std.proofs.Common.{Bor, Err, IfErr, IfSome, List, None, Ok, Option, Result, Some, String, [], add-one, ap, append-nil, append_assoc, arith, codes, drop, get_or, inl, inr, length, length-drop, map, refl, rules, set, string_bytes, subst, sym, take, ℕ, ◌++◌, ◌+◌, ◌<◌, ◌∙◌, ◌∷◌, ◌≡◌, ◌≢◌, ◌≤◌, ◌⊎◌}
-pub use Rattle.clap.specs.Words.{IsAmong, Row, Text, fault_of, subcommand_of}
+pub use Rattle.clap.specs.Words.{IsAmong, Row, Text, fault_of}
 pub use Rattle.clap.specs.declared.error.kind.ErrorKind.{ErrorKind}
 pub use Rattle.clap.specs.declared.error.kind.ErrorKind.TheVariants.{OutOfMemory}
 pub use Rattle.std.proofs.lemmas.List.{drop-set-lt, set_split, take_more_set}

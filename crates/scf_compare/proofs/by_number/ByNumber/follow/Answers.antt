@@ -21,13 +21,15 @@ returns-in-Fails-clause-reached c = λ words condition here at. rw c.in-Fails.is
     let call = call_of words in
     let numbers = c.args.self.now.numbers in
     let rules = own_rules numbers c.args.at.number in
-    let place = c.args.at.rule in
-    let rule = slice_get-get_or rules place no_rule c.requires.stands.rule in
-    let fails = fails_by call (own_conditions numbers c.args.at) c.args.at.condition condition here way in
+    let rule = get_or rules c.args.at.rule no_rule in
+    let stands = slice_get-get_or rules c.args.at.rule no_rule c.requires.stands.rule in
+    let fails =
+    rw (conditions_read numbers c.args.at rule stands)
+    at (fails_by call (own_conditions numbers c.args.at) c.args.at.condition condition here way) in
     c.next_rule.ensures.reached words (record {
       native = at.at_rule.native;
       own = at.at_rule.own;
       unmet =
-          all_more (λ earlier. meets earlier call ≡ false) rules place (get_or rules place no_rule) rule
-          at.at_rule.unmet (unmet_failing call (get_or rules place no_rule) (rw (conditions_read numbers c.args.at (get_or rules place no_rule) rule) at fails));
+          all_more (λ earlier. meets earlier call ≡ false) rules c.args.at.rule rule stands at.at_rule.unmet
+          (unmet_failing call rule fails);
     }))

@@ -4,9 +4,10 @@ use Rattle.scf_compare.proofs.by_number.ByNumber.next_rule.Goals as goal
 
 pub returns-then-rule-rules_at-clause-size : goal.returns-then-rule-rules_at-clause-size
 returns-then-rule-rules_at-clause-size c =
-    let inside : c.args.rule < length (own_rules c.args.self.now.numbers c.args.number) =
+    let numbers = c.args.self.now.numbers in
+    let inside : c.args.rule < length (own_rules numbers c.args.number) =
     omega (arith, c.if-rule-rules_at.true, ap length c.rules_at.ensures.own) in
-    rw (← rule_size c.args.self.now.numbers (record { number = c.args.number; rule = c.args.rule; condition = 0 }) inside)
+    rw (← rule_size numbers (record { number = c.args.number; rule = c.args.rule; condition = 0 }) inside)
     c.next_condition.ensures.size
 
 pub returns-else-rule-rules_at-clause-reached : goal.returns-else-rule-rules_at-clause-reached

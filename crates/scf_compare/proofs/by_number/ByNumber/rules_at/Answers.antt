@@ -7,7 +7,8 @@ use Rattle.scf_compare.proofs.by_number.ByNumber.rules_at.Goals as goal
 of_own : (P : Rule → Type 0) (c : goal.After-deref) → All P c.args.self.now.profile.rules → All P c.deref.result.now
 of_own P c all =
     let s = c.args.self.now in
-    let inside : c.args.number < length c.numbers.result.now = omega (arith, c.requires, ap length c.numbers.ensures.numbers) in
+    let inside : c.args.number < length c.numbers.result.now =
+    omega (arith, c.requires, ap length c.numbers.ensures.numbers) in
     let here = read_at _ s.numbers c.args.number _ c.numbers.ensures.numbers inside c.index-numbers-number.is in
     rw c.deref.ensures.value (at_place (λ (own : NumberRules). All P own.rules.items) s.numbers c.args.number _
     (own_all s.numbers s.profile.rules c.numbers.ensures.numbered.numbers P all) here)
