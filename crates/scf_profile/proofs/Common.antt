@@ -7,7 +7,7 @@ pub use Rattle.serde_json.specs.View.{items_view, members_view, view}
 pub use Rattle.serde_json.specs.declared.value.Value.{Value}
 pub use Rattle.std.proofs.Math.ListN.{length-drop}
 pub use Rattle.std.proofs.Math.Seq.{drop-cons}
-pub use Rattle.std.proofs.lemmas.Bool.{both_ways, cases_Bool, cases_cond, cases_order, cond-true, false≢true, le-leb, le-ltb, not_from_false, or_parts, or_right}
+pub use Rattle.std.proofs.lemmas.Bool.{both_ways, cases_Bool, cases_cond, cases_order, false≢true, le-leb, le-ltb, not_from_false, or_parts}
 pub use Rattle.std.proofs.lemmas.Cmp.{nat_cmp_total}
 pub use Rattle.std.proofs.lemmas.Iterator.{YieldsList-from_slice, cases_from_all}
 pub use Rattle.std.proofs.lemmas.Iterator.Search.{any_from_yields_List, true_from_All}

@@ -294,7 +294,7 @@ module _ (numbers : List NumberRules) (rules : List Rule) (are : AreNumbersOf nu
   count_of_numbers =
       sym (length-map numbers number_in) ∙ length_permutation (numbers_of rules) (map number_in numbers) are.same
 
-  pub sum_of_numbers : (f : ℕ → ℕ) → sum_by (λ (own : NumberRules). f own.number) numbers ≡ sum_by f (numbers_of rules)
+  sum_of_numbers : (f : ℕ → ℕ) → sum_by (λ (own : NumberRules). f own.number) numbers ≡ sum_by f (numbers_of rules)
   sum_of_numbers f =
       sym (sum_of_map f number_in numbers) ∙ sum_by-IsPermutation f (numbers_of rules) (map number_in numbers) are.same
 

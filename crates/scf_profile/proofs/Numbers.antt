@@ -1,31 +1,5 @@
 -- The distinct numbers of rules.
-use Rattle.scf_profile.proofs.Common.{◌≡◌, ℕ, zero, suc, ◌<◌, ◌++◌, Bool, true, false, not, cond, eqb, ◌||◌, ◌⊎◌, List, [], ◌∷◌, refl, sym, ap, ◌∙◌, arith, inl, inr, Contains, filter, list_any, cases_eq, cases_Bool, eq-eqb, ne_eqb, cond-true, not_from_false, or_right, Contains-append_right, filter-append, Rule, numbers_of, rules_of}
-
--- whether some rule has the number
-abbrev pub has_number : ℕ → List Rule → Bool
-has_number number rules = list_any (λ r. eqb r.number number) rules
-
-last_kept : (first last : ℕ) (b : Bool)
-    → filter (λ number. not (eqb number first)) (cond b [] (last ∷ [])) ≡ cond (eqb first last || b) [] (last ∷ [])
-last_kept first last true =
-    sym (cond-true (eqb first last || true) [] (last ∷ []) (or_right (eqb first last) true refl))
-last_kept first last false =
-    elim (cases_eq first last) [
-      | inl same ↦ rw (eq-eqb last first (sym same), eq-eqb first last same) refl
-      | inr apart ↦ rw (ne_eqb last first (λ e. apart (sym e)), ne_eqb first last apart) refl
-    ]
-
--- one more rule at the end has a new number, or one that stands there
-pub numbers_of-push : (rules : List Rule) (r : Rule)
-    → numbers_of (rules ++ r ∷ []) ≡ numbers_of rules ++ cond (has_number r.number rules) [] (r.number ∷ [])
-numbers_of-push [] r = refl
-numbers_of-push (x ∷ xs) r =
-    let kept = λ (number : ℕ). not (eqb number x.number) in
-    rw (
-      numbers_of-push xs r,
-      filter-append kept (numbers_of xs) (cond (has_number r.number xs) [] (r.number ∷ [])),
-      last_kept x.number r.number (has_number r.number xs),
-    ) refl
+use Rattle.scf_profile.proofs.Common.{◌≡◌, ℕ, zero, suc, ◌<◌, Bool, true, not, eqb, ◌⊎◌, List, [], ◌∷◌, refl, sym, ap, ◌∙◌, arith, inl, inr, Contains, filter, cases_eq, cases_Bool, ne_eqb, not_from_false, Contains-append_right, Rule, numbers_of, rules_of}
 
 -- an element of a list is the first one, or stands behind it
 pub contains_cons_cases : {A : Type 0} (y : A) (ys : List A) (x : A) → Contains (y ∷ ys) x → (y ≡ x) ⊎ Contains ys x
@@ -42,20 +16,6 @@ contains_filtered p (y ∷ ys) x passes h =
       | inr later ↦ elim (cases_Bool (p y)) [
         | inl kept ↦ rw kept (Contains-append_right (y ∷ []) (filter p ys) x (contains_filtered p ys x passes later))
         | inr dropped ↦ rw dropped (contains_filtered p ys x passes later)
-      ]
-    ]
-
--- the number of each rule is there
-pub numbers_of-contains : (rules : List Rule) (r : Rule) → Contains rules r → Contains (numbers_of rules) r.number
-numbers_of-contains [] r h = absurd (let lt : h.0 < 0 = h.1 in omega arith)
-numbers_of-contains (x ∷ xs) r h =
-    elim (contains_cons_cases x xs r h) [
-      | inl e ↦ (0, omega arith, ap (λ (s : Rule). s.number) e)
-      | inr later ↦ elim (cases_eq r.number x.number) [
-        | inl same ↦ (0, omega arith, sym same)
-        | inr apart ↦ Contains-append_right (x.number ∷ []) _ r.number
-            (contains_filtered (λ number. not (eqb number x.number)) (numbers_of xs) r.number
-            (not_from_false _ (ne_eqb r.number x.number apart)) (numbers_of-contains xs r later))
       ]
     ]
 
