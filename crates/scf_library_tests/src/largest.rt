@@ -218,7 +218,10 @@ fn profile_of_4096_numbers(rt: HostRuntime) {
     let numbers = profile.numbers();
     assert!(rt; numbers.len() == 4096);
     for (place, own) in numbers.iter().enumerate() {
-        assert!(rt; own.number as usize == place + 7 && own.rules.len() == 1, "{place}");
+        assert!(rt;
+            own.number as usize == place + 7 && own.rules.len() == 1,
+            "{place}"
+        );
     }
     for number in 6..4104u32 {
         let one = call(number, X86_64, [0; 6]);

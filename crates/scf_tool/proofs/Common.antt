@@ -8,15 +8,15 @@ pub use Rattle.std.proofs.lemmas.List.Folds.{flat_map-map}
 pub use Rattle.std.proofs.lemmas.List.Sums.{sum_by_push}
 pub use Rattle.std.specs.List.{AllZip}
 pub use Rattle.std.specs.declared.alloc.Global.{Global}
-pub use Rattle.scf_compare.proofs.Common.{length-map, take_all}
+pub use Rattle.scf_compare.proofs.Common.{take_all}
 pub use Rattle.scf_compare.specs.declared.verdict.Verdict.{Verdict}
-pub use Rattle.scf_compile.proofs.Common.{drop_more, map-append, take_more}
+pub use Rattle.scf_compile.proofs.Common.{drop_more, take_more}
 pub use Rattle.scf_facts.proofs.Common.{nat_tests, take-append-drop}
 pub use Rattle.scf_insn.proofs.Common.{TakesAll, max_filter_len, max_insns_per_path, program_bytes}
 pub use Rattle.scf_insn.proofs.Written.{fails_then, takes_then}
 pub use Rattle.scf_insn.specs.declared.insn.Insn.{Insn}
 pub use Rattle.scf_machine.proofs.Common.{IsPush, cost_of}
-pub use Rattle.scf_profile.proofs.Common.{Answering, Names, Refuses, err_from_is_err_and, option_map_or, texts_at}
+pub use Rattle.scf_profile.proofs.Common.{Answering, Names, Refuses, err_from_is_err_and, length-map, map-append, option_map_or, texts_at}
 pub use Rattle.scf_profile.specs.declared.load_fault.LoadFault.{LoadFault}
 pub use Rattle.scf_text.proofs.Common.{each_fails, fails_first, flat_map, flat_map-append, writes_then}
 pub use Rattle.scf_request.specs.Bundle.{IsBundle}
