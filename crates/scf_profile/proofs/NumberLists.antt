@@ -1,6 +1,7 @@
 -- The numbers that rules have, each with its rules.
-use Rattle.scf_profile.proofs.Common.{◌≡◌, ◌≢◌, ℕ, zero, suc, ◌+◌, ◌<◌, ◌⊎◌, AllByRecursion, Bool, true, false, not, cond, eqb, length, List, [], ◌∷◌, map, get_or, All, refl, sym, ap, ◌∙◌, subst, arith, inl, inr, Contains, filter, cases_eq, eq-eqb, ne_eqb, nat_tests, length-map, get_or-map, All-filter, All-from_recursion, All-map, All-same, All-contains, Contains-append_right, recursion_from_All, IsPermutation, IsStrictlyIncreasing, Rule, numbers_of, rules_of, NumberRules, AreNumbersOf, sum_by, IsPermutation-cons, IsPermutation-refl, IsPermutation-remove, IsPermutation-sym, IsPermutation-trans, IsDistinct, IsDistinct-IsPermutation, IsDistinct-head, IsDistinct-tail, Contains-permutation, length_permutation, sum_by-IsPermutation, sum_by-cons, remove, All-contains_itself, All-weaker, All-head, All-tail, AreUnder, Under, number_rules, rules_under, Global, Vec, keys_of, value_of, nat_cmp, nat_cmp_total, exact_unsigned, IsOrdered, IsStrictlyIncreasing-from_sorted, btree_map_contains_key_iff, All-found, is_some, ltb, lt-ltb, add-one, Some, ◌++◌, filter-append, append-nil}
+use Rattle.scf_profile.proofs.Common.{◌≡◌, ◌≢◌, ℕ, zero, suc, ◌+◌, ◌<◌, ◌⊎◌, AllByRecursion, Bool, true, false, not, cond, eqb, length, List, [], ◌∷◌, map, get_or, All, refl, sym, ap, ◌∙◌, subst, arith, inl, inr, Contains, filter, cases_eq, eq-eqb, ne_eqb, nat_tests, length-map, get_or-map, All-filter, All-from_recursion, All-map, All-same, All-contains, Contains-append_right, recursion_from_All, IsPermutation, IsStrictlyIncreasing, Rule, numbers_of, rules_of, NumberRules, AreNumbersOf, sum_by, IsPermutation-cons, IsPermutation-refl, IsPermutation-remove, IsPermutation-sym, IsPermutation-trans, IsDistinct, IsDistinct-IsPermutation, IsDistinct-head, IsDistinct-tail, Contains-permutation, length_permutation, sum_by-IsPermutation, sum_by-cons, remove, All-contains_itself, All-weaker, All-head, All-tail, AreUnder, Under, number_rules, rules_under, keys_of, value_of, nat_cmp, nat_cmp_total, exact_unsigned, IsOrdered, IsStrictlyIncreasing-from_sorted, btree_map_contains_key_iff, All-found, is_some, ltb, lt-ltb, add-one, Some, ◌++◌, filter-append, append-nil}
 use Rattle.std.proofs.Common.{length-append}
+use Rattle.smallvec.specs.SmallVec.{SmallVec}
 use Rattle.scf_profile.proofs.Numbers.{contains_cons_cases, number_there}
 
 -- ---- lists of distinct numbers
@@ -141,7 +142,7 @@ one_under front r old new under push has others = record {
   ];
 }
 
-numbers_told : (es : List (ℕ × Vec Rule Global)) → map (λ own. own.number) (map number_rules es) ≡ keys_of es
+numbers_told : (es : List (ℕ × SmallVec Rule)) → map (λ own. own.number) (map number_rules es) ≡ keys_of es
 numbers_told [] = refl
 numbers_told (e ∷ es) = ap (λ (ns : List ℕ). e.0 ∷ ns) (numbers_told es)
 
@@ -162,7 +163,7 @@ module _ (rules : List Rule) (under : Under) (kept : AreUnder rules under) (orde
       let told = sym (is_there nr) ∙ (btree_map_contains_key_iff nat_cmp_total exact_unsigned under nr).1 has in
       some_rules rules nr (grind (arith, nat_tests)))
 
-  its_rules : (e : ℕ × Vec Rule Global) → value_of nat_cmp under e.0 ≡ Some e.1 → e.1.items ≡ rules_of e.0 rules
+  its_rules : (e : ℕ × SmallVec Rule) → value_of nat_cmp under e.0 ≡ Some e.1 → e.1.items ≡ rules_of e.0 rules
   its_rules e found =
       let there : rules_under under e.0 ≡ e.1.items = rw found refl in sym there ∙ kept.kept e.0
 

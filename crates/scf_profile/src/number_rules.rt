@@ -7,18 +7,20 @@ ghost use Rattle.scf_profile.specs.NumberRules.{AreNumbersOf};
 ghost use Rattle.scf_profile.specs.internal.RulesUnder.{AreUnder, number_rules, rules_under};
 
 use crate::rule::Rule;
+use smallvec::SmallVec;
 use std::alloc::{AllocError, Global};
 use std::collections::BTreeMap;
 
-/// A call number that a profile has rules for, and these rules in the order of the text.
+/// A call number that a profile has rules for, and these rules in the order of the text. A rule that is the only one of
+/// its number, as most are, takes no memory of its own.
 #[derive(Debug, Drop)]
 pub struct NumberRules {
     pub number: u32,
-    pub rules: Vec<Rule>,
+    pub rules: SmallVec<Rule, 1>,
 }
 
 /// Adds a rule to those of its number.
-fn add_rule(under: &mut BTreeMap<u32, Vec<Rule>>, rule: Rule) -> Result<(), AllocError>
+fn add_rule(under: &mut BTreeMap<u32, SmallVec<Rule, 1>>, rule: Rule) -> Result<(), AllocError>
     ensures rules { OnOk result (rules_under under.new rule.number ≡ rules_under under.old rule.number ++ rule ∷ []) }
     ensures has { OnOk result (is_some (get nat_cmp under.new rule.number) ≡ true) }
     ensures others { OnOk result ((n : ℕ) → n ≢ rule.number → get nat_cmp under.new n ≡ get nat_cmp under.old n) }
@@ -31,7 +33,7 @@ fn add_rule(under: &mut BTreeMap<u32, Vec<Rule>>, rule: Rule) -> Result<(), Allo
 fn rules_under_numbers(
     alloc: Global,
     rules: &[Rule],
-) -> Result<BTreeMap<u32, Vec<Rule>>, AllocError>
+) -> Result<BTreeMap<u32, SmallVec<Rule, 1>>, AllocError>
     ensures { IfOk result (AreUnder rules.now) }
 {
     let mut under = BTreeMap::new(alloc);
@@ -44,7 +46,7 @@ fn rules_under_numbers(
 /// The numbers of a tree from numbers to rules.
 fn numbers_of_tree(
     alloc: Global,
-    under: BTreeMap<u32, Vec<Rule>>,
+    under: BTreeMap<u32, SmallVec<Rule, 1>>,
 ) -> Result<Vec<NumberRules>, AllocError>
     ensures numbers { IfOk result (λ numbers. numbers.items ≡ map number_rules under.entries) }
     ensures ordered { IsOrdered nat_cmp under }

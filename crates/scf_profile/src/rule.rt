@@ -9,6 +9,7 @@ use crate::condition::{Condition, Conditions};
 use crate::overlap::conditions_overlap;
 use scf_insn::{Answer, CallRecord};
 use std::alloc::{AllocError, Global};
+use std::default::MadeWith;
 
 /// A rule gives its answer to the calls of its number of which all its conditions hold.
 #[derive(Debug, Drop)]
@@ -57,6 +58,18 @@ impl Rule {
         self.number == other.number
             && self.answer != other.answer
             && conditions_overlap(self.conditions.as_slice(), other.conditions.as_slice())
+    }
+}
+
+impl MadeWith<Global> for Rule {
+    /// A rule without conditions, which fills the room of a list of rules where no rule is.
+    fn made_with(alloc: Global) -> Rule {
+        Rule {
+            number: 0,
+            conditions: Conditions::from_vec(Vec::new(alloc)),
+            answer: Answer(0),
+            entry: 0,
+        }
     }
 }
 

@@ -3,23 +3,22 @@ use Rattle.std.specs.Prelude.{◌≡◌, ℕ, List, [], length, is_some, nat_lt}
 use Rattle.std.specs.BTreeMap.{BTreeMap, get}
 use Rattle.std.specs.Option.{option_map_or}
 use Rattle.std.specs.Ordering.{nat_cmp}
-use Rattle.std.specs.declared.alloc.Global.{Global}
-use Rattle.std.specs.declared.vec.Vec.{Vec}
+use Rattle.smallvec.specs.SmallVec.{SmallVec}
 use Rattle.scf_profile.specs.declared.number_rules.NumberRules.{NumberRules}
 use Rattle.scf_profile.specs.declared.rule.Rule.{Rule}
 use Rattle.scf_profile.specs.RulesByNumber.{rules_of}
 
 -- rules under numbers
 abbrev pub Under : Type 0
-Under = BTreeMap ℕ (Vec Rule Global)
+Under = BTreeMap ℕ (SmallVec Rule)
 
 -- a number and the rules under it
-abbrev pub number_rules : ℕ × Vec Rule Global → NumberRules
+abbrev pub number_rules : ℕ × SmallVec Rule → NumberRules
 number_rules e = record { number = e.0; rules = e.1 }
 
 -- the rules under a number
 abbrev pub rules_under : Under → ℕ → List Rule
-rules_under under number = option_map_or (λ (rules : Vec Rule Global). rules.items) (get nat_cmp under number) []
+rules_under under number = option_map_or (λ (rules : SmallVec Rule). rules.items) (get nat_cmp under number) []
 
 -- Each number stands in the tree over the rules that have it, where there are any.
 pub record AreUnder (rules : List Rule) (under : Under) : Type 0 where

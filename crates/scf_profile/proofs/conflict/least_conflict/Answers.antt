@@ -4,7 +4,7 @@ use Rattle.scf_profile.proofs.conflict.least_conflict.Goals as goal
 
 pub least_among-least-requires : goal.least_among-least-requires
 least_among-least-requires c =
-    All-same IsRule _ _ c.deref.ensures.value
+    All-same IsRule _ _ c.deref.ensures
     (subst (λ (own : NumberRules). All IsRule own.rules.items) (sym c.own-item.is)
     (c.requires c.loop-own.own-index c.own-item.result c.loop-own-test.true))
 
@@ -15,8 +15,8 @@ loop-own-preserved c =
     let own = c.own-item.result in
     let least = c.loop-own.least in
     let more = c.least_among-least.result in
-    let found = rw c.deref.ensures.value at c.least_among-least.ensures.one in
-    let bounds = rw c.deref.ensures.value at c.least_among-least.ensures.bounds in
+    let found = rw c.deref.ensures at c.least_among-least.ensures.one in
+    let bounds = rw c.deref.ensures at c.least_among-least.ensures.bounds in
     record {
       one =
           one_more (λ d. Any (λ (o : NumberRules). EntriesConflict o.rules.items d.first d.second d.number) numbers)
