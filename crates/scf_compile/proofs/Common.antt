@@ -6,7 +6,6 @@ pub use Rattle.std.proofs.lemmas.Iterator.{IsFirst-from_position, YieldsList-fro
 pub use Rattle.std.proofs.lemmas.Iterator.Consumers.{YieldsList-from_deque}
 pub use Rattle.std.proofs.lemmas.List.Elements.{All-from_all_within}
 pub use Rattle.std.proofs.lemmas.List.Filters.{length-filter_both}
-pub use Rattle.std.proofs.lemmas.List.Sorted.{All-permutation}
 pub use Rattle.std.proofs.lemmas.List.Sums.{sum_by-append, sum_by-cons, sum_by-le, sum_by_more}
 pub use Rattle.std.proofs.lemmas.Map.Steps.{length-le_from_distinct_below}
 pub use Rattle.std.proofs.lemmas.Nat.{and_mask}
@@ -34,9 +33,9 @@ pub use Rattle.scf_insn.specs.declared.record.CallRecord.{CallRecord}
 pub use Rattle.scf_machine.proofs.Chains.{answer_of_part, chain_of_part, run_behind}
 pub use Rattle.scf_machine.proofs.Common.{All-push, Goes, IsFine, IsFineAt, IsPart, IsPlainOperation, IsPlainProgram, IsReturn, IsRunFrom, IsValidList, KeepsScratchRule, RunAnswers, Stands, gets, holds, moved, slice_get_read, slice_get_within, step, take_more, test_holds}
 pub use Rattle.scf_machine.proofs.Meets.{run_once}
-pub use Rattle.scf_profile.proofs.Common.{All-cons, All-contains, All-contains_itself, All-filter, All-head, All-from_recursion, All-map, All-tail, AllByRecursion, AreConditions, AreNumbersOf, Contains-permutation, HaveDistinctIndices, IfOk-weaker, IsCondition, IsPlainCondition, IsPlainProfile, IsPlainRule, IsProfile, IsRule, Profile, ProfileAnswers, SameAnswers, YieldsList-from_slice, all_hold, and_assoc, and_self, bit_at, cases_from_all, cases_Bool, cases_eq, cases_lt, common_steps, eq-eqb, eqb-false, eqb-true, foreign, get_or-map, get_or-take, le-leb, length-drop, length-map, list_any, lt-ltb, meets, nat_tests, ne_eqb, numbers_of, recursion_from_All, rules_of, take_all}
-pub use Rattle.scf_profile.proofs.NumberLists.{count_of_numbers, rises, sum_of_rules}
-pub use Rattle.scf_profile.proofs.Numbers.{contains_filtered, number_there}
+pub use Rattle.scf_profile.proofs.Common.{All-contains, All-contains_itself, All-filter, All-from_recursion, All-map, AllByRecursion, AreConditions, AreNumbersOf, Contains-permutation, HaveDistinctIndices, IfOk-weaker, IsCondition, IsPlainCondition, IsPlainProfile, IsPlainRule, IsProfile, IsRule, Profile, ProfileAnswers, SameAnswers, YieldsList-from_slice, all_hold, and_assoc, and_self, bit_at, cases_from_all, cases_Bool, cases_eq, cases_lt, common_steps, eq-eqb, eqb-false, eqb-true, foreign, get_or-map, get_or-take, le-leb, length-drop, length-map, list_any, lt-ltb, meets, nat_tests, ne_eqb, numbers_of, recursion_from_All, rules_of, take_all}
+pub use Rattle.scf_profile.proofs.NumberLists.{count_of_numbers, each_number, number_in, own_some, rises, sum_of_rules}
+pub use Rattle.scf_profile.proofs.Numbers.{number_there}
 pub use Rattle.scf_profile.specs.contracts.condition.ConditionPartialEq.TheImpl.{eq-value}
 pub use Rattle.scf_profile.specs.declared.condition.Condition.{Condition}
 pub use Rattle.scf_profile.specs.declared.condition.Operator.{Operator}

@@ -1,5 +1,5 @@
 -- Stretches are put one behind another until each number has its rules.
-use Rattle.scf_compile.proofs.Common.{◌≡◌, ℕ, get_or, take, ◌+◌, ◌-◌, ◌*◌, ◌<◌, ◌≤◌, All, List, [], ◌∷◌, ◌++◌, length, map, refl, sym, ap, ◌∙◌, subst, arith, inl, inr, eqb, not, length-append, length-map, get_or-map, get_or_default, sum_by, Contains, cases_eq, cases_lt, eq-eqb, take_all, take_more, All-cons, All-contains_itself, All-head, All-permutation, All-tail, All-filter, All-push, sum_by-cons, sum_by-append, Answer, x32_syscall_bit, Rule, numbers_of, rules_of, NumberRules, AreNumbersOf, Stretch, rule_bound, StandsFor, AreTelling, rules_bound, stretch_bound, IsServed, AreServed, IsLaid, begins, goes_on, AreStretchesUpTo, AreStretchesOf, contains_filtered, Contains-permutation, sum_by_more, number_there, rises, count_of_numbers, sum_of_rules}
+use Rattle.scf_compile.proofs.Common.{◌≡◌, ℕ, get_or, take, ◌+◌, ◌-◌, ◌*◌, ◌<◌, ◌≤◌, All, List, [], ◌∷◌, ◌++◌, length, map, refl, sym, ap, ◌∙◌, subst, arith, inl, inr, eqb, length-append, length-map, get_or-map, get_or_default, sum_by, Contains, cases_eq, cases_lt, take_all, take_more, All-contains_itself, All-filter, All-push, sum_by-cons, sum_by-append, Answer, x32_syscall_bit, Rule, numbers_of, rules_of, NumberRules, AreNumbersOf, Stretch, rule_bound, StandsFor, AreTelling, rules_bound, stretch_bound, IsServed, AreServed, IsLaid, begins, goes_on, AreStretchesUpTo, AreStretchesOf, Contains-permutation, sum_by_more, number_there, number_in, own_some, rises, count_of_numbers, sum_of_rules}
 
 -- ---- one stretch more
 
@@ -93,19 +93,8 @@ goes_on_last before first last rules some is alike =
 
 -- ---- the numbers one after another
 
-abbrev number_in : NumberRules → ℕ
-number_in own = own.number
-
 abbrev own_bound : NumberRules → ℕ
 own_bound own = sum_by rule_bound own.rules.items
-
--- what holds of the number of each rule holds of the distinct ones
-numbers_all : (P : ℕ → Type 0) (rules : List Rule) → All (λ r. P r.number) rules → All P (numbers_of rules)
-numbers_all P [] all = λ k d lt. absurd (omega arith)
-numbers_all P (r ∷ rs) all =
-    All-cons P r.number _ (All-head (λ s. P s.number) r rs all)
-    (All-filter (λ nr. not (eqb nr r.number)) P (numbers_of rs)
-    (numbers_all P rs (All-tail (λ s. P s.number) r rs all)))
 
 telling_few : {default : Answer} {telling : List Rule} (rules own : List Rule) → 0 < length own
     → AreTelling default telling own → All (Contains rules) own
@@ -143,20 +132,6 @@ module _ (numbers : List NumberRules) (rules : List Rule) (are : AreNumbersOf nu
   rise : (i j : ℕ) → i < j → j < length numbers → get_or ns i 0 < get_or ns j 0
   rise i j lt inside = rises ns are.rising i j lt (omega (arith, len))
 
-  pub each_number : (P : ℕ → Type 0) → All (λ r. P r.number) rules → All (λ own. P own.number) numbers
-  each_number P all k d lt =
-      let own = All-permutation P (numbers_of rules) ns are.same (numbers_all P rules all) k 0 in
-      rw (get_or-map number_in numbers k d 0 lt) at (own (omega (arith, len)))
-
-  -- each number has rules
-  own_some : All (λ own. 0 < length own.rules.items) numbers
-  own_some k d lt =
-      rw (are.own k d lt) (each_number (λ nr. 0 < length (rules_of nr rules)) (λ j r inside.
-      let s = get_or rules j r in
-      let there = contains_filtered (λ t. eqb t.number s.number) rules s (eq-eqb _ _ refl)
-      (j, inside, get_or_default rules j s r inside) in
-      omega (arith, there.1)) k d lt)
-
   module _ {default : Answer} {ss : List Stretch} {next k : ℕ} (laid : AreLaid default numbers rules ss next k) where
     -- no rules have a number below the next one
     none_between : (nr : ℕ) → next ≤ nr → (k < length numbers → nr < get_or ns k 0)
@@ -191,7 +166,7 @@ module _ (numbers : List NumberRules) (rules : List Rule) (are : AreNumbersOf nu
     laid_own own is lt below some none tells put =
         let here : get_or ns k 0 ≡ own.number = get_or-map number_in numbers k own 0 lt ∙ ap number_in (sym is) in
         let its = rw (← is) at (are.own k own lt) in
-        let few_tell = telling_few rules own.rules.items (rw (← is) at (own_some k own lt)) tells (rw its
+        let few_tell = telling_few rules own.rules.items (rw (← is) at (own_some numbers rules are k own lt)) tells (rw its
         (All-filter (λ r. eqb r.number own.number) (Contains rules) rules (All-contains_itself rules))) in
         let gap = laid_gap laid.laid own.number some none (omega (arith, laid.within lt))
         (λ nr from below. none_between nr from (λ lt. omega arith)) in

@@ -1,7 +1,8 @@
 -- The names under the numbers of a table are the calls of the table.
-use Rattle.scf_profile.proofs.Common.{◌≡◌, ℕ, Bool, true, false, cond, eqb, List, [], ◌∷◌, map, Option, None, Some, String, Global, BTreeMap, Bor, Vec, refl, sym, ap, ◌∙◌, subst, get_or, string_cmp, ltb, length, ◌<◌, arith, ◌↔◌, IsSome, Contains, is_some, IsOrdered, eq_by_cmp_equiv, slice_cmp, nat_list_cmp_total, get, get-from_entries, AllByRecursion, filter, IsStrictlyIncreasing, keys_of, lookup, eq_by_cmp, Ordering, Less, eqb-true, eq-eqb, lt-ltb, nat_tests, nat_cmp_total, All-map, Contains-get_or, IsStrictlySortedBy-filter, option_filter, lookup-filter-values, IsDistinct-from_sorted, IsStrictlyIncreasing-from_sorted, exact_bytes, exact_unsigned, All-found, Contains-keys_from_lookup, IsSome-lookup_from_Contains, btree_map_contains_key_iff, tells_apart, HasItsNames, AreCallsOf, named, names_of, texts_at, Names, Named, named_call, names_under, names_with, AreByNumber}
+use Rattle.scf_profile.proofs.Common.{map-map, ◌≡◌, ℕ, Bool, true, false, cond, eqb, List, [], ◌∷◌, map, Option, None, Some, String, Global, BTreeMap, Bor, Vec, refl, sym, ap, ◌∙◌, subst, get_or, string_cmp, ltb, length, ◌<◌, arith, ◌↔◌, IsSome, Contains, is_some, IsOrdered, eq_by_cmp_equiv, slice_cmp, nat_list_cmp_total, get, get-from_entries, AllByRecursion, filter, IsStrictlyIncreasing, keys_of, lookup, eq_by_cmp, Ordering, Less, eqb-true, eq-eqb, lt-ltb, nat_tests, nat_cmp_total, All-map, Contains-get_or, IsStrictlySortedBy-filter, option_filter, lookup-filter-values, IsDistinct-from_sorted, IsStrictlyIncreasing-from_sorted, exact_bytes, exact_unsigned, All-found, Contains-keys_from_lookup, IsSome-lookup_from_Contains, btree_map_contains_key_iff, tells_apart, HasItsNames, AreCallsOf, named, names_of, texts_at, Names, Named, named_call, names_under, names_with, AreByNumber}
 use Rattle.std.proofs.Common.{nat_cmp}
 use Rattle.std.specs.BTreeMap as tree
+use Rattle.scf_profile.specs.declared.named_call.NamedCall.{NamedCall}
 use Rattle.std.specs.FinMap.{find}
 use Rattle.std.specs.List.Sorted.{IsStrictlySortedBy}
 
@@ -43,10 +44,6 @@ is_number n (Some m) h =
 
 number_is : (n : ℕ) (o : Option ℕ) → o ≡ Some n → IsSome (option_filter (eqb n) o)
 number_is n o e = rw (e, eq-eqb n n refl) refl
-
-numbers_told : (es : List (ℕ × Vec (Bor (List ℕ)) Global)) → map (λ call. call.number) (map named_call es) ≡ keys_of es
-numbers_told [] = refl
-numbers_told (e ∷ es) = ap (λ (ns : List ℕ). e.0 ∷ ns) (numbers_told es)
 
 module _ (numbers : BTreeMap (String Global) ℕ) (ordered : IsOrdered string_cmp numbers) where
   abbrev table : Names
@@ -113,7 +110,7 @@ module _ (numbers : BTreeMap (String Global) ℕ) (ordered : IsOrdered string_cm
     -- the numbers of names, each over its names, are the calls of the table
     pub are_calls : AreCallsOf table (map named_call under.entries)
     are_calls =
-        let told = sym (numbers_told under.entries) in
+        let told = sym (map-map (λ (call : NamedCall). call.number) named_call under.entries) in
         record {
           rising = subst IsStrictlyIncreasing told (IsStrictlyIncreasing-from_sorted _ rising);
           exact = λ n. subst (λ (ns : List ℕ). Contains ns n ↔ ((name : List ℕ) × (get table name ≡ Some n))) told

@@ -1,8 +1,8 @@
 -- The numbers that rules have, each with its rules.
-use Rattle.scf_profile.proofs.Common.{◌≡◌, ◌≢◌, ℕ, zero, suc, ◌+◌, ◌<◌, ◌⊎◌, AllByRecursion, Bool, true, false, not, cond, eqb, length, List, [], ◌∷◌, map, get_or, All, refl, sym, ap, ◌∙◌, subst, arith, inl, inr, Contains, filter, cases_eq, eq-eqb, ne_eqb, nat_tests, length-map, get_or-map, All-filter, All-from_recursion, All-map, All-same, All-contains, Contains-append_right, recursion_from_All, IsPermutation, IsStrictlyIncreasing, Rule, numbers_of, rules_of, NumberRules, AreNumbersOf, sum_by, IsPermutation-cons, IsPermutation-refl, IsPermutation-remove, IsPermutation-sym, IsPermutation-trans, IsDistinct, IsDistinct-IsPermutation, IsDistinct-head, IsDistinct-tail, Contains-permutation, length_permutation, sum_by-IsPermutation, sum_by-cons, remove, All-contains_itself, All-weaker, All-head, All-tail, AreUnder, Under, number_rules, rules_under, keys_of, value_of, nat_cmp, nat_cmp_total, exact_unsigned, IsOrdered, IsStrictlyIncreasing-from_sorted, btree_map_contains_key_iff, All-found, is_some, ltb, lt-ltb, add-one, Some, ◌++◌, filter-append, append-nil}
+use Rattle.scf_profile.proofs.Common.{All-cons, All-permutation, map-map, ◌≡◌, ◌≢◌, ℕ, zero, suc, ◌+◌, ◌<◌, ◌⊎◌, AllByRecursion, true, false, not, cond, eqb, length, List, [], ◌∷◌, map, get_or, All, refl, sym, ap, ◌∙◌, subst, arith, inl, inr, Contains, filter, cases_eq, eq-eqb, ne_eqb, nat_tests, length-map, get_or-map, All-filter, All-from_recursion, All-map, All-same, All-contains, Contains-append_right, recursion_from_All, IsPermutation, IsStrictlyIncreasing, Rule, numbers_of, rules_of, NumberRules, AreNumbersOf, sum_by, IsPermutation-cons, IsPermutation-refl, IsPermutation-remove, IsPermutation-sym, IsPermutation-trans, IsDistinct, IsDistinct-IsPermutation, IsDistinct-head, IsDistinct-tail, Contains-permutation, length_permutation, sum_by-IsPermutation, sum_by-cons, remove, All-contains_itself, All-weaker, All-head, All-tail, AreUnder, Under, number_rules, rules_under, keys_of, value_of, nat_cmp, nat_cmp_total, exact_unsigned, IsOrdered, IsStrictlyIncreasing-from_sorted, btree_map_contains_key_iff, All-found, is_some, ltb, lt-ltb, add-one, Some, ◌++◌, filter-append, append-nil}
 use Rattle.std.proofs.Common.{length-append}
 use Rattle.smallvec.specs.SmallVec.{SmallVec}
-use Rattle.scf_profile.proofs.Numbers.{contains_cons_cases, number_there}
+use Rattle.scf_profile.proofs.Numbers.{contains_cons_cases, contains_filtered, number_there}
 
 -- ---- lists of distinct numbers
 
@@ -98,6 +98,9 @@ numbers_distinct (r ∷ rules) = others_distinct r.number (numbers_of rules) (nu
 
 -- ---- rules under their numbers
 
+abbrev pub number_in : NumberRules → ℕ
+number_in own = own.number
+
 -- a number of rules is among the distinct ones
 some_rules : (rules : List Rule) (nr : ℕ) → 0 < length (rules_of nr rules) → Contains (numbers_of rules) nr
 some_rules rules nr some =
@@ -106,21 +109,21 @@ some_rules rules nr some =
       | inr none ↦ absurd (let nothing = ap (λ (rs : List Rule). length rs) none in omega arith)
     ]
 
-contains_from_filter : (p : ℕ → Bool) (ns : List ℕ) (n : ℕ) → Contains (filter p ns) n → Contains ns n
-contains_from_filter p ns n has =
-    All-contains (Contains ns) (filter p ns) n (All-filter p (Contains ns) ns (All-contains_itself ns)) has
+-- what holds of the number of each rule holds of the distinct ones
+numbers_all : (P : ℕ → Type 0) (rules : List Rule) → All (λ r. P r.number) rules → All P (numbers_of rules)
+numbers_all P [] all = λ k d lt. absurd (omega arith)
+numbers_all P (r ∷ rules) all =
+    All-cons P r.number _ (All-head (λ s. P s.number) r rules all)
+    (All-filter (λ nr. not (eqb nr r.number)) P (numbers_of rules)
+    (numbers_all P rules (All-tail (λ s. P s.number) r rules all)))
 
--- a distinct number is that of some rule
-rules_there : (rules : List Rule) (nr : ℕ) → Contains (numbers_of rules) nr → 0 < length (rules_of nr rules)
-rules_there [] nr has = absurd (let lt : has.0 < 0 = has.1 in omega arith)
-rules_there (r ∷ rules) nr has =
-    elim (cases_eq r.number nr) [
-      | inl same ↦ rw (eq-eqb r.number nr same) (omega arith)
-      | inr apart ↦ rw (ne_eqb r.number nr apart) (elim (contains_cons_cases r.number _ nr has) [
-        | inl same ↦ absurd (apart same)
-        | inr later ↦ rules_there rules nr (contains_from_filter (λ number. not (eqb number r.number)) (numbers_of rules) nr later)
-      ])
-    ]
+-- each distinct number is that of some rule
+rules_there : (rules : List Rule) → All (λ nr. 0 < length (rules_of nr rules)) (numbers_of rules)
+rules_there rules =
+    numbers_all (λ nr. 0 < length (rules_of nr rules)) rules
+    (All-weaker (Contains rules) (λ r. 0 < length (rules_of r.number rules)) (λ r has.
+    let there = contains_filtered (λ s. eqb s.number r.number) rules r (eq-eqb r.number r.number refl) has in
+    omega (arith, there.1)) rules (All-contains_itself rules))
 
 -- one more rule under its number
 pub one_under : (front : List Rule) (r : Rule) (old new : Under) → AreUnder front old
@@ -142,10 +145,6 @@ one_under front r old new under push has others = record {
   ];
 }
 
-numbers_told : (es : List (ℕ × SmallVec Rule)) → map (λ own. own.number) (map number_rules es) ≡ keys_of es
-numbers_told [] = refl
-numbers_told (e ∷ es) = ap (λ (ns : List ℕ). e.0 ∷ ns) (numbers_told es)
-
 module _ (rules : List Rule) (under : Under) (kept : AreUnder rules under) (ordered : IsOrdered nat_cmp under) where
   is_there : (nr : ℕ) → is_some (value_of nat_cmp under nr) ≡ ltb 0 (length (rules_of nr rules))
   is_there nr = kept.numbers_in nr ∙ ap (λ (l : List Rule). ltb 0 (length l)) (kept.kept nr)
@@ -158,7 +157,8 @@ module _ (rules : List Rule) (under : Under) (kept : AreUnder rules under) (orde
       same_numbers (numbers_of rules) (keys_of under.entries) (numbers_distinct rules)
       (risen_distinct (keys_of under.entries) keys_rise)
       (λ nr has. (btree_map_contains_key_iff nat_cmp_total exact_unsigned under nr).0
-      (is_there nr ∙ lt-ltb 0 (length (rules_of nr rules)) (rules_there rules nr has)))
+      (is_there nr ∙ lt-ltb 0 (length (rules_of nr rules))
+      (All-contains (λ m. 0 < length (rules_of m rules)) (numbers_of rules) nr (rules_there rules) has)))
       (λ nr has.
       let told = sym (is_there nr) ∙ (btree_map_contains_key_iff nat_cmp_total exact_unsigned under nr).1 has in
       some_rules rules nr (grind (arith, nat_tests)))
@@ -170,7 +170,7 @@ module _ (rules : List Rule) (under : Under) (kept : AreUnder rules under) (orde
   -- the numbers of a tree over their rules
   pub are_numbers : AreNumbersOf (map number_rules under.entries) rules
   are_numbers =
-      let told = sym (numbers_told under.entries) in
+      let told = sym (map-map number_in number_rules under.entries) in
       record {
         rising = subst IsStrictlyIncreasing told keys_rise;
         same = subst (IsPermutation (numbers_of rules)) told same_keys;
@@ -180,9 +180,6 @@ module _ (rules : List Rule) (under : Under) (kept : AreUnder rules under) (orde
       }
 
 -- ---- what crates above cite
-
-abbrev number_in : NumberRules → ℕ
-number_in own = own.number
 
 -- an element of mapped ones is that of an element
 contains_mapped : {X : Type 0} (f : X → ℕ) (xs : List X) (n : ℕ) → Contains (map f xs) n
@@ -309,6 +306,20 @@ module _ (numbers : List NumberRules) (rules : List Rule) (are : AreNumbersOf nu
   pub sum_of_rules : (f : Rule → ℕ)
       → sum_by (λ (own : NumberRules). sum_by f own.rules.items) numbers ≡ sum_by f rules
   sum_of_rules f = sum_of_own (sum_by f) ∙ sum_in_parts f rules
+
+  numbers_hold : (P : ℕ → Type 0) → All P (numbers_of rules) → All (λ own. P own.number) numbers
+  numbers_hold P all k d lt =
+      let own = All-permutation P (numbers_of rules) (map number_in numbers) are.same all k 0 in
+      rw (get_or-map number_in numbers k d 0 lt) at (own (omega (arith, length-map numbers number_in)))
+
+  -- what holds of the number of each rule holds of the numbers that they have
+  pub each_number : (P : ℕ → Type 0) → All (λ r. P r.number) rules → All (λ own. P own.number) numbers
+  each_number P all = numbers_hold P (numbers_all P rules all)
+
+  -- each number has rules
+  pub own_some : All (λ own. 0 < length own.rules.items) numbers
+  own_some k d lt =
+      rw (are.own k d lt) (numbers_hold (λ nr. 0 < length (rules_of nr rules)) (rules_there rules) k d lt)
 
   pub own_all : (P : Rule → Type 0) → All P rules → All (λ own. All P own.rules.items) numbers
   own_all P all =

@@ -1,6 +1,5 @@
-use Rattle.scf_compile.proofs.Common.{arith, ◌<◌, x32_syscall_bit}
+use Rattle.scf_compile.proofs.Common.{arith, ◌<◌, each_number, x32_syscall_bit}
 use Rattle.scf_compile.proofs.Counts.{may_be_put, search_of_profile}
-use Rattle.scf_compile.proofs.Laying.{each_number}
 use Rattle.scf_compile.proofs.Sizes.{rules_valid}
 use Rattle.scf_compile.proofs.compiler.search_of.Goals as goal
 
