@@ -33,6 +33,7 @@ pub fn mask_kind(mask: u32) -> MaskKind
 }
 
 /// Whether a mask is simple: it has no bit, one bit or all of the 32.
+#[tactic(auto, using(std::proofs::lemmas::Grind::common_steps, crate::proofs::Masks::is_simple, crate::proofs::Masks::is_mixed))]
 pub fn is_simple_mask(mask: u32) -> bool
     ensures { IsTrue result ↔ IsSimpleMask mask }
 {

@@ -26,6 +26,7 @@ fn with_digit(value: Option<u64>, radix: u32, digit: u32) -> Option<u64>
 }
 
 /// The number that digits of a radix write, the most significant first. Leading zeros are allowed, and any length.
+#[tactic(auto, using(std::proofs::lemmas::Grind::common_steps, crate::proofs::Numerals::digits_more, crate::proofs::Numerals::value_more))]
 pub fn parse_numeral(digits: &[u8], radix: u32) -> Result<u64, NumeralFault>
     requires low { 2 ≤ radix }
     requires high { radix ≤ 36 }

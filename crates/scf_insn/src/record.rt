@@ -79,6 +79,7 @@ impl CallRecord {
     ///
     /// It may be inlined, so that a run doesn't begin with a call.
     #[inline]
+    #[tactic(auto, using(std::proofs::lemmas::Grind::common_steps, crate::proofs::CallWords::halves_of_six))]
     pub fn words(&self) -> [u32; 16]
         ensures { result ≡ words_of self.now }
     {

@@ -54,6 +54,7 @@ pub enum WriteFault {
 }
 
 /// Writes all bytes, or fails after a beginning of them.
+#[tactic(auto, using(std::proofs::lemmas::Grind::common_steps, crate::proofs::Written::takes_more))]
 pub fn write_whole<S: Sink>(sink: &mut S, bytes: &[u8]) -> Result<(), WriteFault>
     ensures { Writes S.contents S.failures sink.old bytes.now result sink.new }
 {
