@@ -2,7 +2,10 @@ pub mod Common
 pub mod FormLemmas
 pub mod LawLemmas
 pub mod ListingLemmas
+pub mod LookupLemmas
+pub mod PlaceLemmas
 pub mod ReadLemmas
+pub mod RepeatLemmas
 pub mod RoundTrip
 pub mod TextLemmas
 pub mod TokenLemmas

@@ -1,7 +1,8 @@
 -- Reading one statement after another.
-use Rattle.scf_text.proofs.Common.{◌≡◌, ◌≢◌, ℕ, ◌+◌, Bool, List, [], ◌∷◌, ◌++◌, length, length-append, Option, Some, None, Result, Ok, Err, refl, sym, ap, ◌∙◌, append_assoc, append-nil, arith, inl, inr, zero-add, fun_ext, flat_map, lookup, is_some, option_or, IsSome, option_map, bytes_eq, OnErr, cond, true, false, Bor, BTreeMap, UpdatesBy, slice_cmp, nat_cmp, btree_map_updates_str, cases_Bool, same_from_decides, nat_tests, bytes_eq-Decides, flat_map-append, TextFault, before_comment, lines_of, Statement, Labels, Places, place_of, label_in, instruction_in, label_at, labels_from, drafts_in, statements_from, IsFault, label_fault, instruction_fault, statement_fault, statements_fault, AddsInstruction, places_view, with_label, IsLeft, Leaves, HaveTokens, part_statements}
+use Rattle.scf_text.proofs.Common.{◌≡◌, ◌≢◌, ℕ, ◌+◌, ◌<◌, ◌≤◌, Bool, List, [], ◌∷◌, ◌++◌, length, map, Option, Some, None, Result, Ok, Err, refl, sym, ap, subst, ◌∙◌, append_assoc, append-nil, arith, inl, inr, zero-add, ltb, flat_map, lookup, is_some, option_or, option_to_list, unwrap_or, IsSome, IfOk, option_map, bytes_eq, OnErr, cond, true, false, prefix_len, nat_eq, nat_eq_equiv, length-append, length-map, map-append, All, All-append, All-contains, All-head, All-map, All-nil, All-push, All-tail, all_pairs_push, Contains-append_cases, Contains-append_left, Contains-append_right, Contains-push, Contains-push_cases, IsDistinct, IsDistinct-IsPermutation, IsDistinct-from_apart, IsPermutation, IsPermutation-append_left, IsPermutation-refl, IsPermutation-trans, IsSomeAnd, MatchOption, cases_Bool, same_from_decides, nat_tests, bytes_eq-Decides, flat_map-append, TextFault, before_comment, lines_of, Statement, NumberedDraft, place_of, label_in, instruction_in, drafts_in, label_at, labels_from, statements_from, IsFault, label_fault, instruction_fault, statements_fault, IsFirstRepeat, Labels, labels_at, repeat_fault, IsPart, line_at, word_at, AreKept, IsEnded, IsLeft, Leaves, HaveTokens, begins_of, part_statements, AddsInstruction, AddsLabel}
 use Rattle.scf_text.specs.declared.fault.TextFault.TheVariants as fault
-use Rattle.scf_text.specs.Drafts as drafts
+use Rattle.scf_text.proofs.PlaceLemmas.{line_of_part, word_of_part}
+use Rattle.scf_text.proofs.RepeatLemmas.{IsKnown, first_more, least_last}
 use Rattle.scf_text.proofs.TokenLemmas.{statements_are}
 
 pub fault_first : (e : TextFault) (a b : Option TextFault) → IsFault e a → IsFault e (option_or a b)
@@ -32,10 +33,6 @@ labels_more at [] s = grind (arith, append-nil)
 labels_more at (b ∷ before) s =
     grind (arith, labels_more (at + length (drafts_in b)) before s, append_assoc, length-append)
 
-or_none : {A : Type 0} (a : Option A) → option_or a None ≡ a
-or_none None = refl
-or_none (Some x) = refl
-
 pub lookup_push : (p : List ℕ → Bool) (ls : Labels) (l : List ℕ × ℕ)
     → lookup p (ls ++ l ∷ []) ≡ option_or (lookup p ls) (cond (p l.0) (Some l.1) None)
 lookup_push p [] l = refl
@@ -44,10 +41,6 @@ lookup_push p (k ∷ ls) l =
       | inl here ↦ rw here refl
       | inr other ↦ rw other (lookup_push p ls l)
     ]
-
-one_more : (o w : Option ℕ) (a b : Bool) → a ≡ b → (a ≡ true → o ≡ None) → cond a w o ≡ option_or o (cond b w None)
-one_more o w true b e none = rw (← e, none refl) refl
-one_more o w false b e none = rw (← e) (sym (or_none o))
 
 pub bytes_eq_sym : (a b : List ℕ) → bytes_eq a b ≡ bytes_eq b a
 bytes_eq_sym a b =
@@ -59,82 +52,271 @@ pub is_none : {A : Type 0} (o : Option A) → is_some o ≡ false → o ≡ None
 is_none None h = refl
 is_none (Some x) h = absurd cc
 
--- a label that is new
-label_kept : (ls : Labels) (at line : ℕ) (o : Option (List ℕ)) → label_fault (place_of ls) line o ≡ None
-    → with_label (place_of ls) at o ≡ place_of (ls ++ label_at at o)
-label_kept ls at line None new = ap place_of (sym (append-nil ls))
-label_kept ls at line (Some name) new = fun_ext λ q.
-    one_more (place_of ls q) (Some at) (bytes_eq name q) (bytes_eq q name) (bytes_eq_sym name q)
-    (λ same. ap (place_of ls) (sym ((bytes_eq-Decides name q).0 same))
-    ∙ is_none (place_of ls name) (grind (arith, nat_tests)))
-    ∙ sym (lookup_push (bytes_eq q) ls (name, at))
+-- the instructions before a label
 
--- a statement is read
-statement_read : (s : Statement) (all rest : List Statement) (p q : Places) (ds es : List (ℕ × drafts.Draft))
-    → IsLeft all (s ∷ rest) p ds → label_fault p s.line (label_in s.tokens) ≡ None
-    → instruction_fault (length ds) s.line (instruction_in s.tokens) ≡ None
-    → q ≡ with_label p (length ds) (label_in s.tokens) → es ≡ ds ++ drafts_in s
-    → IsLeft all rest q es
-statement_read s all rest p q ds es h new none e f =
-    let label = rw h.places at new in
-    let instruction = rw h.drafts at none in
-    record {
-      before = h.before ++ s ∷ [];
-      whole = h.whole ∙ sym (append_assoc h.before (s ∷ []) rest);
-      places = e ∙ rw (h.places, h.drafts, labels_more 0 h.before s, zero-add (length (flat_map drafts_in h.before)))
-          (label_kept (labels_from 0 h.before) (length (flat_map drafts_in h.before)) s.line (label_in s.tokens) label);
-      drafts = f ∙ rw (h.drafts, flat_map-append, append-nil) refl;
-      fault = h.fault ∙ rw (label, instruction) refl;
-    }
+count_kept : (k : ℕ) (bs zs : List ℕ) → All (λ z. k ≤ z) zs
+    → prefix_len (λ b. ltb b k) (bs ++ zs) ≡ prefix_len (λ b. ltb b k) bs
+count_kept k [] [] behind = refl
+count_kept k [] (z ∷ zs) behind =
+    let le : k ≤ z = All-head (λ z. k ≤ z) z zs behind in
+    let f : ltb z k ≡ false = grind (arith, nat_tests) in
+    rw f refl
+count_kept k (b ∷ bs) zs behind =
+    elim (cases_Bool (ltb b k)) [
+      | inl less ↦ rw less (omega (arith, count_kept k bs zs behind))
+      | inr other ↦ rw other refl
+    ]
 
--- a statement is refused, for its own first fault
-pub statement_refused : (e : TextFault) (s : Statement) (all rest : List Statement) (p : Places)
-    (ds : List (ℕ × drafts.Draft)) → IsLeft all (s ∷ rest) p ds → s.tokens ≢ []
-    → IsFault e (option_or (label_fault p s.line (label_in s.tokens))
-    (instruction_fault (length ds) s.line (instruction_in s.tokens)))
-    → IsFault e (statements_fault [] all) × HaveTokens all
-statement_refused e s all rest p ds h some refused = (
-  rw h.fault
-      (fault_first e (statement_fault h.before s) (statements_fault (h.before ++ s ∷ []) rest)
-      (rw (h.places, h.drafts) at refused)),
-  rw (h.whole, flat_map-append)
-      (some_between (flat_map (λ (t : Statement). t.tokens) h.before) s.tokens
-      (flat_map (λ (t : Statement). t.tokens) rest) some),
-)
+count_all : (k : ℕ) (bs : List ℕ) → All (λ b. b < k) bs → prefix_len (λ b. ltb b k) bs ≡ length bs
+count_all k [] below = refl
+count_all k (b ∷ bs) below =
+    let lt : b < k = All-head (λ b. b < k) b bs below in
+    let t : ltb b k ≡ true = grind (arith, nat_tests) in
+    rw t (omega (arith, count_all k bs (All-tail (λ b. b < k) b bs below)))
 
-pub statement_leaves : {T : Type 0} (r : Result T TextFault) (s : Statement) (all rest : List Statement) (p q : Places)
-    (ds es : List (ℕ × drafts.Draft)) → IsLeft all (s ∷ rest) p ds → label_fault p s.line (label_in s.tokens) ≡ None
-    → q ≡ with_label p (length ds) (label_in s.tokens)
-    → AddsInstruction ds s.line (instruction_in s.tokens) r es → OnErr r (s.tokens ≢ []) → Leaves r all rest q es
-statement_leaves (Ok x) s all rest p q ds es left new e h some =
-    statement_read s all rest p q ds es left new h.0 e h.1
-statement_leaves (Err e) s all rest p q ds es left new kept h some =
-    statement_refused e s all rest p ds left some
-    (fault_then e (label_fault p s.line (label_in s.tokens))
-    (instruction_fault (length ds) s.line (instruction_in s.tokens)) new h)
+-- one more label, or more instructions
 
--- a label that a map had no place for
-pub label_added : (m n : BTreeMap (Bor (List ℕ)) ℕ) (name : List ℕ) (at line : ℕ) (old : Option ℕ)
-    → old ≡ places_view m name → is_some old ≡ false
-    → UpdatesBy (λ x y. slice_cmp nat_cmp x.now y.now) (λ k. slice_cmp nat_cmp name k.now) m n (Some at)
-    → (label_fault (places_view m) line (Some name) ≡ None)
-    × (places_view n ≡ with_label (places_view m) at (Some name))
-label_added m n name at line old e none updates =
-    let new : is_some (places_view m name) ≡ false = ap is_some (sym e) ∙ none in
-    (rw new refl, fun_ext λ q. btree_map_updates_str name m n (Some at) updates q)
+module _ (text : List ℕ) where
+  labels_kept : (bs zs labels : List ℕ) (end : ℕ) → All (λ s. s < end) labels → All (λ z. end ≤ z + 1) zs
+      → labels_at text (bs ++ zs) labels ≡ labels_at text bs labels
+  labels_kept bs zs [] end before behind = refl
+  labels_kept bs zs (s ∷ labels) end before behind =
+      let lt : s < end = All-head (λ s. s < end) s labels before in
+      rw (count_kept s bs zs (λ j d more. omega (arith, behind j d more)))
+      (ap (λ (ls : Labels). (word_at text s, prefix_len (λ b. ltb b s) bs) ∷ ls)
+      (labels_kept bs zs labels end (All-tail (λ s. s < end) s labels before) behind))
 
-pub some_mapped : (o : Option (Bor (List ℕ))) (p : Option (List ℕ)) → option_map (λ name. name.now) o ≡ p → IsSome o
-    → IsSome p
-some_mapped None p e some = absurd cc
-some_mapped (Some x) p e some = rw (← e) refl
+  known_then : (labels : List ℕ) (l s : ℕ) (b : Bool) → word_at text s ≢ word_at text l → IsKnown text labels s b
+      → IsKnown text (l ∷ labels) s b
+  known_then labels l s true other h = (h.0, Contains-append_right (l ∷ []) labels h.0 h.1, h.2)
+  known_then labels l s false other h = λ a given.
+      elim (Contains-append_cases (l ∷ []) labels a given) [
+        | inl here ↦
+            elim (Contains-push_cases [] l a here) [
+              | inl none ↦ let lt : none.0 < 0 = none.1 in absurd (omega arith)
+              | inr e ↦ λ same. other (sym same ∙ ap (word_at text) (sym e))
+            ]
+        | inr later ↦ h a later
+      ]
 
-pub label_refused : (e : TextFault) (s : Statement) (all rest : List Statement) (p : Places)
-    (ds : List (ℕ × drafts.Draft)) → IsLeft all (s ∷ rest) p ds → IsSome (label_in s.tokens)
-    → IsFault e (label_fault p s.line (label_in s.tokens)) → IsFault e (statements_fault [] all) × HaveTokens all
-label_refused e s all rest p ds h some refused =
-    statement_refused e s all rest p ds h (λ none. let other = rw none at some in cc)
-    (fault_first e (label_fault p s.line (label_in s.tokens))
-    (instruction_fault (length ds) s.line (instruction_in s.tokens)) refused)
+  -- a name is known where a label has it
+  known : (begins labels : List ℕ) (s : ℕ)
+      → IsKnown text labels s (is_some (place_of (labels_at text begins labels) (word_at text s)))
+  known begins [] s = λ a given. let none : given.0 < 0 = given.1 in absurd (omega arith)
+  known begins (l ∷ labels) s =
+      let decides = bytes_eq-Decides (word_at text s) (word_at text l) in
+      elim (cases_Bool (bytes_eq (word_at text s) (word_at text l))) [
+        | inl here ↦ rw here (l, Contains-append_left (l ∷ []) labels l (Contains-push [] l), sym (decides.0 here))
+        | inr other ↦ rw other
+            (known_then labels l s (is_some (place_of (labels_at text begins labels) (word_at text s)))
+            (λ same. let t = decides.1 same in cc) (known begins labels s))
+      ]
+
+  label_faults : (line s : ℕ) (repeat : Option ℕ) (known : Bool) (i later : Option TextFault) → line_at text s ≡ line
+      → option_or (option_map (repeat_fault text) repeat)
+      (option_or (option_or (cond known (Some (fault.Label line)) None) i) later)
+      ≡ option_or (option_map (repeat_fault text) (option_or repeat (cond known (Some s) None))) (option_or i later)
+  label_faults line s (Some r) known i later e = refl
+  label_faults line s None true i later e = rw e refl
+  label_faults line s None false i later e = refl
+
+  label_kept : {end line : ℕ} {given : Labels} {all : List Statement} {begins old new : List ℕ} (s : ℕ)
+      (i later : Option TextFault)
+      → AreKept text end given all
+      (option_or (option_or (label_fault (place_of given) line (Some (word_at text s))) i) later) begins old
+      → end ≤ s → line_at text s ≡ line → IsPermutation (old ++ s ∷ []) new
+      → AreKept text (s + 1) (given ++ (word_at text s, length begins) ∷ []) all (option_or i later) begins new
+  label_kept {end} {line} {given} {all} {begins} {old} {new} s i later k le numbered moved =
+      let is_given = is_some (place_of given (word_at text s)) in
+      let below : All (λ a. a < s) k.labels = λ j d lt. omega (arith, k.before j d lt) in
+      let begun : All (λ b. b < s) begins = λ j d lt. omega (arith, k.begun j d lt) in
+      record {
+        labels = k.labels ++ s ∷ [];
+        moved = IsPermutation-trans (k.labels ++ s ∷ []) (old ++ s ∷ []) new
+            (IsPermutation-append_left (s ∷ []) k.labels old k.moved) moved;
+        named = rw (map-append, count_all s begins begun, k.named) refl;
+        rising = all_pairs_push (λ a b. a < b) k.labels s k.rising below;
+        before = All-push (λ a. a < s + 1) k.labels s (λ j d lt. omega (arith, below j d lt)) (omega arith);
+        begun = λ j d lt. omega (arith, begun j d lt);
+        repeat = option_or k.repeat (cond is_given (Some s) None);
+        first = subst (λ (o : Option ℕ). IsFirstRepeat text (k.labels ++ s ∷ []) o)
+            (least_last text k.labels s k.repeat is_given below k.first)
+            (first_more text k.labels s (λ a given same. All-contains (λ b. b < s) k.labels a below given) k.repeat
+            is_given (rw (← k.named) (known begins k.labels s)) k.first);
+        fault = k.fault ∙ label_faults line s k.repeat is_given i later numbered;
+      }
+
+pub more_kept : {text : List ℕ} {end : ℕ} {given : Labels} {all : List Statement} {later : Option TextFault}
+    {begins old : List ℕ} (place : ℕ) (here new : List ℕ) → AreKept text end given all later begins old
+    → All (λ z. end ≤ z + 1) here → All (λ z. z < place) here → end ≤ place → IsPermutation old new
+    → AreKept text place given all later (begins ++ here) new
+more_kept {text} {end} {given} {all} {later} {begins} {old} place here new k behind below le moved = record {
+  labels = k.labels;
+  moved = IsPermutation-trans k.labels old new k.moved moved;
+  named = labels_kept text begins here k.labels end k.before behind ∙ k.named;
+  rising = k.rising;
+  before = λ j d lt. omega (arith, k.before j d lt);
+  begun = All-append (λ b. b < place) begins here (λ j d lt. omega (arith, k.begun j d lt)) below;
+  repeat = k.repeat;
+  first = k.first;
+  fault = k.fault;
+}
+
+-- up to a later place, in another order
+pub place_kept : {text : List ℕ} {end : ℕ} {given : Labels} {all : List Statement} {later : Option TextFault}
+    {begins old : List ℕ} (place : ℕ) (new : List ℕ) → AreKept text end given all later begins old → end ≤ place
+    → IsPermutation old new → AreKept text place given all later begins new
+place_kept {text} {end} place new k le moved =
+    rw append-nil at (more_kept place [] new k (All-nil (λ z. end ≤ z + 1)) (All-nil (λ z. z < place)) le moved)
+
+-- No two labels begin at one place.
+pub apart : {text : List ℕ} {end : ℕ} {given : Labels} {all : List Statement} {later : Option TextFault}
+    {begins kept : List ℕ} → AreKept text end given all later begins kept → IsDistinct nat_eq kept
+apart {kept = kept} k =
+    IsDistinct-IsPermutation nat_eq nat_eq_equiv.symm k.labels kept k.moved
+    (IsDistinct-from_apart nat_eq k.labels
+    (λ i j d lt within. let less = k.rising i j d lt within in grind (arith, nat_tests)))
+
+-- one statement behind others
+
+label_step : {text bytes : List ℕ} {start line : ℕ} {name : Option (List ℕ)} {given : Labels} {all : List Statement}
+    {begins old new : List ℕ} (label : Option ℕ) (i later : Option TextFault)
+    → AreKept text start given all (option_or (option_or (label_fault (place_of given) line name) i) later) begins old
+    → IsPart text line start bytes → option_map (word_at bytes) label ≡ name → unwrap_or label 0 ≤ length bytes
+    → IsPermutation (old ++ option_to_list (option_map (λ _. start + unwrap_or label 0) label)) new
+    → AreKept text (start + unwrap_or label 0 + 1) (given ++ label_at (length begins) name) all (option_or i later)
+    begins new
+label_step {text} {bytes} {start} {line} {name} {given} {all} {begins} {old} {new} None i later k part e le moved =
+    rw (← e, append-nil) (place_kept (start + 0 + 1) new (rw (← e) at k) (omega arith) (rw append-nil at moved))
+label_step {text} {bytes} {start} {line} {name} {given} {all} {begins} {old} {new} (Some l) i later k part e le moved =
+    let same : Some (word_at text (start + l)) ≡ name = ap Some (word_of_part text bytes line start l part le) ∙ e in
+    subst (λ (n : Option (List ℕ)). AreKept text (start + l + 1) (given ++ label_at (length begins) n) all
+    (option_or i later) begins new) same
+    (label_kept text (start + l) i later
+    (subst (λ (n : Option (List ℕ)). AreKept text start given all
+    (option_or (option_or (label_fault (place_of given) line n) i) later) begins old) (sym same) k)
+    (omega arith) (line_of_part text bytes line start l part le) moved)
+
+-- a statement of a part, its label and where it begins
+module _ {text bytes : List ℕ} {start : ℕ} {all rest : List Statement} {old : List ℕ} {ds : List NumberedDraft}
+    (s : Statement) (label : Option ℕ) (new : List ℕ) (left : IsLeft text start all (s ∷ rest) old ds)
+    (part : IsPart text s.line start bytes) (named : option_map (word_at bytes) label ≡ label_in s.tokens)
+    (within : unwrap_or label 0 ≤ length bytes) where
+  -- where the statement begins, with its label if it has one
+  abbrev place : ℕ
+  place = start + unwrap_or label 0
+
+  abbrev own_fault : Option TextFault
+  own_fault = instruction_fault (length ds) s.line (instruction_in s.tokens)
+
+  abbrev later_fault : Option TextFault
+  later_fault = statements_fault (left.before ++ s ∷ []) rest
+
+  abbrev given : Labels
+  given = labels_from 0 (left.before ++ s ∷ [])
+
+  statement_label : IsPermutation (old ++ option_to_list (option_map (λ _. place) label)) new
+      → AreKept text (place + 1) given all (option_or own_fault later_fault) (begins_of ds) new
+  statement_label moved =
+      let count : length (flat_map drafts_in left.before) ≡ length ds =
+      ap length (sym left.drafts) ∙ length-map ds _ in
+      let begun : length (begins_of ds) ≡ 0 + length (flat_map drafts_in left.before) =
+      length-map ds _ ∙ sym count ∙ sym (zero-add (length (flat_map drafts_in left.before))) in
+      let more : labels_from 0 left.before ++ label_at (length (begins_of ds)) (label_in s.tokens) ≡ given =
+      ap (λ n. labels_from 0 left.before ++ label_at n (label_in s.tokens)) begun ∙ sym (labels_more 0 left.before s) in
+      let fault : ℕ → Option TextFault = λ n. instruction_fault n s.line (instruction_in s.tokens) in
+      subst (λ (ls : Labels). AreKept text (place + 1) ls all (option_or own_fault later_fault) (begins_of ds) new) more
+      (subst (λ n. AreKept text (place + 1)
+      (labels_from 0 left.before ++ label_at (length (begins_of ds)) (label_in s.tokens)) all
+      (option_or (fault n) later_fault) (begins_of ds) new) count
+      (label_step label (fault (length (flat_map drafts_in left.before))) later_fault left.labels part named within
+      moved))
+
+  have_tokens : s.tokens ≢ [] → HaveTokens all
+  have_tokens some =
+      rw (left.whole, flat_map-append)
+      (some_between (flat_map (λ (t : Statement). t.tokens) left.before) s.tokens
+      (flat_map (λ (t : Statement). t.tokens) rest) some)
+
+  pub statement_leaves : {T : Type 0} (r : Result T TextFault) (end : T → ℕ) (es : List NumberedDraft)
+      → IsPermutation (old ++ option_to_list (option_map (λ _. place) label)) new
+      → AddsInstruction ds place s.line (instruction_in s.tokens) r es → IfOk r (λ x. place + 1 ≤ end x)
+      → OnErr r (s.tokens ≢ []) → Leaves text r all rest end new es
+  statement_leaves (Ok x) end es moved h behind some = record {
+    before = left.before ++ s ∷ [];
+    whole = left.whole ∙ sym (append_assoc left.before (s ∷ []) rest);
+    drafts = h.1 ∙ rw (left.drafts, flat_map-append, append-nil) refl;
+    labels = subst (λ (bs : List ℕ). AreKept text (end x) given all later_fault bs new) (sym h.2)
+        (more_kept (end x) (map (λ _. place) (drafts_in s)) new
+        (subst (λ (f : Option TextFault). AreKept text (place + 1) given all (option_or f later_fault) (begins_of ds)
+        new) h.0 (statement_label moved))
+        (All-map (λ z. place + 1 ≤ z + 1) (λ _. place) (drafts_in s) (λ k d lt. omega arith))
+        (All-map (λ z. z < end x) (λ _. place) (drafts_in s) (λ k d lt. omega arith)) behind (IsPermutation-refl new));
+  }
+  statement_leaves (Err e) end es moved h behind some = record {
+    end = place + 1;
+    given = given;
+    later = option_or own_fault later_fault;
+    begins = begins_of ds;
+    labels = statement_label moved;
+    fault = λ none. fault_first e own_fault later_fault h;
+    some = have_tokens some;
+  }
+
+  -- a statement with a label has a token
+  label_tokens : (b : ℕ) (o : Option ℕ) → option_map (word_at bytes) o ≡ label_in s.tokens
+      → IsSome (option_map (λ _. b) o) → s.tokens ≢ []
+  label_tokens b None named some = cc
+  label_tokens b (Some l) named some = λ none. let e = rw none at named in cc
+
+  pub label_refused : (e : TextFault)
+      → AddsLabel {T = Unit {0}} text old (option_map (λ _. place) label) (Err e) new
+      → IsSome (option_map (λ _. place) label) → IsEnded text all new e
+  label_refused e h some =
+      let tokens = have_tokens (label_tokens place label named some) in
+      elim h [
+        | inl none ↦ record {
+          end = start;
+          given = labels_from 0 left.before;
+          later = statements_fault left.before (s ∷ rest);
+          begins = begins_of ds;
+          labels = rw none.0 left.labels;
+          fault = λ first. rw none.1 tt;
+          some = tokens;
+        }
+        | inr told ↦
+            let labels = statement_label told.0 in
+            let first = told.1 (apart labels) in
+            record {
+              end = place + 1;
+              given = given;
+              later = option_or own_fault later_fault;
+              begins = begins_of ds;
+              labels = labels;
+              fault = λ none. absurd (none first.0 first.1.0);
+              some = tokens;
+            }
+      ]
+
+pub place_left : {text : List ℕ} {end : ℕ} {all rest : List Statement} {labels : List ℕ} {ds : List NumberedDraft}
+    (place : ℕ) (sorted : List ℕ) → IsLeft text end all rest labels ds → end ≤ place → IsPermutation labels sorted
+    → IsLeft text place all rest sorted ds
+place_left place sorted left le moved = record {
+  before = left.before;
+  whole = left.whole;
+  drafts = left.drafts;
+  labels = place_kept place sorted left.labels le moved;
+}
+
+pub is_fault : (e : TextFault) (o : Option TextFault) → o ≡ Some e → IsFault e o
+is_fault fault.Memory o h = tt
+is_fault e o h = h
+
+pub label_mapped : (o r : Option ℕ) (b : ℕ) → MatchOption o (r ≡ None) (λ x. IsSomeAnd r (λ y. y ≡ b))
+    → r ≡ option_map (λ _. b) o
+label_mapped None r b h = h
+label_mapped (Some x) None b h = absurd h
+label_mapped (Some x) (Some y) b h = ap Some h
 
 pub some_refused : {T E : Type 0} (r : Result T E) (ts us : List (List ℕ)) → us ≡ instruction_in ts → OnErr r (us ≢ [])
     → OnErr r (ts ≢ [])

@@ -1,13 +1,12 @@
 -- What reading a text gives.
-use Rattle.scf_text.proofs.Common.{◌≡◌, ◌≢◌, ℕ, List, [], Option, Some, None, Result, Ok, Err, refl, sym, ap, ◌∙◌, append-nil, flat_map, option_or, IfOk, IfErr, Vec, Bor, BTreeMap, IsEmpty, is_at, slice_cmp, lookup, nat_cmp, fun_ext, Insn, TextFault, Statement, Places, places_in, statements_of, drafts_in, drafts_of, Spells, ascii_fault, statements_fault, targets_fault, fault_of, IsFault, NumberedDraft, TellsInsns, TellsText, fault_in, places_view, drafts_view, IsLeft}
+use Rattle.scf_text.proofs.Common.{◌≡◌, ◌≢◌, ℕ, ◌<◌, List, [], map, Option, Some, None, Result, Ok, Err, refl, sym, ap, subst, ◌∙◌, arith, append-nil, flat_map, option_or, option_map, IfOk, IfErr, Vec, nat_eq, bytes_eq, Contains, All-nil, Contains-permutation, IsDistinct, IsPermutation, IsPermutation-refl, IsPermutation-sym, Insn, TextFault, Statement, labels_from, Places, place_of, places_in, statements_of, drafts_in, drafts_of, Spells, ascii_fault, statements_fault, targets_fault, fault_of, IsFault, NumberedDraft, TellsInsns, TellsText, fault_in, Labels, labels_at, repeat_fault, IsFirstRepeat, TellsRepeat, word_at, drafts_view, begins_of, AreKept, IsEnded, IsLeft, Leaves, HaveTokens}
 use Rattle.scf_text.specs.declared.fault.TextFault.TheVariants as fault
 use Rattle.scf_text.specs.Drafts as drafts
-use Rattle.scf_text.proofs.ReadLemmas.{fault_first, fault_then}
+use Rattle.scf_text.proofs.ReadLemmas.{apart, fault_first, fault_then, is_fault, place_kept, place_left}
+use Rattle.scf_text.proofs.RepeatLemmas.{moved, one_first}
+use Rattle.scf_text.proofs.LookupLemmas.{names_apart, places_moved}
+use Rattle.scf_text.proofs.WantedLemmas.{no_labels, none_mapped}
 use Rattle.scf_text.proofs.LawLemmas.{no_fault, spelled}
-
-pub is_fault : (e : TextFault) (o : Option TextFault) → o ≡ Some e → IsFault e o
-is_fault fault.Memory o h = tt
-is_fault e o h = h
 
 pub statements_fail : (x : TextFault) (text : List ℕ) → IsFault x (statements_fault [] (statements_of text))
     → IsFault x (fault_in text)
@@ -23,32 +22,118 @@ tells_then a b places written (Ok v) none h = (rw none h.0, h.1, h.2)
 tells_then a b places written (Err e) none h = fault_then e a b none h
 
 -- before the first statement
-pub nothing_read : (all : List Statement) (kept : BTreeMap (Bor (List ℕ)) ℕ) (lines : List NumberedDraft)
-    → IsEmpty kept → lines ≡ [] → IsLeft all all (places_view kept) (drafts_view lines)
-nothing_read all kept lines empty none = record {
-  before = [];
-  whole = refl;
-  places = fun_ext λ name. ap (lookup (is_at (λ key. slice_cmp nat_cmp name key.now))) empty;
-  drafts = rw none refl;
-  fault = refl;
-}
+pub nothing_read : (text : List ℕ) (all : List Statement) {labels : List ℕ} {ds : List NumberedDraft} → labels ≡ []
+    → ds ≡ [] → IsLeft text 0 all all labels ds
+nothing_read text all none empty =
+    rw (none, empty) (record {
+      before = [];
+      whole = refl;
+      drafts = refl;
+      labels = record {
+        labels = [];
+        moved = IsPermutation-refl [];
+        named = refl;
+        rising = λ i j d lt within. absurd (omega arith);
+        before = All-nil (λ s. s < 0);
+        begun = All-nil (λ b. b < 0);
+        repeat = None;
+        first = λ b repeat. let lt : repeat.given.0 < 0 = repeat.given.1 in absurd (omega arith);
+        fault = refl;
+      };
+    })
 
 -- behind the last statement
-pub drafts_read : (all : List Statement) (places : Places) (ds : List (ℕ × drafts.Draft)) → IsLeft all [] places ds
-    → ds ≡ flat_map drafts_in all
-drafts_read all places ds left = left.drafts ∙ rw (left.whole, append-nil) refl
 
-pub text_tells : (text : List ℕ) (places : Places) (ds : List (ℕ × drafts.Draft)) (r : Result (Vec Insn) TextFault)
-    → IsLeft (statements_of text) [] places ds → TellsInsns (targets_fault places 0 ds) places ds r
-    → TellsText (fault_in text) text r
+all_read : {text : List ℕ} {end : ℕ} {all : List Statement} {kept : List ℕ} {ds : List NumberedDraft}
+    (left : IsLeft text end all [] kept ds) → left.before ≡ all
+all_read left = sym (left.whole ∙ append-nil left.before)
+
+pub drafts_read : {text : List ℕ} {end : ℕ} {all : List Statement} {kept : List ℕ} {ds : List NumberedDraft}
+    → IsLeft text end all [] kept ds → drafts_view ds ≡ flat_map drafts_in all
+drafts_read left = left.drafts ∙ ap (flat_map drafts_in) (all_read left)
+
+none_first : (text xs ys : List ℕ) → IsPermutation xs ys → IsFirstRepeat text ys None → IsFirstRepeat text xs None
+none_first text xs ys p none = λ b repeat. none b (moved p repeat)
+
+-- the labels are sorted
+pub sorted_leaves : {T : Type 0} (r : Result T TextFault) (text : List ℕ) (end : ℕ) (all : List Statement)
+    (kept sorted : List ℕ) (ds : List NumberedDraft) → Leaves text r all [] (λ _. end) kept ds
+    → IsPermutation kept sorted → Leaves text r all [] (λ _. end) sorted ds
+sorted_leaves (Ok x) text end all kept sorted ds left p = place_left end sorted left (omega arith) p
+sorted_leaves (Err e) text end all kept sorted ds ended p = record {
+  end = ended.end;
+  given = ended.given;
+  later = ended.later;
+  begins = ended.begins;
+  labels = place_kept ended.end sorted ended.labels (omega arith) p;
+  fault = λ none. ended.fault (none_first text kept sorted p none);
+  some = ended.some;
+}
+
+module _ {text : List ℕ} {all : List Statement} {sorted : List ℕ} where
+  -- the first fault, by the first repeat
+  first_fault : {end : ℕ} {given : Labels} {later : Option TextFault} {begins : List ℕ} (o : Option ℕ)
+      → AreKept text end given all later begins sorted → IsFirstRepeat text sorted o
+      → statements_fault [] all ≡ option_or (option_map (repeat_fault text) o) later
+  first_fault {later = later} o k first =
+      k.fault ∙ ap (λ (r : Option ℕ). option_or (option_map (repeat_fault text) r) later)
+      (one_first text k.labels sorted k.repeat o k.moved k.first first)
+
+  told_fault : {end : ℕ} {given : Labels} {later : Option TextFault} {begins : List ℕ} (e : TextFault)
+      → AreKept text end given all later begins sorted → TellsRepeat {T = Unit {0}} text sorted (Err e)
+      → IsFault e (statements_fault [] all)
+  told_fault e k told = is_fault e (statements_fault [] all) (first_fault (Some told.0) k told.1 ∙ ap Some (sym told.2))
+
+  -- a repeated label is a token
+  told_tokens : {end : ℕ} {later : Option TextFault} {begins : List ℕ} (e : TextFault)
+      → AreKept text end (labels_from 0 all) all later begins sorted
+      → TellsRepeat {T = Unit {0}} text sorted (Err e) → HaveTokens all
+  told_tokens e k told = λ none.
+      let nothing : k.labels ≡ [] = none_mapped _ k.labels (k.named ∙ no_labels 0 all none) in
+      let given = subst (λ (ls : List ℕ). Contains ls told.0) nothing
+      (Contains-permutation sorted k.labels told.0 (IsPermutation-sym k.labels sorted k.moved) told.1.0.given) in
+      let lt : given.0 < 0 = given.1 in
+      omega arith
+
+  -- no label is repeated
+
+  module _ (tells : IsDistinct nat_eq sorted → IsFirstRepeat text sorted None) where
+    pub ended_told : (e : TextFault) → IsEnded text all sorted e → IsFault e (statements_fault [] all) × HaveTokens all
+    ended_told e ended =
+        let none = tells (apart ended.labels) in (
+          subst (λ (f : Option TextFault). IsFault e f) (sym (first_fault None ended.labels none)) (ended.fault none),
+          ended.some,
+        )
+
+    pub names_told : {end : ℕ} {ds : List NumberedDraft} → IsLeft text end all [] sorted ds
+        → IsDistinct bytes_eq (map (word_at text) sorted)
+    names_told left = names_apart text sorted (apart left.labels) (tells (apart left.labels))
+
+pub label_told : {T : Type 0} (e : TextFault) (r : Result T TextFault) (text : List ℕ) (end : ℕ)
+    (all : List Statement) (sorted : List ℕ) (ds : List NumberedDraft) → Leaves text r all [] (λ _. end) sorted ds
+    → (IsDistinct nat_eq sorted → TellsRepeat {T = Unit {0}} text sorted (Err e))
+    → IsFault e (statements_fault [] all) × HaveTokens all
+label_told e (Ok x) text end all sorted ds left tells =
+    let labels = subst (λ (ss : List Statement). AreKept text end (labels_from 0 ss) all (statements_fault ss [])
+    (begins_of ds) sorted) (all_read left) left.labels in
+    (told_fault e labels (tells (apart labels)), told_tokens e labels (tells (apart labels)))
+label_told e (Err f) text end all sorted ds ended tells =
+    (told_fault e ended.labels (tells (apart ended.labels)), ended.some)
+
+pub text_tells : (text : List ℕ) {end : ℕ} {sorted : List ℕ} {ds : List NumberedDraft}
+    (r : Result (Vec Insn) TextFault) → IsLeft text end (statements_of text) [] sorted ds
+    → (IsDistinct nat_eq sorted → IsFirstRepeat text sorted None)
+    → TellsInsns (targets_fault (place_of (labels_at text (begins_of ds) sorted)) 0 (drafts_view ds))
+    (place_of (labels_at text (begins_of ds) sorted)) (drafts_view ds) r → TellsText (fault_in text) text r
 unfolding fault_in
-text_tells text places ds r left h =
-    let named : places ≡ places_in (statements_of text) =
-    left.places ∙ ap places_in (sym (left.whole ∙ append-nil left.before)) in
-    tells_then (statements_fault [] (statements_of text))
-    (targets_fault (places_in (statements_of text)) 0 (drafts_of text)) (places_in (statements_of text))
-    (drafts_of text) r
-    left.fault (rw (named, drafts_read (statements_of text) places ds left) at h)
+text_tells text {sorted = sorted} {ds} r left tells h =
+    let all = statements_of text in
+    let k = left.labels in
+    let named : place_of (labels_at text (begins_of ds) sorted) ≡ places_in all =
+    places_moved text (begins_of ds) k.labels sorted k.moved (names_told tells left)
+    ∙ ap place_of k.named ∙ ap places_in (all_read left) in
+    tells_then (statements_fault [] all) (targets_fault (places_in all) 0 (drafts_of text)) (places_in all)
+    (drafts_of text) r (first_fault None k (tells (apart k))) (rw (named, drafts_read left) at h)
 
 pub ascii_fails : (e : TextFault) (text : List ℕ) → ascii_fault 1 text ≡ Some e → IsFault e (fault_of text)
 unfolding fault_of fault_in

@@ -1,5 +1,5 @@
 -- The tokens of a text: reading them from the front, their slices, and the parts of a line between them.
-use Rattle.scf_text.proofs.Common.{◌≡◌, ℕ, zero, suc, ◌+◌, ◌-◌, ◌<◌, ◌≤◌, Bool, true, false, ◌&&◌, eqb, List, [], ◌∷◌, ◌++◌, length, get_or, take, drop, refl, sym, ap, subst, ◌∙◌, append_assoc, append-nil, arith, inl, inr, max, map, not, prefix_len, position_or_len, list_all, All, AllByRecursion, flat_map, join_with_byte, cases_Bool, cases_lt, and_left, and_right, and_parts, nat_tests, drop_more, drop_all, take_more, take_rest, drop-drop, map-append, drop-take, take-take, length-take-le, length-drop, take-append_seam, drop-append-add, prefix_len_stops, prefix_len-le-length, slice_split_first, length-slice_split, join_with_byte-slice_split, is_semicolon, Token, is_blank, is_word_byte, Lexeme, begins_comment, before_comment, begins_in_word, joined, lexemes_from, lexemes, IsSliceOf, lines_of, lexemes_of_lines, tokens_of, words_of_line, words_of_part, words_in, others_in, statements_in, first_statement, All-from_recursion}
+use Rattle.scf_text.proofs.Common.{◌≡◌, ℕ, zero, suc, ◌+◌, ◌-◌, ◌<◌, ◌≤◌, Bool, true, false, ◌&&◌, eqb, List, [], ◌∷◌, ◌++◌, length, get_or, take, drop, refl, sym, ap, subst, ◌∙◌, append_assoc, append-nil, arith, inl, inr, max, map, not, prefix_len, position_or_len, list_all, All, AllByRecursion, take_while, flat_map, join_with_byte, cases_Bool, cases_lt, and_left, and_right, and_parts, nat_tests, drop_more, drop_all, take_all, filter, length-filter, is_line_end, take_more, take_rest, drop-drop, map-append, drop-take, take-take, length-take-le, length-drop, take-append_seam, take-append-drop, drop-append-add, prefix_len_stops, prefix_len-le-length, slice_split_first, length-slice_split, join_with_byte-slice_split, is_semicolon, Token, is_blank, is_word_byte, count_ends, is_name, Lexeme, begins_comment, before_comment, begins_in_word, joined, lexemes_from, lexemes, IsSliceOf, lines_of, lexemes_of_lines, tokens_of, words_of_line, words_of_part, words_in, others_in, statements_in, first_statement, All-from_recursion}
 
 pub word_not_blank : (b : ℕ) → is_word_byte b ≡ true → is_blank b ≡ false
 word_not_blank b h = grind (arith, nat_tests)
@@ -94,6 +94,50 @@ last_line (b ∷ bs) le =
 pub line_lasts : (text : List ℕ) (n : ℕ) → n ≡ prefix_len (λ b. not (eqb b 10)) text → length text ≤ n
     → lines_of text ≡ text ∷ []
 line_lasts text n e le = last_line text (omega arith)
+
+-- no line end stands in a line
+unbroken : (text : List ℕ) → length (filter is_line_end (take (prefix_len (λ b. not (eqb b 10)) text) text)) ≡ 0
+unbroken [] = refl
+unbroken (b ∷ bs) =
+    elim (cases_Bool (eqb b 10)) [
+      | inl here ↦ rw here refl
+      | inr other ↦ rw (prefix_more (λ c. not (eqb c 10)) b bs (rw other refl), other) (unbroken bs)
+    ]
+
+pub line_unbroken : (text : List ℕ) (n : ℕ) → n ≡ prefix_len (λ b. not (eqb b 10)) text → count_ends (take n text) ≡ 0
+line_unbroken text n e =
+    rw e
+    (sym (length-filter is_line_end (take (prefix_len (λ b. not (eqb b 10)) text) text)) ∙ unbroken text)
+
+pub last_unbroken : (text : List ℕ) (n : ℕ) → n ≡ prefix_len (λ b. not (eqb b 10)) text → length text ≤ n
+    → count_ends text ≡ 0
+last_unbroken text n e le = sym (ap count_ends (take_all n text le)) ∙ line_unbroken text n e
+
+pub line_whole : (text : List ℕ) (n : ℕ) → n ≡ prefix_len (λ b. not (eqb b 10)) text → n < length text
+    → text ≡ take n text ++ 10 ∷ take (length text - (n + 1)) (drop (n + 1) text)
+line_whole text n e lt =
+    let stop : not (eqb (get_or text n 0) 10) ≡ false =
+    rw e (prefix_len_stops (λ b. not (eqb b 10)) text 0 (omega arith)) in
+    let end : get_or text n 0 ≡ 10 = grind (arith, nat_tests) in
+    rw take_rest
+    (sym (take-append-drop n text) ∙ ap (λ (bs : List ℕ). take n text ++ bs)
+    (drop_more text n 0 lt ∙ ap (λ b. b ∷ drop (n + 1) text) end))
+
+pub ruleset lines_in_front = (line_ends, line_lasts, line_whole, line_unbroken, last_unbroken)
+
+name_here : (m : ℕ) (bs : List ℕ) → m ≡ max (prefix_len is_word_byte bs) 1 → is_name (take m bs) ≡ true
+    → take_while is_word_byte bs ≡ take m bs
+name_here m [] e h = absurd cc
+name_here zero (b ∷ bs) e h = absurd cc
+name_here (suc m) (b ∷ bs) e h =
+    let word : is_word_byte b ≡ true = grind (arith, nat_tests) in
+    let len : suc m ≡ prefix_len is_word_byte (b ∷ bs) = omega (arith, prefix_more is_word_byte b bs word) in
+    ap (λ k. take k (b ∷ bs)) (sym len)
+
+pub name_is_word : (n m : ℕ) (bs : List ℕ) → m ≡ max (prefix_len is_word_byte (drop n bs)) 1
+    → is_name (take m (take (length bs - n) (drop n bs))) ≡ true
+    → take_while is_word_byte (drop n bs) ≡ take m (take (length bs - n) (drop n bs))
+name_is_word n m bs e h = rw take_rest (name_here m (drop n bs) e (rw take_rest at h))
 
 pub comment_step : (xs : List ℕ) (i : ℕ) (total : List ℕ) → i < length xs
     → begins_comment (take (length xs - i) (drop i xs)) ≡ false → take i xs ++ before_comment (drop i xs) ≡ total
@@ -228,13 +272,14 @@ slices_from (suc most) text at bs lt slice =
       | inr none ↦ rw (none_is at n bs refl none) tt
     ]
 
--- a line begins with what stands before its comment
-comment_of : (line : List ℕ) → (comment : List ℕ) × (line ≡ before_comment line ++ comment)
-comment_of [] = ([], refl)
+-- a line begins with what stands before its comment, and no word goes on behind that
+pub comment_of : (line : List ℕ)
+    → (comment : List ℕ) × (line ≡ before_comment line ++ comment) × (begins_in_word comment ≡ false)
+comment_of [] = ([], refl, refl)
 comment_of (b ∷ bs) =
     elim (cases_Bool (begins_comment (b ∷ bs))) [
-      | inl here ↦ (b ∷ bs, rw here refl)
-      | inr other ↦ let rest = comment_of bs in (rest.0, rw other (ap (λ (cs : List ℕ). b ∷ cs) rest.1))
+      | inl here ↦ (b ∷ bs, rw here refl, grind (arith, nat_tests))
+      | inr other ↦ let rest = comment_of bs in (rest.0, rw other (ap (λ (cs : List ℕ). b ∷ cs) rest.1), rest.2)
     ]
 
 pub all_append : {A : Type 0} (P : A → Type 0) (xs ys : List A) → AllByRecursion P xs → AllByRecursion P ys

@@ -1,9 +1,9 @@
 -- Which texts have a token, so that memory may be wanted for them.
-use Rattle.scf_text.proofs.Common.{◌≡◌, ◌≢◌, ℕ, ◌+◌, ◌<◌, List, [], ◌∷◌, length, map, Result, Ok, Err, refl, sym, ap, ◌∙◌, arith, OnErr, flat_map, NumberedDraft, Lexeme, lines_of, words_of_line, tokens_of, Statement, statements_of, statements_from, drafts_in, HaveTokens, drafts_view}
+use Rattle.scf_text.proofs.Common.{◌≡◌, ◌≢◌, ℕ, ◌+◌, ◌<◌, List, [], ◌∷◌, length, map, Result, Ok, Err, refl, sym, ap, ◌∙◌, arith, OnErr, flat_map, NumberedDraft, Lexeme, lines_of, words_of_line, tokens_of, Statement, statements_of, statements_from, drafts_in, labels_from, HaveTokens, drafts_view}
 use Rattle.scf_text.proofs.TokenLemmas.{words_are_tokens}
 use Rattle.scf_text.proofs.ReadLemmas.{none_in_front}
 
-none_mapped : {A B : Type 0} (f : A → B) (xs : List A) → map f xs ≡ [] → xs ≡ []
+pub none_mapped : {A B : Type 0} (f : A → B) (xs : List A) → map f xs ≡ [] → xs ≡ []
 none_mapped f [] e = refl
 none_mapped f (x ∷ xs) e = absurd cc
 
@@ -12,6 +12,12 @@ no_drafts [] none = refl
 no_drafts (s ∷ ss) none =
     let here : s.tokens ≡ [] = (none_in_front s.tokens (flat_map (λ (t : Statement). t.tokens) ss) none).0 in
     rw here (no_drafts ss (none_in_front s.tokens (flat_map (λ (t : Statement). t.tokens) ss) none).1)
+
+pub no_labels : (at : ℕ) (ss : List Statement) → flat_map (λ (s : Statement). s.tokens) ss ≡ [] → labels_from at ss ≡ []
+no_labels at [] none = refl
+no_labels at (s ∷ ss) none =
+    let both = none_in_front s.tokens (flat_map (λ (t : Statement). t.tokens) ss) none in
+    rw both.0 (no_labels (at + 0) ss both.1)
 
 -- some instruction was read where one of them is refused
 pub drafts_words : {T E : Type 0} (ss : List Statement) (lines kept : List NumberedDraft) (r : Result T E)

@@ -1,5 +1,5 @@
 //! Text as instructions.
-ghost use Rattle.std.specs.Prelude.{◌≡◌, ◌≢◌, ◌<◌, [], List, length, IsTrue, IfOk, IfErr, OnErr, MatchResult};
+ghost use Rattle.std.specs.Prelude.{◌≡◌, ◌≢◌, ◌<◌, ℕ, [], List, length, IsTrue, IfOk, IfErr, OnErr, MatchResult};
 ghost use Rattle.scf_insn.specs.declared.insn.Insn.{Insn};
 ghost use Rattle.scf_text.specs.declared.fault.TextFault.{TextFault};
 ghost use Rattle.scf_text.specs.Drafts.{is_below};
@@ -7,18 +7,20 @@ ghost use Rattle.scf_text.specs.Statements.{Statement, statements_of};
 ghost use Rattle.scf_text.specs.Spelling.{Spells};
 ghost use Rattle.scf_text.specs.Tokens.{tokens_of};
 ghost use Rattle.scf_text.specs.Faults.{IsFault, ascii_fault, targets_fault, fault_of};
-ghost use Rattle.scf_text.specs.internal.Reading.{places_view, drafts_view, HaveTokens, IsLeft, Leaves};
-ghost use Rattle.scf_text.specs.internal.Results.{TellsTarget, TellsInsn, TellsInsns, TellsText, fault_in};
+ghost use Rattle.scf_text.specs.internal.Reading.{drafts_view, HaveTokens, IsLeft, Leaves};
+ghost use Rattle.scf_text.specs.internal.Results.{TellsTarget, TellsInsn, TellsInsns, TellsText, fault_in, places_view};
 ghost use Rattle.scf_text.specs.internal.Views.{written_view, draft_view};
 
 use crate::draft::Written;
 use crate::fault::TextFault;
+use crate::label::{check_labels, compare_with};
 use crate::numbered_draft::NumberedDraft;
-use crate::statement::{Places, add_line, find_place};
+use crate::part::Part;
+use crate::places::Places;
+use crate::statement::add_line;
 use crate::token::{first_line, without_comment};
 use scf_insn::Insn;
 use std::alloc::Global;
-use std::collections::BTreeMap;
 
 /// The first byte that isn't ASCII.
 fn check_ascii(text: &[u8]) -> Result<(), TextFault>
@@ -37,21 +39,26 @@ fn check_ascii(text: &[u8]) -> Result<(), TextFault>
     Ok(())
 }
 
-/// Adds the statements of a text.
+/// Adds the statements of a text, the labels by the places where they begin.
 fn read_text<'a>(
-    places: &mut Places<'a>,
-    drafts: &mut Vec<NumberedDraft<'a>>,
     text: &'a [u8],
+    labels: &mut Vec<usize>,
+    drafts: &mut Vec<NumberedDraft<'a>>,
 ) -> Result<(), TextFault>
     ensures { (all : List Statement)
-        → IsLeft all (statements_of text.now) (places_view places.old) (drafts_view drafts.old.items)
-        → Leaves result all [] (places_view places.new) (drafts_view drafts.new.items) }
+        → IsLeft text.now 0 all (statements_of text.now) labels.old.items drafts.old.items
+        → (end : ℕ) × Leaves text.now result all [] (λ _. end) labels.new.items drafts.new.items }
 {
     let mut rest = text;
     let mut number = 1;
     'lines: loop {
         let (line, after) = first_line(rest);
-        add_line(places, drafts, without_comment(line), number)?;
+        let part = Part {
+            line: number,
+            start: text.len() - rest.len(),
+            bytes: without_comment(line),
+        };
+        add_line(text, labels, drafts, part)?;
         match after {
             None => return Ok(()),
             Some(next) => {
@@ -62,9 +69,24 @@ fn read_text<'a>(
     }
 }
 
+/// The place that the name stands for: the number of the instructions before its label.
+fn find_place(places: &Places<'_>, name: &[u8]) -> Option<usize>
+    ensures { result ≡ places_view places.now name.now }
+{
+    let Ok(index) = places
+        .labels
+        .binary_search_by(|label| compare_with(places.text, *label, name))
+    else {
+        return None;
+    };
+    let label = places.labels[index];
+    let before = places.drafts.iter().take_while(|draft| draft.start < label);
+    Some(before.count())
+}
+
 /// The number that is written, or the offset to the label, below the limit.
 fn value_of<'a>(
-    places: &Places<'a>,
+    places: &Places<'_>,
     written: Written<'a>,
     at: usize,
     limit: u64,
@@ -94,11 +116,7 @@ fn value_of<'a>(
 }
 
 /// The instruction that is written, at this place.
-fn resolve<'a>(
-    places: &Places<'a>,
-    written: &NumberedDraft<'a>,
-    at: usize,
-) -> Result<Insn, TextFault>
+fn resolve(places: &Places<'_>, written: &NumberedDraft<'_>, at: usize) -> Result<Insn, TextFault>
     ensures { TellsInsn (places_view places.now) at written.now.line (draft_view written.now.draft) result }
 {
     let line = written.line;
@@ -119,31 +137,39 @@ fn resolve<'a>(
 }
 
 /// The instructions that are written.
-fn resolve_all<'a>(
-    alloc: Global,
-    places: &Places<'a>,
-    drafts: &[NumberedDraft<'a>],
-) -> Result<Vec<Insn>, TextFault>
-    ensures tells { TellsInsns (targets_fault (places_view places.now) 0 (drafts_view drafts.now))
-        (places_view places.now) (drafts_view drafts.now) result }
-    ensures some { OnErr result (0 < length drafts.now) }
+fn resolve_all(alloc: Global, places: &Places<'_>) -> Result<Vec<Insn>, TextFault>
+    ensures tells { TellsInsns (targets_fault (places_view places.now) 0 (drafts_view places.now.drafts.now))
+        (places_view places.now) (drafts_view places.now.drafts.now) result }
+    ensures some { OnErr result (0 < length places.now.drafts.now) }
 {
     let mut insns = Vec::new(alloc);
-    for (at, draft) in drafts.iter().enumerate() {
+    for (at, draft) in places.drafts.iter().enumerate() {
         insns.push(resolve(places, draft, at)?)?;
     }
     Ok(insns)
 }
 
 /// What the statements of an ASCII text say.
+///
+/// A label that is given twice stands in no statement behind the one at which the reading ended, and in that one its
+/// fault comes first.
 fn read_all(alloc: Global, text: &[u8]) -> Result<Vec<Insn>, TextFault>
     ensures tells { TellsText (fault_in text.now) text.now result }
     ensures some { OnErr result (HaveTokens (statements_of text.now)) }
 {
-    let mut places = BTreeMap::new(alloc);
+    let mut labels = Vec::new(alloc);
     let mut drafts = Vec::new(alloc);
-    read_text(&mut places, &mut drafts, text)?;
-    resolve_all(alloc, &places, &drafts)
+    let read = read_text(text, &mut labels, &mut drafts);
+    check_labels(text, &mut labels)?;
+    read?;
+    resolve_all(
+        alloc,
+        &Places {
+            text,
+            labels: &labels,
+            drafts: &drafts,
+        },
+    )
 }
 
 /// What a text says.

@@ -10,6 +10,7 @@ ghost use Rattle.scf_text.specs.Drafts.{read_by, is_below, is_in_range};
 ghost use Rattle.scf_text.specs.Drafts as written;
 ghost use Rattle.scf_text.specs.internal.Mnemonics.{form_view};
 ghost use Rattle.scf_text.specs.internal.Parts.{words_in, others_in, statements_after};
+ghost use Rattle.scf_text.specs.internal.Places.{FollowsBehind};
 ghost use Rattle.scf_text.specs.internal.Results.{Reads};
 ghost use Rattle.scf_text.specs.internal.Views.{blank, number_view, written_view, draft_view};
 
@@ -151,13 +152,14 @@ fn fill<'a>(draft: &mut Draft<'a>, pieces: &[Piece], part: &'a [u8]) -> Option<O
     ensures said { fill_by number_of pieces.now (words_in part.now) (draft_view draft.old)
         ≡ option_map (λ _. draft_view draft.new) result }
     ensures stops { IfSome result (λ after. others_in part.now ≡ statements_after after) }
+    ensures behind { IfSome result (λ after. FollowsBehind part.now 0 after) }
 {
     let mut rest = part;
     for piece in pieces {
         match front(rest) {
             Next::End(_) => return None,
             Next::Token(token, behind) => {
-                if !put(draft, *piece, token) {
+                if !put(draft, *piece, token.text) {
                     return None;
                 }
                 rest = behind;
@@ -184,7 +186,7 @@ pub(crate) enum Reading<'a> {
 /// What a mnemonic and the tokens behind it say, in the first form of the mnemonic that has the tokens.
 pub(crate) fn read<'a>(draft: &mut Draft<'a>, mnemonic: &[u8], part: &'a [u8]) -> Reading<'a>
     ensures { Reads (list_any (has_mnemonic mnemonic.now) forms)
-        (read_by number_of forms mnemonic.now (words_in part.now)) (others_in part.now) (draft_view draft.new) result }
+        (read_by number_of forms mnemonic.now (words_in part.now)) part.now (draft_view draft.new) result }
 {
     let mut is_known = false;
     for form in Form::all() {

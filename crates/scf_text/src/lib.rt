@@ -5,10 +5,12 @@ mod assembler;
 mod draft;
 mod fault;
 mod form;
+mod label;
 mod laws;
 mod listing;
 mod numbered_draft;
 mod part;
+mod places;
 mod statement;
 mod token;
 

@@ -1,21 +1,34 @@
 //! The statements of a line, token by token.
 ghost use Rattle.std.specs.Prelude.{◌≡◌};
 ghost use Rattle.scf_text.specs.internal.Parts.{words_in, others_in, words_at, others_at};
+ghost use Rattle.scf_text.specs.internal.Places.{LiesBehind, BeginsAt};
 
-use crate::token::first_token;
+use crate::token::{Token, first_token};
+
+/// A part of a line without its comment: from where a statement begins to the end.
+#[derive(Clone, Copy)]
+pub(crate) struct Part<'a> {
+    /// The number of the line.
+    pub(crate) line: usize,
+    /// Where the part begins in the text.
+    pub(crate) start: usize,
+    pub(crate) bytes: &'a [u8],
+}
 
 /// What stands in front.
 #[derive(Clone, Copy)]
 pub(crate) enum Next<'a> {
-    /// A token of a statement, and what follows it.
-    Token(&'a [u8], &'a [u8]),
+    /// A token of a statement, whose start counts from that of the part, and what follows it.
+    Token(Token<'a>, &'a [u8]),
     /// The end of a statement, and what follows its `;`.
     End(Option<&'a [u8]>),
 }
 
 /// What stands in front of a part of a line.
 pub(crate) fn front(part: &[u8]) -> Next<'_>
-    ensures { (words_in part.now ≡ words_at result) × (others_in part.now ≡ others_at result) }
+    ensures words { (words_in part.now ≡ words_at result) × (others_in part.now ≡ others_at result) }
+    ensures behind { LiesBehind part.now 0 result }
+    ensures word { BeginsAt part.now result }
 {
     let Some(token) = first_token(part) else {
         return Next::End(None);
@@ -24,6 +37,6 @@ pub(crate) fn front(part: &[u8]) -> Next<'_>
     if token.text == b";".as_slice() {
         Next::End(Some(rest))
     } else {
-        Next::Token(token.text, rest)
+        Next::Token(token, rest)
     }
 }

@@ -1,19 +1,20 @@
 //! The statements of a text.
-ghost use Rattle.std.specs.Prelude.{◌≡◌, ◌≢◌, ◌∷◌, ◌++◌, [], List, IfOk, OnErr, IsSome};
-ghost use Rattle.std.specs.Option.{option_map};
+ghost use Rattle.std.specs.Prelude.{◌≡◌, ◌≢◌, ◌∷◌, ◌++◌, ◌+◌, ◌≤◌, [], ℕ, List, length, IfOk, OnErr, IsSome};
+ghost use Rattle.std.specs.Option.{option_map, unwrap_or};
 ghost use Rattle.scf_text.specs.Statements.{Statement, label_in, instruction_in};
-ghost use Rattle.scf_text.specs.internal.Reading.{places_view, drafts_view, IsLeft, Leaves, part_statements};
+ghost use Rattle.scf_text.specs.internal.Reading.{drafts_view, IsLeft, Leaves, part_statements};
 ghost use Rattle.scf_text.specs.internal.Parts.{words_in, others_in, words_at, others_at, statements_after};
+ghost use Rattle.scf_text.specs.internal.Places.{IsPart, FollowsBehind, LiesBehind, word_at, place_after};
 ghost use Rattle.scf_text.specs.internal.Results.{TellsDraft, AddsLabel, AddsInstruction};
 ghost use Rattle.scf_text.specs.internal.Views.{draft_view};
 
 use crate::draft::{Draft, Reading, is_token_name, read};
 use crate::fault::TextFault;
 use crate::form::Form;
+use crate::label::check_labels;
 use crate::numbered_draft::NumberedDraft;
-use crate::part::{Next, front};
+use crate::part::{Next, Part, front};
 use scf_insn::kernel::BPF_MAXINSNS;
-use std::collections::BTreeMap;
 
 /// Reads the instruction that a mnemonic and what follows it are, in this line and behind as many others, and gives
 /// what follows its statement.
@@ -27,6 +28,7 @@ fn read_instruction<'a>(
 ) -> Result<Option<&'a [u8]>, TextFault>
     ensures tells { TellsDraft at line mnemonic.now (words_in part.now) (draft_view draft.new) result }
     ensures stops { IfOk result (λ after. others_in part.now ≡ statements_after after) }
+    ensures behind { IfOk result (λ after. FollowsBehind part.now 0 after) }
 {
     let after = match read(draft, mnemonic, part) {
         Reading::Unknown => return Err(TextFault::Mnemonic { line }),
@@ -42,69 +44,64 @@ fn read_instruction<'a>(
     }
 }
 
-/// The places of labels.
-pub(crate) type Places<'a> = BTreeMap<&'a [u8], usize>;
-
-/// The place that the name stands for.
-pub(crate) fn find_place<'a>(places: &Places<'a>, name: &'a [u8]) -> Option<usize>
-    ensures { result ≡ places_view places.now name.now }
-{
-    places.get(&name).copied()
-}
-
-/// The label of the statement in front, and what stands in front of what follows it.
-fn split_label<'a>(part: &'a [u8]) -> (Option<&'a [u8]>, Next<'a>)
-    ensures label { option_map (λ name. name.now) result.0 ≡ label_in (words_in part.now) }
+/// Where the label of the statement in front begins in the part, and what stands in front of what follows it.
+fn split_label(part: &[u8]) -> (Option<usize>, Next<'_>)
+    ensures label { option_map (word_at part.now) result.0 ≡ label_in (words_in part.now) }
     ensures rest { words_at result.1 ≡ instruction_in (words_in part.now) }
-    ensures behind { others_at result.1 ≡ others_in part.now }
+    ensures stops { others_at result.1 ≡ others_in part.now }
+    ensures behind { LiesBehind part.now (unwrap_or result.0 0) result.1 }
 {
     let first = front(part);
     if let Next::Token(name, rest) = first {
         if let Next::Token(mark, rest) = front(rest) {
-            if is_token_name(name) && mark == b":".as_slice() {
-                return (Some(name), front(rest));
+            if is_token_name(name.text) && mark.text == b":".as_slice() {
+                return (Some(name.start), front(rest));
             }
         }
     }
     (None, first)
 }
 
-/// Adds a label, which stands for this place.
-fn add_label<'a>(
-    places: &mut Places<'a>,
-    label: Option<&'a [u8]>,
-    place: usize,
-    line: usize,
-) -> Result<(), TextFault>
-    ensures adds { AddsLabel (places_view places.old) place line (option_map (λ name. name.now) label.entry) result
-        (places_view places.new) }
-    ensures some { OnErr result (IsSome label.entry) }
+/// From how many labels on a repeat is looked for whenever their number has doubled.
+const FIRST_CHECKED: usize = 1 << 12;
+
+/// Keeps the label that begins at this place, if there is one.
+///
+/// A text that repeats short labels is refused before very many are kept.
+fn add_label(text: &[u8], labels: &mut Vec<usize>, label: Option<usize>) -> Result<(), TextFault>
+    ensures adds { AddsLabel text.now labels.old.items label result labels.new.items }
+    ensures some { OnErr result (IsSome label) }
 {
-    if let Some(name) = label {
-        if places.insert(name, place)?.is_some() {
-            return Err(TextFault::Label { line });
-        }
+    let Some(start) = label else {
+        return Ok(());
+    };
+    labels.push(start)?;
+    if labels.len() >= FIRST_CHECKED && labels.len().is_power_of_two() {
+        check_labels(text, labels)?;
     }
     Ok(())
 }
 
-/// Adds the instruction in front, if there is one, and gives what follows its statement.
+/// Adds the instruction in front, if there is one, of a statement that begins at this place, and gives what follows it.
+#[tactic(auto, using(crate::proofs::PlaceLemmas::follows_behind))]
 fn add_instruction<'a>(
     drafts: &mut Vec<NumberedDraft<'a>>,
     first: Next<'a>,
+    start: usize,
     line: usize,
 ) -> Result<Option<&'a [u8]>, TextFault>
-    ensures adds { AddsInstruction (drafts_view drafts.old.items) line (words_at first.entry) result
-        (drafts_view drafts.new.items) }
+    ensures adds { AddsInstruction drafts.old.items start line (words_at first.entry) result drafts.new.items }
     ensures stops { IfOk result (λ after. others_at first.entry ≡ statements_after after) }
+    ensures behind { IfOk result (λ after. (part : List ℕ) (place : ℕ)
+        → LiesBehind part place first.entry → FollowsBehind part place after) }
     ensures some { OnErr result (words_at first.entry ≢ []) }
 {
     match first {
         Next::End(after) => Ok(after),
         Next::Token(mnemonic, operands) => {
             let mut draft = Draft::blank(Form::raw());
-            let after = read_instruction(&mut draft, mnemonic, operands, drafts.len(), line)?;
-            drafts.push(NumberedDraft { line, draft })?;
+            let after = read_instruction(&mut draft, mnemonic.text, operands, drafts.len(), line)?;
+            drafts.push(NumberedDraft { line, start, draft })?;
             Ok(after)
         }
     }
@@ -112,38 +109,49 @@ fn add_instruction<'a>(
 
 /// Adds the label and the instruction of a statement, and gives what follows it.
 fn add_statement<'a>(
-    places: &mut Places<'a>,
+    text: &[u8],
+    labels: &mut Vec<usize>,
     drafts: &mut Vec<NumberedDraft<'a>>,
-    part: &'a [u8],
-    line: usize,
+    part: Part<'a>,
 ) -> Result<Option<&'a [u8]>, TextFault>
+    requires { IsPart text.now part.line part.start part.bytes.now }
     ensures leaves { (all rest : List Statement)
-        → IsLeft all ((record { line = line; tokens = words_in part.now }) ∷ rest) (places_view places.old)
-        (drafts_view drafts.old.items)
-        → Leaves result all rest (places_view places.new) (drafts_view drafts.new.items) }
-    ensures stops { IfOk result (λ after. others_in part.now ≡ statements_after after) }
+        → IsLeft text.now part.entry.start all
+        ((record { line = part.entry.line; tokens = words_in part.entry.bytes.now }) ∷ rest) labels.old.items
+        drafts.old.items
+        → Leaves text.now result all rest (λ after. place_after part.entry.start part.entry.bytes.now after)
+        labels.new.items drafts.new.items }
+    ensures stops { IfOk result (λ after. others_in part.entry.bytes.now ≡ statements_after after) }
+    ensures behind { IfOk result (λ after. FollowsBehind part.entry.bytes.now 0 after) }
 {
-    let (label, instruction) = split_label(part);
-    add_label(places, label, drafts.len(), line)?;
-    add_instruction(drafts, instruction, line)
+    let (label, instruction) = split_label(part.bytes);
+    let start = part.start + label.unwrap_or(0);
+    add_label(text, labels, label.map(|_| start))?;
+    add_instruction(drafts, instruction, start, part.line)
 }
 
 /// Adds the statements of a line without its comment.
 pub(crate) fn add_line<'a>(
-    places: &mut Places<'a>,
+    text: &[u8],
+    labels: &mut Vec<usize>,
     drafts: &mut Vec<NumberedDraft<'a>>,
-    bytes: &'a [u8],
-    line: usize,
+    line: Part<'a>,
 ) -> Result<(), TextFault>
+    requires { IsPart text.now line.line line.start line.bytes.now }
     ensures { (all rest : List Statement)
-        → IsLeft all (part_statements line bytes.now ++ rest) (places_view places.old) (drafts_view drafts.old.items)
-        → Leaves result all rest (places_view places.new) (drafts_view drafts.new.items) }
+        → IsLeft text.now line.entry.start all (part_statements line.entry.line line.entry.bytes.now ++ rest)
+        labels.old.items drafts.old.items
+        → Leaves text.now result all rest (λ _. line.entry.start + length line.entry.bytes.now + 1) labels.new.items
+        drafts.new.items }
 {
-    let mut rest = bytes;
+    let mut part = line;
     'statements: loop {
-        match add_statement(places, drafts, rest, line)? {
+        match add_statement(text, labels, drafts, part)? {
             None => return Ok(()),
-            Some(next) => rest = next,
+            Some(rest) => {
+                part.start += part.bytes.len() - rest.len();
+                part.bytes = rest;
+            }
         }
     }
 }

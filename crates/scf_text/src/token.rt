@@ -1,11 +1,13 @@
 //! The tokens of a text.
-ghost use Rattle.std.specs.Prelude.{◌≡◌, ◌≢◌, ℕ, ◌+◌, ◌≤◌, ◌<◌, ◌^◌, ◌++◌, ◌∷◌, [], not, length, drop};
+ghost use Rattle.std.specs.Prelude.{◌≡◌, ◌≢◌, ℕ, ◌+◌, ◌≤◌, ◌<◌, ◌^◌, ◌++◌, ◌∷◌, [], not, true, length, drop};
 ghost use Rattle.std.specs.Prelude.{OnOk, OnErr, IfOk, IfSome, MatchOption};
 ghost use Rattle.std.specs.List.{All, prefix_len};
 ghost use Rattle.scf_text.specs.Characters.{is_line_end, is_blank, is_word_byte};
+ghost use Rattle.scf_text.specs.Drafts.{is_name};
 ghost use Rattle.scf_text.specs.Tokens.{before_comment, lexemes_from, lines_of, tokens_of};
 ghost use Rattle.scf_text.specs.Tokens.{IsSliceOf, lexemes};
 ghost use Rattle.scf_text.specs.internal.Parts.{begins_comment, lines_after};
+ghost use Rattle.scf_text.specs.internal.Places.{count_ends, word_at};
 
 use scf_insn::Memory;
 use std::alloc::{AllocError, Global};
@@ -23,7 +25,7 @@ fn is_blank_byte(byte: u8) -> bool
     matches!(byte, b' ' | b'\t' | b'\r')
 }
 
-fn is_of_word(byte: u8) -> bool
+pub(crate) fn is_of_word(byte: u8) -> bool
     ensures { result ≡ is_word_byte byte }
 {
     byte.is_ascii_alphanumeric() || byte == b'_'
@@ -37,11 +39,13 @@ fn line_len(text: &[u8]) -> usize
 }
 
 /// The first line, and what follows its end.
-#[tactic(auto, using(crate::proofs::TokenLemmas::line_ends, crate::proofs::TokenLemmas::line_lasts))]
+#[tactic(auto, using(crate::proofs::TokenLemmas::lines_in_front))]
 pub(crate) fn first_line(text: &[u8]) -> (&[u8], Option<&[u8]>)
     ensures lines { lines_of text.now ≡ result.0.now ∷ lines_after result.1 }
     ensures len { MatchOption result.1 (result.0.now ≡ text.now)
         (λ rest. length text.now ≡ length result.0.now + 1 + length rest.now) }
+    ensures whole { MatchOption result.1 (text.now ≡ result.0.now) (λ rest. text.now ≡ result.0.now ++ 10 ∷ rest.now) }
+    ensures unbroken { count_ends result.0.now ≡ 0 }
 {
     let len = line_len(text);
     if len < text.len() {
@@ -101,6 +105,7 @@ pub(crate) fn first_token(part: &[u8]) -> Option<Token<'_>>
         → lexemes_from at part.now ≡ (record { start = at + t.start; text = t.text.now })
         ∷ lexemes_from (at + (t.start + length t.text.now)) (drop (t.start + length t.text.now) part.now)) }
     ensures some { IfSome result (λ t. 0 < length t.text.now) }
+    ensures word { IfSome result (λ t. is_name t.text.now ≡ true → word_at part.now t.start ≡ t.text.now) }
     ensures within { IfSome result (λ t. t.start + length t.text.now ≤ length part.now) }
 {
     let start = blanks_len(part);
@@ -145,7 +150,8 @@ pub(crate) fn push_tokens<'a>(
 /// Each borrows its slice of the text. `Memory` comes where memory was refused, and not where there is no token.
 ///
 /// These are the pieces that `assemble` works on. It looks for a byte that isn't ASCII first, and then takes them one
-/// by one from the text, and keeps none of them but the names of labels and numbers past 2^64-1.
+/// by one from the text, and keeps none of them but the names that jumps go to and numbers past 2^64-1. Of a label it
+/// keeps where it begins.
 #[tactic(auto, unfolding(crate::specs::Tokens::tokens_of))]
 pub fn tokens(alloc: Global, text: &[u8]) -> Result<Vec<Token<'_>>, Memory>
     ensures pieces { IfOk result (λ found. lexemes found.items ≡ tokens_of text.now) }

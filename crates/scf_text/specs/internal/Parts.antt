@@ -47,7 +47,7 @@ statements_after (Some rest) = words_in rest.now ∷ others_in rest.now
 
 -- the tokens of a statement, of which this stands in front
 abbrev pub words_at : Next → List (List ℕ)
-words_at (Token t rest) = t.now ∷ words_in rest.now
+words_at (Token t rest) = t.text.now ∷ words_in rest.now
 words_at (End rest) = []
 
 -- the tokens of the statements behind it

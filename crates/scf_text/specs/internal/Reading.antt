@@ -1,28 +1,16 @@
 -- What the code keeps of the statements that it has read.
-use Rattle.std.specs.Prelude.{◌≡◌, ◌≢◌, ℕ, List, [], ◌∷◌, ◌++◌, map, Option, None, Some, Result, Ok, Err}
-use Rattle.std.specs.Borrow.{Bor}
-use Rattle.std.specs.BTreeMap.{BTreeMap, get_by}
-use Rattle.std.specs.Cmp.Lexicographic.{slice_cmp}
-use Rattle.std.specs.List.{flat_map, enumerate_from}
-use Rattle.std.specs.Option.{option_to_list}
-use Rattle.std.specs.Map.{update}
-use Rattle.std.specs.Ordering.{nat_cmp}
-use Rattle.std.specs.Str.{bytes_eq}
+use Rattle.std.specs.Prelude.{◌≡◌, ◌≢◌, ℕ, ◌<◌, List, [], ◌∷◌, ◌++◌, map, Option, None, Result, Ok, Err}
+use Rattle.std.specs.List.{All, AllPairs, flat_map, enumerate_from}
+use Rattle.std.specs.List.Sorted.{IsPermutation}
+use Rattle.std.specs.Option.{option_map, option_or, option_to_list}
 use Rattle.scf_text.specs.declared.fault.TextFault.{TextFault}
 use Rattle.scf_text.specs.declared.numbered_draft.NumberedDraft.{NumberedDraft}
 use Rattle.scf_text.specs.Drafts as drafts
 use Rattle.scf_text.specs.Faults.{IsFault, statements_fault}
-use Rattle.scf_text.specs.Statements.{Statement, Places, place_of, places_in, drafts_in, line_statements}
+use Rattle.scf_text.specs.Statements.{Statement, place_of, labels_from, drafts_in, line_statements}
+use Rattle.scf_text.specs.internal.Labels.{Labels, labels_at, IsFirstRepeat, repeat_fault}
 use Rattle.scf_text.specs.internal.Parts.{words_in, others_in}
 use Rattle.scf_text.specs.internal.Views.{draft_view}
-
--- the places that a map has
-abbrev pub places_view : BTreeMap (Bor (List ℕ)) ℕ → Places
-places_view kept = λ name. get_by (λ key. slice_cmp nat_cmp name key.now) kept
-
--- names that stand for places, each with its place
-abbrev pub Labels : Type 0
-Labels = List (List ℕ × ℕ)
 
 -- each of the names is new: no earlier label has it
 abbrev pub AreNew : Labels → Labels → Type 0
@@ -33,10 +21,9 @@ AreNew earlier (l ∷ ls) = (place_of earlier l.0 ≡ None) × AreNew (earlier +
 abbrev pub label_at : ℕ → Option (List ℕ) → Labels
 label_at at label = map (λ name. (name, at)) (option_to_list label)
 
--- those, and the place of a label
-abbrev pub with_label : Places → ℕ → Option (List ℕ) → Places
-with_label places at None = places
-with_label places at (Some name) = update bytes_eq places name (Some at)
+-- where instructions begin
+abbrev pub begins_of : List NumberedDraft → List ℕ
+begins_of kept = map (λ d. d.start) kept
 
 abbrev pub drafts_view : List NumberedDraft → List (ℕ × drafts.Draft)
 drafts_view kept = map (λ l. (l.line, draft_view l.draft)) kept
@@ -54,16 +41,41 @@ part_statements line part =
 abbrev pub HaveTokens : List Statement → Type 0
 HaveTokens ss = flat_map (λ (s : Statement). s.tokens) ss ≢ []
 
--- Of all these statements those before the rest are read: what they give is kept, and none of them has a fault.
-pub record IsLeft (all rest : List Statement) (kept : Places) (kept_drafts : List (ℕ × drafts.Draft)) : Type 0 where
+-- Labels that were given are kept by where they begin, all before this place, as instructions are. The first fault of
+-- all these statements is the first repeat among the labels, or else a later one.
+pub record AreKept (text : List ℕ) (end : ℕ) (given : Labels) (all : List Statement) (later : Option TextFault)
+    (begins kept : List ℕ) : Type 0 where
+  pub labels : List ℕ
+  pub moved : IsPermutation labels kept
+  pub named : labels_at text begins labels ≡ given
+  pub rising : AllPairs (λ a b. a < b) labels
+  pub before : All (λ s. s < end) labels
+  pub begun : All (λ b. b < end) begins
+  pub repeat : Option ℕ
+  pub first : IsFirstRepeat text labels repeat
+  pub fault : statements_fault [] all ≡ option_or (option_map (repeat_fault text) repeat) later
+
+-- Of all these statements those before the rest are read, up to this place, and what they give is kept.
+pub record IsLeft (text : List ℕ) (end : ℕ) (all rest : List Statement) (kept : List ℕ)
+    (kept_drafts : List NumberedDraft) : Type 0 where
   pub before : List Statement
   pub whole : all ≡ before ++ rest
-  pub places : kept ≡ places_in before
-  pub drafts : kept_drafts ≡ flat_map drafts_in before
-  pub fault : statements_fault [] all ≡ statements_fault before rest
+  pub drafts : drafts_view kept_drafts ≡ flat_map drafts_in before
+  pub labels : AreKept text end (labels_from 0 before) all (statements_fault before rest) (begins_of kept_drafts) kept
 
--- All statements but the rest were read, or the first fault is among them, one that has a token.
-abbrev pub Leaves : {T : Type 0} → Result T TextFault → List Statement → List Statement → Places
-    → List (ℕ × drafts.Draft) → Type 0
-Leaves (Ok _) all rest kept kept_drafts = IsLeft all rest kept kept_drafts
-Leaves (Err e) all rest kept kept_drafts = IsFault e (statements_fault [] all) × HaveTokens all
+-- The reading ended at a statement with this fault, or where memory was refused. Labels are kept up to there, and if
+-- none of them is a repeat, the fault is the first.
+pub record IsEnded (text : List ℕ) (all : List Statement) (kept : List ℕ) (e : TextFault) : Type 0 where
+  pub end : ℕ
+  pub given : Labels
+  pub later : Option TextFault
+  pub begins : List ℕ
+  pub labels : AreKept text end given all later begins kept
+  pub fault : IsFirstRepeat text kept None → IsFault e later
+  pub some : HaveTokens all
+
+-- All statements but the rest were read, up to a place, or the reading ended among them.
+abbrev pub Leaves : {T : Type 0} → List ℕ → Result T TextFault → List Statement → List Statement → (T → ℕ) → List ℕ
+    → List NumberedDraft → Type 0
+Leaves text (Ok x) all rest end kept kept_drafts = IsLeft text (end x) all rest kept kept_drafts
+Leaves text (Err e) all rest end kept kept_drafts = IsEnded text all kept e

@@ -1,21 +1,27 @@
 -- What the functions of the assembler answer: what was asked for, or the fault that stands in its place.
-use Rattle.std.specs.Prelude.{◌≡◌, ℕ, ◌<◌, ◌^◌, Bool, true, false, List, [], ◌∷◌, ◌++◌, length, Option, Some, None}
-use Rattle.std.specs.Prelude.{Result, Ok, Err, IsTrue}
-use Rattle.std.specs.List.{AllByRecursion}
-use Rattle.std.specs.Option.{option_or}
+use Rattle.std.specs.Prelude.{◌≡◌, ℕ, ◌<◌, ◌^◌, Bool, true, false, List, [], ◌∷◌, ◌++◌, length, map, Option, Some, None}
+use Rattle.std.specs.Prelude.{Result, Ok, Err, IsTrue, nat_eq, ◌⊎◌}
+use Rattle.std.specs.List.{AllByRecursion, IsDistinct}
+use Rattle.std.specs.List.Sorted.{IsPermutation}
+use Rattle.std.specs.Option.{option_or, option_to_list}
 use Rattle.std.specs.Global.{Vec}
 use Rattle.scf_insn.specs.Insn.{IsInsn}
 use Rattle.scf_insn.specs.declared.insn.Insn.{Insn}
 use Rattle.scf_text.specs.declared.draft.Reading.{Reading}
 use Rattle.scf_text.specs.declared.draft.Reading.TheVariants.{Unknown, Unfit, Said}
 use Rattle.scf_text.specs.declared.fault.TextFault.{TextFault}
+use Rattle.scf_text.specs.declared.fault.TextFault.TheVariants as fault
+use Rattle.scf_text.specs.declared.numbered_draft.NumberedDraft.{NumberedDraft}
+use Rattle.scf_text.specs.declared.places.Places.{Places as Kept}
 use Rattle.scf_text.specs.Drafts as drafts
-use Rattle.scf_text.specs.Faults.{IsFault, label_fault, instruction_fault, statements_fault}
+use Rattle.scf_text.specs.Faults.{IsFault, instruction_fault, statements_fault}
 use Rattle.scf_text.specs.Faults.{target_fault, targets_fault}
 use Rattle.scf_text.specs.Spelling.{Says, SaysInsn, SaysEach}
-use Rattle.scf_text.specs.Statements.{Places, places_in, statements_of, drafts_of, drafts_by}
-use Rattle.scf_text.specs.internal.Parts.{statements_after}
-use Rattle.scf_text.specs.internal.Reading.{with_label}
+use Rattle.scf_text.specs.Statements.{Places, place_of, places_in, statements_of, drafts_of, drafts_by}
+use Rattle.scf_text.specs.internal.Labels.{labels_at, TellsRepeat}
+use Rattle.scf_text.specs.internal.Parts.{others_in, statements_after}
+use Rattle.scf_text.specs.internal.Places.{FollowsBehind}
+use Rattle.scf_text.specs.internal.Reading.{drafts_view, begins_of}
 
 -- the first fault of a text but for bytes that aren't ASCII
 unfoldable pub fault_in : List ℕ → Option TextFault
@@ -58,21 +64,29 @@ TellsDraft at line mnemonic operands draft (Ok _) =
     × (drafts.draft_of mnemonic operands ≡ Some draft)
 TellsDraft at line mnemonic operands draft (Err e) = instruction_fault at line (mnemonic ∷ operands) ≡ Some e
 
--- A label got this place, if there is one.
-abbrev pub AddsLabel : {T : Type 0} → Places → ℕ → ℕ → Option (List ℕ) → Result T TextFault → Places → Type 0
-AddsLabel old place line label (Ok _) new = (label_fault old line label ≡ None) × (new ≡ with_label old place label)
-AddsLabel old place line label (Err e) new = IsFault e (label_fault old line label)
+-- The label that begins at this place, if there is one, is kept with the others. Else memory was refused, or the first
+-- repeat among them is told.
+abbrev pub AddsLabel : {T : Type 0} → List ℕ → List ℕ → Option ℕ → Result T TextFault → List ℕ → Type 0
+AddsLabel text old label (Ok _) new = IsPermutation (old ++ option_to_list label) new
+AddsLabel {T} text old label (Err e) new =
+    ((new ≡ old) × (e ≡ fault.Memory))
+    ⊎ (IsPermutation (old ++ option_to_list label) new × (IsDistinct nat_eq new → TellsRepeat {T = T} text new (Err e)))
 
--- The instruction of these tokens, if there are any, stands behind the others.
-abbrev pub AddsInstruction : {T : Type 0} → List (ℕ × drafts.Draft) → ℕ → List (List ℕ) → Result T TextFault
-    → List (ℕ × drafts.Draft) → Type 0
-AddsInstruction old line tokens (Ok _) new =
-    (instruction_fault (length old) line tokens ≡ None) × (new ≡ old ++ drafts_by line tokens)
-AddsInstruction old line tokens (Err e) new = IsFault e (instruction_fault (length old) line tokens)
+-- The instruction of these tokens, if there are any, stands behind the others and begins at this place.
+abbrev pub AddsInstruction : {T : Type 0} → List NumberedDraft → ℕ → ℕ → List (List ℕ) → Result T TextFault
+    → List NumberedDraft → Type 0
+AddsInstruction old start line tokens (Ok _) new =
+    (instruction_fault (length old) line tokens ≡ None) × (drafts_view new ≡ drafts_view old ++ drafts_by line tokens)
+    × (begins_of new ≡ begins_of old ++ map (λ _. start) (drafts_by line tokens))
+AddsInstruction old start line tokens (Err e) new = IsFault e (instruction_fault (length old) line tokens)
 
--- A mnemonic is known or not, and it says this draft with the tokens behind it, or nothing.
-abbrev pub Reads : Bool → Option drafts.Draft → List (List (List ℕ)) → drafts.Draft → Reading → Type 0
-Reads known said others draft Unknown = known ≡ false
-Reads known said others draft Unfit = (known ≡ true) × (said ≡ None)
-Reads known said others draft (Said after) =
-    (known ≡ true) × (said ≡ Some draft) × (others ≡ statements_after after)
+-- A mnemonic is known or not, and it says this draft with the tokens of the part behind it, or nothing.
+abbrev pub Reads : Bool → Option drafts.Draft → List ℕ → drafts.Draft → Reading → Type 0
+Reads known said part draft Unknown = known ≡ false
+Reads known said part draft Unfit = (known ≡ true) × (said ≡ None)
+Reads known said part draft (Said after) =
+    (known ≡ true) × (said ≡ Some draft) × (others_in part ≡ statements_after after) × FollowsBehind part 0 after
+
+-- the places that labels stand for
+abbrev pub places_view : Kept → Places
+places_view kept = place_of (labels_at kept.text.now (begins_of kept.drafts.now) kept.labels.now)

@@ -1,36 +1,70 @@
-use Rattle.scf_text.proofs.Common.{[], ◌+◌, arith, err_from_is_err_and, lines_after, lines_of, statements_from}
-use Rattle.scf_text.proofs.ReadLemmas.{next_line}
+use Rattle.scf_text.proofs.Common.{◌≡◌, [], ◌+◌, ◌-◌, refl, length, arith, err_from_is_err_and, IsPermutation-refl, lines_after, lines_of, statements_from}
+use Rattle.scf_text.proofs.PlaceLemmas.{line_is_part, line_behind}
+use Rattle.scf_text.proofs.ReadLemmas.{next_line, place_left}
 use Rattle.scf_text.proofs.assembler.read_text.Goals as goal
 
 pub lines-init : goal.lines-init
-lines-init c = record { small = omega arith; left = λ all left. left }
+lines-init c =
+    let zero : length c.args.text.now - length c.args.text.now ≡ 0 = omega arith in
+    record {
+      small = omega arith;
+      within = omega arith;
+      rest = rw zero refl;
+      line = rw zero refl;
+      left = λ all left. rw zero left;
+    }
+
+pub add_line-requires : goal.add_line-requires
+add_line-requires c =
+    line_is_part c.args.text.now c.lines.rest.now c.first_line.result.0.now c.without_comment.result.now c.lines.number
+    (length c.args.text.now - length c.lines.rest.now) c.first_line.result.1 c.lines.invariant.rest
+    (omega (arith, c.lines.invariant.within)) c.lines.invariant.line c.first_line.ensures.whole
+    c.first_line.ensures.unbroken c.without_comment.ensures.value
 
 pub returns-in_err-add_line : goal.returns-in_err-add_line
 returns-in_err-add_line c = λ all left.
     let p = err_from_is_err_and c.from_residual.result c.from_residual.ensures.1 in
     let others = lines_after c.first_line.result.1 in
     let next = next_line c.lines.number c.lines.rest.now c.first_line.result.0.now c.without_comment.result.now others
-    c.first_line.ensures.lines c.without_comment.ensures.value in
-    rw (p.1, p.2)
-    (c.in_err-add_line.ensures all (statements_from (c.lines.number + 1) others)
-    (rw next at c.lines.invariant.left all left))
+    c.first_line.ensures.lines c.without_comment.ensures.value in (
+      0,
+      rw (p.1, p.2)
+          (c.in_err-add_line.ensures all (statements_from (c.lines.number + 1) others)
+          (rw next at c.lines.invariant.left all left)),
+    )
 
 pub returns-in-None : goal.returns-in-None
 returns-in-None c = λ all left.
     let lines = rw c.in-None.is at c.first_line.ensures.lines in
     let next = next_line c.lines.number c.lines.rest.now c.first_line.result.0.now c.without_comment.result.now [] lines
-    c.without_comment.ensures.value in
-    c.in_ok-add_line.ensures all [] (rw next at c.lines.invariant.left all left)
+    c.without_comment.ensures.value in (
+      length c.args.text.now - length c.lines.rest.now + length c.without_comment.result.now + 1,
+      c.in_ok-add_line.ensures all [] (rw next at c.lines.invariant.left all left),
+    )
 
 pub lines-preserved : goal.lines-preserved
 lines-preserved c =
+    let text = c.args.text.now in
+    let line = c.first_line.result.0.now in
+    let bytes = c.without_comment.result.now in
     let lines = rw c.in-Some.is at c.first_line.ensures.lines in
     let len = rw c.in-Some.is at c.first_line.ensures.len in
+    let whole = rw c.in-Some.is at c.first_line.ensures.whole in
+    let start = length text - length c.lines.rest.now in
+    let end : start + (length line + 1) ≡ length text - length c.in-Some.next.now =
+    omega (arith, len, c.lines.invariant.within) in
     let others = lines_of c.in-Some.next.now in
-    let next = next_line c.lines.number c.lines.rest.now c.first_line.result.0.now c.without_comment.result.now others
-    lines c.without_comment.ensures.value in
+    let next = next_line c.lines.number c.lines.rest.now line bytes others lines c.without_comment.ensures.value in
+    let behind = line_behind text c.lines.rest.now line c.in-Some.next.now c.lines.number start c.lines.invariant.rest
+    c.lines.invariant.line whole c.first_line.ensures.unbroken in
     record {
       small = omega (arith, len);
-      left = λ all left. c.in_ok-add_line.ensures all (statements_from (c.lines.number + 1) others)
-          (rw next at c.lines.invariant.left all left);
+      within = omega (arith, len, c.lines.invariant.within);
+      rest = rw (← end) behind.0;
+      line = rw (← end) behind.1;
+      left = λ all left. rw (← end)
+          (place_left (start + (length line + 1)) c.add_line.new.labels.items
+          (c.in_ok-add_line.ensures all (statements_from (c.lines.number + 1) others)
+          (rw next at c.lines.invariant.left all left)) (omega (arith, c.without_comment.ensures.len))
+          (IsPermutation-refl c.add_line.new.labels.items));
     }

@@ -1,12 +1,16 @@
-use Rattle.scf_text.proofs.Common.{◌≤◌, ◌+◌, List, length, lines_of, Statement, statements_from, statements_of, IsLeft, places_view, drafts_view}
+use Rattle.scf_text.proofs.Common.{◌≡◌, ◌≤◌, ◌+◌, ◌-◌, List, length, drop, lines_of, Statement, statements_from, statements_of, IsLeft, line_at}
 use Rattle.scf_text.proofs.assembler.read_text.Given as goal
 
 abbrev pub invariant-lines : goal.invariant-lines
 invariant-lines l = record {
   small : l.number + length l.rest ≤ 1 + length l.text;
+  within : length l.rest ≤ length l.text;
+  rest : l.rest ≡ drop (length l.text - length l.rest) l.text;
+  line : line_at l.text (length l.text - length l.rest) ≡ l.number;
   left : (all : List Statement)
-      → IsLeft all (statements_of l.text) (places_view l.fn.places) (drafts_view l.fn.drafts.items)
-      → IsLeft all (statements_from l.number (lines_of l.rest)) (places_view l.places) (drafts_view l.drafts.items);
+      → IsLeft l.text 0 all (statements_of l.text) l.fn.labels.items l.fn.drafts.items
+      → IsLeft l.text (length l.text - length l.rest) all (statements_from l.number (lines_of l.rest)) l.labels.items
+      l.drafts.items;
 }
 
 abbrev pub decreases-lines : goal.decreases-lines

@@ -4,7 +4,7 @@ use Rattle.scf_text.proofs.assembler.resolve_all.Goals as goal
 
 pub returns-clause-tells : goal.returns-clause-tells
 returns-clause-tells c =
-    let lines = c.args.drafts.now in
+    let lines = c.args.places.now.drafts.now in
     let places = places_view c.args.places.now in
     let insns = c.loop-at.insns.items in
     let none = drop_all c.loop-at.at lines c.loop-at-test.false in

@@ -3,9 +3,9 @@ use Rattle.scf_text.proofs.assembler.resolve_all.Given as goal
 
 abbrev pub invariant-loop-at : goal.invariant-loop-at
 invariant-loop-at l = record {
-  faults : targets_fault (places_view l.places) l.at (drafts_view (drop l.at l.drafts)) ≡ targets_fault
-      (places_view l.places) 0 (drafts_view l.drafts);
-  says : (more : List Insn) → SaysEach (places_view l.places) l.at (drafts_view (drop l.at l.drafts)) more
-      → SaysEach (places_view l.places) 0 (drafts_view l.drafts) (l.insns.items ++ more);
+  faults : targets_fault (places_view l.places) l.at (drafts_view (drop l.at l.places.drafts.now)) ≡ targets_fault
+      (places_view l.places) 0 (drafts_view l.places.drafts.now);
+  says : (more : List Insn) → SaysEach (places_view l.places) l.at (drafts_view (drop l.at l.places.drafts.now)) more
+      → SaysEach (places_view l.places) 0 (drafts_view l.places.drafts.now) (l.insns.items ++ more);
   fields : (more : List Insn) → AllByRecursion IsInsn more → AllByRecursion IsInsn (l.insns.items ++ more);
 }

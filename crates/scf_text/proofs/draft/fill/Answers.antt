@@ -1,7 +1,17 @@
-use Rattle.scf_text.proofs.Common.{sym, ◌∙◌, refl, drop_more, Len}
+use Rattle.scf_text.proofs.Common.{sym, ◌∙◌, refl, rules, arith, drop_more, Len}
+use Rattle.std.proofs.lemmas.Grind.{common_steps}
+use Rattle.scf_text.proofs.PlaceLemmas.{follows_behind}
 use Rattle.scf_text.proofs.draft.fill.Goals as goal
 
 pub returns-in-End-clause-said : goal.returns-in-End-clause-said
 returns-in-End-clause-said c =
     let more = drop_more c.args.pieces.now c.loop-piece.piece-index Len c.loop-piece-test.true in
-    sym c.loop-piece.invariant.said ∙ rw (more, c.in-End.ensures.0) refl
+    sym c.loop-piece.invariant.said ∙ rw (more, c.in-End.ensures.words.0) refl
+
+pub loop-piece-preserved : goal.loop-piece-preserved
+loop-piece-preserved c = record {
+  said = grind (arith, common_steps);
+  others = search rules;
+  behind = λ after h. c.loop-piece.invariant.behind after
+      (follows_behind after c.in-Token.ensures.behind h);
+}

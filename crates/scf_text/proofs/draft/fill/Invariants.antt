@@ -1,4 +1,4 @@
-use Rattle.scf_text.proofs.Common.{◌≡◌, drop, number_of, fill_by, words_in, others_in, draft_view}
+use Rattle.scf_text.proofs.Common.{◌≡◌, List, ℕ, Option, Bor, FollowsBehind, drop, number_of, fill_by, words_in, others_in, draft_view}
 use Rattle.scf_text.proofs.draft.fill.Given as goal
 
 abbrev pub invariant-loop-piece : goal.invariant-loop-piece
@@ -6,4 +6,5 @@ invariant-loop-piece l = record {
   said : fill_by number_of (drop l.piece-index l.pieces) (words_in l.rest) (draft_view l.draft)
       ≡ fill_by number_of l.pieces (words_in l.part) (draft_view l.fn.draft);
   others : others_in l.rest ≡ others_in l.part;
+  behind : (after : Option (Bor (List ℕ))) → FollowsBehind l.rest 0 after → FollowsBehind l.part 0 after;
 }

@@ -1,10 +1,16 @@
-use Rattle.scf_text.proofs.Common.{List, ◌++◌, length, Statement, others_in, IsLeft, part_statements, places_view, drafts_view}
+use Rattle.scf_text.proofs.Common.{◌≡◌, ◌+◌, List, ◌++◌, length, Statement, others_in, IsLeft, IsPart, part_statements}
 use Rattle.scf_text.proofs.statement.add_line.Given as goal
 
 abbrev pub invariant-statements : goal.invariant-statements
-invariant-statements l = (all rest : List Statement)
-    → IsLeft all (part_statements l.line l.bytes ++ rest) (places_view l.fn.places) (drafts_view l.fn.drafts.items)
-    → IsLeft all (part_statements l.line l.rest ++ rest) (places_view l.places) (drafts_view l.drafts.items)
+invariant-statements l = record {
+  part : IsPart l.text l.part.line l.part.start l.part.bytes.now;
+  end : l.part.start + length l.part.bytes.now ≡ l.line.start + length l.line.bytes.now;
+  left : (all rest : List Statement)
+      → IsLeft l.text l.line.start all (part_statements l.line.line l.line.bytes.now ++ rest) l.fn.labels.items
+      l.fn.drafts.items
+      → IsLeft l.text l.part.start all (part_statements l.part.line l.part.bytes.now ++ rest) l.labels.items
+      l.drafts.items;
+}
 
 abbrev pub decreases-statements : goal.decreases-statements
-decreases-statements l = length (others_in l.rest)
+decreases-statements l = length (others_in l.part.bytes.now)

@@ -1,28 +1,46 @@
-use Rattle.scf_text.proofs.Common.{rules, arith, ◌≡◌, ◌∙◌, sym, length, length-map, err_from_is_err_and, words_in, places_view, drafts_view}
-use Rattle.scf_text.proofs.ReadLemmas.{label_refused, statement_leaves, some_mapped, some_refused}
+use Rattle.scf_text.proofs.Common.{◌≡◌, ◌+◌, ℕ, Option, Err, IsSome, subst, AddsLabel, rules, err_from_is_err_and, option_map, unwrap_or, words_in, place_after}
+use Rattle.scf_text.proofs.PlaceLemmas.{place_within, instruction_behind}
+use Rattle.scf_text.proofs.ReadLemmas.{label_mapped, label_refused, some_refused, statement_leaves}
 use Rattle.scf_text.proofs.statement.add_statement.Goals as goal
 
 pub returns-clause-leaves : goal.returns-clause-leaves
 returns-clause-leaves c = λ all rest left.
-    let label = c.in_ok-add_label.ensures.adds in
-    let given = c.split_label.ensures.label in
-    let items : c.len.result ≡ length c.args.drafts.now.items =
-    first_of (search rules, omega (arith, c.len.ensures, c.args.drafts.now.ok)) in
-    let count : c.len.result ≡ length (drafts_view c.args.drafts.now.items) = items
-    ∙ sym (length-map c.args.drafts.now.items _) in
-    statement_leaves c.add_instruction.result
-    (record { line = c.args.line; tokens = words_in c.args.part.now }) all rest
-    (places_view c.args.places.now) (places_view c.add_label.new.places) (drafts_view c.args.drafts.now.items)
-    (drafts_view c.add_instruction.new.drafts.items) left (rw given at label.0) (rw (given, count) at label.1)
-    (rw c.split_label.ensures.rest at c.add_instruction.ensures.adds)
-    (some_refused c.add_instruction.result _ _ c.split_label.ensures.rest c.add_instruction.ensures.some)
+    let label = c.split_label-label.result.0 in
+    let next = c.split_label-label.result.1 in
+    let bytes = c.args.part.bytes.now in
+    let start = c.args.part.start in
+    let mapped : c.map.result ≡ option_map (λ _. start + unwrap_or label 0) label =
+    label_mapped label c.map.result (start + unwrap_or label 0) (search rules) in
+    let lies = c.split_label-label.ensures.behind in
+    statement_leaves (record { line = c.args.part.line; tokens = words_in bytes }) label
+    c.add_label.new.labels.items left c.requires c.split_label-label.ensures.label
+    (place_within bytes (unwrap_or label 0) next lies) c.add_instruction.result
+    (λ after. place_after start bytes after) c.add_instruction.new.drafts.items
+    (rw mapped at c.in_ok-add_label.ensures.adds)
+    (rw (c.unwrap_or.ensures, c.split_label-label.ensures.rest) at c.add_instruction.ensures.adds)
+    (instruction_behind c.add_instruction.result bytes start (unwrap_or label 0) next lies
+    c.add_instruction.ensures.behind).0
+    (some_refused c.add_instruction.result _ _ c.split_label-label.ensures.rest c.add_instruction.ensures.some)
+
+pub returns-clause-behind : goal.returns-clause-behind
+returns-clause-behind c =
+    (instruction_behind c.add_instruction.result c.args.part.bytes.now c.args.part.start
+    (unwrap_or c.split_label-label.result.0 0) c.split_label-label.result.1 c.split_label-label.ensures.behind
+    c.add_instruction.ensures.behind).1
 
 pub returns-in_err-add_label-clause-leaves : goal.returns-in_err-add_label-clause-leaves
 returns-in_err-add_label-clause-leaves c = λ all rest left.
     let p = err_from_is_err_and c.from_residual.result c.from_residual.ensures.1 in
-    let given = c.split_label.ensures.label in
+    let label = c.split_label-label.result.0 in
+    let bytes = c.args.part.bytes.now in
+    let start = c.args.part.start in
+    let mapped : c.map.result ≡ option_map (λ _. start + unwrap_or label 0) label =
+    label_mapped label c.map.result (start + unwrap_or label 0) (search rules) in
     rw (p.1, p.2)
-    (label_refused c.in_err-add_label.field-0.0 (record { line = c.args.line; tokens = words_in c.args.part.now }) all
-    rest (places_view c.args.places.now) (drafts_view c.args.drafts.now.items) left
-    (some_mapped c.split_label.result.0 _ given c.in_err-add_label.ensures.some)
-    (rw given at c.in_err-add_label.ensures.adds))
+    (label_refused (record { line = c.args.part.line; tokens = words_in bytes }) label
+    c.add_label.new.labels.items left c.requires c.split_label-label.ensures.label
+    (place_within bytes (unwrap_or label 0) c.split_label-label.result.1 c.split_label-label.ensures.behind)
+    c.in_err-add_label.field-0.0
+    (subst (λ (o : Option ℕ). AddsLabel {T = Unit {0}} c.args.text.now c.args.labels.now.items o
+    (Err c.in_err-add_label.field-0.0) c.add_label.new.labels.items) mapped c.in_err-add_label.ensures.adds)
+    (subst (λ (o : Option ℕ). IsSome o) mapped c.in_err-add_label.ensures.some))

@@ -1,0 +1,181 @@
+-- Where the parts of a line stand in the text.
+use Rattle.scf_text.proofs.Common.{◌≡◌, ℕ, ◌+◌, ◌-◌, ◌<◌, ◌≤◌, false, List, [], ◌∷◌, ◌++◌, length, take, drop, Option, Some, None, Result, Ok, Err, IfOk, refl, sym, ap, ◌∙◌, append_assoc, append-nil, arith, inl, inr, filter, filter-append, take_while, take_rest, drop-append-add, cases_Bool, MatchOption, Bor, drop-drop, drop-append-le, take-add, take-append-le, take-append-add, take-append-drop, length-append, length-drop, length-filter, is_line_end, is_word_byte, count_ends, begins_in_word, before_comment, IsPart, IsBehind, FollowsBehind, LiesBehind, word_at, line_at, place_after}
+use Rattle.scf_text.specs.declared.part.Next.{Next}
+use Rattle.scf_text.specs.declared.part.Next.TheVariants as next
+use Rattle.scf_text.proofs.TokenLemmas.{prefix_more, comment_of}
+
+count_append : (xs ys : List ℕ) → count_ends (xs ++ ys) ≡ count_ends xs + count_ends ys
+count_append xs ys =
+    omega (
+      arith,
+      length-filter is_line_end (xs ++ ys),
+      ap length (filter-append is_line_end xs ys),
+      length-append (filter is_line_end xs) (filter is_line_end ys),
+      length-filter is_line_end xs,
+      length-filter is_line_end ys,
+    )
+
+lines_before : (text bytes : List ℕ) (place n : ℕ) → take n (drop place text) ≡ bytes
+    → line_at text (place + n) ≡ line_at text place + count_ends bytes
+lines_before text bytes place n e =
+    rw (take-add place n text)
+    (omega (arith, count_append (take place text) (take n (drop place text)), ap count_ends e))
+
+rest_whole : (text part behind : List ℕ) (start n : ℕ) → drop start text ≡ part ++ behind → n ≤ length part
+    → drop (start + n) text ≡ drop n part ++ behind
+rest_whole text part behind start n whole le =
+    sym (drop-drop n start text) ∙ ap (drop n) whole ∙ drop-append-le n part behind le
+
+-- what follows in the part
+pub rest_is_part : (text part rest : List ℕ) (line start n : ℕ) → IsPart text line start part → n ≤ length part
+    → rest ≡ drop n part → IsPart text line (start + n) rest
+rest_is_part text part rest line start n p le e =
+    let both = count_append (take n part) (drop n part) in
+    let all = ap count_ends (take-append-drop n part) in
+    let front : take n (drop start text) ≡ take n part = ap (take n) p.whole ∙ take-append-le n part p.behind le in
+    let short : length rest ≡ length part - n = ap length e ∙ length-drop n part in
+    record {
+      behind = p.behind;
+      whole = rest_whole text part p.behind start n p.whole le ∙ ap (λ (bs : List ℕ). bs ++ p.behind) (sym e);
+      ends = p.ends;
+      numbered = omega (arith, lines_before text (take n part) start n front, both, all, p.unbroken, p.numbered);
+      unbroken = omega (arith, both, all, p.unbroken, ap count_ends e);
+      within = omega (arith, p.within);
+    }
+
+-- no more lines end within the part
+pub line_of_part : (text part : List ℕ) (line start n : ℕ) → IsPart text line start part → n ≤ length part
+    → line_at text (start + n) ≡ line
+line_of_part text part line start n p le =
+    (rest_is_part text part (drop n part) line start n p le refl).numbered
+
+word_ends : (xs ys : List ℕ) → begins_in_word ys ≡ false
+    → take_while is_word_byte (xs ++ ys) ≡ take_while is_word_byte xs
+word_ends [] [] h = refl
+word_ends [] (y ∷ ys) h = rw h refl
+word_ends (x ∷ xs) ys h =
+    elim (cases_Bool (is_word_byte x)) [
+      | inl word ↦ rw (prefix_more is_word_byte x (xs ++ ys) word, prefix_more is_word_byte x xs word)
+          (ap (λ (bs : List ℕ). x ∷ bs) (word_ends xs ys h))
+      | inr other ↦ rw other refl
+    ]
+
+-- a word of the part is the word at its place in the text
+pub word_of_part : (text part : List ℕ) (line start n : ℕ) → IsPart text line start part → n ≤ length part
+    → word_at text (start + n) ≡ word_at part n
+word_of_part text part line start n p le =
+    ap (take_while is_word_byte) (rest_whole text part p.behind start n p.whole le)
+    ∙ word_ends (drop n part) p.behind p.ends
+
+behind_line : (comment rest : List ℕ) → begins_in_word comment ≡ false → begins_in_word rest ≡ false
+    → begins_in_word (comment ++ rest) ≡ false
+behind_line [] rest h k = k
+behind_line (c ∷ cs) rest h k = h
+
+shown_is_part : (text line bytes after : List ℕ) (number start : ℕ) → drop start text ≡ line ++ after
+    → start + (length line + length after) ≤ length text → begins_in_word after ≡ false
+    → line_at text start ≡ number → count_ends line ≡ 0 → bytes ≡ before_comment line
+    → IsPart text number start bytes
+shown_is_part text line bytes after number start whole within ends numbered unbroken shown =
+    let comment = comment_of line in
+    let split : line ≡ bytes ++ comment.0 = rw shown comment.1 in
+    let both = count_append bytes comment.0 in
+    let long : length line ≡ length bytes + length comment.0 = ap length split ∙ length-append bytes comment.0 in
+    record {
+      behind = comment.0 ++ after;
+      whole = whole ∙ ap (λ (bs : List ℕ). bs ++ after) split ∙ append_assoc bytes comment.0 after;
+      ends = behind_line comment.0 after comment.2 ends;
+      numbered = numbered;
+      unbroken = omega (arith, both, ap count_ends split);
+      within = omega arith;
+    }
+
+-- a line without its comment
+pub line_is_part : (text rest line bytes : List ℕ) (number start : ℕ) (after : Option (Bor (List ℕ)))
+    → rest ≡ drop start text → start + length rest ≤ length text → line_at text start ≡ number
+    → MatchOption after (rest ≡ line) (λ next. rest ≡ line ++ 10 ∷ next.now) → count_ends line ≡ 0
+    → bytes ≡ before_comment line → IsPart text number start bytes
+line_is_part text rest line bytes number start None e within numbered whole unbroken shown =
+    shown_is_part text line bytes [] number start (sym e ∙ whole ∙ sym (append-nil line))
+    (omega (arith, ap length whole)) refl numbered unbroken shown
+line_is_part text rest line bytes number start (Some next) e within numbered whole unbroken shown =
+    shown_is_part text line bytes (10 ∷ next.now) number start (sym e ∙ whole)
+    (omega (arith, ap length whole, length-append line (10 ∷ next.now))) refl numbered unbroken shown
+
+-- what follows a line
+pub line_behind : (text rest line next : List ℕ) (number start : ℕ) → rest ≡ drop start text
+    → line_at text start ≡ number → rest ≡ line ++ 10 ∷ next → count_ends line ≡ 0
+    → (next ≡ drop (start + (length line + 1)) text) × (line_at text (start + (length line + 1)) ≡ number + 1)
+line_behind text rest line next number start e numbered whole unbroken =
+    let front : take (length line + 1) (drop start text) ≡ line ++ 10 ∷ [] =
+    ap (take (length line + 1)) (sym e ∙ whole) ∙ take-append-add line (10 ∷ next) 1 in (
+      sym (sym (drop-drop (length line + 1) start text) ∙ ap (drop (length line + 1)) (sym e ∙ whole)
+          ∙ drop-append-add line (10 ∷ next) 1),
+      omega (arith, lines_before text (line ++ 10 ∷ []) start (length line + 1) front, count_append line (10 ∷ [])),
+    )
+
+-- what follows the rest of a part follows the part
+
+pub token_behind : (part : List ℕ) (place start len : ℕ) → place ≤ start → 0 < len → start + len ≤ length part
+    → IsBehind part place (take (length part - (start + len)) (drop (start + len) part))
+token_behind part place start len le some within =
+    record { start = start + len; later = omega arith; within = within; is = take_rest part (start + len) }
+
+rest_len : {part rest : List ℕ} {place : ℕ} (b : IsBehind part place rest) → length rest ≡ length part - b.start
+rest_len {part} b = ap length b.is ∙ length-drop b.start part
+
+behind_behind : {part rest end : List ℕ} {place : ℕ} → IsBehind part place rest → IsBehind rest 0 end
+    → IsBehind part place end
+behind_behind {part} b d =
+    let len = rest_len b in
+    record {
+      start = b.start + d.start;
+      later = omega arith;
+      within = omega arith;
+      is = d.is ∙ ap (drop d.start) b.is ∙ drop-drop d.start b.start part;
+    }
+
+pub follows_behind : {part rest : List ℕ} {place : ℕ} (after : Option (Bor (List ℕ))) → IsBehind part place rest
+    → FollowsBehind rest 0 after → FollowsBehind part place after
+follows_behind None b d = omega arith
+follows_behind (Some end) b d = behind_behind b d
+
+pub lies_behind : {part rest : List ℕ} {place : ℕ} (next : Next) → IsBehind part place rest → LiesBehind rest 0 next
+    → LiesBehind part place next
+lies_behind (next.Token t end) b d = behind_behind b d
+lies_behind (next.End after) b d = follows_behind after b d
+
+-- where it begins
+after_place : (part : List ℕ) (start place : ℕ) (after : Option (Bor (List ℕ))) → FollowsBehind part place after
+    → start + place + 1 ≤ place_after start part after
+after_place part start place None h = omega arith
+after_place part start place (Some rest) h = let len = rest_len h in omega arith
+
+pub place_within : (part : List ℕ) (place : ℕ) (next : Next) → LiesBehind part place next → place ≤ length part
+place_within part place (next.Token t rest) h = omega arith
+place_within part place (next.End None) h = h
+place_within part place (next.End (Some rest)) h = omega arith
+
+-- what follows a statement is a part again
+pub behind_is_part : (text part rest : List ℕ) (line start : ℕ) → IsPart text line start part → IsBehind part 0 rest
+    → IsPart text line (start + (length part - length rest)) rest × (length rest ≤ length part)
+behind_is_part text part rest line start p b =
+    let len = rest_len b in
+    let n : b.start ≡ length part - length rest = omega arith in
+    (rw (← n) (rest_is_part text part rest line start b.start p b.within b.is), omega arith)
+
+follows_part : (part : List ℕ) (place : ℕ) (after : Option (Bor (List ℕ))) → FollowsBehind part place after
+    → FollowsBehind part 0 after
+follows_part part place None h = omega arith
+follows_part part place (Some rest) h =
+    record { start = h.start; later = omega arith; within = h.within; is = h.is }
+
+pub instruction_behind : {E : Type 0} (r : Result (Option (Bor (List ℕ))) E) (bytes : List ℕ) (start place : ℕ)
+    (next : Next) → LiesBehind bytes place next
+    → IfOk r (λ after. (part : List ℕ) (place : ℕ) → LiesBehind part place next → FollowsBehind part place after)
+    → IfOk r (λ after. start + place + 1 ≤ place_after start bytes after)
+    × IfOk r (λ after. FollowsBehind bytes 0 after)
+instruction_behind (Ok after) bytes start place next lies h =
+    let behind = h bytes place lies in
+    (after_place bytes start place after behind, follows_part bytes place after behind)
+instruction_behind (Err e) bytes start place next lies h = (tt, tt)

@@ -1,0 +1,97 @@
+//! The labels of a text, kept by the places where they begin.
+ghost use Rattle.std.specs.Prelude.{◌≡◌, nat_eq, drop};
+ghost use Rattle.std.specs.Cmp.Lexicographic.{slice_cmp};
+ghost use Rattle.std.specs.List.{IsDistinct};
+ghost use Rattle.std.specs.List.Sorted.{IsPermutation, IsSortedBy};
+ghost use Rattle.std.specs.Ordering.{nat_cmp};
+ghost use Rattle.scf_text.specs.internal.Labels.{compared, is_before, IsFirstRepeat, TellsRepeat};
+ghost use Rattle.scf_text.specs.internal.Places.{word_at, line_at};
+
+use crate::fault::TextFault;
+use crate::token::is_of_word;
+use std::cmp::Ordering;
+
+/// What stands from this place on.
+fn text_from(text: &[u8], place: usize) -> &[u8]
+    ensures { result.now ≡ drop place text.now }
+{
+    text.get(place..).unwrap_or_default()
+}
+
+/// Compares the words at two places, no further than they are alike.
+fn compare_words(text: &[u8], left: usize, right: usize) -> Ordering
+    ensures { result ≡ slice_cmp nat_cmp (word_at text.now left) (word_at text.now right) }
+{
+    let left = text_from(text, left)
+        .iter()
+        .take_while(|byte| is_of_word(**byte));
+    let right = text_from(text, right)
+        .iter()
+        .take_while(|byte| is_of_word(**byte));
+    left.cmp(right)
+}
+
+/// Compares the word at this place with another, no further than they are alike.
+pub(crate) fn compare_with(text: &[u8], place: usize, name: &[u8]) -> Ordering
+    ensures { result ≡ slice_cmp nat_cmp (word_at text.now place) name.now }
+{
+    let word = text_from(text, place)
+        .iter()
+        .take_while(|byte| is_of_word(**byte));
+    word.cmp(name.iter())
+}
+
+/// Compares labels by their names, and those of one name by where they begin.
+fn compare_labels(text: &[u8], left: usize, right: usize) -> Ordering
+    ensures { result ≡ compared text.now left right }
+{
+    compare_words(text, left, right).then(left.cmp(&right))
+}
+
+/// The number of the line in which this place is.
+fn line_at(text: &[u8], place: usize) -> usize
+    ensures { result ≡ line_at text.now place }
+{
+    let before = text.get(..place).unwrap_or(text);
+    1 + before.iter().filter(|byte| **byte == b'\n').count()
+}
+
+/// The first label that has the name of an earlier one, where labels are sorted.
+fn first_repeat(text: &[u8], labels: &[usize]) -> Option<usize>
+    requires { IsSortedBy (is_before text.now) labels.now }
+    // No label begins where another does.
+    ensures { IsDistinct nat_eq labels.now → IsFirstRepeat text.now labels.now result }
+{
+    let mut first = None;
+    for index in 1..labels.len() {
+        let label = labels[index];
+        if compare_words(text, labels[index - 1], label).is_eq() {
+            first = Some(first.map_or(label, |earlier: usize| earlier.min(label)));
+        }
+    }
+    first
+}
+
+/// Sorts labels by their names, and those of one name by where they begin.
+fn sort_labels(text: &[u8], labels: &mut [usize])
+    ensures permutation { IsPermutation labels.old labels.new }
+    ensures sorted { IsSortedBy (is_before text.now) labels.new }
+{
+    labels.sort_unstable_by(|left, right| compare_labels(text, *left, *right));
+}
+
+/// Sorts labels, and looks for the first that has the name of an earlier one.
+pub(crate) fn check_labels(text: &[u8], labels: &mut [usize]) -> Result<(), TextFault>
+    ensures permutation { IsPermutation labels.old labels.new }
+    ensures sorted { IsSortedBy (is_before text.now) labels.new }
+    // No label begins where another does.
+    ensures tells { IsDistinct nat_eq labels.new → TellsRepeat text.now labels.new result }
+{
+    sort_labels(text, labels);
+    match first_repeat(text, labels) {
+        Some(label) => Err(TextFault::Label {
+            line: line_at(text, label),
+        }),
+        None => Ok(()),
+    }
+}
