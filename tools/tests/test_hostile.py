@@ -3,8 +3,11 @@
 What is expected comes from the formats: an answer, a fault's line, or one of two verdicts where both are true. The
 bounds on time and memory leave room for slow machines; what grows with the square of a long input is beyond them.
 """
+import itertools
 import json
 import os
+import random
+import string
 import subprocess
 import tempfile
 import threading
@@ -12,7 +15,7 @@ import threading
 from common import ALLOW, KILL_PROCESS, SCF, X86_64, Case, insn, jeq, jge, limited, load, part, ret
 
 LIMIT_OF_FILTER, LIMIT_OF_TEXT, LIMIT_OF_INPUT = 32768, 4194304, 16777216
-# Seconds of a processor: 1.8 are measured of a text of many labels, and 0.9 of a million steps.
+# Seconds of a processor: 7 are measured of a text of many labels in no order, and 0.9 of a million steps.
 SECONDS, MEGABYTES = 30, 640
 GATE = load(4) + jeq(X86_64, 0, 2) + load(0) + jge(0x40000000, 0, 1) + ret(KILL_PROCESS)
 ALLOWS = b'{"defaultAction":"SCMP_ACT_ALLOW"}'
@@ -59,16 +62,16 @@ class Hostile(Case):
     def setUpClass(cls):
         subprocess.run([SCF, "--help"], stdin=subprocess.DEVNULL, stdout=subprocess.DEVNULL, check=True)
 
-    def ends(self, words, data, *expected):
+    def ends(self, words, data, *expected, most=MEGABYTES):
         """It ends soon, in little memory, with one of these statuses and outputs; an output of None may be any."""
         status, out, seconds, megabytes = run(words, data)
         self.assertIn((status, out), [(want, out if text is None else text) for want, text in expected], out[:200])
         self.assertLess(seconds, SECONDS)
-        self.assertLess(megabytes, MEGABYTES)
+        self.assertLess(megabytes, most)
         return out
 
-    def faults(self, words, data, line, status):
-        self.ends(words, data, (status, line.encode() + b"\n"))
+    def faults(self, words, data, line, status, most=MEGABYTES):
+        self.ends(words, data, (status, line.encode() + b"\n"), most=most)
 
     def test_cut_filters(self):
         gate = load(4) + jeq(X86_64, 1, 0) + ret(KILL_PROCESS) + ret(ALLOW)
@@ -177,6 +180,21 @@ class Hostile(Case):
             self.ends(["asm"], text, (0, b""))
         self.faults(["asm"], b"a:\n" * (LIMIT_OF_INPUT // 3), "fault text Label line 2", 1)
         self.ends(["asm"], b"".join(b"l%06x:\n" % number for number in range(LIMIT_OF_INPUT // 9)), (0, b""))
+
+    def test_texts_of_labels(self):
+        """No more than three times the text is kept, however short its labels are, and whatever their order."""
+        most = 3 * LIMIT_OF_INPUT / 2**20
+        letters = string.ascii_letters.encode()
+        names = [bytes(it) for it in itertools.islice(itertools.product(letters, repeat=4), LIMIT_OF_INPUT // 6)]
+        for order in names, names[::-1], random.Random(1).sample(names, len(names)):
+            self.ends(["asm"], b":\n".join(order) + b":", (0, b""), most=most)
+        half = LIMIT_OF_INPUT // 12
+        text = b":\n".join(names[:half]) + b":\n"
+        again = b"a:;" * ((LIMIT_OF_INPUT - len(text)) // 3)
+        first = f"line {half + 1}"
+        self.faults(["asm"], text + again, f"fault text Label {first}", 1, most)
+        self.faults(["asm"], text + names[0] + b":ld\nld", f"fault text Label {first}", 1, most)
+        self.faults(["asm"], text + b"ld\n" + names[0] + b":", f"fault text Operand {first}", 1, most)
 
     def test_one_byte_too_long(self):
         self.faults(["check"], ret(ALLOW) * (LIMIT_OF_FILTER // 8) + b"\0", "fault filter TooLong", 3)
