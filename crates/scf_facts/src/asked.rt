@@ -19,6 +19,7 @@ pub(crate) enum Asked {
 
 impl Asked {
     /// What the atom asks. A mask of all bits asks for one number, and one of all bits from one on for a range.
+    #[tactic(auto, using(crate::proofs::HighMasks::high_range))]
     pub(crate) fn of(atom: Atom) -> Asked
         ensures asks { Asks atom result }
         ensures simple { AsksSimply atom result }

@@ -68,6 +68,7 @@ impl WordFacts for AtomList {
         Ok(())
     }
 
+    #[tactic(auto, using(crate::proofs::AtomLaws::learned_closed))]
     fn undo(&mut self) {
         if let Some(count) = self.marks.pop() {
             self.learned.truncate(count);

@@ -49,6 +49,7 @@ pub(crate) fn pick_by_word(sets: &[WordSet]) -> Option<[u32; 16]>
 }
 
 /// Gives the atom's word another of its numbers, one of which the atom is false, if it is found.
+#[tactic(auto, using(crate::proofs::StoreLaws::allows_other))]
 pub(crate) fn refute(sets: &[WordSet], atom: Atom, words: &mut [u32; 16]) -> bool
     requires sixteen { length sets.now ≡ 16 }
     requires word { word_of atom < 16 }

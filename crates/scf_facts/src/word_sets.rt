@@ -66,6 +66,7 @@ impl WordFacts for WordSets {
         })
     }
 
+    #[tactic(auto, using(crate::proofs::TrailLaws::known_now, crate::proofs::TrailLaws::exact_learned))]
     fn learn(&mut self, atom: Atom, holds: bool) -> Result<(), Memory> {
         let word = atom.word();
         make_room(&mut self.trail, &self.marks)?;

@@ -1,6 +1,6 @@
-use Rattle.scf_facts.proofs.Common.{arith, refl}
+use Rattle.scf_facts.proofs.Common.{arith}
 use Rattle.scf_facts.proofs.CountLaws.{rising_more}
-use Rattle.scf_facts.proofs.AtomLaws.{allows_pushed, learned_pushed}
+use Rattle.scf_facts.proofs.AtomLaws.{allows_pushed}
 use Rattle.scf_facts.proofs.atom_list.AtomListWordFacts.learn_not_both.Goals as goal
 
 pub invariant_of-self : goal.invariant_of-self
@@ -11,11 +11,3 @@ invariant_of-self c = record {
 pub returns-clause-law_not_both : goal.returns-clause-law_not_both
 returns-clause-law_not_both c =
     rw c.in_ok-push.ensures.items (allows_pushed c.args.self.now.learned.items _ c.args.self.now.marks.items)
-
-pub returns-clause-at_marks : goal.returns-clause-at_marks
-returns-clause-at_marks c = λ place lt.
-    rw (
-      c.in_ok-push.ensures.items,
-      learned_pushed c.args.self.now.learned.items _ c.args.self.now.marks.items place
-          c.args.self.now.rising lt,
-    ) (λ words. (λ h. h, λ h. h), refl)

@@ -22,11 +22,3 @@ returns-clause-law_learn c = λ words.
     simp known_now (allows_learned facts.sets.items facts.pairs.items c.word-word.result
     c.index_mut.result.now c.learn.new.self within c.index_mut.ensures.value c.args.atom c.args.holds
     c.word-word.ensures c.in_ok-former.ensures.learned words)
-
-pub returns-clause-exact : goal.returns-clause-exact
-returns-clause-exact c = λ keeps.
-    let facts = c.args.self.now in
-    let within : c.word-word.result < length facts.sets.items =
-    omega (arith, c.word-word.ensures, c.requires.word, facts.sixteen) in
-    simp known_now (exact_learned facts.sets.items facts.pairs.items c.word-word.result
-    c.index_mut.result.now c.learn.new.self within c.index_mut.ensures.value (c.in_ok-former.ensures.exact keeps))
