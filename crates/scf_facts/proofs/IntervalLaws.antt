@@ -5,32 +5,15 @@ use Rattle.scf_facts.proofs.Common.{◌≡◌, ◌⊎◌, inl, inr, ℕ, zero, s
 
 lies_append : (is js : List Interval) (x : ℕ) → LiesInOne (is ++ js) x ↔ (LiesInOne is x ⊎ LiesInOne js x)
 lies_append [] js x = (inr, λ h. elim h [ inl none ↦ absurd none | inr there ↦ there ])
-lies_append (i ∷ is) js x =
-    let more = lies_append is js x in (
-      λ h. elim h [
-        | inl here ↦ inl (inl here)
-        | inr later ↦ elim (more.0 later) [ inl l ↦ inl (inr l) | inr r ↦ inr r ]
-      ],
-      λ h. elim h [
-        | inl l ↦ elim l [ inl here ↦ inl here | inr later ↦ inr (more.1 (inl later)) ]
-        | inr r ↦ inr (more.1 (inr r))
-      ],
-    )
+lies_append (i ∷ is) js x = grind (arith, lies_append is js x)
 
-lies_under : (range : Interval) (is : List Interval) (x : ℕ)
-    → All (λ i. i.high < range.low) is → LiesInOne is x → x < range.low
-lies_under range [] x all h = absurd h
-lies_under range (i ∷ is) x all h = elim h [
-  | inl here ↦ omega (arith, here.1, all 0 i (omega arith))
-  | inr later ↦ lies_under range is x (λ k d lt. all (suc k) d (omega arith)) later
-]
-
-lies_over : (range : Interval) (is : List Interval) (x : ℕ)
-    → All (λ i. range.high < i.low) is → LiesInOne is x → range.high < x
-lies_over range [] x all h = absurd h
-lies_over range (i ∷ is) x all h = elim h [
-  | inl here ↦ omega (arith, here.0, all 0 i (omega arith))
-  | inr later ↦ lies_over range is x (λ k d lt. all (suc k) d (omega arith)) later
+-- what each number of each interval has, a number in one of them has
+lies_within : (P : ℕ → Type 0) (is : List Interval) (x : ℕ)
+    → All (λ i. (y : ℕ) → LiesIn i y → P y) is → LiesInOne is x → P x
+lies_within P [] x all h = absurd h
+lies_within P (i ∷ is) x all h = elim h [
+  | inl here ↦ all 0 i (omega arith) x here
+  | inr later ↦ lies_within P is x (λ k d lt. all (suc k) d (omega arith)) later
 ]
 
 lies_from : (least : ℕ) (is : List Interval) (x : ℕ) → AreApartFrom least is → LiesInOne is x → least ≤ x
@@ -69,30 +52,24 @@ apart_split least (i ∷ is) js a =
     let rest = apart_split (i.high + 1) is js a.2 in (
       (a.0, a.1, rest.0),
       apart_less (i.high + 1) js least rest.1 (omega (arith, a.0, a.1)),
-      λ x y h k. elim h [
-        | inl here ↦ omega (arith, here.1, lies_from (i.high + 1) js y rest.1 k)
-        | inr later ↦ rest.2 x y later k
-      ],
+      λ x y h k. grind (arith, lies_from (i.high + 1) js y rest.1 k, rest.2 x y),
     )
 
 pub apart_right : (whole is js : List Interval) → whole ≡ is ++ js → AreApart whole → AreApart js
 apart_right whole is js e a = (apart_split 0 is js (rw e at a)).1
 
+begins : (least : ℕ) (is : List Interval) → AreApartFrom least is → (l : ℕ) (d : Interval)
+    → l < length is → (least ≤ (get_or is l d).low) × ((get_or is l d).low ≤ (get_or is l d).high)
+begins least [] a l d lt = absurd (omega arith)
+begins least (i ∷ is) a zero d lt = omega arith
+begins least (i ∷ is) a (suc l) d lt = omega (arith, a.0, a.1, begins (i.high + 1) is a.2 l d)
+
 -- no interval begins or ends before an earlier one
 pub rising : (least : ℕ) (is : List Interval) → AreApartFrom least is → (k l : ℕ) (d : Interval) → k ≤ l
     → l < length is → ((get_or is k d).low ≤ (get_or is l d).low) × ((get_or is k d).high ≤ (get_or is l d).high)
 rising least [] a k l d le lt = absurd (omega arith)
-rising least (i ∷ is) a zero zero d le lt = (omega arith, omega arith)
-rising least (i ∷ is) a zero (suc l) d le lt =
-    let (low, filled) = from (i.high + 1) is a.2 l (omega arith) in
-    (omega (arith, a.1, low), omega (arith, low, filled))
-  where
-    from : (least : ℕ) (is : List Interval) → AreApartFrom least is → (l : ℕ) → l < length is
-        → (least ≤ (get_or is l d).low) × ((get_or is l d).low ≤ (get_or is l d).high)
-    from least [] a l lt = absurd (omega arith)
-    from least (i ∷ is) a zero lt = (a.0, a.1)
-    from least (i ∷ is) a (suc l) lt =
-        let (low, filled) = from (i.high + 1) is a.2 l (omega arith) in (omega (arith, a.0, a.1, low), filled)
+rising least (i ∷ is) a zero zero d le lt = omega arith
+rising least (i ∷ is) a zero (suc l) d le lt = omega (arith, a.1, begins (i.high + 1) is a.2 l d)
 rising least (i ∷ is) a (suc k) zero d le lt = absurd (omega arith)
 rising least (i ∷ is) a (suc k) (suc l) d le lt = rising (i.high + 1) is a.2 k l d (omega arith) (omega arith)
 
@@ -108,14 +85,7 @@ reach : (least : ℕ) (is : List Interval) (k x y : ℕ)
     → AreApartFrom least is → AllWithin (λ i. i.high < x) is 0 k → x ≤ y → LiesInOne is y
     → (i : Interval) × (slice_get is k ≡ Some i) × (i.low ≤ y)
 reach least [] k x y a below le h = absurd h
-reach least (i ∷ is) zero x y a below le h = (
-  i,
-  refl,
-  elim h [
-    | inl here ↦ here.0
-    | inr later ↦ omega (arith, a.1, lies_from (i.high + 1) is y a.2 later)
-  ],
-)
+reach least (i ∷ is) zero x y a below le h = (i, refl, grind (arith, a.1, lies_from (i.high + 1) is y a.2))
 reach least (i ∷ is) (suc k) x y a below le h = elim h [
   | inl here ↦ absurd (omega (arith, here.1, below 0 i (omega arith) (omega arith)))
   | inr later ↦ reach (i.high + 1) is k x y a.2 (λ j d _ lt. below (suc j) d (omega arith) (omega arith)) le later
@@ -151,25 +121,13 @@ module _ (P : ℕ → Type 0) (part : Interval → Option Interval)
       → ArePartsFrom least P (i ∷ is) (cons_option o rest)
   parts_step least None i is rest none a more = (
     apart_less (i.high + 1) rest least more.0 (omega (arith, a.0, a.1)),
-    λ x. (
-      λ h. let r = (more.1 x).0 h in (inr r.0, r.1),
-      λ h. elim h.0 [ inl here ↦ absurd (none x here h.1) | inr later ↦ (more.1 x).1 (later, h.1) ],
-    ),
+    λ x. grind (arith, none x, more.1 x),
   )
   parts_step least (Some j) i is rest some a more =
       let low = ((some.1 j.low).0 (omega arith, some.0)).0 in
       let high = ((some.1 j.high).0 (some.0, omega arith)).0 in (
         (omega (arith, a.0, low.0), some.0, apart_less (i.high + 1) rest (j.high + 1) more.0 (omega (arith, high.1))),
-        λ x. (
-          λ h. elim h [
-            | inl here ↦ let r = (some.1 x).0 here in (inl r.0, r.1)
-            | inr later ↦ let r = (more.1 x).0 later in (inr r.0, r.1)
-          ],
-          λ h. elim h.0 [
-            | inl here ↦ inl ((some.1 x).1 (here, h.1))
-            | inr later ↦ inr ((more.1 x).1 (later, h.1))
-          ],
-        ),
+        λ x. grind (arith, some.1 x, more.1 x),
       )
 
   parts_of : (least : ℕ) (is : List Interval) → AreApartFrom least is → ArePartsFrom least P is (filter_map part is)
@@ -215,19 +173,18 @@ module _ (range : Interval) (whole is js ks : List Interval) (cut : whole ≡ is
   right : AreApart js × AreApart ks × AreBelow js ks
   right = apart_split 0 js ks left.1
 
+  under : (x : ℕ) → LiesInOne is x → x < range.low
+  under x = lies_within (λ y. y < range.low) is x (λ k d lt y h. omega (arith, below k d lt, h))
+
+  over : (x : ℕ) → LiesInOne ks x → range.high < x
+  over x = lies_within (λ y. range.high < y) ks x (λ k d lt y h. omega (arith, above k d lt, h))
+
   pub cut_within : ArePartsOf (LiesIn range) whole (filter_map (part_within range) js)
   cut_within =
       let here = parts_of (LiesIn range) (part_within range) (within_part range) 0 js right.0 in
       rw cut (
         here.0,
-        λ x. grind (
-          arith,
-          lies_append is (js ++ ks) x,
-          lies_append js ks x,
-          here.1 x,
-          lies_under range is x below,
-          lies_over range ks x above,
-        ),
+        λ x. grind (arith, lies_append is (js ++ ks) x, lies_append js ks x, here.1 x, under x, over x),
       )
 
   pub cut_outside : range.low ≤ range.high
@@ -239,10 +196,14 @@ module _ (range : Interval) (whole is js ks : List Interval) (cut : whole ≡ is
         apart_append 0 (is ++ parts) ks
             (apart_append 0 is parts left.0 here.0
             (λ x y h k. left.2 x y h ((lies_append js ks y).1 (inl ((here.1 y).0 k).0)))) right.1
-            (λ x y h k. elim ((lies_append is parts x).0 h) [
-              | inl l ↦ left.2 x y l ((lies_append js ks y).1 (inr k))
-              | inr c ↦ right.2 x y ((here.1 x).0 c).0 k
-            ]),
+            (λ x y h k. grind (
+              arith,
+              lies_append is parts x,
+              lies_append js ks y,
+              left.2 x y,
+              right.2 x y,
+              here.1 x,
+            )),
         λ x. grind (
           arith,
           lies_append (is ++ parts) ks x,
@@ -250,7 +211,7 @@ module _ (range : Interval) (whole is js ks : List Interval) (cut : whole ≡ is
           lies_append is (js ++ ks) x,
           lies_append js ks x,
           here.1 x,
-          lies_under range is x below,
-          lies_over range ks x above,
+          under x,
+          over x,
         ),
       )

@@ -4,27 +4,15 @@ use Rattle.scf_facts.proofs.Common.{◌≡◌, ℕ, ◌<◌, ◌^◌, ◌↔◌,
 -- other intervals
 pub allows_cut : (s new : NumberFacts) (P : ℕ → Type 0) (x : ℕ) → new.known ≡ s.known → new.refuted ≡ s.refuted
     → ArePartsOf P s.intervals new.intervals → AllowsNumber new x ↔ (AllowsNumber s x × P x)
-allows_cut s new P x known refuted parts = (
-  λ h. let r = (parts.1 x).0 h.inside in
-      (record { inside = r.0; known = rw known at h.known; unrefuted = rw refuted at h.unrefuted }, r.1),
-  λ h. record {
-    inside = (parts.1 x).1 (h.0.inside, h.1);
-    known = rw known h.0.known;
-    unrefuted = rw refuted h.0.unrefuted;
-  },
-)
+allows_cut s new P x known refuted parts = grind (arith, parts.1 x)
 
 -- one more refuted
 pub allows_refuted : (s new : NumberFacts) (bits : Bits) (x : ℕ) → new.intervals ≡ s.intervals → new.known ≡ s.known
     → new.refuted ≡ s.refuted ++ bits ∷ [] → AllowsNumber new x ↔ (AllowsNumber s x × LacksBits bits x)
-allows_refuted s new bits x intervals known refuted = (
-  λ h. let both = All-pop (λ other. LacksBits other x) new.refuted s.refuted (Some bits) refuted h.unrefuted in
-      (record { inside = rw intervals at h.inside; known = rw known at h.known; unrefuted = both.0 }, both.1),
-  λ h. record {
-    inside = rw intervals h.0.inside;
-    known = rw known h.0.known;
-    unrefuted = rw refuted (All-push (λ other. LacksBits other x) s.refuted bits h.0.unrefuted h.1);
-  },
+allows_refuted s new bits x intervals known refuted = grind (
+  arith,
+  All-pop (λ other. LacksBits other x) new.refuted s.refuted (Some bits) refuted,
+  All-push (λ other. LacksBits other x) s.refuted bits,
 )
 
 -- where no bit of them is open, each number has the bits that some number with the known ones has

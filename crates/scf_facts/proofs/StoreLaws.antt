@@ -133,6 +133,8 @@ some_words (s ∷ sets) some =
     each x words here rest zero d lt = here
     each x words here rest (suc k) d lt = rest k d (omega arith)
 
+pub ruleset word_laws = (number_set, each_word, exact_word)
+
 -- so where none is, exact facts of some word allow no number
 pub some_allowed : (sets : List NumberFacts) → length sets ≡ 16 → ((k : ℕ) (d : NumberFacts) → k < length sets
     → IsTrue (is_exact_set (get_or sets k d)) → (x : ℕ) × (x < 2 ^ 32) × AllowsNumber (get_or sets k d) x)

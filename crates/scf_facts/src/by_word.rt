@@ -9,6 +9,7 @@ use crate::atom::{Atom, Tell};
 use crate::word_set::WordSet;
 
 /// What the atom answers of every allowed list, where the numbers of its word say that.
+#[tactic(auto, using(crate::proofs::StoreLaws::each_word))]
 pub(crate) fn tell_by_word(sets: &[WordSet], atom: Atom) -> Tell
     requires sixteen { length sets.now ≡ 16 }
     requires word { word_of atom < 16 }
@@ -35,6 +36,7 @@ pub(crate) fn has_empty_word(sets: &[WordSet]) -> bool
 }
 
 /// One of its numbers for each word, if they are found.
+#[tactic(auto, using(crate::proofs::StoreLaws::word_laws))]
 pub(crate) fn pick_by_word(sets: &[WordSet]) -> Option<[u32; 16]>
     requires { length sets.now ≡ 16 }
     ensures allowed { IfSome result (λ words. AllowsWords sets.now words) }

@@ -214,6 +214,7 @@ impl WordSet {
     }
 
     /// Whether no number lacks the bits, as far as that is known.
+    #[tactic(auto, using(std::proofs::lemmas::Bool::cases_eq))]
     fn has_none_without(&self, bits: Bits) -> bool
         requires within { bit_and bits.value bits.mask ≡ bits.value }
         ensures all { IsTrue result → EachNumber self.now (HasBits bits) }
