@@ -20,11 +20,10 @@ pub allows_pushed : (facts : List Fact) (x : Fact) (marks : List ℕ) (words : L
     ↔ (AllowsByFacts facts marks (length marks) words × IsFactOfWords x words)
 allows_pushed facts x marks words =
     let P : Fact → Type 0 = λ fact. IsFactOfWords fact words in
-    rw (learned_now (facts ++ x ∷ []) marks (length marks) (omega arith))
-    (rw (learned_now facts marks (length marks) (omega arith)) (
-      λ h. let both = All-pop P (facts ++ x ∷ []) facts (Some x) refl h.1 in ((h.0, both.0), both.1),
-      λ h. (h.0.0, All-push P facts x h.0.1 h.1),
-    ))
+    rw (
+      learned_now (facts ++ x ∷ []) marks (length marks) (omega arith),
+      learned_now facts marks (length marks) (omega arith),
+    ) (grind (arith, All-pop P (facts ++ x ∷ []) facts (Some x) refl, All-push P facts x))
 
 -- one fact more leaves the open marks
 pub learned_pushed : (facts : List Fact) (x : Fact) (marks : List ℕ) (place : ℕ) → AreRising marks (length facts)

@@ -6,7 +6,7 @@ pub use Rattle.std.proofs.Math.Seq.{take-append_seam}
 pub use Rattle.std.proofs.lemmas.Bool.{both_ways, cond_both, false_from_ne_true, false≢true, leb-false, leb-true, ltb-false, ltb-true, true_from_ne_false}
 pub use Rattle.std.proofs.lemmas.Iterator.{YieldsList-from_slice, cases_from_any}
 pub use Rattle.std.proofs.lemmas.List.{drop-append-le, get_or-replicate, get_or-set_other, get_or-set_same, get_or_default, get_or_past, get_or_read, length-replicate, length-take-le, set-get_or, set-set, take-append-le, take-take, with_items_is}
-pub use Rattle.std.proofs.lemmas.List.Elements.{All-pop, All-push, All-set, recursion_from_All}
+pub use Rattle.std.proofs.lemmas.List.Elements.{All-from_recursion, All-pop, All-push, All-set, recursion_from_All}
 pub use Rattle.std.proofs.lemmas.List.Sorted.{IsPartitionPoint-from_clause, IsPartitionedBy-leb, IsPartitionedBy-ltb}
 pub use Rattle.std.proofs.lemmas.List.Sums.{AllPass-from_list_all, list_all-from_AllPass}
 pub use Rattle.std.proofs.lemmas.Nat.{and_assoc, and_comm, and_le_r, div_below, le-div, leading_top, one_shl, or_disjoint, shr_split, xor_lt}

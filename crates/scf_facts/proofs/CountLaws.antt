@@ -19,11 +19,9 @@ count_closed (mark ∷ marks) count now (suc level) h = count_closed marks count
 pub rising_more : (marks : List ℕ) (now more : ℕ) → now ≤ more → AreRising marks now → AreRising marks more
 rising_more marks now more h rising earlier later le = grind (
   arith,
+  get_or_past,
   rising earlier later le,
   rising earlier (length marks),
-  get_or_past marks (length marks) now,
-  get_or_past marks earlier more,
-  get_or_past marks later more,
   get_or_default marks earlier more now,
   get_or_default marks later more now,
 )
@@ -41,32 +39,20 @@ rising_pushed false marks new count now e same rising = rw same rising
 pub rising_closed : (marks : List ℕ) (count now : ℕ) → AreRising (marks ++ count ∷ []) now → AreRising marks count
 rising_closed marks count now rising earlier later le = grind (
   arith,
+  get_or_past,
   rising earlier later le,
   rising earlier (length marks),
-  get_or_past marks earlier count,
-  get_or_past marks later count,
-  get_or_past marks (length marks) count,
-  count_closed marks count now earlier,
-  count_closed marks count now later,
+  count_closed marks count now,
   count_closed marks count now (length marks),
 )
 
 -- no mark's count is above the one now
 pub count_within : (marks : List ℕ) (now level : ℕ) → AreRising marks now → count_at marks now level ≤ now
-count_within marks now level rising = grind (
-  arith,
-  rising level (length marks),
-  get_or_past marks (length marks) now,
-  get_or_past marks level now,
-)
+count_within marks now level rising = grind (arith, get_or_past, rising level (length marks))
 
 pub count_newest : (marks : List ℕ) (count now : ℕ) → AreRising (marks ++ count ∷ []) now → count ≤ now
-count_newest marks count now rising = omega (
-  arith,
-  count_within (marks ++ count ∷ []) now (length marks) rising,
-  count_closed marks count now (length marks) (omega arith),
-  get_or_past marks (length marks) count (omega arith),
-)
+count_newest marks count now rising =
+    grind (arith, get_or_past, count_within _ now (length marks) rising, count_closed marks count now (length marks))
 
 -- what was added after the newest mark is cut off
 pub rising_cut : {A : Type 0} (items : List A) (marks rest : List ℕ) (count : ℕ) → marks ≡ rest ++ count ∷ []

@@ -5,7 +5,7 @@ pub one_more : (q d : ℕ) → (q + 1) * d ≡ q * d + d
 one_more q d = add-mul q 1 d ∙ (let once : q * d + 1 * d ≡ q * d + d = omega arith in once)
 
 -- the numbers within a range that starts at a multiple have its quotient
-same_quotient : (x q k : ℕ) → q * 2 ^ k ≤ x → x ≤ q * 2 ^ k + (2 ^ k - 1) → x / 2 ^ k ≡ q
+pub same_quotient : (x q k : ℕ) → q * 2 ^ k ≤ x → x ≤ q * 2 ^ k + (2 ^ k - 1) → x / 2 ^ k ≡ q
 same_quotient x q k least most =
     let low : q ≤ x / 2 ^ k = (le-div_iff_mul-le (pow_pos k)).1 least in
     let below : x < (q + 1) * 2 ^ k = omega (arith, one_more q (2 ^ k), pow_pos k) in

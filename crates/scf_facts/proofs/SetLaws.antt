@@ -23,23 +23,15 @@ has_closed x m v none within =
 -- ---- numbers with both answers
 
 module _ (s : NumberFacts) (asked : ℕ → Bool) where
-  pub both_by_bits : (bits : Bits) → ((x : ℕ) → HasBits bits x ↔ (asked x ≡ true))
-      → SomeNumber s (HasBits bits) × SomeNumber s (LacksBits bits)
+  -- where of two properties that exclude each other the first is the one that tells of an answer
+  pub both_answers : (P Q : ℕ → Type 0) (answer : Bool) → ((x : ℕ) → x < 2 ^ 32 → P x ↔ (asked x ≡ answer))
+      → ((x : ℕ) → P x → Q x → ⊥) → SomeNumber s P × SomeNumber s Q
       → SomeNumber s (λ x. asked x ≡ true) × SomeNumber s (λ x. asked x ≡ false)
-  both_by_bits bits asks ((x, fits, allowed, has), (y, below, other, lacks)) = (
-    (x, fits, allowed, (asks x).0 has),
-    (y, below, other, false_from_ne_true (asked y) (λ e. lacks ((asks y).1 e))),
+  both_answers P Q true asks apart ((x, fits, allowed, has), (y, below, other, lacks)) = (
+    (x, fits, allowed, (asks x fits).0 has),
+    (y, below, other, false_from_ne_true (asked y) (λ e. apart y ((asks y below).1 e) lacks)),
   )
-
-  pub both_by_range : (range : Interval) (answer : Bool)
-      → ((x : ℕ) → x < 2 ^ 32 → LiesIn range x ↔ (asked x ≡ answer))
-      → SomeNumber s (LiesIn range) × SomeNumber s (LiesOutside range)
-      → SomeNumber s (λ x. asked x ≡ true) × SomeNumber s (λ x. asked x ≡ false)
-  both_by_range range true asks ((x, fits, allowed, inside), (y, below, other, out)) = (
-    (x, fits, allowed, (asks x fits).0 inside),
-    (y, below, other, false_from_ne_true (asked y) (λ e. omega (arith, out, (asks y below).1 e))),
-  )
-  both_by_range range false asks ((x, fits, allowed, inside), (y, below, other, out)) = (
-    (y, below, other, true_from_ne_false (asked y) (λ e. omega (arith, out, (asks y below).1 e))),
-    (x, fits, allowed, (asks x fits).0 inside),
+  both_answers P Q false asks apart ((x, fits, allowed, has), (y, below, other, lacks)) = (
+    (y, below, other, true_from_ne_false (asked y) (λ e. apart y ((asks y below).1 e) lacks)),
+    (x, fits, allowed, (asks x fits).0 has),
   )

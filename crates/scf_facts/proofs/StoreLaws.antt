@@ -1,22 +1,6 @@
 -- What facts of each word say of lists of words.
-use Rattle.scf_facts.proofs.Common.{◌≡◌, ◌≢◌, inl, inr, ℕ, zero, suc, ◌<◌, ◌^◌, ◌↔◌, List, [], ◌∷◌, refl, sym, ap, subst, ◌∙◌, arith, length, get_or, All, Bool, IsTrue, slice_index, slice_set, replicate, list_all, AllByRecursion, and_zero_r, cases_eq, get_or-set_same, get_or-set_other, get_or_read, get_or-replicate, length-set, length-replicate, All-set, AllPass-from_list_all, list_all-from_AllPass, IsWords, Atom, answer_at, atom_answer, word_of, NumberFacts, AllowsNumber, EachNumber, SomeNumber, AllowsWords, no_facts, is_exact_set}
-
--- each of the words is a number of 32 bits
-fits_at : (words : List ℕ) → AllByRecursion (λ word. word < 2 ^ 32) words → (k : ℕ) → slice_index words k < 2 ^ 32
-fits_at [] h k = omega arith
-fits_at (x ∷ xs) h zero = h.0
-fits_at (x ∷ xs) h (suc k) = fits_at xs h.1 k
-
-pub word_fits : (words : List ℕ) (k : ℕ) → IsWords words → slice_index words k < 2 ^ 32
-word_fits words k h = fits_at words h.each k
-
-set_fits : (words : List ℕ) (k x : ℕ) → AllByRecursion (λ word. word < 2 ^ 32) words → x < 2 ^ 32
-    → AllByRecursion (λ word. word < 2 ^ 32) (slice_set words k x)
-set_fits [] k x h fits = tt
-set_fits (word ∷ words) zero x h fits = (fits, h.1)
-set_fits (word ∷ words) (suc k) x h fits = (h.0, set_fits words k x h.1 fits)
-
--- ---- facts of all words
+use Rattle.scf_insn.proofs.CallWords.{word_below}
+use Rattle.scf_facts.proofs.Common.{recursion_from_All, All-from_recursion, common_steps, ◌≡◌, ◌≢◌, inl, inr, ℕ, zero, suc, ◌<◌, ◌^◌, ◌↔◌, List, [], ◌∷◌, refl, sym, ap, subst, ◌∙◌, arith, length, get_or, All, Bool, IsTrue, slice_index, slice_set, replicate, list_all, AllByRecursion, and_zero_r, cases_eq, get_or-set_same, get_or-set_other, get_or_read, get_or-replicate, length-set, length-replicate, All-set, AllPass-from_list_all, list_all-from_AllPass, IsWords, Atom, answer_at, atom_answer, word_of, NumberFacts, AllowsNumber, EachNumber, SomeNumber, AllowsWords, no_facts, is_exact_set}
 
 all_numbers : (x : ℕ) → x < 2 ^ 32 → AllowsNumber no_facts x
 all_numbers x fits = record {
@@ -32,7 +16,7 @@ allows_all n words = (
   λ h. record {
     sixteen = h;
     each = λ k d lt. rw (get_or-replicate n k no_facts d (omega (arith, lt, length-replicate n no_facts)))
-        (all_numbers (slice_index words k) (word_fits words k h));
+        (all_numbers (slice_index words k) (word_below words h k));
   },
 )
 
@@ -45,26 +29,19 @@ module _ (sets : List NumberFacts) (place : ℕ) (old : NumberFacts)
   allows_set new P same words = (
     λ h. let this = rw (get_or-set_same sets place new old lt) at
         (h.each place old (omega (arith, lt, length-set sets place new))) in
-        let r = (same (slice_index words place) (word_fits words place h.sixteen)).0 this in (
+        let r = (same (slice_index words place) (word_below words h.sixteen place)).0 this in (
           record {
             sixteen = h.sixteen;
-            each = λ k d l. elim (cases_eq k place) [
-              | inl here ↦ rw (here, ← get_or_read sets place old lt read d) r.0
-              | inr other ↦ rw (get_or-set_other sets place k new d other) at
-                  (h.each k d (omega (arith, l, length-set sets place new)))
-            ];
+            each = λ k d l.
+                grind (arith, common_steps, cases_eq k place, h.each k d, r.0, get_or_read sets place old lt read d);
           },
           r.1,
         ),
     λ h. let this = subst (λ s. AllowsNumber s (slice_index words place)) (sym read) (h.0.each place old lt) in
-        let r = (same (slice_index words place) (word_fits words place h.0.sixteen)).1 (this, h.1) in
+        let r = (same (slice_index words place) (word_below words h.0.sixteen place)).1 (this, h.1) in
         record {
           sixteen = h.0.sixteen;
-          each = λ k d l. elim (cases_eq k place) [
-            | inl here ↦ rw (here, get_or-set_same sets place new d lt) r
-            | inr other ↦ rw (get_or-set_other sets place k new d other)
-                (h.0.each k d (omega (arith, l, length-set sets place new)))
-          ];
+          each = λ k d l. grind (arith, common_steps, cases_eq k place, h.0.each k d, r);
         },
   )
 
@@ -81,24 +58,23 @@ module _ (sets : List NumberFacts) (place : ℕ) (old : NumberFacts)
   -- what each number of the word has, its number has in each list
   pub each_word : (P : ℕ → Type 0) → EachNumber old P → (words : List ℕ)
       → AllowsWords sets words → P (slice_index words place)
-  each_word P each words h = each (slice_index words place) (word_fits words place h.sixteen)
+  each_word P each words h = each (slice_index words place) (word_below words h.sixteen place)
       (subst (λ s. AllowsNumber s (slice_index words place)) (sym read) (h.each place old lt))
 
   -- another number of the word, where other words up to some have theirs
   pub number_set : (words : List ℕ) (x n : ℕ) → place < length words → AllowsNumber old x
       → ((k : ℕ) (d : NumberFacts) → k < n → k ≢ place → AllowsNumber (get_or sets k d) (slice_index words k))
       → (k : ℕ) (d : NumberFacts) → k < n → AllowsNumber (get_or sets k d) (slice_index (slice_set words place x) k)
-  number_set words x n room allowed others k d l = elim (cases_eq k place) [
-    | inl here ↦ rw (here, get_or-set_same words place x 0 room, ← get_or_read sets place old lt read d) allowed
-    | inr other ↦ rw (get_or-set_other words place k x 0 other) (others k d l other)
-  ]
+  number_set words x n room allowed others k d l =
+      grind (arith, common_steps, cases_eq k place, others k d l, get_or_read sets place old lt read d)
 
   pub allows_other : (some : List ℕ) (x : ℕ) → place < 16
       → AllowsWords sets some → x < 2 ^ 32 → AllowsNumber old x → AllowsWords sets (slice_set some place x)
   allows_other some x below h fits allowed = record {
     sixteen = record {
       count = length-set some place x ∙ h.sixteen.count;
-      each = set_fits some place x h.sixteen.each fits;
+      each = recursion_from_All _ _
+          (All-set (λ word. word < 2 ^ 32) some place x fits (All-from_recursion _ some h.sixteen.each));
     };
     each = number_set some x (length sets) (omega (arith, h.sixteen.count)) allowed (λ k d l _. h.each k d l);
   }

@@ -144,10 +144,8 @@ module _ (sets : List NumberFacts) (pairs : List AtomPair) where
           → (words : List ℕ) → AllowsList (known_of (slice_set sets word new) pairs) words
           ↔ (AllowsList (known_of sets pairs) words × (atom_answer atom words ≡ holds))
       allows_learned atom holds asked learned words =
-          let same = subst (λ k. AllowsWords (slice_set sets word new) words
-          ↔ (AllowsWords sets words × (answer_at atom (slice_index words k) ≡ holds))) asked
-          (allows_set sets word old within read new (λ x. answer_at atom x ≡ holds) learned words) in
-          (λ h. let r = same.0 h.0 in ((r.0, h.1), r.1), λ h. (same.1 (h.0.0, h.1), h.0.1))
+          rw (← asked)
+          (grind (arith, allows_set sets word old within read new (λ x. answer_at atom x ≡ holds) learned words))
 
       pub exact_learned : (IsTrue (is_exact_set old) → IsTrue (is_exact_set new))
           → IsTrue (is_exact_known (known_of sets pairs))
@@ -160,7 +158,5 @@ module _ (sets : List NumberFacts) (pairs : List AtomPair) where
       → AllowsList (known_of sets more) words
       ↔ (AllowsList (known_of sets pairs) words × NotBothTrue pair.first pair.second words)
   allows_refuted more pair e words =
-      let Q : AtomPair → Type 0 = λ other. NotBothTrue other.first other.second words in (
-        λ h. let both = All-pop Q more pairs (Some pair) e h.1 in ((h.0, both.0), both.1),
-        λ h. (h.0.0, rw e (All-push Q pairs pair h.0.1 h.1)),
-      )
+      let Q : AtomPair → Type 0 = λ other. NotBothTrue other.first other.second words in
+      grind (arith, All-pop Q more pairs (Some pair) e, All-push Q pairs pair)

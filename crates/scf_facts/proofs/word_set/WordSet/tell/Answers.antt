@@ -1,20 +1,18 @@
-use Rattle.scf_facts.proofs.Common.{◌≡◌, sym, ◌∙◌, subst, Option, Some, None, IfNone, Bool, IsTrue, answer_at, HasBits, LacksBits, SomeNumber, is_exact_set}
-use Rattle.scf_facts.proofs.SetLaws.{both_by_bits, both_by_range}
+use Rattle.scf_facts.proofs.Common.{arith, true, LiesIn, LiesOutside, ◌≡◌, sym, ◌∙◌, subst, Option, Some, None, IfNone, Bool, IsTrue, answer_at, HasBits, LacksBits, SomeNumber, is_exact_set}
+use Rattle.scf_facts.proofs.SetLaws.{both_answers}
 use Rattle.scf_facts.proofs.word_set.WordSet.tell.Goals as goal
 use Rattle.scf_facts.proofs.word_set.WordSet.tell.Goals.{in-Within+in-Some, in-Within+in-None, in-Masked}
-
-nothing_told : (told : Option Bool) (answer : Bool) → told ≡ Some answer → told ≡ None → ⊥
-nothing_told told answer some none = cc
 
 pub returns-in-None-told-clause-both : goal.returns-in-None-told-clause-both
 returns-in-None-told-clause-both c = λ _ exact.
     let facts = c.args.self.now in
     let asked = answer_at c.args.atom in
     elim c.match-of.branch [
-      | in-Within+in-Some w ↦ absurd (nothing_told c.match-of.told _ w.told-is c.in-None-told.is)
-      | in-Within+in-None w ↦ both_by_range facts asked w.in-Within.range w.in-Within.answer
-          w.in-Within.ensures.asks.1 (w.in-None.ensures.both exact)
-      | in-Masked w ↦ both_by_bits facts asked w.in-Masked.bits w.in-Masked.ensures.asks
+      | in-Within+in-Some w ↦ cc (sym w.told-is ∙ c.in-None-told.is)
+      | in-Within+in-None w ↦ both_answers facts asked (LiesIn w.in-Within.range) (LiesOutside w.in-Within.range)
+          w.in-Within.answer w.in-Within.ensures.asks.1 (λ x inside out. omega arith) (w.in-None.ensures.both exact)
+      | in-Masked w ↦ both_answers facts asked (HasBits w.in-Masked.bits) (LacksBits w.in-Masked.bits) true
+          (λ x _. w.in-Masked.ensures.asks x) (λ x has lacks. lacks has)
           (subst (λ (told : Option Bool). IfNone told (IsTrue (is_exact_set facts)
           → SomeNumber facts (HasBits w.in-Masked.bits) × SomeNumber facts (LacksBits w.in-Masked.bits)))
           (sym w.told-is ∙ c.in-None-told.is) w.has_bits-told.ensures.both exact)
