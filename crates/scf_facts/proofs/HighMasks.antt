@@ -30,9 +30,8 @@ high_range x v m k within mask h multiple =
     let of_v : v / 2 ^ k * 2 ^ k ≡ v = sym (of_multiple v m k within mask fits) ∙ multiple in
     let rest : 2 ^ 32 - 1 - m ≡ 2 ^ k - 1 = beyond_mask m k within mask in (
       λ lies.
-          let least : v / 2 ^ k * 2 ^ k ≤ x = omega (arith, of_v, lies.0) in
-          let most : x ≤ v / 2 ^ k * 2 ^ k + (2 ^ k - 1) = omega (arith, of_v, lies.1, rest) in
-          eq-eqb _ _ (of_x ∙ ap (λ n. n * 2 ^ k) (same_quotient x (v / 2 ^ k) k least most) ∙ of_v),
+          let same = same_quotient x (v / 2 ^ k) k (omega (arith, of_v, lies.0)) (omega (arith, of_v, lies.1, rest)) in
+          eq-eqb _ _ (of_x ∙ ap (λ n. n * 2 ^ k) same ∙ of_v),
       λ has.
           let part : x / 2 ^ k * 2 ^ k ≡ v = sym of_x ∙ eqb-true _ _ has in
           (omega (arith, part, shr_split x k), omega (arith, part, rest, shr_split x k, mod-lt x (pow_pos k))),

@@ -11,20 +11,15 @@ at_bit i e = ap (λ n. bit_at n i) e
 pub joined : (x k a m v : ℕ) → bit_and (bit_or a v) k ≡ a → bit_and (bit_or a v) m ≡ v
     → (bit_and x (bit_or k m) ≡ bit_or a v) ↔ ((bit_and x k ≡ a) × (bit_and x m ≡ v))
 joined x k a m v left right = (
-  λ e. (
-    same_from_bits _ _ (λ i. grind (arith, each_bit)),
-    same_from_bits _ _ (λ i. grind (arith, each_bit)),
-  ),
+  λ e. (same_from_bits _ _ (λ i. grind (arith, each_bit)), same_from_bits _ _ (λ i. grind (arith, each_bit))),
   λ h. same_from_bits _ _ (λ i. grind (arith, each_bit)),
 )
 
 -- a number with both shows that the joined value has both
 pub in_joined : (x k a m v : ℕ) → bit_and x k ≡ a → bit_and x m ≡ v
     → (bit_and (bit_or a v) k ≡ a) × (bit_and (bit_or a v) m ≡ v)
-in_joined x k a m v p q = (
-  same_from_bits _ _ (λ i. grind (arith, each_bit)),
-  same_from_bits _ _ (λ i. grind (arith, each_bit)),
-)
+in_joined x k a m v p q =
+    (same_from_bits _ _ (λ i. grind (arith, each_bit)), same_from_bits _ _ (λ i. grind (arith, each_bit)))
 
 pub and_twice : (x m : ℕ) → bit_and (bit_and x m) m ≡ bit_and x m
 and_twice x m = same_from_bits _ _ (λ i. grind (arith, each_bit))

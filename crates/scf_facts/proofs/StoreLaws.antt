@@ -1,13 +1,9 @@
 -- What facts of each word say of lists of words.
 use Rattle.scf_insn.proofs.CallWords.{word_below}
-use Rattle.scf_facts.proofs.Common.{recursion_from_All, All-from_recursion, common_steps, ◌≡◌, ◌≢◌, inl, inr, ℕ, zero, suc, ◌<◌, ◌^◌, ◌↔◌, List, [], ◌∷◌, refl, sym, ap, subst, ◌∙◌, arith, length, get_or, All, Bool, IsTrue, slice_index, slice_set, replicate, list_all, AllByRecursion, and_zero_r, cases_eq, get_or-set_same, get_or-set_other, get_or_read, get_or-replicate, length-set, length-replicate, All-set, AllPass-from_list_all, list_all-from_AllPass, IsWords, Atom, answer_at, atom_answer, word_of, NumberFacts, AllowsNumber, EachNumber, SomeNumber, AllowsWords, no_facts, is_exact_set}
+use Rattle.scf_facts.proofs.Common.{◌-◌, recursion_from_All, All-from_recursion, common_steps, ◌≡◌, ◌≢◌, inl, inr, ℕ, zero, suc, ◌<◌, ◌^◌, ◌↔◌, List, [], ◌∷◌, refl, sym, ap, subst, ◌∙◌, arith, length, get_or, All, Bool, IsTrue, slice_index, slice_set, replicate, list_all, AllByRecursion, and_zero_r, cases_eq, get_or-set_same, get_or-set_other, get_or_read, get_or-replicate, length-set, length-replicate, All-set, AllPass-from_list_all, list_all-from_AllPass, IsWords, Atom, answer_at, atom_answer, word_of, NumberFacts, AllowsNumber, EachNumber, SomeNumber, AllowsWords, no_facts, is_exact_set}
 
 all_numbers : (x : ℕ) → x < 2 ^ 32 → AllowsNumber no_facts x
-all_numbers x fits = record {
-  inside = inl (omega arith, omega arith);
-  known = and_zero_r x;
-  unrefuted = λ k d lt. absurd (omega arith);
-}
+all_numbers x fits = grind (arith, and_zero_r x)
 
 -- where nothing is known, every list of words is allowed
 pub allows_all : (n : ℕ) (words : List ℕ) → AllowsWords (replicate n no_facts) words ↔ IsWords words
@@ -58,8 +54,8 @@ module _ (sets : List NumberFacts) (place : ℕ) (old : NumberFacts)
   -- what each number of the word has, its number has in each list
   pub each_word : (P : ℕ → Type 0) → EachNumber old P → (words : List ℕ)
       → AllowsWords sets words → P (slice_index words place)
-  each_word P each words h = each (slice_index words place) (word_below words h.sixteen place)
-      (subst (λ s. AllowsNumber s (slice_index words place)) (sym read) (h.each place old lt))
+  each_word P each words h =
+      grind (arith, word_below words h.sixteen place, each (slice_index words place), h.each place old lt)
 
   -- another number of the word, where other words up to some have theirs
   pub number_set : (words : List ℕ) (x n : ℕ) → place < length words → AllowsNumber old x
@@ -86,8 +82,7 @@ module _ (sets : List NumberFacts) (place : ℕ) (old : NumberFacts)
   other_answer atom answer asked below some h (x, fits, allowed, e) = (
     slice_set some place x,
     allows_other some x below h fits allowed,
-    ap (λ k. answer_at atom (slice_index (slice_set some place x) k)) (sym asked)
-        ∙ ap (answer_at atom) (get_or-set_same some place x 0 (omega (arith, h.sixteen.count))) ∙ e,
+    rw (← asked, get_or-set_same some place x 0 (omega (arith, h.sixteen.count))) e,
   )
 
 -- ---- some list
@@ -99,15 +94,12 @@ some_words : (sets : List NumberFacts) → All (λ s. (x : ℕ) × (x < 2 ^ 32) 
 some_words [] some = ([], refl, tt, λ k d lt. absurd (omega arith))
 some_words (s ∷ sets) some =
     let here = some 0 s (omega arith) in
-    let rest = some_words sets (λ k d lt. some (suc k) d (omega arith)) in
-    (here.0 ∷ rest.0, ap suc rest.1, (here.1, rest.2), each here.0 rest.0 here.2 rest.3)
-  where
-    each : (x : ℕ) (words : List ℕ) → AllowsNumber s x
-        → ((k : ℕ) (d : NumberFacts) → k < length sets → AllowsNumber (get_or sets k d) (slice_index words k))
-        → (k : ℕ) (d : NumberFacts) → k < length (s ∷ sets)
-        → AllowsNumber (get_or (s ∷ sets) k d) (slice_index (x ∷ words) k)
-    each x words here rest zero d lt = here
-    each x words here rest (suc k) d lt = rest k d (omega arith)
+    let rest = some_words sets (λ k d lt. some (suc k) d (omega arith)) in (
+      here.0 ∷ rest.0,
+      ap suc rest.1,
+      (here.1, rest.2),
+      λ k d lt. grind (arith, common_steps, cases_eq k 0, here.2, rest.3 (k - 1) d),
+    )
 
 pub ruleset word_laws = (number_set, each_word, exact_word)
 

@@ -57,41 +57,46 @@ covers first later is js same below e f known sixteen =
 
 -- ---- levels
 
--- past the last mark nothing is taken back
-pub known_past : (known : AllFacts) (trail : List Change) (marks : List ℕ) (level : ℕ)
-    → length marks ≤ level → known_at known trail marks level ≡ known
-known_past known trail marks level past =
-    ap (restored known) (drop_all _ trail (omega (arith, get_or_past marks level (length trail) past)))
+module _ (known : AllFacts) (trail : List Change) (marks : List ℕ) where
+  -- past the last mark nothing is taken back
+  pub known_past : (level : ℕ) → length marks ≤ level → known_at known trail marks level ≡ known
+  known_past level past =
+      ap (restored known) (drop_all _ trail (omega (arith, get_or_past marks level (length trail) past)))
 
-pub known_now : (known : AllFacts) (trail : List Change) (marks : List ℕ)
-    → known_at known trail marks (length marks) ≡ known
-known_now known trail marks = known_past known trail marks (length marks) (omega arith)
+  pub known_now : known_at known trail marks (length marks) ≡ known
+  known_now = known_past (length marks) (omega arith)
 
--- a change that is put on the trail leaves the open marks
-pub known_pushed : (known : AllFacts) (trail new : List Change) (change : Change) (marks : List ℕ) (place : ℕ)
-    → AreRising marks (length trail) → new ≡ trail ++ change ∷ [] → place < length marks
-    → known_at known new marks place ≡ known_at (known_before change known) trail marks place
-known_pushed known trail new change marks place rising e lt =
-    rw e (ap (λ n. restored known (drop n (trail ++ change ∷ [])))
-    (get_or_default marks place (length (trail ++ change ∷ [])) (length trail) lt)
-    ∙ sym (taken_before known (trail ++ change ∷ []) trail change (count_at marks (length trail) place) refl
-    (count_within marks (length trail) place rising)))
+  -- a mark that is opened leaves the levels up to it
+  pub known_opened : (count place : ℕ) → count ≡ length trail
+      → known_at known trail (marks ++ count ∷ []) place ≡ known_at known trail marks place
+  known_opened count place e = rw (e, count_opened marks (length trail) place)
 
--- so does one that the last change past the newest mark covers
-pub known_covered : (known : AllFacts) (trail rest : List Change) (last change : Change) (marks : List ℕ)
-    (count place : ℕ) → AreRising marks (length trail) → trail ≡ rest ++ last ∷ [] → count ≤ length rest
-    → count ≡ slice_index marks (length marks - 1) → Covers last change → length known.sets ≡ 16
-    → place < length marks → known_at known trail marks place ≡ known_at (known_before change known) trail marks place
-known_covered known trail rest last change marks count place rising e past newest covered sixteen lt =
-    let n = count_at marks (length trail) place in
-    let early : n ≤ length rest = omega (
-      arith,
-      rising place (length marks - 1) (omega arith),
-      get_or_default marks (length marks - 1) (length trail) 0 (omega arith),
-    ) in
-    sym (taken_before known trail rest last n e early)
-    ∙ ap (λ (k : AllFacts). restored k (drop n rest)) (sym (covered known sixteen))
-    ∙ taken_before (known_before change known) trail rest last n e early
+  module _ (change : Change) (place : ℕ) (rising : AreRising marks (length trail)) (lt : place < length marks) where
+    -- a change that is put on the trail leaves the open marks
+    pub known_pushed : (new : List Change) → new ≡ trail ++ change ∷ []
+        → known_at known new marks place ≡ known_at (known_before change known) trail marks place
+    known_pushed new e =
+        rw (e, get_or_default marks place (length (trail ++ change ∷ [])) (length trail) lt)
+        (sym (taken_before known (trail ++ change ∷ []) trail change (count_at marks (length trail) place) refl
+        (count_within marks (length trail) place rising)))
+
+    -- so does one that the last change past the newest mark covers
+    pub known_covered : (rest : List Change) (last : Change) (count : ℕ) → trail ≡ rest ++ last ∷ []
+        → count ≤ length rest → count ≡ slice_index marks (length marks - 1) → Covers last change
+        → length known.sets ≡ 16
+        → known_at known trail marks place ≡ known_at (known_before change known) trail marks place
+    known_covered rest last count e past newest covered sixteen =
+        let n = count_at marks (length trail) place in
+        let early : n ≤ length rest = omega (
+          arith,
+          rising place (length marks - 1) (omega arith),
+          get_or_default marks (length marks - 1) (length trail) 0 (omega arith),
+        ) in
+        sym (taken_before known trail rest last n e early)
+        ∙ ap (λ (k : AllFacts). restored k (drop n rest)) (sym (covered known sixteen))
+        ∙ taken_before (known_before change known) trail rest last n e early
+
+pub ruleset opened_laws = (known_past, known_opened)
 
 -- so a change of a word that is noted leaves them
 pub noted : (sets : List NumberFacts) (pairs : List AtomPair) (change : WordChange) (old new : NumberFacts)
@@ -107,14 +112,6 @@ noted sets pairs change old new trail room more marks slice e f marked sixteen r
     let left = rw (e, f) at marked in
     same_known _ _ (left after (length-set sets change.word new ∙ sixteen) place lt
     ∙ ap (λ (k : AllFacts). known_at k trail marks place) (before_changed sets pairs change old new within read same))
-
--- a mark that is opened leaves the levels up to it
-pub known_opened : (known : AllFacts) (trail : List Change) (marks : List ℕ) (count place : ℕ) → count ≡ length trail
-    → known_at known trail (marks ++ count ∷ []) place ≡ known_at known trail marks place
-known_opened known trail marks count place e =
-    rw e (ap (λ n. restored known (drop n trail)) (count_opened marks (length trail) place))
-
-pub ruleset opened_laws = (known_past, known_opened)
 
 -- the newest mark is closed, and what was changed after it put back
 pub known_closed : (known back : AllFacts) (trail cut : List Change) (marks rest : List ℕ) (count place : ℕ)

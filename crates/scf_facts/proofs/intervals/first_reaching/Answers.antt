@@ -6,7 +6,6 @@ pub returns : goal.returns
 returns c =
     let place = c.count_ending_below.result in
     let found : c.copied.result ≡ slice_get c.args.intervals.now place = grind (arith, common_steps, gets) in
-    let reaches : IfSome c.copied.result (λ i. c.args.x ≤ i.high) = grind (arith, common_steps, gets) in
     let r = reached c.args.intervals.now place c.args.x c.copied.result c.requires
     c.count_ending_below.ensures.below found in
-    record { reaches = reaches; one = r.0; first = r.1; none = r.2 }
+    record { reaches = grind (arith, common_steps, gets); one = r.0; first = r.1; none = r.2 }
