@@ -1,20 +1,15 @@
 -- Counts at open marks, as more is learned and marks are opened and closed.
-use Rattle.scf_facts.proofs.Common.{◌≡◌, ℕ, zero, suc, ◌≤◌, List, [], ◌∷◌, ◌++◌, length, take, refl, arith, Bool, true, false, if◌then◌else◌, get_or_past, get_or_default, length-take-le, count_at, AreRising}
+use Rattle.scf_facts.proofs.Common.{common_steps, cases_lt, ◌≡◌, ℕ, zero, suc, ◌≤◌, List, [], ◌∷◌, ◌++◌, length, take, refl, arith, Bool, true, false, if◌then◌else◌, get_or_past, get_or_default, length-take-le, count_at, AreRising}
 
 -- a mark that is opened now changes no level's count
 pub count_opened : (marks : List ℕ) (now level : ℕ) → count_at (marks ++ now ∷ []) now level ≡ count_at marks now level
-count_opened [] now zero = refl
-count_opened [] now (suc level) = refl
-count_opened (mark ∷ marks) now zero = refl
-count_opened (mark ∷ marks) now (suc level) = count_opened marks now level
+count_opened marks now level = grind (arith, common_steps, get_or_past, cases_lt level (length marks))
 
 -- what is closed is the newest mark: its count is that of now, and older marks keep theirs
 pub count_closed : (marks : List ℕ) (count now level : ℕ)
     → level ≤ length marks → count_at marks count level ≡ count_at (marks ++ count ∷ []) now level
-count_closed [] count now zero h = refl
-count_closed [] count now (suc level) h = absurd (omega arith)
-count_closed (mark ∷ marks) count now zero h = refl
-count_closed (mark ∷ marks) count now (suc level) h = count_closed marks count now level (omega arith)
+count_closed marks count now level h =
+    grind (arith, common_steps, get_or_past, get_or_default marks level count now)
 
 pub rising_more : (marks : List ℕ) (now more : ℕ) → now ≤ more → AreRising marks now → AreRising marks more
 rising_more marks now more h rising earlier later le = grind (
@@ -26,14 +21,11 @@ rising_more marks now more h rising earlier later le = grind (
   get_or_default marks later more now,
 )
 
-rising_opened : (marks : List ℕ) (now : ℕ) → AreRising marks now → AreRising (marks ++ now ∷ []) now
-rising_opened marks now rising earlier later le =
-    omega (arith, rising earlier later le, count_opened marks now earlier, count_opened marks now later)
-
 -- where memory is refused, no mark is opened
 pub rising_pushed : (opened : Bool) (marks new : List ℕ) (count now : ℕ) → count ≡ now
     → new ≡ (if opened then marks ++ count ∷ [] else marks) → AreRising marks now → AreRising new now
-rising_pushed true marks new count now e same rising = rw (same, e) (rising_opened marks now rising)
+rising_pushed true marks new count now e same rising = rw (same, e)
+    (λ earlier later le. omega (arith, rising earlier later le, count_opened marks now earlier, count_opened marks now later))
 rising_pushed false marks new count now e same rising = rw same rising
 
 pub rising_closed : (marks : List ℕ) (count now : ℕ) → AreRising (marks ++ count ∷ []) now → AreRising marks count

@@ -1,5 +1,5 @@
 -- Laws of intervals and their parts.
-use Rattle.scf_facts.proofs.Common.{◌≡◌, ◌⊎◌, inl, inr, ℕ, zero, suc, refl, sym, ◌+◌, ◌<◌, ◌≤◌, ◌↔◌, List, [], ◌∷◌, ◌++◌, get_or, length, arith, All, IfSome, IfNone, Option, Some, None, nat_le, nat_lt, min, max, slice_get, filter_map, cons_option, AllWithin, leb-true, leb-false, ltb-true, ltb-false, cond_both, Interval, LiesIn, LiesOutside, LiesInOne, AreApartFrom, AreApart, ArePartsOf, part_within, part_below, part_above}
+use Rattle.scf_facts.proofs.Common.{nat_tests, ◌≡◌, ◌⊎◌, inl, inr, ℕ, zero, suc, refl, sym, ◌+◌, ◌<◌, ◌≤◌, ◌↔◌, List, [], ◌∷◌, ◌++◌, get_or, length, arith, All, IfSome, IfNone, Option, Some, None, nat_le, nat_lt, min, max, slice_get, filter_map, cons_option, AllWithin, leb-true, leb-false, ltb-true, ltb-false, cond_both, Interval, LiesIn, LiesOutside, LiesInOne, AreApartFrom, AreApart, ArePartsOf, part_within, part_below, part_above}
 
 -- ---- one list after another
 
@@ -136,17 +136,13 @@ module _ (P : ℕ → Type 0) (part : Interval → Option Interval)
       parts_step least (part i) i is (filter_map part is) (each i a.1) a (parts_of (i.high + 1) is a.2)
 
 within_part : (range i : Interval) → i.low ≤ i.high → IsPart (LiesIn range) i (part_within range i)
-within_part range i filled =
-    cond_both (nat_le (max i.low range.low) (min i.high range.high)) _ None (IsPart (LiesIn range) i)
-    (λ e. omega (arith, leb-true _ _ e)) (λ e. omega (arith, leb-false _ _ e))
+within_part range i filled = grind (arith, nat_tests)
 
 below_part : (bound : ℕ) (i : Interval) → i.low ≤ i.high → IsPart (λ x. x < bound) i (part_below bound i)
-below_part bound i filled = cond_both (nat_lt i.low bound) _ None (IsPart (λ x. x < bound) i)
-    (λ e. omega (arith, ltb-true _ _ e)) (λ e. omega (arith, ltb-false _ _ e))
+below_part bound i filled = grind (arith, nat_tests)
 
 above_part : (bound : ℕ) (i : Interval) → i.low ≤ i.high → IsPart (λ x. bound < x) i (part_above bound i)
-above_part bound i filled = cond_both (nat_lt bound i.high) _ None (IsPart (λ x. bound < x) i)
-    (λ e. omega (arith, ltb-true _ _ e)) (λ e. omega (arith, ltb-false _ _ e))
+above_part bound i filled = grind (arith, nat_tests)
 
 -- the parts below a range and those above it are its parts outside
 abbrev pub parts_beside : Interval → List Interval → List Interval

@@ -48,11 +48,7 @@ beyond_rest m k = sym (or_disjoint (beyond m k) (bit_and m k) (same_from_bits _ 
 
 -- a number under one bit is nothing or the bit
 pub under_power : (x m : ℕ) → IsPowerOfTwo m → (bit_and x m ≡ 0) ⊎ (bit_and x m ≡ m)
-under_power x m (k, e) = elim (cases_eq (bit_at x k) 0) [
-  | inl none ↦ inl (ap (bit_and x) e ∙ and_pow x k ∙ ap (λ (b : ℕ). b * 2 ^ k) none ∙ omega arith)
-  | inr some ↦ inr (let one : bit_at x k ≡ 1 = omega (arith, bit_at-lt x k) in
-      ap (bit_and x) e ∙ and_pow x k ∙ ap (λ (b : ℕ). b * 2 ^ k) one ∙ omega arith)
-]
+under_power x m (k, e) = grind (arith, and_pow x k, bit_at-lt x k, cases_eq (bit_at x k) 0)
 
 -- of one bit at most it is left beyond others
 pub one_beyond : (m k : ℕ) → IsPowerOfTwo m → (beyond m k ≡ 0) ⊎ IsPowerOfTwo (beyond m k)

@@ -17,8 +17,7 @@ allows_refuted s new bits x intervals known refuted = grind (
 
 -- where no bit of them is open, each number has the bits that some number with the known ones has
 pub has_closed : (x m v : ℕ) → m ≡ 0 → bit_and v m ≡ v → bit_and x m ≡ v
-has_closed x m v none within =
-    ap (bit_and x) none ∙ and_zero_r x ∙ sym (and_zero_r v) ∙ ap (bit_and v) (sym none) ∙ within
+has_closed x m v none within = grind (arith, and_zero_r)
 
 -- ---- numbers with both answers
 

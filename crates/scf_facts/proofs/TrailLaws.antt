@@ -35,13 +35,13 @@ before_changed : (sets : List NumberFacts) (pairs : List AtomPair) (change : Wor
     → change.word < length sets → old ≡ slice_index_or sets change.word old → facts_before change.former new ≡ old
     → known_before (OfWord change) (known_of (slice_set sets change.word new) pairs) ≡ known_of sets pairs
 before_changed sets pairs change old new within read same =
-    let word = change.word in
-    ap (λ (s : List NumberFacts). known_of s pairs)
-    (ap (slice_set (slice_set sets word new) word)
-    (ap (facts_before change.former) (get_or-set_same sets word new no_facts within) ∙ same)
-    ∙ set-set sets word new old
-    ∙ ap (slice_set sets word) read
-    ∙ set-get_or sets word old)
+    rw (
+      get_or-set_same sets change.word new no_facts within,
+      same,
+      set-set sets change.word new old,
+      read,
+      set-get_or sets change.word old,
+    )
 
 -- of changes of one word's intervals the first brings back what was known before both
 pub covers : (first later : WordChange) (is js : List Interval) → first.word ≡ later.word → later.word < 16
@@ -49,11 +49,13 @@ pub covers : (first later : WordChange) (is js : List Interval) → first.word �
 covers first later is js same below e f known sixteen =
     let word = later.word in
     let now = slice_index_or known.sets word no_facts in
-    rw (same, e, f) (ap (λ (s : List NumberFacts). known_of s known.pairs)
-    (ap (λ (facts : NumberFacts). slice_set (slice_set known.sets word (record now { intervals = js })) word
-    (record facts { intervals = is }))
-    (get_or-set_same known.sets word (record now { intervals = js }) no_facts (omega arith))
-    ∙ set-set known.sets word (record now { intervals = js }) (record now { intervals = is })))
+    rw (
+      same,
+      e,
+      f,
+      get_or-set_same known.sets word (record now { intervals = js }) no_facts (omega arith),
+      set-set known.sets word (record now { intervals = js }) (record now { intervals = is }),
+    )
 
 -- ---- levels
 

@@ -1,20 +1,16 @@
-use Rattle.scf_facts.proofs.Common.{inl, inr, bit_and, refl, cases_eq}
+use Rattle.scf_facts.proofs.Common.{arith, inl, inr, bit_and, refl, cases_eq}
 use Rattle.scf_facts.proofs.free_number.+free_number.Goals as goal
 
 pub returns-in_default-free_number-clause-found : goal.returns-in_default-free_number-clause-found
 returns-in_default-free_number-clause-found t c = λ x e.
-    let found = c.free_number.ensures.found x e in
-    let has = (c.in-Some.ensures.both x).0 found.1 in
-    (found.0, has.0, has.1, found.3)
+    grind (arith, c.free_number.ensures.found x e, c.in-Some.ensures.both x)
 
 pub returns-in_default-free_number-clause-nothing : goal.returns-in_default-free_number-clause-nothing
 returns-in_default-free_number-clause-nothing t c = λ e. absurd (c.in_default-free_number.not-Nothing e)
 
 pub returns-in-Nothing-clause-found : goal.returns-in-Nothing-clause-found
 returns-in-Nothing-clause-found t c = λ x e.
-    let found = c.free_number-in-Nothing.ensures.found x e in
-    let has = (c.in-Some.ensures.both x).0 found.1 in
-    (found.0, has.0, has.1, found.3)
+    grind (arith, c.free_number-in-Nothing.ensures.found x e, c.in-Some.ensures.both x)
 
 -- a number has the bit or lacks it
 pub returns-in-Nothing-clause-nothing : goal.returns-in-Nothing-clause-nothing

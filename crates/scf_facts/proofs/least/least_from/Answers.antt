@@ -3,14 +3,11 @@ use Rattle.scf_facts.proofs.LeastNumber.{none-past}
 use Rattle.scf_facts.proofs.least.least_from.Goals as goal
 
 pub returns-then-next-from-clause-none : goal.returns-then-next-from-clause-none
-returns-then-next-from-clause-none c =
-    λ y low fits. none-past c.args.low c.loop-place.x c.past-next.result c.args.bits.mask c.args.bits.value
-    c.in-Some.place c.loop-place.invariant.none c.in-Some.ensures.some.1 c.past-next.ensures.same y low
-    (omega (arith, c.if-next-from.true, c.from.ensures, fits))
+returns-then-next-from-clause-none c = λ y low fits. none-past _ _ _ _ _ _ c.loop-place.invariant.none
+    c.in-Some.ensures.some.1 c.past-next.ensures.same y low (omega (arith, c.if-next-from.true, c.from.ensures, fits))
 
 pub loop-place-preserved : goal.loop-place-preserved
 loop-place-preserved c = record {
   from = omega (arith, c.loop-place.invariant.from, c.past-next.ensures.above);
-  none = none-past c.args.low c.loop-place.x c.past-next.result c.args.bits.mask
-      c.args.bits.value c.in-Some.place c.loop-place.invariant.none c.in-Some.ensures.some.1 c.past-next.ensures.same;
+  none = none-past _ _ _ _ _ _ c.loop-place.invariant.none c.in-Some.ensures.some.1 c.past-next.ensures.same;
 }

@@ -6,8 +6,7 @@ use Rattle.scf_facts.proofs.word_sets.WordSetsWordFacts.all.Goals as goal
 pub returns-clause-law_all : goal.returns-clause-law_all
 returns-clause-law_all c = λ words.
     let sets = c.loop-sets.sets.items in
-    let all = subst (λ s. AllowsWords s words ↔ IsWords words)
-    (sym c.loop-sets.invariant.same) (allows_all (length sets) words) in
+    let all = rw (← c.loop-sets.invariant.same) at (allows_all (length sets) words) in
     rw (known_past (known_of sets c.new-2.result.items) c.new-3.result.items c.new-4.result.items 0
     (omega (arith, ap length c.new-4.ensures.items))) (
       λ h. all.0 h.0,
