@@ -185,3 +185,5 @@ stack_lets_through_no_more filters filter words decision answer has stack run =
     let at = answer_among (reverse filters) words stack.answers filter answer stack.are
     (has_reverse filters filter has) run in
     fate_by_rank decision answer (least_rank stack.answers decision answer at.0 stack.decides at.1)
+
+pub ruleset decision_laws = (decision_is, decision_once, decision_with_newest)

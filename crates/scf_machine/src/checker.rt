@@ -152,6 +152,7 @@ fn is_stored(mask: u16, word: u32) -> bool
 }
 
 /// The mask with the scratch word that an instruction stores.
+#[tactic(auto, using(crate::proofs::Masks::bit_set))]
 fn mask_after(mask: u16, insn: Insn, operation: Operation) -> u16
     requires { IsTrue (stores_word operation insn.k insn.k) → insn.k < bpf_memwords }
     ensures { (n : ℕ) → n < bpf_memwords

@@ -17,6 +17,7 @@ pub fn run_once()
 {}
 
 /// Two chains that meet are one chain, and a chain before a run makes a run.
+#[tactic(auto, using(crate::proofs::Chains::chains_join, crate::proofs::Chains::run_behind))]
 pub fn chains_join()
     ensures chain { (insns : List Insn) (words : List ℕ) (s t u : State) (xs ys : List State)
         → IsChain insns words s t xs → IsChain insns words t u ys → IsChain insns words s u (ys ++ xs) }
@@ -37,6 +38,7 @@ pub fn chain_of_part()
 
 /// Of answers one decides, and one answer more, the newest, changes the decision as `with_newest` says. So a decision
 /// depends on the answers alone.
+#[tactic(auto, using(crate::proofs::Stacks::decision_laws))]
 pub fn answers_decide()
     ensures some { (answers : List ℕ) → (decision : ℕ) × IsDecision answers decision }
     ensures once { (answers : List ℕ) (m n : ℕ) → IsDecision answers m → IsDecision answers n → m ≡ n }

@@ -52,6 +52,7 @@ impl Model for FilterStack {
 
 /// What a stack answers with one filter more, the newest, from what it answers without it: the newest answer, unless
 /// that has the greater rank.
+#[tactic(auto, using(crate::proofs::Stacks::newest_decides, crate::proofs::Stacks::older_decides))]
 pub fn with_newest(older: Answer, newest: Answer) -> Answer
     ensures by_rank { result.0 ≡ with_newest older.0 newest.0 }
     ensures decides { (answers : List ℕ) → IsDecision answers older.0 → IsDecision (newest.0 ∷ answers) result.0 }

@@ -3,9 +3,6 @@ use Rattle.scf_machine.proofs.Refusals.{only_where}
 use Rattle.scf_machine.proofs.Runs.{runs_safely}
 use Rattle.scf_machine.proofs.checker.check.Goals as goal
 
-pub invariant_of-result : goal.invariant_of-result
-invariant_of-result c = rw c.deref.ensures.value at c.in-Ok.ensures.ok
-
 pub returns-in-Ok-clause-accepted : goal.returns-in-Ok-clause-accepted
 returns-in-Ok-clause-accepted c = let ok = rw c.deref.ensures.value at c.in-Ok.ensures.ok in (refl, ok.valid, ok.stored)
 

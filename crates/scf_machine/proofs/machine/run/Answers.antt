@@ -6,8 +6,7 @@ use Rattle.scf_machine.proofs.machine.run.Goals as goal
 pub overflow_add-steps : goal.overflow_add-steps
 overflow_add-steps c =
     let so_far = c.loop-answer.invariant in
-    let inside = at_inside _ _ _ _ c.advance-answered.ensures.filter.valid so_far.at in
-    let count = so_far.count in search rules
+    let inside = at_inside _ _ _ _ c.advance-answered.ensures.filter.valid so_far.at in omega (arith, so_far.count)
 
 pub returns-in-Some : goal.returns-in-Some
 returns-in-Some c =
@@ -28,7 +27,6 @@ loop-answer-preserved c =
 pub loop-answer-smaller : goal.loop-answer-smaller
 loop-answer-smaller c =
     let so_far = c.loop-answer.invariant in
-    let inside = at_inside _ _ _ _ c.advance-answered.ensures.filter.valid so_far.at in
     let follows = rw (c.words-words.ensures, c.in_default.is) at c.advance-answered.ensures.follows in
     let next = at_next _ _ _ _ _ so_far.at (follows so_far.earlier so_far.at) in
-    let forward = next.1 in let here = inside.0 in omega arith
+    omega (arith, next.1, (at_inside _ _ _ _ c.advance-answered.ensures.filter.valid so_far.at).0)

@@ -40,7 +40,6 @@ loop-places-preserved c =
 pub loop-places-smaller : goal.loop-places-smaller
 loop-places-smaller c =
     let so_far = c.loop-places.invariant in
-    let inside = at_inside _ _ _ _ c.advance-answered.ensures.filter.valid so_far.at in
     let follows = rw (c.words-words.ensures, c.in_default.is) at c.advance-answered.ensures.follows in
     let next = at_next _ _ _ _ _ so_far.at (follows so_far.earlier so_far.at) in
-    let forward = next.1 in let here = inside.0 in omega arith
+    omega (arith, next.1, (at_inside _ _ _ _ c.advance-answered.ensures.filter.valid so_far.at).0)

@@ -5,33 +5,26 @@ use Rattle.scf_machine.proofs.machine.Registers.advance.Goals as goal
 
 pub index-insn-requires : goal.index-insn-requires
 index-insn-requires c =
-    let at = rw (← c.program.view_is) at c.requires.1 in
-    let inside = at_inside c.program.inside.list.items _ _ _ c.program.invariant.valid at in search rules
+    let inside = at_inside _ _ _ _ c.program.invariant.valid (rw (← c.program.view_is) at c.requires.1) in search rules
 
 pub unreachable-requires : goal.unreachable-requires
 unreachable-requires c =
-    let at = rw (← c.program.view_is) at c.requires.1 in
-    let inside = at_inside c.program.inside.list.items _ _ _ c.program.invariant.valid at in
+    let inside = at_inside _ _ _ _ c.program.invariant.valid (rw (← c.program.view_is) at c.requires.1) in
     always_known c.program.inside.list.items c.args.self.now.place c.index-insn.result.now c.operation.result
     (c.program.invariant.valid.each _ inside.0) (read_here _ _ _ inside.0 c.index-insn.ensures) c.operation.ensures
     c.in_default.is
 
 pub step-requires-clause-place : goal.step-requires-clause-place
 step-requires-clause-place c =
-    let at = rw (← c.program.view_is) at c.requires.1 in
-    let inside = at_inside c.program.inside.list.items _ _ _ c.program.invariant.valid at in omega arith
+    let inside = at_inside _ _ _ _ c.program.invariant.valid (rw (← c.program.view_is) at c.requires.1) in omega arith
 
 pub step-requires-clause-fine : goal.step-requires-clause-fine
 step-requires-clause-fine c =
-    let at = rw (← c.program.view_is) at c.requires.1 in
-    let inside = at_inside c.program.inside.list.items _ _ _ c.program.invariant.valid at in
+    let inside = at_inside _ _ _ _ c.program.invariant.valid (rw (← c.program.view_is) at c.requires.1) in
     wider (length c.program.inside.list.items) c.args.self.now.place c.index-insn.result.now c.in-Some.operation
     inside.2 (fine_of c.program.inside.list.items c.args.self.now.place c.index-insn.result.now c.in-Some.operation
     (c.program.invariant.valid.each _ inside.0)
     (record { here = read_here _ _ _ inside.0 c.index-insn.ensures; known = sym c.operation.ensures ∙ c.in-Some.is }))
-
-pub returns-clause-filter : goal.returns-clause-filter
-returns-clause-filter c = rw (← c.program.view_is) c.program.invariant
 
 pub returns-clause-follows : goal.returns-clause-follows
 returns-clause-follows c = rw (← c.program.view_is) (λ earlier at.
