@@ -1,11 +1,6 @@
 -- What a change of the facts of a word leaves.
 use Rattle.scf_facts.proofs.Common.{◌≡◌, ℕ, ◌<◌, ◌^◌, ◌↔◌, [], ◌∷◌, ◌++◌, sym, ap, ◌∙◌, arith, Bool, true, false, Some, bit_and, and_zero_r, false_from_ne_true, true_from_ne_false, All-push, All-pop, Bits, Interval, LiesIn, LiesOutside, ArePartsOf, NumberFacts, AllowsNumber, SomeNumber, HasBits, LacksBits}
 
--- other intervals
-pub allows_cut : (s new : NumberFacts) (P : ℕ → Type 0) (x : ℕ) → new.known ≡ s.known → new.refuted ≡ s.refuted
-    → ArePartsOf P s.intervals new.intervals → AllowsNumber new x ↔ (AllowsNumber s x × P x)
-allows_cut s new P x known refuted parts = grind (arith, parts.1 x)
-
 -- one more refuted
 pub allows_refuted : (s new : NumberFacts) (bits : Bits) (x : ℕ) → new.intervals ≡ s.intervals → new.known ≡ s.known
     → new.refuted ≡ s.refuted ++ bits ∷ [] → AllowsNumber new x ↔ (AllowsNumber s x × LacksBits bits x)
@@ -14,10 +9,6 @@ allows_refuted s new bits x intervals known refuted = grind (
   All-pop (λ other. LacksBits other x) new.refuted s.refuted (Some bits) refuted,
   All-push (λ other. LacksBits other x) s.refuted bits,
 )
-
--- where no bit of them is open, each number has the bits that some number with the known ones has
-pub has_closed : (x m v : ℕ) → m ≡ 0 → bit_and v m ≡ v → bit_and x m ≡ v
-has_closed x m v none within = grind (arith, and_zero_r)
 
 -- ---- numbers with both answers
 

@@ -20,7 +20,7 @@ fn is_told(sets: &[WordSet], atom: Atom) -> bool
 }
 
 /// What the atom answers of every allowed list, where the numbers of its word or a pair say that.
-#[tactic(auto, using(crate::proofs::PairLaws::told_exactly))]
+#[tactic(auto, using(crate::proofs::PairLaws::exactly))]
 pub(crate) fn tell_known(sets: &[WordSet], pairs: &[AtomPair], atom: Atom) -> Tell
     requires sixteen { length sets.now ≡ 16 }
     requires word { word_of atom < 16 }

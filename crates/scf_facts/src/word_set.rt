@@ -89,7 +89,6 @@ impl WordSet {
     }
 
     /// Keeps the numbers within a range.
-    #[tactic(auto, using(crate::proofs::SetLaws::allows_cut))]
     fn keep_range(&mut self, alloc: Global, range: Interval) -> Result<Former, Memory>
         ensures kept { OnOk result ((x : ℕ) → AllowsNumber self.new x ↔ (AllowsNumber self.old x × LiesIn range x)) }
         ensures before { IfOk result (λ former. facts_before former self.new ≡ self.old) }
@@ -101,7 +100,6 @@ impl WordSet {
     }
 
     /// Keeps the numbers outside a range.
-    #[tactic(auto, using(crate::proofs::SetLaws::allows_cut))]
     fn drop_range(&mut self, alloc: Global, range: Interval) -> Result<Former, Memory>
         requires { range.low ≤ range.high }
         ensures kept { OnOk result ((x : ℕ)
@@ -137,7 +135,7 @@ impl WordSet {
     }
 
     /// Keeps the numbers that don't have the bits.
-    #[tactic(auto, using(crate::proofs::SetLaws::allows_refuted, crate::proofs::SetLaws::has_closed))]
+    #[tactic(auto, using(crate::proofs::SetLaws::allows_refuted))]
     fn drop_bits(&mut self, alloc: Global, bits: Bits) -> Result<Former, Memory>
         ensures kept { OnOk result ((x : ℕ) → AllowsNumber self.new x ↔ (AllowsNumber self.old x × LacksBits bits x)) }
         ensures before { IfOk result (λ former. facts_before former self.new ≡ self.old) }
