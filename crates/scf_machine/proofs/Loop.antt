@@ -13,14 +13,6 @@ pub read_here : (insns : List Insn) (p : ℕ) (i : Insn)
     → p < length insns → i ≡ get_or insns p i → slice_get insns p ≡ Some i
 read_here insns p i inside e = slice_get_read insns (length insns) p i refl inside e
 
-pub always_known : (insns : List Insn) (p : ℕ) (i : Insn) (found : Option Operation)
-    → IsFineAt insns p → slice_get insns p ≡ Some i → found ≡ operation_of i.code → found ≡ None → ⊥
-always_known insns p i found fine here e none = grind arith
-
-pub wider : (len p : ℕ) (i : Insn) (operation : Operation)
-    → len ≤ bpf_maxinsns → IsFine len p i operation → IsFine bpf_maxinsns p i operation
-wider len p i operation few fine = grind arith
-
 follows : (insns : List Insn) (words : List ℕ) (s : State) (o : Outcome) (result : Option Answer) (new : Registers)
     → step insns words s ≡ o → ((fault : Fault) → o ≡ Faults fault → ⊥) → Agrees o result new
     → Follows insns words s result new

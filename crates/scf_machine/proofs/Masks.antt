@@ -1,5 +1,5 @@
 -- Masks of scratch words, and the paths that they stand for.
-use Rattle.scf_machine.proofs.Common.{◌≡◌, ℕ, zero, suc, ◌+◌, ◌*◌, ◌%◌, ◌^◌, ◌<◌, ◌≤◌, inl, inr, min, Bool, false, cond, nat_eq, List, [], ◌∷◌, Some, refl, ap, sym, subst, ◌∙◌, arith, length, get_or, set, replicate, bit_and, bit_or, length-set, get_or-set_same, get_or-set_other, bit_at, w16, list_any, AllByRecursion, nat_tests, bit_at_and, bit_at_ones, bit_at-zero, bit_at_set_same, bit_at_set_other, cases_eq, or_parts, or_from, true_from_ne_false, get_or-replicate, length-replicate, slice_get_within, bpf_memwords, Insn, Register, Operation, LoadScratch, Joins, Unstored, MasksAt, IsValidList, GoesTo, Edge, Stands, stores_word, stores_at, IsPath, IsUnsetAt, KeepsScratchRule}
+use Rattle.scf_machine.proofs.Common.{common_steps, ◌≡◌, ℕ, zero, suc, ◌+◌, ◌*◌, ◌%◌, ◌^◌, ◌<◌, ◌≤◌, inl, inr, min, Bool, false, cond, nat_eq, List, [], ◌∷◌, Some, refl, ap, sym, subst, ◌∙◌, arith, length, get_or, set, replicate, bit_and, bit_or, length-set, get_or-set_same, get_or-set_other, bit_at, w16, list_any, AllByRecursion, nat_tests, bit_at_and, bit_at_ones, bit_at-zero, bit_at_set_same, bit_at_set_other, cases_eq, or_parts, or_from, true_from_ne_false, get_or-replicate, length-replicate, slice_get_within, bpf_memwords, Insn, Register, Operation, LoadScratch, Joins, Unstored, MasksAt, IsValidList, GoesTo, Edge, Stands, stores_word, stores_at, IsPath, IsUnsetAt, KeepsScratchRule}
 use Rattle.scf_machine.proofs.Runs.{edge_forward, fine_of}
 
 edge_of : (insns : List Insn) (p t : ℕ) (i : Insn) (operation : Operation)
@@ -9,15 +9,7 @@ edge_of insns p t i operation stands goes = grind arith
 joined_bit : (masks : List ℕ) (target mask p n : ℕ) → target < length masks
     → bit_at (get_or (set masks target (bit_and (get_or masks target 0) mask)) p 0) n
     ≡ cond (nat_eq p target) (min (bit_at (get_or masks p 0) n) (bit_at mask n)) (bit_at (get_or masks p 0) n)
-joined_bit masks target mask p n inside =
-    let new = bit_and (get_or masks target 0) mask in
-    grind (
-      arith,
-      nat_tests,
-      get_or-set_same masks target new 0 inside,
-      get_or-set_other masks target p new 0,
-      bit_at_and (get_or masks target 0) mask n,
-    )
+joined_bit masks target mask p n inside = grind (arith, nat_tests, common_steps, bit_at_and)
 
 -- a mask that loses bits at one place
 pub joins_set : (masks : List ℕ) (target mask : ℕ) → target < length masks
@@ -143,12 +135,8 @@ pub none_here : (insns : List Insn) (masks : List ℕ) (at : ℕ) (i : Insn) (op
     → Stands insns at i operation → ((r : Register) → operation ≡ LoadScratch r → bit_at (get_or masks at 0) i.k ≡ 1)
     → (n : ℕ) → IsUnsetAt insns at n → ⊥
 none_here insns masks at i operation valid old inside stands set_bit n u =
-    let v : Unstored insns at at n = record {
-      earlier = u.earlier;
-      path = u.path;
-      below = path_below insns at u.earlier u.path;
-      unset = u.unset;
-    } in
+    let v : Unstored insns at at n =
+    record { earlier = u.earlier; path = u.path; below = path_below insns at u.earlier u.path; unset = u.unset } in
     grind (arith, stands_once, fine_of, valid.each at inside, old.found at n inside, set_bit)
 
 -- the places that were passed load no word that a path may leave unstored
@@ -157,10 +145,7 @@ NoneBelow insns at = (p n : ℕ) → p < at → IsUnsetAt insns p n → ⊥
 
 pub none_more : (insns : List Insn) (at : ℕ)
     → NoneBelow insns at → ((n : ℕ) → IsUnsetAt insns at n → ⊥) → NoneBelow insns (at + 1)
-none_more insns at before here p n below u = elim (cases_eq p at) [
-  | inl e ↦ here n (subst (λ (k : ℕ). IsUnsetAt insns k n) e u)
-  | inr ne ↦ before p n (omega arith) u
-]
+none_more insns at before here p n below u = grind (arith, cases_eq p at, here n, before p n)
 
 pub keeps_rule : (insns : List Insn) → NoneBelow insns (length insns) → KeepsScratchRule insns
 keeps_rule insns none place n earlier loads path =
@@ -170,11 +155,5 @@ keeps_rule insns none place n earlier loads path =
 -- at first each mask is full, and that of place 0 is empty
 pub masks_made : (insns : List Insn) (masks : List ℕ)
     → 0 < length insns → masks ≡ set (replicate (length insns) 65535) 0 0 → MasksAt insns masks 0
-masks_made insns masks some made =
-    let n = length insns in
-    let full : List ℕ = replicate n 65535 in
-    let long_full : length full ≡ n = length-replicate n 65535 in
-    masks_start insns masks (ap length made ∙ length-set full 0 0 ∙ long_full)
-    (ap (λ (xs : List ℕ). get_or xs 0 0) made ∙ get_or-set_same full 0 0 0 (omega arith))
-    (λ p above inside. ap (λ (xs : List ℕ). get_or xs p 0) made
-    ∙ get_or-set_other full 0 p 0 0 (λ e. omega arith) ∙ get_or-replicate n p 65535 0 inside)
+masks_made insns masks some made = masks_start insns masks
+    (grind (arith, common_steps)) (grind (arith, common_steps)) (λ p above inside. grind (arith, common_steps))

@@ -1,5 +1,5 @@
 -- What a stack answers, one filter after another.
-use Rattle.scf_machine.proofs.Common.{◌≡◌, ◌↔◌, ℕ, zero, suc, ◌+◌, ◌<◌, ◌≤◌, ◌≤ℤ◌, ◌<ℤ◌, ℤ, List, [], ◌∷◌, ◌++◌, Some, refl, ap, sym, subst, ◌∙◌, arith, length, get_or, take, reverse, All, slice_get, ints, take_more, take_all, reverse-append, length-reverse, get_or-reverse, Contains, ◌-◌, Insn, rank_of, LetsThroughNoMore, seccomp_ret_allow, RunAnswers, IsFilter, IsFirstLeast, IsDecision, AreAnswers, StackAnswers, with_newest}
+use Rattle.scf_machine.proofs.Common.{cases_eq, ◌≡◌, ◌↔◌, ℕ, zero, suc, ◌+◌, ◌<◌, ◌≤◌, ◌≤ℤ◌, ◌<ℤ◌, ℤ, List, [], ◌∷◌, ◌++◌, Some, refl, ap, sym, subst, ◌∙◌, arith, length, get_or, take, reverse, All, slice_get, ints, take_more, take_all, reverse-append, length-reverse, get_or-reverse, Contains, ◌-◌, Insn, rank_of, LetsThroughNoMore, seccomp_ret_allow, RunAnswers, IsFilter, IsFirstLeast, IsDecision, AreAnswers, StackAnswers, with_newest}
 use Rattle.scf_machine.proofs.Meets.{run_once}
 use Rattle.scf_machine.proofs.Runs.{runs_safely}
 
@@ -21,23 +21,17 @@ pub decision_once : (answers : List ℕ) (m n : ℕ) → IsDecision answers m �
 decision_once answers m n a b = grind (arith, first_once)
 
 -- ---- one answer more
-le_refl : (x : ℤ) → x ≤ℤ x
-le_refl x = omega (arith, ints)
-
-le_trans : (x y z : ℤ) → x ≤ℤ y → y ≤ℤ z → x ≤ℤ z
-le_trans x y z f g = omega (arith, ints)
-
 alone : (answer : ℕ) → IsFirstLeast (answer ∷ []) answer
 alone answer = grind (arith, ints)
 
 wins : (newest older : ℕ) (answers : List ℕ)
     → IsFirstLeast answers older → rank_of newest ≤ℤ rank_of older → IsFirstLeast (newest ∷ answers) newest
-wins newest older answers old le =
-    record { position = 0; here = refl; least = at; first = λ q other below here. absurd (omega arith) }
-  where
-    at : (q other : ℕ) → slice_get (newest ∷ answers) q ≡ Some other → rank_of newest ≤ℤ rank_of other
-    at zero other e = subst (λ (n : ℕ). rank_of newest ≤ℤ rank_of n) (some_same _ _ e) (le_refl _)
-    at (suc q) other e = le_trans _ _ _ le (old.least q other e)
+wins newest older answers old le = record {
+  position = 0;
+  here = refl;
+  least = λ q other e. grind (arith, ints, cases_eq q 0, old.least (q - 1) other);
+  first = λ q other below here. absurd (omega arith);
+}
 
 stays : (newest older : ℕ) (answers : List ℕ)
     → IsFirstLeast answers older → rank_of older <ℤ rank_of newest → IsFirstLeast (newest ∷ answers) older
@@ -106,8 +100,7 @@ pub pushed_answers : (filters : List (List Insn)) (filter : List Insn) (words : 
     → RunAnswers filter words newest → StackAnswers (filters ++ filter ∷ []) words (with_newest older newest)
 pushed_answers filters filter words older newest old run = record {
   answers = newest ∷ old.answers;
-  are = subst (λ (fs : List (List Insn)). AreAnswers fs words (newest ∷ old.answers))
-      (sym (reverse-append filters (filter ∷ []))) (run, old.are);
+  are = rw (reverse-append filters (filter ∷ [])) (run, old.are);
   decides = decision_with_newest old.answers older newest old.decides;
 }
 
@@ -116,8 +109,7 @@ pub one_more : (filters : List (List Insn)) (i : ℕ) (d : List Insn) (words : L
     → i < length filters → StackAnswers (take i filters) words older → RunAnswers (get_or filters i d) words newest
     → StackAnswers (take (i + 1) filters) words (with_newest older newest)
 one_more filters i d words older newest inside old run =
-    subst (λ (fs : List (List Insn)). StackAnswers fs words (with_newest older newest))
-    (sym (take_more filters i d inside))
+    rw (take_more filters i d inside)
     (pushed_answers (take i filters) (get_or filters i d) words older newest old run)
 
 answer_below : (filters : List (List Insn)) (words : List ℕ)
@@ -128,21 +120,15 @@ answer_below filters words each (suc i) le =
     let filter = each i [] (omega arith) in
     let run = (runs_safely (get_or filters i []) words filter.valid filter.stored).ends in
     let next = with_newest before.0 run.0 in
-    let more : i + 1 ≡ suc i = omega arith in (
-      next,
-      subst (λ (n : ℕ). StackAnswers (take n filters) words next) more
-          (one_more filters i [] words before.0 run.0 (omega arith) before.1 run.1),
-    )
+    let more : i + 1 ≡ suc i = omega arith in
+    (next, rw more at (one_more filters i [] words before.0 run.0 (omega arith) before.1 run.1))
 
 -- each stack of filters answers each record
 pub stack_answer_is : (filters : List (List Insn)) (words : List ℕ)
     → All IsFilter filters → (answer : ℕ) × StackAnswers filters words answer
 stack_answer_is filters words each =
-    let all = answer_below filters words each (length filters) (omega arith) in (
-      all.0,
-      subst (λ (fs : List (List Insn)). StackAnswers fs words all.0)
-          (take_all (length filters) filters (omega arith)) all.1,
-    )
+    rw (take_all (length filters) filters (omega arith)) at
+    (answer_below filters words each (length filters) (omega arith))
 
 -- ---- what a stack lets through
 answer_among : (filters : List (List Insn)) (words answers : List ℕ) (filter : List Insn) (answer : ℕ)

@@ -22,7 +22,7 @@ loop-answer-preserved c =
     let so_far = c.loop-answer.invariant in
     let follows = rw (c.words-words.ensures, c.in_default.is) at c.advance-answered.ensures.follows in
     let next = at_next _ _ _ _ _ so_far.at (follows so_far.earlier so_far.at) in
-    record { earlier = so_far.at.state ∷ so_far.earlier; at = next.0; count = let count = so_far.count in omega arith }
+    record { earlier = so_far.at.state ∷ so_far.earlier; at = next.0; count = omega (arith, so_far.count) }
 
 pub loop-answer-smaller : goal.loop-answer-smaller
 loop-answer-smaller c =

@@ -33,7 +33,7 @@ loop-places-preserved c =
     record {
       earlier = so_far.at.state ∷ so_far.earlier;
       at = next.0;
-      count = let count = so_far.count in let longer = added.1 in omega arith;
+      count = omega (arith, so_far.count, added.1);
       in_order = added.0;
     }
 

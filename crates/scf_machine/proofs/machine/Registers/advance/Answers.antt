@@ -1,5 +1,5 @@
 use Rattle.scf_machine.proofs.Common.{length, sym, arith, rules, ◌∙◌}
-use Rattle.scf_machine.proofs.Loop.{at_inside, follows_at, read_here, always_known, wider}
+use Rattle.scf_machine.proofs.Loop.{at_inside, follows_at, read_here}
 use Rattle.scf_machine.proofs.Runs.{fine_of}
 use Rattle.scf_machine.proofs.machine.Registers.advance.Goals as goal
 
@@ -10,9 +10,7 @@ index-insn-requires c =
 pub unreachable-requires : goal.unreachable-requires
 unreachable-requires c =
     let inside = at_inside _ _ _ _ c.program.invariant.valid (rw (← c.program.view_is) at c.requires.1) in
-    always_known c.program.inside.list.items c.args.self.now.place c.index-insn.result.now c.operation.result
-    (c.program.invariant.valid.each _ inside.0) (read_here _ _ _ inside.0 c.index-insn.ensures) c.operation.ensures
-    c.in_default.is
+    grind (arith, c.program.invariant.valid.each _ inside.0, read_here _ _ _ inside.0 c.index-insn.ensures)
 
 pub step-requires-clause-place : goal.step-requires-clause-place
 step-requires-clause-place c =
@@ -21,10 +19,7 @@ step-requires-clause-place c =
 pub step-requires-clause-fine : goal.step-requires-clause-fine
 step-requires-clause-fine c =
     let inside = at_inside _ _ _ _ c.program.invariant.valid (rw (← c.program.view_is) at c.requires.1) in
-    wider (length c.program.inside.list.items) c.args.self.now.place c.index-insn.result.now c.in-Some.operation
-    inside.2 (fine_of c.program.inside.list.items c.args.self.now.place c.index-insn.result.now c.in-Some.operation
-    (c.program.invariant.valid.each _ inside.0)
-    (record { here = read_here _ _ _ inside.0 c.index-insn.ensures; known = sym c.operation.ensures ∙ c.in-Some.is }))
+    grind (arith, c.program.invariant.valid.each _ inside.0, read_here _ _ _ inside.0 c.index-insn.ensures)
 
 pub returns-clause-follows : goal.returns-clause-follows
 returns-clause-follows c = rw (← c.program.view_is) (λ earlier at.
