@@ -135,15 +135,6 @@ module _ (P : ℕ → Type 0) (part : Interval → Option Interval)
   parts_of least (i ∷ is) a =
       parts_step least (part i) i is (filter_map part is) (each i a.1) a (parts_of (i.high + 1) is a.2)
 
-within_part : (range i : Interval) → i.low ≤ i.high → IsPart (LiesIn range) i (part_within range i)
-within_part range i filled = grind (arith, nat_tests)
-
-below_part : (bound : ℕ) (i : Interval) → i.low ≤ i.high → IsPart (λ x. x < bound) i (part_below bound i)
-below_part bound i filled = grind (arith, nat_tests)
-
-above_part : (bound : ℕ) (i : Interval) → i.low ≤ i.high → IsPart (λ x. bound < x) i (part_above bound i)
-above_part bound i filled = grind (arith, nat_tests)
-
 -- the parts below a range and those above it are its parts outside
 abbrev pub parts_beside : Interval → List Interval → List Interval
 parts_beside range is = filter_map (part_below range.low) is ++ filter_map (part_above range.high) is
@@ -153,8 +144,8 @@ beside : (range : Interval) (is : List Interval)
 beside range is filled a =
     let below = filter_map (part_below range.low) is in
     let above = filter_map (part_above range.high) is in
-    let l = parts_of (λ x. x < range.low) (part_below range.low) (below_part range.low) 0 is a in
-    let u = parts_of (λ x. range.high < x) (part_above range.high) (above_part range.high) 0 is a in (
+    let l = parts_of (λ x. x < range.low) (part_below range.low) (λ i filled. grind (arith, nat_tests)) 0 is a in
+    let u = parts_of (λ x. range.high < x) (part_above range.high) (λ i filled. grind (arith, nat_tests)) 0 is a in (
       apart_append 0 below above l.0 u.0 (λ x y h k. omega (arith, ((l.1 x).0 h).1, ((u.1 y).0 k).1)),
       λ x. grind (arith, lies_append below above x, l.1 x, u.1 x),
     )
@@ -177,11 +168,8 @@ module _ (range : Interval) (whole is js ks : List Interval) (cut : whole ≡ is
 
   pub cut_within : ArePartsOf (LiesIn range) whole (filter_map (part_within range) js)
   cut_within =
-      let here = parts_of (LiesIn range) (part_within range) (within_part range) 0 js right.0 in
-      rw cut (
-        here.0,
-        λ x. grind (arith, lies_append is (js ++ ks) x, lies_append js ks x, here.1 x, under x, over x),
-      )
+      let here = parts_of (LiesIn range) (part_within range) (λ i filled. grind (arith, nat_tests)) 0 js right.0 in
+      rw cut (here.0, λ x. grind (arith, lies_append, here.1 x, under x, over x))
 
   pub cut_outside : range.low ≤ range.high
       → ArePartsOf (LiesOutside range) whole ((is ++ parts_beside range js) ++ ks)
@@ -192,22 +180,6 @@ module _ (range : Interval) (whole is js ks : List Interval) (cut : whole ≡ is
         apart_append 0 (is ++ parts) ks
             (apart_append 0 is parts left.0 here.0
             (λ x y h k. left.2 x y h ((lies_append js ks y).1 (inl ((here.1 y).0 k).0)))) right.1
-            (λ x y h k. grind (
-              arith,
-              lies_append is parts x,
-              lies_append js ks y,
-              left.2 x y,
-              right.2 x y,
-              here.1 x,
-            )),
-        λ x. grind (
-          arith,
-          lies_append (is ++ parts) ks x,
-          lies_append is parts x,
-          lies_append is (js ++ ks) x,
-          lies_append js ks x,
-          here.1 x,
-          under x,
-          over x,
-        ),
+            (λ x y h k. grind (arith, lies_append, left.2 x y, right.2 x y, here.1 x)),
+        λ x. grind (arith, lies_append, here.1 x, under x, over x),
       )

@@ -6,7 +6,6 @@ pub mod IntervalLaws
 pub mod LeastNumber
 pub mod LowestBit
 pub mod MaskLaws
-pub mod PairLaws
 pub mod SetLaws
 pub mod StoreLaws
 pub mod TrailLaws

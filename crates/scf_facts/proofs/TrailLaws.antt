@@ -9,10 +9,7 @@ IsSameKnown old new =
     ((words : List ℕ) → AllowsList new words ↔ AllowsList old words) × (is_exact_known new ≡ is_exact_known old)
 
 pub same_known : (old new : AllFacts) → new ≡ old → IsSameKnown old new
-same_known old new e = (
-  λ words. (subst (λ known. AllowsList known words) e, subst (λ known. AllowsList known words) (sym e)),
-  ap is_exact_known e,
-)
+same_known old new e = rw e (λ words. (λ h. h, λ h. h), refl)
 
 -- ---- changes that are taken back
 

@@ -20,7 +20,6 @@ fn is_told(sets: &[WordSet], atom: Atom) -> bool
 }
 
 /// What the atom answers of every allowed list, where the numbers of its word or a pair say that.
-#[tactic(auto, using(crate::proofs::PairLaws::exactly))]
 pub(crate) fn tell_known(sets: &[WordSet], pairs: &[AtomPair], atom: Atom) -> Tell
     requires sixteen { length sets.now ≡ 16 }
     requires word { word_of atom < 16 }
@@ -44,7 +43,6 @@ pub(crate) fn tell_known(sets: &[WordSet], pairs: &[AtomPair], atom: Atom) -> Te
 }
 
 /// Whether it is known of a word that it has no number, or both atoms of a pair are told to be true.
-#[tactic(auto, using(crate::proofs::PairLaws::exactly))]
 pub(crate) fn is_known_empty(sets: &[WordSet], pairs: &[AtomPair]) -> bool
     requires { length sets.now ≡ 16 }
     ensures empty { IsTrue result → (words : List ℕ) → AllowsList (known_of sets.now pairs.now) words → ⊥ }
