@@ -12,14 +12,9 @@ count_closed marks count now level h =
     grind (arith, common_steps, get_or_past, get_or_default marks level count now)
 
 pub rising_more : (marks : List ℕ) (now more : ℕ) → now ≤ more → AreRising marks now → AreRising marks more
-rising_more marks now more h rising earlier later le = grind (
-  arith,
-  get_or_past,
-  rising earlier later le,
-  rising earlier (length marks),
-  get_or_default marks earlier more now,
-  get_or_default marks later more now,
-)
+rising_more marks now more h rising earlier later le =
+    let same = λ (k : ℕ). get_or_default marks k more now in
+    grind (arith, get_or_past, same, rising earlier later le, rising earlier (length marks))
 
 -- where memory is refused, no mark is opened
 pub rising_pushed : (opened : Bool) (marks new : List ℕ) (count now : ℕ) → count ≡ now
@@ -29,14 +24,9 @@ rising_pushed true marks new count now e same rising = rw (same, e)
 rising_pushed false marks new count now e same rising = rw same rising
 
 pub rising_closed : (marks : List ℕ) (count now : ℕ) → AreRising (marks ++ count ∷ []) now → AreRising marks count
-rising_closed marks count now rising earlier later le = grind (
-  arith,
-  get_or_past,
-  rising earlier later le,
-  rising earlier (length marks),
-  count_closed marks count now,
-  count_closed marks count now (length marks),
-)
+rising_closed marks count now rising earlier later le =
+    let closed = count_closed marks count now in
+    grind (arith, get_or_past, rising earlier later le, rising earlier (length marks), closed, closed (length marks))
 
 -- no mark's count is above the one now
 pub count_within : (marks : List ℕ) (now level : ℕ) → AreRising marks now → count_at marks now level ≤ now

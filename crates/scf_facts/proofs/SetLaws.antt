@@ -4,11 +4,9 @@ use Rattle.scf_facts.proofs.Common.{◌≡◌, ℕ, ◌<◌, ◌^◌, ◌↔◌,
 -- one more refuted
 pub allows_refuted : (s new : NumberFacts) (bits : Bits) (x : ℕ) → new.intervals ≡ s.intervals → new.known ≡ s.known
     → new.refuted ≡ s.refuted ++ bits ∷ [] → AllowsNumber new x ↔ (AllowsNumber s x × LacksBits bits x)
-allows_refuted s new bits x intervals known refuted = grind (
-  arith,
-  All-pop (λ other. LacksBits other x) new.refuted s.refuted (Some bits) refuted,
-  All-push (λ other. LacksBits other x) s.refuted bits,
-)
+allows_refuted s new bits x intervals known refuted =
+    let P : Bits → Type 0 = λ other. LacksBits other x in
+    grind (arith, All-pop P new.refuted s.refuted (Some bits) refuted, All-push P s.refuted bits)
 
 -- ---- numbers with both answers
 

@@ -32,13 +32,7 @@ before_changed : (sets : List NumberFacts) (pairs : List AtomPair) (change : Wor
     → change.word < length sets → old ≡ slice_index_or sets change.word old → facts_before change.former new ≡ old
     → known_before (OfWord change) (known_of (slice_set sets change.word new) pairs) ≡ known_of sets pairs
 before_changed sets pairs change old new within read same =
-    rw (
-      get_or-set_same sets change.word new no_facts within,
-      same,
-      set-set sets change.word new old,
-      read,
-      set-get_or sets change.word old,
-    )
+    rw (get_or-set_same sets change.word new no_facts within, same, set-set, read, set-get_or)
 
 -- of changes of one word's intervals the first brings back what was known before both
 pub covers : (first later : WordChange) (is js : List Interval) → first.word ≡ later.word → later.word < 16
@@ -46,13 +40,7 @@ pub covers : (first later : WordChange) (is js : List Interval) → first.word �
 covers first later is js same below e f known sixteen =
     let word = later.word in
     let now = slice_index_or known.sets word no_facts in
-    rw (
-      same,
-      e,
-      f,
-      get_or-set_same known.sets word (record now { intervals = js }) no_facts (omega arith),
-      set-set known.sets word (record now { intervals = js }) (record now { intervals = is }),
-    )
+    rw (same, e, f, get_or-set_same known.sets word (record now { intervals = js }) no_facts (omega arith), set-set)
 
 -- ---- levels
 
@@ -86,11 +74,8 @@ module _ (known : AllFacts) (trail : List Change) (marks : List ℕ) where
         → known_at known trail marks place ≡ known_at (known_before change known) trail marks place
     known_covered rest last count e past newest covered sixteen =
         let n = count_at marks (length trail) place in
-        let early : n ≤ length rest = omega (
-          arith,
-          rising place (length marks - 1) (omega arith),
-          get_or_default marks (length marks - 1) (length trail) 0 (omega arith),
-        ) in
+        let early : n ≤ length rest =
+        omega (arith, rising place (length marks - 1), get_or_default marks (length marks - 1) (length trail) 0) in
         sym (taken_before known trail rest last n e early)
         ∙ ap (λ (k : AllFacts). restored k (drop n rest)) (sym (covered known sixteen))
         ∙ taken_before (known_before change known) trail rest last n e early
