@@ -1,5 +1,5 @@
 -- The loop of a run.
-use Rattle.scf_machine.proofs.Common.{◌≡◌, ℕ, ◌+◌, ◌<◌, ◌≤◌, List, ◌∷◌, ◌∙◌, Option, None, Some, refl, get_or, arith, length, length-append, reverse, [], ◌++◌, ap, sym, reverse-append, slice_get, slice_get_read, operation_of, bpf_maxinsns, Insn, Answer, Operation, Registers, State, Outcome, Ends, Faults, Fault, effect, step, IsRun, places_of, IsValidList, IsFine, IsFineAt, IsFilter, Stands, StandFor, Agrees, IsAt, Follows}
+use Rattle.scf_machine.proofs.Common.{common_steps, ◌≡◌, ℕ, ◌+◌, ◌<◌, ◌≤◌, List, ◌∷◌, ◌∙◌, Option, None, Some, refl, get_or, arith, length, length-append, reverse, [], ◌++◌, ap, sym, reverse-append, slice_get, slice_get_read, operation_of, bpf_maxinsns, Insn, Answer, Operation, Registers, State, Outcome, Ends, Faults, Fault, effect, step, IsRun, places_of, IsValidList, IsFine, IsFineAt, IsFilter, Stands, StandFor, Agrees, IsAt, Follows}
 use Rattle.scf_machine.proofs.Runs.{reached, step_is, step_edge, edge_forward, never_faults}
 use Rattle.scf_machine.proofs.Runs.{run_length}
 
@@ -39,8 +39,4 @@ run_of insns words registers earlier answer steps h1 at h2 h3 = grind (arith, ru
 pub place_added : (registers : Registers) (s : State) (earlier : List State) (places more : List ℕ)
     → StandFor registers s → places ≡ reverse (places_of earlier) → more ≡ places ++ registers.place ∷ []
     → (more ≡ reverse (places_of (s ∷ earlier))) × (length more ≡ length places + 1)
-place_added registers s earlier places more stand before pushed = (
-  pushed ∙ ap (λ (p : List ℕ). p ++ registers.place ∷ []) before ∙ rw (← stand.place)
-      (sym (reverse-append (s.place ∷ []) (places_of earlier))),
-  ap length pushed ∙ length-append places (registers.place ∷ []),
-)
+place_added registers s earlier places more stand before pushed = grind (arith, common_steps)

@@ -20,10 +20,8 @@ answered : (insns : List Insn) (words : List ℕ) (answer k l : ℕ) → k ≤ l
     → after insns words k ≡ Ends answer → after insns words l ≡ Ends answer
 answered insns words answer k zero le e =
     let zero_steps : zero ≡ k = omega arith in ap (after insns words) zero_steps ∙ e
-answered insns words answer k (suc l) le e = elim (cases_eq k (suc l)) [
-  | inl same ↦ ap (after insns words) (sym same) ∙ e
-  | inr less ↦ ap (next insns words) (answered insns words answer k l (omega arith) e)
-]
+answered insns words answer k (suc l) le e =
+    grind (arith, cases_eq k (suc l), answered insns words answer k l)
 
 run_after : (insns : List Insn) (words : List ℕ) (answer steps : ℕ)
     → IsRun insns words answer steps → after insns words steps ≡ Ends answer

@@ -1,12 +1,9 @@
 -- A list that keeps every rule is refused for memory alone.
-use Rattle.scf_machine.proofs.Common.{◌≡◌, ◌≢◌, ◌-◌, Bool, false, List, length, refl, ap, arith, IsTrue, list_any, slice_get_within, Insn, CheckFault, Empty, TooLong, LastNotReturn, Unset, Memory, IsValidList, KeepsScratchRule, stores_at, IsFirstFault, IsFirstWrong}
+use Rattle.scf_machine.proofs.Common.{sym, ◌∙◌, ◌≡◌, ◌≢◌, ◌-◌, Bool, false, List, length, refl, ap, arith, IsTrue, list_any, slice_get_within, Insn, CheckFault, Empty, TooLong, LastNotReturn, Unset, Memory, IsValidList, KeepsScratchRule, stores_at, IsFirstFault, IsFirstWrong}
 use Rattle.scf_machine.proofs.Runs.{fine_of}
 
 wrong_none : (insns : List Insn) (fault : CheckFault) → IsValidList insns → IsFirstWrong insns fault → ⊥
 wrong_none insns fault v w = grind (arith, fine_of, v.each w.place, slice_get_within insns w.place w.insn w.here)
-
-true_false : (b : Bool) → IsTrue b → b ≡ false → ⊥
-true_false b h1 h2 = grind arith
 
 pub only_where : (insns : List Insn) (e : CheckFault)
     → IsFirstFault insns e → e ≢ Memory → IsValidList insns → KeepsScratchRule insns → ⊥
@@ -14,7 +11,7 @@ only_where insns Empty h n v k = let e = ap length h in let some = v.some in ome
 only_where insns TooLong h n v k = let few = v.few in omega arith
 only_where insns LastNotReturn h n v k = let some = v.some in
     let at = v.each (length insns - 1) (omega arith) in h.last _ _ at.stands (v.last _ _ at.stands)
-only_where insns (Unset at word) h n v k = true_false (list_any (stores_at insns word) h.unset.earlier)
-    (k at word h.unset.earlier h.unset.loads h.unset.path) h.unset.unset
+only_where insns (Unset at word) h n v k =
+    cc (sym (k at word h.unset.earlier h.unset.loads h.unset.path) ∙ h.unset.unset)
 only_where insns Memory h n v k = n refl
 only_where insns fault h n v k = wrong_none insns fault v h

@@ -3,9 +3,6 @@ use Rattle.scf_machine.proofs.Common.{cases_eq, ◌≡◌, ◌↔◌, ℕ, zero,
 use Rattle.scf_machine.proofs.Meets.{run_once}
 use Rattle.scf_machine.proofs.Runs.{runs_safely}
 
-some_same : (a b : ℕ) → Some a ≡ Some b → a ≡ b
-some_same a b e = cc
-
 -- ---- one answer decides
 first_once : (answers : List ℕ) (m n : ℕ) → IsFirstLeast answers m → IsFirstLeast answers n → m ≡ n
 first_once answers m n a b = grind (
@@ -147,12 +144,8 @@ has_reverse : (filters : List (List Insn)) (filter : List Insn) → Contains fil
     → Contains (reverse filters) filter
 has_reverse filters filter (i, inside, is) =
     let k = length filters - 1 - i in
-    let lt : k < length filters = omega (arith, inside) in
-    let back : length filters - 1 - k ≡ i = omega (arith, inside) in (
-      k,
-      omega (arith, length-reverse filters, inside),
-      get_or-reverse filters k filter lt ∙ ap (λ (n : ℕ). get_or filters n filter) back ∙ is,
-    )
+    let back : length filters - 1 - k ≡ i = omega (arith, inside) in
+    (k, omega (arith, length-reverse filters, inside), rw (get_or-reverse filters k filter (omega (arith, inside)), back) is)
 
 least_rank : (answers : List ℕ) (decision answer q : ℕ) → IsDecision answers decision
     → slice_get answers q ≡ Some answer → rank_of decision ≤ℤ rank_of answer
