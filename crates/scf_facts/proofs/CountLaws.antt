@@ -1,5 +1,5 @@
 -- Counts at open marks, as more is learned and marks are opened and closed.
-use Rattle.scf_facts.proofs.Common.{common_steps, cases_lt, ◌≡◌, ℕ, zero, suc, ◌≤◌, List, [], ◌∷◌, ◌++◌, length, take, refl, arith, Bool, true, false, if◌then◌else◌, get_or_past, get_or_default, length-take-le, count_at, AreRising}
+use Rattle.scf_facts.proofs.Common.{common_steps, cases_lt, ◌≡◌, ℕ, ◌≤◌, List, [], ◌∷◌, ◌++◌, length, take, arith, Bool, true, false, if◌then◌else◌, get_or_past, get_or_default, length-take-le, count_at, AreRising}
 
 -- a mark that is opened now changes no level's count
 pub count_opened : (marks : List ℕ) (now level : ℕ) → count_at (marks ++ now ∷ []) now level ≡ count_at marks now level

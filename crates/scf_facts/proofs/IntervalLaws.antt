@@ -1,5 +1,5 @@
 -- Laws of intervals and their parts.
-use Rattle.scf_facts.proofs.Common.{nat_tests, ◌≡◌, ◌⊎◌, inl, inr, ℕ, zero, suc, refl, sym, ◌+◌, ◌<◌, ◌≤◌, ◌↔◌, List, [], ◌∷◌, ◌++◌, get_or, length, arith, All, IfSome, IfNone, Option, Some, None, nat_le, nat_lt, min, max, slice_get, filter_map, cons_option, AllWithin, leb-true, leb-false, ltb-true, ltb-false, cond_both, Interval, LiesIn, LiesOutside, LiesInOne, AreApartFrom, AreApart, ArePartsOf, part_within, part_below, part_above}
+use Rattle.scf_facts.proofs.Common.{nat_tests, ◌≡◌, ◌⊎◌, inl, inr, ℕ, zero, suc, refl, sym, ◌+◌, ◌<◌, ◌≤◌, ◌↔◌, List, [], ◌∷◌, ◌++◌, get_or, length, arith, All, IfSome, IfNone, Option, Some, None, slice_get, filter_map, cons_option, AllWithin, Interval, LiesIn, LiesOutside, LiesInOne, AreApartFrom, AreApart, ArePartsOf, part_within, part_below, part_above}
 
 -- ---- one list after another
 

@@ -1,5 +1,5 @@
 -- Numbers that share a wrong bit.
-use Rattle.scf_facts.proofs.Common.{◌≡◌, ◌≢◌, inl, inr, ℕ, suc, ◌-◌, ◌*◌, ◌/◌, ◌%◌, ◌<◌, ◌≤◌, ◌^◌, sym, ap, subst, arith, bit_and, bit_xor, bit_at, count_leading_zeros, le-div, div_below, leading_top, pow_pos, cases_lt, pow-succ'}
+use Rattle.scf_facts.proofs.Common.{◌≡◌, ◌≢◌, inl, inr, ℕ, suc, ◌-◌, ◌*◌, ◌/◌, ◌%◌, ◌<◌, ◌≤◌, ◌^◌, sym, ap, subst, arith, bit_and, bit_xor, bit_at, count_leading_zeros, leading_top, pow_pos, cases_lt, pow-succ'}
 use Rattle.scf_facts.proofs.HighMasks.{same_quotient}
 use Rattle.scf_facts.proofs.MaskLaws.{each_bit}
 

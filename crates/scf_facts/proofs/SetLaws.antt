@@ -1,5 +1,5 @@
 -- What a change of the facts of a word leaves.
-use Rattle.scf_facts.proofs.Common.{◌≡◌, ℕ, ◌<◌, ◌^◌, ◌↔◌, [], ◌∷◌, ◌++◌, sym, ap, ◌∙◌, arith, Bool, true, false, Some, bit_and, and_zero_r, false_from_ne_true, true_from_ne_false, All-push, All-pop, Bits, Interval, LiesIn, LiesOutside, ArePartsOf, NumberFacts, AllowsNumber, SomeNumber, HasBits, LacksBits}
+use Rattle.scf_facts.proofs.Common.{◌≡◌, ℕ, ◌<◌, ◌^◌, ◌↔◌, [], ◌∷◌, ◌++◌, arith, Bool, true, false, Some, false_from_ne_true, true_from_ne_false, All-push, All-pop, Bits, NumberFacts, AllowsNumber, SomeNumber, LacksBits}
 
 -- one more refuted
 pub allows_refuted : (s new : NumberFacts) (bits : Bits) (x : ℕ) → new.intervals ≡ s.intervals → new.known ≡ s.known

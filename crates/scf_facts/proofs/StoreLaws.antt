@@ -1,6 +1,6 @@
 -- What facts of each word say of lists of words.
 use Rattle.scf_insn.proofs.CallWords.{word_below}
-use Rattle.scf_facts.proofs.Common.{◌-◌, recursion_from_All, All-from_recursion, common_steps, ◌≡◌, ◌≢◌, inl, inr, ℕ, zero, suc, ◌<◌, ◌^◌, ◌↔◌, List, [], ◌∷◌, refl, sym, ap, subst, ◌∙◌, arith, length, get_or, All, Bool, IsTrue, slice_index, slice_set, replicate, list_all, AllByRecursion, and_zero_r, cases_eq, get_or-set_same, get_or-set_other, get_or_read, get_or-replicate, length-set, length-replicate, All-set, AllPass-from_list_all, list_all-from_AllPass, IsWords, Atom, answer_at, atom_answer, word_of, NumberFacts, AllowsNumber, EachNumber, SomeNumber, AllowsWords, no_facts, is_exact_set}
+use Rattle.scf_facts.proofs.Common.{◌-◌, recursion_from_All, All-from_recursion, common_steps, ◌≡◌, ◌≢◌, ℕ, suc, ◌<◌, ◌^◌, ◌↔◌, List, [], ◌∷◌, refl, sym, ap, subst, ◌∙◌, arith, length, get_or, All, Bool, IsTrue, slice_index, slice_set, replicate, list_all, AllByRecursion, and_zero_r, cases_eq, get_or-set_same, get_or_read, get_or-replicate, length-set, length-replicate, All-set, AllPass-from_list_all, list_all-from_AllPass, IsWords, Atom, answer_at, atom_answer, word_of, NumberFacts, AllowsNumber, EachNumber, SomeNumber, AllowsWords, no_facts, is_exact_set}
 
 all_numbers : (x : ℕ) → x < 2 ^ 32 → AllowsNumber no_facts x
 all_numbers x fits = grind (arith, and_zero_r x)

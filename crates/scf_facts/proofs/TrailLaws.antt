@@ -1,5 +1,5 @@
 -- What was known at a level, as more is learned and marks are opened and closed.
-use Rattle.scf_facts.proofs.Common.{◌≡◌, ◌^◌, ℕ, ◌≤◌, ◌<◌, ◌↔◌, List, [], ◌∷◌, ◌++◌, length, take, drop, refl, sym, ◌∙◌, ap, subst, arith, length-append, ◌-◌, Bool, IsTrue, Some, slice_set, slice_index, slice_index_or, ◌==◌, list_all, set-set, set-get_or, get_or-set_same, get_or_default, get_or_past, drop-append-le, and_parts, and_from, length-set, length-take-le, take-append-drop, drop_all, All-push, All-pop, Atom, AtomPair, Change, OfWord, WordChange, answer_at, atom_answer, word_of, count_at, AreRising, facts_before, known_before, restored, known_at, Covers, Intervals, Interval, NumberFacts, AllowsNumber, AllowsWords, is_exact_set, no_facts, AllFacts, AllowsList, is_exact_known, known_of, NotBothTrue}
+use Rattle.scf_facts.proofs.Common.{◌≡◌, ◌^◌, ℕ, ◌≤◌, ◌<◌, ◌↔◌, List, [], ◌∷◌, ◌++◌, length, take, drop, refl, sym, ◌∙◌, ap, arith, length-append, ◌-◌, Bool, IsTrue, Some, slice_set, slice_index, slice_index_or, ◌==◌, list_all, set-set, set-get_or, get_or-set_same, get_or_default, get_or_past, drop-append-le, and_parts, and_from, length-set, length-take-le, take-append-drop, drop_all, All-push, All-pop, Atom, AtomPair, Change, OfWord, WordChange, answer_at, atom_answer, word_of, count_at, AreRising, facts_before, known_before, restored, known_at, Covers, Intervals, Interval, NumberFacts, AllowsNumber, is_exact_set, no_facts, AllFacts, AllowsList, is_exact_known, known_of, NotBothTrue}
 use Rattle.scf_facts.proofs.StoreLaws.{allows_set, exact_set}
 use Rattle.scf_facts.proofs.CountLaws.{count_opened, count_closed, count_within, count_newest, rising_closed}
 

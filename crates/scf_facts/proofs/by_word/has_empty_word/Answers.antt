@@ -1,4 +1,4 @@
-use Rattle.scf_facts.proofs.Common.{true_from_ne_false, ◌<◌, ◌^◌, ℕ, refl, rules, tests, arith, Bool, true, false, IsTrue, MatchBool, NumberFacts, AllowsNumber, is_exact_set, cases_from_any, YieldsList-from_slice}
+use Rattle.scf_facts.proofs.Common.{true_from_ne_false, ◌<◌, ◌^◌, ℕ, rules, tests, arith, IsTrue, NumberFacts, AllowsNumber, is_exact_set, cases_from_any, YieldsList-from_slice}
 use Rattle.scf_facts.proofs.StoreLaws.{some_allowed}
 use Rattle.scf_facts.proofs.by_word.has_empty_word.Goals as goal
 

@@ -1,4 +1,4 @@
-use Rattle.scf_facts.proofs.Common.{◌≡◌, arith, IfSome, slice_get, ◌≤◌, common_steps, gets}
+use Rattle.scf_facts.proofs.Common.{◌≡◌, arith, slice_get, common_steps, gets}
 use Rattle.scf_facts.proofs.IntervalLaws.{reached}
 use Rattle.scf_facts.proofs.intervals.first_reaching.Goals as goal
 

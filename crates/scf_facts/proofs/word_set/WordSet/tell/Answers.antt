@@ -1,4 +1,4 @@
-use Rattle.scf_facts.proofs.Common.{arith, true, LiesIn, LiesOutside, ◌≡◌, sym, ◌∙◌, subst, Option, Some, None, IfNone, Bool, IsTrue, answer_at, HasBits, LacksBits, SomeNumber, is_exact_set}
+use Rattle.scf_facts.proofs.Common.{arith, true, LiesIn, LiesOutside, sym, ◌∙◌, subst, Option, IfNone, Bool, IsTrue, answer_at, HasBits, LacksBits, SomeNumber, is_exact_set}
 use Rattle.scf_facts.proofs.SetLaws.{both_answers}
 use Rattle.scf_facts.proofs.word_set.WordSet.tell.Goals as goal
 use Rattle.scf_facts.proofs.word_set.WordSet.tell.Goals.{in-Within+in-Some, in-Within+in-None, in-Masked}

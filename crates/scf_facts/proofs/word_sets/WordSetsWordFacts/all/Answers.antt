@@ -1,4 +1,4 @@
-use Rattle.scf_facts.proofs.Common.{◌↔◌, length, arith, ap, subst, sym, IsWords, AllowsWords, known_of}
+use Rattle.scf_facts.proofs.Common.{length, arith, ap, known_of}
 use Rattle.scf_facts.proofs.StoreLaws.{allows_all}
 use Rattle.scf_facts.proofs.TrailLaws.{known_past}
 use Rattle.scf_facts.proofs.word_sets.WordSetsWordFacts.all.Goals as goal

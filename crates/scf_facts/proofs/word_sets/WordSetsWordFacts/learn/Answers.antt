@@ -1,5 +1,5 @@
 use Rattle.scf_facts.proofs.Common.{◌<◌, arith, length, WordChange}
-use Rattle.scf_facts.proofs.TrailLaws.{known_now, noted, allows_learned, exact_learned}
+use Rattle.scf_facts.proofs.TrailLaws.{known_now, noted, allows_learned}
 use Rattle.scf_facts.proofs.word_sets.WordSetsWordFacts.learn.Goals as goal
 
 pub returns-clause-at_marks : goal.returns-clause-at_marks
