@@ -1,5 +1,5 @@
 -- The loop of a run.
-use Rattle.scf_machine.proofs.Common.{common_steps, ◌≡◌, ℕ, ◌+◌, ◌<◌, ◌≤◌, List, ◌∷◌, ◌∙◌, Option, None, Some, refl, get_or, arith, length, length-append, reverse, [], ◌++◌, ap, sym, reverse-append, slice_get, slice_get_read, operation_of, bpf_maxinsns, Insn, Answer, Operation, Registers, State, Outcome, Ends, Faults, Fault, effect, step, IsRun, places_of, IsValidList, IsFine, IsFineAt, IsFilter, Stands, StandFor, Agrees, IsAt, Follows}
+use Rattle.scf_machine.proofs.Common.{common_steps, ◌≡◌, ℕ, ◌+◌, ◌<◌, ◌≤◌, List, ◌∷◌, Option, None, Some, refl, get_or, arith, length, reverse, [], ◌++◌, slice_get, slice_get_read, bpf_maxinsns, Insn, Answer, Operation, Registers, State, Outcome, Ends, Faults, Fault, effect, step, IsRun, places_of, IsValidList, IsFilter, Stands, StandFor, Agrees, IsAt, Follows}
 use Rattle.scf_machine.proofs.Runs.{reached, step_is, step_edge, edge_forward, never_faults}
 use Rattle.scf_machine.proofs.Runs.{run_length}
 

@@ -1,5 +1,5 @@
 -- A list of instructions has one run over a record.
-use Rattle.scf_machine.proofs.Common.{◌≡◌, ℕ, zero, suc, ◌≤◌, inl, inr, List, [], ◌∷◌, ap, sym, ◌∙◌, arith, length, cases_eq, Insn, State, Outcome, Goes, Ends, step, start, IsChain, IsRun}
+use Rattle.scf_machine.proofs.Common.{◌≡◌, ℕ, zero, suc, ◌≤◌, List, [], ◌∷◌, ap, sym, ◌∙◌, arith, length, cases_eq, Insn, State, Outcome, Goes, Ends, step, start, IsChain, IsRun}
 
 abbrev next : List Insn → List ℕ → Outcome → Outcome
 next insns words (Goes s) = step insns words s

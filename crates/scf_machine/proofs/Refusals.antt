@@ -1,5 +1,5 @@
 -- A list that keeps every rule is refused for memory alone.
-use Rattle.scf_machine.proofs.Common.{sym, ◌∙◌, ◌≡◌, ◌≢◌, ◌-◌, Bool, false, List, length, refl, ap, arith, IsTrue, list_any, slice_get_within, Insn, CheckFault, Empty, TooLong, LastNotReturn, Unset, Memory, IsValidList, KeepsScratchRule, stores_at, IsFirstFault, IsFirstWrong}
+use Rattle.scf_machine.proofs.Common.{sym, ◌∙◌, ◌≢◌, ◌-◌, List, length, refl, ap, arith, slice_get_within, Insn, CheckFault, Empty, TooLong, LastNotReturn, Unset, Memory, IsValidList, KeepsScratchRule, IsFirstFault, IsFirstWrong}
 use Rattle.scf_machine.proofs.Runs.{fine_of}
 
 wrong_none : (insns : List Insn) (fault : CheckFault) → IsValidList insns → IsFirstWrong insns fault → ⊥

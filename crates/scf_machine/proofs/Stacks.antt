@@ -1,5 +1,5 @@
 -- What a stack answers, one filter after another.
-use Rattle.scf_machine.proofs.Common.{cases_eq, ◌≡◌, ◌↔◌, ℕ, zero, suc, ◌+◌, ◌<◌, ◌≤◌, ◌≤ℤ◌, ◌<ℤ◌, ℤ, List, [], ◌∷◌, ◌++◌, Some, refl, ap, sym, subst, ◌∙◌, arith, length, get_or, take, reverse, All, slice_get, ints, take_more, take_all, reverse-append, length-reverse, get_or-reverse, Contains, ◌-◌, Insn, rank_of, LetsThroughNoMore, seccomp_ret_allow, RunAnswers, IsFilter, IsFirstLeast, IsDecision, AreAnswers, StackAnswers, with_newest}
+use Rattle.scf_machine.proofs.Common.{cases_eq, ◌≡◌, ◌↔◌, ℕ, zero, suc, ◌+◌, ◌<◌, ◌≤◌, ◌≤ℤ◌, ◌<ℤ◌, List, [], ◌∷◌, ◌++◌, Some, refl, ap, subst, arith, length, get_or, take, reverse, All, slice_get, ints, take_more, take_all, reverse-append, length-reverse, get_or-reverse, Contains, ◌-◌, Insn, rank_of, LetsThroughNoMore, seccomp_ret_allow, RunAnswers, IsFilter, IsFirstLeast, IsDecision, AreAnswers, StackAnswers, with_newest}
 use Rattle.scf_machine.proofs.Meets.{run_once}
 use Rattle.scf_machine.proofs.Runs.{runs_safely}
 

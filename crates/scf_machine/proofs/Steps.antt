@@ -1,5 +1,5 @@
 -- One step of the running machine.
-use Rattle.scf_machine.proofs.Common.{◌≡◌, ℕ, ◌%◌, ◌<◌, nat_lt, nat_eq, ◌&&◌, Bool, true, None, arith, nat_tests, bpf_maxinsns, seccomp_data_len, Insn, A, Constant, Index, Arithmetic, Div, Lsh, Rsh, Compute, Registers, State, sets, Goes, Fault, unless, computation, value_computed, StandFor, Agrees, IsFine}
+use Rattle.scf_machine.proofs.Common.{◌≡◌, None, arith, Insn, A, Index, Arithmetic, Div, Lsh, Rsh, Registers, State, sets, computation, value_computed, StandFor, Agrees}
 
 pub computes_by_index : (arithmetic : Arithmetic) (i : Insn) (s : State) (new : Registers)
     → (arithmetic ≡ Div → ⊥) → (arithmetic ≡ Lsh → ⊥) → (arithmetic ≡ Rsh → ⊥)

@@ -1,4 +1,4 @@
-use Rattle.scf_machine.proofs.Common.{◌∷◌, ◌+◌, ap, arith, rules}
+use Rattle.scf_machine.proofs.Common.{◌∷◌, ◌+◌, ap, arith}
 use Rattle.scf_machine.proofs.Loop.{at_inside, at_next, run_of}
 use Rattle.scf_machine.proofs.Runs.{runs_safely}
 use Rattle.scf_machine.proofs.machine.run.Goals as goal

@@ -1,6 +1,5 @@
-use Rattle.scf_machine.proofs.Common.{length, sym, arith, rules, ◌∙◌}
+use Rattle.scf_machine.proofs.Common.{sym, arith, rules, ◌∙◌}
 use Rattle.scf_machine.proofs.Loop.{at_inside, follows_at, read_here}
-use Rattle.scf_machine.proofs.Runs.{fine_of}
 use Rattle.scf_machine.proofs.machine.Registers.advance.Goals as goal
 
 pub index-insn-requires : goal.index-insn-requires
