@@ -15,10 +15,7 @@ returns-in-Nothing-clause-found t c = λ x e.
 -- a number has the bit or lacks it
 pub returns-in-Nothing-clause-nothing : goal.returns-in-Nothing-clause-nothing
 returns-in-Nothing-clause-nothing t c = λ e x fits inside known more free.
-    let bit = c.in-Some-lowest.bit in
     let has = (c.in-Some.ensures.both x).1 (known, more) in
-    elim (cases_eq (bit_and x bit.mask) bit.value) [
-      | inl with_bit ↦ c.free_number-in-Nothing.ensures.nothing e x fits inside has with_bit free
-      | inr without ↦
-          c.in-Nothing.ensures.nothing refl x fits inside has ((c.flipped.ensures x).1 without) free
-    ]
+    let with_bit = c.free_number-in-Nothing.ensures.nothing e x fits inside has in
+    let without = c.in-Nothing.ensures.nothing refl x fits inside has in
+    grind (arith, c.flipped.ensures x, with_bit, without, free)

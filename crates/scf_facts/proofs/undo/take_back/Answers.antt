@@ -5,18 +5,16 @@ use Rattle.scf_facts.proofs.undo.take_back.Goals as goal
 pub loop-trail-preserved-in-Some : goal.loop-trail-preserved-in-Some
 loop-trail-preserved-in-Some c =
     let inv = c.loop-trail.invariant in
-    let known = known_of c.loop-trail.sets c.loop-trail.pairs.items in
-    let trail = c.loop-trail.trail.items in
     let rest = c.pop.new.self.items in
-    let change = c.in-Some.change in
     let items = c.in-Some.ensures.items in
-    let counted : length trail ≡ length rest + 1 = ap length items ∙ length-append rest (change ∷ []) in
+    let counted : length c.loop-trail.trail.items ≡ length rest + 1 =
+    ap length items ∙ length-append rest (c.in-Some.change ∷ []) in
     let le : c.args.count ≤ length rest = omega (arith, counted, c.len.ensures, c.loop-trail-test.true) in
     record {
       sixteen = c.take_back.auto.sets ∙ inv.sixteen;
       within = le;
-      older = sym (take-take (length rest) (length trail) c.args.trail.now.items (omega (arith, counted)))
-          ∙ ap (take (length rest)) (inv.older ∙ items) ∙ take-append_seam rest (change ∷ []);
+      older = sym (take-take (length rest) _ c.args.trail.now.items (omega (arith, counted)))
+          ∙ ap (take (length rest)) (inv.older ∙ items) ∙ take-append_seam rest (c.in-Some.change ∷ []);
       rest = ap (λ (k : AllFacts). restored k (drop c.args.count rest)) c.take_back.ensures
-          ∙ taken_before known trail rest change c.args.count items le ∙ inv.rest;
+          ∙ taken_before _ _ rest _ c.args.count items le ∙ inv.rest;
     }
