@@ -41,22 +41,18 @@ pub masks_start : (insns : List Insn) (masks : List ℕ) → length masks ≡ le
     → get_or masks 0 0 ≡ 0 → ((p : ℕ) → 0 < p → p < length insns → get_or masks p 0 ≡ 65535) → MasksAt insns masks 0
 masks_start insns masks long first others = record {
   long = long;
-  clear = λ p n inside inside_n e. at_zero p n inside inside_n e p refl;
+  clear = λ p n inside inside_n e. record {
+    earlier = [];
+    path = let fits : n < 16 = omega arith in grind (arith, bit_at_ones 16 n fits, others p);
+    below = tt;
+    unset = refl;
+  };
   found = λ p n inside inside_n unstored. at_path p n unstored.earlier unstored.path unstored.below;
 }
   where
-    full : (m n : ℕ) → m ≡ 65535 → n < bpf_memwords → bit_at m n ≡ 0 → ⊥
-    full m n e inside_n zero_bit = let fits : n < 16 = omega arith in grind (arith, bit_at_ones 16 n fits)
-
-    at_zero : (p n : ℕ) → p < length insns
-        → n < bpf_memwords → bit_at (get_or masks p 0) n ≡ 0 → (q : ℕ) → q ≡ p → Unstored insns 0 p n
-    at_zero p n inside inside_n e zero eq = record { earlier = []; path = sym eq; below = tt; unset = refl }
-    at_zero p n inside inside_n e (suc q) eq = absurd (full _ n (others p (omega arith) inside) inside_n e)
-
     at_path : (p n : ℕ) (earlier : List ℕ)
         → IsPath insns p earlier → AllByRecursion (λ q. q < 0) earlier → bit_at (get_or masks p 0) n ≡ 0
-    at_path p n [] path below = ap (λ (q : ℕ). bit_at (get_or masks q 0) n) path
-        ∙ ap (λ (m : ℕ). bit_at m n) first ∙ bit_at-zero n
+    at_path p n [] path below = grind (arith, bit_at-zero n)
     at_path p n (q ∷ earlier) path below = absurd (omega (arith, below.0))
 
 weaker : (insns : List Insn) (bound p n : ℕ) → Unstored insns bound p n → Unstored insns (bound + 1) p n
