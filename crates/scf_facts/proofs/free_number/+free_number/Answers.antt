@@ -1,4 +1,4 @@
-use Rattle.scf_facts.proofs.Common.{arith, inl, inr, bit_and, refl, cases_eq}
+use Rattle.scf_facts.proofs.Common.{arith, refl}
 use Rattle.scf_facts.proofs.free_number.+free_number.Goals as goal
 
 pub returns-in_default-free_number-clause-found : goal.returns-in_default-free_number-clause-found

@@ -1,4 +1,4 @@
-use Rattle.scf_facts.proofs.Common.{◌≡◌, ◌≤◌, ◌+◌, ◌∷◌, [], length, length-append, take, drop, arith, sym, ap, ◌∙◌, take-append_seam, take-take, restored, AllFacts, known_of}
+use Rattle.scf_facts.proofs.Common.{◌≡◌, ◌≤◌, ◌+◌, ◌∷◌, [], length, length-append, take, drop, arith, sym, ap, ◌∙◌, take-append_seam, take-take, restored, AllFacts}
 use Rattle.scf_facts.proofs.TrailLaws.{taken_before}
 use Rattle.scf_facts.proofs.undo.take_back.Goals as goal
 
