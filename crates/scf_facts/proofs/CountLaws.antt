@@ -20,7 +20,7 @@ rising_more marks now more h rising earlier later le =
 pub rising_pushed : (opened : Bool) (marks new : List ℕ) (count now : ℕ) → count ≡ now
     → new ≡ (if opened then marks ++ count ∷ [] else marks) → AreRising marks now → AreRising new now
 rising_pushed true marks new count now e same rising = rw (same, e)
-    (λ earlier later le. omega (arith, rising earlier later le, count_opened marks now earlier, count_opened marks now later))
+    (λ earlier later le. grind (arith, rising earlier later le, count_opened marks now))
 rising_pushed false marks new count now e same rising = rw same rising
 
 pub rising_closed : (marks : List ℕ) (count now : ℕ) → AreRising (marks ++ count ∷ []) now → AreRising marks count

@@ -145,7 +145,8 @@ has_reverse : (filters : List (List Insn)) (filter : List Insn) → Contains fil
 has_reverse filters filter (i, inside, is) =
     let k = length filters - 1 - i in
     let back : length filters - 1 - k ≡ i = omega (arith, inside) in
-    (k, omega (arith, length-reverse filters, inside), rw (get_or-reverse filters k filter (omega (arith, inside)), back) is)
+    let lt : k < length filters = omega (arith, inside) in
+    (k, omega (arith, length-reverse filters, lt), rw (get_or-reverse filters k filter lt, back) is)
 
 least_rank : (answers : List ℕ) (decision answer q : ℕ) → IsDecision answers decision
     → slice_get answers q ≡ Some answer → rank_of decision ≤ℤ rank_of answer
