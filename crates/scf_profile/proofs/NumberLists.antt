@@ -1,6 +1,5 @@
 -- The numbers that rules have, each with its rules.
-use Rattle.scf_profile.proofs.Common.{All-cons, All-permutation, map-map, ◌≡◌, ◌≢◌, ℕ, zero, suc, ◌+◌, ◌<◌, ◌⊎◌, AllByRecursion, true, false, not, cond, eqb, length, List, [], ◌∷◌, map, get_or, All, refl, sym, ap, ◌∙◌, subst, arith, inl, inr, Contains, filter, cases_eq, eq-eqb, ne_eqb, nat_tests, length-map, get_or-map, All-filter, All-from_recursion, All-map, All-same, All-contains, Contains-append_right, recursion_from_All, IsPermutation, IsStrictlyIncreasing, Rule, numbers_of, rules_of, NumberRules, AreNumbersOf, sum_by, IsPermutation-cons, IsPermutation-refl, IsPermutation-remove, IsPermutation-sym, IsPermutation-trans, IsDistinct, IsDistinct-IsPermutation, IsDistinct-head, IsDistinct-tail, Contains-permutation, length_permutation, sum_by-IsPermutation, sum_by-cons, remove, All-contains_itself, All-weaker, All-head, All-tail, AreUnder, Under, number_rules, rules_under, keys_of, value_of, nat_cmp, nat_cmp_total, exact_unsigned, IsOrdered, IsStrictlyIncreasing-from_sorted, btree_map_contains_key_iff, All-found, is_some, ltb, lt-ltb, add-one, Some, ◌++◌, filter-append, append-nil}
-use Rattle.std.proofs.Common.{length-append}
+use Rattle.scf_profile.proofs.Common.{All-cons, All-permutation, map-map, ◌≡◌, ◌≢◌, ℕ, zero, suc, ◌+◌, ◌<◌, ◌⊎◌, AllByRecursion, false, not, eqb, length, List, [], ◌∷◌, map, get_or, All, refl, sym, ap, ◌∙◌, subst, arith, inl, inr, Contains, filter, cases_eq, eq-eqb, ne_eqb, nat_tests, length-map, get_or-map, All-filter, All-from_recursion, All-map, All-same, All-contains, Contains-append_right, recursion_from_All, IsPermutation, IsStrictlyIncreasing, Rule, numbers_of, rules_of, NumberRules, AreNumbersOf, sum_by, IsPermutation-cons, IsPermutation-refl, IsPermutation-remove, IsPermutation-sym, IsPermutation-trans, IsDistinct, IsDistinct-IsPermutation, IsDistinct-head, IsDistinct-tail, Contains-permutation, length_permutation, sum_by-IsPermutation, sum_by-cons, remove, All-contains_itself, All-weaker, All-head, All-tail, AreUnder, Under, number_rules, rules_under, keys_of, value_of, nat_cmp, nat_cmp_total, exact_unsigned, IsOrdered, IsStrictlyIncreasing-from_sorted, btree_map_contains_key_iff, All-found, is_some, ltb, lt-ltb, add-one, Some}
 use Rattle.smallvec.specs.SmallVec.{SmallVec}
 use Rattle.scf_profile.proofs.Numbers.{contains_cons_cases, contains_filtered, number_there}
 
@@ -124,26 +123,6 @@ rules_there rules =
     (All-weaker (Contains rules) (λ r. 0 < length (rules_of r.number rules)) (λ r has.
     let there = contains_filtered (λ s. eqb s.number r.number) rules r (eq-eqb r.number r.number refl) has in
     omega (arith, there.1)) rules (All-contains_itself rules))
-
--- one more rule under its number
-pub one_under : (front : List Rule) (r : Rule) (old new : Under) → AreUnder front old
-    → rules_under new r.number ≡ rules_under old r.number ++ r ∷ [] → is_some (value_of nat_cmp new r.number) ≡ true
-    → ((n : ℕ) → n ≢ r.number → value_of nat_cmp new n ≡ value_of nat_cmp old n) → AreUnder (front ++ r ∷ []) new
-one_under front r old new under push has others = record {
-  kept = λ n. elim (cases_eq r.number n) [
-    | inl same ↦ subst (λ m. rules_under new m ≡ rules_of m (front ++ r ∷ [])) same
-        (push ∙ ap (λ (l : List Rule). l ++ r ∷ []) (under.kept r.number) ∙ sym (filter-append (λ s. eqb s.number r.number) front (r ∷ [])
-        ∙ ap (λ b. rules_of r.number front ++ cond b (r ∷ []) []) (eq-eqb r.number r.number refl)))
-    | inr apart ↦ rw (others n (λ e. apart (sym e))) (under.kept n ∙ sym (filter-append (λ s. eqb s.number n) front (r ∷ [])
-        ∙ ap (λ b. rules_of n front ++ cond b (r ∷ []) []) (ne_eqb r.number n apart) ∙ append-nil (rules_of n front)))
-  ];
-  numbers_in = λ n. elim (cases_eq r.number n) [
-    | inl same ↦ subst (λ m. is_some (value_of nat_cmp new m) ≡ ltb 0 (length (rules_under new m))) same
-        (has ∙ sym (ap (λ (l : List Rule). ltb 0 (length l)) push ∙ lt-ltb 0 (length (rules_under old r.number ++ r ∷ []))
-        (omega (arith, length-append (rules_under old r.number) (r ∷ [])))))
-    | inr apart ↦ rw (others n (λ e. apart (sym e))) (under.numbers_in n)
-  ];
-}
 
 module _ (rules : List Rule) (under : Under) (kept : AreUnder rules under) (ordered : IsOrdered nat_cmp under) where
   is_there : (nr : ℕ) → is_some (value_of nat_cmp under nr) ≡ ltb 0 (length (rules_of nr rules))

@@ -28,7 +28,7 @@ impl<'v> Entry<'v> {
     ghost use Rattle.scf_profile.specs.StatedProfile.{entry_of as entry_stated};
 
     /// What the entry at a place states.
-    #[tactic(auto, unfolding(crate::specs::StatedProfile::entry_of))]
+    #[tactic(auto, using(std::proofs::lemmas::Grind::common_steps), unfolding(crate::specs::StatedProfile::entry_of))]
     pub(crate) fn read(alloc: Global, place: u32, object: &'v Value) -> Result<Entry<'v>, LoadFault>
         ensures value { Gives Memory result (entry_stated (Some place) (view object.now)) }
         ensures range { IfOk result IsEntry }

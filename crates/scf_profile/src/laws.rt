@@ -12,6 +12,7 @@ ghost use Rattle.scf_profile.specs.ProfileAnswers.{ProfileAnswers};
 ghost use Rattle.scf_profile.specs.Reasons.{IsAnswerOf, IsReason};
 
 /// A condition holds of a number where its test, half by half, comes to what is expected.
+#[tactic(auto, using(crate::proofs::NumberTests::decides))]
 pub fn condition_by_halves()
     ensures { (c : Condition) (n : ℕ) → n < 2 ^ 64
         → comes_to (test_of c) n ≡ holds c n }

@@ -30,6 +30,7 @@ fn add_rule(under: &mut BTreeMap<u32, SmallVec<Rule, 1>>, rule: Rule) -> Result<
 }
 
 /// The rules under their numbers.
+#[tactic(auto, using(std::proofs::lemmas::Grind::common_steps))]
 fn rules_under_numbers(
     alloc: Global,
     rules: &[Rule],

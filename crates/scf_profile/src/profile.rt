@@ -104,6 +104,7 @@ impl Profile {
 
     /// Why a call is answered as it is: it isn't one of x86-64, or the first entry of which it meets a rule, or that it
     /// meets none.
+    #[tactic(auto, using(std::proofs::lemmas::Grind::common_steps, crate::proofs::Reasons::least_of))]
     pub fn reason(&self, call: &CallRecord) -> Reason
         ensures { IsReason self.now call.now result }
     {

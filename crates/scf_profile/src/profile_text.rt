@@ -102,6 +102,7 @@ fn without_conflict(alloc: Global, stated: Stated) -> Result<Loaded, LoadFault>
 
 /// The profile that a text states, whose names get their numbers from a call table. The first test that fails is
 /// answered; that no two rules conflict is the last. `Memory` comes where a growth was refused.
+#[tactic(auto, using(crate::proofs::TestFaults::refuses_of_fault))]
 pub fn load(alloc: Global, text: &[u8], table: &CallTable) -> Result<Loaded, LoadFault>
     ensures ok { IfOk result (λ loaded. Loads text.now table.now loaded) }
     ensures err { IfErr result (λ fault. Refuses text.now table.now fault) }

@@ -50,6 +50,7 @@ impl Rule {
     }
 
     /// Whether some call meets both rules, and they answer it differently.
+    #[tactic(auto, using(crate::proofs::Overlaps::conflict_from, crate::proofs::Overlaps::overlap_of_conflict))]
     pub(crate) fn conflicts_with(&self, other: &Rule) -> bool
         requires own { IsRule self.now }
         requires other { IsRule other.now }

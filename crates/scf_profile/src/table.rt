@@ -64,6 +64,7 @@ impl CallTable {
     }
 
     /// The number of a call, where the table has its name.
+    #[tactic(auto, using(crate::proofs::NamesOf::get_named))]
     pub fn number_of(&self, name: &str) -> Option<u32>
         ensures value { result ≡ get self.now name.now }
         ensures range { IfSome result (λ n. n < x32_syscall_bit) }
@@ -86,6 +87,7 @@ impl CallTable {
     }
 
     /// Adds what a line states. After an `Err` the table is of no use.
+    #[tactic(auto, using(crate::proofs::NamesOf::found_named))]
     fn add_line(&mut self, alloc: Global, line: usize, text: &[u8]) -> Result<(), TableFault>
         ensures ok { OnOk result (and_then (entry_in line (fields text.now)) (with_entry line self.old) ≡ Ok self.new) }
         ensures err { IfErr result (λ e. e ≢ faults.Memory

@@ -1,13 +1,6 @@
-use Rattle.scf_profile.proofs.Common.{Ok, err_from_is_err_and, IfOk-weaker, MatchResult-weaker, view, Loads, TestsGive, loaded_of, IsLoaded}
-use Rattle.scf_profile.proofs.TestFaults.{refuses_of_fault, refuses_of_conflict}
+use Rattle.scf_profile.proofs.Common.{Ok, IfOk-weaker, MatchResult-weaker, view, Loads, TestsGive, loaded_of, IsLoaded}
+use Rattle.scf_profile.proofs.TestFaults.{refuses_of_conflict}
 use Rattle.scf_profile.proofs.profile_text.load.Goals as goal
-
-pub returns-in_err-read_root-clause-err : goal.returns-in_err-read_root-clause-err
-returns-in_err-read_root-clause-err c =
-    let p =
-    err_from_is_err_and c.from_residual-in_err-read_root.result c.from_residual-in_err-read_root.ensures.1 in
-    rw (p.1, p.2) (refuses_of_fault _ _ (view c.in_ok-value.value) _ c.in_ok-value.ensures.ok
-    c.in_err-read_root.ensures.value)
 
 pub returns-clause-ok : goal.returns-clause-ok
 returns-clause-ok c =

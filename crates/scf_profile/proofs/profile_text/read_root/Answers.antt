@@ -1,4 +1,4 @@
-use Rattle.scf_profile.proofs.Common.{◌≡◌, ◌≢◌, Result, Err, LoadFault, Loaded, loaded_of, arith, ap, sym, ◌∙◌, length, ltb, true, false, refl, lt-ltb, le-ltb, err_from_is_err_and, max_rules, profile_of, rules_from, skipped_names}
+use Rattle.scf_profile.proofs.Common.{◌≡◌, ◌≢◌, Result, Err, LoadFault, Loaded, loaded_of, arith, length, ltb, false, lt-ltb, le-ltb, err_from_is_err_and, max_rules, profile_of}
 use Rattle.std.specs.Result.{IsErrAnd}
 use Rattle.scf_profile.specs.declared.load_fault.LoadFault.TheVariants.{Memory}
 use Rattle.scf_profile.specs.declared.profile_text.Stated.{Stated}
@@ -16,90 +16,52 @@ handed_on result fault stated is fails = let p = err_from_is_err_and result is i
 pub returns-in_err-architectures-clause-value : goal.returns-in_err-architectures-clause-value
 unfolding profile_of
 returns-in_err-architectures-clause-value c =
-    handed_on _ _ _ c.from_residual-in_err-architectures.ensures.1 (λ not_memory. rw (
-      ← c.in_ok-object.ensures,
-      ← c.in_ok-default_answer.ensures.value,
-      c.in_err-architectures.ensures not_memory,
-    ) refl)
+    handed_on _ _ _ c.from_residual-in_err-architectures.ensures.1 (λ not_memory.
+    rw (← c.in_ok-object.ensures, ← c.in_ok-default_answer.ensures.value, c.in_err-architectures.ensures not_memory))
 
 pub returns-in_err-check_architectures-clause-value : goal.returns-in_err-check_architectures-clause-value
 unfolding profile_of
 returns-in_err-check_architectures-clause-value c =
-    handed_on _ _ _ c.from_residual-in_err-check_architectures.ensures.1 (λ _. rw (
-      ← c.in_ok-object.ensures,
-      ← c.in_ok-default_answer.ensures.value,
-      c.in_ok-architectures.ensures,
-      ← c.in_err-check_architectures.ensures,
-    ) refl)
+    handed_on _ _ _ c.from_residual-in_err-check_architectures.ensures.1 (λ _.
+    rw (← c.in_ok-object.ensures, ← c.in_ok-default_answer.ensures.value, c.in_ok-architectures.ensures)
+    (rw (← c.in_err-check_architectures.ensures)))
 
 pub returns-in_err-check_no_engine_form-clause-value : goal.returns-in_err-check_no_engine_form-clause-value
 unfolding profile_of
 returns-in_err-check_no_engine_form-clause-value c =
-    handed_on _ _ _ c.from_residual-in_err-check_no_engine_form.ensures.1 (λ _. rw (
-      ← c.in_ok-object.ensures,
-      ← c.in_ok-default_answer.ensures.value,
-      c.in_ok-architectures.ensures,
-      ← c.in_ok-check_architectures.ensures,
-      ← c.in_err-check_no_engine_form.ensures,
-    ) refl)
+    handed_on _ _ _ c.from_residual-in_err-check_no_engine_form.ensures.1 (λ _.
+    rw (← c.in_ok-object.ensures, ← c.in_ok-default_answer.ensures.value, c.in_ok-architectures.ensures)
+    (rw (← c.in_ok-check_architectures.ensures, ← c.in_err-check_no_engine_form.ensures)))
 
 pub returns-in_err-entries-clause-value : goal.returns-in_err-entries-clause-value
 unfolding profile_of
 returns-in_err-entries-clause-value c =
-    handed_on _ _ _ c.from_residual-in_err-entries.ensures.1 (λ not_memory. rw (
-      ← c.in_ok-object.ensures,
-      ← c.in_ok-default_answer.ensures.value,
-      c.in_ok-architectures.ensures,
-      ← c.in_ok-check_architectures.ensures,
-      ← c.in_ok-check_no_engine_form.ensures,
-      c.in_err-entries.ensures.value not_memory,
-    ) refl)
+    handed_on _ _ _ c.from_residual-in_err-entries.ensures.1 (λ not_memory.
+    rw (← c.in_ok-object.ensures, ← c.in_ok-default_answer.ensures.value, c.in_ok-architectures.ensures)
+    (rw (← c.in_ok-check_architectures.ensures, ← c.in_ok-check_no_engine_form.ensures)
+    (rw (c.in_err-entries.ensures.value not_memory))))
 
 pub returns-in_err-rules-clause-value : goal.returns-in_err-rules-clause-value
 unfolding profile_of
 returns-in_err-rules-clause-value c =
     handed_on _ _ _ c.from_residual-in_err-rules.ensures.1 (λ not_memory.
-    let told = c.in_err-rules.ensures.err not_memory in
-    let rules = rules_from c.args.table.now 0 c.in_ok-entries.entries.items in
-    let many : ltb max_rules (length rules) ≡ true = rw (← c.deref.ensures.value) (lt-ltb _ _ told.1) in
-    rw (
-      ← c.in_ok-object.ensures,
-      ← c.in_ok-default_answer.ensures.value,
-      c.in_ok-architectures.ensures,
-      ← c.in_ok-check_architectures.ensures,
-      ← c.in_ok-check_no_engine_form.ensures,
-      c.in_ok-entries.ensures.value,
-      many,
-      told.0,
-    ) refl)
+    let told = rw c.deref.ensures.value at (c.in_err-rules.ensures.err not_memory) in
+    rw (← c.in_ok-object.ensures, ← c.in_ok-default_answer.ensures.value, c.in_ok-architectures.ensures)
+    (rw (← c.in_ok-check_architectures.ensures, ← c.in_ok-check_no_engine_form.ensures, c.in_ok-entries.ensures.value)
+    (rw (lt-ltb _ _ told.1, told.0))))
 
 pub returns-clause-value : goal.returns-clause-value
 unfolding profile_of
 returns-clause-value c =
-    let entries = c.in_ok-entries.entries.items in
-    let rules = c.in_ok-rules.field-0.rules.items in
-    let is : rules_from c.args.table.now 0 entries ≡ rules =
-    sym (c.in_ok-rules.ensures.rules ∙ ap (rules_from c.args.table.now 0) c.deref.ensures.value) in
-    let few : ltb max_rules (length rules) ≡ false =
-    le-ltb max_rules _ (omega (arith, c.in_ok-rules.ensures.few, c.in_ok-rules.field-0.rules.ok.0)) in
-    let skipped : skipped_names c.args.table.now entries ≡ c.in_ok-rules.field-0.skipped =
-    sym (c.in_ok-rules.ensures.skipped ∙ ap (skipped_names c.args.table.now) c.deref.ensures.value) in
-    rw (
-      ← c.in_ok-object.ensures,
-      ← c.in_ok-default_answer.ensures.value,
-      c.in_ok-architectures.ensures,
-      ← c.in_ok-check_architectures.ensures,
-      ← c.in_ok-check_no_engine_form.ensures,
-      c.in_ok-entries.ensures.value,
-      is,
-      few,
-      skipped,
-      ← c.in_ok-other_architectures.ensures,
-    ) refl
+    let told = rw c.deref.ensures.value at c.in_ok-rules.ensures in
+    let few : ltb max_rules (length c.in_ok-rules.field-0.rules.items) ≡ false =
+    le-ltb max_rules _ (omega (arith, told.few, c.in_ok-rules.field-0.rules.ok.0)) in
+    rw (← c.in_ok-object.ensures, ← c.in_ok-default_answer.ensures.value, c.in_ok-architectures.ensures)
+    (rw (← c.in_ok-check_architectures.ensures, ← c.in_ok-check_no_engine_form.ensures, c.in_ok-entries.ensures.value)
+    (rw (← told.rules, few, ← told.skipped, ← c.in_ok-other_architectures.ensures)))
 
 pub returns-clause-range : goal.returns-clause-range
 returns-clause-range c =
+    let told = rw c.deref.ensures.value at c.in_ok-rules.ensures in
     stated_rules c.args.table.now c.in_ok-entries.entries.items c.in_ok-rules.field-0.rules.items c.within_range.ensures
-    c.in_ok-entries.ensures.range
-    (c.in_ok-rules.ensures.rules ∙ ap (rules_from c.args.table.now 0) c.deref.ensures.value)
-    (omega (arith, c.in_ok-rules.ensures.few, c.in_ok-rules.field-0.rules.ok.0))
+    c.in_ok-entries.ensures.range told.rules (omega (arith, told.few, c.in_ok-rules.field-0.rules.ok.0))

@@ -1,4 +1,4 @@
-use Rattle.scf_profile.proofs.Common.{◌≡◌, true, false, refl, sym, ◌∙◌, ap, Ok, Some, string_bytes, List, ℕ, is_some, get, insert, names_of, Names, fields, entry_in}
+use Rattle.scf_profile.proofs.Common.{◌≡◌, false, sym, ◌∙◌, ap, Ok, Some, string_bytes, List, ℕ, is_some, get, insert, names_of, Names, fields, entry_in}
 use Rattle.scf_profile.proofs.NamesOf.{found_named, insert_named, call_numbers_updated}
 use Rattle.scf_profile.proofs.table.CallTable.add_line.Goals as goal
 
@@ -11,17 +11,6 @@ pub invariant_of-self-2 : goal.invariant_of-self-2
 invariant_of-self-2 c =
     call_numbers_updated c.self.inside.numbers c.insert.new.self c.in_ok-key.key c.in-Some.number
     c.in_ok-insert.ensures.updates c.self.invariant (rw c.in-Some.is at c.in_ok-name.ensures.range)
-
-pub returns-then-is_some-clause-err : goal.returns-then-is_some-clause-err
-returns-then-is_some-clause-err c =
-    let name = c.in-Some.name.now in
-    let entry : entry_in c.args.line (fields c.args.text.now) ≡ Ok (Some (name, c.in-Some.number)) =
-    sym (rw c.in-Some.is at c.in_ok-name.ensures.value) in
-    let there : is_some (get c.args.self.now name) ≡ true =
-    ap is_some (sym (c.in_ok-insert.ensures.old
-    ∙ found_named c.self.inside.numbers c.in_ok-key.key c.args.self.now name c.self.view_is c.in_ok-key.ensures.ok))
-    ∙ sym c.is_some.ensures ∙ c.if-is_some.true in
-    λ _. rw (entry, there) refl
 
 pub returns-clause-ok : goal.returns-clause-ok
 returns-clause-ok c =

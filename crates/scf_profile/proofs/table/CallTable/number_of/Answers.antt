@@ -1,11 +1,6 @@
-use Rattle.scf_profile.proofs.Common.{ap, sym, ◌∙◌, get}
+use Rattle.scf_profile.proofs.Common.{sym, ◌∙◌}
 use Rattle.scf_profile.proofs.NamesOf.{get_named, found_below}
 use Rattle.scf_profile.proofs.table.CallTable.number_of.Goals as goal
-
-pub returns-clause-value : goal.returns-clause-value
-returns-clause-value c =
-    let h = get_named c.self.inside.numbers.entries c.args.name.now in
-    c.copied.ensures ∙ c.get.ensures.value ∙ sym h ∙ ap (λ m. get m c.args.name.now) c.self.view_is
 
 pub returns-clause-range : goal.returns-clause-range
 returns-clause-range c =

@@ -1,4 +1,4 @@
-use Rattle.scf_profile.proofs.Common.{ℕ, List, String, Global, subst, sym, arith, rules, inl, names_of, AreCallNumbers, with_lines, err_from_is_err_and}
+use Rattle.scf_profile.proofs.Common.{ℕ, List, String, Global, subst, sym, arith, inl, names_of, AreCallNumbers, with_lines, err_from_is_err_and}
 use Rattle.scf_profile.proofs.NamesOf.{call_numbers_empty}
 use Rattle.scf_profile.proofs.TableLines.{begins_before, same_fault}
 use Rattle.scf_profile.proofs.table.CallTable.read.Goals as goal
@@ -12,9 +12,6 @@ returns-in_err-add_line-clause-memory c =
     let p = err_from_is_err_and c.from_residual.result c.from_residual.ensures.1 in
     let wants = rw c.first_line.ensures.lines at c.loop-rest.invariant.wants in
     λ e. wants (inl (c.in_err-add_line.ensures.memory (same_fault _ _ _ p.1 p.2 e)))
-
-pub loop-rest-init : goal.loop-rest-init
-loop-rest-init c = record { so_far = search rules; counted = omega arith; wants = λ begins. begins }
 
 pub loop-rest-preserved : goal.loop-rest-preserved
 unfolding with_lines

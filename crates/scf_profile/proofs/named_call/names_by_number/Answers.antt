@@ -1,8 +1,0 @@
-use Rattle.scf_profile.proofs.Common.{arith, common_steps}
-use Rattle.scf_profile.proofs.named_call.names_by_number.Goals as goal
-
-pub loop-name-preserved : goal.loop-name-preserved
-loop-name-preserved c = record {
-  names = λ n. grind (arith, common_steps);
-  numbers = λ n. grind (arith, common_steps);
-}
