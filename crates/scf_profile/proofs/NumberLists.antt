@@ -1,7 +1,7 @@
 -- The numbers that rules have, each with its rules.
-use Rattle.scf_profile.proofs.Common.{All-cons, All-permutation, map-map, ◌≡◌, ◌≢◌, ℕ, zero, suc, ◌+◌, ◌<◌, ◌⊎◌, AllByRecursion, false, not, eqb, length, List, [], ◌∷◌, map, get_or, All, refl, sym, ap, ◌∙◌, subst, arith, inl, inr, Contains, filter, cases_eq, eq-eqb, ne_eqb, nat_tests, length-map, get_or-map, All-filter, All-from_recursion, All-map, All-same, All-contains, Contains-append_right, recursion_from_All, IsPermutation, IsStrictlyIncreasing, Rule, numbers_of, rules_of, NumberRules, AreNumbersOf, sum_by, IsPermutation-cons, IsPermutation-refl, IsPermutation-remove, IsPermutation-sym, IsPermutation-trans, IsDistinct, IsDistinct-IsPermutation, IsDistinct-head, IsDistinct-tail, Contains-permutation, length_permutation, sum_by-IsPermutation, sum_by-cons, remove, All-contains_itself, All-weaker, All-head, All-tail, AreUnder, Under, number_rules, rules_under, keys_of, value_of, nat_cmp, nat_cmp_total, exact_unsigned, IsOrdered, IsStrictlyIncreasing-from_sorted, btree_map_contains_key_iff, All-found, is_some, ltb, lt-ltb, add-one, Some}
+use Rattle.scf_profile.proofs.Common.{true, AllPairs, sum, Decides-eqb, filter_passes, AllPairs-cons, AllPairs-filter, AllPairs-from_increasing, sum-map, sum_by-le, Contains-tail, IsDistinct-from_AllPairs, All-cons, All-permutation, map-map, ◌≡◌, ◌≢◌, ℕ, zero, suc, ◌+◌, ◌<◌, ◌⊎◌, AllByRecursion, false, not, eqb, length, List, [], ◌∷◌, map, get_or, All, refl, sym, ap, ◌∙◌, subst, arith, inl, inr, Contains, filter, cases_eq, eq-eqb, ne_eqb, nat_tests, length-map, get_or-map, All-filter, All-from_recursion, All-map, All-same, All-contains, Contains-append_right, recursion_from_All, IsPermutation, IsStrictlyIncreasing, Rule, numbers_of, rules_of, NumberRules, AreNumbersOf, sum_by, IsPermutation-cons, IsPermutation-refl, IsPermutation-remove, IsPermutation-sym, IsPermutation-trans, IsDistinct, IsDistinct-IsPermutation, IsDistinct-head, IsDistinct-tail, Contains-permutation, length_permutation, sum_by-IsPermutation, sum_by-cons, remove, All-contains_itself, All-weaker, All-head, All-tail, AreUnder, Under, number_rules, rules_under, keys_of, value_of, nat_cmp, nat_cmp_total, exact_unsigned, IsOrdered, IsStrictlyIncreasing-from_sorted, btree_map_contains_key_iff, All-found, is_some, ltb, lt-ltb, add-one, Some}
 use Rattle.smallvec.specs.SmallVec.{SmallVec}
-use Rattle.scf_profile.proofs.Numbers.{contains_cons_cases, contains_filtered, number_there}
+use Rattle.scf_profile.proofs.Numbers.{contains_filtered, number_there}
 
 -- ---- lists of distinct numbers
 
@@ -9,14 +9,10 @@ eqb_flips : (x y : ℕ) → eqb x y ≡ eqb y x
 eqb_flips x y = grind (arith, nat_tests)
 
 -- the first of distinct numbers isn't among the others
-first_alone : (x : ℕ) (xs : List ℕ) → IsDistinct eqb (x ∷ xs) → (n : ℕ) → Contains xs n → n ≢ x
+first_alone : (x : ℕ) (xs : List ℕ) → IsDistinct eqb (x ∷ xs) → (n : ℕ) → Contains xs n → x ≡ n → ⊥
 first_alone x xs distinct n (k, lt, at) e =
     let apart = All-from_recursion (λ y. eqb x y ≡ false) xs (IsDistinct-head eqb x xs distinct) k n lt in
     grind (arith, nat_tests, apart, at, e)
-
--- an element of a list with one in front is that one, or another's
-not_first : (x : ℕ) (xs : List ℕ) (n : ℕ) → n ≢ x → Contains (x ∷ xs) n → Contains xs n
-not_first x xs n apart has = elim (contains_cons_cases x xs n has) [ inl e ↦ absurd (apart (sym e)) | inr later ↦ later ]
 
 -- distinct numbers that are the same ones stand in another order
 same_numbers : (xs ys : List ℕ) → IsDistinct eqb xs → IsDistinct eqb ys → ((n : ℕ) → Contains xs n → Contains ys n)
@@ -30,9 +26,9 @@ same_numbers (x ∷ xs) ys dx dy to from =
     let moved : IsPermutation ys (x ∷ others) = IsPermutation-remove ys at.0 x at.1 (sym at.2) in
     let apart = IsDistinct-IsPermutation eqb eqb_flips ys (x ∷ others) moved dy in
     let rest = same_numbers xs others (IsDistinct-tail eqb x xs dx) (IsDistinct-tail eqb x others apart)
-    (λ n has. not_first x others n (first_alone x xs dx n has)
+    (λ n has. Contains-tail x others n (first_alone x xs dx n has)
     (Contains-permutation ys (x ∷ others) n moved (to n (Contains-append_right (x ∷ []) xs n has))))
-    (λ n has. not_first x xs n (first_alone x others apart n has)
+    (λ n has. Contains-tail x xs n (first_alone x others apart n has)
     (from n (Contains-permutation (x ∷ others) ys n (IsPermutation-sym ys (x ∷ others) moved)
     (Contains-append_right (x ∷ []) others n has)))) in
     IsPermutation-trans (x ∷ xs) (x ∷ others) ys (IsPermutation-cons x xs others rest)
@@ -40,60 +36,23 @@ same_numbers (x ∷ xs) ys dx dy to from =
 
 -- numbers that rise from each to the next rise from each to all later ones
 pub rises : (ns : List ℕ) → IsStrictlyIncreasing ns → (i j : ℕ) → i < j → j < length ns → get_or ns i 0 < get_or ns j 0
-rises ns up i zero before inside = absurd (omega arith)
-rises ns up i (suc j) before inside =
-    let one : j + 1 ≡ suc j = omega arith in
-    let last = subst (λ k. get_or ns j 0 < get_or ns k 0) one (up j (omega arith)) in
-    elim (cases_eq i j) [
-      | inl same ↦ subst (λ k. get_or ns k 0 < get_or ns (suc j) 0) (sym same) last
-      | inr apart ↦ let rest = rises ns up i j (omega arith) (omega arith) in omega arith
-    ]
-
-risen_tail : (n : ℕ) (ns : List ℕ) → IsStrictlyIncreasing (n ∷ ns) → IsStrictlyIncreasing ns
-risen_tail n ns up k lt =
-    let one : k + 1 ≡ suc k = omega arith in
-    subst (λ j. get_or ns k 0 < get_or ns j 0) (sym one)
-    (subst (λ j. get_or (n ∷ ns) (suc k) 0 < get_or (n ∷ ns) j 0) (add-one (suc k)) (up (suc k) (omega arith)))
+rises ns up i j = AllPairs-from_increasing ns up i j 0
 
 risen_distinct : (ns : List ℕ) → IsStrictlyIncreasing ns → IsDistinct eqb ns
-unfolding IsDistinct
-risen_distinct [] up = tt
-risen_distinct (n ∷ ns) up = (
-  recursion_from_All (λ m. eqb n m ≡ false) ns (λ k d lt.
-      let above = rises (n ∷ ns) up 0 (suc k) (omega arith) (omega arith) in
-      grind (arith, nat_tests, above, get_or_inside ns k d lt)),
-  risen_distinct ns (risen_tail n ns up),
-)
-  where
-    get_or_inside : (ns : List ℕ) (k d : ℕ) → k < length ns → get_or ns k d ≡ get_or ns k 0
-    get_or_inside [] k d lt = absurd (omega arith)
-    get_or_inside (m ∷ ms) zero d lt = refl
-    get_or_inside (m ∷ ms) (suc k) d lt = get_or_inside ms k d (omega arith)
+risen_distinct ns up =
+    IsDistinct-from_AllPairs Decides-eqb ns
+    (λ i j d before inside same. let above = AllPairs-from_increasing ns up i j d before inside in omega arith)
 
--- the distinct numbers but the first
-others_distinct : (first : ℕ) (ns : List ℕ) → IsDistinct eqb ns
-    → let others = filter (λ n. not (eqb n first)) ns in
-    AllByRecursion (λ n. eqb first n ≡ false) others × IsDistinct eqb others
-unfolding IsDistinct
-others_distinct first [] distinct = (tt, tt)
-others_distinct first (n ∷ ns) distinct =
-    let rest = others_distinct first ns distinct.1 in
-    let P : ℕ → Type 0 = λ m. eqb n m ≡ false in
-    elim (cases_eq n first) [
-      | inl same ↦ rw (eq-eqb n first same) rest
-      | inr apart ↦ rw (ne_eqb n first apart) (
-        (ne_eqb first n (λ e. apart (sym e)), rest.0),
-        (
-          recursion_from_All P _ (All-filter (λ m. not (eqb m first)) P ns (All-from_recursion P ns distinct.0)),
-          rest.1,
-        ),
-      )
-    ]
+numbers_apart : (rules : List Rule) → AllPairs (λ x y. x ≢ y) (numbers_of rules)
+numbers_apart [] = λ i j d before inside. absurd (omega arith)
+numbers_apart (r ∷ rules) =
+    AllPairs-cons (λ x y. x ≢ y) r.number _
+    (All-weaker (λ n. not (eqb n r.number) ≡ true) (λ n. r.number ≢ n) (λ n other same. grind (arith, nat_tests)) _
+    (filter_passes (λ n. not (eqb n r.number)) (numbers_of rules)))
+    (AllPairs-filter (λ x y. x ≢ y) (λ n. not (eqb n r.number)) (numbers_of rules) (numbers_apart rules))
 
 numbers_distinct : (rules : List Rule) → IsDistinct eqb (numbers_of rules)
-unfolding IsDistinct
-numbers_distinct [] = tt
-numbers_distinct (r ∷ rules) = others_distinct r.number (numbers_of rules) (numbers_distinct rules)
+numbers_distinct rules = IsDistinct-from_AllPairs Decides-eqb (numbers_of rules) (numbers_apart rules)
 
 -- ---- rules under their numbers
 
@@ -116,13 +75,16 @@ numbers_all P (r ∷ rules) all =
     (All-filter (λ nr. not (eqb nr r.number)) P (numbers_of rules)
     (numbers_all P rules (All-tail (λ s. P s.number) r rules all)))
 
+-- each rule is one of its number
+with_own : (rules : List Rule) → All (λ r. 0 < length (rules_of r.number rules)) rules
+with_own rules =
+    All-weaker (Contains rules) (λ r. 0 < length (rules_of r.number rules)) (λ r has.
+    let there = contains_filtered (λ s. eqb s.number r.number) rules r (eq-eqb r.number r.number refl) has in
+    omega (arith, there.1)) rules (All-contains_itself rules)
+
 -- each distinct number is that of some rule
 rules_there : (rules : List Rule) → All (λ nr. 0 < length (rules_of nr rules)) (numbers_of rules)
-rules_there rules =
-    numbers_all (λ nr. 0 < length (rules_of nr rules)) rules
-    (All-weaker (Contains rules) (λ r. 0 < length (rules_of r.number rules)) (λ r has.
-    let there = contains_filtered (λ s. eqb s.number r.number) rules r (eq-eqb r.number r.number refl) has in
-    omega (arith, there.1)) rules (All-contains_itself rules))
+rules_there rules = numbers_all (λ nr. 0 < length (rules_of nr rules)) rules (with_own rules)
 
 module _ (rules : List Rule) (under : Under) (kept : AreUnder rules under) (ordered : IsOrdered nat_cmp under) where
   is_there : (nr : ℕ) → is_some (value_of nat_cmp under nr) ≡ ltb 0 (length (rules_of nr rules))
@@ -170,9 +132,7 @@ contains_mapped f xs n has =
     (All-contains_itself xs))) has
 
 sum_of_map : {X : Type 0} (f : ℕ → ℕ) (g : X → ℕ) (xs : List X) → sum_by f (map g xs) ≡ sum_by (λ x. f (g x)) xs
-sum_of_map f g [] = refl
-sum_of_map f g (x ∷ xs) =
-    sum_by-cons f (g x) (map g xs) ∙ ap (λ n. f (g x) + n) (sum_of_map f g xs) ∙ sym (sum_by-cons (λ x. f (g x)) x xs)
+sum_of_map f g xs = sym (sum-map f (map g xs)) ∙ ap sum (map-map f g xs) ∙ sum-map (λ x. f (g x)) xs
 
 -- sums of what is the same of each element
 same_sums : {X : Type 0} (f g : X → ℕ) (xs : List X) → All (λ x. f x ≡ g x) xs → sum_by f xs ≡ sum_by g xs
@@ -182,70 +142,40 @@ same_sums f g (x ∷ xs) h =
     let first = All-head (λ x. f x ≡ g x) x xs h in
     omega (arith, rest, first, sum_by-cons f x xs, sum_by-cons g x xs)
 
--- numbers but one
-abbrev others_of : ℕ → List ℕ → List ℕ
-others_of number = filter (λ n. not (eqb n number))
-
-others_same : (n : ℕ) (ns : List ℕ) → AllByRecursion (λ m. eqb n m ≡ false) ns → others_of n ns ≡ ns
-others_same n [] h = refl
-others_same n (m ∷ ns) h = rw (eqb_flips m n, h.0) (ap (λ (l : List ℕ). m ∷ l) (others_same n ns h.1))
-
 -- what is summed up of rules is summed up number by number
 module _ (f : Rule → ℕ) where
   abbrev sum_at : List Rule → ℕ → ℕ
   sum_at rules nr = sum_by f (rules_of nr rules)
 
-  sum_with : (r : Rule) (rules : List Rule) (nr : ℕ) → eqb r.number nr ≡ false → sum_at (r ∷ rules) nr ≡ sum_at rules nr
-  sum_with r rules nr apart = rw apart refl
-
-  -- a number is taken out of distinct ones
-  taken_out : (rules : List Rule) (ns : List ℕ) (nr : ℕ) → IsDistinct eqb ns
-      → Contains ns nr ⊎ (rules_of nr rules ≡ [])
-      → sum_at rules nr + sum_by (sum_at rules) (others_of nr ns) ≡ sum_by (sum_at rules) ns
+  -- one more rule counts once among distinct numbers
+  sum_with : (r : Rule) (rules : List Rule) (ns : List ℕ) → IsDistinct eqb ns → Contains ns r.number
+      → sum_by (sum_at (r ∷ rules)) ns ≡ f r + sum_by (sum_at rules) ns
   unfolding IsDistinct
-  taken_out rules [] nr distinct (inl has) = absurd (let lt : has.0 < 0 = has.1 in omega arith)
-  taken_out rules [] nr distinct (inr none) =
-      let nothing : sum_at rules nr ≡ 0 = ap (λ (rs : List Rule). sum_by f rs) none in omega arith
-  taken_out rules (n ∷ ns) nr distinct there =
-      elim (cases_eq n nr) [
-        | inl same ↦
-            let gone = subst (λ m. others_of m ns ≡ ns) same (others_same n ns distinct.0) in
-            let rest : sum_by (sum_at rules) (others_of nr (n ∷ ns)) ≡ sum_by (sum_at rules) ns =
-            rw (eq-eqb n nr same) (ap (λ (l : List ℕ). sum_by (sum_at rules) l) gone) in
-            omega (arith, rest, ap (sum_at rules) same, sum_by-cons (sum_at rules) n ns)
-        | inr apart ↦
-            let rest = taken_out rules ns nr distinct.1 (later there (λ e. apart (sym e))) in
-            rw (ne_eqb n nr apart) (omega (
-              arith,
-              rest,
-              sum_by-cons (sum_at rules) n (others_of nr ns),
-              sum_by-cons (sum_at rules) n ns,
-            ))
-      ]
-    where
-      later : Contains (n ∷ ns) nr ⊎ (rules_of nr rules ≡ []) → nr ≢ n → Contains ns nr ⊎ (rules_of nr rules ≡ [])
-      later (inl has) apart = inl (not_first n ns nr apart has)
-      later (inr none) apart = inr none
-
-  sum_in_parts : (rules : List Rule) → sum_by (sum_at rules) (numbers_of rules) ≡ sum_by f rules
-  sum_in_parts [] = refl
-  sum_in_parts (r ∷ rules) =
-      let nr = r.number in
-      let ns = numbers_of rules in
+  sum_with r rules [] distinct has = absurd (let lt : has.0 < 0 = has.1 in omega arith)
+  sum_with r rules (n ∷ ns) distinct has =
       let g = sum_at (r ∷ rules) in
-      let own : g nr ≡ f r + sum_at rules nr = rw (eq-eqb nr nr refl) (sum_by-cons f r (rules_of nr rules)) in
-      let others = same_sums g (sum_at rules) (others_of nr ns)
-      (λ k d lt. sum_with r rules _
-      (All-from_recursion (λ n. eqb nr n ≡ false) (others_of nr ns) (others_distinct nr ns (numbers_distinct rules)).0 k d lt)) in
-      omega (
-        arith,
-        own,
-        others,
-        taken_out rules ns nr (numbers_distinct rules) (number_there nr rules),
-        sum_in_parts rules,
-        sum_by-cons g nr (others_of nr ns),
-        sum_by-cons f r rules,
-      )
+      let now = sum_by-cons g n ns in
+      let before = sum_by-cons (sum_at rules) n ns in
+      elim (cases_eq r.number n) [
+        | inl same ↦
+            let own : g n ≡ f r + sum_at rules n = rw (eq-eqb r.number n same) (sum_by-cons f r (rules_of n rules)) in
+            let others = same_sums g (sum_at rules) ns (λ k d lt.
+            let apart = All-from_recursion (λ m. eqb n m ≡ false) ns distinct.0 k d lt in
+            let other : eqb r.number (get_or ns k d) ≡ false = rw same apart in rw other refl) in
+            omega (arith, own, others, now, before)
+        | inr apart ↦
+            let other : g n ≡ sum_at rules n = rw (ne_eqb r.number n apart) refl in
+            let rest = sum_with r rules ns distinct.1 (Contains-tail n ns r.number (λ e. apart (sym e)) has) in
+            omega (arith, other, rest, now, before)
+      ]
+
+  sum_in_parts : (ns : List ℕ) → IsDistinct eqb ns → (rules : List Rule) → All (λ r. Contains ns r.number) rules
+      → sum_by (sum_at rules) ns ≡ sum_by f rules
+  sum_in_parts ns distinct [] all = omega (arith, sum_by-le (sum_at []) 0 ns (λ k d lt. omega arith))
+  sum_in_parts ns distinct (r ∷ rules) all =
+      let rest = sum_in_parts ns distinct rules (All-tail (λ s. Contains ns s.number) r rules all) in
+      let first = sum_with r rules ns distinct (All-head (λ s. Contains ns s.number) r rules all) in
+      omega (arith, rest, first, sum_by-cons f r rules)
 
 module _ (numbers : List NumberRules) (rules : List Rule) (are : AreNumbersOf numbers rules) where
   pub numbers_rise : (i j : ℕ) (d : NumberRules) → i < j → j < length numbers
@@ -253,10 +183,7 @@ module _ (numbers : List NumberRules) (rules : List Rule) (are : AreNumbersOf nu
   numbers_rise i j d before inside =
       let len = length-map numbers number_in in
       let up = rises (map number_in numbers) are.rising i j before (omega arith) in
-      rw (get_at i (omega arith), get_at j inside) at up
-    where
-      get_at : (k : ℕ) → k < length numbers → get_or (map number_in numbers) k 0 ≡ (get_or numbers k d).number
-      get_at k lt = get_or-map number_in numbers k d 0 lt
+      rw (get_or-map number_in numbers i d 0 (omega arith), get_or-map number_in numbers j d 0 inside) at up
 
   -- a number has its rules there, or no rule has it
   pub number_among : (nr : ℕ) → ((own : NumberRules) × Contains numbers own × (own.number ≡ nr)) ⊎ (rules_of nr rules ≡ [])
@@ -284,7 +211,10 @@ module _ (numbers : List NumberRules) (rules : List Rule) (are : AreNumbersOf nu
 
   pub sum_of_rules : (f : Rule → ℕ)
       → sum_by (λ (own : NumberRules). sum_by f own.rules.items) numbers ≡ sum_by f rules
-  sum_of_rules f = sum_of_own (sum_by f) ∙ sum_in_parts f rules
+  sum_of_rules f =
+      sum_of_own (sum_by f) ∙ sum_in_parts f (numbers_of rules) (numbers_distinct rules) rules
+      (All-weaker _ (λ r. Contains (numbers_of rules) r.number) (λ r some. some_rules rules r.number some) rules
+      (with_own rules))
 
   numbers_hold : (P : ℕ → Type 0) → All P (numbers_of rules) → All (λ own. P own.number) numbers
   numbers_hold P all k d lt =

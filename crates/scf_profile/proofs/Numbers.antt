@@ -1,22 +1,17 @@
 -- The distinct numbers of rules.
 use Rattle.scf_profile.proofs.Common.{◌≡◌, ℕ, zero, suc, ◌<◌, Bool, true, not, eqb, ◌⊎◌, List, [], ◌∷◌, refl, sym, ap, ◌∙◌, arith, inl, inr, Contains, filter, cases_eq, cases_Bool, ne_eqb, not_from_false, Contains-append_right, Rule, numbers_of, rules_of}
 
--- an element of a list is the first one, or stands behind it
-pub contains_cons_cases : {A : Type 0} (y : A) (ys : List A) (x : A) → Contains (y ∷ ys) x → (y ≡ x) ⊎ Contains ys x
-contains_cons_cases y ys x (zero, lt, e) = inl e
-contains_cons_cases y ys x (suc k, lt, e) = inr (k, omega arith, e)
-
 -- an element that passes a test is among those that do
 pub contains_filtered : {A : Type 0} (p : A → Bool) (xs : List A) (x : A) → p x ≡ true → Contains xs x
     → Contains (filter p xs) x
 contains_filtered p [] x passes h = absurd (let lt : h.0 < 0 = h.1 in omega arith)
-contains_filtered p (y ∷ ys) x passes h =
-    elim (contains_cons_cases y ys x h) [
-      | inl e ↦ let here : p y ≡ true = ap p e ∙ passes in rw here (0, omega arith, e)
-      | inr later ↦ elim (cases_Bool (p y)) [
-        | inl kept ↦ rw kept (Contains-append_right (y ∷ []) (filter p ys) x (contains_filtered p ys x passes later))
-        | inr dropped ↦ rw dropped (contains_filtered p ys x passes later)
-      ]
+contains_filtered p (y ∷ ys) x passes (zero, lt, e) =
+    let here : p y ≡ true = ap p e ∙ passes in rw here (0, omega arith, e)
+contains_filtered p (y ∷ ys) x passes (suc k, lt, e) =
+    let later = contains_filtered p ys x passes (k, omega arith, e) in
+    elim (cases_Bool (p y)) [
+      | inl kept ↦ rw kept (Contains-append_right (y ∷ []) (filter p ys) x later)
+      | inr dropped ↦ rw dropped later
     ]
 
 -- the number is that of a rule, or no rule has it
