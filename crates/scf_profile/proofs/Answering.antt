@@ -1,5 +1,5 @@
 -- A profile has an answer to every call, and one only.
-use Rattle.scf_profile.proofs.Common.{◌≡◌, ℕ, suc, ◌<◌, ◌⊎◌, Bool, true, false, cond, List, [], ◌∷◌, All, refl, Option, Some, None, sym, ap, arith, inl, inr, Contains, find, option_map_or, cases_eq, cases_lt, both_ways, All-contains, All-nil, All-cons, Answer, CallRecord, audit_arch_x86_64, seccomp_ret_kill_process, x32_syscall_bit, IsRecord, Rule, meets, Conflicts, Profile, IsNative, HaveNoConflict, ProfileAnswers, foreign, by_rule, by_default}
+use Rattle.scf_profile.proofs.Common.{◌≡◌, ◌≢◌, ℕ, suc, ◌<◌, ◌⊎◌, Bool, true, false, cond, List, [], ◌∷◌, All, refl, Option, Some, None, sym, ap, arith, inl, inr, Contains, find, option_map_or, cases_eq, cases_lt, both_ways, All-contains, All-nil, All-cons, Answer, CallRecord, audit_arch_x86_64, seccomp_ret_kill_process, x32_syscall_bit, IsRecord, Rule, meets, Conflicts, Profile, IsNative, HaveNoConflict, ProfileAnswers, foreign, by_rule, by_default}
 
 pub conflicts_both_ways : (r s : Rule) → Conflicts r s → Conflicts s r
 conflicts_both_ways r s h =
@@ -17,14 +17,10 @@ pub same_answer : (r s : Rule) (call : CallRecord) → (Conflicts r s → ⊥) �
 same_answer r s call none fits met met_too =
     elim (cases_eq r.answer.0 s.answer.0) [
       | inl e ↦ e
-      | inr apart ↦ absurd (none
-          (record {
-            call = call;
-            is_record = fits;
-            meets_first = met;
-            meets_second = met_too;
-            answer = λ e. apart (ap (λ (a : Answer). a.0) e);
-          }))
+      | inr apart ↦
+          let differ : r.answer ≢ s.answer = λ e. apart (ap (λ (a : Answer). a.0) e) in
+          absurd (none
+          (record { call = call; is_record = fits; meets_first = met; meets_second = met_too; answer = differ }))
     ]
 
 native_or_foreign : (call : CallRecord) → IsNative call ⊎ (IsNative call → ⊥)

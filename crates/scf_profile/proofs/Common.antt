@@ -28,6 +28,7 @@ pub use Rattle.std.proofs.lemmas.Nat.{and-not, and_assoc, and_comm, and_le_l, an
 pub use Rattle.std.proofs.lemmas.Nat.Bits.{bit_at_and, bit_at_or, same_from_bits}
 pub use Rattle.std.proofs.lemmas.Result.{IfErr-at_err, IfOk-weaker, MatchResult-weaker}
 pub use Rattle.std.proofs.lemmas.Str.{IsUtf8-from_ascii}
+pub use Rattle.std.proofs.lemmas.Str.Ascii.{IsAscii-from_all}
 pub use Rattle.std.proofs.lemmas.Simd.{map-map}
 pub use Rattle.std.specs.BTreeMap.{IsOrdered, Updates, UpdatesBy, is_at, get as value_of}
 pub use Rattle.std.specs.Cmp.{eq_by_cmp_equiv}

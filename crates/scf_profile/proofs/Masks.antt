@@ -31,22 +31,15 @@ greatest_masked mask value mask_fits fits within = record {
 
 -- ---- two masks
 
-joined_bit : (x y p q : ℕ) → x < 2 → y < 2 → p < 2 → q < 2 → min x p ≡ x → min y q ≡ y → min x q ≡ min y p
-    → min (max x y) p ≡ x
-joined_bit x y p q a b c d e f g = omega arith
-
-below_two : (n i : ℕ) → bit_at n i < 2
-below_two n i = omega arith
-
 -- two values that agree under both masks, joined, have the one value under its mask
 joined : (v w m n : ℕ) → bit_and v m ≡ v → bit_and w n ≡ w → bit_and v n ≡ bit_and w m → bit_and (bit_or v w) m ≡ v
-joined v w m n hv hw h =
-    same_from_bits _ _ (λ i.
-    bit_at_and (bit_or v w) m i ∙ ap (λ (b : ℕ). min b (bit_at m i)) (bit_at_or v w i)
-    ∙ joined_bit (bit_at v i) (bit_at w i) (bit_at m i) (bit_at n i) (below_two v i) (below_two w i) (below_two m i)
-    (below_two n i)
-    (sym (bit_at_and v m i) ∙ ap (λ (x : ℕ). bit_at x i) hv) (sym (bit_at_and w n i) ∙ ap (λ (x : ℕ). bit_at x i) hw)
-    (sym (bit_at_and v n i) ∙ ap (λ (x : ℕ). bit_at x i) h ∙ bit_at_and w m i))
+joined v w m n hv hw h = same_from_bits _ _ (λ i.
+    let first = ap (λ (x : ℕ). bit_at x i) hv in
+    let second = ap (λ (x : ℕ). bit_at x i) hw in
+    let both = ap (λ (x : ℕ). bit_at x i) h in
+    let or = bit_at_or v w i in
+    let one = bit_at_and (bit_or v w) m i in
+    omega (arith, bit_at_and v m i, bit_at_and w n i, bit_at_and v n i, bit_at_and w m i))
 
 pub two_masks : (m v n w : ℕ) → v < 2 ^ 64 → w < 2 ^ 64 → bit_and v m ≡ v → bit_and w n ≡ w → bit_and v n ≡ bit_and w m
     → HaveCommonNumber (Masked m v) (Masked n w)

@@ -36,11 +36,7 @@ find_is_lookup q (e ∷ es) = ap (cond (eq_by_cmp by_bytes q e.0) (Some e.1)) (f
 
 is_number : (n : ℕ) (o : Option ℕ) → IsSome (option_filter (eqb n) o) → o ≡ Some n
 is_number n None h = cc
-is_number n (Some m) h =
-    elim (eqb n m) as (λ b. eqb n m ≡ b → IsSome (cond b (Some m) None) → Some m ≡ Some n) [
-      | true ↦ λ e some. ap Some (sym (eqb-true n m e))
-      | false ↦ λ e some. cc
-    ] refl h
+is_number n (Some m) h = grind (arith, nat_tests)
 
 number_is : (n : ℕ) (o : Option ℕ) → o ≡ Some n → IsSome (option_filter (eqb n) o)
 number_is n o e = rw (e, eq-eqb n n refl) refl

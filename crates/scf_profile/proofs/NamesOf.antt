@@ -1,5 +1,5 @@
 -- The map behind a tree from texts to numbers, and names as text.
-use Rattle.scf_profile.proofs.Common.{◌≡◌, ℕ, zero, suc, ◌<◌, inl, inr, Option, None, true, cond, List, [], ◌∷◌, map, Some, String, string_bytes, Global, BTreeMap, refl, sym, ap, ◌∙◌, subst, arith, string_cmp, IsAscii, IfSome, IsUtf8, list_all, lookup, get, insert, get-from_entries, get-empty, get-insert, same_map, value_of, is_at, Updates, UpdatesBy, slice_cmp, nat_list_cmp_total, eq_by_cmp, is_eq, eq_by_cmp_equiv, and_parts, cases_cond, nat_tests, IsUtf8-from_ascii, exact_bytes, btree_map_updates_text, is_eq-slice_cmp, x32_syscall_bit, Names, AreCallNumbers, is_name, is_in_name, named, names_of}
+use Rattle.scf_profile.proofs.Common.{All-weaker, AllPass-from_list_all, IsAscii-from_all, ◌≡◌, ℕ, zero, suc, ◌<◌, inl, inr, Option, None, true, cond, List, [], ◌∷◌, map, Some, String, string_bytes, Global, BTreeMap, refl, sym, ap, ◌∙◌, subst, arith, string_cmp, IsAscii, IfSome, IsUtf8, list_all, lookup, get, insert, get-from_entries, get-empty, get-insert, same_map, value_of, is_at, Updates, UpdatesBy, slice_cmp, nat_list_cmp_total, eq_by_cmp, is_eq, eq_by_cmp_equiv, and_parts, cases_cond, nat_tests, IsUtf8-from_ascii, exact_bytes, btree_map_updates_text, is_eq-slice_cmp, x32_syscall_bit, Names, AreCallNumbers, is_name, is_in_name, named, names_of}
 use Rattle.std.proofs.Common.{nat_cmp}
 use Rattle.std.specs.FinMap.{find}
 
@@ -20,26 +20,23 @@ found_named m key names name view is =
     ∙ ap (λ (n : Names). get n name) view
 
 -- one more name
-pub insert_named : (m n : BTreeMap (String Global) ℕ) (k : List ℕ) (v : ℕ)
-    → UpdatesBy string_cmp (λ x. slice_cmp nat_cmp k (string_bytes x)) m n (Some v)
-    → names_of n.entries ≡ insert (names_of m.entries) k v
-insert_named m n k v updates = same_map nat_list_cmp_total exact_bytes _ _ (λ q.
+pub insert_named : (m n : BTreeMap (String Global) ℕ) (key : String Global) (names : Names) (name : List ℕ) (v : ℕ)
+    → names_of m.entries ≡ names → string_bytes key ≡ name → Updates string_cmp m n key (Some v)
+    → names_of n.entries ≡ insert names name v
+insert_named m n key names name v view is updates =
+    let k = string_bytes key in
+    rw (← view, ← is) (same_map nat_list_cmp_total exact_bytes _ _ (λ q.
     get_named n.entries q ∙ btree_map_updates_text k m n (Some v) updates q
     ∙ ap (λ b. cond b (Some v) (lookup (is_at (λ x. slice_cmp nat_cmp q (string_bytes x))) m.entries))
     (sym (is_eq-slice_cmp k q) ∙ (eq_by_cmp_equiv nat_list_cmp_total).symm k q)
     ∙ sym (get-insert nat_list_cmp_total (names_of m.entries) k v q
-    ∙ ap (cond (eq_by_cmp (slice_cmp nat_cmp) q k) (Some v)) (get_named m.entries q)))
-
-word_is_ascii : (b : ℕ) → is_in_name b ≡ true → b < 128
-word_is_ascii b h = grind (arith, nat_tests)
-
-words_are_ascii : (text : List ℕ) → list_all is_in_name text ≡ true → IsAscii text
-words_are_ascii [] h i = omega arith
-words_are_ascii (b ∷ bs) h zero = word_is_ascii b (and_parts (is_in_name b) (list_all is_in_name bs) h).0
-words_are_ascii (b ∷ bs) h (suc i) = words_are_ascii bs (and_parts (is_in_name b) (list_all is_in_name bs) h).1 i
+    ∙ ap (cond (eq_by_cmp (slice_cmp nat_cmp) q k) (Some v)) (get_named m.entries q))))
 
 pub names_are_text : (text : List ℕ) → is_name text ≡ true → IsUtf8 text
-names_are_text text h = IsUtf8-from_ascii text (words_are_ascii text (and_parts _ _ h).1)
+names_are_text text h =
+    IsUtf8-from_ascii text (IsAscii-from_all text
+    (All-weaker (λ b. is_in_name b ≡ true) (λ b. b < 128) (λ b word. grind (arith, nat_tests)) text
+    (AllPass-from_list_all is_in_name text (and_parts _ _ h).1)))
 
 -- names without a number
 pub call_numbers_empty : AreCallNumbers (names_of [])
@@ -50,17 +47,15 @@ call_numbers_insert : (names : Names) (name : List ℕ) (number : ℕ) → AreCa
     → AreCallNumbers (insert names name number)
 call_numbers_insert names name number each below other n h =
     let found = sym (get-insert nat_list_cmp_total names name number other) ∙ h in
-    elim (cases_cond (eq_by_cmp (slice_cmp nat_cmp) other name) (Some number) (get names other) _ refl) [
-      | inl e ↦ let same : Some number ≡ Some n = sym e ∙ found in let is : number ≡ n = cc in omega arith
-      | inr e ↦ each other n (sym e ∙ found)
-    ]
+    let before = each other n in
+    grind (arith, found, before)
 
 -- the same of the maps
 pub call_numbers_updated : (m n : BTreeMap (String Global) ℕ) (key : String Global) (number : ℕ)
     → Updates string_cmp m n key (Some number) → AreCallNumbers (names_of m.entries) → number < x32_syscall_bit
     → AreCallNumbers (names_of n.entries)
 call_numbers_updated m n key number updates each below =
-    subst AreCallNumbers (sym (insert_named m n (string_bytes key) number updates))
+    subst AreCallNumbers (sym (insert_named m n key _ _ number refl refl updates))
     (call_numbers_insert (names_of m.entries) (string_bytes key) number each below)
 
 -- what is found among the names is a call number

@@ -33,8 +33,7 @@ by_operator GreaterOrEqual value value_two n fits = at_least n value
 by_operator Greater value value_two n fits = greater n value
 by_operator MaskedEqual value value_two n fits = sym (masked_split n value (bit_and value_two value))
 
-pub decides : (c : Condition) (n : ℕ) → n < 2 ^ 64
-    → comes_to (test_of c) n ≡ holds c n
+pub decides : (c : Condition) (n : ℕ) → n < 2 ^ 64 → comes_to (test_of c) n ≡ holds c n
 decides c n fits = by_operator c.op c.value c.value_two n fits
 
 -- of a condition with simple masks the test is plain
@@ -45,9 +44,6 @@ plain_of c plain = by_plain c.op c.value c.value_two plain
         → (op ≡ MaskedEqual → IsSimpleMask (low value) × IsSimpleMask (high value))
         → IsPlainTest (test_by op value value_two).0
     by_plain NotEqual value value_two plain = (inr (inr refl), inr (inr refl))
-    by_plain Less value value_two plain = tt
-    by_plain LessOrEqual value value_two plain = tt
     by_plain Equal value value_two plain = (inr (inr refl), inr (inr refl))
-    by_plain GreaterOrEqual value value_two plain = tt
-    by_plain Greater value value_two plain = tt
     by_plain MaskedEqual value value_two plain = ((plain refl).1, (plain refl).0)
+    by_plain op value value_two plain = tt

@@ -57,8 +57,7 @@ entry_test entry d = search (tests, answer_test) depth 40 fits 4000
 
 profile_test : (table : Names) (root : Data) → IsTest (profile_of table root)
 unfolding profile_of seccomp_of no_engine_form
-profile_test table root =
-    search (tests, answer_test, entry_test) depth 40 fits 4000
+profile_test table root = search (tests, answer_test, entry_test) depth 40 fits 4000
 
 -- what the value of a text fails first, or want of memory
 pub refuses_of_fault : (text : List ℕ) (table : Names) (d : Data) (e : LoadFault) → IsText text d
@@ -68,8 +67,7 @@ refuses_of_fault text table d faults.Json is_text fails =
     absurd (IfErr-at_err IsTestFault (fails (λ h. cc)) (profile_test table d).fault)
 refuses_of_fault text table d (faults.Conflict number first second) is_text fails =
     absurd (IfErr-at_err IsTestFault (fails (λ h. cc)) (profile_test table d).fault)
-refuses_of_fault text table d faults.TooMany is_text fails =
-    inr (d, is_text, fails (λ h. cc))
+refuses_of_fault text table d faults.TooMany is_text fails = inr (d, is_text, fails (λ h. cc))
 refuses_of_fault text table d e is_text fails = (d, is_text, fails (λ h. cc))
 
 -- the least conflict of what the value of a text states

@@ -87,7 +87,7 @@ impl CallTable {
     }
 
     /// Adds what a line states. After an `Err` the table is of no use.
-    #[tactic(auto, using(crate::proofs::NamesOf::found_named))]
+    #[tactic(auto, using(crate::proofs::NamesOf::found_named, crate::proofs::NamesOf::insert_named))]
     fn add_line(&mut self, alloc: Global, line: usize, text: &[u8]) -> Result<(), TableFault>
         ensures ok { OnOk result (and_then (entry_in line (fields text.now)) (with_entry line self.old) ≡ Ok self.new) }
         ensures err { IfErr result (λ e. e ≢ faults.Memory
