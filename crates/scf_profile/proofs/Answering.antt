@@ -3,12 +3,13 @@ use Rattle.scf_profile.proofs.Common.{◌≡◌, ◌≢◌, ℕ, suc, ◌<◌, �
 
 pub conflicts_both_ways : (r s : Rule) → Conflicts r s → Conflicts s r
 conflicts_both_ways r s h =
+    let differ : s.answer ≢ r.answer = λ e. h.answer (sym e) in
     record {
       call = h.call;
       is_record = h.is_record;
       meets_first = h.meets_second;
       meets_second = h.meets_first;
-      answer = λ e. h.answer (sym e);
+      answer = differ;
     }
 
 -- the answers of rules without conflict that one call meets

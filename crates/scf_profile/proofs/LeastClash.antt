@@ -1,7 +1,7 @@
 -- The least of clashes, rule by rule.
 use Rattle.scf_profile.proofs.Common.{◌≡◌, ℕ, ◌<◌, length, List, Option, Some, None, All, ◌⊎◌, inl, inr, sym, subst, eqb, arith, refl, get_or, Any, IfSome, Contains, eq-eqb, nat_tests, All-contains, All-contains_itself, Clash, NumberRules, AreNumbersOf, All-weaker, ap, ◌∙◌, Rule, IsBoundedBy, IsClashBounded, IsLeastClash, EntriesConflict, Conflicts, rules_of}
 use Rattle.scf_profile.proofs.Numbers.{contains_filtered}
-use Rattle.scf_profile.proofs.NumberLists.{number_among, own_all}
+use Rattle.scf_profile.proofs.NumberLists.{number_among, own_all, with_own}
 
 -- one of two
 pub one_of_two : (P Q : Clash → Type 0) (first second one : Option Clash) → ((c : Clash) → Q c → P c)
@@ -24,10 +24,7 @@ one_more P Q least (Some c) weaker had (inr q) = weaker c q
 pub still_bounded : (least more : Option Clash) → ((c : Clash) → IsBoundedBy least c → IsBoundedBy more c)
     → (rules laters : List Rule) → All (λ later. All (IsClashBounded least later) rules) laters
     → All (λ later. All (IsClashBounded more later) rules) laters
-still_bounded least more keeps rules laters =
-    All-weaker (λ later. All (IsClashBounded least later) rules) (λ later. All (IsClashBounded more later) rules)
-    (λ later h. All-weaker (IsClashBounded least later) (IsClashBounded more later) (λ r b c is. keeps c (b c is)) rules h)
-    laters
+still_bounded least more keeps rules laters all k d lt j e inside c is = keeps c (all k d lt j e inside c is)
 
 abbrev pub AreBounded : List Rule → Option Clash → Type 0
 AreBounded rules least = All (λ later. All (IsClashBounded least later) rules) rules
@@ -77,11 +74,9 @@ module _ (numbers : List NumberRules) (rules : List Rule) (are : AreNumbersOf nu
             (All-contains (λ l. All (IsClashBounded least l) own.rules.items) own.rules.items later own_bounds
             (among own has later (sym is) here))
             (among own has r (same_number r later clash.conflict ∙ sym is) (All-contains_itself rules j e inside)) c clash
-        | inr none ↦
-            let there = contains_filtered (λ (s : Rule). eqb s.number later.number) rules later
-            (eq-eqb later.number later.number refl) here in
-            absurd (let lt : there.0 < length (rules_of later.number rules) = there.1 in
-            let nothing = ap (λ (rs : List Rule). length rs) none in omega arith)
+        | inr none ↦ absurd
+            (let some = with_own rules k d lt in
+            let nothing = ap (λ (rs : List Rule). length rs) none in omega (arith, some))
       ]
 
   pub all_found : (least : Option Clash)

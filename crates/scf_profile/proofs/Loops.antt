@@ -5,11 +5,7 @@ use Rattle.scf_profile.proofs.Common.{◌≡◌, ℕ, suc, ◌+◌, ◌<◌, ◌
 pub items_at : (vs : List Value) (i : ℕ) (d : Value) → i < length vs
     → (get_or vs i d ≡ get_or vs i d)
     × (items_view (drop i vs) ≡ item (view (get_or vs i d)) (items_view (drop (i + 1) vs)))
-items_at vs i d lt = (
-  refl,
-  ap items_view (drop-cons vs i d lt)
-      ∙ ap (λ (n : ℕ). item (view (get_or vs i d)) (items_view (drop n vs))) (sym (add-one i)),
-)
+items_at vs i d lt = (refl, rw (add-one, drop-cons vs i d))
 
 pub items_end : (vs : List Value) (i : ℕ) → length vs ≤ i → items_view (drop i vs) ≡ no_items
 items_end vs i le = ap items_view (drop_all i vs le)

@@ -76,7 +76,7 @@ numbers_all P (r ∷ rules) all =
     (numbers_all P rules (All-tail (λ s. P s.number) r rules all)))
 
 -- each rule is one of its number
-with_own : (rules : List Rule) → All (λ r. 0 < length (rules_of r.number rules)) rules
+pub with_own : (rules : List Rule) → All (λ r. 0 < length (rules_of r.number rules)) rules
 with_own rules =
     All-weaker (Contains rules) (λ r. 0 < length (rules_of r.number rules)) (λ r has.
     let there = contains_filtered (λ s. eqb s.number r.number) rules r (eq-eqb r.number r.number refl) has in
@@ -206,7 +206,7 @@ module _ (numbers : List NumberRules) (rules : List Rule) (are : AreNumbersOf nu
       → sum_by (λ (own : NumberRules). f own.rules.items) numbers ≡ sum_by (λ nr. f (rules_of nr rules)) (numbers_of rules)
   sum_of_own f =
       same_sums (λ own. f own.rules.items) (λ own. f (rules_of own.number rules)) numbers
-      (All-weaker _ (λ own. f own.rules.items ≡ f (rules_of own.number rules)) (λ own e. ap f e) numbers are.own)
+      (λ k d lt. ap f (are.own k d lt))
       ∙ sum_of_numbers (λ nr. f (rules_of nr rules))
 
   pub sum_of_rules : (f : Rule → ℕ)
@@ -231,7 +231,4 @@ module _ (numbers : List NumberRules) (rules : List Rule) (are : AreNumbersOf nu
       rw (are.own k d lt) (numbers_hold (λ nr. 0 < length (rules_of nr rules)) (rules_there rules) k d lt)
 
   pub own_all : (P : Rule → Type 0) → All P rules → All (λ own. All P own.rules.items) numbers
-  own_all P all =
-      All-weaker (λ own. own.rules.items ≡ rules_of own.number rules) (λ own. All P own.rules.items)
-      (λ own e. All-same P own.rules.items (rules_of own.number rules) e
-      (All-filter (λ r. eqb r.number own.number) P rules all)) numbers are.own
+  own_all P all k d lt = rw (are.own k d lt) (All-filter (λ r. eqb r.number (get_or numbers k d).number) P rules all)

@@ -1,5 +1,5 @@
 -- The rules that entries state: their ranges, and one answer for each entry.
-use Rattle.scf_profile.proofs.Common.{◌≡◌, ℕ, suc, Bool, ◌+◌, ◌<◌, ◌≤◌, ◌^◌, List, [], ◌∷◌, ◌++◌, length, get_or, map, Some, None, All, refl, sym, ap, ◌∙◌, arith, inl, inr, Contains, option_map, cons_option, filter, get, cases_order, recursion_from_All, All-nil, All-cons, All-append, All-head, All-tail, All-contains, All-same, All-weaker, filter-append, filter_map-append, Rule, IsEntry, AreStatedRules, Answer, EntriesConflict, max_rules, IsProfile, HaveNoConflict, Conflicts, IsRule, Names, AreCallNumbers, rules_named, rules_from}
+use Rattle.scf_profile.proofs.Common.{◌≡◌, ℕ, suc, Bool, ◌+◌, ◌<◌, ◌≤◌, ◌^◌, List, [], ◌∷◌, ◌++◌, length, get_or, map, Some, None, Option, All, refl, sym, ap, ◌∙◌, arith, inl, inr, Contains, option_map, cons_option, filter, get, cases_order, recursion_from_All, All-nil, All-cons, All-append, All-head, All-tail, All-contains, All-same, All-weaker, filter-append, filter_map-append, Rule, IsEntry, AreStatedRules, Answer, EntriesConflict, max_rules, IsProfile, HaveNoConflict, Conflicts, IsRule, Names, AreCallNumbers, rules_named, rules_from}
 use Rattle.scf_profile.specs.declared.entry.Entry.{Entry}
 use Rattle.scf_profile.specs.Loading.{IsClash}
 use Rattle.scf_profile.proofs.Answering.{conflicts_both_ways}
@@ -13,13 +13,11 @@ module _ (P : Rule → Type 0) (table : Names) (place : ℕ) (e : Entry)
     (each : (name : List ℕ) (number : ℕ) → get table name ≡ Some number → P (rule_for place e number)) where
   all_named : (names : List (List ℕ)) → All P (rules_named table place e names)
   all_named [] = All-nil P
-  all_named (name ∷ names) =
-      elim (get table name) as (λ o. get table name ≡ o
-      → All P (cons_option (option_map (rule_for place e) o) (rules_named table place e names))) [
-        | None ↦ λ _. all_named names
-        | Some number ↦ λ is. All-cons P (rule_for place e number) (rules_named table place e names)
-            (each name number is) (all_named names)
-      ] refl
+  all_named (name ∷ names) = by_number (get table name) refl (all_named names) where
+    by_number : (o : Option ℕ) → get table name ≡ o → All P (rules_named table place e names)
+        → All P (cons_option (option_map (rule_for place e) o) (rules_named table place e names))
+    by_number None is rest = rest
+    by_number (Some number) is rest = All-cons P (rule_for place e number) _ (each name number is) rest
 
 -- a rule is within its ranges, and has the answer of the entry at its place, where these are those from a place on
 abbrev IsStated : ℕ → List Answer → Rule → Type 0

@@ -24,10 +24,7 @@ loop-own-preserved c =
           (λ d h. (i, own, c.loop-own-test.true, sym c.own-item.is, h)) c.loop-own.invariant.one found;
       bounds =
           All-more (λ (o : NumberRules). AreBounded o.rules.items more) numbers i own c.loop-own-test.true
-          (All-weaker (λ (o : NumberRules). AreBounded o.rules.items least)
-          (λ (o : NumberRules). AreBounded o.rules.items more)
-          (λ o. still_bounded least more c.least_among-least.ensures.keeps o.rules.items o.rules.items) _
-          c.loop-own.invariant.bounds)
+          (λ k d lt. still_bounded least more c.least_among-least.ensures.keeps _ _ (c.loop-own.invariant.bounds k d lt))
           (subst (λ (o : NumberRules). AreBounded o.rules.items more) c.own-item.is bounds);
     }
 

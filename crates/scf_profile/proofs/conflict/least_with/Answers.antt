@@ -21,8 +21,7 @@ loop-rule-preserved c =
           c.loop-rule.invariant.one c.clash_of.ensures.some c.lesser-least.ensures.one;
       bounds =
           All-more Bounded rules i c.rule-item.result c.loop-rule-test.true
-          (All-weaker (IsClashBounded c.loop-rule.least later) Bounded
-          (λ r h d is. c.lesser-least.ensures.keeps d (h d is)) _ c.loop-rule.invariant.bounds)
+          (λ k d lt e is. c.lesser-least.ensures.keeps e (c.loop-rule.invariant.bounds k d lt e is))
           (subst Bounded c.rule-item.is (λ d is. c.lesser-least.ensures.bound d (c.clash_of.ensures.all d is)));
       keeps = λ d h. c.lesser-least.ensures.keeps d (c.loop-rule.invariant.keeps d h);
     }
