@@ -33,8 +33,7 @@ bounded : (rules : List Rule) (least : Option Clash) → AreBounded rules least 
     → EntriesConflict rules first second number
     → IsBoundedBy least (record { second = second; first = first; number = number })
 bounded rules least all first second number (i, rule, i_lt, rule_is, (j, later, j_lt, later_is, clash)) =
-    let with_later = All-contains (λ l. All (IsClashBounded least l) rules) rules later all (j, j_lt, later_is) in
-    All-contains (IsClashBounded least later) rules rule with_later (i, i_lt, rule_is) _ clash
+    let held = rw (later_is, rule_is) at (all j later j_lt i rule i_lt) in held _ clash
 
 pub least_found : (rules : List Rule) (least : Option Clash) → AreBounded rules least
     → IfSome least (λ c. EntriesConflict rules c.first c.second c.number) → IsLeastClash rules least
@@ -49,14 +48,10 @@ least_found rules (Some c) all found = record {
 -- ---- the rules of each number
 
 module _ (numbers : List NumberRules) (rules : List Rule) (are : AreNumbersOf numbers rules) where
-  its_rules : (own : NumberRules) → Contains numbers own → own.rules.items ≡ rules_of own.number rules
-  its_rules own has =
-      All-contains (λ (o : NumberRules). o.rules.items ≡ rules_of o.number rules) numbers own are.own has
-
   among : (own : NumberRules) → Contains numbers own → (r : Rule) → r.number ≡ own.number → Contains rules r
       → Contains own.rules.items r
   among own has r same inside =
-      subst (λ (rs : List Rule). Contains rs r) (sym (its_rules own has))
+      rw (All-contains (λ (o : NumberRules). o.rules.items ≡ rules_of o.number rules) numbers own are.own has)
       (contains_filtered (λ (s : Rule). eqb s.number own.number) rules r (eq-eqb r.number own.number same) inside)
 
   -- clashes among rules of one number are all
@@ -68,12 +63,11 @@ module _ (numbers : List NumberRules) (rules : List Rule) (are : AreNumbersOf nu
       let here = All-contains_itself rules k d lt in
       elim (number_among numbers rules are later.number) [
         | inl (own, has, is) ↦
-            let own_bounds =
-            All-contains (λ (o : NumberRules). AreBounded o.rules.items least) numbers own bounds has in
-            All-contains (IsClashBounded least later) own.rules.items r
-            (All-contains (λ l. All (IsClashBounded least l) own.rules.items) own.rules.items later own_bounds
-            (among own has later (sym is) here))
-            (among own has r (same_number r later clash.conflict ∙ sym is) (All-contains_itself rules j e inside)) c clash
+            let one = among own has r (same_number r later clash.conflict ∙ sym is) (All-contains_itself rules j e inside) in
+            let two = among own has later (sym is) here in
+            bounded own.rules.items least
+            (All-contains (λ (o : NumberRules). AreBounded o.rules.items least) numbers own bounds has) _ _ _
+            (one.0, r, one.1, one.2, (two.0, later, two.1, two.2, clash))
         | inr none ↦ absurd
             (let some = with_own rules k d lt in
             let nothing = ap (λ (rs : List Rule). length rs) none in omega (arith, some))
@@ -83,10 +77,10 @@ module _ (numbers : List NumberRules) (rules : List Rule) (are : AreNumbersOf nu
       → IfSome least (λ c. Any (λ own. EntriesConflict own.rules.items c.first c.second c.number) numbers)
       → IfSome least (λ c. EntriesConflict rules c.first c.second c.number)
   all_found None h = tt
-  all_found (Some c) (k, own, lt, at, (i, r, i_lt, i_is, (j, later, j_lt, j_is, clash))) =
+  all_found (Some c) (k, own, lt, is, (i, r, i_lt, i_is, (j, later, j_lt, j_is, clash))) =
+      let all = rw is at (own_all numbers rules are (Contains rules) (All-contains_itself rules) k own lt) in
       let inside : (s : Rule) → Contains own.rules.items s → Contains rules s =
-      λ s. All-contains (Contains rules) own.rules.items s (All-contains (λ (o : NumberRules). All (Contains rules) o.rules.items) numbers own
-      (own_all numbers rules are (Contains rules) (All-contains_itself rules)) (k, lt, at)) in
+      λ s. All-contains (Contains rules) own.rules.items s all in
       let one = inside r (i, i_lt, i_is) in
       let two = inside later (j, j_lt, j_is) in
       (one.0, r, one.1, one.2, (two.0, later, two.1, two.2, clash))

@@ -1,6 +1,5 @@
 pub mod Answering
 pub mod Common
-pub mod ConditionLists
 pub mod Cuts
 pub mod LeastClash
 pub mod Loops
@@ -13,5 +12,4 @@ pub mod Numbers
 pub mod Overlaps
 pub mod Reasons
 pub mod StatedRules
-pub mod TableLines
 pub mod TestFaults

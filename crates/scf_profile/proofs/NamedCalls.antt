@@ -83,11 +83,7 @@ module _ (numbers : BTreeMap (String Global) ℕ) (ordered : IsOrdered string_cm
     its_names e found =
         let there : names_under under e.0 ≡ texts_at e.1.items = rw found refl in
         let same : texts_at e.1.items ≡ names_with e.0 numbers.entries = sym there ∙ by_number.names e.0 in
-        let Exact : List ℕ → List (List ℕ) → Type 0 = λ q names. Contains names q ↔ (get table q ≡ Some e.0) in
-        record {
-          rising = subst (IsStrictlySortedBy by_bytes) (sym same) (names_rise e.0);
-          exact = λ q. subst (Exact q) (sym same) (names_exact e.0 q);
-        }
+        record { rising = rw same (names_rise e.0); exact = λ q. rw same (names_exact e.0 q) }
 
     numbers_exact : (n : ℕ) → Contains (keys_of under.entries) n ↔ ((name : List ℕ) × (get table name ≡ Some n))
     numbers_exact n =

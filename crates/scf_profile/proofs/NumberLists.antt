@@ -104,10 +104,6 @@ module _ (rules : List Rule) (under : Under) (kept : AreUnder rules under) (orde
       let told = sym (is_there nr) ∙ (btree_map_contains_key_iff nat_cmp_total exact_unsigned under nr).1 has in
       some_rules rules nr (grind (arith, nat_tests)))
 
-  its_rules : (e : ℕ × SmallVec Rule) → value_of nat_cmp under e.0 ≡ Some e.1 → e.1.items ≡ rules_of e.0 rules
-  its_rules e found =
-      let there : rules_under under e.0 ≡ e.1.items = rw found refl in sym there ∙ kept.kept e.0
-
   -- the numbers of a tree over their rules
   pub are_numbers : AreNumbersOf (map number_rules under.entries) rules
   are_numbers =
@@ -116,8 +112,10 @@ module _ (rules : List Rule) (under : Under) (kept : AreUnder rules under) (orde
         rising = subst IsStrictlyIncreasing told keys_rise;
         same = subst (IsPermutation (numbers_of rules)) told same_keys;
         own =
-            All-map (λ (own : NumberRules). own.rules.items ≡ rules_of own.number rules) number_rules under.entries
-            (λ k d lt. its_rules (get_or under.entries k d) (All-found nat_cmp_total under ordered k d lt));
+            All-map (λ (own : NumberRules). own.rules.items ≡ rules_of own.number rules) number_rules under.entries (λ k d lt.
+            let e = get_or under.entries k d in
+            let there : rules_under under e.0 ≡ e.1.items = rw (All-found nat_cmp_total under ordered k d lt) refl in
+            sym there ∙ kept.kept e.0);
       }
 
 -- ---- what crates above cite
@@ -128,8 +126,7 @@ contains_mapped : {X : Type 0} (f : X → ℕ) (xs : List X) (n : ℕ) → Conta
 contains_mapped f xs n has =
     All-contains (λ m. (x : _) × Contains xs x × (f x ≡ m)) (map f xs) n
     (All-map (λ m. (x : _) × Contains xs x × (f x ≡ m)) f xs
-    (All-weaker (Contains xs) (λ y. (x : _) × Contains xs x × (f x ≡ f y)) (λ y h. (y, h, refl)) xs
-    (All-contains_itself xs))) has
+    (λ k d lt. (get_or xs k d, All-contains_itself xs k d lt, refl))) has
 
 sum_of_map : {X : Type 0} (f : ℕ → ℕ) (g : X → ℕ) (xs : List X) → sum_by f (map g xs) ≡ sum_by (λ x. f (g x)) xs
 sum_of_map f g xs = sym (sum-map f (map g xs)) ∙ ap sum (map-map f g xs) ∙ sum-map (λ x. f (g x)) xs
@@ -198,16 +195,12 @@ module _ (numbers : List NumberRules) (rules : List Rule) (are : AreNumbersOf nu
   count_of_numbers =
       sym (length-map numbers number_in) ∙ length_permutation (numbers_of rules) (map number_in numbers) are.same
 
-  sum_of_numbers : (f : ℕ → ℕ) → sum_by (λ (own : NumberRules). f own.number) numbers ≡ sum_by f (numbers_of rules)
-  sum_of_numbers f =
-      sym (sum_of_map f number_in numbers) ∙ sum_by-IsPermutation f (numbers_of rules) (map number_in numbers) are.same
-
   pub sum_of_own : (f : List Rule → ℕ)
       → sum_by (λ (own : NumberRules). f own.rules.items) numbers ≡ sum_by (λ nr. f (rules_of nr rules)) (numbers_of rules)
   sum_of_own f =
-      same_sums (λ own. f own.rules.items) (λ own. f (rules_of own.number rules)) numbers
-      (λ k d lt. ap f (are.own k d lt))
-      ∙ sum_of_numbers (λ nr. f (rules_of nr rules))
+      let g : ℕ → ℕ = λ nr. f (rules_of nr rules) in
+      same_sums (λ own. f own.rules.items) (λ own. g own.number) numbers (λ k d lt. ap f (are.own k d lt))
+      ∙ sym (sum_of_map g number_in numbers) ∙ sum_by-IsPermutation g (numbers_of rules) (map number_in numbers) are.same
 
   pub sum_of_rules : (f : Rule → ℕ)
       → sum_by (λ (own : NumberRules). sum_by f own.rules.items) numbers ≡ sum_by f rules

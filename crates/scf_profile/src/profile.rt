@@ -93,6 +93,7 @@ impl Profile {
 
     /// What the profile answers to a call: KILL_PROCESS where the call isn't one of x86-64, else the answer of any rule
     /// that it meets, and the default answer where it meets none.
+    #[tactic(auto, using(crate::specs::ProfileAnswers::foreign))]
     pub fn answer(&self, call: &CallRecord) -> Answer
         ensures { ProfileAnswers self.now call.now result.0 }
     {
