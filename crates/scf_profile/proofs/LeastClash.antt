@@ -63,7 +63,8 @@ module _ (numbers : List NumberRules) (rules : List Rule) (are : AreNumbersOf nu
       let here = All-contains_itself rules k d lt in
       elim (number_among numbers rules are later.number) [
         | inl (own, has, is) ↦
-            let one = among own has r (same_number r later clash.conflict ∙ sym is) (All-contains_itself rules j e inside) in
+            let same = same_number r later clash.conflict ∙ sym is in
+            let one = among own has r same (All-contains_itself rules j e inside) in
             let two = among own has later (sym is) here in
             bounded own.rules.items least
             (All-contains (λ (o : NumberRules). AreBounded o.rules.items least) numbers own bounds has) _ _ _

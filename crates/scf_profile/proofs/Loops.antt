@@ -1,5 +1,5 @@
 -- Loops over the items of an array.
-use Rattle.scf_profile.proofs.Common.{◌≡◌, ℕ, suc, ◌+◌, ◌<◌, ◌≤◌, List, [], ◌∷◌, length, get_or, drop, refl, sym, ap, ◌∙◌, add-one, String, Global, Bool, map, ◌||◌, drop-cons, list_any, drop_all, Value, item, no_items, view, items_view, members_view, items_len, members_len}
+use Rattle.scf_profile.proofs.Common.{common_steps, ◌≡◌, ℕ, suc, ◌+◌, ◌<◌, ◌≤◌, List, [], ◌∷◌, length, get_or, drop, refl, sym, ap, ◌∙◌, add-one, String, Global, Bool, map, ◌||◌, drop-cons, list_any, drop_all, Value, item, no_items, view, items_view, members_view, items_len, members_len}
 
 -- the items from a place on, in the words that a search finds
 pub items_at : (vs : List Value) (i : ℕ) (d : Value) → i < length vs
@@ -10,7 +10,7 @@ items_at vs i d lt = (refl, rw (add-one, drop-cons vs i d))
 pub items_end : (vs : List Value) (i : ℕ) → length vs ≤ i → items_view (drop i vs) ≡ no_items
 items_end vs i le = ap items_view (drop_all i vs le)
 
-pub ruleset items_left = (items_at, items_end)
+pub ruleset items_left = (common_steps, items_at, items_end)
 
 pub list_any-map : {A B : Type 0} (p : B → Bool) (f : A → B) (xs : List A)
     → list_any p (map f xs) ≡ list_any (λ x. p (f x)) xs

@@ -112,7 +112,8 @@ module _ (rules : List Rule) (under : Under) (kept : AreUnder rules under) (orde
         rising = subst IsStrictlyIncreasing told keys_rise;
         same = subst (IsPermutation (numbers_of rules)) told same_keys;
         own =
-            All-map (λ (own : NumberRules). own.rules.items ≡ rules_of own.number rules) number_rules under.entries (λ k d lt.
+            All-map (λ (own : NumberRules). own.rules.items ≡ rules_of own.number rules) number_rules under.entries
+            (λ k d lt.
             let e = get_or under.entries k d in
             let there : rules_under under e.0 ≡ e.1.items = rw (All-found nat_cmp_total under ordered k d lt) refl in
             sym there ∙ kept.kept e.0);
@@ -183,7 +184,8 @@ module _ (numbers : List NumberRules) (rules : List Rule) (are : AreNumbersOf nu
       rw (get_or-map number_in numbers i d 0 (omega arith), get_or-map number_in numbers j d 0 inside) at up
 
   -- a number has its rules there, or no rule has it
-  pub number_among : (nr : ℕ) → ((own : NumberRules) × Contains numbers own × (own.number ≡ nr)) ⊎ (rules_of nr rules ≡ [])
+  pub number_among : (nr : ℕ)
+      → ((own : NumberRules) × Contains numbers own × (own.number ≡ nr)) ⊎ (rules_of nr rules ≡ [])
   number_among nr =
       elim (number_there nr rules) [
         | inl there ↦ inl (contains_mapped number_in numbers nr
@@ -196,18 +198,19 @@ module _ (numbers : List NumberRules) (rules : List Rule) (are : AreNumbersOf nu
       sym (length-map numbers number_in) ∙ length_permutation (numbers_of rules) (map number_in numbers) are.same
 
   pub sum_of_own : (f : List Rule → ℕ)
-      → sum_by (λ (own : NumberRules). f own.rules.items) numbers ≡ sum_by (λ nr. f (rules_of nr rules)) (numbers_of rules)
+      → sum_by (λ (own : NumberRules). f own.rules.items) numbers
+      ≡ sum_by (λ nr. f (rules_of nr rules)) (numbers_of rules)
   sum_of_own f =
       let g : ℕ → ℕ = λ nr. f (rules_of nr rules) in
       same_sums (λ own. f own.rules.items) (λ own. g own.number) numbers (λ k d lt. ap f (are.own k d lt))
-      ∙ sym (sum_of_map g number_in numbers) ∙ sum_by-IsPermutation g (numbers_of rules) (map number_in numbers) are.same
+      ∙ sym (sum_of_map g number_in numbers)
+      ∙ sum_by-IsPermutation g (numbers_of rules) (map number_in numbers) are.same
 
   pub sum_of_rules : (f : Rule → ℕ)
       → sum_by (λ (own : NumberRules). sum_by f own.rules.items) numbers ≡ sum_by f rules
   sum_of_rules f =
       sum_of_own (sum_by f) ∙ sum_in_parts f (numbers_of rules) (numbers_distinct rules) rules
-      (All-weaker _ (λ r. Contains (numbers_of rules) r.number) (λ r some. some_rules rules r.number some) rules
-      (with_own rules))
+      (λ k d lt. some_rules rules _ (with_own rules k d lt))
 
   numbers_hold : (P : ℕ → Type 0) → All P (numbers_of rules) → All (λ own. P own.number) numbers
   numbers_hold P all k d lt =

@@ -22,7 +22,7 @@ conditions_push cs c h is none =
 pub loop-member-preserved : goal.loop-member-preserved
 unfolding each
 loop-member-preserved c = record {
-  so_far = grind (arith, common_steps, items_left);
+  so_far = grind (arith, items_left);
   range =
       rw c.in_ok-push.ensures.items
       (conditions_push c.loop-member.conditions.items c.in_ok-condition.condition c.loop-member.invariant.range

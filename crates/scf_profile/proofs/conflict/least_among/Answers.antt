@@ -15,7 +15,8 @@ loop-later-preserved c =
       one =
           one_more (λ d. (c.args.known ≡ Some d) ⊎ EntriesConflict rules d.first d.second d.number)
           (λ d. Any (λ r. IsClashOf r later d) rules) least more
-          (λ d (k, r, lt, at, clash). inr (k, r, lt, at, (i, later, c.loop-later-test.true, sym c.later-item.is, clash)))
+          (λ d (k, r, lt, at, clash).
+          inr (k, r, lt, at, (i, later, c.loop-later-test.true, sym c.later-item.is, clash)))
           c.loop-later.invariant.one c.least_with-least.ensures.one;
       bounds =
           All-more (λ l. All (IsClashBounded more l) rules) rules i later c.loop-later-test.true

@@ -4,9 +4,7 @@ use Rattle.scf_profile.proofs.conflict.least_conflict.Goals as goal
 
 pub least_among-least-requires : goal.least_among-least-requires
 least_among-least-requires c =
-    All-same IsRule _ _ c.deref.ensures
-    (subst (λ (own : NumberRules). All IsRule own.rules.items) (sym c.own-item.is)
-    (c.requires c.loop-own.own-index c.own-item.result c.loop-own-test.true))
+    rw (c.deref.ensures, c.own-item.is) (c.requires c.loop-own.own-index c.own-item.result c.loop-own-test.true)
 
 pub loop-own-preserved : goal.loop-own-preserved
 loop-own-preserved c =
@@ -15,6 +13,7 @@ loop-own-preserved c =
     let own = c.own-item.result in
     let least = c.loop-own.least in
     let more = c.least_among-least.result in
+    let keeps = c.least_among-least.ensures.keeps in
     let found = rw c.deref.ensures at c.least_among-least.ensures.one in
     let bounds = rw c.deref.ensures at c.least_among-least.ensures.bounds in
     record {
@@ -24,7 +23,7 @@ loop-own-preserved c =
           (λ d h. (i, own, c.loop-own-test.true, sym c.own-item.is, h)) c.loop-own.invariant.one found;
       bounds =
           All-more (λ (o : NumberRules). AreBounded o.rules.items more) numbers i own c.loop-own-test.true
-          (λ k d lt. still_bounded least more c.least_among-least.ensures.keeps _ _ (c.loop-own.invariant.bounds k d lt))
+          (λ k d lt. still_bounded least more keeps _ _ (c.loop-own.invariant.bounds k d lt))
           (subst (λ (o : NumberRules). AreBounded o.rules.items more) c.own-item.is bounds);
     }
 

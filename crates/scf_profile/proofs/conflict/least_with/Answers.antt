@@ -4,8 +4,7 @@ use Rattle.scf_profile.proofs.conflict.least_with.Goals as goal
 
 pub clash_of-requires-clause-rule : goal.clash_of-requires-clause-rule
 clash_of-requires-clause-rule c =
-    subst (λ (r : Rule). IsRule r) (sym c.rule-item.is)
-    (c.requires.rules c.loop-rule.rule-index c.rule-item.result c.loop-rule-test.true)
+    rw c.rule-item.is (c.requires.rules c.loop-rule.rule-index c.rule-item.result c.loop-rule-test.true)
 
 pub loop-rule-preserved : goal.loop-rule-preserved
 loop-rule-preserved c =
