@@ -1,12 +1,10 @@
 -- The names that proofs of this crate cite, passed on from one place. Declares nothing.
-pub use Rattle.std.proofs.Common.{All, AllPairs, Any, BTreeMap, Bool, Bor, Contains, Err, Global, IfErr, IfSome, IsAscii, IsSome, List, None, Ok, Option, Result, Some, String, Vec, [], add-one, ap, append-nil, arith, bit_and, bit_or, cond, drop, eqb, false, get_or, inl, inr, is_none, is_some, leb, length, ltb, map, max, min, nat_lt, not, ok_or, option_map, refl, rules, string_bytes, string_cmp, subst, suc, sum, sym, take, tests, true, vec_len, zero, ℕ, ◌&&◌, ◌++◌, ◌+◌, ◌-◌, ◌<◌, ◌^◌, ◌||◌, ◌↔◌, ◌∙◌, ◌∷◌, ◌≡◌, ◌≢◌, ◌≤◌, ◌⊎◌}
+pub use Rattle.std.proofs.Common.{length-drop, drop-cons, IsUtf8, bytes_eq, Ordering, Less, All, AllPairs, Any, BTreeMap, Bool, Bor, Contains, Err, Global, IfErr, IfSome, IsAscii, IsSome, List, None, Ok, Option, Result, Some, String, Vec, [], add-one, ap, append-nil, arith, bit_and, bit_or, cond, drop, eqb, false, get_or, inl, inr, is_none, is_some, leb, length, ltb, map, max, min, nat_lt, not, ok_or, option_map, refl, rules, string_bytes, string_cmp, subst, suc, sum, sym, take, tests, true, vec_len, zero, ℕ, ◌&&◌, ◌++◌, ◌+◌, ◌-◌, ◌<◌, ◌^◌, ◌||◌, ◌↔◌, ◌∙◌, ◌∷◌, ◌≡◌, ◌≢◌, ◌≤◌, ◌⊎◌}
 pub use Rattle.serde_json.specs.Data.{Data, Items, item, no_items}
 pub use Rattle.serde_json.specs.Events.{items_len, members_len}
 pub use Rattle.serde_json.specs.Find.{as_str}
 pub use Rattle.serde_json.specs.View.{items_view, members_view, view}
 pub use Rattle.serde_json.specs.declared.value.Value.{Value}
-pub use Rattle.std.proofs.Math.ListN.{length-drop}
-pub use Rattle.std.proofs.Math.Seq.{drop-cons}
 pub use Rattle.std.proofs.lemmas.Bool.{both_ways, cases_Bool, cases_cond, cases_order, false≢true, le-leb, le-ltb, not_from_false, or_parts}
 pub use Rattle.std.proofs.lemmas.Bool.Decides.{Decides-eqb}
 pub use Rattle.std.proofs.lemmas.Cmp.{nat_cmp_total}
@@ -42,10 +40,7 @@ pub use Rattle.std.specs.List.Sorted.{IsPermutation, IsStrictlyIncreasing}
 pub use Rattle.std.specs.Map.{keys_of}
 pub use Rattle.std.specs.Option.{option_map_or}
 pub use Rattle.std.specs.Ordering.{eq_by_cmp, is_eq, nat_cmp}
-pub use Rattle.std.specs.Str.{IsUtf8, bytes_eq}
 pub use Rattle.std.specs.Str.Lines.{lines, lines_of_parts, strip_carriage_return}
-pub use Rattle.std.specs.declared.cmp.Ordering.{Ordering}
-pub use Rattle.std.specs.declared.cmp.Ordering.TheVariants.{Less}
 pub use Rattle.scf_insn.proofs.Common.{AllByRecursion, IsRecord, and_parts, argument, audit_arch_x86_64, cases_eq, cases_lt, common_steps, drop_all, eq-eqb, eqb-false, eqb-true, err_from_is_err_and, list_all, lookup, lt-ltb, nat_tests, ne_eqb, seccomp_data_args, seccomp_ret_kill_process, take-append-drop, take_all, take_more, x32_syscall_bit}
 pub use Rattle.scf_insn.specs.declared.answer.Answer.{Answer}
 pub use Rattle.scf_insn.specs.declared.record.CallRecord.{CallRecord}

@@ -6,9 +6,8 @@ pub returns-in-Masked : goal.returns-in-Masked
 returns-in-Masked c =
     let m = c.in-Masked.own_mask in
     let v = c.in-Masked.own_value in
-    let set = subst IsNumberSet c.in-Masked.is c.requires.own in (
-      λ h. subst (λ (s : NumberSet). HaveCommonNumber s (Masked c.args.mask c.args.value)) (sym c.in-Masked.is)
-          (two_masks m v c.args.mask c.args.value (omega arith) (omega arith) set c.requires.masked (eqb-true _ _ h)),
-      λ s. eq-eqb _ _ (two_masks_agree m v c.args.mask c.args.value
-          (subst (λ (t : NumberSet). HaveCommonNumber t (Masked c.args.mask c.args.value)) c.in-Masked.is s)),
+    let set = rw c.in-Masked.is at c.requires.own in
+    rw c.in-Masked.is (
+      λ h. two_masks m v c.args.mask c.args.value (omega arith) (omega arith) set c.requires.masked (eqb-true _ _ h),
+      λ s. eq-eqb _ _ (two_masks_agree m v c.args.mask c.args.value s),
     )
