@@ -1,5 +1,5 @@
 -- The least of clashes, rule by rule.
-use Rattle.scf_profile.proofs.Common.{◌≡◌, ℕ, ◌<◌, length, List, Option, Some, None, All, ◌⊎◌, inl, inr, sym, subst, eqb, arith, refl, get_or, Any, IfSome, Contains, eq-eqb, nat_tests, All-contains, All-contains_itself, Clash, NumberRules, AreNumbersOf, All-weaker, ap, ◌∙◌, Rule, IsBoundedBy, IsClashBounded, IsLeastClash, EntriesConflict, Conflicts, rules_of}
+use Rattle.scf_profile.proofs.Common.{◌≡◌, ℕ, length, List, Option, Some, None, All, ◌⊎◌, inl, inr, sym, eqb, arith, refl, get_or, Any, IfSome, Contains, eq-eqb, nat_tests, All-contains, All-contains_itself, Clash, NumberRules, AreNumbersOf, ap, ◌∙◌, Rule, IsBoundedBy, IsClashBounded, IsLeastClash, EntriesConflict, Conflicts, rules_of}
 use Rattle.scf_profile.proofs.Numbers.{contains_filtered}
 use Rattle.scf_profile.proofs.NumberLists.{number_among, own_all, with_own}
 

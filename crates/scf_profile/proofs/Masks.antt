@@ -1,5 +1,5 @@
 -- Numbers that have a value under a mask: the least, the greatest, and those of two masks.
-use Rattle.scf_profile.proofs.Common.{◌≡◌, ℕ, ◌-◌, ◌<◌, ◌^◌, min, max, bit_and, sym, ap, ◌∙◌, arith, bit_or, bit_at, and_self, or_add_and, eq-eqb, eqb-true, and_assoc, and_comm, and_le_l, and_or_apart, and-not, or_comm, or_lt, bit_at_and, bit_at_or, same_from_bits, Masked, HaveCommonNumber, IsGreatestOf, IsLeastOf}
+use Rattle.scf_profile.proofs.Common.{◌≡◌, ℕ, ◌-◌, ◌<◌, ◌^◌, bit_and, sym, ap, ◌∙◌, arith, bit_or, bit_at, and_self, or_add_and, eq-eqb, eqb-true, and_assoc, and_comm, and_le_l, and_or_apart, and-not, or_comm, or_lt, bit_at_and, bit_at_or, same_from_bits, Masked, HaveCommonNumber, IsGreatestOf, IsLeastOf}
 
 pub masked_twice : (n m : ℕ) → bit_and (bit_and n m) m ≡ bit_and n m
 masked_twice n m = and_assoc m n m ∙ ap (bit_and n) (and_self m)

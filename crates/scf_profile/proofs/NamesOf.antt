@@ -1,5 +1,5 @@
 -- The map behind a tree from texts to numbers, and names as text.
-use Rattle.scf_profile.proofs.Common.{All-weaker, AllPass-from_list_all, IsAscii-from_all, ◌≡◌, ℕ, zero, suc, ◌<◌, inl, inr, Option, None, true, cond, List, [], ◌∷◌, map, Some, String, string_bytes, Global, BTreeMap, refl, sym, ap, ◌∙◌, subst, arith, string_cmp, IsAscii, IfSome, IsUtf8, list_all, lookup, get, insert, get-from_entries, get-empty, get-insert, same_map, value_of, is_at, Updates, UpdatesBy, slice_cmp, nat_list_cmp_total, eq_by_cmp, is_eq, eq_by_cmp_equiv, and_parts, cases_cond, nat_tests, IsUtf8-from_ascii, exact_bytes, btree_map_updates_text, is_eq-slice_cmp, x32_syscall_bit, Names, AreCallNumbers, is_name, is_in_name, named, names_of}
+use Rattle.scf_profile.proofs.Common.{All-weaker, AllPass-from_list_all, IsAscii-from_all, ◌≡◌, ℕ, ◌<◌, Option, None, true, cond, List, [], ◌∷◌, map, Some, String, string_bytes, Global, BTreeMap, refl, sym, ap, ◌∙◌, subst, arith, string_cmp, IfSome, IsUtf8, lookup, get, insert, get-from_entries, get-empty, get-insert, same_map, value_of, is_at, Updates, slice_cmp, nat_list_cmp_total, eq_by_cmp, is_eq, eq_by_cmp_equiv, and_parts, nat_tests, IsUtf8-from_ascii, exact_bytes, btree_map_updates_text, is_eq-slice_cmp, x32_syscall_bit, Names, AreCallNumbers, is_name, is_in_name, named, names_of}
 use Rattle.std.proofs.Common.{nat_cmp}
 use Rattle.std.specs.FinMap.{find}
 

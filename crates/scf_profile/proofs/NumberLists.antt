@@ -1,6 +1,5 @@
 -- The numbers that rules have, each with its rules.
-use Rattle.scf_profile.proofs.Common.{true, AllPairs, sum, Decides-eqb, filter_passes, AllPairs-cons, AllPairs-filter, AllPairs-from_increasing, sum-map, sum_by-le, Contains-tail, IsDistinct-from_AllPairs, All-cons, All-permutation, map-map, ◌≡◌, ◌≢◌, ℕ, zero, suc, ◌+◌, ◌<◌, ◌⊎◌, AllByRecursion, false, not, eqb, length, List, [], ◌∷◌, map, get_or, All, refl, sym, ap, ◌∙◌, subst, arith, inl, inr, Contains, filter, cases_eq, eq-eqb, ne_eqb, nat_tests, length-map, get_or-map, All-filter, All-from_recursion, All-map, All-same, All-contains, Contains-append_right, recursion_from_All, IsPermutation, IsStrictlyIncreasing, Rule, numbers_of, rules_of, NumberRules, AreNumbersOf, sum_by, IsPermutation-cons, IsPermutation-refl, IsPermutation-remove, IsPermutation-sym, IsPermutation-trans, IsDistinct, IsDistinct-IsPermutation, IsDistinct-head, IsDistinct-tail, Contains-permutation, length_permutation, sum_by-IsPermutation, sum_by-cons, remove, All-contains_itself, All-weaker, All-head, All-tail, AreUnder, Under, number_rules, rules_under, keys_of, value_of, nat_cmp, nat_cmp_total, exact_unsigned, IsOrdered, IsStrictlyIncreasing-from_sorted, btree_map_contains_key_iff, All-found, is_some, ltb, lt-ltb, add-one, Some}
-use Rattle.smallvec.specs.SmallVec.{SmallVec}
+use Rattle.scf_profile.proofs.Common.{true, AllPairs, sum, Decides-eqb, filter_passes, AllPairs-cons, AllPairs-filter, AllPairs-from_increasing, sum-map, sum_by-le, Contains-tail, IsDistinct-from_AllPairs, All-cons, All-permutation, map-map, ◌≡◌, ◌≢◌, ℕ, ◌+◌, ◌<◌, ◌⊎◌, false, not, eqb, length, List, [], ◌∷◌, map, get_or, All, refl, sym, ap, ◌∙◌, subst, arith, inl, inr, Contains, cases_eq, eq-eqb, ne_eqb, nat_tests, length-map, get_or-map, All-filter, All-from_recursion, All-map, All-contains, Contains-append_right, IsPermutation, IsStrictlyIncreasing, Rule, numbers_of, rules_of, NumberRules, AreNumbersOf, sum_by, IsPermutation-cons, IsPermutation-refl, IsPermutation-remove, IsPermutation-sym, IsPermutation-trans, IsDistinct, IsDistinct-IsPermutation, IsDistinct-head, IsDistinct-tail, Contains-permutation, length_permutation, sum_by-IsPermutation, sum_by-cons, remove, All-contains_itself, All-weaker, All-head, All-tail, AreUnder, Under, number_rules, rules_under, keys_of, value_of, nat_cmp, nat_cmp_total, exact_unsigned, IsOrdered, IsStrictlyIncreasing-from_sorted, btree_map_contains_key_iff, All-found, is_some, ltb, lt-ltb}
 use Rattle.scf_profile.proofs.Numbers.{contains_filtered, number_there}
 
 -- ---- lists of distinct numbers

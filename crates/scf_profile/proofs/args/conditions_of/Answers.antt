@@ -1,4 +1,4 @@
-use Rattle.scf_profile.proofs.Common.{arith, common_steps, each, ◌≡◌, ◌≢◌, false, List, [], ◌∷◌, ◌++◌, eqb, list_any, AllByRecursion, or_parts, eqb-false, Condition, IsCondition, HaveDistinctIndices, AreConditions}
+use Rattle.scf_profile.proofs.Common.{arith, each, ◌≡◌, ◌≢◌, false, List, [], ◌∷◌, ◌++◌, eqb, list_any, AllByRecursion, or_parts, eqb-false, Condition, IsCondition, HaveDistinctIndices, AreConditions}
 use Rattle.scf_profile.proofs.Loops.{items_left}
 use Rattle.scf_profile.proofs.args.conditions_of.Goals as goal
 

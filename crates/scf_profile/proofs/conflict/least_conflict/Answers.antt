@@ -1,4 +1,4 @@
-use Rattle.scf_profile.proofs.Common.{All, Any, subst, sym, take_all, All-more, All-same, All-weaker, NumberRules, EntriesConflict, IsRule}
+use Rattle.scf_profile.proofs.Common.{Any, subst, sym, take_all, All-more, All-same, NumberRules, EntriesConflict}
 use Rattle.scf_profile.proofs.LeastClash.{AreBounded, all_bounded, all_found, least_found, one_more, still_bounded}
 use Rattle.scf_profile.proofs.conflict.least_conflict.Goals as goal
 

@@ -1,4 +1,4 @@
-use Rattle.scf_profile.proofs.Common.{◌≡◌, ◌⊎◌, Some, subst, sym, inr, Any, All-more, All-weaker, Rule, IsClashBounded, IsClashOf, IsRule}
+use Rattle.scf_profile.proofs.Common.{◌≡◌, ◌⊎◌, Some, subst, sym, inr, Any, All-more, IsClashBounded, IsClashOf}
 use Rattle.scf_profile.proofs.LeastClash.{one_of_two}
 use Rattle.scf_profile.proofs.conflict.least_with.Goals as goal
 

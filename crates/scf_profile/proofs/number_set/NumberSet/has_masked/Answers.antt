@@ -1,4 +1,4 @@
-use Rattle.scf_profile.proofs.Common.{sym, subst, arith, eq-eqb, eqb-true, NumberSet, Masked, HaveCommonNumber, IsNumberSet}
+use Rattle.scf_profile.proofs.Common.{arith, eq-eqb, eqb-true}
 use Rattle.scf_profile.proofs.Masks.{two_masks, two_masks_agree}
 use Rattle.scf_profile.proofs.number_set.NumberSet.has_masked.Goals as goal
 

@@ -1,5 +1,4 @@
-use Rattle.scf_profile.proofs.Common.{◌≡◌, false, sym, ◌∙◌, ap, Ok, Some, string_bytes, List, ℕ, is_some, get, insert, names_of, Names, fields, entry_in}
-use Rattle.scf_profile.proofs.NamesOf.{found_named, insert_named, call_numbers_updated}
+use Rattle.scf_profile.proofs.NamesOf.{call_numbers_updated}
 use Rattle.scf_profile.proofs.table.CallTable.add_line.Goals as goal
 
 pub invariant_of-self-then-is_some : goal.invariant_of-self-then-is_some
