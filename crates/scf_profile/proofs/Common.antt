@@ -1,11 +1,11 @@
 -- The names that proofs of this crate cite, passed on from one place. Declares nothing.
-pub use Rattle.std.proofs.Common.{length-drop, drop-cons, IsUtf8, bytes_eq, Ordering, Less, All, AllPairs, Any, BTreeMap, Bool, Bor, Contains, Err, Global, IfErr, IfSome, IsAscii, IsSome, List, None, Ok, Option, Result, Some, String, Vec, [], add-one, ap, append-nil, arith, bit_and, bit_or, cond, drop, eqb, false, get_or, inl, inr, is_none, is_some, leb, length, ltb, map, max, min, nat_lt, not, ok_or, option_map, refl, rules, string_bytes, string_cmp, subst, suc, sum, sym, take, tests, true, vec_len, zero, ℕ, ◌&&◌, ◌++◌, ◌+◌, ◌-◌, ◌<◌, ◌^◌, ◌||◌, ◌↔◌, ◌∙◌, ◌∷◌, ◌≡◌, ◌≢◌, ◌≤◌, ◌⊎◌}
+pub use Rattle.std.proofs.Common.{length-drop, drop-cons, IsUtf8, bytes_eq, Ordering, Less, All, AllPairs, Any, BTreeMap, Bool, Bor, Contains, Err, Global, IfErr, IfSome, IsSome, List, None, Ok, Option, Result, Some, String, Vec, [], add-one, ap, arith, bit_and, bit_or, cond, drop, eqb, false, get_or, inl, inr, is_none, is_some, leb, length, ltb, map, min, nat_lt, not, ok_or, option_map, refl, rules, string_bytes, string_cmp, subst, suc, sum, sym, take, tests, true, vec_len, zero, ℕ, ◌&&◌, ◌++◌, ◌+◌, ◌-◌, ◌<◌, ◌^◌, ◌||◌, ◌↔◌, ◌∙◌, ◌∷◌, ◌≡◌, ◌≢◌, ◌≤◌, ◌⊎◌}
 pub use Rattle.serde_json.specs.Data.{Data, Items, item, no_items}
 pub use Rattle.serde_json.specs.Events.{items_len, members_len}
 pub use Rattle.serde_json.specs.Find.{as_str}
 pub use Rattle.serde_json.specs.View.{items_view, members_view, view}
 pub use Rattle.serde_json.specs.declared.value.Value.{Value}
-pub use Rattle.std.proofs.lemmas.Bool.{both_ways, cases_Bool, cases_cond, cases_order, false≢true, le-leb, le-ltb, not_from_false, or_parts}
+pub use Rattle.std.proofs.lemmas.Bool.{both_ways, cases_Bool, cases_order, false≢true, le-leb, le-ltb, not_from_false, or_parts}
 pub use Rattle.std.proofs.lemmas.Bool.Decides.{Decides-eqb}
 pub use Rattle.std.proofs.lemmas.Cmp.{nat_cmp_total}
 pub use Rattle.std.proofs.lemmas.Iterator.{YieldsList-from_slice, cases_from_all}
@@ -28,7 +28,7 @@ pub use Rattle.std.proofs.lemmas.Result.{IfErr-at_err, IfOk-weaker, MatchResult-
 pub use Rattle.std.proofs.lemmas.Str.{IsUtf8-from_ascii}
 pub use Rattle.std.proofs.lemmas.Str.Ascii.{IsAscii-from_all}
 pub use Rattle.std.proofs.lemmas.Simd.{map-map}
-pub use Rattle.std.specs.BTreeMap.{IsOrdered, Updates, UpdatesBy, is_at, get as value_of}
+pub use Rattle.std.specs.BTreeMap.{IsOrdered, Updates, is_at, get as value_of}
 pub use Rattle.std.specs.Cmp.{eq_by_cmp_equiv}
 pub use Rattle.std.specs.Cmp.Lexicographic.{nat_list_cmp_total, slice_cmp}
 pub use Rattle.std.specs.FinMap.{get, get-empty, get-from_entries, get-insert, insert, same_map}
@@ -41,7 +41,7 @@ pub use Rattle.std.specs.Map.{keys_of}
 pub use Rattle.std.specs.Option.{option_map_or}
 pub use Rattle.std.specs.Ordering.{eq_by_cmp, is_eq, nat_cmp}
 pub use Rattle.std.specs.Str.Lines.{lines, lines_of_parts, strip_carriage_return}
-pub use Rattle.scf_insn.proofs.Common.{AllByRecursion, IsRecord, and_parts, argument, audit_arch_x86_64, cases_eq, cases_lt, common_steps, drop_all, eq-eqb, eqb-false, eqb-true, err_from_is_err_and, list_all, lookup, lt-ltb, nat_tests, ne_eqb, seccomp_data_args, seccomp_ret_kill_process, take-append-drop, take_all, take_more, x32_syscall_bit}
+pub use Rattle.scf_insn.proofs.Common.{AllByRecursion, IsRecord, and_parts, argument, audit_arch_x86_64, cases_eq, cases_lt, common_steps, drop_all, eq-eqb, eqb-false, eqb-true, err_from_is_err_and, lookup, lt-ltb, nat_tests, ne_eqb, seccomp_data_args, seccomp_ret_kill_process, take-append-drop, take_all, x32_syscall_bit}
 pub use Rattle.scf_insn.specs.declared.answer.Answer.{Answer}
 pub use Rattle.scf_insn.specs.declared.record.CallRecord.{CallRecord}
 pub use Rattle.scf_profile.specs.Condition.{compares, holds}
@@ -71,7 +71,6 @@ pub use Rattle.scf_profile.specs.declared.load_fault.LoadFault.TheVariants.{Kind
 pub use Rattle.scf_profile.specs.declared.loaded.Loaded.{Loaded}
 pub use Rattle.scf_profile.specs.declared.named_call.NamedCall.{NamedCall}
 pub use Rattle.scf_profile.specs.declared.number_rules.NumberRules.{NumberRules}
-pub use Rattle.scf_profile.specs.declared.number_set.NumberSet.{NumberSet}
 pub use Rattle.scf_profile.specs.declared.number_set.NumberSet.TheVariants.{Masked}
 pub use Rattle.scf_profile.specs.declared.reason.Reason.{Reason}
 pub use Rattle.scf_profile.specs.declared.reason.Reason.TheVariants.{Default, Entry, Foreign}
@@ -80,7 +79,7 @@ pub use Rattle.scf_profile.specs.declared.table_fault.TableFault.{TableFault}
 pub use Rattle.scf_profile.specs.internal.Clashes.{IsBoundedBy, IsClashBounded, IsClashOf, IsLeastClash}
 pub use Rattle.scf_profile.specs.internal.EntryRanges.{AreStatedRules, IsEntry}
 pub use Rattle.scf_profile.specs.internal.NamesByNumber.{AreByNumber, Named, named_call, names_under, names_with}
-pub use Rattle.scf_profile.specs.internal.NumberSets.{HaveCommonNumber, IsGreatestOf, IsLeastOf, IsNumberSet}
+pub use Rattle.scf_profile.specs.internal.NumberSets.{HaveCommonNumber, IsGreatestOf, IsLeastOf}
 pub use Rattle.scf_profile.specs.internal.Overlaps.{HoldAt, Overlap, OverlapAt}
 pub use Rattle.scf_profile.specs.internal.Refusals.{NamesLeastConflict}
 pub use Rattle.scf_profile.specs.internal.RulesUnder.{AreUnder, Under, number_rules, rules_under}

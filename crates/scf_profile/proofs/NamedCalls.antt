@@ -102,11 +102,10 @@ module _ (numbers : BTreeMap (String Global) ℕ) (ordered : IsOrdered string_cm
     -- the numbers of names, each over its names, are the calls of the table
     pub are_calls : AreCallsOf table (map named_call under.entries)
     are_calls =
-        let told = sym (map-map (λ (call : NamedCall). call.number) named_call under.entries) in
+        let told = map-map (λ (call : NamedCall). call.number) named_call under.entries in
         record {
-          rising = subst IsStrictlyIncreasing told (IsStrictlyIncreasing-from_sorted _ rising);
-          exact = λ n. subst (λ (ns : List ℕ). Contains ns n ↔ ((name : List ℕ) × (get table name ≡ Some n))) told
-              (numbers_exact n);
+          rising = rw told (IsStrictlyIncreasing-from_sorted _ rising);
+          exact = λ n. rw told (numbers_exact n);
           names =
               All-map (HasItsNames table) named_call under.entries
               (λ k d lt. its_names (get_or under.entries k d) (All-found nat_cmp_total under rising k d lt));

@@ -39,8 +39,7 @@ hold_by_found cs index n h found is = rw is (hold_by_first cs index n h)
 -- the conditions of a rule that a call meets
 held_at : (call : CallRecord) (cs : List Condition) → all_hold call cs ≡ true → (i : ℕ) → HoldAt cs i (argument call i)
 held_at call cs all i k c below on =
-    subst (λ (n : ℕ). holds (get_or cs k c) (argument call n) ≡ true) on
-    (AllPass-from_list_all (λ d. holds d (argument call d.index)) cs all k c below)
+    rw (← on) (AllPass-from_list_all (λ d. holds d (argument call d.index)) cs all k c below)
 
 -- a call of whose arguments the conditions hold
 all_held : (call : CallRecord) (cs : List Condition) → AllByRecursion IsCondition cs

@@ -6,5 +6,4 @@ pub returns : goal.returns
 returns c =
     let numbers = c.args.numbers.now in
     let told = are_calls numbers c.in_ok-named.ensures.ordered _ c.in_ok-named.ensures c.calls_of.ensures.ordered in
-    let AreCalls : List NamedCall → Type 0 = AreCallsOf (names_of numbers.entries) in
-    IfOk-weaker c.calls_of.result _ _ (λ calls are. subst AreCalls (sym are) told) c.calls_of.ensures.calls
+    IfOk-weaker c.calls_of.result _ _ (λ calls is. rw is told) c.calls_of.ensures.calls

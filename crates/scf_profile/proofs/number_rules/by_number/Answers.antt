@@ -5,6 +5,4 @@ use Rattle.scf_profile.proofs.number_rules.by_number.Goals as goal
 pub returns : goal.returns
 returns c =
     let told = are_numbers c.args.rules.now _ c.in_ok-under.ensures c.numbers_of_tree.ensures.ordered in
-    let AreNumbers : List NumberRules → Type 0 = λ numbers. AreNumbersOf numbers c.args.rules.now in
-    IfOk-weaker c.numbers_of_tree.result _ _ (λ numbers are. subst AreNumbers (sym are) told)
-    c.numbers_of_tree.ensures.numbers
+    IfOk-weaker c.numbers_of_tree.result _ _ (λ numbers is. rw is told) c.numbers_of_tree.ensures.numbers

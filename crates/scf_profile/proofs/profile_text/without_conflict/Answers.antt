@@ -5,8 +5,8 @@ use Rattle.scf_profile.proofs.profile_text.without_conflict.Goals as goal
 
 pub least_conflict-requires : goal.least_conflict-requires
 least_conflict-requires c =
-    All-same (λ (own : NumberRules). All IsRule own.rules.items) _ _ c.deref-2.ensures.value
-    (own_all _ _ c.in_ok-numbers.ensures IsRule (All-same IsRule _ _ c.deref.ensures.value c.requires.rules.each))
+    rw c.deref-2.ensures.value
+    (own_all _ _ c.in_ok-numbers.ensures IsRule (rw c.deref.ensures.value c.requires.rules.each))
 
 pub new-requires-clause-profile : goal.new-requires-clause-profile
 new-requires-clause-profile c =
