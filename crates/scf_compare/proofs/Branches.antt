@@ -62,9 +62,7 @@ module _ {F K N : Type 0} (store : Store F) (tree : K → Tree N) (scope : List 
       record {
         place = h.place;
         branch = h.branch;
-        stands =
-            subst (λ (branches : List (Branch K N)). slice_get branches h.place ≡ Some h.branch) (sym opened.branches)
-            (place_before old.branches.items b h.place h.branch h.stands);
+        stands = rw opened.branches (place_before old.branches.items b h.place h.branch h.stands);
         allowed = ((opened.levels h.place (omega arith)).0 words).1 h.allowed;
         given = h.given;
         reached = h.reached;
@@ -76,37 +74,25 @@ module _ {F K N : Type 0} (store : Store F) (tree : K → Tree N) (scope : List 
   in_opened words allowed given reached = record {
     place = length old.branches.items;
     branch = b;
-    stands =
-        subst (λ (branches : List (Branch K N)). slice_get branches (length old.branches.items) ≡ Some b)
-        (sym opened.branches) (place_last old.branches.items b);
-    allowed =
-        subst (λ n. store.allows new.facts n words) f.marks
-        (((opened.levels (store.level old.facts) (omega arith)).0 words).1 allowed);
+    stands = rw opened.branches (place_last old.branches.items b);
+    allowed = rw (← f.marks) (((opened.levels (store.level old.facts) (omega arith)).0 words).1 allowed);
     given = given;
     reached = reached;
   }
 
   pub frontier_opened : IsBranch tree b → IsFrontier store tree scope new
-  frontier_opened is_branch = record {
-    marks = omega (arith, opened.marks, f.marks, length_more old.branches.items new.branches.items b opened.branches);
-    branches = λ place branch stands.
-        elim (place_cases old.branches.items b place branch
-        (subst (λ (branches : List (Branch K N)). slice_get branches place ≡ Some branch) opened.branches stands)) [
-          | inl h ↦ f.branches place branch h.1
-          | inr h ↦ subst (IsBranch tree) h.1 is_branch
-        ];
-    within = λ level up_to words allowed.
-        let most : level ≤ store.level new.facts =
-        omega (arith, opened.marks, f.marks, length_more old.branches.items new.branches.items b opened.branches) in
-        elim (eq-or-lt_of_le most) [
-          | inl e ↦
-              f.within (store.level old.facts) (omega (arith, f.marks)) words
-              (opened.fewer words (subst (λ n. store.allows new.facts n words) e allowed))
-          | inr below ↦
-              let under : level ≤ store.level old.facts = omega (arith, opened.marks) in
-              f.within level (omega (arith, f.marks)) words (((opened.levels level under).0 words).0 allowed)
-        ];
-  }
+  frontier_opened is_branch =
+      let more = length_more old.branches.items new.branches.items b opened.branches in
+      record {
+        marks = omega (arith, opened.marks, f.marks);
+        branches = λ place branch stands.
+            elim (place_cases old.branches.items b place branch (rw opened.branches at stands)) [
+              | inl h ↦ f.branches place branch h.1
+              | inr h ↦ rw (← h.1) is_branch
+            ];
+        within = λ level up_to words allowed.
+            grind (arith, more, opened.levels level, opened.fewer words, f.within level, f.within (store.level old.facts));
+      }
 
   pub size_opened : open_size tree new ≡ open_size tree old + (tree b.known).size b.node
   size_opened = size_more tree old new b opened.branches
@@ -118,31 +104,26 @@ module _ {F K N : Type 0} (store : Store F) (tree : K → Tree N) (scope : List 
       → AreExact store tree new
   exact_opened are exact keeps plain reached =
       λ place branch stands.
-      elim (place_cases old.branches.items b place branch
-      (subst (λ (branches : List (Branch K N)). slice_get branches place ≡ Some branch) opened.branches stands)) [
+      elim (place_cases old.branches.items b place branch (rw opened.branches at stands)) [
         | inl h ↦
-            let under : place ≤ store.level old.facts = omega (arith, f.marks, h.0) in
-            exact_still store tree old new place branch (opened.levels place under) (are place branch h.1)
+            exact_still store tree old new place branch (opened.levels place (omega (arith, f.marks, h.0)))
+            (are place branch h.1)
         | inr h ↦
             let same = opened.levels (store.level old.facts) (omega arith) in
-            let here : IsExactBranch store tree new (store.level old.facts) b = record {
+            rw (h.0, ← h.1, ← f.marks) (record {
               facts = same.1 ∙ exact;
               keeps = keeps;
               plain = plain;
               reached = λ words allowed given. reached words ((same.0 words).0 allowed) given;
-            } in
-            subst (IsExactBranch store tree new place) h.1
-            (subst (λ n. IsExactBranch store tree new n b) (f.marks ∙ sym h.0) here)
+            })
       ]
 
 -- the newest of the open branches is one of the tree
 pub newest_is_branch : {F K N : Type 0} (store : Store F) (tree : K → Tree N) (scope : List ℕ → Type 0)
     (frontier : Frontier F K N) (others : List (Branch K N)) (b : Branch K N) → IsFrontier store tree scope frontier
     → frontier.branches.items ≡ others ++ b ∷ [] → IsBranch tree b
-newest_is_branch {K = K} {N = N} store tree scope frontier others b f e =
-    f.branches (length others) b
-    (subst (λ (branches : List (Branch K N)). slice_get branches (length others) ≡ Some b) (sym e)
-    (place_last others b))
+newest_is_branch store tree scope frontier others b f e =
+    f.branches (length others) b (rw e (place_last others b))
 
 -- The newest branch was taken: its mark was undone, and what leads into it was learned.
 pub record HasTaken {F K N : Type 0} (store : Store F) (old new : Frontier F K N) (b : Branch K N) : Type 0 where
@@ -163,12 +144,10 @@ taken {K = K} {N = N} store compared tree old new b f h =
     let more = length_more new.branches.items old.branches.items b h.branches in
     let marks : store.level new.facts ≡ length new.branches.items = omega (arith, f.marks, h.marks) in
     let last : slice_get old.branches.items (store.level new.facts) ≡ Some b =
-    subst (λ n. slice_get old.branches.items n ≡ Some b) (sym marks)
-    (subst (λ (branches : List (Branch K N)). slice_get branches (length new.branches.items) ≡ Some b)
-    (sym h.branches) (place_last new.branches.items b)) in
+    rw (marks, h.branches) (place_last new.branches.items b) in
     let before = λ (place : ℕ) (branch : Branch K N) (stands : slice_get new.branches.items place ≡ Some branch).
-    subst (λ (branches : List (Branch K N)). slice_get branches place ≡ Some branch) (sym h.branches)
-    (place_before new.branches.items b place branch stands) in
+    let old_stands : slice_get old.branches.items place ≡ Some branch =
+    rw h.branches (place_before new.branches.items b place branch stands) in old_stands in
     let below = λ (place : ℕ) (branch : Branch K N) (stands : slice_get new.branches.items place ≡ Some branch).
     let within : place < length new.branches.items = slice_get_within new.branches.items place branch stands in
     let lower : place < store.level new.facts = omega arith in lower in
@@ -177,21 +156,11 @@ taken {K = K} {N = N} store compared tree old new b f h =
         marks = marks;
         branches = λ place branch stands. f.branches place branch (before place branch stands);
         within = λ level up_to words allowed.
-            let most : level ≤ store.level new.facts = omega arith in
-            let of_old : level ≤ length old.branches.items = omega arith in
-            elim (eq-or-lt_of_le most) [
-              | inl e ↦
-                  f.within level of_old words
-                  (subst (λ n. store.allows old.facts n words) (sym e)
-                  ((h.known words).0 (subst (λ n. store.allows new.facts n words) e allowed)).0)
-              | inr lower ↦ f.within level of_old words (((h.levels level lower).0 words).0 allowed)
-            ];
+            grind (arith, more, f.within level, h.known words, h.levels level);
       };
       node = (f.branches (store.level new.facts) b last).node;
       words = λ words inside.
-          elim (place_cases new.branches.items b inside.place inside.branch
-          (subst (λ (branches : List (Branch K N)). slice_get branches inside.place ≡ Some inside.branch) h.branches
-          inside.stands)) [
+          elim (place_cases new.branches.items b inside.place inside.branch (rw h.branches at inside.stands)) [
             | inl at ↦
                 let lower : inside.place < store.level new.facts = omega (arith, at.0, marks) in
                 inl (record {
@@ -203,11 +172,8 @@ taken {K = K} {N = N} store compared tree old new b f h =
                   reached = inside.reached;
                 })
             | inr at ↦ inr (
-              (h.known words).1 (
-                subst (λ n. store.allows old.facts n words) (at.0 ∙ sym marks) inside.allowed,
-                subst (λ (branch : Branch K N). GivesLearned branch.learned words) (sym at.1) inside.given,
-              ),
-              subst (λ (branch : Branch K N). (tree branch.known).reaches branch.node words) (sym at.1) inside.reached,
+              (h.known words).1 (rw (at.0, ← marks) at inside.allowed, rw (← at.1) at inside.given),
+              rw (← at.1) at inside.reached,
             )
           ];
       size = sym (size_more tree new old b h.branches);

@@ -1,12 +1,11 @@
 -- The names that proofs of this crate cite, passed on from one place. Declares nothing.
-pub use Rattle.std.proofs.Common.{All, Bool, Contains, IfOk, IfSome, IsSome, IsTrue, List, None, Option, Some, [], ap, arith, bit_and, bit_or, bit_xor, cond, drop, eqb, false, get_or, if◌then◌else◌, inl, inr, int_lt, leb, length, length-append, length-take, map, nat_le, nat_lt, not, refl, rules, slice_get, slice_index, slice_index_or, subst, suc, sym, take, true, zero, zero-add, ℕ, ℤ, ◌%◌, ◌&&◌, ◌*◌, ◌++◌, ◌+◌, ◌-◌, ◌/◌, ◌<ℤ◌, ◌<◌, ◌==◌, ◌^◌, ◌↔◌, ◌∙◌, ◌∷◌, ◌≡◌, ◌≢◌, ◌≤ℤ◌, ◌≤◌, ◌⊎◌}
+pub use Rattle.std.proofs.Common.{add-one, option_map, All, Bool, Contains, IfOk, IfSome, IsSome, IsTrue, List, None, Option, Some, [], ap, arith, bit_and, bit_or, bit_xor, cond, drop, eqb, false, get_or, if◌then◌else◌, inl, inr, int_lt, leb, length, length-append, length-take, map, nat_le, nat_lt, not, refl, rules, slice_get, slice_index, slice_index_or, subst, suc, sym, take, true, zero, zero-add, ℕ, ℤ, ◌%◌, ◌&&◌, ◌*◌, ◌++◌, ◌+◌, ◌-◌, ◌/◌, ◌<ℤ◌, ◌<◌, ◌==◌, ◌^◌, ◌↔◌, ◌∙◌, ◌∷◌, ◌≡◌, ◌≢◌, ◌≤ℤ◌, ◌≤◌, ◌⊎◌}
 pub use Rattle.std.proofs.Math.Nat.{add_comm, div-eq_of_lt, div-mul-le_self, div-one, eq-or-lt_of_le, lt_of_mul-lt-mul_right, mod-eq_of_lt, mod-le, mul-lt-mul_of_pos_right, mul_comm}
 pub use Rattle.std.proofs.Math.Pow.{shr_mono}
 pub use Rattle.std.proofs.lemmas.List.Sums.{sum_by-append, sum_by-drop_more, sum_by-take-drop}
 pub use Rattle.std.proofs.lemmas.Nat.{and_block, and_mask, div-add-mod', le_or_l, le_or_r, or_block, or_shr, pow-add, shl-shr, shr-shr, xor_block, xor_comm, xor_mod, xor_shr}
 pub use Rattle.std.proofs.lemmas.List.Elements.{All-contains_itself, All-filter, filter_passes}
 pub use Rattle.std.proofs.lemmas.Option.{IfSome_then, get_or_from_slice_get, slice_get-map, slice_get_read}
-pub use Rattle.std.specs.Option.{option_map}
 pub use Rattle.std.specs.Int.Bits.{xor_disjoint, xor_zero_l, xor_zero_r}
 pub use Rattle.scf_facts.proofs.Common.{All-push, IsSameLevel, and_assoc, and_comm, and_le_r, and_parts, and_zero_r, atom_answer, bit_at-lt, bit_at-zero, bit_at_and, bit_at_or, bit_at_xor, common_steps, div-lt_iff_lt-mul, eq-eqb, eqb-true, le-div_iff_mul-le, mod-lt, pow_mono, pow_pos, same_from_bits, shr_split, steps_from, take_all, xor_lt}
 pub use Rattle.scf_facts.proofs.HighMasks.{beyond_mask, of_multiple, one_more}
@@ -32,15 +31,13 @@ pub use Rattle.scf_machine.proofs.Common.{Ends, Fault, Faults, Goes, IsFine, IsP
 pub use Rattle.scf_machine.proofs.Runs.{fine_of, run_length, runs_safely, same_insn}
 pub use Rattle.scf_machine.proofs.Stacks.{one_answers, stack_answer_once}
 pub use Rattle.scf_profile.proofs.Answering.{one_answer}
-pub use Rattle.scf_profile.proofs.Common.{All-cons, All-contains, All-nil, AnswersRelated, cases_eq, HaveNoConflict, IfOk-weaker, IsPlainCondition, IsPlainRule, Profile, ProfileAnswers, SameAnswers, all_hold, and_le_l, by_default, by_rule, cases_Bool, le-ltb, meets, ne_eqb, or_comm, or_lt, rules_of}
-pub use Rattle.scf_profile.proofs.Common.{All-from_recursion, IsNative, IsRule, cases_Bool, cases_lt, get_or-take}
+pub use Rattle.scf_profile.proofs.Common.{All-from_recursion, IsNative, IsRule, cases_lt, get_or-take, AreNumbersOf, All-cons, All-contains, All-nil, AnswersRelated, cases_eq, HaveNoConflict, IfOk-weaker, IsPlainCondition, IsPlainRule, Profile, ProfileAnswers, SameAnswers, all_hold, and_le_l, by_default, by_rule, cases_Bool, le-ltb, meets, ne_eqb, or_comm, or_lt, rules_of}
 pub use Rattle.scf_profile.proofs.NumberLists.{number_among, numbers_rise, own_all, sum_of_own}
 pub use Rattle.scf_profile.proofs.Numbers.{contains_filtered}
 pub use Rattle.scf_profile.specs.declared.condition.Condition.{Condition}
 pub use Rattle.scf_profile.specs.declared.condition.Operator.TheVariants.{Equal, NotEqual}
 pub use Rattle.scf_profile.specs.declared.number_rules.NumberRules.{NumberRules}
 pub use Rattle.scf_profile.specs.declared.rule.Rule.{Rule}
-pub use Rattle.scf_profile.specs.NumberRules.{AreNumbersOf}
 pub use Rattle.scf_compare.specs.Effort.{conditions_size, rules_size, saturated, stack_paths}
 pub use Rattle.scf_compare.specs.Headline.{DiffersIsShown, EveryRunEnds, SameIsTrue}
 pub use Rattle.scf_compare.specs.Paths.{size_of_insn, tree_size}

@@ -34,11 +34,7 @@ pub has_operation : (insns : List Insn) (place : ℕ) (i : Insn) → IsValidList
     → operation_of i.code ≡ None → ⊥
 has_operation insns place i valid here none =
     let at = valid.each place (slice_get_within insns place i here) in
-    let same : at.insn ≡ i = same_insn insns place at.insn i at.stands.here here in
-    let known : operation_of i.code ≡ Some at.operation =
-    subst (λ (j : Insn). operation_of j.code ≡ Some at.operation) same at.stands.known in
-    let both : None ≡ Some at.operation = sym none ∙ known in
-    cc
+    grind (arith, same_insn insns place at.insn i at.stands.here here, at.stands.known)
 
 -- what an instruction that goes on so does to a state
 abbrev pub Does : Flow → Insn → State → Outcome → Type 0
@@ -61,8 +57,7 @@ size_here : (insns : List Insn) (place : ℕ) (i : Insn) → slice_get insns pla
     → tree_size insns place ≡ size_of_insn (operation_of i.code) i (tree_sizes (drop (suc place) insns))
 unfolding tree_sizes
 size_here [] place i e = absurd (cc)
-size_here (y ∷ insns) zero i e = let same : y ≡ i = cc in
-    ap (λ (j : Insn). size_of_insn (operation_of j.code) j (tree_sizes insns)) same
+size_here (y ∷ insns) zero i e = grind arith
 size_here (y ∷ insns) (suc place) i e = size_here insns place i e
 
 size_later : (insns : List Insn) (place k : ℕ)
@@ -92,9 +87,7 @@ pub size_by_flow : {insns : List Insn} {place : ℕ} {i : Insn} {operation : Ope
     → Stands insns place i operation
     → tree_size insns place ≡ size_of_flow (flow_at operation i place) (tree_size insns)
 size_by_flow {insns = insns} {place = place} {i = i} {operation = operation} stands =
-    size_here insns place i stands.here
-    ∙ ap (λ (o : Option Operation). size_of_insn o i (tree_sizes (drop (suc place) insns))) stands.known
-    ∙ size_in_flow insns place i operation
+    rw (size_here insns place i stands.here, stands.known) (size_in_flow insns place i operation)
 
 -- the places that an instruction goes on to are further on
 abbrev pub IsForward : ℕ → Flow → Type 0

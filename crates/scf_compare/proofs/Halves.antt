@@ -11,15 +11,11 @@ use Rattle.scf_compare.specs.internal.Conditions.{HasHalves, IsOnTestWay, IsOnWa
 
 -- ---- the words of an argument
 
-low_of : (words : List ℕ) (i : ℕ) → IsWords words → slice_index words (2 * i + 4) ≡ low (argument (call_of words) i)
-low_of words i w = rw (words_of-call_of words w) at (argument_low (call_of words) i)
-
-high_of : (words : List ℕ) (i : ℕ) → IsWords words
-    → slice_index words (2 * i + 4 + 1) ≡ high (argument (call_of words) i)
-high_of words i w = rw (words_of-call_of words w) at (argument_high (call_of words) i)
-
 pub halves_of : (words : List ℕ) (i : ℕ) → IsWords words → HasHalves words (2 * i + 4) (argument (call_of words) i)
-halves_of words i w = record { low_there = low_of words i w; high_there = high_of words i w }
+halves_of words i w = record {
+  low_there = rw (words_of-call_of words w) at (argument_low (call_of words) i);
+  high_there = rw (words_of-call_of words w) at (argument_high (call_of words) i);
+}
 
 -- ---- a condition by its test
 
@@ -49,8 +45,4 @@ module _ (c : Condition) (way : Way) (words : List ℕ) (w : IsWords words) wher
       by_way (Then part) is = is
 
 pub opposite_size : (way : Way) (holds fails : ℕ) → way_size (opposite_way way) holds fails ≡ way_size way fails holds
-opposite_size Holds holds fails = refl
-opposite_size Fails holds fails = refl
-opposite_size (Then High) holds fails = omega arith
-opposite_size (Then Above) holds fails = omega arith
-opposite_size (Then Low) holds fails = omega arith
+opposite_size way holds fails = grind arith

@@ -3,11 +3,8 @@ use Rattle.scf_compare.proofs.Common.{arith, words_of, run_length, runs_safely, 
 use Rattle.scf_compare.proofs.Relations.{related_here}
 
 pub every_run_ends : EveryRunEnds
-every_run_ends insns call is_filter is_record = (
-  runs_safely insns (words_of call) is_filter.valid is_filter.stored,
-  λ answer steps run.
-      let bound = run_length insns (words_of call) is_filter.valid run.last run.earlier run.chain in omega arith,
-)
+every_run_ends insns call is_filter is_record =
+    (runs_safely insns (words_of call) is_filter.valid is_filter.stored, grind (arith, run_length))
 
 pub same_is_true : SameIsTrue
 same_is_true = grind (arith, related_here)

@@ -206,6 +206,8 @@ image_fits x m c h k = xor_lt 32 (bit_and x m) c (omega (arith, h, and_le_r x m)
 
 pub ruleset image_ands = (and_le_l, mask_within, image_and)
 
+pub ruleset image_ors = (mask_left, mask_within, image_or)
+
 pub ruleset right_shifts = (
   image_right,
   right_within,

@@ -8,8 +8,7 @@ use Rattle.scf_compare.proofs.Rules.{contains_here, met_by, rules_more, unmet_ap
 -- what is mapped of an element that stands there
 mapped_here : {X Y : Type 0} (f : X → Y) (xs : List X) (place : ℕ) (x : X) (none : Y) → slice_get xs place ≡ Some x
     → get_or (map f xs) place none ≡ f x
-mapped_here f xs place x none here =
-    get_or_from_slice_get (map f xs) place (f x) none (slice_get-map f xs place ∙ ap (option_map f) here)
+mapped_here f xs place x none here = get_or_from_slice_get _ place (f x) none (rw (slice_get-map, here))
 
 pub own_read : (numbers : List NumberRules) (place : ℕ) (own : NumberRules) → slice_get numbers place ≡ Some own
     → own_rules numbers place ≡ own.rules.items
@@ -60,26 +59,22 @@ module _ (s : NumberedProfile) (call : CallRecord) where
       → ProfileAnswers s.profile call r.answer.0
   by_own_rule at r is here all =
       let own = own_rule call.nr s.profile.rules r
-      (subst (λ (rs : List Rule). Contains rs r) (sym is.at_rule.own)
-      (contains_here (own_rules s.numbers at.number) at.rule r here)) in
+      (rw is.at_rule.own (contains_here (own_rules s.numbers at.number) at.rule r here)) in
       let held = rw (conditions_read s.numbers at r here, take_all at.condition r.conditions all) at is.held in
       by_rule r is.at_rule.native own.0 (met_by call r (sym own.1) held)
 
   -- a native call that meets none of the rules of its number
   unmet_own : IsNative call → All (λ r. meets r call ≡ false) (rules_of call.nr s.profile.rules)
       → ProfileAnswers s.profile call s.profile.default_answer.0
-  unmet_own native unmet = by_default native (λ r has. elim (cases_eq r.number call.nr) [
-    | inl same ↦ All-contains (λ q. meets q call ≡ false) (rules_of call.nr s.profile.rules) r unmet
-        (contains_filtered (λ (q : Rule). eqb q.number call.nr) s.profile.rules r (eq-eqb r.number call.nr same) has)
-    | inr apart ↦ unmet_apart call r (λ e. apart (sym e))
-  ])
+  unmet_own native unmet = by_default native (λ r has.
+      let among = contains_filtered (λ (q : Rule). eqb q.number call.nr) s.profile.rules r in
+      let unmet_one = All-contains (λ q. meets q call ≡ false) (rules_of call.nr s.profile.rules) r unmet in
+      grind (arith, among, unmet_one, unmet_apart))
 
   -- a call past the last rule of its number
   pub past_rules : (number rule : ℕ) → IsAtRule s number rule call → length (own_rules s.numbers number) ≤ rule
       → ProfileAnswers s.profile call s.profile.default_answer.0
-  past_rules number rule is past =
-      unmet_own is.native
-      (rw is.own (rw (take_all rule (own_rules s.numbers number) past) at is.unmet))
+  past_rules number rule is past = unmet_own is.native (grind (arith, take_all))
 
   -- a call with none of the numbers
   pub of_no_number : IsNumbered s → IsNative call → All (λ own. call.nr ≢ own.number) s.numbers
@@ -100,21 +95,15 @@ module _ (numbers : List NumberRules) (rules : List Rule) (are : AreNumbersOf nu
       let within = slice_get_within numbers place own here in
       let before : k < place = omega (arith, length-take place numbers) in
       let rise = numbers_rise numbers rules are k place d before within in
-      let same = ap (λ (o : NumberRules). o.number) (get_or_from_slice_get numbers place own d here) in
-      rw (get_or-take place numbers k d before) (λ e. absurd (omega (arith, rise, same, e, least)))
+      rw (get_or-take place numbers k d before) (grind (arith, rise, get_or_from_slice_get numbers place own d here))
 
   -- one that has none before a number, and is below that one, has none
   pub from_above : IsFrom place numbers call → call.nr < own.number → All (λ o. call.nr ≢ o.number) numbers
-  from_above from above k d lt = elim (cases_lt k place) [
-    | inl early ↦ rw (get_or-take place numbers k d early) at (from k d (omega (arith, length-take place numbers)))
-    | inr late ↦ λ e.
-        let same = ap (λ (o : NumberRules). o.number) (get_or_from_slice_get numbers place own d here) in
-        elim (cases_eq k place) [
-          | inl at_it ↦ absurd (let here_too = ap (λ n. (get_or numbers n d).number) at_it in omega (arith, here_too))
-          | inr behind ↦
-              absurd (let rise = numbers_rise numbers rules are place k d (omega arith) lt in omega (arith, rise))
-        ]
-  ]
+  from_above from above k d lt =
+      let before = from k d in
+      let rise = numbers_rise numbers rules are place k d in
+      let same = get_or_from_slice_get numbers place own d here in
+      grind (arith, before, rise, same, get_or-take, length-take)
 
 -- ---- how many steps the numbers take
 
@@ -129,9 +118,8 @@ pub rule_size : (numbers : List NumberRules) (at : ConditionPlace) → at.rule <
     → conditions_size (own_conditions numbers at) (size_behind numbers at)
     ≡ rules_size (drop at.rule (own_rules numbers at.number))
 rule_size numbers at inside =
-    let rules = own_rules numbers at.number in
-    let here = slice_get-get_or rules at.rule no_rule inside in
-    rw (conditions_read numbers at _ here) (sym (rules_more rules at.rule _ here))
+    let here = slice_get-get_or (own_rules numbers at.number) at.rule no_rule inside in
+    grind (arith, conditions_read numbers at _ here, rules_more (own_rules numbers at.number) at.rule _ here)
 
 sizes_fewer : (numbers : List NumberRules) (place from : ℕ) → place ≤ from
     → numbers_size (drop from numbers) ≤ numbers_size (drop place numbers)

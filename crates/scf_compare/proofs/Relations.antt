@@ -5,10 +5,6 @@ pub all_related : (relation : Relation) (filters : List (List Insn)) (p : Profil
     → RelatedAnswersIn Same scope (StackAnswers filters) p → RelatedAnswersIn relation scope (StackAnswers filters) p
 all_related relation filters p scope same = grind arith
 
--- two fates of which each is at most the other are one
-one_fate : (fate other : Fate) → degree_of fate ≤ degree_of other → degree_of other ≤ degree_of fate → fate ≡ other
-one_fate fate other most least = grind arith
-
 -- the relation holds of the two answers to a call, of which there are no others
 pub related_here : (relation : Relation) (filters : List (List Insn)) (p : Profile) (call : CallRecord)
     (filter profile : ℕ)
@@ -16,10 +12,9 @@ pub related_here : (relation : Relation) (filters : List (List Insn)) (p : Profi
     → AnswersRelated (IsRelated relation) (StackAnswers filters) p call
     → StackAnswers filters (words_of call) filter → ProfileAnswers p call profile → IsRelated relation filter profile
 related_here relation filters p call filter profile none is_record both of_words of_profile =
-    subst (λ answer. IsRelated relation answer profile)
-    (stack_answer_once filters (words_of call) both.filter filter both.of_words of_words)
-    (subst (IsRelated relation both.filter)
-    (one_answer p call none is_record both.of_profile of_profile) both.are_related)
+    let one = stack_answer_once filters (words_of call) both.filter filter both.of_words of_words in
+    let other = one_answer p call none is_record both.of_profile of_profile in
+    rw (one, other) at both.are_related
 
 pub same_fate : (filters : List (List Insn)) (p : Profile) (scope : Scope) (call : CallRecord) (filter profile : ℕ)
     → HaveNoConflict p.rules
@@ -28,6 +23,4 @@ pub same_fate : (filters : List (List Insn)) (p : Profile) (scope : Scope) (call
     → StackAnswers filters (words_of call) filter → ProfileAnswers p call profile → fate_of filter ≡ fate_of profile
 same_fate filters p scope call filter profile none is_no_more is_no_less is_record in_scope of_words of_profile =
     let here = λ (relation : Relation). related_here relation filters p call filter profile none is_record in
-    one_fate (fate_of filter) (fate_of profile)
-    (here NoMore (is_no_more call is_record in_scope) of_words of_profile)
-    (here NoLess (is_no_less call is_record in_scope) of_words of_profile)
+    grind (arith, here NoMore, here NoLess)

@@ -1,41 +1,31 @@
 -- The rules of a profile and their conditions, one after another.
-use Rattle.scf_compare.proofs.Common.{◌≡◌, ◌≢◌, ℕ, zero, suc, ◌+◌, ◌*◌, ◌<◌, ◌&&◌, Bool, true, false, eqb, List, [], ◌∷◌, ◌++◌, Some, length, take, drop, get_or, sym, ap, subst, ◌∙◌, arith, slice_get, All, Contains, eq-eqb, ne_eqb, and_parts, All-push, slice_get-get_or, slice_get_read, slice_get_within, CallRecord, argument, Condition, Rule, all_hold, meets, conditions_size, rules_size}
+use Rattle.scf_compare.proofs.Common.{◌≡◌, ◌≢◌, ℕ, zero, suc, ◌+◌, ◌*◌, ◌<◌, ◌&&◌, Bool, true, false, eqb, List, [], ◌∷◌, ◌++◌, Some, length, take, drop, get_or, sym, ap, subst, ◌∙◌, arith, slice_get, All, Contains, eq-eqb, ne_eqb, and_parts, All-push, get_or_from_slice_get, add-one, slice_get_read, slice_get_within, CallRecord, argument, Condition, Rule, all_hold, meets, conditions_size, rules_size}
 use Rattle.scf_profile.specs.Condition.{holds}
 
 -- ---- which rules a call meets
 
 pub unmet_apart : (call : CallRecord) (r : Rule) → call.nr ≢ r.number → meets r call ≡ false
-unmet_apart call r apart = ap (λ b. b && all_hold call r.conditions) (ne_eqb call.nr r.number apart)
-
-and_not : (b c : Bool) → c ≡ false → (b && c) ≡ false
-and_not b c e = grind arith
+unmet_apart call r apart = rw (ne_eqb call.nr r.number apart)
 
 pub unmet_failing : (call : CallRecord) (r : Rule) → all_hold call r.conditions ≡ false → meets r call ≡ false
-unmet_failing call r fails = and_not (eqb call.nr r.number) (all_hold call r.conditions) fails
+unmet_failing call r fails = grind arith
 
 pub met_by : (call : CallRecord) (r : Rule) → call.nr ≡ r.number → all_hold call r.conditions ≡ true
     → meets r call ≡ true
-met_by call r same hold = ap (λ b. b && all_hold call r.conditions) (eq-eqb call.nr r.number same) ∙ hold
+met_by call r same hold = grind arith
 
 pub held_more : (call : CallRecord) (conditions : List Condition) (i : ℕ) (c : Condition)
     → slice_get conditions i ≡ Some c → all_hold call (take i conditions) ≡ true
     → holds c (argument call c.index) ≡ true → all_hold call (take (suc i) conditions) ≡ true
 held_more call [] i c here before h = absurd (cc)
-held_more call (x ∷ conditions) zero c here before h =
-    let same : c ≡ x = cc in
-    ap (λ b. b && true) (subst (λ (d : Condition). holds d (argument call d.index) ≡ true) same h)
-held_more call (x ∷ conditions) (suc i) c here before h =
-    let both = and_parts (holds x (argument call x.index)) (all_hold call (take i conditions)) before in
-    ap (λ b. b && all_hold call (take (suc i) conditions)) both.0 ∙ held_more call conditions i c here both.1 h
+held_more call (x ∷ conditions) zero c here before h = grind arith
+held_more call (x ∷ conditions) (suc i) c here before h = grind (arith, held_more call conditions i c here)
 
 pub fails_by : (call : CallRecord) (conditions : List Condition) (i : ℕ) (c : Condition)
     → slice_get conditions i ≡ Some c → holds c (argument call c.index) ≡ false → all_hold call conditions ≡ false
 fails_by call [] i c here h = absurd (cc)
-fails_by call (x ∷ conditions) zero c here h =
-    let same : c ≡ x = cc in
-    ap (λ b. b && all_hold call conditions) (subst (λ (d : Condition). holds d (argument call d.index) ≡ false) same h)
-fails_by call (x ∷ conditions) (suc i) c here h =
-    and_not (holds x (argument call x.index)) (all_hold call conditions) (fails_by call conditions i c here h)
+fails_by call (x ∷ conditions) zero c here h = grind arith
+fails_by call (x ∷ conditions) (suc i) c here h = grind (arith, fails_by call conditions i c here)
 
 -- ---- places in lists
 
@@ -51,18 +41,13 @@ take_here (y ∷ xs) zero x here = let same : y ≡ x = cc in ap (λ z. z ∷ []
 take_here (y ∷ xs) (suc i) x here = ap (λ zs. y ∷ zs) (take_here xs i x here)
 
 pub contains_here : {X : Type 0} (xs : List X) (i : ℕ) (x : X) → slice_get xs i ≡ Some x → Contains xs x
-contains_here xs i x here =
-    let within = slice_get_within xs i x here in
-    let at = slice_get-get_or xs i x within in
-    let same : get_or xs i x ≡ x = cc in
-    (i, within, same)
+contains_here xs i x here = (i, slice_get_within xs i x here, get_or_from_slice_get xs i x x here)
 
 -- what holds before a place and there holds before the next one
 pub all_more : {X : Type 0} (P : X → Type 0) (xs : List X) (place : ℕ) (x : X) → slice_get xs place ≡ Some x
     → All P (take place xs) → P x → All P (take (place + 1) xs)
 all_more P xs place x here before holds =
-    let one : place + 1 ≡ suc place = omega arith in
-    rw (one, take_here xs place x here) (All-push P (take place xs) x before holds)
+    rw (add-one, take_here xs place x here) (All-push P (take place xs) x before holds)
 
 -- ---- sizes
 

@@ -10,12 +10,8 @@ here filters place inside = slice_get-get_or filters place [] inside
 pub is_stack_end : (filters : List (List Insn)) (place : ℕ) (end : FilterEnd) → place < length filters
     → IsFilterEnd (filter_at filters place) end → IsStackEnd filters end
 is_stack_end [] place end inside of_filter = absurd (omega arith)
-is_stack_end (filter ∷ filters) place end inside of_filter = (
-  filter_at (filter ∷ filters) place,
-  contains_here (filter ∷ filters) place (filter_at (filter ∷ filters) place)
-      (here (filter ∷ filters) place inside),
-  of_filter,
-)
+is_stack_end (filter ∷ filters) place end inside of_filter =
+    (_, contains_here (filter ∷ filters) place _ (here (filter ∷ filters) place inside), of_filter)
 
 -- the trees from a place on begin with that of the filter there
 pub paths_from : (filters : List (List Insn)) (place : ℕ) → place < length filters
@@ -40,15 +36,9 @@ pub first_decides : (filters : List (List Insn)) (place : ℕ) (words : List ℕ
     → IfSome answer (λ a. StackAnswers (take (place + 1) filters) words a.0)
 first_decides filters place words answer inside first run = grind (arith, one_answers)
 
-chosen : (a b : ℤ) (test : Bool) (x y : ℕ) → int_lt a b ≡ test → a <ℤ b → cond test x y ≡ x
-chosen a b test x y e less = grind arith
-
-other : (a b : ℤ) (test : Bool) (x y : ℕ) → int_lt a b ≡ test → b ≤ℤ a → cond test x y ≡ y
-other a b test x y e most = grind arith
-
 -- the older answer decides where it has the lesser rank, and else the newer one
 pub lesser_wins : (older newest : ℕ) → rank_of older <ℤ rank_of newest → with_newest older newest ≡ older
-lesser_wins older newest less = chosen (rank_of older) (rank_of newest) _ older newest refl less
+lesser_wins older newest less = grind arith
 
 pub other_wins : (older newest : ℕ) → rank_of newest ≤ℤ rank_of older → with_newest older newest ≡ newest
-other_wins older newest most = other (rank_of older) (rank_of newest) _ older newest refl most
+other_wins older newest most = grind arith

@@ -17,34 +17,22 @@ module _ (relation : Relation) (scope : Scope) (is_place : ℕ → Type 0) (answ
   -- where the answers to the words of all records of a scope are related, those to the records are
   pub related_of : AllRelated (compared_in relation scope is_place answers p)
       → RelatedAnswersIn relation scope answers p
-  related_of h =
-      λ call is_record in_scope.
+  related_of h = λ call is_record in_scope.
       let same = call_of-words_of call is_record in
-      let related =
-      h (words_of call) (
-        IsWords-words_of call is_record,
-        subst (IsInScope scope) (let back : call ≡ call_of (words_of call) = cc in back) in_scope,
-      ) in
+      let (filter, profile, of_words, of_profile, are_related) =
+      h (words_of call) (IsWords-words_of call is_record, rw same in_scope) in
       record {
-        filter = related.0;
-        profile = related.1;
-        of_words = related.2;
-        of_profile = subst (λ (record_of : CallRecord). ProfileAnswers p record_of related.1) same related.3;
-        are_related = related.4;
+        filter = filter;
+        profile = profile;
+        of_words = of_words;
+        of_profile = rw same at of_profile;
+        are_related = are_related;
       }
 
   -- and where those to the records are, those to their words are
   pub words_related : RelatedAnswersIn relation scope answers p
       → AllRelated (compared_in relation scope is_place answers p)
-  words_related related =
-      λ words within.
-      let both = related (call_of words) (IsRecord-call_of words within.0) within.1 in (
-        both.filter,
-        both.profile,
-        subst (λ (ws : List ℕ). answers ws both.filter) (words_of-call_of words within.0) both.of_words,
-        both.of_profile,
-        both.are_related,
-      )
+  words_related related = grind (arith, IsRecord-call_of, words_of-call_of)
 
   -- a verdict that decides the one decides the other
   pub decided_in : (limit size : ℕ) (verdict : Verdict)
@@ -56,17 +44,7 @@ module _ (relation : Relation) (scope : Scope) (is_place : ℕ → Type 0) (answ
   pub true_by : (other : ℕ → Type 0) → ((at : ℕ) → is_place at → other at) → (verdict : Verdict)
       → IsTrueVerdict (compared_in relation scope is_place answers p) verdict
       → IsTrueBy (IsRelated relation) (IsInScope scope) other answers p verdict
-  true_by other among (Same steps) h = related_of h
-  true_by other among (Differs call filter profile) h =
-      let same = call_of-words_of call h.0 in (
-        h.0,
-        subst (IsInScope scope) same h.1.1,
-        h.2,
-        subst (λ (record_of : CallRecord). ProfileAnswers p record_of profile.0) same h.3,
-        h.4,
-      )
-  true_by other among (Undecided at) h = among at h
-  true_by other among Unfinished h = tt
+  true_by other among verdict h = grind (arith, call_of-words_of, related_of)
 
 only : (insns one : List Insn) → Contains (insns ∷ []) one → one ≡ insns
 only insns one (zero, inside, is) = sym is
@@ -75,34 +53,14 @@ only insns one (suc place, inside, is) = absurd (omega (arith, inside))
 -- a filter alone answers as the stack of it does
 module _ (insns : List Insn) (p : Profile) where
   pub same_alone : SameAnswersIn All (StackAnswers (insns ∷ [])) p → SameAnswers (RunAnswers insns) p
-  same_alone same = λ call is_record.
-      let both = same call is_record tt in
-      record {
-        filter = both.filter;
-        profile = both.profile;
-        of_words = (one_answers insns (words_of call) both.filter).1 both.of_words;
-        of_profile = both.of_profile;
-        are_related = both.are_related;
-      }
+  same_alone same = grind (arith, one_answers)
 
   pub alone_same : SameAnswers (RunAnswers insns) p → SameAnswersIn All (StackAnswers (insns ∷ [])) p
-  alone_same same = λ call is_record in_scope.
-      let both = same call is_record in
-      record {
-        filter = both.filter;
-        profile = both.profile;
-        of_words = (one_answers insns (words_of call) both.filter).0 both.of_words;
-        of_profile = both.of_profile;
-        are_related = both.are_related;
-      }
+  alone_same same = grind (arith, one_answers)
 
   pub true_alone : (verdict : Verdict) → IsTrueOfStackBy relations.Same (insns ∷ []) p All verdict
       → IsTrueOf insns p verdict
-  true_alone (Same steps) h = λ call is_record in_scope. same_alone h call is_record
-  true_alone (Differs call filter profile) h =
-      (h.0, tt, (one_answers insns (words_of call) filter.0).1 h.2, h.3, h.4)
-  true_alone (Undecided at) (one, has, ends) = subst (λ (filter : List Insn). IsEndPlace filter at) (only insns one has) ends
-  true_alone Unfinished h = tt
+  true_alone verdict h = grind (arith, one_answers, only, same_alone)
 
 ending : (operation : Operation) (i : Insn) (at : ℕ) (answer : Option Answer)
     → EndsWith (flow_at operation i at) i answer
@@ -111,14 +69,7 @@ ending operation i at answer ends = grind arith
 
 -- a place of an end is one where a run can end
 pub end_place : (insns : List Insn) (at : ℕ) → IsPlaceOf (IsFilterEnd insns) at → IsEndPlace insns at
-end_place insns at (end, is_end, same) =
-    let there : IsEndPlace insns end.at = record {
-      insn = is_end.insn;
-      operation = is_end.operation;
-      stands = is_end.stands;
-      ends = ending is_end.operation is_end.insn end.at end.answer is_end.ends;
-    } in
-    subst (IsEndPlace insns) same there
+end_place insns at end = grind (arith, ending)
 
 pub stack_end_place : (filters : List (List Insn)) (at : ℕ) → IsPlaceOf (IsStackEnd filters) at
     → IsStackEndPlace filters at

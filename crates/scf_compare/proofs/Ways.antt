@@ -58,18 +58,13 @@ module _ {insns : List Insn} {words : List ℕ} {place : ℕ} {i : Insn} {operat
       comes_on (jumps_to c.state target) target registers e refl
       (record { a = c.describes.a; x = c.describes.x; scratch = c.describes.scratch })
   leads_by safe (Branch test operand if_true if_false) e =
-      let outcome = holds test c.state.a (operand_of operand i c.state) in
-      let to = λ (next : ℕ) (h : (if outcome then if_true else if_false) ≡ next).
-      comes_on _ next registers e h
-      (record { a = c.describes.a; x = c.describes.x; scratch = c.describes.scratch }) in (
-        λ h. to if_true (ap (λ b. if b then if_true else if_false) h),
-        λ h. to if_false (ap (λ b. if b then if_true else if_false) h),
-      )
+      let to = λ (next : ℕ) (on : effect operation i words c.state ≡ Goes (jumps_to c.state next)).
+      comes_on _ next registers on refl
+      (record { a = c.describes.a; x = c.describes.x; scratch = c.describes.scratch }) in
+      (λ h. to if_true (rw h at e), λ h. to if_false (rw h at e))
   leads_by safe (DivideByIndex next) (there, e) = λ after d. (
-    λ zero. answers 0 (e ∙ ap (λ b. if b then Ends 0 else Goes (sets A c.state (c.state.a / c.state.x))) zero),
-    λ some.
-        let on = e ∙ ap (λ b. if b then Ends 0 else Goes (sets A c.state (c.state.a / c.state.x))) some in
-        comes_on (sets A c.state (c.state.a / c.state.x)) next after on there (d _ on),
+    λ zero. answers 0 (rw zero at e),
+    λ some. let on = rw some at e in comes_on _ next after on there (d _ on),
   )
   leads_by safe ReturnConstant e = answers i.k e
   leads_by safe ReturnAccumulator e = answers c.state.a e

@@ -73,7 +73,7 @@ impl Image {
     }
 
     /// It OR a number.
-    #[tactic(auto, using(crate::proofs::Images::image_or))]
+    #[tactic(auto, using(crate::proofs::Images::image_ors))]
     pub(crate) fn or(self, v: u32) -> Image
         requires { IsImage self }
         ensures image { IsImage result }

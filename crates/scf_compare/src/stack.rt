@@ -30,6 +30,7 @@ pub(crate) enum StackNode {
 }
 
 /// Where the tree of filters begins, and what is known there.
+#[tactic(auto, using(crate::proofs::Rules::some_of))]
 pub(crate) fn start_of(filters: &[Program]) -> (Registers, StackNode)
     ensures node { stack_is_node filters.now result.0 result.1 }
     ensures reached { (words : List ℕ) → stack_reaches filters.now result.0 result.1 words }

@@ -109,6 +109,7 @@ fn size_of(insns: &[Insn], place: usize, insn: Insn, operation: Operation, sizes
 }
 
 /// The spread of a profile: 8, and for each of its numbers 1 and the size of its rules.
+#[tactic(auto, using(crate::proofs::Numbered::numbers_spread, crate::proofs::Common::take_all))]
 fn spread_of(profile: &Profile) -> u64
     ensures { result ≡ saturated (spread profile.now.rules) }
 {
