@@ -1,5 +1,5 @@
 -- Images of one word that are joined.
-use Rattle.scf_compare.proofs.Common.{◌≡◌, ℕ, ◌*◌, ◌/◌, ◌<◌, ◌^◌, ◌↔◌, true, false, eqb, sym, ◌∙◌, arith, bit_and, bit_or, bit_xor, List, nat_lt, not, and_zero_r, eq-eqb, and_le_r, or_block, or_lt, or_shr, le_or_l, le_or_r, pow_pos, same_from_bits, Image, AreShiftedAlike, shifted_word}
+use Rattle.scf_compare.proofs.Common.{add_comm, and_comm, mul_comm, or_comm, xor_comm, ◌≡◌, ℕ, ◌*◌, ◌/◌, ◌<◌, ◌^◌, ◌↔◌, true, false, eqb, sym, ◌∙◌, arith, bit_and, bit_or, bit_xor, List, nat_lt, not, and_zero_r, eq-eqb, and_le_r, or_block, or_lt, or_shr, le_or_l, le_or_r, pow_pos, same_from_bits, Image, AreShiftedAlike, shifted_word}
 use Rattle.scf_compare.proofs.Images.{mask_within}
 use Rattle.scf_compare.proofs.Bits.{each_bit}
 
@@ -59,6 +59,9 @@ pub ruleset joined_images = (
   or_mask_fits,
   xor_mask_fits,
 )
+
+-- the computations in which the order of the operands makes no difference
+pub ruleset commutative = (add_comm, and_comm, mul_comm, or_comm, xor_comm)
 
 -- ---- where numbers are 0
 

@@ -129,3 +129,5 @@ pub ruleset differences_above = (
   difference_above,
   difference_above_none,
 )
+
+pub ruleset offset_values = (number_fits, image_bits, apart, inside, sum_by_bits, difference_by_bits)

@@ -1,5 +1,5 @@
 -- What follows from one relation for another.
-use Rattle.scf_compare.proofs.Common.{◌≡◌, ◌≤◌, ℕ, List, arith, subst, Fate, Insn, CallRecord, degree_of, fate_of, IsRecord, words_of, StackAnswers, stack_answer_once, Profile, HaveNoConflict, ProfileAnswers, AnswersRelated, one_answer, Relation, Same, NoMore, NoLess, Scope, IsRelated, IsInScope, RelatedAnswersIn}
+use Rattle.scf_compare.proofs.Common.{call_of-words_of, ◌≡◌, ◌≤◌, ℕ, List, arith, subst, Fate, Insn, CallRecord, degree_of, fate_of, IsRecord, words_of, StackAnswers, stack_answer_once, Profile, HaveNoConflict, ProfileAnswers, AnswersRelated, one_answer, Relation, Same, NoMore, NoLess, Scope, IsRelated, IsInScope, RelatedAnswersIn}
 
 pub all_related : (relation : Relation) (filters : List (List Insn)) (p : Profile) (scope : Scope)
     → RelatedAnswersIn Same scope (StackAnswers filters) p → RelatedAnswersIn relation scope (StackAnswers filters) p
@@ -24,3 +24,6 @@ pub same_fate : (filters : List (List Insn)) (p : Profile) (scope : Scope) (call
 same_fate filters p scope call filter profile none is_no_more is_no_less is_record in_scope of_words of_profile =
     let here = λ (relation : Relation). related_here relation filters p call filter profile none is_record in
     grind (arith, here NoMore, here NoLess)
+
+-- the profile has one answer to a call, which is that of its words
+pub ruleset single_answers = (call_of-words_of, one_answer)

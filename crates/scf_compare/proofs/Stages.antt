@@ -21,20 +21,15 @@ module _ {F K N : Type 0} (store : Store F) (compared : Compared) (tree : K → 
       → LeadsTo store compared tree old new (tree known) (Split (Some whole) if_true if_false) if_true
   asked known whole left if_true if_false proper asks same keeps opened learned exact =
       let other : Branch K N = record { known = known; node = if_false; learned = Some (left, false) } in
+      let still = still_in_branch store tree compared.in_scope old new other f opened in
+      let there = in_opened store tree compared.in_scope old new other f opened in
       record {
         frontier =
             frontier_opened store tree compared.in_scope old new other f opened
             (record { node = proper.2; asks = asks });
         node = proper.1;
-        words = λ words ahead. elim ahead [
-          | inl inside ↦ inl (still_in_branch store tree compared.in_scope old new other f opened words inside)
-          | inr here ↦ elim (cases_Bool (atoms_answer left words)) [
-            | inl given ↦ inr ((learned words).1 (here.0, given), here.1.0 (same words here.0 ∙ given))
-            | inr refused ↦
-                inl (in_opened store tree compared.in_scope old new other f opened words here.0 refused
-                (here.1.1 (same words here.0 ∙ refused)))
-          ]
-        ];
+        words = λ words ahead.
+            grind (arith, still words, there words, same words, learned words, cases_Bool (atoms_answer left words));
         size = omega (arith, size_opened store tree compared.in_scope old new other f opened);
         exact = λ all. let either = keeps all.plain.0 in record {
           branches =
@@ -56,17 +51,13 @@ module _ {F K N : Type 0} (store : Store F) (compared : Compared) (tree : K → 
       → LeadsTo store compared tree old new (tree known) (Split None if_true if_false) if_true
   forked known if_true if_false proper opened still =
       let other : Branch K N = record { known = known; node = if_false; learned = None } in
+      let seen = still_in_branch store tree compared.in_scope old new other f opened in
+      let there = in_opened store tree compared.in_scope old new other f opened in
       record {
         frontier =
             frontier_opened store tree compared.in_scope old new other f opened (record { node = proper.2; asks = tt });
         node = proper.1;
-        words = λ words ahead. elim ahead [
-          | inl inside ↦ inl (still_in_branch store tree compared.in_scope old new other f opened words inside)
-          | inr here ↦ elim here.1 [
-            | inl first ↦ inr (still words here.0, first)
-            | inr second ↦ inl (in_opened store tree compared.in_scope old new other f opened words here.0 tt second)
-          ]
-        ];
+        words = λ words ahead. grind (arith, seen words, there words, still words);
         size = omega (arith, size_opened store tree compared.in_scope old new other f opened);
         exact = λ all. absurd all.plain.0;
       }

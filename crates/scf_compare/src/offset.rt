@@ -94,6 +94,7 @@ impl Offset {
     }
 
     /// It as a value: an image where no bit is carried.
+    #[tactic(auto, using(crate::proofs::Offsets::offset_values))]
     pub(crate) fn value(self) -> Value
         requires { IsImage self.image }
         ensures value { IsValue result }

@@ -64,6 +64,7 @@ impl Comparison for Pair<'_> {
         }
     }
 
+    #[tactic(auto, using(crate::proofs::Relations::single_answers))]
     fn answers(&self, call: &CallRecord) -> (Answer, Answer) {
         call.within_widths();
         let profile = self.profile.profile();

@@ -234,6 +234,7 @@ fn known_result(arithmetic: Arithmetic, a: u32, v: u32) -> Value
 }
 
 /// Whether the order of its operands makes no difference to a computation.
+#[tactic(auto, using(crate::proofs::Joins::commutative))]
 fn is_commutative(arithmetic: Arithmetic) -> bool
     ensures { IsTrue result → (a v : ℕ) → value_computed arithmetic a v ≡ value_computed arithmetic v a }
 {

@@ -13,17 +13,10 @@ returns-in_ok-learn-in-Still g c =
     let ensures = c.in_ok-branch_out-in-Still.ensures in
     let learned = c.in_ok-learn-in-Still.ensures in
     let marks : store.level new ≡ store.level old + 1 = learned.marks ∙ ensures.marks in
-    let known : (words : List ℕ)
-    → store.allows new (store.level new) words
-    ↔ (store.allows old (store.level old) words × (atoms_answer left words ≡ true)) = λ words.
-    subst (λ n. store.allows new n words
-    ↔ (store.allows old (store.level old) words × (atoms_answer left words ≡ true))) (sym learned.marks) (
-      λ allowed. let here = (learned.learned words).0 allowed in
-          ((ensures.known.0 words).0 (subst (λ n. store.allows mid n words) ensures.marks here.0), here.1),
-      λ here.
-          (learned.learned words).1
-          (subst (λ n. store.allows mid n words) (sym ensures.marks) ((ensures.known.0 words).1 here.0), here.1),
-    ) in
+    let known = λ (words : List ℕ).
+    let learned_here : store.allows new (store.level new) words
+    ↔ (store.allows old (store.level old) words × (atoms_answer left words ≡ true)) =
+    grind (arith, learned.learned words, ensures.known) in learned_here in
     asked store (g.C.Comparison.compared c.args.comparison.now) (g.C.Comparison.tree c.args.comparison.now)
     c.args.frontier.now (record { facts = new; branches = c.branch_out.new.self.branches }) c.requires.frontier
     c.args.known.now c.args.atoms left c.args.if_true c.args.if_false c.requires.proper
@@ -38,8 +31,4 @@ returns-in_ok-learn-in-Still g c =
       fewer = λ words allowed. ((known words).0 allowed).0;
     })
     known
-    (λ keeps was.
-    subst (λ n. IsTrue (store.is_exact new n)) (sym learned.marks)
-    (learned.exact keeps
-    (subst (λ n. IsTrue (store.is_exact mid n)) (sym ensures.marks)
-    (subst IsTrue (sym ensures.known.1) was))))
+    (λ keeps was. grind (arith, learned.exact keeps, ensures.known))

@@ -26,16 +26,6 @@ returns g c =
           let still : place < store.level old = omega arith in
           same_then store.allows store.is_exact old back new place place place (c.undo.ensures.law_undo place still)
           (c.in_ok-learn_answer.ensures.at_marks place before);
-      known = λ words.
-          subst
-          (λ n. store.allows new n words ↔ (store.allows old n words × GivesLearned c.in-Some.branch.learned words))
-          (sym marks) (
-            λ allowed. let here = (c.in_ok-learn_answer.ensures.learned words).0 allowed in
-                ((same.0 words).0 here.0, here.1),
-            λ here. (c.in_ok-learn_answer.ensures.learned words).1 ((same.0 words).1 here.0, here.1),
-          );
-      exact = λ keeps was.
-          subst (λ n. IsTrue (store.is_exact new n)) (sym marks)
-          (c.in_ok-learn_answer.ensures.exact keeps
-          (same.1 ∙ subst (λ n. IsTrue (store.is_exact old n)) marks was));
+      known = λ words. grind (arith, c.in_ok-learn_answer.ensures.learned words, same);
+      exact = λ keeps was. grind (arith, c.in_ok-learn_answer.ensures.exact keeps, same);
     })

@@ -11,10 +11,8 @@ returns-then-rank-clause-decides c =
     λ filters place words inside is_older tells run.
     let old = rw both.is-0 at (rw c.in-Some.is at tells) in
     let new = rw both.is-1 at run in
-    rw both.is-0 (
-    subst (StackAnswers (take (place + 1) filters) words) (lesser_wins both.first.0 both.last.0 less)
-    (one_more filters place [] words both.first.0 both.last.0 inside old new)
-    )
+    let more = one_more filters place [] words both.first.0 both.last.0 inside old new in
+    rw both.is-0 (rw (lesser_wins both.first.0 both.last.0 less) at more)
 
 pub returns-else-rank-clause-decides : goal.returns-else-rank-clause-decides
 returns-else-rank-clause-decides c =
@@ -24,7 +22,5 @@ returns-else-rank-clause-decides c =
     λ filters place words inside is_older tells run.
     let old = rw both.is-0 at (rw c.in-Some.is at tells) in
     let new = rw both.is-1 at run in
-    rw both.is-1 (
-    subst (StackAnswers (take (place + 1) filters) words) (other_wins both.first.0 both.last.0 most)
-    (one_more filters place [] words both.first.0 both.last.0 inside old new)
-    )
+    let more = one_more filters place [] words both.first.0 both.last.0 inside old new in
+    rw both.is-1 (rw (other_wins both.first.0 both.last.0 most) at more)

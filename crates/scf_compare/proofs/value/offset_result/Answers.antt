@@ -3,9 +3,7 @@ use Rattle.scf_compare.proofs.Offsets.{complement}
 use Rattle.scf_compare.proofs.value.offset_result.Goals as goal
 
 pub returns-in-Xor-clause-stands : goal.returns-in-Xor-clause-stands
-returns-in-Xor-clause-stands c = let offset = c.args.offset in λ words.
-    rw (c.in-Xor.is, c.if-v-eq4294967295.true)
-    (subst (StandsFor c.value-in-Xor.result words)
-    (sym (c.taken_from.ensures.number words)
-    ∙ rw c.if-v-eq4294967295.true (complement offset.negated (image_number offset.image words) offset.added))
-    (c.value-in-Xor.ensures.stands words))
+returns-in-Xor-clause-stands c = λ words.
+    let offset = c.args.offset in
+    rw (c.in-Xor.is, c.if-v-eq4294967295.true, ← complement offset.negated (image_number offset.image words) offset.added)
+    (rw (← c.taken_from.ensures.number words, c.if-v-eq4294967295.true) at (c.value-in-Xor.ensures.stands words))

@@ -5,12 +5,7 @@ use Rattle.scf_compare.proofs.pair.PairComparison.turn.Goals as goal
 pub returns-in-Go : goal.returns-in-Go
 returns-in-Go g c =
     let turn = rw c.in-Go.is at c.turn_in_stack.ensures in
-    rw c.in-AtFilter.is (record {
-      proper = turn.proper;
-      leads = λ words allowed come. (come.0, turn.leads words come.0 come.1);
-      costs = grind (arith, scaled_costs, turn.costs);
-      plain = λ plain. (turn.plain plain.0, plain.1);
-    })
+    rw c.in-AtFilter.is (grind (arith, scaled_costs, turn.costs, turn.leads))
 
 pub returns-in-Split : goal.returns-in-Split
 returns-in-Split g c =
