@@ -32,10 +32,6 @@ size_more tree fewer more b h = grind (arith, sum_by-append)
 
 -- ---- levels that stay
 
-pub same_then : {S : Type 0} (allows : S → ℕ → List ℕ → Type 0) (is_exact : S → ℕ → Bool) (a b c : S) (i j k : ℕ)
-    → IsSameLevel allows is_exact a i b j → IsSameLevel allows is_exact b j c k → IsSameLevel allows is_exact a i c k
-same_then allows is_exact a b c i j k f h = grind arith
-
 module _ {F K N : Type 0} (store : Store F) (tree : K → Tree N) (old new : Frontier F K N) where
   exact_still : (place : ℕ) (branch : Branch K N)
       → IsSameLevel store.allows store.is_exact old.facts place new.facts place

@@ -1,5 +1,5 @@
 -- The names that proofs of this crate cite, passed on from one place. Declares nothing.
-pub use Rattle.std.proofs.Common.{add-one, option_map, All, Bool, Contains, IfOk, IfSome, IsSome, IsTrue, List, None, Option, Some, [], ap, arith, bit_and, bit_or, bit_xor, cond, drop, eqb, false, get_or, if◌then◌else◌, inl, inr, int_lt, leb, length, length-append, length-take, map, nat_le, nat_lt, not, refl, rules, slice_get, slice_index, slice_index_or, subst, suc, sym, take, true, zero, zero-add, ℕ, ℤ, ◌%◌, ◌&&◌, ◌*◌, ◌++◌, ◌+◌, ◌-◌, ◌/◌, ◌<ℤ◌, ◌<◌, ◌==◌, ◌^◌, ◌↔◌, ◌∙◌, ◌∷◌, ◌≡◌, ◌≢◌, ◌≤ℤ◌, ◌≤◌, ◌⊎◌}
+pub use Rattle.std.proofs.Common.{drop-cons, add-one, option_map, All, Bool, Contains, IfOk, IfSome, IsSome, IsTrue, List, None, Option, Some, [], ap, arith, bit_and, bit_or, bit_xor, cond, drop, eqb, false, get_or, if◌then◌else◌, inl, inr, int_lt, leb, length, length-append, length-take, map, nat_le, nat_lt, not, refl, rules, slice_get, slice_index, slice_index_or, subst, suc, sym, take, true, zero, zero-add, ℕ, ℤ, ◌%◌, ◌&&◌, ◌*◌, ◌++◌, ◌+◌, ◌-◌, ◌/◌, ◌<ℤ◌, ◌<◌, ◌==◌, ◌^◌, ◌↔◌, ◌∙◌, ◌∷◌, ◌≡◌, ◌≢◌, ◌≤ℤ◌, ◌≤◌, ◌⊎◌}
 pub use Rattle.std.proofs.Math.Nat.{add_comm, div-eq_of_lt, div-mul-le_self, div-one, eq-or-lt_of_le, lt_of_mul-lt-mul_right, mod-eq_of_lt, mod-le, mul-lt-mul_of_pos_right, mul_comm}
 pub use Rattle.std.proofs.Math.Pow.{shr_mono}
 pub use Rattle.std.proofs.lemmas.List.Sums.{sum_by-append, sum_by-drop_more, sum_by-take-drop}

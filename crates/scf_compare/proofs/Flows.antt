@@ -3,31 +3,23 @@ use Rattle.scf_compare.proofs.Common.{◌≡◌, ℕ, zero, suc, ◌+◌, ◌-�
 
 -- ---- places inside the program
 
--- an instruction that isn't a return isn't the last one
-not_last : (insns : List Insn) (place : ℕ) (i : Insn) (operation : Operation) → IsValidList insns
-    → Stands insns place i operation → (IsReturn operation → ⊥) → place + 1 < length insns
-not_last insns place i operation valid stands goes_on = grind (arith, eq-or-lt_of_le, slice_get_within)
+module _ (insns : List Insn) (place : ℕ) (i : Insn) (operation : Operation) (valid : IsValidList insns)
+    (stands : Stands insns place i operation) where
+  -- an instruction that isn't a return isn't the last one
+  not_last : (IsReturn operation → ⊥) → place + 1 < length insns
+  not_last goes_on = grind (arith, eq-or-lt_of_le, slice_get_within)
 
-fine_at : (insns : List Insn) (place : ℕ) (i : Insn) (operation : Operation) → IsValidList insns
-    → Stands insns place i operation → IsFine (length insns) place i operation
-fine_at insns place i operation valid stands = grind (arith, fine_of, slice_get_within)
+  fine_at : IsFine (length insns) place i operation
+  fine_at = grind (arith, fine_of, slice_get_within)
 
-pub inside_at : (insns : List Insn) (place : ℕ) (i : Insn) (operation : Operation) → IsValidList insns
-    → Stands insns place i operation → IsInside (length insns) (flow_at operation i place)
-inside_at insns place i operation valid stands =
-    let fine = fine_at insns place i operation valid stands in
-    let next = not_last insns place i operation valid stands in
-    grind arith
+  pub inside_at : IsInside (length insns) (flow_at operation i place)
+  inside_at = grind (arith, fine_at, not_last)
 
-pub load_fits : (insns : List Insn) (place : ℕ) (i : Insn) (operation : Operation) → IsValidList insns
-    → Stands insns place i operation → operation ≡ LoadWord → i.k < 64
-load_fits insns place i operation valid stands e =
-    let fine = fine_at insns place i operation valid stands in grind arith
+  pub load_fits : operation ≡ LoadWord → i.k < 64
+  load_fits e = grind (arith, fine_at)
 
-pub scratch_fits : (insns : List Insn) (place : ℕ) (i : Insn) (operation : Operation) → IsValidList insns
-    → Stands insns place i operation → UsesScratch operation → i.k < bpf_memwords
-scratch_fits insns place i operation valid stands uses =
-    let fine = fine_at insns place i operation valid stands in grind arith
+  pub scratch_fits : UsesScratch operation → i.k < bpf_memwords
+  scratch_fits uses = grind (arith, fine_at)
 
 -- the code of each instruction is known
 pub has_operation : (insns : List Insn) (place : ℕ) (i : Insn) → IsValidList insns → slice_get insns place ≡ Some i

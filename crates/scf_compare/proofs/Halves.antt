@@ -28,21 +28,11 @@ module _ (c : Condition) (way : Way) (words : List ℕ) (w : IsWords words) wher
 
   -- where a condition holds if its test is met, its ways are the test's
   pub on_way : (test_of c).1 ≡ true → IsOnTestWay (test_of c).0 way number → IsOnWay c way number
-  on_way e is = by_way way is
-    where
-      by_way : (way : Way) → IsOnTestWay (test_of c).0 way number → IsOnWay c way number
-      by_way Holds met = sym (rw e at decided) ∙ met
-      by_way Fails unmet = sym (rw e at decided) ∙ unmet
-      by_way (Then part) is = is
+  on_way e is = grind (arith, decided)
 
   -- and else the opposite ones
   pub on_opposite : (test_of c).1 ≡ false → IsOnTestWay (test_of c).0 way number → IsOnWay c (opposite_way way) number
-  on_opposite e is = by_way way is
-    where
-      by_way : (way : Way) → IsOnTestWay (test_of c).0 way number → IsOnWay c (opposite_way way) number
-      by_way Holds met = sym (rw e at decided) ∙ ap not met
-      by_way Fails unmet = sym (rw e at decided) ∙ ap not unmet
-      by_way (Then part) is = is
+  on_opposite e is = grind (arith, decided)
 
 pub opposite_size : (way : Way) (holds fails : ℕ) → way_size (opposite_way way) holds fails ≡ way_size way fails holds
 opposite_size way holds fails = grind arith

@@ -52,19 +52,15 @@ image_is w s t m c v fits least stays =
     let u = bit_xor v c in
     let n = m / 2 ^ t in
     let y = bit_and (w / 2 ^ s) n in
-    let mask : n * 2 ^ s % 2 ^ 32 ≡ n * 2 ^ s = mod-eq_of_lt fits in
-    let value : u / 2 ^ t * 2 ^ s % 2 ^ 32 ≡ u / 2 ^ t * 2 ^ s = mod-eq_of_lt (in_range n (u / 2 ^ t) s fits least) in
-    let word : bit_and w (n * 2 ^ s % 2 ^ 32) ≡ y * 2 ^ s = ap (bit_and w) mask ∙ shifted_back w n s in
-    let image : bit_and (w / 2 ^ s * 2 ^ t) m ≡ y * 2 ^ t = under_mask (w / 2 ^ s) t m in
-    let back : u / 2 ^ t * 2 ^ t ≡ u = same_shifted_back u t stays in (
+    let back = same_shifted_back u t stays in
+    let value = mod-eq_of_lt (in_range n (u / 2 ^ t) s fits least) in
+    rw (mod-eq_of_lt fits, value, shifted_back w n s, under_mask (w / 2 ^ s) t m) (
       λ is.
-          let same : y ≡ u / 2 ^ t =
-          scaled_once y (u / 2 ^ t) t (sym image ∙ unflipped _ c v (eqb-true _ _ is) ∙ sym back) in
-          eq-eqb _ _ (word ∙ ap (λ n. n * 2 ^ s) same ∙ sym value),
+          let same = scaled_once y (u / 2 ^ t) t (unflipped _ c v (eqb-true _ _ is) ∙ sym back) in
+          eq-eqb _ _ (ap (λ k. k * 2 ^ s) same),
       λ is.
-          let same : y ≡ u / 2 ^ t = scaled_once y (u / 2 ^ t) s (sym word ∙ eqb-true _ _ is ∙ value) in
-          eq-eqb _ _
-          (ap (λ n. bit_xor n c) (image ∙ ap (λ n. n * 2 ^ t) same ∙ back) ∙ flipped_twice v c),
+          let same = scaled_once y (u / 2 ^ t) s (eqb-true _ _ is) in
+          eq-eqb _ _ (ap (λ k. bit_xor k c) (ap (λ k. k * 2 ^ t) same ∙ back) ∙ flipped_twice v c),
     )
 
 -- an image that is a number is so in the bits of its mask, shifted back
@@ -90,7 +86,7 @@ image_below w s t m c v fits past =
 
 -- a word that isn't shifted
 unshifted : (w : ℕ) → w / 2 ^ 0 * 2 ^ 0 ≡ w
-unshifted w = let once : w / 2 ^ 0 * 2 ^ 0 ≡ w / 2 ^ 0 = omega arith in once ∙ div-one w
+unshifted w = grind (arith, div-one)
 
 -- a mask shifted to the right lets no bit more through
 fits_shifted : (m s k : ℕ) → m * 2 ^ s < 2 ^ 32 → m / 2 ^ k * 2 ^ (s + k) < 2 ^ 32
@@ -125,7 +121,7 @@ scaled y j k t e = grind (arith, pow-add)
 -- an image shifted to the right
 pub image_right : (x m c k : ℕ)
     → bit_xor (bit_and x m) c / 2 ^ k ≡ bit_xor (bit_and (x / 2 ^ k) (m / 2 ^ k)) (c / 2 ^ k)
-image_right x m c k = xor_shr (bit_and x m) c k ∙ ap (λ n. bit_xor n (c / 2 ^ k)) (and_shr x m k)
+image_right x m c k = rw (xor_shr, and_shr)
 
 -- by less than it was shifted to the left
 pub right_within : (y t k : ℕ) → k ≤ t → y * 2 ^ t / 2 ^ k ≡ y * 2 ^ (t - k)
@@ -175,13 +171,7 @@ and_low x m = grind (arith, and_mask (bit_and x m) 32, and_assoc, and_mask m 32)
 
 pub image_left : (y t m c k : ℕ) → bit_xor (bit_and (y * 2 ^ t) m) c * 2 ^ k % 2 ^ 32
     ≡ bit_xor (bit_and (y * 2 ^ (t + k)) (m * 2 ^ k % 2 ^ 32)) (c * 2 ^ k % 2 ^ 32)
-image_left y t m c k =
-    ap (λ n. n % 2 ^ 32)
-    (xor_scaled (bit_and (y * 2 ^ t) m) c k
-    ∙ ap (λ n. bit_xor n (c * 2 ^ k))
-    (and_scaled (y * 2 ^ t) m k ∙ ap (λ n. bit_and n (m * 2 ^ k)) (scaled y t k (t + k) refl)))
-    ∙ xor_mod (bit_and (y * 2 ^ (t + k)) (m * 2 ^ k)) (c * 2 ^ k) 32
-    ∙ ap (λ n. bit_xor n (c * 2 ^ k % 2 ^ 32)) (and_low (y * 2 ^ (t + k)) (m * 2 ^ k))
+image_left y t m c k = rw (xor_scaled, and_scaled, xor_mod, and_low, scaled y t k (t + k) refl)
 
 pub mask_left_shifted : (m s t k : ℕ) → m / 2 ^ t * 2 ^ s < 2 ^ 32 → m * 2 ^ k % 2 ^ 32 / 2 ^ (t + k) * 2 ^ s < 2 ^ 32
 mask_left_shifted m s t k fits =

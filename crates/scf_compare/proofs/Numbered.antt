@@ -37,9 +37,9 @@ no_condition = record { index = 0; op = NotEqual; value = 0; value_two = 0 }
 pub own_kept : (s : NumberedProfile) → IsNumbered s → (place : ℕ) (own : NumberRules)
     → slice_get s.numbers place ≡ Some own → own_rules s.numbers place ≡ rules_of own.number s.profile.rules
 own_kept s numbered place own here =
-    own_read s.numbers place own here
-    ∙ at_place (λ (o : NumberRules). o.rules.items ≡ rules_of o.number s.profile.rules) s.numbers place own
-    numbered.numbers.own here
+    rw (own_read s.numbers place own here)
+    (at_place (λ (o : NumberRules). o.rules.items ≡ rules_of o.number s.profile.rules) s.numbers place own
+    numbered.numbers.own here)
 
 -- the rules of a number are rules, and have it
 own_rule : (nr : ℕ) (rules : List Rule) (r : Rule) → Contains (rules_of nr rules) r
@@ -137,5 +137,4 @@ pub sizes_from : (numbers : List NumberRules) (place from : ℕ) (own : NumberRu
 sizes_from numbers place from own le here =
     let f = λ (o : NumberRules). 1 + rules_size o.rules.items in
     let more = sum_by-drop_more f numbers from own (slice_get_within numbers from own here) in
-    let same = ap f (get_or_from_slice_get numbers from own own here) in
-    rw (own_read numbers from own here) (omega (arith, sizes_fewer numbers place from le, more, same))
+    grind (arith, own_read, get_or_from_slice_get numbers from own own here, sizes_fewer numbers place from le, more)

@@ -1,5 +1,6 @@
 -- The rules of a profile and their conditions, one after another.
-use Rattle.scf_compare.proofs.Common.{◌≡◌, ◌≢◌, ℕ, zero, suc, ◌+◌, ◌*◌, ◌<◌, ◌&&◌, Bool, true, false, eqb, List, [], ◌∷◌, ◌++◌, Some, length, take, drop, get_or, sym, ap, subst, ◌∙◌, arith, slice_get, All, Contains, eq-eqb, ne_eqb, and_parts, All-push, get_or_from_slice_get, add-one, slice_get_read, slice_get_within, CallRecord, argument, Condition, Rule, all_hold, meets, conditions_size, rules_size}
+use Rattle.scf_compare.proofs.Common.{drop-cons, ◌≡◌, ◌≢◌, ℕ, zero, suc, ◌+◌, ◌*◌, ◌<◌, ◌&&◌, Bool, true, false, eqb, List, [], ◌∷◌, ◌++◌, Some, length, take, drop, get_or, sym, ap, subst, ◌∙◌, arith, slice_get, All, Contains, eq-eqb, ne_eqb, and_parts, All-push, get_or_from_slice_get, add-one, slice_get_read, slice_get_within, CallRecord, argument, Condition, Rule, all_hold, meets, conditions_size, rules_size}
+use Rattle.std.proofs.Math.Seq.{take-suc}
 use Rattle.scf_profile.specs.Condition.{holds}
 
 -- ---- which rules a call meets
@@ -30,15 +31,11 @@ fails_by call (x ∷ conditions) (suc i) c here h = grind (arith, fails_by call 
 -- ---- places in lists
 
 pub drop_here : {X : Type 0} (xs : List X) (i : ℕ) (x : X) → slice_get xs i ≡ Some x → drop i xs ≡ x ∷ drop (suc i) xs
-drop_here [] i x here = absurd (cc)
-drop_here (y ∷ xs) zero x here = let same : y ≡ x = cc in ap (λ z. z ∷ xs) same
-drop_here (y ∷ xs) (suc i) x here = drop_here xs i x here
+drop_here xs i x here = rw (drop-cons xs i x (slice_get_within xs i x here), get_or_from_slice_get xs i x x here)
 
 take_here : {X : Type 0} (xs : List X) (i : ℕ) (x : X) → slice_get xs i ≡ Some x
     → take (suc i) xs ≡ take i xs ++ x ∷ []
-take_here [] i x here = absurd (cc)
-take_here (y ∷ xs) zero x here = let same : y ≡ x = cc in ap (λ z. z ∷ []) same
-take_here (y ∷ xs) (suc i) x here = ap (λ zs. y ∷ zs) (take_here xs i x here)
+take_here xs i x here = rw (take-suc xs i x (slice_get_within xs i x here), get_or_from_slice_get xs i x x here)
 
 pub contains_here : {X : Type 0} (xs : List X) (i : ℕ) (x : X) → slice_get xs i ≡ Some x → Contains xs x
 contains_here xs i x here = (i, slice_get_within xs i x here, get_or_from_slice_get xs i x x here)

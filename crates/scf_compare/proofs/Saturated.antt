@@ -1,5 +1,6 @@
 -- Numbers that are cut at 2^64-1.
 use Rattle.scf_compare.proofs.Common.{◌≡◌, ℕ, ◌+◌, ◌*◌, ◌-◌, ◌<◌, ◌≤◌, List, length, drop, get_or, refl, arith, slice_get-get_or, slice_get_read, Equal, Condition, Rule, conditions_size, rules_size, saturated, paths_count, spread_counts}
+use Rattle.scf_compare.proofs.Numbered.{no_condition}
 use Rattle.scf_compare.proofs.Rules.{conditions_more, rules_more}
 
 pub multiplied : (a b x y : ℕ) → 0 < x → 0 < y → a ≡ saturated x → b ≡ saturated y
@@ -11,9 +12,8 @@ pub conditions_step : (conditions : List Condition) (place behind : ℕ) → 0 <
     → conditions_size (drop (place - 1) conditions) behind
     ≡ 3 + 2 * conditions_size (drop place conditions) behind + 2 * behind
 conditions_step conditions place behind some within =
-    let none : Condition = record { index = 0; op = Equal; value = 0; value_two = 0 } in
-    let inside : place - 1 < length conditions = omega arith in
-    grind (arith, conditions_more conditions (place - 1) _ behind (slice_get-get_or conditions (place - 1) none inside))
+    let here = slice_get-get_or conditions (place - 1) no_condition (omega arith) in
+    grind (arith, conditions_more conditions (place - 1) _ behind here)
 
 -- the rules from one on, by those behind it
 pub rules_step : (rules : List Rule) (place : ℕ) (r : Rule) → 0 < place → place ≤ length rules
@@ -21,8 +21,7 @@ pub rules_step : (rules : List Rule) (place : ℕ) (r : Rule) → 0 < place → 
     → rules_size (drop (place - 1) rules) ≡ conditions_size r.conditions (rules_size (drop place rules))
 rules_step rules place r some within is =
     let here = slice_get_read rules (length rules) (place - 1) r refl (omega arith) is in
-    let one : place - 1 + 1 ≡ place = omega arith in
-    rw one at (rules_more rules (place - 1) r here)
+    grind (arith, rules_more rules (place - 1) r here)
 
 pub conditions_added : (size fails twice first second third x behind : ℕ) → size ≡ saturated x
     → fails ≡ saturated behind → twice ≡ saturated (fails + fails) → first ≡ saturated (size + size)

@@ -1,5 +1,4 @@
 use Rattle.scf_compare.proofs.Common.{◌≡◌, ◌+◌, ◌<◌, ◌↔◌, ℕ, List, true, sym, subst, ◌∙◌, arith, IsTrue, atoms_answer}
-use Rattle.scf_compare.proofs.Branches.{same_then}
 use Rattle.scf_compare.proofs.Stages.{asked}
 use Rattle.scf_compare.proofs.frontier.ask.Goals as goal
 
@@ -24,10 +23,7 @@ returns-in_ok-learn-in-Still g c =
     (record {
       branches = ensures.branches;
       marks = marks;
-      levels = λ place up_to.
-          let below : place < store.level mid = omega (arith, ensures.marks) in
-          same_then store.allows store.is_exact old mid new place place place (ensures.at_marks place up_to)
-          (learned.at_marks place below);
+      levels = λ place up_to. grind (arith, ensures.marks, ensures.at_marks place, learned.at_marks place);
       fewer = λ words allowed. ((known words).0 allowed).0;
     })
     known

@@ -1,5 +1,5 @@
 use Rattle.scf_compare.proofs.Common.{◌≡◌, ◌<◌, ◌↔◌, sym, subst, ◌∙◌, arith, IsTrue, GivesLearned}
-use Rattle.scf_compare.proofs.Branches.{same_then, newest_is_branch, taken}
+use Rattle.scf_compare.proofs.Branches.{newest_is_branch, taken}
 use Rattle.scf_compare.proofs.frontier.take_branch.Goals as goal
 
 pub learn_answer-requires : goal.learn_answer-requires
@@ -22,10 +22,12 @@ returns g c =
       branches = c.in-Some.ensures.items;
       marks = omega (arith, marks, c.undo.ensures.closed);
       levels = λ place below.
-          let before : place < store.level back = omega arith in
-          let still : place < store.level old = omega arith in
-          same_then store.allows store.is_exact old back new place place place (c.undo.ensures.law_undo place still)
-          (c.in_ok-learn_answer.ensures.at_marks place before);
+          grind (
+            arith,
+            c.undo.ensures.closed,
+            c.undo.ensures.law_undo place,
+            c.in_ok-learn_answer.ensures.at_marks place,
+          );
       known = λ words. grind (arith, c.in_ok-learn_answer.ensures.learned words, same);
       exact = λ keeps was. grind (arith, c.in_ok-learn_answer.ensures.exact keeps, same);
     })

@@ -4,23 +4,19 @@ use Rattle.scf_compare.proofs.Stacks.{lesser_wins, other_wins}
 use Rattle.scf_compare.proofs.stack.decided_at.Goals as goal
 
 pub returns-then-rank-clause-decides : goal.returns-then-rank-clause-decides
-returns-then-rank-clause-decides c =
+returns-then-rank-clause-decides c = λ filters place words inside is_older tells run.
     let both = c.in-Some-Some in
-    let less : rank_of both.first.0 <ℤ rank_of both.last.0 =
-    omega (arith, ints, c.rank.ensures, c.rank-in-Some-Some.ensures, c.if-rank.true) in
-    λ filters place words inside is_older tells run.
-    let old = rw both.is-0 at (rw c.in-Some.is at tells) in
-    let new = rw both.is-1 at run in
-    let more = one_more filters place [] words both.first.0 both.last.0 inside old new in
-    rw both.is-0 (rw (lesser_wins both.first.0 both.last.0 less) at more)
+    let more =
+    one_more filters place [] words both.first.0 both.last.0 inside (rw both.is-0 at (rw c.in-Some.is at tells))
+    (rw both.is-1 at run) in
+    rw both.is-0 (rw (lesser_wins both.first.0 both.last.0
+    (omega (arith, ints, c.rank.ensures, c.rank-in-Some-Some.ensures, c.if-rank.true))) at more)
 
 pub returns-else-rank-clause-decides : goal.returns-else-rank-clause-decides
-returns-else-rank-clause-decides c =
+returns-else-rank-clause-decides c = λ filters place words inside is_older tells run.
     let both = c.in-Some-Some in
-    let most : rank_of both.last.0 ≤ℤ rank_of both.first.0 =
-    omega (arith, ints, c.rank.ensures, c.rank-in-Some-Some.ensures, c.if-rank.false) in
-    λ filters place words inside is_older tells run.
-    let old = rw both.is-0 at (rw c.in-Some.is at tells) in
-    let new = rw both.is-1 at run in
-    let more = one_more filters place [] words both.first.0 both.last.0 inside old new in
-    rw both.is-1 (rw (other_wins both.first.0 both.last.0 most) at more)
+    let more =
+    one_more filters place [] words both.first.0 both.last.0 inside (rw both.is-0 at (rw c.in-Some.is at tells))
+    (rw both.is-1 at run) in
+    rw both.is-1 (rw (other_wins both.first.0 both.last.0
+    (omega (arith, ints, c.rank.ensures, c.rank-in-Some-Some.ensures, c.if-rank.false))) at more)

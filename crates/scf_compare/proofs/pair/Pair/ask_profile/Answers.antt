@@ -1,5 +1,4 @@
 use Rattle.scf_compare.proofs.Common.{refl, arith}
-use Rattle.scf_compare.proofs.Turns.{goes_within}
 use Rattle.scf_compare.proofs.pair.Pair.ask_profile.Goals as goal
 
 pub returns-in-Go : goal.returns-in-Go
@@ -8,7 +7,7 @@ returns-in-Go g c = λ registers. let turn = rw c.in-Go.is at c.turn.ensures in 
 pub returns-in-Split : goal.returns-in-Split
 returns-in-Split g c = λ registers.
     let turn = rw c.in-Split.is at c.turn.ensures in
-    grind (arith, turn.leads, goes_within)
+    grind (arith, turn.leads)
 
 pub returns-in-End : goal.returns-in-End
 returns-in-End g c = λ registers. let turn = rw c.in-End.is at c.turn.ensures in grind (arith, turn.leads)

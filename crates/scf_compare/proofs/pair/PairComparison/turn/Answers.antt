@@ -10,29 +10,15 @@ returns-in-Go g c =
 pub returns-in-Split : goal.returns-in-Split
 returns-in-Split g c =
     let turn = rw c.in-Split.is at c.turn_in_stack.ensures in
-    rw c.in-AtFilter.is (record {
-      proper = turn.proper;
-      leads = λ words allowed come.
-          goes_within c.in-Split.asked words (λ first. (come.0, first)) (λ second. (come.0, second))
-          (turn.leads words come.0 come.1);
-      costs = grind (arith, scaled_costs, turn.costs);
-      plain = λ plain. let stays = turn.plain plain.0 in (stays.0, (stays.1, plain.1), (stays.2, plain.1));
-    })
+    rw c.in-AtFilter.is (grind (arith, scaled_costs, turn.costs, turn.leads, goes_within))
 
 pub returns-in-End : goal.returns-in-End
 returns-in-End g c =
     let turn = rw c.in-End.is at c.turn_in_stack.ensures in
     let asked = c.ask_profile.ensures c.turn_in_stack.new.registers in
-    let size = stack_size c.args.self.now.filters.now c.in-AtFilter.node in
-    let whole = 8 + numbers_size c.args.self.now.profile.numbers in
-    let counts : 1 ≤ size = turn.costs in
-    let all : whole * 1 ≤ whole * size = mul-le-mul_left whole counts in
-    rw c.in-AtFilter.is (record {
-      proper = asked.proper;
-      leads = λ words allowed come. asked.leads words allowed (come.0, turn.leads words come.0 come.1, tt);
-      costs = omega (arith, asked.costs, all);
-      plain = λ plain. asked.plain (turn.plain plain.0, plain.1);
-    })
+    let counts : 1 ≤ stack_size c.args.self.now.filters.now c.in-AtFilter.node = turn.costs in
+    let all = mul-le-mul_left (8 + numbers_size c.args.self.now.profile.numbers) counts in
+    rw c.in-AtFilter.is (grind (arith, asked, turn.leads, all))
 
 pub returns-in-AtProfile : goal.returns-in-AtProfile
 returns-in-AtProfile g c = rw c.in-AtProfile.is (c.ask_profile-in-AtProfile.ensures c.args.known.now)
