@@ -30,14 +30,6 @@ size_more : {F K N : Type 0} (tree : K → Tree N) (fewer more : Frontier F K N)
     → open_size tree more ≡ open_size tree fewer + (tree b.known).size b.node
 size_more tree fewer more b h = grind (arith, sum_by-append)
 
--- ---- levels that stay
-
-module _ {F K N : Type 0} (store : Store F) (tree : K → Tree N) (old new : Frontier F K N) where
-  exact_still : (place : ℕ) (branch : Branch K N)
-      → IsSameLevel store.allows store.is_exact old.facts place new.facts place
-      → IsExactBranch store tree old place branch → IsExactBranch store tree new place branch
-  exact_still place branch same e = grind arith
-
 -- A branch was opened, and more may have been learned since.
 pub record HasOpened {F K N : Type 0} (store : Store F) (old new : Frontier F K N) (b : Branch K N) : Type 0 where
   pub branches : new.branches.items ≡ old.branches.items ++ b ∷ []
@@ -101,9 +93,7 @@ module _ {F K N : Type 0} (store : Store F) (tree : K → Tree N) (scope : List 
   exact_opened are exact keeps plain reached =
       λ place branch stands.
       elim (place_cases old.branches.items b place branch (rw opened.branches at stands)) [
-        | inl h ↦
-            exact_still store tree old new place branch (opened.levels place (omega (arith, f.marks, h.0)))
-            (are place branch h.1)
+        | inl h ↦ grind (arith, f.marks, h.0, opened.levels place, are place branch h.1)
         | inr h ↦
             let same = opened.levels (store.level old.facts) (omega arith) in
             rw (h.0, ← h.1, ← f.marks) (record {
@@ -177,8 +167,7 @@ taken {K = K} {N = N} store compared tree old new b f h =
           let here = are (store.level new.facts) b last in
           record {
             branches = λ place branch stands.
-                exact_still store tree old new place branch (h.levels place (below place branch stands))
-                (are place branch (before place branch stands));
+                grind (arith, h.levels place (below place branch stands), are place branch (before place branch stands));
             facts = h.exact here.keeps here.facts;
             plain = here.plain;
             reached = λ words allowed. let known = (h.known words).0 allowed in here.reached words known.0 known.1;

@@ -1,5 +1,6 @@
 -- What follows from how an instruction goes on.
-use Rattle.scf_compare.proofs.Common.{◌≡◌, ℕ, zero, suc, ◌+◌, ◌-◌, ◌<◌, ◌/◌, ◌==◌, List, [], ◌∷◌, Option, None, Some, length, drop, slice_index_or, if◌then◌else◌, refl, sym, ap, subst, ◌∙◌, arith, zero-add, slice_get, slice_get_within, eq-or-lt_of_le, Insn, A, Operation, LoadWord, operation_of, bpf_memwords, State, Outcome, Goes, Ends, sets, jumps_to, holds, operand_of, effect, Stands, IsFine, IsValidList, IsReturn, fine_of, same_insn, Flow, Next, Jump, Branch, DivideByIndex, ReturnConstant, ReturnAccumulator, size_of_insn, tree_sizes, tree_size, flow_at, UsesScratch, IsInside, size_of_flow, slice_get-get_or}
+use Rattle.scf_compare.proofs.Common.{All-contains, IsSimpleMask, Constant, CommonBit, IsPlainProgram, IsPlainInsn, ◌≡◌, ℕ, zero, suc, ◌+◌, ◌-◌, ◌<◌, ◌/◌, ◌==◌, List, [], ◌∷◌, Option, None, Some, length, drop, slice_index_or, if◌then◌else◌, refl, sym, ap, subst, ◌∙◌, arith, zero-add, slice_get, slice_get_within, eq-or-lt_of_le, Insn, A, Operation, LoadWord, operation_of, bpf_memwords, State, Outcome, Goes, Ends, sets, jumps_to, holds, operand_of, effect, Stands, IsFine, IsValidList, IsReturn, fine_of, same_insn, Flow, Next, Jump, Branch, DivideByIndex, ReturnConstant, ReturnAccumulator, size_of_insn, tree_sizes, tree_size, flow_at, UsesScratch, IsInside, size_of_flow, slice_get-get_or}
+use Rattle.scf_compare.proofs.Rules.{contains_here}
 
 -- ---- places inside the program
 
@@ -93,6 +94,24 @@ IsForward place ReturnAccumulator = Unit {0}
 pub forward_at : {insns : List Insn} {place : ℕ} {i : Insn} {operation : Operation} → Stands insns place i operation
     → IsForward place (flow_at operation i place)
 forward_at {place = place} {i = i} {operation = operation} stands = grind arith
+
+-- ---- plain programs
+
+-- a plain instruction loads a word, tests against a constant, with a simple mask, divides nothing and returns no
+-- register
+abbrev pub IsPlainFlow : Operation → Insn → Flow → Type 0
+IsPlainFlow operation i (Next next) = operation ≡ LoadWord
+IsPlainFlow operation i (Branch test operand if_true if_false) =
+    (operand ≡ Constant) × (test ≡ CommonBit → IsSimpleMask i.k)
+IsPlainFlow operation i (DivideByIndex next) = ⊥
+IsPlainFlow operation i ReturnAccumulator = ⊥
+IsPlainFlow operation i flow = Unit {0}
+
+-- so an instruction of a plain program goes on
+pub plain_flow : (insns : List Insn) (place : ℕ) (i : Insn) (operation : Operation) → IsPlainProgram insns
+    → Stands insns place i operation → IsPlainFlow operation i (flow_at operation i place)
+plain_flow insns place i operation plain stands =
+    let insn = All-contains IsPlainInsn insns i plain (contains_here insns place i stands.here) in grind arith
 
 -- the instruction that is read has an operation
 pub ruleset operations = (has_operation, slice_get-get_or)

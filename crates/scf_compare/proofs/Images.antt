@@ -72,11 +72,7 @@ same_bits w s t m c v same = grind (arith, under_mask, unflipped)
 pub image_isnt : (w s t m c v : ℕ) → m / 2 ^ t < bit_xor v c / 2 ^ t
     → eqb (bit_xor (bit_and (w / 2 ^ s * 2 ^ t) m) c) v ≡ false
 image_isnt w s t m c v past =
-    ne_eqb _ _ (λ same. omega (
-      arith,
-      sym (shl-shr _ t) ∙ ap (λ n. n / 2 ^ t) (same_bits w s t m c v same),
-      and_le_r (w / 2 ^ s) (m / 2 ^ t),
-    ))
+    ne_eqb _ _ (λ same. grind (arith, same_bits w s t m c v same, shl-shr, and_le_r (w / 2 ^ s) (m / 2 ^ t)))
 
 -- or one that has a bit below those of the word
 pub image_below : (w s t m c v : ℕ) → bit_xor v c < 2 ^ 32 → bit_xor v c / 2 ^ t * 2 ^ t % 2 ^ 32 ≢ bit_xor v c
@@ -126,8 +122,7 @@ image_right x m c k = rw (xor_shr, and_shr)
 -- by less than it was shifted to the left
 pub right_within : (y t k : ℕ) → k ≤ t → y * 2 ^ t / 2 ^ k ≡ y * 2 ^ (t - k)
 right_within y t k least =
-    let parts : t - k + k ≡ t = omega arith in
-    grind (arith, scaled y (t - k) k t parts, shl-shr (y * 2 ^ (t - k)) k)
+    grind (arith, scaled y (t - k) k t, shl-shr (y * 2 ^ (t - k)) k)
 
 pub mask_right_within : (m s t k : ℕ) → k ≤ t → m / 2 ^ t * 2 ^ s < 2 ^ 32 → m / 2 ^ k / 2 ^ (t - k) * 2 ^ s < 2 ^ 32
 mask_right_within m s t k least fits = grind (arith, divided)
@@ -187,10 +182,6 @@ mask_left_shifted m s t k fits =
 pub left_past : (y t m c : ℕ) → 32 ≤ t → m < 2 ^ 32 → bit_xor (bit_and (y * 2 ^ t) m) c ≡ c
 left_past y t m c far fits =
     grind (arith, under_mask y t m, and_zero_r, xor_zero_l, div-eq_of_lt, pow_mono far)
-
--- an image is a number of 32 bits
-pub image_fits : (x m c : ℕ) → m < 2 ^ 32 → c < 2 ^ 32 → bit_xor (bit_and x m) c < 2 ^ 32
-image_fits x m c h k = xor_lt 32 (bit_and x m) c (omega (arith, h, and_le_r x m)) k
 
 -- ---- what functions cite
 

@@ -19,14 +19,13 @@ joined_xor w m c n d = same_from_bits _ _ (λ i. grind (arith, each_bit))
 or_scaled : (a b k : ℕ) → bit_or a b * 2 ^ k ≡ bit_or (a * 2 ^ k) (b * 2 ^ k)
 or_scaled a b k = grind (arith, or_block k a b 0 0 (pow_pos k) (pow_pos k))
 
-or_fits : (m n t s : ℕ) → m / 2 ^ t * 2 ^ s < 2 ^ 32 → n / 2 ^ t * 2 ^ s < 2 ^ 32 → bit_or m n / 2 ^ t * 2 ^ s < 2 ^ 32
-or_fits m n t s h k = grind (arith, or_shr, or_scaled, or_lt 32 (m / 2 ^ t * 2 ^ s) (n / 2 ^ t * 2 ^ s) h k)
-
 -- nor has one of bits of both
 joined_fits : (mask m n t s : ℕ) → m / 2 ^ t * 2 ^ s < 2 ^ 32 → n / 2 ^ t * 2 ^ s < 2 ^ 32
     → bit_and mask (bit_or m n) ≡ mask → mask / 2 ^ t * 2 ^ s < 2 ^ 32
 joined_fits mask m n t s h k inside =
-    mask_within (bit_or m n) mask t s (or_fits m n t s h k) (omega (arith, inside, and_le_r mask (bit_or m n)))
+    mask_within (bit_or m n) mask t s
+    (grind (arith, or_shr, or_scaled, or_lt 32 (m / 2 ^ t * 2 ^ s) (n / 2 ^ t * 2 ^ s) h k))
+    (omega (arith, inside, and_le_r mask (bit_or m n)))
 
 pub and_mask_fits : (m c n d t s : ℕ) → m / 2 ^ t * 2 ^ s < 2 ^ 32 → n / 2 ^ t * 2 ^ s < 2 ^ 32
     → bit_xor (bit_and c d) (bit_and (bit_xor m c) (bit_xor n d)) / 2 ^ t * 2 ^ s < 2 ^ 32

@@ -3,13 +3,11 @@ pub mod Branches
 pub mod Common
 pub mod Flows
 pub mod Halves
-pub mod Headline
 pub mod Images
 pub mod Joins
 pub mod Numbered
 pub mod Offsets
 pub mod Orders
-pub mod PlainFlows
 pub mod Relations
 pub mod Rules
 pub mod Saturated

@@ -1,25 +1,25 @@
 -- Sums and differences of a number and an image of a word.
 use Rattle.scf_compare.proofs.Common.{◌≡◌, ℕ, ◌+◌, ◌-◌, ◌%◌, ◌<◌, ◌≤◌, ◌^◌, Bool, true, false, eqb, sym, ◌∙◌, arith, bit_and, bit_or, bit_xor, List, nat_lt, nat_le, not, xor_disjoint, xor_zero_r, and_le_r, xor_comm, xor_lt, same_from_bits, mod-eq_of_lt, steps_from, Image, shifted_word, image_number, signed_sum}
 use Rattle.scf_compare.proofs.Bits.{each_bit, whole_word}
-use Rattle.scf_compare.proofs.Images.{flipped_twice, image_fits}
+use Rattle.scf_compare.proofs.Images.{flipped_twice}
 
 -- ---- sums
 
-pub plus_number : (negated : Bool) (n added v : ℕ) → n < 2 ^ 32 → added < 2 ^ 32 → v < 2 ^ 32
-    → (signed_sum negated n added + v) % 2 ^ 32 ≡ signed_sum negated n ((added + v) % 2 ^ 32)
-plus_number negated n added v h k l = grind arith
+module _ (negated : Bool) (n added v : ℕ) (h : n < 2 ^ 32) (k : added < 2 ^ 32) (l : v < 2 ^ 32) where
+  pub plus_number : (signed_sum negated n added + v) % 2 ^ 32 ≡ signed_sum negated n ((added + v) % 2 ^ 32)
+  plus_number = grind arith
 
-pub minus_number : (negated : Bool) (n added v : ℕ) → n < 2 ^ 32 → added < 2 ^ 32 → v < 2 ^ 32
-    → (signed_sum negated n added + 2 ^ 32 - v) % 2 ^ 32 ≡ signed_sum negated n ((added + (2 ^ 32 - v)) % 2 ^ 32)
-minus_number negated n added v h k l = grind arith
+  pub minus_number : (signed_sum negated n added + 2 ^ 32 - v) % 2 ^ 32
+      ≡ signed_sum negated n ((added + (2 ^ 32 - v)) % 2 ^ 32)
+  minus_number = grind arith
 
-pub taken_number : (negated : Bool) (n added v : ℕ) → n < 2 ^ 32 → added < 2 ^ 32 → v < 2 ^ 32
-    → (v + 2 ^ 32 - signed_sum negated n added) % 2 ^ 32 ≡ signed_sum (not negated) n ((v + (2 ^ 32 - added)) % 2 ^ 32)
-taken_number negated n added v h k l = grind arith
+  pub taken_number : (v + 2 ^ 32 - signed_sum negated n added) % 2 ^ 32
+      ≡ signed_sum (not negated) n ((v + (2 ^ 32 - added)) % 2 ^ 32)
+  taken_number = grind arith
 
 pub number_fits : (image : Image) (words : List ℕ) → image.mask < 2 ^ 32 → image.flipped < 2 ^ 32
     → image_number image words < 2 ^ 32
-number_fits image words h k = image_fits (shifted_word image words) image.mask image.flipped h k
+number_fits image words h k = xor_lt 32 _ image.flipped (omega (arith, and_le_r (shifted_word image words) image.mask)) k
 
 -- ---- equality
 

@@ -16,14 +16,5 @@ related_here relation filters p call filter profile none is_record both of_words
     let other = one_answer p call none is_record both.of_profile of_profile in
     rw (one, other) at both.are_related
 
-pub same_fate : (filters : List (List Insn)) (p : Profile) (scope : Scope) (call : CallRecord) (filter profile : ℕ)
-    → HaveNoConflict p.rules
-    → RelatedAnswersIn NoMore scope (StackAnswers filters) p → RelatedAnswersIn NoLess scope (StackAnswers filters) p
-    → IsRecord call → IsInScope scope call
-    → StackAnswers filters (words_of call) filter → ProfileAnswers p call profile → fate_of filter ≡ fate_of profile
-same_fate filters p scope call filter profile none is_no_more is_no_less is_record in_scope of_words of_profile =
-    let here = λ (relation : Relation). related_here relation filters p call filter profile none is_record in
-    grind (arith, here NoMore, here NoLess)
-
 -- the profile has one answer to a call, which is that of its words
 pub ruleset single_answers = (call_of-words_of, one_answer)

@@ -19,15 +19,8 @@ module _ (relation : Relation) (scope : Scope) (is_place : ℕ → Type 0) (answ
       → RelatedAnswersIn relation scope answers p
   related_of h = λ call is_record in_scope.
       let same = call_of-words_of call is_record in
-      let (filter, profile, of_words, of_profile, are_related) =
-      h (words_of call) (IsWords-words_of call is_record, rw same in_scope) in
-      record {
-        filter = filter;
-        profile = profile;
-        of_words = of_words;
-        of_profile = rw same at of_profile;
-        are_related = are_related;
-      }
+      let related = h (words_of call) (IsWords-words_of call is_record, rw same in_scope) in
+      grind (arith, same, related)
 
   -- and where those to the records are, those to their words are
   pub words_related : RelatedAnswersIn relation scope answers p

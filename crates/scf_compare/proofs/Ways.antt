@@ -76,15 +76,9 @@ module _ {insns : List Insn} {words : List ℕ} {place : ℕ} {i : Insn} {operat
       (subst (λ p. Does (flow_at operation i p) i c.state (effect operation i words c.state)) c.there
       (does operation i words c.state)))
 
--- ---- the ways on from a test
-
+-- where words go on from a test
 pub turn_leads : (tree : Tree FilterNode) (tells : FilterEnd → List ℕ → Type 0) (words : List ℕ) (decision : Decision)
     (if_true if_false : FilterNode) (turn : Turn FilterNode FilterEnd) (test : Bool)
     → IsTurnOf decision if_true if_false turn → Decides decision words test → (test ≡ true → tree.reaches if_true words)
     → (test ≡ false → tree.reaches if_false words) → GoesOn tree tells turn words
 turn_leads tree tells words decision if_true if_false turn test e d ht hf = grind arith
-
-pub turn_plain : (tree : Tree FilterNode) (tells_all : FilterEnd → Type 0) (decision : Decision)
-    (if_true if_false : FilterNode) (turn : Turn FilterNode FilterEnd) → IsTurnOf decision if_true if_false turn
-    → IsPlainDecision decision → tree.is_plain if_true → tree.is_plain if_false → StaysPlain tree tells_all turn
-turn_plain tree tells_all decision if_true if_false turn e d ht hf = grind arith

@@ -48,10 +48,11 @@ loop-steps-preserved g c =
       frontier = over.frontier;
       node = over.node;
       place = after.place;
-      words = λ words within. elim (c.loop-steps.invariant.words words within) [
-        | inl before ↦ inl (still_seen compared c.loop-steps.left_open c.advance.new.left_open words after.first before)
-        | inr ahead ↦ over.words words ahead
-      ];
+      words = λ words within.
+          elim (c.loop-steps.invariant.words words within) [
+            | inl before ↦ inl (still_seen compared c.loop-steps.left_open _ words after.first before)
+            | inr ahead ↦ over.words words ahead
+          ];
       size = omega (arith, c.loop-steps.invariant.size, over.size);
       exact = λ exact plain.
           let before = c.loop-steps.invariant.exact exact plain in

@@ -1,8 +1,7 @@
 -- The ways on from an instruction follow the runs that come to it, and their sizes are within its size.
 use Rattle.scf_compare.proofs.Common.{refl, sym, subst, ◌∙◌, arith, rules, common_steps, IfSome_then, Answer, RunAnswers, filter_tree}
-use Rattle.scf_compare.proofs.Flows.{size_by_flow}
-use Rattle.scf_compare.proofs.PlainFlows.{plain_flow}
-use Rattle.scf_compare.proofs.Ways.{leads, turn_leads, turn_plain}
+use Rattle.scf_compare.proofs.Flows.{plain_flow, size_by_flow}
+use Rattle.scf_compare.proofs.Ways.{leads, turn_leads}
 use Rattle.scf_compare.proofs.filter.turn_of.Goals as goal
 
 pub returns-in-Next : goal.returns-in-Next
@@ -37,23 +36,21 @@ returns-then-if_true-if_false c = record {
 }
 
 pub returns-else-if_true-if_false : goal.returns-else-if_true-if_false
-returns-else-if_true-if_false c =
-    let tree = filter_tree c.args.insns.now c.args.registers.now in
-    record {
-      proper = search rules;
-      leads = λ words w r.
-          let on = leads c.requires.stands r (c.requires.safe words) _ (sym c.of.ensures.flow ∙ c.in-Branch.is) in
-          let operand = c.operand.ensures.stands words r.state r.describes in
-          turn_leads tree _ words c.decide-decision.result _ _ c.turn_by.result _ c.turn_by.ensures
-          (c.decide-decision.ensures.decides words r.state.a _ w r.describes.a operand) on.0 on.1;
-      costs = grind (arith, size_by_flow c.requires.stands);
-      plain = λ plain.
-          let branch =
-          rw (sym c.of.ensures.flow ∙ c.in-Branch.is) at (plain_flow _ _ _ _ plain.0 c.requires.stands) in
-          turn_plain tree _ c.decide-decision.result _ _ c.turn_by.result c.turn_by.ensures
-          (c.decide-decision.ensures.plain c.args.insn.k plain.1 (c.operand.ensures.constant branch.0) branch.1)
-          plain plain;
-    }
+returns-else-if_true-if_false c = record {
+  proper = search rules;
+  leads = λ words w r.
+      let on = leads c.requires.stands r (c.requires.safe words) _ (sym c.of.ensures.flow ∙ c.in-Branch.is) in
+      let operand = c.operand.ensures.stands words r.state r.describes in
+      let decides = c.decide-decision.ensures.decides words r.state.a _ w r.describes.a operand in
+      grind (arith, on.0, on.1, decides, c.turn_by.ensures);
+  costs = grind (arith, size_by_flow c.requires.stands);
+  plain = λ plain.
+      let branch =
+      rw (sym c.of.ensures.flow ∙ c.in-Branch.is) at (plain_flow _ _ _ _ plain.0 c.requires.stands) in
+      let decided =
+      c.decide-decision.ensures.plain c.args.insn.k plain.1 (c.operand.ensures.constant branch.0) branch.1 in
+      grind (arith, common_steps, c.turn_by.ensures);
+}
 
 pub returns-in-DivideByIndex : goal.returns-in-DivideByIndex
 returns-in-DivideByIndex c = record {

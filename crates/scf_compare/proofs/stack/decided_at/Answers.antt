@@ -9,8 +9,9 @@ returns-then-rank-clause-decides c = λ filters place words inside is_older tell
     let more =
     one_more filters place [] words both.first.0 both.last.0 inside (rw both.is-0 at (rw c.in-Some.is at tells))
     (rw both.is-1 at run) in
-    rw both.is-0 (rw (lesser_wins both.first.0 both.last.0
-    (omega (arith, ints, c.rank.ensures, c.rank-in-Some-Some.ensures, c.if-rank.true))) at more)
+    let less : rank_of both.first.0 <ℤ rank_of both.last.0 =
+    omega (arith, ints, c.rank.ensures, c.rank-in-Some-Some.ensures, c.if-rank.true) in
+    rw both.is-0 (grind (arith, more, less))
 
 pub returns-else-rank-clause-decides : goal.returns-else-rank-clause-decides
 returns-else-rank-clause-decides c = λ filters place words inside is_older tells run.
@@ -18,5 +19,6 @@ returns-else-rank-clause-decides c = λ filters place words inside is_older tell
     let more =
     one_more filters place [] words both.first.0 both.last.0 inside (rw both.is-0 at (rw c.in-Some.is at tells))
     (rw both.is-1 at run) in
-    rw both.is-1 (rw (other_wins both.first.0 both.last.0
-    (omega (arith, ints, c.rank.ensures, c.rank-in-Some-Some.ensures, c.if-rank.false))) at more)
+    let most : rank_of both.last.0 ≤ℤ rank_of both.first.0 =
+    omega (arith, ints, c.rank.ensures, c.rank-in-Some-Some.ensures, c.if-rank.false) in
+    rw both.is-1 (grind (arith, more, most))

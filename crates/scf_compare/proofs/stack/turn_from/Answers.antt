@@ -1,7 +1,6 @@
 -- The turns of the filter that is asked are turns of the stack, and where it ends the next one begins.
 use Rattle.scf_compare.proofs.Common.{◌≡◌, ◌+◌, ◌*◌, ◌<◌, ◌≤◌, ℕ, List, length, drop, sym, subst, ap, ◌∙◌, arith, take_all, mul-le-mul_left, Insn, StackAnswers, stack_paths, tree_size, FilterTells, filter_size, scaled_costs, paths_count, filter_at}
 use Rattle.scf_compare.proofs.Stacks.{is_stack_end, paths_from, plain_at}
-use Rattle.scf_compare.proofs.Turns.{goes_within}
 use Rattle.scf_compare.proofs.stack.turn_from.Goals as goal
 
 pub filter_of-requires : goal.filter_of-requires
@@ -24,33 +23,23 @@ pub returns-in-Go : goal.returns-in-Go
 returns-in-Go c =
     let turn = rw (c.filter_of.ensures, c.in-Go.is) at c.turn_in_filter.ensures in
     let so_far = c.loop-next.invariant in
-    let inside = so_far.node.0 in
-    record {
-      proper = (inside, turn.proper, so_far.node.2);
-      leads = λ words w r.
-          let before = so_far.reaches words w r in
-          let leads = turn.leads words w before.1 in (before.0, leads);
-      costs = whole_cost c.args.filters.now c.loop-next.place _ _ _ turn.costs so_far.size;
-      plain = λ plain. let before = so_far.plain plain in let stays = turn.plain before.2 in (before.0, before.1, stays);
-    }
+    grind (
+      arith,
+      so_far.reaches,
+      turn.leads,
+      whole_cost c.args.filters.now c.loop-next.place _ _ _ turn.costs so_far.size,
+    )
 
 pub returns-in-Split : goal.returns-in-Split
 returns-in-Split c =
     let turn = rw (c.filter_of.ensures, c.in-Split.is) at c.turn_in_filter.ensures in
     let so_far = c.loop-next.invariant in
-    let inside = so_far.node.0 in
-    record {
-      proper = (turn.proper.0, (inside, turn.proper.1, so_far.node.2), (inside, turn.proper.2, so_far.node.2));
-      leads = λ words w r.
-          let before = so_far.reaches words w r in
-          goes_within c.in-Split.asked words (λ first. (before.0, first)) (λ second. (before.0, second))
-          (turn.leads words w before.1);
-      costs = whole_costs c.args.filters.now c.loop-next.place _ _ _ _ turn.costs so_far.size;
-      plain = λ plain.
-          let before = so_far.plain plain in
-          let stays = turn.plain before.2 in
-          (stays.0, (before.0, before.1, stays.1), (before.0, before.1, stays.2));
-    }
+    grind (
+      arith,
+      so_far.reaches,
+      turn.leads,
+      whole_costs c.args.filters.now c.loop-next.place _ _ _ _ turn.costs so_far.size,
+    )
 
 -- the end of a filter's tree is one of the stack, and so is the end at which all filters so far decide
 pub returns-then-place-filters : goal.returns-then-place-filters

@@ -3,17 +3,13 @@ use Rattle.scf_compare.proofs.Flows.{inside_at}
 use Rattle.scf_compare.proofs.flow.Flow.of.Goals as goal
 
 pub returns-in-Jump-clause-inside : goal.returns-in-Jump-clause-inside
-returns-in-Jump-clause-inside c =
-    let inside = inside_at _ _ _ _ c.requires.valid c.requires.stands in grind arith
+returns-in-Jump-clause-inside c = grind (arith, inside_at _ _ _ _ c.requires.valid c.requires.stands)
 
 pub returns-in-JumpIf-clause-inside : goal.returns-in-JumpIf-clause-inside
-returns-in-JumpIf-clause-inside c =
-    let inside = inside_at _ _ _ _ c.requires.valid c.requires.stands in grind arith
+returns-in-JumpIf-clause-inside c = grind (arith, inside_at _ _ _ _ c.requires.valid c.requires.stands)
 
 pub returns-in-Compute-Div-Index-clause-inside : goal.returns-in-Compute-Div-Index-clause-inside
-returns-in-Compute-Div-Index-clause-inside c =
-    let inside = inside_at _ _ _ _ c.requires.valid c.requires.stands in grind arith
+returns-in-Compute-Div-Index-clause-inside c = grind (arith, inside_at _ _ _ _ c.requires.valid c.requires.stands)
 
 pub returns-in_default-clause-inside : goal.returns-in_default-clause-inside
-returns-in_default-clause-inside c =
-    let inside = inside_at _ _ _ _ c.requires.valid c.requires.stands in grind arith
+returns-in_default-clause-inside c = grind (arith, inside_at _ _ _ _ c.requires.valid c.requires.stands)

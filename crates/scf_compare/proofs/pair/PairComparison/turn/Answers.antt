@@ -1,5 +1,4 @@
 use Rattle.scf_compare.proofs.Common.{◌+◌, ◌*◌, ◌≤◌, arith, mul-le-mul_left, scaled_costs, numbers_size, stack_size}
-use Rattle.scf_compare.proofs.Turns.{goes_within}
 use Rattle.scf_compare.proofs.pair.PairComparison.turn.Goals as goal
 
 pub returns-in-Go : goal.returns-in-Go
@@ -10,7 +9,7 @@ returns-in-Go g c =
 pub returns-in-Split : goal.returns-in-Split
 returns-in-Split g c =
     let turn = rw c.in-Split.is at c.turn_in_stack.ensures in
-    rw c.in-AtFilter.is (grind (arith, scaled_costs, turn.costs, turn.leads, goes_within))
+    rw c.in-AtFilter.is (grind (arith, scaled_costs, turn.costs, turn.leads))
 
 pub returns-in-End : goal.returns-in-End
 returns-in-End g c =
