@@ -18,14 +18,14 @@ place_before [] x k y e = cc
 place_before (a ∷ xs) x zero y e = e
 place_before (a ∷ xs) x (suc k) y e = place_before xs x k y e
 
-place_last : {X : Type 0} (xs : List X) (x : X) → slice_get (xs ++ x ∷ []) (length xs) ≡ Some x
+pub place_last : {X : Type 0} (xs : List X) (x : X) → slice_get (xs ++ x ∷ []) (length xs) ≡ Some x
 place_last [] x = refl
 place_last (a ∷ xs) x = place_last xs x
 
 length_more : {X : Type 0} (xs ys : List X) (x : X) → ys ≡ xs ++ x ∷ [] → length ys ≡ length xs + 1
 length_more xs ys x e = ap length e ∙ length-append xs (x ∷ [])
 
-size_more : {F K N : Type 0} (tree : K → Tree N) (fewer more : Frontier F K N) (b : Branch K N)
+pub size_more : {F K N : Type 0} (tree : K → Tree N) (fewer more : Frontier F K N) (b : Branch K N)
     → more.branches.items ≡ fewer.branches.items ++ b ∷ []
     → open_size tree more ≡ open_size tree fewer + (tree b.known).size b.node
 size_more tree fewer more b h = grind (arith, sum_by-append)
@@ -82,9 +82,6 @@ module _ {F K N : Type 0} (store : Store F) (tree : K → Tree N) (scope : List 
             grind (arith, more, opened.levels level, opened.fewer words, f.within level, f.within (store.level old.facts));
       }
 
-  pub size_opened : open_size tree new ≡ open_size tree old + (tree b.known).size b.node
-  size_opened = size_more tree old new b opened.branches
-
   pub exact_opened : AreExact store tree old → IsTrue (store.is_exact old.facts (store.level old.facts))
       → LearnsExactly b.learned → (tree b.known).is_plain b.node
       → ((words : List ℕ) → store.allows old.facts (store.level old.facts) words → GivesLearned b.learned words
@@ -103,13 +100,6 @@ module _ {F K N : Type 0} (store : Store F) (tree : K → Tree N) (scope : List 
               reached = λ words allowed given. reached words ((same.0 words).0 allowed) given;
             })
       ]
-
--- the newest of the open branches is one of the tree
-pub newest_is_branch : {F K N : Type 0} (store : Store F) (tree : K → Tree N) (scope : List ℕ → Type 0)
-    (frontier : Frontier F K N) (others : List (Branch K N)) (b : Branch K N) → IsFrontier store tree scope frontier
-    → frontier.branches.items ≡ others ++ b ∷ [] → IsBranch tree b
-newest_is_branch store tree scope frontier others b f e =
-    f.branches (length others) b (rw e (place_last others b))
 
 -- The newest branch was taken: its mark was undone, and what leads into it was learned.
 pub record HasTaken {F K N : Type 0} (store : Store F) (old new : Frontier F K N) (b : Branch K N) : Type 0 where

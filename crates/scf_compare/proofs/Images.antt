@@ -18,12 +18,8 @@ image_or w m c v = same_from_bits _ _ (λ i. grind (arith, each_bit))
 -- a word under a mask that is shifted back
 pub shifted_back : (w m s : ℕ) → bit_and w (m * 2 ^ s) ≡ bit_and (w / 2 ^ s) m * 2 ^ s
 shifted_back w m s =
-    grind (
-      arith,
-      and_block s (w / 2 ^ s) m (w % 2 ^ s) 0 (mod-lt w (pow_pos s)) (pow_pos s),
-      div-add-mod' w (2 ^ s),
-      and_zero_r,
-    )
+    let parts = div-add-mod' w (2 ^ s) in
+    grind (arith, and_block s (w / 2 ^ s) m (w % 2 ^ s) 0 (mod-lt w (pow_pos s)) (pow_pos s), parts, and_zero_r)
 
 -- a word shifted to the left, under a mask
 pub under_mask : (y t m : ℕ) → bit_and (y * 2 ^ t) m ≡ bit_and y (m / 2 ^ t) * 2 ^ t
@@ -130,12 +126,7 @@ mask_right_within m s t k least fits = grind (arith, divided)
 -- and by more
 pub right_past : (w s t k : ℕ) → t ≤ k → w / 2 ^ s * 2 ^ t / 2 ^ k ≡ w / 2 ^ (s + (k - t)) * 2 ^ 0
 right_past w s t k past =
-    grind (
-      arith,
-      divided (w / 2 ^ s * 2 ^ t) t (k - t) k (omega arith),
-      shl-shr (w / 2 ^ s) t,
-      divided w s (k - t) (s + (k - t)) refl,
-    )
+    grind (arith, divided (w / 2 ^ s * 2 ^ t) t (k - t) k, shl-shr (w / 2 ^ s) t, divided w s (k - t) (s + (k - t)))
 
 fits_past : (m s t k : ℕ) → t ≤ k → m / 2 ^ t * 2 ^ s < 2 ^ 32 → m / 2 ^ k * 2 ^ (s + (k - t)) < 2 ^ 32
 fits_past m s t k past fits =

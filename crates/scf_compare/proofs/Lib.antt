@@ -13,6 +13,5 @@ pub mod Rules
 pub mod Saturated
 pub mod Stacks
 pub mod Stages
-pub mod Turns
 pub mod Verdicts
 pub mod Ways

@@ -71,13 +71,7 @@ signed_fits negated n added = grind arith
 pub complement : (negated : Bool) (n added : ℕ)
     → (2 ^ 32 - 1 + 2 ^ 32 - signed_sum negated n added) % 2 ^ 32 ≡ bit_xor (signed_sum negated n added) (2 ^ 32 - 1)
 complement negated n added =
-    grind (
-      arith,
-      signed_fits negated n added,
-      xor_inside (signed_sum negated n added) (2 ^ 32 - 1),
-      whole_word,
-      xor_comm,
-    )
+    grind (arith, signed_fits, xor_inside (signed_sum negated n added) (2 ^ 32 - 1), whole_word, xor_comm)
 
 pub sum_by_bits : (n added : ℕ) → n < 2 ^ 32 → added < 2 ^ 32 → bit_and n added ≡ 0
     → signed_sum false n added ≡ bit_xor n added
@@ -122,12 +116,6 @@ pub ruleset equal_offsets = (number_fits, sum_is, difference_is)
 
 pub ruleset sums_above = (image_within, sum_above, sum_above_all)
 
-pub ruleset differences_above = (
-  number_fits,
-  image_within,
-  difference_on_arc,
-  difference_above,
-  difference_above_none,
-)
+pub ruleset differences_above = (number_fits, image_within, difference_on_arc, difference_above, difference_above_none)
 
 pub ruleset offset_values = (number_fits, image_bits, apart, inside, sum_by_bits, difference_by_bits)

@@ -61,10 +61,6 @@ rules_more rules place r here = grind (arith, drop_here)
 
 -- ---- what the code reads
 
-pub same_here : {X : Type 0} (xs : List X) (place : ℕ) (x y : X) → slice_get xs place ≡ Some x
-    → slice_get xs place ≡ Some y → x ≡ y
-same_here xs place x y a b = let both : Some x ≡ Some y = sym a ∙ b in cc
-
 -- what is read of a list stands there
 pub read_at : {X : Type 0} (read xs : List X) (place : ℕ) (x : X) → read ≡ xs → place < length read
     → x ≡ get_or read place x → slice_get xs place ≡ Some x

@@ -1,7 +1,7 @@
 -- From one stage of an exploration to the next.
 use Rattle.scf_compare.proofs.Common.{◌≡◌, ◌∙◌, ℕ, ◌≤◌, ◌↔◌, inl, inr, List, true, false, arith, Option, Some, None, IsTrue, cases_Bool, Store, Atoms, BothEnds, Frontier, Turn, Split, AsksOfWords, atoms_answer, StaysExact, KeepsEither, Compared, Tells, KnowsBoth, WereSeen, IsFrontier, LeadsTo, IsTaken, GoesOver, Tree, GoesOn, StaysPlain, Costs}
 use Rattle.scf_compare.specs.declared.frontier.Branch.{Branch}
-use Rattle.scf_compare.proofs.Branches.{HasOpened, still_in_branch, in_opened, frontier_opened, size_opened, exact_opened}
+use Rattle.scf_compare.proofs.Branches.{HasOpened, still_in_branch, in_opened, frontier_opened, size_more, exact_opened}
 
 module _ {F K N : Type 0} (store : Store F) (compared : Compared) (tree : K → Tree N) (old new : Frontier F K N)
     (f : IsFrontier store tree compared.in_scope old) where
@@ -30,7 +30,7 @@ module _ {F K N : Type 0} (store : Store F) (compared : Compared) (tree : K → 
         node = proper.1;
         words = λ words ahead.
             grind (arith, still words, there words, same words, learned words, cases_Bool (atoms_answer left words));
-        size = omega (arith, size_opened store tree compared.in_scope old new other f opened);
+        size = omega (arith, size_more tree old new other opened.branches);
         exact = λ all. let either = keeps all.plain.0 in record {
           branches =
               exact_opened store tree compared.in_scope old new other f opened all.branches all.facts either.1
@@ -58,7 +58,7 @@ module _ {F K N : Type 0} (store : Store F) (compared : Compared) (tree : K → 
             frontier_opened store tree compared.in_scope old new other f opened (record { node = proper.2; asks = tt });
         node = proper.1;
         words = λ words ahead. grind (arith, seen words, there words, still words);
-        size = omega (arith, size_opened store tree compared.in_scope old new other f opened);
+        size = omega (arith, size_more tree old new other opened.branches);
         exact = λ all. absurd all.plain.0;
       }
 

@@ -8,10 +8,5 @@ returns-clause-seen g c =
     λ words allowed tells.
     inr (
       grind (arith, common_steps),
-      record {
-        end = c.args.end;
-        is_end = c.requires.end;
-        is_open = is_open;
-        tells = tells;
-      },
+      record { end = c.args.end; is_end = c.requires.end; is_open = is_open; tells = tells },
     )

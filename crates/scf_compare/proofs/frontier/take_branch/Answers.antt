@@ -1,11 +1,11 @@
-use Rattle.scf_compare.proofs.Common.{◌≡◌, ◌<◌, ◌↔◌, sym, subst, ◌∙◌, arith, IsTrue, GivesLearned}
-use Rattle.scf_compare.proofs.Branches.{newest_is_branch, taken}
+use Rattle.scf_compare.proofs.Common.{length, ◌≡◌, ◌<◌, ◌↔◌, sym, subst, ◌∙◌, arith, IsTrue, GivesLearned}
+use Rattle.scf_compare.proofs.Branches.{place_last, taken}
 use Rattle.scf_compare.proofs.frontier.take_branch.Goals as goal
 
 pub learn_answer-requires : goal.learn_answer-requires
 learn_answer-requires g c =
-    (newest_is_branch g.F.WordFacts (g.C.Comparison.tree c.args.comparison.now) _ c.args.frontier.now
-    c.pop.new.self.items c.in-Some.branch c.requires c.in-Some.ensures.items).asks
+    (c.requires.branches (length c.pop.new.self.items) c.in-Some.branch
+    (rw c.in-Some.ensures.items (place_last c.pop.new.self.items c.in-Some.branch))).asks
 
 pub returns : goal.returns
 returns g c =

@@ -54,11 +54,9 @@ returns-then-place-filters c =
           (is_stack_end filters place c.in-End.end so_far.node.0 turn.proper);
       leads = λ words w r.
           let before = so_far.reaches words w r in
-          let decided =
-          c.decided_at-decided.ensures.decides filters place words so_far.node.0 so_far.node.2 before.0
-          (turn.leads words w before.1) in
-          subst (λ (all : List (List Insn)). FilterTells (StackAnswers all) c.decided_at-decided.result words)
-          (take_all (place + 1) filters past) decided;
+          rw (take_all (place + 1) filters past)
+          at (c.decided_at-decided.ensures.decides filters place words so_far.node.0 so_far.node.2 before.0
+          (turn.leads words w before.1));
       costs = omega (
         arith,
         whole_cost filters place 0 (filter_size (filter_at filters place) c.loop-next.node) _ turn.costs
@@ -78,20 +76,13 @@ loop-next-preserved c =
     let inside : place + 1 < length filters = omega (arith, so_far.node.0, c.if-place-filters.false) in
     let turn = rw (c.filter_of.ensures, c.in-End.is) at c.turn_in_filter.ensures in
     let costs : 1 ≤ size c.loop-next.node = turn.costs in
-    let is_node = rw c.filter_of-in-End.ensures at c.start_in_filter-start.ensures.node in
-    let reached = rw c.filter_of-in-End.ensures at c.start_in_filter-start.ensures.reached in
-    let start_size : filter_size (filter_at filters (place + 1)) c.start_in_filter-start.result.1
-    ≡ tree_size (filter_at filters (place + 1)) 0 = rw c.filter_of-in-End.ensures at c.start_in_filter-start.ensures.size in
-    let start_plain = rw c.filter_of-in-End.ensures at c.start_in_filter-start.ensures.plain in
-    let behind = stack_paths (drop (place + 1 + 1) filters) in
+    let begun = rw c.filter_of-in-End.ensures at c.start_in_filter-start.ensures in
     let newer = stack_paths (drop (place + 1) filters) in
-    let whole : filter_size (filter_at filters (place + 1)) c.start_in_filter-start.result.1 * behind ≡ newer =
-    ap (λ n. n * behind) start_size ∙ sym (paths_from filters (place + 1) inside) in
     let most : newer * 1 ≤ newer * size c.loop-next.node = mul-le-mul_left newer costs in
     record {
       node = (
         inside,
-        is_node,
+        begun.node,
         c.decided_at-decided.ensures.end filters place so_far.node.2
             (is_stack_end filters place c.in-End.end so_far.node.0 turn.proper),
       );
@@ -99,13 +90,13 @@ loop-next-preserved c =
           let before = so_far.reaches words w r in (
             c.decided_at-decided.ensures.decides filters place words so_far.node.0 so_far.node.2 before.0
                 (turn.leads words w before.1),
-            reached words,
+            begun.reached words,
           );
-      size = omega (arith, whole, most, so_far.size);
+      size = grind (arith, begun.size, paths_from filters (place + 1) inside, most, so_far.size);
       plain = λ plain.
           let before = so_far.plain plain in (
             before.0,
             c.decided_at-decided.ensures.known before.1 (turn.plain before.2),
-            start_plain (plain_at filters (place + 1) before.0 inside),
+            begun.plain (plain_at filters (place + 1) before.0 inside),
           );
     }

@@ -1,5 +1,5 @@
 use Rattle.scf_compare.proofs.Common.{◌≡◌, ◌<◌, List, get_or, sym, ap, ◌∙◌, subst, arith, rules, length, Some, slice_get, slice_get-get_or, All, All-contains, Contains, Condition, argument, call_of, IsPlainRule, IsPlainCondition, IsAtPart, own_conditions, own_rules}
-use Rattle.scf_compare.proofs.Rules.{read_at, same_here}
+use Rattle.scf_compare.proofs.Rules.{read_at}
 use Rattle.scf_compare.proofs.Numbered.{conditions_read, no_condition}
 use Rattle.scf_compare.proofs.by_number.ByNumber.ask_condition.Goals as goal
 
@@ -23,10 +23,8 @@ returns c =
     record {
       proper = search rules;
       leads = λ words w r.
-          let one = same_here conditions at.condition r.condition condition r.here here in
-          let known =
-          subst (λ (d : Condition). IsAtPart d c.args.part (argument (call_of words) d.index)) one r.known in
-          let ways = c.question_of-question.ensures.splits words w known in (
+          let one : r.condition ≡ condition = cc (r.here, here) in
+          let ways = c.question_of-question.ensures.splits words w (rw one at r.known) in (
             λ e. c.follow.ensures.reached words condition here r.at_condition (ways.0 e),
             λ e. c.follow-2.ensures.reached words condition here r.at_condition (ways.1 e),
           );

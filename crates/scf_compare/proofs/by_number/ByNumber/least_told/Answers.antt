@@ -10,8 +10,8 @@ loop-first-preserved-in-Always g c =
     let rules = c.args.self.now.profile.rules in
     let own = c.index-numbers-middle.result in
     let middle = c.loop-first.first + (c.loop-first.last - c.loop-first.first) / 2 in
-    let are = subst (λ (ns : List NumberRules). AreNumbersOf ns rules) (sym c.numbers-numbers.ensures.numbers)
-    c.numbers-numbers.ensures.numbered.numbers in
+    let are : AreNumbersOf numbers rules =
+    rw c.numbers-numbers.ensures.numbers c.numbers-numbers.ensures.numbered.numbers in
     let inside : middle < length numbers = omega (arith, c.loop-first.invariant.inside, c.loop-first-test.true) in
     record {
       inside = c.loop-first.invariant.inside;

@@ -16,12 +16,8 @@ here c =
     (omega (arith, count, ap length c.as_slice.ensures, c.if-at-as_slice.true))
 
 pub returns-then-at-as_slice-clause-reached : goal.returns-then-at-as_slice-clause-reached
-returns-then-at-as_slice-clause-reached c = λ words at. record {
-  at_condition = at;
-  condition = _;
-  here = here c;
-  known = tt;
-}
+returns-then-at-as_slice-clause-reached c = λ words at.
+    record { at_condition = at; condition = _; here = here c; known = tt }
 
 pub returns-then-at-as_slice-clause-size : goal.returns-then-at-as_slice-clause-size
 returns-then-at-as_slice-clause-size c =

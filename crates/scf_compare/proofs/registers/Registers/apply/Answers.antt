@@ -7,8 +7,7 @@ pub returns-in-LoadWord-clause-describes : goal.returns-in-LoadWord-clause-descr
 returns-in-LoadWord-clause-describes c = λ words s t w d e.
     let word = c.of_word-word.ensures in
     let loaded = of_whole_word c.of_word-word.result words _ word.whole word.word (word_below words w _) in
-    let set = c.set.ensures.describes words s _ d loaded in
-    grind arith
+    grind (arith, c.set.ensures.describes words s _ d loaded)
 
 pub returns-in-LoadLength-clause-describes : goal.returns-in-LoadLength-clause-describes
 returns-in-LoadLength-clause-describes c = λ words s t w d e.
@@ -40,14 +39,12 @@ pub returns-in-Compute-clause-describes : goal.returns-in-Compute-clause-describ
 returns-in-Compute-clause-describes c = λ words s t w d e.
     let operand = c.operand_in_computation-value.ensures.stands words s d in
     let computed = c.computed-computed.ensures.stands words s.a _ d.a operand in
-    let set = c.set-in-Compute.ensures.describes words s _ d computed in
-    grind arith
+    grind (arith, c.set-in-Compute.ensures.describes words s _ d computed)
 
 pub returns-in-Negate-clause-describes : goal.returns-in-Negate-clause-describes
 returns-in-Negate-clause-describes c = λ words s t w d e.
     let negated = c.taken_from-negated.ensures.stands words s.a d.a in
-    let set = c.set-in-Negate.ensures.describes words s _ d negated in
-    grind arith
+    grind (arith, c.set-in-Negate.ensures.describes words s _ d negated)
 
 pub returns-in-CopyToIndex-clause-describes : goal.returns-in-CopyToIndex-clause-describes
 returns-in-CopyToIndex-clause-describes c = λ words s t w d e.
