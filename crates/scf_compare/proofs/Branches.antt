@@ -1,5 +1,5 @@
 -- Open branches, as one is opened and one is taken.
-use Rattle.scf_compare.proofs.Common.{◌≡◌, ℕ, zero, suc, ◌+◌, ◌<◌, ◌≤◌, ◌↔◌, ◌⊎◌, inl, inr, List, [], ◌∷◌, ◌++◌, Bool, length, refl, sym, ap, subst, ◌∙◌, arith, length-append, eq-or-lt_of_le, Some, IsTrue, slice_get, slice_get_within, sum_by-append, Store, IsSameLevel, Frontier, Compared, GivesLearned, LearnsExactly, IsBranch, IsInBranch, IsFrontier, IsExactBranch, AreExact, open_size, IsTaken, Tree}
+use Rattle.scf_compare.proofs.Common.{◌≡◌, ℕ, zero, suc, ◌+◌, ◌<◌, ◌≤◌, ◌↔◌, ◌⊎◌, inl, inr, List, [], ◌∷◌, ◌++◌, length, refl, sym, ap, ◌∙◌, arith, length-append, Some, IsTrue, slice_get, slice_get_within, sum_by-append, Store, IsSameLevel, Frontier, Compared, GivesLearned, LearnsExactly, IsBranch, IsInBranch, IsFrontier, AreExact, open_size, IsTaken, Tree}
 use Rattle.scf_compare.specs.declared.frontier.Branch.{Branch}
 
 -- ---- places in a list with one more at its end
@@ -74,10 +74,8 @@ module _ {F K N : Type 0} (store : Store F) (tree : K → Tree N) (scope : List 
       record {
         marks = omega (arith, opened.marks, f.marks);
         branches = λ place branch stands.
-            elim (place_cases old.branches.items b place branch (rw opened.branches at stands)) [
-              | inl h ↦ f.branches place branch h.1
-              | inr h ↦ rw (← h.1) is_branch
-            ];
+            let cases = place_cases old.branches.items b place branch (rw opened.branches at stands) in
+            grind (arith, cases, f.branches place branch, is_branch);
         within = λ level up_to words allowed.
             grind (arith, more, opened.levels level, opened.fewer words, f.within level, f.within (store.level old.facts));
       }
@@ -87,19 +85,9 @@ module _ {F K N : Type 0} (store : Store F) (tree : K → Tree N) (scope : List 
       → ((words : List ℕ) → store.allows old.facts (store.level old.facts) words → GivesLearned b.learned words
       → (tree b.known).reaches b.node words)
       → AreExact store tree new
-  exact_opened are exact keeps plain reached =
-      λ place branch stands.
-      elim (place_cases old.branches.items b place branch (rw opened.branches at stands)) [
-        | inl h ↦ grind (arith, f.marks, h.0, opened.levels place, are place branch h.1)
-        | inr h ↦
-            let same = opened.levels (store.level old.facts) (omega arith) in
-            rw (h.0, ← h.1, ← f.marks) (record {
-              facts = same.1 ∙ exact;
-              keeps = keeps;
-              plain = plain;
-              reached = λ words allowed given. reached words ((same.0 words).0 allowed) given;
-            })
-      ]
+  exact_opened are exact keeps plain reached = λ place branch stands.
+      let cases = place_cases old.branches.items b place branch (rw opened.branches at stands) in
+      grind (arith, cases, f.marks, opened.levels place, are place branch, reached)
 
 -- The newest branch was taken: its mark was undone, and what leads into it was learned.
 pub record HasTaken {F K N : Type 0} (store : Store F) (old new : Frontier F K N) (b : Branch K N) : Type 0 where
@@ -124,9 +112,6 @@ taken {K = K} {N = N} store compared tree old new b f h =
     let before = λ (place : ℕ) (branch : Branch K N) (stands : slice_get new.branches.items place ≡ Some branch).
     let old_stands : slice_get old.branches.items place ≡ Some branch =
     rw h.branches (place_before new.branches.items b place branch stands) in old_stands in
-    let below = λ (place : ℕ) (branch : Branch K N) (stands : slice_get new.branches.items place ≡ Some branch).
-    let within : place < length new.branches.items = slice_get_within new.branches.items place branch stands in
-    let lower : place < store.level new.facts = omega arith in lower in
     record {
       frontier = record {
         marks = marks;
@@ -157,7 +142,8 @@ taken {K = K} {N = N} store compared tree old new b f h =
           let here = are (store.level new.facts) b last in
           record {
             branches = λ place branch stands.
-                grind (arith, h.levels place (below place branch stands), are place branch (before place branch stands));
+                let within = slice_get_within new.branches.items place branch stands in
+                grind (arith, marks, within, h.levels place, are place branch (before place branch stands));
             facts = h.exact here.keeps here.facts;
             plain = here.plain;
             reached = λ words allowed. let known = (h.known words).0 allowed in here.reached words known.0 known.1;

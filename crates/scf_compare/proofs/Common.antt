@@ -1,5 +1,5 @@
 -- The names that proofs of this crate cite, passed on from one place. Declares nothing.
-pub use Rattle.std.proofs.Common.{drop-cons, add-one, option_map, All, Bool, Contains, IfOk, IfSome, IsSome, IsTrue, List, None, Option, Some, [], ap, arith, bit_and, bit_or, bit_xor, cond, drop, eqb, false, get_or, if◌then◌else◌, inl, inr, int_lt, leb, length, length-append, length-take, map, nat_le, nat_lt, not, refl, rules, slice_get, slice_index, slice_index_or, subst, suc, sym, take, true, zero, zero-add, ℕ, ℤ, ◌%◌, ◌&&◌, ◌*◌, ◌++◌, ◌+◌, ◌-◌, ◌/◌, ◌<ℤ◌, ◌<◌, ◌==◌, ◌^◌, ◌↔◌, ◌∙◌, ◌∷◌, ◌≡◌, ◌≢◌, ◌≤ℤ◌, ◌≤◌, ◌⊎◌}
+pub use Rattle.std.proofs.Common.{drop-cons, add-one, All, Bool, Contains, IfSome, IsSome, IsTrue, List, None, Option, Some, [], ap, arith, bit_and, bit_or, bit_xor, drop, eqb, false, get_or, if◌then◌else◌, inl, inr, leb, length, length-append, length-take, map, nat_le, nat_lt, not, refl, rules, slice_get, slice_index, slice_index_or, subst, suc, sym, take, true, zero, zero-add, ℕ, ◌%◌, ◌*◌, ◌++◌, ◌+◌, ◌-◌, ◌/◌, ◌<ℤ◌, ◌<◌, ◌==◌, ◌^◌, ◌↔◌, ◌∙◌, ◌∷◌, ◌≡◌, ◌≢◌, ◌≤ℤ◌, ◌≤◌, ◌⊎◌}
 pub use Rattle.std.proofs.Math.Nat.{add_comm, div-eq_of_lt, div-mul-le_self, div-one, eq-or-lt_of_le, lt_of_mul-lt-mul_right, mod-eq_of_lt, mod-le, mul-lt-mul_of_pos_right, mul_comm}
 pub use Rattle.std.proofs.Math.Pow.{shr_mono}
 pub use Rattle.std.proofs.lemmas.List.Sums.{sum_by-append, sum_by-drop_more, sum_by-take-drop}
@@ -7,14 +7,14 @@ pub use Rattle.std.proofs.lemmas.Nat.{and_block, and_mask, div-add-mod', le_or_l
 pub use Rattle.std.proofs.lemmas.List.Elements.{All-contains_itself, All-filter, filter_passes}
 pub use Rattle.std.proofs.lemmas.Option.{IfSome_then, get_or_from_slice_get, slice_get-map, slice_get_read}
 pub use Rattle.std.specs.Int.Bits.{xor_disjoint, xor_zero_l, xor_zero_r}
-pub use Rattle.scf_facts.proofs.Common.{All-push, IsSameLevel, and_assoc, and_comm, and_le_r, and_parts, and_zero_r, atom_answer, bit_at-lt, bit_at-zero, bit_at_and, bit_at_or, bit_at_xor, common_steps, div-lt_iff_lt-mul, eq-eqb, eqb-true, le-div_iff_mul-le, mod-lt, pow_mono, pow_pos, same_from_bits, shr_split, steps_from, take_all, xor_lt}
+pub use Rattle.scf_facts.proofs.Common.{All-push, IsSameLevel, and_assoc, and_comm, and_le_r, and_zero_r, atom_answer, bit_at-lt, bit_at-zero, bit_at_and, bit_at_or, bit_at_xor, common_steps, div-lt_iff_lt-mul, eq-eqb, eqb-true, le-div_iff_mul-le, mod-lt, pow_mono, pow_pos, same_from_bits, shr_split, steps_from, take_all, xor_lt}
 pub use Rattle.scf_facts.proofs.HighMasks.{beyond_mask, of_multiple, one_more}
 pub use Rattle.scf_facts.proofs.MaskLaws.{beyond_rest}
 pub use Rattle.scf_facts.specs.declared.atom.Atom.{Atom}
 pub use Rattle.scf_facts.specs.declared.atom.Atom.TheVariants.{Eq, Ge}
 pub use Rattle.scf_facts.specs.declared.word_facts.WordFacts.{Ghosts as Store}
 pub use Rattle.scf_insn.proofs.CallWords.{IsRecord-call_of, IsWords-words_of, call_of-words_of, word_below, words_of-call_of}
-pub use Rattle.scf_insn.proofs.Common.{drop-drop, IsRecord, IsSimpleMask, IsWords, and_shr, argument, bpf_memwords, call_of, degree_of, fate_of, high, low, mul-le-mul_left, rank_of, words_of, x32_syscall_bit}
+pub use Rattle.scf_insn.proofs.Common.{drop-drop, IsRecord, IsSimpleMask, IsWords, and_shr, argument, bpf_memwords, call_of, degree_of, fate_of, mul-le-mul_left, rank_of, words_of, x32_syscall_bit}
 unfoldable pub use Rattle.scf_insn.proofs.Common.{operation_of}
 pub use Rattle.scf_insn.proofs.Halves.{argument_high, argument_low}
 pub use Rattle.scf_insn.specs.declared.answer.Answer.{Answer}
@@ -31,7 +31,7 @@ pub use Rattle.scf_machine.proofs.Common.{Ends, Fault, Faults, Goes, IsFine, IsP
 pub use Rattle.scf_machine.proofs.Runs.{fine_of, run_length, runs_safely, same_insn}
 pub use Rattle.scf_machine.proofs.Stacks.{one_answers, stack_answer_once}
 pub use Rattle.scf_profile.proofs.Answering.{one_answer}
-pub use Rattle.scf_profile.proofs.Common.{All-from_recursion, IsNative, IsRule, cases_lt, get_or-take, AreNumbersOf, All-cons, All-contains, All-nil, AnswersRelated, cases_eq, HaveNoConflict, IfOk-weaker, IsPlainCondition, IsPlainRule, Profile, ProfileAnswers, SameAnswers, all_hold, and_le_l, by_default, by_rule, cases_Bool, le-ltb, meets, ne_eqb, or_comm, or_lt, rules_of}
+pub use Rattle.scf_profile.proofs.Common.{All-from_recursion, IsNative, IsRule, get_or-take, AreNumbersOf, All-cons, All-contains, All-nil, AnswersRelated, HaveNoConflict, IfOk-weaker, IsPlainCondition, IsPlainRule, Profile, ProfileAnswers, SameAnswers, all_hold, and_le_l, by_default, by_rule, cases_Bool, le-ltb, meets, ne_eqb, or_comm, or_lt, rules_of}
 pub use Rattle.scf_profile.proofs.NumberLists.{number_among, numbers_rise, own_all, sum_of_own}
 pub use Rattle.scf_profile.proofs.Numbers.{contains_filtered}
 pub use Rattle.scf_profile.specs.declared.condition.Condition.{Condition}
@@ -39,7 +39,6 @@ pub use Rattle.scf_profile.specs.declared.condition.Operator.TheVariants.{Equal,
 pub use Rattle.scf_profile.specs.declared.number_rules.NumberRules.{NumberRules}
 pub use Rattle.scf_profile.specs.declared.rule.Rule.{Rule}
 pub use Rattle.scf_compare.specs.Effort.{conditions_size, rules_size, saturated, stack_paths}
-pub use Rattle.scf_compare.specs.Headline.{DiffersIsShown, EveryRunEnds, SameIsTrue}
 pub use Rattle.scf_compare.specs.Paths.{size_of_insn, tree_size}
 unfoldable pub use Rattle.scf_compare.specs.Paths.{tree_sizes}
 pub use Rattle.scf_profile.specs.Relation.{IsRelated}
@@ -54,7 +53,6 @@ pub use Rattle.scf_compare.specs.declared.flow.Flow.TheVariants.{Branch, DivideB
 pub use Rattle.scf_compare.specs.declared.frontier.Frontier.{Frontier}
 pub use Rattle.scf_compare.specs.declared.image.Image.{Image}
 pub use Rattle.scf_compare.specs.declared.profile.ConditionPlace.{ConditionPlace}
-pub use Rattle.scf_compare.specs.declared.question.ConditionPart.TheVariants.{High}
 pub use Rattle.scf_compare.specs.declared.registers.Registers.{Registers}
 pub use Rattle.scf_profile.specs.declared.relation.Relation.{Relation}
 pub use Rattle.scf_profile.specs.declared.relation.Relation.TheVariants.{NoLess, NoMore, Same}
@@ -65,14 +63,12 @@ pub use Rattle.scf_compare.specs.declared.turn.Turn.{Turn}
 pub use Rattle.scf_compare.specs.declared.turn.Turn.TheVariants.{Split}
 pub use Rattle.scf_compare.specs.declared.value.Decision.{Decision}
 pub use Rattle.scf_compare.specs.declared.verdict.Verdict.{Verdict}
-pub use Rattle.scf_compare.specs.declared.verdict.Verdict.TheVariants.{Differs, Undecided, Unfinished}
 pub use Rattle.scf_compare.specs.internal.Asking.{AsksOfWords, KeepsEither, StaysExact, atoms_answer}
 pub use Rattle.scf_compare.specs.internal.Compared.{AllRelated, Compared, IsTrueVerdict}
-pub use Rattle.scf_compare.specs.internal.Conditions.{IsAtPart}
-pub use Rattle.scf_compare.specs.internal.Ends.{FilterTells, IsPlaceOf, KnowsBoth, Tells, WereAllSeen, WereSeen}
+pub use Rattle.scf_compare.specs.internal.Ends.{IsPlaceOf, KnowsBoth, Tells, WereAllSeen, WereSeen}
 pub use Rattle.scf_compare.specs.internal.Filters.{ComesTo, EndsWith, IsFilterEnd, IsTurnOf, filter_size, filter_tree}
 pub use Rattle.scf_compare.specs.internal.Flow.{IsInside, UsesScratch, flow_at, size_of_flow}
-pub use Rattle.scf_compare.specs.internal.Frontier.{AreExact, GivesLearned, IsAhead, IsBranch, IsExact, IsExactBranch, IsFrontier, IsInBranch, LearnsExactly, open_size}
+pub use Rattle.scf_compare.specs.internal.Frontier.{AreExact, GivesLearned, IsAhead, IsBranch, IsExact, IsFrontier, IsInBranch, LearnsExactly, open_size}
 pub use Rattle.scf_compare.specs.internal.Images.{AreShiftedAlike, IsWhole, image_number, shifted_word}
 pub use Rattle.scf_compare.specs.internal.Laws.{paths_count, scaled_costs, spread_counts}
 pub use Rattle.scf_compare.specs.internal.NumberedProfiles.{IsNumbered, NumberedProfile}
@@ -81,5 +77,5 @@ pub use Rattle.scf_compare.specs.internal.Profiles.{IsAtCondition, IsAtRule, IsF
 pub use Rattle.scf_compare.specs.internal.Scopes.{AreWordsOf, AreWordsOfX86_64, compared_in}
 pub use Rattle.scf_compare.specs.internal.Stacks.{IsStackEnd, filter_at, stack_is_node, stack_is_plain, stack_reaches, stack_size}
 pub use Rattle.scf_compare.specs.internal.Stages.{GoesOver, IsTaken, LeadsTo, verdict_of_all}
-pub use Rattle.scf_compare.specs.internal.Trees.{Costs, GoesEither, GoesOn, StaysPlain, Tree}
-pub use Rattle.scf_compare.specs.internal.Values.{Decides, Describes, IsPlainDecision, StandsFor}
+pub use Rattle.scf_compare.specs.internal.Trees.{Costs, GoesOn, StaysPlain, Tree}
+pub use Rattle.scf_compare.specs.internal.Values.{Decides, Describes}

@@ -1,12 +1,10 @@
 -- A condition on a 64-bit number by the halves of the number.
-use Rattle.scf_compare.proofs.Common.{◌≡◌, ℕ, ◌+◌, ◌*◌, true, false, not, List, refl, sym, ap, ◌∙◌, arith, slice_index, IsWords, low, high, call_of, argument, words_of-call_of, argument_low, argument_high, Condition, High}
+use Rattle.scf_compare.proofs.Common.{◌≡◌, ℕ, ◌+◌, ◌*◌, true, false, List, arith, IsWords, call_of, argument, words_of-call_of, argument_low, argument_high, Condition}
 use Rattle.scf_insn.proofs.CallWords.{IsRecord-call_of}
 use Rattle.scf_profile.specs.Condition.{holds}
 use Rattle.scf_profile.specs.NumberTests.{comes_to, test_of}
 use Rattle.scf_profile.proofs.NumberTests.{decides}
-use Rattle.scf_compare.specs.declared.question.ConditionPart.TheVariants.{Above, Low}
 use Rattle.scf_compare.specs.declared.question.Way.{Way}
-use Rattle.scf_compare.specs.declared.question.Way.TheVariants.{Holds, Fails, Then}
 use Rattle.scf_compare.specs.internal.Conditions.{HasHalves, IsOnTestWay, IsOnWay, opposite_way, way_size}
 
 -- ---- the words of an argument

@@ -1,6 +1,6 @@
 -- Images of a word, bit by bit.
 use Rattle.scf_compare.proofs.Common.{◌≡◌, ◌≢◌, ℕ, ◌+◌, ◌-◌, ◌*◌, ◌/◌, ◌%◌, ◌<◌, ◌≤◌, ◌^◌, ◌↔◌, true, false, eqb, refl, sym, ap, ◌∙◌, arith, bit_and, bit_or, bit_xor, List, slice_index, eq-eqb, eqb-true, and_zero_r, xor_zero_l, xor_zero_r, and_shr, xor_shr, xor_lt, xor_mod, and_block, xor_block, and_comm, and_le_r, and_assoc, and_mask, shl-shr, pow-add, pow_pos, div-add-mod', same_from_bits, div-eq_of_lt, div-mul-le_self, div-one, mod-eq_of_lt, mod-le, mod-lt, mul-le-mul_left, pow_mono, shr_mono, Image, IsWhole, image_number, beyond_rest, ne_eqb, shr-shr, and_le_l}
-use Rattle.scf_compare.proofs.Bits.{each_bit}
+use Rattle.scf_compare.proofs.Bits.{each_bit, whole_word}
 
 -- to flip bits twice changes nothing
 pub flipped_twice : (a c : ℕ) → bit_xor (bit_xor a c) c ≡ a
@@ -93,14 +93,10 @@ pub mask_left : (m v : ℕ) → bit_xor m (bit_and m v) ≤ m
 mask_left m v = omega (arith, beyond_rest m v)
 
 -- the number of an image that is a whole word
-pub whole_number : (image : Image) (words : List ℕ) → IsWhole image
-    → slice_index words image.word % 2 ^ 32 ≡ image_number image words
-whole_number image words whole =
-    rw (whole.right, whole.left, whole.mask, whole.flipped, unshifted, xor_zero_r) (sym (and_mask _ 32))
-
 pub of_whole_word : (image : Image) (words : List ℕ) (word : ℕ) → IsWhole image → image.word ≡ word
     → slice_index words word < 2 ^ 32 → slice_index words word ≡ image_number image words
-of_whole_word image words word whole same below = grind (arith, mod-eq_of_lt below, whole_number image words whole)
+of_whole_word image words word whole same below =
+    rw (same, whole.right, whole.left, whole.mask, whole.flipped, unshifted, xor_zero_r) (whole_word _ below)
 
 -- ---- shifts
 

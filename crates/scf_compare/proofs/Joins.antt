@@ -39,25 +39,8 @@ pub xor_mask_fits : (m n t s : ℕ) → m / 2 ^ t * 2 ^ s < 2 ^ 32 → n / 2 ^ t
     → bit_xor m n / 2 ^ t * 2 ^ s < 2 ^ 32
 xor_mask_fits m n t s h k = joined_fits _ m n t s h k (same_from_bits _ _ (λ i. grind (arith, each_bit)))
 
-pub same_shift : (image other : Image) (words : List ℕ) → AreShiftedAlike image other
-    → shifted_word image words ≡ shifted_word other words
-same_shift image other words alike = grind arith
-
-pub same_fit : (image other : Image) → AreShiftedAlike image other
-    → other.mask / 2 ^ other.left * 2 ^ other.right < 2 ^ 32 → other.mask / 2 ^ image.left * 2 ^ image.right < 2 ^ 32
-same_fit image other alike fits = grind arith
-
 -- what is said of images that are joined
-pub ruleset joined_images = (
-  same_shift,
-  same_fit,
-  joined_and,
-  joined_or,
-  joined_xor,
-  and_mask_fits,
-  or_mask_fits,
-  xor_mask_fits,
-)
+pub ruleset joined_images = (joined_and, joined_or, joined_xor, and_mask_fits, or_mask_fits, xor_mask_fits)
 
 -- the computations in which the order of the operands makes no difference
 pub ruleset commutative = (add_comm, and_comm, mul_comm, or_comm, xor_comm)

@@ -1,5 +1,5 @@
 -- A profile's numbers: which rules a call can still meet, and how many steps the numbers take.
-use Rattle.scf_compare.proofs.Common.{drop-drop, ◌-◌, ◌≡◌, ◌≢◌, ℕ, zero, suc, ◌+◌, ◌<◌, ◌≤◌, false, true, eqb, List, [], ◌∷◌, Some, length, map, drop, get_or, sym, ap, ◌∙◌, subst, arith, inl, inr, slice_get, slice_get-get_or, slice_get-map, slice_get_within, get_or_from_slice_get, option_map, get_or-take, length-take, take_all, cases_lt, cases_eq, eq-eqb, eqb-true, All, All-contains, All-contains_itself, All-filter, filter_passes, contains_filtered, Contains, CallRecord, Condition, NotEqual, NumberRules, Rule, IsNative, ProfileAnswers, by_rule, by_default, meets, rules_of, AreNumbersOf, number_among, numbers_rise, sum_of_own, sum_by-drop_more, sum_by-take-drop, conditions_size, rules_size, numbers_size, own_conditions, own_rules, size_behind, IsAtCondition, IsAtRule, IsFrom, ConditionPlace, IsNumbered, NumberedProfile}
+use Rattle.scf_compare.proofs.Common.{drop-drop, ◌-◌, ◌≡◌, ◌≢◌, ℕ, ◌+◌, ◌<◌, ◌≤◌, false, true, eqb, List, [], Some, length, map, drop, get_or, sym, ap, arith, inl, inr, slice_get, slice_get-get_or, slice_get-map, slice_get_within, get_or_from_slice_get, get_or-take, length-take, take_all, eqb-true, All, All-contains, All-contains_itself, All-filter, filter_passes, contains_filtered, Contains, CallRecord, Condition, NotEqual, NumberRules, Rule, IsNative, ProfileAnswers, by_rule, by_default, meets, rules_of, AreNumbersOf, number_among, numbers_rise, sum_of_own, sum_by-drop_more, sum_by-take-drop, conditions_size, rules_size, numbers_size, own_conditions, own_rules, size_behind, IsAtCondition, IsAtRule, IsFrom, ConditionPlace, IsNumbered, NumberedProfile}
 use Rattle.scf_compare.specs.Effort.{spread}
 use Rattle.scf_compare.proofs.Rules.{contains_here, met_by, rules_more, unmet_apart}
 

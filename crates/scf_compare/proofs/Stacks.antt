@@ -1,5 +1,5 @@
 -- The filters of a stack by their places.
-use Rattle.scf_compare.proofs.Common.{◌≡◌, ℕ, ◌+◌, ◌*◌, ◌-◌, ◌<◌, ◌≤◌, List, [], ◌∷◌, length, take, drop, refl, arith, ℤ, ◌<ℤ◌, ◌≤ℤ◌, int_lt, Bool, cond, Option, Some, All, IfSome, slice_get, slice_get-get_or, Answer, Insn, rank_of, RunAnswers, IsPlainProgram, StackAnswers, with_newest, one_answers, stack_paths, tree_size, FilterEnd, IsFilterEnd, IsStackEnd, filter_at}
+use Rattle.scf_compare.proofs.Common.{◌≡◌, ℕ, ◌+◌, ◌*◌, ◌-◌, ◌<◌, ◌≤◌, List, [], ◌∷◌, length, take, drop, arith, ◌<ℤ◌, ◌≤ℤ◌, Option, Some, All, IfSome, slice_get, slice_get-get_or, Answer, Insn, rank_of, RunAnswers, IsPlainProgram, StackAnswers, with_newest, one_answers, stack_paths, tree_size, FilterEnd, IsFilterEnd, IsStackEnd, filter_at}
 use Rattle.scf_compare.proofs.Rules.{contains_here, drop_here}
 
 here : (filters : List (List Insn)) (place : ℕ) → place < length filters
@@ -35,10 +35,3 @@ pub first_decides : (filters : List (List Insn)) (place : ℕ) (words : List ℕ
     → place < length filters → place ≡ 0 → IfSome answer (λ a. RunAnswers (filter_at filters place) words a.0)
     → IfSome answer (λ a. StackAnswers (take (place + 1) filters) words a.0)
 first_decides filters place words answer inside first run = grind (arith, one_answers)
-
--- the older answer decides where it has the lesser rank, and else the newer one
-pub lesser_wins : (older newest : ℕ) → rank_of older <ℤ rank_of newest → with_newest older newest ≡ older
-lesser_wins older newest less = grind arith
-
-pub other_wins : (older newest : ℕ) → rank_of newest ≤ℤ rank_of older → with_newest older newest ≡ newest
-other_wins older newest most = grind arith

@@ -1,5 +1,5 @@
 -- From one stage of an exploration to the next.
-use Rattle.scf_compare.proofs.Common.{◌≡◌, ◌∙◌, ℕ, ◌≤◌, ◌↔◌, inl, inr, List, true, false, arith, Option, Some, None, IsTrue, cases_Bool, Store, Atoms, BothEnds, Frontier, Turn, Split, AsksOfWords, atoms_answer, StaysExact, KeepsEither, Compared, Tells, KnowsBoth, WereSeen, IsFrontier, LeadsTo, IsTaken, GoesOver, Tree, GoesOn, StaysPlain, Costs}
+use Rattle.scf_compare.proofs.Common.{◌≡◌, ◌∙◌, ℕ, ◌≤◌, ◌↔◌, List, true, false, arith, Option, Some, None, IsTrue, cases_Bool, Store, Atoms, BothEnds, Frontier, Turn, Split, AsksOfWords, atoms_answer, StaysExact, KeepsEither, Compared, Tells, KnowsBoth, WereSeen, IsFrontier, LeadsTo, IsTaken, GoesOver, Tree, GoesOn, StaysPlain, Costs}
 use Rattle.scf_compare.specs.declared.frontier.Branch.{Branch}
 use Rattle.scf_compare.proofs.Branches.{HasOpened, still_in_branch, in_opened, frontier_opened, size_more, exact_opened}
 
@@ -37,8 +37,7 @@ module _ {F K N : Type 0} (store : Store F) (compared : Compared) (tree : K → 
               all.plain.2 (λ words allowed refused. (all.reached words allowed).1 (same words allowed ∙ refused));
           facts = exact either.0 all.facts;
           plain = all.plain.1;
-          reached = λ words allowed.
-              let both = (learned words).0 allowed in (all.reached words both.0).0 (same words both.0 ∙ both.1);
+          reached = λ words allowed. grind (arith, learned words, all.reached words, same words);
         };
       }
 

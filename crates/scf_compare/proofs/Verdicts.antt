@@ -1,11 +1,10 @@
 -- A verdict on words is one on call records.
-use Rattle.scf_compare.proofs.Common.{◌≡◌, ◌⊎◌, ℕ, zero, suc, List, Contains, sym, subst, arith, Option, Answer, [], ◌∷◌, Insn, Operation, CallRecord, words_of, call_of, call_of-words_of, words_of-call_of, IsWords-words_of, IsRecord-call_of, Profile, ProfileAnswers, SameAnswers, RunAnswers, StackAnswers, one_answers, Relation, Scope, Verdict, Differs, Undecided, Unfinished, IsRelated, IsInScope, RelatedAnswersIn, SameAnswersIn, IsEndPlace, IsStackEndPlace, IsTrueBy, IsTrueOf, IsTrueOfStackBy, IsDecided, AllRelated, IsTrueVerdict, IsPlaceOf, EndsWith, IsFilterEnd, flow_at, compared_in, IsStackEnd}
+use Rattle.scf_compare.proofs.Common.{◌≡◌, ◌⊎◌, ℕ, zero, suc, List, Contains, sym, arith, Option, Answer, [], ◌∷◌, Insn, Operation, words_of, call_of-words_of, words_of-call_of, IsWords-words_of, IsRecord-call_of, Profile, SameAnswers, RunAnswers, StackAnswers, one_answers, Relation, Scope, Verdict, IsRelated, IsInScope, RelatedAnswersIn, SameAnswersIn, IsEndPlace, IsStackEndPlace, IsTrueBy, IsTrueOf, IsTrueOfStackBy, IsDecided, AllRelated, IsTrueVerdict, IsPlaceOf, EndsWith, IsFilterEnd, flow_at, compared_in, IsStackEnd}
 use Rattle.scf_insn.specs.declared.operation.Arithmetic.TheVariants.{Div}
 use Rattle.scf_insn.specs.declared.operation.Operand.TheVariants.{Index}
 use Rattle.scf_insn.specs.declared.operation.Operation.TheVariants.{Compute, ReturnConstant, ReturnAccumulator}
 use Rattle.scf_profile.specs.declared.scope.Scope.TheVariants.{All}
 use Rattle.scf_profile.specs.declared.relation.Relation.TheVariants as relations
-use Rattle.scf_compare.specs.declared.verdict.Verdict.TheVariants.{Same}
 
 -- a verdict that decides a claim decides another that holds exactly where the first one does
 pub decided_same : (claim other : Type 0) (limit size : ℕ) (verdict : Verdict) → (claim → other) → (other → claim)

@@ -1,5 +1,5 @@
 -- The runs that come to the nodes of a filter's tree.
-use Rattle.scf_compare.proofs.Common.{◌≡◌, ℕ, ◌+◌, ◌/◌, ◌==◌, Bool, true, false, if◌then◌else◌, List, ◌∷◌, length, refl, ap, subst, ◌∙◌, arith, Insn, Operation, A, State, Outcome, Goes, Ends, Faults, step, effect, sets, jumps_to, holds, operand_of, RunAnswers, RunsSafely, Stands, FilterEnd, FilterNode, Flow, Next, Jump, Branch, DivideByIndex, ReturnConstant, ReturnAccumulator, Registers, Turn, Decision, flow_at, Tree, GoesOn, StaysPlain, Describes, Decides, IsPlainDecision, ComesTo, IsTurnOf}
+use Rattle.scf_compare.proofs.Common.{◌≡◌, ℕ, ◌+◌, ◌==◌, Bool, true, false, List, ◌∷◌, length, refl, subst, ◌∙◌, arith, Insn, Operation, State, Outcome, Goes, Ends, Faults, step, effect, jumps_to, holds, operand_of, RunAnswers, RunsSafely, Stands, FilterEnd, FilterNode, Flow, Next, Jump, Branch, DivideByIndex, ReturnConstant, ReturnAccumulator, Registers, Turn, Decision, flow_at, Tree, GoesOn, Describes, Decides, ComesTo, IsTurnOf}
 use Rattle.scf_compare.proofs.Flows.{Does, does}
 
 -- A run over the words comes to an instruction, whose values are known.

@@ -1,4 +1,4 @@
-use Rattle.scf_compare.proofs.Common.{subst, IfOk-weaker, IfOk, Profile, StackAnswers, IsStackEndPlace, IsPlaceOf, IsStackEnd, IsTrueVerdict, compared_in}
+use Rattle.scf_compare.proofs.Common.{IfOk-weaker, StackAnswers, IsStackEndPlace, IsPlaceOf, IsStackEnd}
 use Rattle.scf_compare.proofs.Numbered.{numbers_spread}
 use Rattle.scf_compare.proofs.Verdicts.{true_by, decided_in, stack_end_place}
 use Rattle.scf_compare.proofs.comparer.compare_filters.Goals as goal
@@ -10,10 +10,7 @@ returns-clause-holds g c =
     IfOk-weaker c.explore.result _ _
     (true_by c.args.relation c.args.scope places (StackAnswers filters) c.args.profile.now (IsStackEndPlace filters)
     (stack_end_place filters))
-    (subst (λ (p : Profile).
-    IfOk c.explore.result
-    (IsTrueVerdict (compared_in c.args.relation c.args.scope places (StackAnswers filters) p)))
-    c.new.ensures.profile c.explore.ensures.holds)
+    (rw c.new.ensures.profile at c.explore.ensures.holds)
 
 pub returns-clause-within : goal.returns-clause-within
 returns-clause-within g c =

@@ -1,4 +1,4 @@
-use Rattle.scf_compare.proofs.Common.{length, ◌≡◌, ◌<◌, ◌↔◌, sym, subst, ◌∙◌, arith, IsTrue, GivesLearned}
+use Rattle.scf_compare.proofs.Common.{length, ◌≡◌, ◌<◌, arith}
 use Rattle.scf_compare.proofs.Branches.{place_last, taken}
 use Rattle.scf_compare.proofs.frontier.take_branch.Goals as goal
 

@@ -1,32 +1,27 @@
-use Rattle.scf_compare.proofs.Common.{arith, argument, call_of}
+use Rattle.scf_compare.proofs.Common.{arith}
 use Rattle.scf_compare.proofs.Halves.{halves_of, on_way, on_opposite, opposite_size}
 use Rattle.scf_compare.specs.declared.question.Way.TheVariants.{Then}
 use Rattle.scf_compare.proofs.question.question_of.Goals as goal
 
 pub returns-then-expected-clause-splits : goal.returns-then-expected-clause-splits
-returns-then-expected-clause-splits c =
-    λ words w at_part.
+returns-then-expected-clause-splits c = λ words w at_part.
     let condition = c.args.condition in
-    let n = argument (call_of words) condition.index in
     let splits = rw c.test-test.ensures at c.ask_test-asked.ensures.splits in
-    let ways = splits words n w (halves_of words condition.index w) at_part in
+    let ways = splits words _ w (halves_of words condition.index w) at_part in
     let met = rw c.test-test.ensures at c.if-expected.true in
     (λ y. on_way condition _ words w met (ways.0 y), λ f. on_way condition _ words w met (ways.1 f))
 
 pub returns-else-expected-clause-splits : goal.returns-else-expected-clause-splits
-returns-else-expected-clause-splits c =
-    λ words w at_part.
+returns-else-expected-clause-splits c = λ words w at_part.
     let condition = c.args.condition in
-    let n = argument (call_of words) condition.index in
     let splits = rw c.test-test.ensures at c.ask_test-asked.ensures.splits in
-    let ways = splits words n w (halves_of words condition.index w) at_part in
+    let ways = splits words _ w (halves_of words condition.index w) at_part in
     let unmet = rw c.test-test.ensures at c.if-expected.false in
     rw (c.ask.ensures, c.opposite.ensures, c.opposite-else-expected.ensures)
     (λ y. on_opposite condition _ words w unmet (ways.0 y), λ f. on_opposite condition _ words w unmet (ways.1 f))
 
 pub returns-else-expected-clause-costs : goal.returns-else-expected-clause-costs
-returns-else-expected-clause-costs c =
-    λ holds fails.
+returns-else-expected-clause-costs c = λ holds fails.
     let asked = c.ask_test-asked.result in
     rw (c.ask.ensures, c.opposite.ensures, c.opposite-else-expected.ensures)
     (rw (opposite_size asked.if_true holds fails, opposite_size asked.if_false holds fails)

@@ -13,19 +13,12 @@ learned : {F : Type 0} (store : Store F) (old new : F) (atom : Atom) (holds : Bo
     → (words : List ℕ) → store.allows new 0 words ↔ of_scope words
 learned store old new atom holds of_scope none first law is words = grind (arith, first words, law words, is words)
 
-are_native : (words : List ℕ)
-    → (AreWordsOfX86_64 words × (atom_answer (Ge 0 x32_syscall_bit) words ≡ false)) ↔ AreWordsOf Native words
-are_native words = grind arith
-
-are_of_call : (number : ℕ) (words : List ℕ)
-    → (AreWordsOfX86_64 words × (atom_answer (Eq 0 4294967295 number) words ≡ true)) ↔ AreWordsOf (Call number) words
-are_of_call number words = grind (arith, whole_word, word_below, word_is)
-
 pub returns-in_ok-learn-in-Native-clause-scope : goal.returns-in_ok-learn-in-Native-clause-scope
 returns-in_ok-learn-in-Native-clause-scope g c =
     let start = c.in_ok-native-in-Native in
     rw c.in-Native.is (learned g.F.WordFacts start.native c.learn.new.self (Ge 0 x32_syscall_bit) false
-    (AreWordsOf Native) start.ensures.unmarked start.ensures.scope c.in_ok-learn-in-Native.ensures.law_learn are_native)
+    (AreWordsOf Native) start.ensures.unmarked start.ensures.scope c.in_ok-learn-in-Native.ensures.law_learn
+    (λ words. grind arith))
 
 pub returns-in_ok-learn-in-Call-clause-scope : goal.returns-in_ok-learn-in-Call-clause-scope
 returns-in_ok-learn-in-Call-clause-scope g c =
@@ -33,4 +26,5 @@ returns-in_ok-learn-in-Call-clause-scope g c =
     let start = c.in_ok-of_call-in-Call in
     let law = rw c.word_is-is_number.ensures at c.in_ok-learn-in-Call.ensures.law_learn in
     rw c.in-Call.is (learned g.F.WordFacts start.of_call c.learn-in-Call.new.self (Eq 0 4294967295 number) true
-    (AreWordsOf (Call number)) start.ensures.unmarked start.ensures.scope law (are_of_call number))
+    (AreWordsOf (Call number)) start.ensures.unmarked start.ensures.scope law
+    (λ words. grind (arith, whole_word, word_below, word_is)))

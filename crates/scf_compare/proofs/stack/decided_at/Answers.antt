@@ -1,6 +1,5 @@
-use Rattle.scf_compare.proofs.Common.{◌+◌, ◌<ℤ◌, ◌≤ℤ◌, [], subst, take, arith, ints, rank_of, StackAnswers}
+use Rattle.scf_compare.proofs.Common.{◌<ℤ◌, ◌≤ℤ◌, [], arith, ints, rank_of}
 use Rattle.scf_machine.proofs.Stacks.{one_more}
-use Rattle.scf_compare.proofs.Stacks.{lesser_wins, other_wins}
 use Rattle.scf_compare.proofs.stack.decided_at.Goals as goal
 
 pub returns-then-rank-clause-decides : goal.returns-then-rank-clause-decides

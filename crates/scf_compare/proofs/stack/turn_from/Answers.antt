@@ -1,5 +1,5 @@
 -- The turns of the filter that is asked are turns of the stack, and where it ends the next one begins.
-use Rattle.scf_compare.proofs.Common.{◌≡◌, ◌+◌, ◌*◌, ◌<◌, ◌≤◌, ℕ, List, length, drop, sym, subst, ap, ◌∙◌, arith, take_all, mul-le-mul_left, Insn, StackAnswers, stack_paths, tree_size, FilterTells, filter_size, scaled_costs, paths_count, filter_at}
+use Rattle.scf_compare.proofs.Common.{◌+◌, ◌*◌, ◌<◌, ◌≤◌, ℕ, List, length, drop, arith, take_all, mul-le-mul_left, Insn, stack_paths, filter_size, scaled_costs, paths_count, filter_at}
 use Rattle.scf_compare.proofs.Stacks.{is_stack_end, paths_from, plain_at}
 use Rattle.scf_compare.proofs.stack.turn_from.Goals as goal
 

@@ -1,4 +1,4 @@
-use Rattle.scf_compare.proofs.Common.{◌∙◌, subst, sym, image_number, StandsFor}
+use Rattle.scf_compare.proofs.Common.{image_number}
 use Rattle.scf_compare.proofs.Offsets.{complement}
 use Rattle.scf_compare.proofs.value.offset_result.Goals as goal
 

@@ -1,4 +1,4 @@
-use Rattle.scf_compare.proofs.Common.{◌<◌, arith}
+use Rattle.scf_compare.proofs.Common.{arith}
 use Rattle.scf_compare.proofs.asking.Atoms.learn.Goals as goal
 
 pub returns-in_ok-learn-in-Both-clause-at_marks : goal.returns-in_ok-learn-in-Both-clause-at_marks

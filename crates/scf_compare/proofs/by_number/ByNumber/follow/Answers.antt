@@ -1,5 +1,5 @@
 -- Where the ways on from a condition lead.
-use Rattle.scf_compare.proofs.Common.{◌≡◌, suc, ◌+◌, get_or, take, true, false, subst, arith, slice_get-get_or, call_of, all_hold, meets, own_conditions, own_rules}
+use Rattle.scf_compare.proofs.Common.{add-one, ◌≡◌, get_or, false, slice_get-get_or, call_of, meets, own_conditions, own_rules}
 use Rattle.scf_compare.proofs.Rules.{all_more, fails_by, held_more, unmet_failing}
 use Rattle.scf_compare.proofs.Numbered.{conditions_read, no_rule}
 use Rattle.scf_compare.proofs.by_number.ByNumber.follow.Goals as goal
@@ -7,13 +7,9 @@ use Rattle.scf_compare.proofs.by_number.ByNumber.follow.Goals as goal
 pub returns-in-Holds-clause-reached : goal.returns-in-Holds-clause-reached
 returns-in-Holds-clause-reached c = λ words condition here at. rw c.in-Holds.is (λ way.
     let conditions = own_conditions c.args.self.now.numbers c.args.at in
-    let index = c.args.at.condition in
-    let one : suc index ≡ index + 1 = omega arith in
     c.next_condition.ensures.reached words (record {
       at_rule = at.at_rule;
-      held =
-          subst (λ n. all_hold (call_of words) (take n conditions) ≡ true) one
-          (held_more (call_of words) conditions index condition here at.held way);
+      held = rw add-one (held_more (call_of words) conditions c.args.at.condition condition here at.held way);
     }))
 
 pub returns-in-Fails-clause-reached : goal.returns-in-Fails-clause-reached

@@ -1,4 +1,4 @@
-use Rattle.scf_compare.proofs.Common.{◌+◌, ◌-◌, ◌/◌, ◌<◌, List, length, sym, refl, subst, arith, call_of, slice_index, NumberRules, AreNumbersOf}
+use Rattle.scf_compare.proofs.Common.{◌+◌, ◌-◌, ◌/◌, ◌<◌, length, refl, arith, call_of, slice_index, AreNumbersOf}
 use Rattle.scf_compare.proofs.Bits.{at_least}
 use Rattle.scf_compare.proofs.Rules.{read_at}
 use Rattle.scf_compare.proofs.Numbered.{from_number}

@@ -1,13 +1,12 @@
-use Rattle.scf_compare.proofs.Common.{◌<◌, ◌≤◌, arith, ap, length, call_of, own_rules}
+use Rattle.scf_compare.proofs.Common.{ConditionPlace, ◌≤◌, arith, ap, length, call_of, own_rules}
 use Rattle.scf_compare.proofs.Numbered.{past_rules, rule_size}
 use Rattle.scf_compare.proofs.by_number.ByNumber.next_rule.Goals as goal
 
 pub returns-then-rule-rules_at-clause-size : goal.returns-then-rule-rules_at-clause-size
 returns-then-rule-rules_at-clause-size c =
     let numbers = c.args.self.now.numbers in
-    let inside : c.args.rule < length (own_rules numbers c.args.number) =
-    omega (arith, c.if-rule-rules_at.true, ap length c.rules_at.ensures.own) in
-    rw (← rule_size numbers (record { number = c.args.number; rule = c.args.rule; condition = 0 }) inside)
+    let at : ConditionPlace = record { number = c.args.number; rule = c.args.rule; condition = 0 } in
+    rw (← rule_size numbers at (omega (arith, c.if-rule-rules_at.true, ap length c.rules_at.ensures.own)))
     c.next_condition.ensures.size
 
 pub returns-else-rule-rules_at-clause-reached : goal.returns-else-rule-rules_at-clause-reached

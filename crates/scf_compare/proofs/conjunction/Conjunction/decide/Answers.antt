@@ -1,4 +1,4 @@
-use Rattle.scf_compare.proofs.Common.{arith, common_steps, ◌∙◌, ap, subst, sym, eqb, nat_lt, eq-eqb, eqb-true, Decides}
+use Rattle.scf_compare.proofs.Common.{arith, common_steps, eqb}
 use Rattle.scf_compare.proofs.Joins.{above_zero}
 use Rattle.scf_compare.proofs.conjunction.Conjunction.decide.Goals as goal
 

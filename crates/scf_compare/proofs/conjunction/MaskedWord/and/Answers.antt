@@ -1,4 +1,4 @@
-use Rattle.scf_compare.proofs.Common.{arith, ◌≡◌, ◌↔◌, subst, bit_and, slice_index}
+use Rattle.scf_compare.proofs.Common.{arith, slice_index}
 use Rattle.scf_compare.proofs.Joins.{never_under_both}
 use Rattle.scf_compare.proofs.conjunction.MaskedWord.and.Goals.{then-value-self-via-then-value-self, then-value-self-via-else-value-self+then-value-other}
 use Rattle.scf_compare.proofs.conjunction.MaskedWord.and.Goals as goal

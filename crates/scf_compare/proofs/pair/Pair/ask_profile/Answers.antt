@@ -1,4 +1,4 @@
-use Rattle.scf_compare.proofs.Common.{refl, arith}
+use Rattle.scf_compare.proofs.Common.{arith}
 use Rattle.scf_compare.proofs.pair.Pair.ask_profile.Goals as goal
 
 pub returns-in-Go : goal.returns-in-Go

@@ -1,4 +1,4 @@
-use Rattle.scf_compare.proofs.Common.{◌+◌, ◌*◌, ◌≤◌, arith, mul-le-mul_left, scaled_costs, numbers_size, stack_size}
+use Rattle.scf_compare.proofs.Common.{◌+◌, ◌≤◌, arith, mul-le-mul_left, scaled_costs, numbers_size, stack_size}
 use Rattle.scf_compare.proofs.pair.PairComparison.turn.Goals as goal
 
 pub returns-in-Go : goal.returns-in-Go
