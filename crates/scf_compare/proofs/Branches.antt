@@ -132,10 +132,7 @@ taken {K = K} {N = N} store compared tree old new b f h =
                   given = inside.given;
                   reached = inside.reached;
                 })
-            | inr at ↦ inr (
-              (h.known words).1 (rw (at.0, ← marks) at inside.allowed, rw (← at.1) at inside.given),
-              rw (← at.1) at inside.reached,
-            )
+            | inr at ↦ inr (grind (arith, marks, h.known words))
           ];
       size = sym (size_more tree new old b h.branches);
       exact = λ are.

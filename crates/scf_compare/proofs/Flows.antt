@@ -62,18 +62,10 @@ size_later (y ∷ insns) (suc place) k =
     let more : suc (place + k) ≡ suc place + k = omega arith in
     size_later insns place k ∙ ap (tree_size (y ∷ insns)) more
 
-size_behind : (insns : List Insn) (place k : ℕ)
-    → slice_index_or (tree_sizes (drop (suc place) insns)) k 1 ≡ tree_size insns (place + 1 + k)
-size_behind insns place k = grind (arith, size_later insns (suc place) k)
-
-size_next : (insns : List Insn) (place : ℕ)
-    → slice_index_or (tree_sizes (drop (suc place) insns)) 0 1 ≡ tree_size insns (place + 1)
-size_next insns place = grind (arith, size_behind)
-
 size_in_flow : (insns : List Insn) (place : ℕ) (i : Insn) (operation : Operation)
     → size_of_insn (Some operation) i (tree_sizes (drop (suc place) insns))
     ≡ size_of_flow (flow_at operation i place) (tree_size insns)
-size_in_flow insns place i operation = grind (arith, size_behind, size_next)
+size_in_flow insns place i operation = grind (arith, size_later insns (suc place))
 
 -- the size at a place, by how its instruction goes on
 pub size_by_flow : {insns : List Insn} {place : ℕ} {i : Insn} {operation : Operation}

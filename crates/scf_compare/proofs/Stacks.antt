@@ -2,22 +2,18 @@
 use Rattle.scf_compare.proofs.Common.{◌≡◌, ℕ, ◌+◌, ◌*◌, ◌-◌, ◌<◌, ◌≤◌, List, [], ◌∷◌, length, take, drop, arith, ◌<ℤ◌, ◌≤ℤ◌, Option, Some, All, IfSome, slice_get, slice_get-get_or, Answer, Insn, rank_of, RunAnswers, IsPlainProgram, StackAnswers, with_newest, one_answers, stack_paths, tree_size, FilterEnd, IsFilterEnd, IsStackEnd, filter_at}
 use Rattle.scf_compare.proofs.Rules.{contains_here, drop_here}
 
-here : (filters : List (List Insn)) (place : ℕ) → place < length filters
-    → slice_get filters place ≡ Some (filter_at filters place)
-here filters place inside = slice_get-get_or filters place [] inside
-
 -- an end of one of the filters is an end of the stack
 pub is_stack_end : (filters : List (List Insn)) (place : ℕ) (end : FilterEnd) → place < length filters
     → IsFilterEnd (filter_at filters place) end → IsStackEnd filters end
 is_stack_end [] place end inside of_filter = absurd (omega arith)
 is_stack_end (filter ∷ filters) place end inside of_filter =
-    (_, contains_here (filter ∷ filters) place _ (here (filter ∷ filters) place inside), of_filter)
+    (_, contains_here (filter ∷ filters) place _ (slice_get-get_or (filter ∷ filters) place [] inside), of_filter)
 
 -- the trees from a place on begin with that of the filter there
 pub paths_from : (filters : List (List Insn)) (place : ℕ) → place < length filters
     → stack_paths (drop place filters) ≡ tree_size (filter_at filters place) 0 * stack_paths (drop (place + 1) filters)
 paths_from filters place inside =
-    grind (arith, drop_here filters place (filter_at filters place) (here filters place inside))
+    grind (arith, drop_here filters place (filter_at filters place) (slice_get-get_or filters place [] inside))
 
 -- and those from the place before it, the product that a loop from the newest filter on goes on with
 pub paths_before : (filters : List (List Insn)) (place : ℕ) → 0 < place → place ≤ length filters
@@ -25,10 +21,6 @@ pub paths_before : (filters : List (List Insn)) (place : ℕ) → 0 < place → 
     ≡ tree_size (filter_at filters (place - 1)) 0 * stack_paths (drop place filters)
 paths_before filters place some within =
     let inside : place - 1 < length filters = omega arith in grind (arith, paths_from filters (place - 1) inside)
-
-pub plain_at : (filters : List (List Insn)) (place : ℕ) → All IsPlainProgram filters → place < length filters
-    → IsPlainProgram (filter_at filters place)
-plain_at filters place plain inside = grind arith
 
 -- the first filter decides alone
 pub first_decides : (filters : List (List Insn)) (place : ℕ) (words : List ℕ) (answer : Option Answer)

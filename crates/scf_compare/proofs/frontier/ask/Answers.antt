@@ -11,20 +11,15 @@ returns-in_ok-learn-in-Still g c =
     let left = c.in-Still.atoms in
     let ensures = c.in_ok-branch_out-in-Still.ensures in
     let learned = c.in_ok-learn-in-Still.ensures in
-    let marks : store.level new ≡ store.level old + 1 = learned.marks ∙ ensures.marks in
-    let known = λ (words : List ℕ).
-    let learned_here : store.allows new (store.level new) words
-    ↔ (store.allows old (store.level old) words × (atoms_answer left words ≡ true)) =
-    grind (arith, learned.learned words, ensures.known) in learned_here in
     asked store (g.C.Comparison.compared c.args.comparison.now) (g.C.Comparison.tree c.args.comparison.now)
     c.args.frontier.now (record { facts = new; branches = c.branch_out.new.self.branches }) c.requires.frontier
     c.args.known.now c.args.atoms left c.args.if_true c.args.if_false c.requires.proper
     c.in-Still.ensures.asks c.in-Still.ensures.answers c.in-Still.ensures.keeps
     (record {
       branches = ensures.branches;
-      marks = marks;
+      marks = learned.marks ∙ ensures.marks;
       levels = λ place up_to. grind (arith, ensures.marks, ensures.at_marks place, learned.at_marks place);
-      fewer = λ words allowed. ((known words).0 allowed).0;
+      fewer = λ words allowed. grind (arith, learned.learned words, learned.marks, ensures.marks, ensures.known);
     })
-    known
+    (λ words. grind (arith, learned.learned words, learned.marks, ensures.marks, ensures.known))
     (λ keeps was. grind (arith, learned.exact keeps, ensures.known))

@@ -1,6 +1,6 @@
 -- The turns of the filter that is asked are turns of the stack, and where it ends the next one begins.
-use Rattle.scf_compare.proofs.Common.{◌+◌, ◌*◌, ◌<◌, ◌≤◌, ℕ, List, length, drop, arith, take_all, mul-le-mul_left, Insn, stack_paths, filter_size, scaled_costs, paths_count, filter_at}
-use Rattle.scf_compare.proofs.Stacks.{is_stack_end, paths_from, plain_at}
+use Rattle.scf_compare.proofs.Common.{[], ◌+◌, ◌*◌, ◌<◌, ◌≤◌, ℕ, List, length, drop, arith, take_all, mul-le-mul_left, Insn, stack_paths, filter_size, scaled_costs, paths_count, filter_at}
+use Rattle.scf_compare.proofs.Stacks.{is_stack_end, paths_from}
 use Rattle.scf_compare.proofs.stack.turn_from.Goals as goal
 
 pub filter_of-requires : goal.filter_of-requires
@@ -97,6 +97,6 @@ loop-next-preserved c =
           let before = so_far.plain plain in (
             before.0,
             c.decided_at-decided.ensures.known before.1 (turn.plain before.2),
-            begun.plain (plain_at filters (place + 1) before.0 inside),
+            begun.plain (before.0 (place + 1) [] inside),
           );
     }

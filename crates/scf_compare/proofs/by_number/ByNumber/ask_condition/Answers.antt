@@ -18,8 +18,7 @@ returns c =
     let same : read ≡ conditions = c.as_slice-conditions.ensures ∙ sym (conditions_read s.numbers at rule stands) in
     let inside : at.condition < length read = omega (arith, c.requires.condition, ap length same) in
     let here : slice_get conditions at.condition ≡ Some condition =
-    subst (λ (cs : List Condition). slice_get cs at.condition ≡ Some condition) same
-    (slice_get-get_or read at.condition no_condition inside) in
+    rw (← same) (slice_get-get_or read at.condition no_condition inside) in
     record {
       proper = search rules;
       leads = λ words w r.
