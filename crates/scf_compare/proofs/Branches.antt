@@ -44,14 +44,12 @@ module _ {F K N : Type 0} (store : Store F) (tree : K → Tree N) (scope : List 
   -- words in a branch are still in it
   pub still_in_branch : (words : List ℕ) → IsInBranch store tree old words → IsInBranch store tree new words
   still_in_branch words h =
-      let marks = f.marks in
-      let within : h.place < length old.branches.items =
-      slice_get_within old.branches.items h.place h.branch h.stands in
+      let within = slice_get_within old.branches.items h.place h.branch h.stands in
       record {
         place = h.place;
         branch = h.branch;
         stands = rw opened.branches (place_before old.branches.items b h.place h.branch h.stands);
-        allowed = ((opened.levels h.place (omega arith)).0 words).1 h.allowed;
+        allowed = grind (arith, f.marks, within, opened.levels h.place, h.allowed);
         given = h.given;
         reached = h.reached;
       }
@@ -116,8 +114,7 @@ taken {K = K} {N = N} store compared tree old new b f h =
       frontier = record {
         marks = marks;
         branches = λ place branch stands. f.branches place branch (before place branch stands);
-        within = λ level up_to words allowed.
-            grind (arith, more, f.within level, h.known words, h.levels level);
+        within = λ level up_to words allowed. grind (arith, more, f.within level, h.known words, h.levels level);
       };
       node = (f.branches (store.level new.facts) b last).node;
       words = λ words inside.

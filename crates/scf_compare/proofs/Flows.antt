@@ -67,13 +67,6 @@ size_in_flow : (insns : List Insn) (place : ℕ) (i : Insn) (operation : Operati
     ≡ size_of_flow (flow_at operation i place) (tree_size insns)
 size_in_flow insns place i operation = grind (arith, size_later insns (suc place))
 
--- the size at a place, by how its instruction goes on
-pub size_by_flow : {insns : List Insn} {place : ℕ} {i : Insn} {operation : Operation}
-    → Stands insns place i operation
-    → tree_size insns place ≡ size_of_flow (flow_at operation i place) (tree_size insns)
-size_by_flow {insns = insns} {place = place} {i = i} {operation = operation} stands =
-    rw (size_here insns place i stands.here, stands.known) (size_in_flow insns place i operation)
-
 -- the places that an instruction goes on to are further on
 abbrev pub IsForward : ℕ → Flow → Type 0
 IsForward place (Next next) = place < next
@@ -83,9 +76,13 @@ IsForward place (DivideByIndex next) = place < next
 IsForward place ReturnConstant = Unit {0}
 IsForward place ReturnAccumulator = Unit {0}
 
-pub forward_at : {insns : List Insn} {place : ℕ} {i : Insn} {operation : Operation} → Stands insns place i operation
-    → IsForward place (flow_at operation i place)
-forward_at {place = place} {i = i} {operation = operation} stands = grind arith
+-- the size at a place, by how its instruction goes on
+pub size_by_flow : {insns : List Insn} {place : ℕ} {i : Insn} {operation : Operation}
+    → Stands insns place i operation
+    → (tree_size insns place ≡ size_of_flow (flow_at operation i place) (tree_size insns))
+    × IsForward place (flow_at operation i place)
+size_by_flow {insns = insns} {place = place} {i = i} {operation = operation} stands =
+    (rw (size_here insns place i stands.here, stands.known) (size_in_flow insns place i operation), grind arith)
 
 -- ---- plain programs
 

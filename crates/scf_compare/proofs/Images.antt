@@ -113,8 +113,7 @@ image_right x m c k = rw (xor_shr, and_shr)
 
 -- by less than it was shifted to the left
 pub right_within : (y t k : ℕ) → k ≤ t → y * 2 ^ t / 2 ^ k ≡ y * 2 ^ (t - k)
-right_within y t k least =
-    grind (arith, scaled y (t - k) k t, shl-shr (y * 2 ^ (t - k)) k)
+right_within y t k least = grind (arith, scaled y (t - k) k t, shl-shr (y * 2 ^ (t - k)) k)
 
 pub mask_right_within : (m s t k : ℕ) → k ≤ t → m / 2 ^ t * 2 ^ s < 2 ^ 32 → m / 2 ^ k / 2 ^ (t - k) * 2 ^ s < 2 ^ 32
 mask_right_within m s t k least fits = grind (arith, divided)
@@ -125,8 +124,7 @@ right_past w s t k past =
     grind (arith, divided (w / 2 ^ s * 2 ^ t) t (k - t) k, shl-shr (w / 2 ^ s) t, divided w s (k - t) (s + (k - t)))
 
 fits_past : (m s t k : ℕ) → t ≤ k → m / 2 ^ t * 2 ^ s < 2 ^ 32 → m / 2 ^ k * 2 ^ (s + (k - t)) < 2 ^ 32
-fits_past m s t k past fits =
-    grind (arith, divided m t (k - t) k, fits_shifted (m / 2 ^ t) s (k - t) fits)
+fits_past m s t k past fits = grind (arith, divided m t (k - t) k, fits_shifted (m / 2 ^ t) s (k - t) fits)
 
 pub mask_right_past : (m s t k : ℕ) → t ≤ k → m / 2 ^ t * 2 ^ s < 2 ^ 32
     → m / 2 ^ k / 2 ^ 0 * 2 ^ (s + (k - t)) < 2 ^ 32
@@ -167,8 +165,7 @@ mask_left_shifted m s t k fits =
 
 -- no bit is left of a word that is shifted past 31 bits
 pub left_past : (y t m c : ℕ) → 32 ≤ t → m < 2 ^ 32 → bit_xor (bit_and (y * 2 ^ t) m) c ≡ c
-left_past y t m c far fits =
-    grind (arith, under_mask y t m, and_zero_r, xor_zero_l, div-eq_of_lt, pow_mono far)
+left_past y t m c far fits = grind (arith, under_mask y t m, and_zero_r, xor_zero_l, div-eq_of_lt, pow_mono far)
 
 -- ---- what functions cite
 

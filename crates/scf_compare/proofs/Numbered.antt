@@ -42,8 +42,7 @@ own_kept s numbered place own here =
     numbered.numbers.own here)
 
 -- the rules of a number are rules, and have it
-own_rule : (nr : ℕ) (rules : List Rule) (r : Rule) → Contains (rules_of nr rules) r
-    → Contains rules r × (r.number ≡ nr)
+own_rule : (nr : ℕ) (rules : List Rule) (r : Rule) → Contains (rules_of nr rules) r → Contains rules r × (r.number ≡ nr)
 own_rule nr rules r has = (
   All-contains (Contains rules) (rules_of nr rules) r
       (All-filter (λ (q : Rule). eqb q.number nr) (Contains rules) rules (All-contains_itself rules)) has,
@@ -80,8 +79,7 @@ module _ (s : NumberedProfile) (call : CallRecord) where
   pub of_no_number : IsNumbered s → IsNative call → All (λ own. call.nr ≢ own.number) s.numbers
       → ProfileAnswers s.profile call s.profile.default_answer.0
   of_no_number numbered native apart = elim (number_among s.numbers s.profile.rules numbered.numbers call.nr) [
-    | inl (own, has, same) ↦
-        absurd (All-contains (λ o. call.nr ≢ o.number) s.numbers own apart has (sym same))
+    | inl (own, has, same) ↦ absurd (All-contains (λ o. call.nr ≢ o.number) s.numbers own apart has (sym same))
     | inr none ↦ unmet_own native (rw none (λ k d lt. absurd (omega arith)))
   ]
 

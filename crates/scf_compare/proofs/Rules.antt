@@ -33,8 +33,7 @@ fails_by call (x ∷ conditions) (suc i) c here h = grind (arith, fails_by call 
 pub drop_here : {X : Type 0} (xs : List X) (i : ℕ) (x : X) → slice_get xs i ≡ Some x → drop i xs ≡ x ∷ drop (suc i) xs
 drop_here xs i x here = rw (drop-cons xs i x (slice_get_within xs i x here), get_or_from_slice_get xs i x x here)
 
-take_here : {X : Type 0} (xs : List X) (i : ℕ) (x : X) → slice_get xs i ≡ Some x
-    → take (suc i) xs ≡ take i xs ++ x ∷ []
+take_here : {X : Type 0} (xs : List X) (i : ℕ) (x : X) → slice_get xs i ≡ Some x → take (suc i) xs ≡ take i xs ++ x ∷ []
 take_here xs i x here = rw (take-suc xs i x (slice_get_within xs i x here), get_or_from_slice_get xs i x x here)
 
 pub contains_here : {X : Type 0} (xs : List X) (i : ℕ) (x : X) → slice_get xs i ≡ Some x → Contains xs x

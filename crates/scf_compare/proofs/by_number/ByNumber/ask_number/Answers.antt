@@ -50,8 +50,7 @@ returns g c =
       leads = λ words given r. rw c.word_is.ensures (
         λ e. c.next_rule.ensures.reached words (record {
           native = r.0;
-          own = ap (λ nr. rules_of nr s.profile.rules) (word_is words 0 own.number given.0 e)
-              ∙ sym (own_kept s c.numbers-numbers.ensures.numbered from own here);
+          own = rw (word_is words 0 own.number given.0 e, own_kept s c.numbers-numbers.ensures.numbered from own here);
           unmet = λ k d lt. absurd (omega arith);
         }),
         λ e. (
