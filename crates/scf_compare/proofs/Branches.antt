@@ -75,7 +75,8 @@ module _ {F K N : Type 0} (store : Store F) (tree : K → Tree N) (scope : List 
             let cases = place_cases old.branches.items b place branch (rw opened.branches at stands) in
             grind (arith, cases, f.branches place branch, is_branch);
         within = λ level up_to words allowed.
-            grind (arith, more, opened.levels level, opened.fewer words, f.within level, f.within (store.level old.facts));
+            let now = f.within (store.level old.facts) in
+            grind (arith, more, now, opened.levels level, opened.fewer words, f.within level);
       }
 
   pub exact_opened : AreExact store tree old → IsTrue (store.is_exact old.facts (store.level old.facts))

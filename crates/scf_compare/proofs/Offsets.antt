@@ -19,7 +19,8 @@ module _ (negated : Bool) (n added v : ℕ) (h : n < 2 ^ 32) (k : added < 2 ^ 32
 
 pub number_fits : (image : Image) (words : List ℕ) → image.mask < 2 ^ 32 → image.flipped < 2 ^ 32
     → image_number image words < 2 ^ 32
-number_fits image words h k = xor_lt 32 _ image.flipped (omega (arith, and_le_r (shifted_word image words) image.mask)) k
+number_fits image words h k =
+    xor_lt 32 _ image.flipped (omega (arith, and_le_r (shifted_word image words) image.mask)) k
 
 -- ---- equality
 

@@ -1,5 +1,5 @@
 -- The filters of a stack by their places.
-use Rattle.scf_compare.proofs.Common.{◌≡◌, ℕ, ◌+◌, ◌*◌, ◌-◌, ◌<◌, ◌≤◌, List, [], ◌∷◌, length, take, drop, arith, ◌<ℤ◌, ◌≤ℤ◌, Option, Some, All, IfSome, slice_get, slice_get-get_or, Answer, Insn, rank_of, RunAnswers, IsPlainProgram, StackAnswers, with_newest, one_answers, stack_paths, tree_size, FilterEnd, IsFilterEnd, IsStackEnd, filter_at}
+use Rattle.scf_compare.proofs.Common.{◌≡◌, ℕ, ◌+◌, ◌*◌, ◌-◌, ◌<◌, ◌≤◌, List, [], ◌∷◌, length, take, drop, arith, Option, IfSome, slice_get-get_or, Answer, Insn, RunAnswers, StackAnswers, one_answers, stack_paths, tree_size, FilterEnd, IsFilterEnd, IsStackEnd, filter_at}
 use Rattle.scf_compare.proofs.Rules.{contains_here, drop_here}
 
 -- an end of one of the filters is an end of the stack

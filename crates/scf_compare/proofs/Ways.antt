@@ -10,8 +10,8 @@ module _ {insns : List Insn} {words : List ℕ} {place : ℕ} {i : Insn} {operat
 
   comes_on : (t : State) (next : ℕ) (after : Registers) → effect operation i words c.state ≡ Goes t → t.place ≡ next
       → Describes after words t → ComesTo insns next after words
-  comes_on t next after e there d =
-      record { state = t; earlier = c.state ∷ c.earlier; chain = (step_here ∙ e, c.chain); there = there; describes = d }
+  comes_on t next after e at d =
+      record { state = t; earlier = c.state ∷ c.earlier; chain = (step_here ∙ e, c.chain); there = at; describes = d }
 
   answers : (n : ℕ) → effect operation i words c.state ≡ Ends n → RunAnswers insns words n
   answers n e = (

@@ -1,4 +1,4 @@
-use Rattle.scf_compare.proofs.Common.{◌≡◌, ◌+◌, ◌↔◌, ℕ, List, true, ◌∙◌, arith, atoms_answer}
+use Rattle.scf_compare.proofs.Common.{◌∙◌, arith}
 use Rattle.scf_compare.proofs.Stages.{asked}
 use Rattle.scf_compare.proofs.frontier.ask.Goals as goal
 

@@ -1,4 +1,4 @@
-use Rattle.scf_compare.proofs.Common.{◌≡◌, ◌<◌, List, get_or, sym, ap, ◌∙◌, subst, arith, rules, length, Some, slice_get, slice_get-get_or, All, All-contains, Contains, Condition, IsPlainRule, IsPlainCondition, own_conditions, own_rules}
+use Rattle.scf_compare.proofs.Common.{◌≡◌, ◌<◌, get_or, sym, ap, ◌∙◌, subst, arith, rules, length, Some, slice_get, slice_get-get_or, All, All-contains, Contains, IsPlainRule, IsPlainCondition, own_conditions, own_rules}
 use Rattle.scf_compare.proofs.Rules.{read_at}
 use Rattle.scf_compare.proofs.Numbered.{conditions_read, no_condition}
 use Rattle.scf_compare.proofs.by_number.ByNumber.ask_condition.Goals as goal

@@ -1,4 +1,4 @@
-use Rattle.scf_compare.proofs.Common.{◌≢◌, ◌≤◌, refl, sym, ap, ◌∙◌, arith, rules, length, take_all, call_of, rules_of}
+use Rattle.scf_compare.proofs.Common.{◌≢◌, ◌≤◌, refl, ap, arith, rules, length, take_all, call_of}
 use Rattle.scf_compare.proofs.Bits.{word_is, word_isnt}
 use Rattle.scf_compare.proofs.Rules.{all_more, read_at}
 use Rattle.scf_compare.proofs.Numbered.{from_above, of_no_number, own_kept, sizes_from}
