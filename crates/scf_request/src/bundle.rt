@@ -82,6 +82,7 @@ struct Header {
 }
 
 /// The count that the digits of a header write.
+#[tactic(auto, using(std::proofs::lemmas::Grind::common_steps, crate::proofs::HeaderLemmas::no_count))]
 fn count_of(digits: &[u8]) -> Option<usize>
     ensures { MatchOption result
         ((n : ℕ) → (length digits.now ≤ 8) × (numeral 10 digits.now ≡ Some n) → ⊥)
@@ -97,6 +98,7 @@ fn count_of(digits: &[u8]) -> Option<usize>
 }
 
 /// The count in a header of this kind, given without its line end.
+#[tactic(auto, using(std::proofs::lemmas::Grind::common_steps, crate::proofs::HeaderLemmas::header_by_count, std::proofs::lemmas::Slice::Eq::strip_prefix_is))]
 fn count_in(kind: PartKind, line: &[u8]) -> Option<usize>
     ensures { MatchOption result
         ((n : ℕ) → IsHeader (line.now ++ codes "\n") kind n → ⊥)
@@ -190,6 +192,7 @@ pub(crate) fn held<'a>(bytes: &'a [u8], part: Part) -> &'a [u8]
 /// A header is one of the words `filter`, `profile` and `table`, one space, 1 to 8 decimal digits and LF. The digits
 /// give the count of bytes that follow. `Header` has the first offset behind whole parts at which no header stands,
 /// though the bytes go on, and `Short` the first whose header says more bytes than follow.
+#[tactic(auto, using(std::proofs::lemmas::Grind::common_steps, crate::proofs::BundleLemmas::breaks, crate::proofs::BundleLemmas::next_part, crate::proofs::BundleLemmas::one_spelling, crate::proofs::BundleLemmas::first_fault, crate::proofs::BundleLemmas::broken_no_parts))]
 pub fn split(alloc: Global, bytes: &[u8]) -> Result<Vec<Part>, BundleFault>
     ensures parts { IfOk result (λ parts. SpellsBundle bytes.now parts.items) }
     // No other list of parts is spelled.

@@ -32,6 +32,7 @@ impl<'a> Contents<'a> {
     }
 
     /// What the parts hold that these bytes spell as a bundle; the faults are those of `split`.
+    #[tactic(auto, using(crate::proofs::BundleLemmas::part_inside))]
     pub fn of(alloc: Global, bytes: &'a [u8]) -> Result<Contents<'a>, BundleFault>
         ensures bundle { IfOk result (IsHeldBy bytes.now) }
         ensures fault { IfErr result (IsBundleFault bytes.now) }

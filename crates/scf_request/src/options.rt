@@ -123,6 +123,7 @@ pub(crate) fn is_given(matches: &ArgMatches<'_>, name: &str) -> bool
 }
 
 /// What the flag of a group stands for that is given, and `without` where none is. More than one is a fault.
+#[tactic(auto, using(std::proofs::lemmas::Grind::common_steps, crate::proofs::OptionLemmas::given_as_before, crate::proofs::OptionLemmas::given_first, crate::proofs::OptionLemmas::given_twice))]
 pub(crate) fn chosen<T: Copy>(
     matches: &ArgMatches<'_>,
     group: &[(&'static str, T)],
@@ -148,6 +149,7 @@ pub(crate) fn chosen<T: Copy>(
 
 impl NumberOption {
     /// The number that the option spells, or its default where it has no text.
+    #[tactic(auto, using(std::proofs::lemmas::Grind::common_steps, crate::proofs::OptionLemmas::by_value))]
     pub(crate) fn number_in(self, matches: &ArgMatches<'_>) -> Result<u64, NumberFault>
         requires { self.default ≤ self.most }
         ensures ok { IfOk result (λ n. table.number_in (rows_of (found_of matches.now)) (option_of self) ≡ Some n) }

@@ -41,6 +41,7 @@ pub enum Request {
 }
 
 /// The comparison that these options ask for.
+#[tactic(auto, using(std::proofs::lemmas::Grind::common_steps, crate::proofs::OptionLemmas::none_wrong, crate::proofs::OptionLemmas::one_wrong))]
 fn comparison_in(options: &ArgMatches<'_>) -> Result<Request, RequestFault>
     ensures { AsksFor (Some (codes "compare", rows_of (found_of options.now))) result }
 {

@@ -2,46 +2,12 @@ use Rattle.scf_request.proofs.Common.{◌≡◌, ◌+◌, arith, take_all, err_f
 use Rattle.scf_request.proofs.BundleLemmas.{breaks, broken_no_parts, fault_no_parts, first_fault, next_part, no_part_behind, one_spelling}
 use Rattle.scf_request.proofs.bundle.split.Goals as goal
 
-pub returns-in_err-part-clause-fault : goal.returns-in_err-part-clause-fault
-returns-in_err-part-clause-fault c =
-    let stopped = err_from_is_err_and c.from_residual.result c.from_residual.ensures.1 in
-    rw (stopped.1, stopped.2)
-    (breaks c.args.bytes.now c.loop-offset.offset c.loop-offset.parts.items c.in_err-part.field-0.0
-    c.loop-offset.invariant.spelled c.in_err-part.ensures.fault)
-
 pub returns-in_err-part-clause-none : goal.returns-in_err-part-clause-none
 returns-in_err-part-clause-none c =
     let stopped = err_from_is_err_and c.from_residual.result c.from_residual.ensures.1 in
     let here = breaks c.args.bytes.now c.loop-offset.offset c.loop-offset.parts.items c.in_err-part.field-0.0
     c.loop-offset.invariant.spelled c.in_err-part.ensures.fault in
     rw (stopped.1, stopped.2) (fault_no_parts c.args.bytes.now c.in_err-part.field-0.0 here)
-
-pub loop-offset-preserved : goal.loop-offset-preserved
-loop-offset-preserved c =
-    let part = c.in_ok-part.part in
-    let inside = c.in_ok-part.ensures.inside in
-    record {
-      inside = inside.1;
-      spelled = rw c.in_ok-push.ensures.items
-          (next_part c.args.bytes.now c.loop-offset.offset _ c.loop-offset.parts.items part
-          c.loop-offset.invariant.inside (omega (arith, inside.0)) c.loop-offset.invariant.spelled
-          c.in_ok-part.ensures.part);
-    }
-
-pub returns-clause-only : goal.returns-clause-only
-returns-clause-only c =
-    λ others spelled. one_spelling 0 c.args.bytes.now others c.loop-offset.parts.items spelled
-    (rw (take_all c.loop-offset.offset c.args.bytes.now c.loop-offset-test.false) at c.loop-offset.invariant.spelled)
-
-pub returns-in_err-part-clause-first : goal.returns-in_err-part-clause-first
-returns-in_err-part-clause-first c =
-    let stopped = err_from_is_err_and c.from_residual.result c.from_residual.ensures.1 in
-    rw (stopped.1, stopped.2)
-    (λ first bad.
-    let same : c.in_err-part.field-0.0 ≡ first =
-    first_fault c.args.bytes.now c.loop-offset.offset c.loop-offset.parts.items c.in_err-part.field-0.0 first
-    c.loop-offset-test.true c.loop-offset.invariant.spelled c.in_err-part.ensures.fault bad in
-    cc)
 
 pub returns-in_err-push-clause-first : goal.returns-in_err-push-clause-first
 returns-in_err-push-clause-first c =
@@ -51,8 +17,3 @@ returns-in_err-push-clause-first c =
     absurd (no_part_behind c.args.bytes.now (part.start + part.length) c.loop-offset.parts.items part first bad
     (next_part c.args.bytes.now c.loop-offset.offset _ c.loop-offset.parts.items part c.loop-offset.invariant.inside
     (omega (arith, inside.0)) c.loop-offset.invariant.spelled c.in_ok-part.ensures.part))
-
-pub returns-clause-first : goal.returns-clause-first
-returns-clause-first c =
-    λ first bad. absurd (broken_no_parts 0 0 c.args.bytes.now c.loop-offset.parts.items first bad
-    (rw (take_all c.loop-offset.offset c.args.bytes.now c.loop-offset-test.false) at c.loop-offset.invariant.spelled))

@@ -6,9 +6,3 @@ returns-clause-matches g c =
     let reads = c.in_ok-program_for.ensures in
     IfOk-weaker c.try_get_matches_from.result _ _
     (λ m has. (has (and_parts _ _ reads.is_free).0).1 ∙ reads.asked) c.try_get_matches_from.ensures.matches
-
-pub returns-clause-kinds : goal.returns-clause-kinds
-returns-clause-kinds g c =
-    let reads = c.in_ok-program_for.ensures in
-    subst (λ (kinds : Kinds). FailsBy kinds c.try_get_matches_from.result) reads.faults
-    (c.try_get_matches_from.ensures.kinds reads.is_free)

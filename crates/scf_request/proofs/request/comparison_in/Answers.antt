@@ -17,21 +17,3 @@ returns-in_err-limit c =
       one_wrong limit_option rows none
           ∙ ap (λ (name : List ℕ). Some name) (sym (c.in_err-limit.ensures.named ∙ name)),
     )
-
-pub returns-in_err-scopes : goal.returns-in_err-scopes
-returns-in_err-scopes c =
-    let p = err_from_is_err_and c.from_residual-in_err-scopes.result c.from_residual-in_err-scopes.ensures.1 in
-    let rows = rows_of (found_of c.args.options.now) in
-    let some = subst (λ (o : NumberOption). number_in rows o ≡ Some c.in_ok-limit.limit) c.limit_option.ensures
-    c.in_ok-limit.ensures.ok in
-    rw (p.1, p.2, c.in_err-scopes.ensures.flags)
-    (rows, refl, none_wrong limit_option rows _ some, inl c.in_err-scopes.ensures.more)
-
-pub returns-in_err-relation : goal.returns-in_err-relation
-returns-in_err-relation c =
-    let p = err_from_is_err_and c.from_residual-in_err-relation.result c.from_residual-in_err-relation.ensures.1 in
-    let rows = rows_of (found_of c.args.options.now) in
-    let some = subst (λ (o : NumberOption). number_in rows o ≡ Some c.in_ok-limit.limit) c.limit_option.ensures
-    c.in_ok-limit.ensures.ok in
-    rw (p.1, p.2, c.in_err-relation.ensures.flags)
-    (rows, refl, none_wrong limit_option rows _ some, inr c.in_err-relation.ensures.more)

@@ -3,18 +3,6 @@ use Rattle.scf_request.proofs.BundleLemmas.{part_inside}
 use Rattle.scf_request.proofs.ContentLemmas.{next_held}
 use Rattle.scf_request.proofs.contents.Contents.of.Goals as goal
 
-pub held-requires : goal.held-requires
-held-requires c =
-    let none : Part = record { kind = Filter; start = 0; length = 0 } in
-    let spelled =
-    subst (λ (parts : List Part). SpellsBundle c.args.bytes.now parts) (sym c.deref-part-items.ensures.value)
-    c.in_ok-parts.ensures.parts in
-    omega (
-      arith,
-      part_inside 0 c.args.bytes.now c.deref-part-items.result.now c.loop-part.part-index none spelled
-          c.loop-part-test.true,
-    )
-
 pub loop-part-preserved : goal.loop-part-preserved
 loop-part-preserved c =
     let before = c.loop-part.invariant in
