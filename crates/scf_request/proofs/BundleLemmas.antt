@@ -22,23 +22,14 @@ pub record SamePart (p q : Part) (a b r s : List ℕ) : Type 0 where
 pub same_part : (o : ℕ) (p q : Part) (a b r s : List ℕ) → IsBundlePart o p a → IsBundlePart o q b → a ++ r ≡ b ++ s
     → SamePart p q a b r s
 same_part o p q a b r s h g e =
-    let front = h.front in
-    let other = g.front in
-    let left : a ++ r ≡ front.header ++ (front.rest ++ r) =
-    ap (λ (xs : List ℕ). xs ++ r) front.whole ∙ append_assoc front.header front.rest r in
-    let right : b ++ s ≡ other.header ++ (other.rest ++ s) =
-    ap (λ (xs : List ℕ). xs ++ s) other.whole ∙ append_assoc other.header other.rest s in
-    let same = same_header front.header other.header p.kind q.kind p.length q.length (front.rest ++ r)
-    (other.rest ++ s) front.is_header other.is_header (sym left ∙ e ∙ right) in
-    let content : front.rest ≡ other.rest =
-    same_front front.rest other.rest r s (sym h.size ∙ same.count ∙ g.size) same.rest in
-    let bytes : a ≡ b = front.whole ∙ ap (λ (xs : List ℕ). xs ++ front.rest) same.header
-    ∙ ap (λ (xs : List ℕ). other.header ++ xs) content ∙ sym other.whole in
-    let long : length front.header ≡ length other.header = ap (λ (xs : List ℕ). length xs) same.header in
+    let same = same_header h.front.header g.front.header p.kind q.kind p.length q.length (h.front.rest ++ r)
+    (g.front.rest ++ s) h.front.is_header g.front.is_header (grind (arith, append_assoc)) in
+    let content : h.front.rest ≡ g.front.rest = same_front _ _ r s (cc) same.rest in
+    let bytes : a ≡ b = cc in
     record {
-      part = same_fields p q same.kind (h.start ∙ ap (λ (n : ℕ). o + n) long ∙ sym g.start) same.count;
+      part = same_fields p q same.kind (cc) same.count;
       bytes = bytes;
-      rest = append_cancel_left a r s (e ∙ ap (λ (xs : List ℕ). xs ++ s) (sym bytes));
+      rest = append_cancel_left a r s (cc);
     }
 
 -- ---- lists of parts
@@ -165,9 +156,7 @@ pub if_none : {T : Type 0} (o : Option T) (P : Type 0) → P → IfNone o P
 if_none o P h = grind arith
 
 pub some_left : (o : ℕ) (bs : List ℕ) → o < length bs → drop o bs ≢ []
-some_left o bs lt e =
-    let none : length (drop o bs) ≡ 0 = ap (λ (xs : List ℕ). length xs) e in
-    absurd (omega (arith, none, length-drop o bs))
+some_left o bs lt e = omega (arith, length-drop o bs, ap length e)
 
 -- whole parts, and what stands behind them, are why bytes are refused
 pub breaks : (bs : List ℕ) (o : ℕ) (ps : List Part) (fault : BundleFault) → SpellsBundle (take o bs) ps
@@ -225,14 +214,12 @@ no_part_behind bs n ps p fault here spelled =
     absurd (omega (arith, none, length-append ps (p ∷ [])))
 
 one_fault : (bs : List ℕ) (fault other : BundleFault) → IsFaultAt bs 0 fault → IsFaultAt bs 0 other → fault ≡ other
-one_fault bs (Header offset) (Header at) h g =
-    ap (λ (n : ℕ). let moved : BundleFault = Header n in moved) (h.0 ∙ sym g.0)
+one_fault bs (Header offset) (Header at) h g = cc
 one_fault bs (Header offset) (Short at) h g = absurd (h.2 g.1 g.2 g.3)
-one_fault bs (Header offset) Memory h g = absurd g
 one_fault bs (Short offset) (Header at) h g = absurd (g.2 h.1 h.2 h.3)
-one_fault bs (Short offset) (Short at) h g = ap (λ (n : ℕ). let moved : BundleFault = Short n in moved) (h.0 ∙ sym g.0)
-one_fault bs (Short offset) Memory h g = absurd g
+one_fault bs (Short offset) (Short at) h g = cc
 one_fault bs Memory other h g = absurd h
+one_fault bs fault Memory h g = absurd g
 
 -- a fault behind whole parts is that of the front, where there is one
 pub first_fault : (bs : List ℕ) (o : ℕ) (ps : List Part) (fault first : BundleFault) → o < length bs

@@ -1,4 +1,5 @@
 -- A header ends at the first line end, so bytes begin with at most one.
+use Rattle.scf_profile.proofs.Common.{nat_tests}
 use Rattle.scf_request.proofs.Common.{◌≡◌, ◌≢◌, ℕ, zero, suc, ◌+◌, ◌<◌, ◌≤◌, ◌^◌, true, false, List, [], ◌∷◌, ◌++◌, not, eqb, length, get_or, take, drop, codes, Option, Some, Err, unwrap_or, refl, sym, ap, subst, ◌∙◌, append_assoc, arith, length-append, list_all, MatchOption, list_all-append, is_digit, digits_value, AllDigits, and_from, and_parts, eqb-false, false≢true, ltb-true, ne_eqb, not-true, cond_some, append_cancel_left, append_cancel_right, drop_more, take-append-drop, digits_value-lt, pow-le-pow_right, numeral, ReadsNumber, NumeralFault, PartKind, Filter, Profile, Table, kind_word, IsHeader, HasHeader}
 
 -- ---- the digits of a header
@@ -9,8 +10,7 @@ IsCount digits count = (length digits ≤ 8) × (numeral 10 digits ≡ Some coun
 
 all_digits : (ds : List ℕ) → list_all (λ d. is_digit d 10) ds ≡ true → AllDigits 10 ds
 all_digits [] h = tt
-all_digits (d ∷ ds) h = let both = and_parts (is_digit d 10) (list_all (λ e. is_digit e 10) ds) h in
-    (ltb-true _ 10 both.0, all_digits ds both.1)
+all_digits (d ∷ ds) h = grind (arith, and_parts, ltb-true, all_digits ds)
 
 -- a numeral has digits alone, and their value
 numeral_parts : (ds : List ℕ) (n : ℕ) → numeral 10 ds ≡ Some n
@@ -31,12 +31,7 @@ line_join xs ys h k = list_all-append (λ b. not (eqb b 10)) xs ys ∙ and_from 
 
 digits_are_line : (ds : List ℕ) → list_all (λ d. is_digit d 10) ds ≡ true → IsLine ds
 digits_are_line [] h = refl
-digits_are_line (d ∷ ds) h =
-    let both = and_parts (is_digit d 10) (list_all (λ e. is_digit e 10) ds) h in
-    let other : eqb d 10 ≡ false = ne_eqb d 10
-    (λ e. let end : is_digit 10 10 ≡ true =
-    subst (λ (b : ℕ). is_digit b 10 ≡ true) e both.0 in absurd (false≢true end)) in
-    and_from (not (eqb d 10)) _ (rw other refl) (digits_are_line ds both.1)
+digits_are_line (d ∷ ds) h = grind (arith, nat_tests, and_parts, and_from, digits_are_line ds)
 
 word_is_line : (kind : PartKind) → IsLine (kind_word kind)
 word_is_line kind = grind arith
@@ -48,38 +43,22 @@ header_is_line kind digits n h = grind (arith, digits_are_line, line_join, numer
 -- bytes begin with at most one line
 pub same_line : (a b r s : List ℕ) → IsLine a → IsLine b → a ++ 10 ∷ r ≡ b ++ 10 ∷ s → a ≡ b
 same_line [] [] r s h k e = refl
-same_line [] (y ∷ b) r s h k e =
-    let both = and_parts (not (eqb y 10)) (list_all (λ x. not (eqb x 10)) b) k in
-    let end : 10 ≡ y = ap (λ (l : List ℕ). get_or l 0 0) e in absurd
-    (eqb-false y 10 (not-true (eqb y 10) both.0) (sym end))
-same_line (x ∷ a) [] r s h k e =
-    let both = and_parts (not (eqb x 10)) (list_all (λ y. not (eqb y 10)) a) h in
-    let end : x ≡ 10 = ap (λ (l : List ℕ). get_or l 0 0) e in absurd (eqb-false x 10 (not-true (eqb x 10) both.0) end)
-same_line (x ∷ a) (y ∷ b) r s h k e =
-    let first = and_parts (not (eqb x 10)) (list_all (λ z. not (eqb z 10)) a) h in
-    let second = and_parts (not (eqb y 10)) (list_all (λ z. not (eqb z 10)) b) k in
-    let heads : x ≡ y = ap (λ (l : List ℕ). get_or l 0 0) e in
-    let tails : a ++ 10 ∷ r ≡ b ++ 10 ∷ s = ap (λ (l : List ℕ). drop 1 l) e in
-    let rest : a ≡ b = same_line a b r s first.1 second.1 tails in
-    rw (heads, rest) refl
+same_line [] (y ∷ b) r s h k e = grind (arith, nat_tests, and_parts)
+same_line (x ∷ a) [] r s h k e = grind (arith, nat_tests, and_parts)
+same_line (x ∷ a) (y ∷ b) r s h k e = grind (arith, nat_tests, and_parts, same_line a b r s)
 
 -- the bytes in front of the first line end are a line
 pub line_before : (bs : List ℕ) (n : ℕ) → n ≤ length bs → ((k : ℕ) → k < n → get_or bs k 0 ≢ 10) → IsLine (take n bs)
 line_before bs zero le h = refl
 line_before [] (suc n) le h = refl
 line_before (b ∷ bs) (suc n) le h =
-    let inside : n ≤ length bs = omega arith in
-    and_from (not (eqb b 10)) _ (rw (ne_eqb b 10 (h 0 (omega arith))) refl)
-    (line_before bs n inside (λ k lt. h (suc k) (omega arith)))
+    rw (ne_eqb b 10 (h 0 (omega arith))) (line_before bs n (omega arith) (λ k lt. h (suc k) (omega arith)))
 
 -- ---- headers
 
 same_word : (k l : PartKind) (a b : List ℕ) → kind_word k ++ (codes " " ++ a) ≡ kind_word l ++ (codes " " ++ b)
     → (k ≡ l) × (a ≡ b)
 same_word k l a b h = grind (arith, append_cancel_left, false≢true)
-
-some_value : (m n : ℕ) → Some m ≡ Some n → m ≡ n
-some_value m n e = ap (λ (o : Option ℕ). unwrap_or o 0) e
 
 -- What two headers in front of the same bytes have in common: everything.
 pub record SameHeader (h g : List ℕ) (k l : PartKind) (m n : ℕ) (r s : List ℕ) : Type 0 where
@@ -105,7 +84,7 @@ same_header h g k l m n r s a b e =
     record {
       header = header;
       kind = parts.0;
-      count = let some : Some m ≡ Some n = sym a.is_count.1 ∙ numbers ∙ b.is_count.1 in some_value m n some;
+      count = let some : Some m ≡ Some n = sym a.is_count.1 ∙ numbers ∙ b.is_count.1 in cc;
       rest = append_cancel_left h r s (e ∙ ap (λ (xs : List ℕ). xs ++ s) (sym header));
     }
 
