@@ -14,7 +14,6 @@ pub use Rattle.clap.specs.declared.parser.matches.Found.{Found}
 pub use Rattle.std.proofs.Math.Nat.{pow-le-pow_right}
 pub use Rattle.std.proofs.Math.Seq.{take-add, take-append_seam}
 pub use Rattle.std.proofs.lemmas.Bool.{ltb-true, not-true}
-pub use Rattle.std.proofs.lemmas.Bool.Decides.{Decides-eqb}
 pub use Rattle.std.proofs.lemmas.Int.Digits.{digits_value-lt}
 pub use Rattle.std.proofs.lemmas.List.{append_cancel_left, append_cancel_right, length-take-le, map_more, map_push}
 pub use Rattle.std.proofs.lemmas.List.Folds.{list_all-append}
@@ -25,7 +24,7 @@ pub use Rattle.std.specs.Option.{IfNone, MatchOption}
 pub use Rattle.std.specs.Str.Parse.{AllDigits}
 pub use Rattle.scf_insn.proofs.Common.{ReadsNumber, and_from, and_parts, digits_value, drop_more, eqb-false, is_digit, list_all, ne_eqb, numeral, take-append-drop, take_all, take_more}
 pub use Rattle.scf_insn.specs.declared.number.NumeralFault.{NumeralFault}
-pub use Rattle.scf_profile.proofs.Common.{IfOk-weaker, err_from_is_err_and, false≢true, filter_map-append, map-append, option_map_or}
+pub use Rattle.scf_profile.proofs.Common.{IfOk-weaker, err_from_is_err_and, false≢true, filter_map-append, map-append, option_map_or, nat_tests}
 pub use Rattle.scf_request.specs.Bundle.{HasHeader, IsBundleFault, IsBundlePart, IsFaultAt, IsHeader, SpellsBundle, SpellsFrom, held, held_by, is_of, kind_word}
 pub use Rattle.scf_request.specs.Options.{NumberOption, choice_in, first_wrong, given_of, is_given, limit_option, number_by, number_in, one_of}
 pub use Rattle.scf_request.specs.Requests.{Command as Asked, command_word}

@@ -1,5 +1,5 @@
-use Rattle.scf_request.proofs.Common.{◌≡◌, ◌+◌, arith, take_all, err_from_is_err_and}
-use Rattle.scf_request.proofs.BundleLemmas.{breaks, broken_no_parts, fault_no_parts, first_fault, next_part, no_part_behind, one_spelling}
+use Rattle.scf_request.proofs.Common.{◌+◌, arith, err_from_is_err_and}
+use Rattle.scf_request.proofs.BundleLemmas.{breaks, fault_no_parts, next_part, no_part_behind}
 use Rattle.scf_request.proofs.bundle.split.Goals as goal
 
 pub returns-in_err-part-clause-none : goal.returns-in_err-part-clause-none

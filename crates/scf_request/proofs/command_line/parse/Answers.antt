@@ -1,4 +1,4 @@
-use Rattle.scf_request.proofs.Common.{◌∙◌, subst, and_parts, IfOk-weaker, Kinds, FailsBy}
+use Rattle.scf_request.proofs.Common.{◌∙◌, and_parts, IfOk-weaker}
 use Rattle.scf_request.proofs.command_line.parse.Goals as goal
 
 pub returns-clause-matches : goal.returns-clause-matches

@@ -1,5 +1,5 @@
-use Rattle.scf_request.proofs.Common.{◌≡◌, ◌∙◌, ap, inl, inr, refl, sym, subst, None, Some, List, ℕ, err_from_is_err_and, found_of, rows_of, Compare, NumberOption, limit_option, number_in}
-use Rattle.scf_request.proofs.OptionLemmas.{none_wrong, one_wrong}
+use Rattle.scf_request.proofs.Common.{◌≡◌, ◌∙◌, ap, refl, sym, subst, None, Some, List, ℕ, err_from_is_err_and, found_of, rows_of, Compare, NumberOption, limit_option, number_in}
+use Rattle.scf_request.proofs.OptionLemmas.{one_wrong}
 use Rattle.scf_request.proofs.request.comparison_in.Goals as goal
 
 pub returns-in_err-limit : goal.returns-in_err-limit

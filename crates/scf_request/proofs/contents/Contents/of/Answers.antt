@@ -1,5 +1,4 @@
-use Rattle.scf_request.proofs.Common.{List, arith, subst, sym, Part, Filter, Profile, Table, SpellsBundle}
-use Rattle.scf_request.proofs.BundleLemmas.{part_inside}
+use Rattle.scf_request.proofs.Common.{Filter, Profile, Table}
 use Rattle.scf_request.proofs.ContentLemmas.{next_held}
 use Rattle.scf_request.proofs.contents.Contents.of.Goals as goal
 
