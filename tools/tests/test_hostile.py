@@ -5,12 +5,11 @@ bounds on time and memory leave room for slow machines; what grows with the squa
 """
 import itertools
 import json
-import os
 import random
 import string
 import subprocess
+import sys
 import tempfile
-import threading
 
 from common import ALLOW, KILL_PROCESS, SCF, X86_64, Case, insn, jeq, jge, limited, load, part, ret
 
@@ -35,26 +34,24 @@ def beside(value):
     return b'{"defaultAction":"SCMP_ACT_ALLOW","x":%s}' % value
 
 
+# Runs words and tells what their process took. It is small, since a process counts what the one had that began it.
+MEASURE = """
+import resource, subprocess, sys
+status = subprocess.run(sys.argv[1:], stderr=subprocess.DEVNULL).returncode
+used = resource.getrusage(resource.RUSAGE_CHILDREN)
+print(status, used.ru_utime + used.ru_stime, used.ru_maxrss / 1024, file=sys.stderr)
+"""
+
+
 def run(words, data):
     """The status, what was printed, the seconds of a processor and the megabytes that it took."""
-    with tempfile.TemporaryFile() as out:
-        child = subprocess.Popen([SCF, *words], stdin=subprocess.PIPE, stdout=out, stderr=subprocess.DEVNULL,
-                                 preexec_fn=limited(SECONDS))
-
-        def feed():
-            try:
-                child.stdin.write(data)
-                child.stdin.close()
-            except BrokenPipeError:
-                pass
-
-        feeder = threading.Thread(target=feed)
-        feeder.start()
-        _, ended, used = os.wait4(child.pid, 0)
-        child.returncode = os.waitstatus_to_exitcode(ended)
-        feeder.join()
-        out.seek(0)
-        return child.returncode, out.read(), used.ru_utime + used.ru_stime, used.ru_maxrss / 1024
+    with tempfile.TemporaryFile() as given:
+        given.write(data)
+        given.seek(0)
+        measured = subprocess.run([sys.executable, "-IS", "-c", MEASURE, SCF, *words], stdin=given,
+                                  capture_output=True, preexec_fn=limited(SECONDS), check=True)
+    status, seconds, megabytes = measured.stderr.split()
+    return int(status), measured.stdout, float(seconds), float(megabytes)
 
 
 class Hostile(Case):
