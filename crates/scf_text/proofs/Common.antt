@@ -7,7 +7,7 @@ pub use Rattle.std.proofs.lemmas.Bool.Decides.{same_from_decides}
 pub use Rattle.std.proofs.lemmas.Fmt.{digits_is_IsNumeral}
 pub use Rattle.std.proofs.lemmas.List.{drop-append-le, drop-take, get_or-map, get_or-take, get_or_default, length-append, length-drop, length-map, length-take-le, map-append, take-append-drop, take-append-le, take-take, take_all, take_rest}
 pub use Rattle.std.proofs.lemmas.List.Elements.{All-append, All-contains, All-from_recursion, All-head, All-map, All-nil, All-push, All-tail, Contains-get_or, Contains-push, Contains-push_cases, Contains-append_cases, Contains-append_left, Contains-append_right, filter-append}
-pub use Rattle.std.proofs.lemmas.List.Folds.{length-prefix_len, list_all-append}
+pub use Rattle.std.proofs.lemmas.List.Folds.{list_all-append}
 pub use Rattle.std.proofs.lemmas.List.Splits.{join_with_byte-slice_split, length-slice_split, slice_split_at, slice_split_first, slice_split_none}
 pub use Rattle.std.proofs.lemmas.List.Sums.{length-filter, prefix_len-le-length, prefix_len_stops}
 pub use Rattle.std.proofs.lemmas.Slice.Eq.{bytes_eq-Decides}
@@ -25,7 +25,7 @@ pub use Rattle.std.specs.Fmt.{decimal}
 pub use Rattle.std.specs.Global.{Vec}
 unfoldable pub use Rattle.std.specs.List.{IsDistinct}
 pub use Rattle.std.specs.List.{All, Contains, enumerate_from, find, join_with_byte, list_any, position_or_len, filter, prefix_len, slice_split, take_while}
-pub use Rattle.std.specs.List.Sorted.{IsPermutation, IsSortedBy}
+pub use Rattle.std.specs.List.Sorted.{IsNonDecreasing, IsPermutation, IsSortedBy}
 pub use Rattle.std.specs.Option.{IsSome, IsSomeAnd, MatchOption, is_some, option_map, option_or, option_to_list, unwrap_or}
 pub use Rattle.std.specs.Ordering.{is_eq, is_lt, nat_cmp, ordering_reverse, ordering_then}
 pub use Rattle.std.specs.declared.cmp.Ordering.{Ordering}
@@ -63,8 +63,8 @@ pub use Rattle.scf_text.specs.internal.Mnemonics.{form_view}
 pub use Rattle.scf_text.specs.internal.Parts.{begins_comment, begins_in_word, first_statement, is_semicolon, lines_after, statements_in, words_of_part}
 unfoldable pub use Rattle.scf_text.specs.internal.Parts.{others_in, words_in}
 pub use Rattle.scf_text.specs.internal.Labels.{IsFirstRepeat, IsRepeat, Labels, TellsRepeat, compared, is_before, labels_at, least, repeat_fault}
-pub use Rattle.scf_text.specs.internal.Places.{FollowsBehind, count_ends, IsBehind, IsPart, LiesBehind, line_at, place_after, word_at}
-pub use Rattle.scf_text.specs.internal.Reading.{AreKept, AreNew, HaveTokens, IsEnded, IsLeft, Leaves, begins_of, drafts_view, label_at, part_statements, statements_from}
+pub use Rattle.scf_text.specs.internal.Places.{FollowsBehind, count_ends, IsBehind, IsLinePart, LiesBehind, line_at, place_after, name_at}
+pub use Rattle.scf_text.specs.internal.Reading.{AreKept, AreNew, HaveTokens, IsEnded, IsLeft, IsRead, Leaves, begins_of, drafts_view, label_at, part_statements, statements_from}
 pub use Rattle.scf_text.specs.internal.Results.{AddsInstruction, AddsLabel, TellsInsns, TellsText, insn_fault, places_view}
 unfoldable pub use Rattle.scf_text.specs.internal.Results.{fault_in}
 pub use Rattle.scf_text.specs.internal.Views.{draft_view}

@@ -1,20 +1,21 @@
 -- Looking names up among sorted labels.
-use Rattle.scf_text.proofs.Common.{◌≡◌, ℕ, ◌+◌, ◌<◌, true, false, List, [], ◌∷◌, length, map, get_or, Option, Some, None, refl, sym, ap, ◌∙◌, fun_ext, arith, inl, inr, lookup, ltb, prefix_len, cases_Bool, cases_lt, nat_tests, nat_eq, All, All-head, All-tail, Contains-get_or, Contains-permutation, IsDistinct, IsDistinct-IsPermutation, IsDistinct-from_apart, apart_from_distinct, IsPermutation, IsPermutation-map, IsPermutation-sym, IsSortedBy, length-map, bytes_eq, bytes_eq-Decides, slice_cmp, nat_cmp, is_eq, is_lt, Ordering, Less, Equal, Greater, ordering_then, is_eq-slice_cmp, nat_list_cmp_total, nat_list_eq_equiv, get_or-map, Labels, place_of, labels_at, word_at, is_before, IsRepeat, IsFirstRepeat, NumberedDraft, begins_of}
+use Rattle.scf_text.proofs.Common.{◌≡◌, ℕ, ◌+◌, ◌<◌, ◌≤◌, Bool, true, false, List, [], ◌∷◌, length, map, get_or, Option, Some, None, refl, sym, ap, ◌∙◌, fun_ext, arith, inl, inr, lookup, ltb, prefix_len, cases_Bool, cases_lt, nat_tests, nat_eq, All, All-head, All-tail, Contains-get_or, Contains-permutation, IsDistinct, IsDistinct-IsPermutation, IsDistinct-from_apart, apart_from_distinct, IsPermutation, IsPermutation-map, IsPermutation-sym, IsSortedBy, length-map, bytes_eq, bytes_eq-Decides, slice_cmp, nat_cmp, is_eq, is_lt, Ordering, Less, Equal, Greater, ordering_then, is_eq-slice_cmp, nat_list_cmp_total, nat_list_eq_equiv, get_or-map, Labels, place_of, labels_at, name_at, is_before, IsRepeat, IsFirstRepeat, NumberedDraft, begins_of}
 use Rattle.std.proofs.lemmas.List.Sorted.{searchable_from_sorted}
 use Rattle.std.proofs.lemmas.Map.Views.{Contains-from_lookup, lookup-from_Contains}
-use Rattle.std.specs.List.Sorted.{IsNonDecreasingBy, IsPartitionPoint}
+use Rattle.std.proofs.lemmas.List.Sums.{prefix_len_is}
+use Rattle.std.specs.List.Sorted.{IsNonDecreasing, IsNonDecreasingBy, IsPartitionPoint}
 use Rattle.std.specs.Map.{keys_of}
 use Rattle.std.specs.Ordering.{ordering_index}
 use Rattle.scf_text.proofs.ReadLemmas.{bytes_eq_sym}
 
 -- no two labels of one name
 
-names_of : (text begins labels : List ℕ) → keys_of (labels_at text begins labels) ≡ map (word_at text) labels
+names_of : (text begins labels : List ℕ) → keys_of (labels_at text begins labels) ≡ map (name_at text) labels
 names_of text begins [] = refl
-names_of text begins (l ∷ labels) = ap (λ (ws : List (List ℕ)). word_at text l ∷ ws) (names_of text begins labels)
+names_of text begins (l ∷ labels) = ap (λ (ws : List (List ℕ)). name_at text l ∷ ws) (names_of text begins labels)
 
 repeats : (text labels : List ℕ) (i j : ℕ) → i < length labels → j < length labels
-    → get_or labels i 0 < get_or labels j 0 → word_at text (get_or labels i 0) ≡ word_at text (get_or labels j 0)
+    → get_or labels i 0 < get_or labels j 0 → name_at text (get_or labels i 0) ≡ name_at text (get_or labels j 0)
     → IsRepeat text labels (get_or labels j 0)
 repeats text labels i j within also less same = record {
   given = Contains-get_or labels j 0 also;
@@ -25,17 +26,17 @@ repeats text labels i j within also less same = record {
 }
 
 pub names_apart : (text labels : List ℕ) → IsDistinct nat_eq labels → IsFirstRepeat text labels None
-    → IsDistinct bytes_eq (map (word_at text) labels)
+    → IsDistinct bytes_eq (map (name_at text) labels)
 names_apart text labels apart none =
-    IsDistinct-from_apart bytes_eq (map (word_at text) labels) λ i j d lt within.
-    let inside : j < length labels = omega (arith, length-map labels (word_at text)) in
+    IsDistinct-from_apart bytes_eq (map (name_at text) labels) λ i j d lt within.
+    let inside : j < length labels = omega (arith, length-map labels (name_at text)) in
     let also : i < length labels = omega arith in
-    let a = get_or-map (word_at text) labels i 0 d also in
-    let b = get_or-map (word_at text) labels j 0 d inside in
+    let a = get_or-map (name_at text) labels i 0 d also in
+    let b = get_or-map (name_at text) labels j 0 d inside in
     let other = apart_from_distinct nat_eq labels i j 0 apart lt inside in
-    elim (cases_Bool (bytes_eq (word_at text (get_or labels i 0)) (word_at text (get_or labels j 0)))) [
+    elim (cases_Bool (bytes_eq (name_at text (get_or labels i 0)) (name_at text (get_or labels j 0)))) [
       | inl same ↦
-          let words = (bytes_eq-Decides (word_at text (get_or labels i 0)) (word_at text (get_or labels j 0))).0 same in
+          let words = (bytes_eq-Decides (name_at text (get_or labels i 0)) (name_at text (get_or labels j 0))).0 same in
           elim (cases_lt (get_or labels i 0) (get_or labels j 0)) [
             | inl less ↦ absurd (none (get_or labels j 0) (repeats text labels i j also inside less words))
             | inr le ↦
@@ -64,16 +65,16 @@ moved_same es fs q None (Some v) moved apart also e f =
     let g = moved_found fs es q v (IsPermutation-sym es fs moved) apart f in cc
 
 pub places_moved : (text begins xs ys : List ℕ) → IsPermutation xs ys
-    → IsDistinct bytes_eq (map (word_at text) ys)
+    → IsDistinct bytes_eq (map (name_at text) ys)
     → place_of (labels_at text begins ys) ≡ place_of (labels_at text begins xs)
 places_moved text begins xs ys moved apart = fun_ext λ q.
     let es = labels_at text begins xs in
     let fs = labels_at text begins ys in
-    let p = IsPermutation-map (λ s. (word_at text s, prefix_len (λ b. ltb b s) begins)) xs ys moved in
+    let p = IsPermutation-map (λ s. (name_at text s, prefix_len (λ b. ltb b s) begins)) xs ys moved in
     let also : IsDistinct bytes_eq (keys_of fs) = rw names_of apart in
     let both : IsDistinct bytes_eq (keys_of es) =
-    rw names_of (IsDistinct-IsPermutation bytes_eq bytes_eq_sym (map (word_at text) ys) (map (word_at text) xs)
-    (IsPermutation-map (word_at text) ys xs (IsPermutation-sym xs ys moved)) apart) in
+    rw names_of (IsDistinct-IsPermutation bytes_eq bytes_eq_sym (map (name_at text) ys) (map (name_at text) xs)
+    (IsPermutation-map (name_at text) ys xs (IsPermutation-sym xs ys moved)) apart) in
     sym (moved_same es fs q (lookup (bytes_eq q) es) (lookup (bytes_eq q) fs) p both also refl refl)
 
 -- a search by halves
@@ -84,51 +85,65 @@ name_first Equal s h = refl
 name_first Greater s h = refl
 
 pub by_name : (text labels name : List ℕ) → IsSortedBy (is_before text) labels
-    → IsNonDecreasingBy (λ l. ordering_index (slice_cmp nat_cmp (word_at text l) name)) labels
+    → IsNonDecreasingBy (λ l. ordering_index (slice_cmp nat_cmp (name_at text l) name)) labels
 by_name text labels name sorted =
-    searchable_from_sorted nat_list_cmp_total (word_at text) labels name
+    searchable_from_sorted nat_list_cmp_total (name_at text) labels name
     (λ k d le lt. name_first
-    (slice_cmp nat_cmp (word_at text (get_or labels (k + 1) d)) (word_at text (get_or labels k d)))
+    (slice_cmp nat_cmp (name_at text (get_or labels (k + 1) d)) (name_at text (get_or labels k d)))
     (nat_cmp (get_or labels (k + 1) d) (get_or labels k d)) (sorted k d le lt))
 
-count_begins : (k : ℕ) (drafts : List NumberedDraft)
-    → prefix_len (λ (d : NumberedDraft). ltb d.start k) drafts ≡ prefix_len (λ b. ltb b k) (begins_of drafts)
-count_begins k [] = refl
-count_begins k (d ∷ drafts) =
-    elim (cases_Bool (ltb d.start k)) [
-      | inl less ↦ rw less (omega (arith, count_begins k drafts))
-      | inr other ↦ rw other refl
-    ]
+-- the instructions before a label
 
-pub found_place : (text labels name : List ℕ) (drafts : List NumberedDraft) (i place : ℕ) → i < length labels
-    → IsDistinct bytes_eq (map (word_at text) labels)
-    → slice_cmp nat_cmp (word_at text (get_or labels i 0)) name ≡ Equal
-    → place ≡ prefix_len (λ (d : NumberedDraft). ltb d.start (get_or labels i 0)) drafts
-    → Some place ≡ place_of (labels_at text (begins_of drafts) labels) name
-found_place text labels name drafts i place within apart equal count =
-    let es = labels_at text (begins_of drafts) labels in
-    let same = same_text (word_at text (get_or labels i 0)) name
-    (sym (is_eq-slice_cmp (word_at text (get_or labels i 0)) name) ∙ ap is_eq equal) in
-    let entry : ℕ → List ℕ × ℕ = λ s. (word_at text s, prefix_len (λ b. ltb b s) (begins_of drafts)) in
+pub drafts_follow : (drafts : List NumberedDraft) → IsNonDecreasing (begins_of drafts)
+    → IsNonDecreasingBy (λ d. d.start) drafts
+drafts_follow drafts following i j d le lt =
+    let first = get_or-map (λ (d : NumberedDraft). d.start) drafts i d 0 (omega arith) in
+    let second = get_or-map (λ (d : NumberedDraft). d.start) drafts j d 0 lt in
+    omega (arith, first, second, following i j 0 le (omega (arith, length-map drafts (λ d. d.start))))
+
+pub begun_before : (drafts : List NumberedDraft) (label place : ℕ) → place ≤ length drafts
+    → IsPartitionPoint (λ d. ltb d.start label ≡ true) (λ d. ltb d.start label ≡ false) drafts place
+    → prefix_len (λ b. ltb b label) (begins_of drafts) ≡ place
+begun_before [] label place le point = omega arith
+begun_before (d ∷ ds) label place le point =
+    let drafts = d ∷ ds in
+    let test : ℕ → Bool = λ b. ltb b label in
+    let len = length-map drafts (λ d. d.start) in
+    prefix_len_is test (begins_of drafts) place 0 (omega (arith, len))
+    (λ k lt. ap test (get_or-map (λ (d : NumberedDraft). d.start) drafts k d 0 (omega arith))
+    ∙ point.0 k d (omega arith) lt)
+    (λ lt. ap test (get_or-map (λ (d : NumberedDraft). d.start) drafts place d 0 (omega (arith, len)))
+    ∙ point.1 place d (omega arith) (omega (arith, len)))
+
+pub found_place : (text labels name begins : List ℕ) (i place : ℕ) → i < length labels
+    → IsDistinct bytes_eq (map (name_at text) labels)
+    → slice_cmp nat_cmp (name_at text (get_or labels i 0)) name ≡ Equal
+    → prefix_len (λ b. ltb b (get_or labels i 0)) begins ≡ place
+    → Some place ≡ place_of (labels_at text begins labels) name
+found_place text labels name begins i place within apart equal count =
+    let es = labels_at text begins labels in
+    let same = same_text (name_at text (get_or labels i 0)) name
+    (sym (is_eq-slice_cmp (name_at text (get_or labels i 0)) name) ∙ ap is_eq equal) in
+    let entry : ℕ → List ℕ × ℕ = λ s. (name_at text s, prefix_len (λ b. ltb b s) begins) in
     let inside : i < length es = omega (arith, length-map labels entry) in
     let at = get_or-map entry labels i 0 (name, place) within in
     sym (lookup-from_Contains nat_list_eq_equiv name place es (rw names_of apart)
-    (i, inside, at ∙ rw (same, count, count_begins (get_or labels i 0) drafts) refl))
+    (i, inside, at ∙ rw (same, count) refl))
 
 none_there : (text labels begins name : List ℕ)
-    → All (λ l. is_eq (slice_cmp nat_cmp (word_at text l) name) ≡ false) labels
+    → All (λ l. is_eq (slice_cmp nat_cmp (name_at text l) name) ≡ false) labels
     → place_of (labels_at text begins labels) name ≡ None
 none_there text [] begins name others = refl
 none_there text (l ∷ labels) begins name others =
-    let here : bytes_eq name (word_at text l) ≡ false =
-    bytes_eq_sym name (word_at text l) ∙ sym (is_eq-slice_cmp (word_at text l) name)
-    ∙ All-head (λ l. is_eq (slice_cmp nat_cmp (word_at text l) name) ≡ false) l labels others in
+    let here : bytes_eq name (name_at text l) ≡ false =
+    bytes_eq_sym name (name_at text l) ∙ sym (is_eq-slice_cmp (name_at text l) name)
+    ∙ All-head (λ l. is_eq (slice_cmp nat_cmp (name_at text l) name) ≡ false) l labels others in
     rw here (none_there text labels begins name
-    (All-tail (λ l. is_eq (slice_cmp nat_cmp (word_at text l) name) ≡ false) l labels others))
+    (All-tail (λ l. is_eq (slice_cmp nat_cmp (name_at text l) name) ≡ false) l labels others))
 
 pub no_place : (text labels begins name : List ℕ) (i : ℕ)
-    → IsPartitionPoint (λ l. slice_cmp nat_cmp (word_at text l) name ≡ Less)
-    (λ l. slice_cmp nat_cmp (word_at text l) name ≡ Greater) labels i
+    → IsPartitionPoint (λ l. slice_cmp nat_cmp (name_at text l) name ≡ Less)
+    (λ l. slice_cmp nat_cmp (name_at text l) name ≡ Greater) labels i
     → place_of (labels_at text begins labels) name ≡ None
 no_place text labels begins name i h =
     none_there text labels begins name λ k d lt.

@@ -1,5 +1,5 @@
 -- Where the parts of a line stand in the text.
-use Rattle.scf_text.proofs.Common.{◌≡◌, ℕ, ◌+◌, ◌-◌, ◌<◌, ◌≤◌, false, List, [], ◌∷◌, ◌++◌, length, take, drop, Option, Some, None, Result, Ok, Err, IfOk, refl, sym, ap, ◌∙◌, append_assoc, append-nil, arith, inl, inr, filter, filter-append, take_while, take_rest, drop-append-add, cases_Bool, MatchOption, Bor, drop-drop, drop-append-le, take-add, take-append-le, take-append-add, take-append-drop, length-append, length-drop, length-filter, is_line_end, is_word_byte, count_ends, begins_in_word, before_comment, IsPart, IsBehind, FollowsBehind, LiesBehind, word_at, line_at, place_after}
+use Rattle.scf_text.proofs.Common.{◌≡◌, ℕ, ◌+◌, ◌-◌, ◌<◌, ◌≤◌, false, List, [], ◌∷◌, ◌++◌, length, take, drop, Option, Some, None, Result, Ok, Err, IfOk, refl, sym, ap, ◌∙◌, append_assoc, append-nil, arith, inl, inr, filter, filter-append, take_while, take_rest, drop-append-add, cases_Bool, MatchOption, Bor, drop-drop, drop-append-le, take-add, take-append-le, take-append-add, take-append-drop, length-append, length-drop, length-filter, is_line_end, is_word_byte, count_ends, begins_in_word, before_comment, IsLinePart, IsBehind, FollowsBehind, LiesBehind, name_at, line_at, place_after}
 use Rattle.scf_text.specs.declared.part.Next.{Next}
 use Rattle.scf_text.specs.declared.part.Next.TheVariants as next
 use Rattle.scf_text.proofs.TokenLemmas.{prefix_more, comment_of}
@@ -27,8 +27,8 @@ rest_whole text part behind start n whole le =
     sym (drop-drop n start text) ∙ ap (drop n) whole ∙ drop-append-le n part behind le
 
 -- what follows in the part
-pub rest_is_part : (text part rest : List ℕ) (line start n : ℕ) → IsPart text line start part → n ≤ length part
-    → rest ≡ drop n part → IsPart text line (start + n) rest
+pub rest_is_part : (text part rest : List ℕ) (line start n : ℕ) → IsLinePart text line start part → n ≤ length part
+    → rest ≡ drop n part → IsLinePart text line (start + n) rest
 rest_is_part text part rest line start n p le e =
     let both = count_append (take n part) (drop n part) in
     let all = ap count_ends (take-append-drop n part) in
@@ -44,7 +44,7 @@ rest_is_part text part rest line start n p le e =
     }
 
 -- no more lines end within the part
-pub line_of_part : (text part : List ℕ) (line start n : ℕ) → IsPart text line start part → n ≤ length part
+pub line_of_part : (text part : List ℕ) (line start n : ℕ) → IsLinePart text line start part → n ≤ length part
     → line_at text (start + n) ≡ line
 line_of_part text part line start n p le =
     (rest_is_part text part (drop n part) line start n p le refl).numbered
@@ -60,10 +60,10 @@ word_ends (x ∷ xs) ys h =
       | inr other ↦ rw other refl
     ]
 
--- a word of the part is the word at its place in the text
-pub word_of_part : (text part : List ℕ) (line start n : ℕ) → IsPart text line start part → n ≤ length part
-    → word_at text (start + n) ≡ word_at part n
-word_of_part text part line start n p le =
+-- a name of the part is the one at its place in the text
+pub name_of_part : (text part : List ℕ) (line start n : ℕ) → IsLinePart text line start part → n ≤ length part
+    → name_at text (start + n) ≡ name_at part n
+name_of_part text part line start n p le =
     ap (take_while is_word_byte) (rest_whole text part p.behind start n p.whole le)
     ∙ word_ends (drop n part) p.behind p.ends
 
@@ -75,7 +75,7 @@ behind_line (c ∷ cs) rest h k = h
 shown_is_part : (text line bytes after : List ℕ) (number start : ℕ) → drop start text ≡ line ++ after
     → start + (length line + length after) ≤ length text → begins_in_word after ≡ false
     → line_at text start ≡ number → count_ends line ≡ 0 → bytes ≡ before_comment line
-    → IsPart text number start bytes
+    → IsLinePart text number start bytes
 shown_is_part text line bytes after number start whole within ends numbered unbroken shown =
     let comment = comment_of line in
     let split : line ≡ bytes ++ comment.0 = rw shown comment.1 in
@@ -94,7 +94,7 @@ shown_is_part text line bytes after number start whole within ends numbered unbr
 pub line_is_part : (text rest line bytes : List ℕ) (number start : ℕ) (after : Option (Bor (List ℕ)))
     → rest ≡ drop start text → start + length rest ≤ length text → line_at text start ≡ number
     → MatchOption after (rest ≡ line) (λ next. rest ≡ line ++ 10 ∷ next.now) → count_ends line ≡ 0
-    → bytes ≡ before_comment line → IsPart text number start bytes
+    → bytes ≡ before_comment line → IsLinePart text number start bytes
 line_is_part text rest line bytes number start None e within numbered whole unbroken shown =
     shown_is_part text line bytes [] number start (sym e ∙ whole ∙ sym (append-nil line))
     (omega (arith, ap length whole)) refl numbered unbroken shown
@@ -157,8 +157,8 @@ place_within part place (next.End None) h = h
 place_within part place (next.End (Some rest)) h = omega arith
 
 -- what follows a statement is a part again
-pub behind_is_part : (text part rest : List ℕ) (line start : ℕ) → IsPart text line start part → IsBehind part 0 rest
-    → IsPart text line (start + (length part - length rest)) rest × (length rest ≤ length part)
+pub behind_is_part : (text part rest : List ℕ) (line start : ℕ) → IsLinePart text line start part → IsBehind part 0 rest
+    → IsLinePart text line (start + (length part - length rest)) rest × (length rest ≤ length part)
 behind_is_part text part rest line start p b =
     let len = rest_len b in
     let n : b.start ≡ length part - length rest = omega arith in

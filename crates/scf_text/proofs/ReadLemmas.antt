@@ -1,7 +1,8 @@
 -- Reading one statement after another.
-use Rattle.scf_text.proofs.Common.{◌≡◌, ◌≢◌, ℕ, ◌+◌, ◌<◌, ◌≤◌, Bool, List, [], ◌∷◌, ◌++◌, length, map, Option, Some, None, Result, Ok, Err, refl, sym, ap, subst, ◌∙◌, append_assoc, append-nil, arith, inl, inr, zero-add, ltb, flat_map, lookup, is_some, option_or, option_to_list, unwrap_or, IsSome, IfOk, option_map, bytes_eq, OnErr, cond, true, false, prefix_len, nat_eq, nat_eq_equiv, length-append, length-map, map-append, All, All-append, All-contains, All-head, All-map, All-nil, All-push, All-tail, all_pairs_push, Contains-append_cases, Contains-append_left, Contains-append_right, Contains-push, Contains-push_cases, IsDistinct, IsDistinct-IsPermutation, IsDistinct-from_apart, IsPermutation, IsPermutation-append_left, IsPermutation-refl, IsPermutation-trans, IsSomeAnd, MatchOption, cases_Bool, same_from_decides, nat_tests, bytes_eq-Decides, flat_map-append, TextFault, before_comment, lines_of, Statement, NumberedDraft, place_of, label_in, instruction_in, drafts_in, label_at, labels_from, statements_from, IsFault, label_fault, instruction_fault, statements_fault, IsFirstRepeat, Labels, labels_at, repeat_fault, IsPart, line_at, word_at, AreKept, IsEnded, IsLeft, Leaves, HaveTokens, begins_of, part_statements, AddsInstruction, AddsLabel}
+use Rattle.scf_text.proofs.Common.{◌≡◌, ◌≢◌, ℕ, ◌+◌, ◌-◌, ◌<◌, ◌≤◌, Bool, List, [], ◌∷◌, ◌++◌, length, map, Option, Some, None, Result, Ok, Err, refl, sym, ap, subst, ◌∙◌, append_assoc, append-nil, arith, inl, inr, zero-add, ltb, flat_map, lookup, is_some, option_or, option_to_list, unwrap_or, IsSome, IfOk, option_map, bytes_eq, OnErr, cond, true, false, prefix_len, nat_eq, nat_eq_equiv, length-append, length-map, map-append, All, All-append, All-contains, All-head, All-map, All-nil, All-push, All-tail, all_pairs_push, Contains-append_cases, Contains-append_left, Contains-append_right, Contains-push, Contains-push_cases, IsDistinct, IsDistinct-IsPermutation, IsDistinct-from_apart, IsNonDecreasing, IsPermutation, IsPermutation-append_left, IsPermutation-refl, IsPermutation-trans, IsSomeAnd, MatchOption, cases_Bool, same_from_decides, nat_tests, bytes_eq-Decides, flat_map-append, TextFault, before_comment, lines_of, Statement, NumberedDraft, place_of, label_in, instruction_in, drafts_in, label_at, labels_from, statements_from, IsFault, label_fault, instruction_fault, statements_fault, IsFirstRepeat, Labels, labels_at, repeat_fault, IsLinePart, line_at, name_at, AreKept, IsEnded, IsLeft, Leaves, HaveTokens, begins_of, part_statements, AddsInstruction, AddsLabel}
 use Rattle.scf_text.specs.declared.fault.TextFault.TheVariants as fault
-use Rattle.scf_text.proofs.PlaceLemmas.{line_of_part, word_of_part}
+use Rattle.std.proofs.lemmas.List.Sorted.{IsNonDecreasingBy-push}
+use Rattle.scf_text.proofs.PlaceLemmas.{line_of_part, name_of_part}
 use Rattle.scf_text.proofs.RepeatLemmas.{IsKnown, first_more, least_last}
 use Rattle.scf_text.proofs.TokenLemmas.{statements_are}
 
@@ -83,10 +84,10 @@ module _ (text : List ℕ) where
   labels_kept bs zs (s ∷ labels) end before behind =
       let lt : s < end = All-head (λ s. s < end) s labels before in
       rw (count_kept s bs zs (λ j d more. omega (arith, behind j d more)))
-      (ap (λ (ls : Labels). (word_at text s, prefix_len (λ b. ltb b s) bs) ∷ ls)
+      (ap (λ (ls : Labels). (name_at text s, prefix_len (λ b. ltb b s) bs) ∷ ls)
       (labels_kept bs zs labels end (All-tail (λ s. s < end) s labels before) behind))
 
-  known_then : (labels : List ℕ) (l s : ℕ) (b : Bool) → word_at text s ≢ word_at text l → IsKnown text labels s b
+  known_then : (labels : List ℕ) (l s : ℕ) (b : Bool) → name_at text s ≢ name_at text l → IsKnown text labels s b
       → IsKnown text (l ∷ labels) s b
   known_then labels l s true other h = (h.0, Contains-append_right (l ∷ []) labels h.0 h.1, h.2)
   known_then labels l s false other h = λ a given.
@@ -94,21 +95,21 @@ module _ (text : List ℕ) where
         | inl here ↦
             elim (Contains-push_cases [] l a here) [
               | inl none ↦ let lt : none.0 < 0 = none.1 in absurd (omega arith)
-              | inr e ↦ λ same. other (sym same ∙ ap (word_at text) (sym e))
+              | inr e ↦ λ same. other (sym same ∙ ap (name_at text) (sym e))
             ]
         | inr later ↦ h a later
       ]
 
   -- a name is known where a label has it
   known : (begins labels : List ℕ) (s : ℕ)
-      → IsKnown text labels s (is_some (place_of (labels_at text begins labels) (word_at text s)))
+      → IsKnown text labels s (is_some (place_of (labels_at text begins labels) (name_at text s)))
   known begins [] s = λ a given. let none : given.0 < 0 = given.1 in absurd (omega arith)
   known begins (l ∷ labels) s =
-      let decides = bytes_eq-Decides (word_at text s) (word_at text l) in
-      elim (cases_Bool (bytes_eq (word_at text s) (word_at text l))) [
+      let decides = bytes_eq-Decides (name_at text s) (name_at text l) in
+      elim (cases_Bool (bytes_eq (name_at text s) (name_at text l))) [
         | inl here ↦ rw here (l, Contains-append_left (l ∷ []) labels l (Contains-push [] l), sym (decides.0 here))
         | inr other ↦ rw other
-            (known_then labels l s (is_some (place_of (labels_at text begins labels) (word_at text s)))
+            (known_then labels l s (is_some (place_of (labels_at text begins labels) (name_at text s)))
             (λ same. let t = decides.1 same in cc) (known begins labels s))
       ]
 
@@ -123,11 +124,11 @@ module _ (text : List ℕ) where
   label_kept : {end line : ℕ} {given : Labels} {all : List Statement} {begins old new : List ℕ} (s : ℕ)
       (i later : Option TextFault)
       → AreKept text end given all
-      (option_or (option_or (label_fault (place_of given) line (Some (word_at text s))) i) later) begins old
+      (option_or (option_or (label_fault (place_of given) line (Some (name_at text s))) i) later) begins old
       → end ≤ s → line_at text s ≡ line → IsPermutation (old ++ s ∷ []) new
-      → AreKept text (s + 1) (given ++ (word_at text s, length begins) ∷ []) all (option_or i later) begins new
+      → AreKept text (s + 1) (given ++ (name_at text s, length begins) ∷ []) all (option_or i later) begins new
   label_kept {end} {line} {given} {all} {begins} {old} {new} s i later k le numbered moved =
-      let is_given = is_some (place_of given (word_at text s)) in
+      let is_given = is_some (place_of given (name_at text s)) in
       let below : All (λ a. a < s) k.labels = λ j d lt. omega (arith, k.before j d lt) in
       let begun : All (λ b. b < s) begins = λ j d lt. omega (arith, k.begun j d lt) in
       record {
@@ -138,6 +139,7 @@ module _ (text : List ℕ) where
         rising = all_pairs_push (λ a b. a < b) k.labels s k.rising below;
         before = All-push (λ a. a < s + 1) k.labels s (λ j d lt. omega (arith, below j d lt)) (omega arith);
         begun = λ j d lt. omega (arith, begun j d lt);
+        following = k.following;
         repeat = option_or k.repeat (cond is_given (Some s) None);
         first = subst (λ (o : Option ℕ). IsFirstRepeat text (k.labels ++ s ∷ []) o)
             (least_last text k.labels s k.repeat is_given below k.first)
@@ -146,17 +148,27 @@ module _ (text : List ℕ) where
         fault = k.fault ∙ label_faults line s k.repeat is_given i later numbered;
       }
 
+more_following : {X : Type 0} (bs : List ℕ) (place : ℕ) (xs : List X) → IsNonDecreasing bs → All (λ b. b ≤ place) bs
+    → IsNonDecreasing (bs ++ map (λ _. place) xs)
+more_following bs place [] following below = rw append-nil following
+more_following bs place (x ∷ xs) following below =
+    rw (← append_assoc bs (place ∷ []) (map (λ _. place) xs))
+    (more_following (bs ++ place ∷ []) place xs
+    (IsNonDecreasingBy-push (λ b. b) bs place following (λ d some. below (length bs - 1) d (omega arith)))
+    (All-push (λ b. b ≤ place) bs place below (omega arith)))
+
 pub more_kept : {text : List ℕ} {end : ℕ} {given : Labels} {all : List Statement} {later : Option TextFault}
     {begins old : List ℕ} (place : ℕ) (here new : List ℕ) → AreKept text end given all later begins old
-    → All (λ z. end ≤ z + 1) here → All (λ z. z < place) here → end ≤ place → IsPermutation old new
-    → AreKept text place given all later (begins ++ here) new
-more_kept {text} {end} {given} {all} {later} {begins} {old} place here new k behind below le moved = record {
+    → All (λ z. end ≤ z + 1) here → All (λ z. z < place) here → IsNonDecreasing (begins ++ here) → end ≤ place
+    → IsPermutation old new → AreKept text place given all later (begins ++ here) new
+more_kept {text} {end} {given} {all} {later} {begins} {old} place here new k behind below following le moved = record {
   labels = k.labels;
   moved = IsPermutation-trans k.labels old new k.moved moved;
   named = labels_kept text begins here k.labels end k.before behind ∙ k.named;
   rising = k.rising;
   before = λ j d lt. omega (arith, k.before j d lt);
   begun = All-append (λ b. b < place) begins here (λ j d lt. omega (arith, k.begun j d lt)) below;
+  following = following;
   repeat = k.repeat;
   first = k.first;
   fault = k.fault;
@@ -167,7 +179,8 @@ pub place_kept : {text : List ℕ} {end : ℕ} {given : Labels} {all : List Stat
     {begins old : List ℕ} (place : ℕ) (new : List ℕ) → AreKept text end given all later begins old → end ≤ place
     → IsPermutation old new → AreKept text place given all later begins new
 place_kept {text} {end} place new k le moved =
-    rw append-nil at (more_kept place [] new k (All-nil (λ z. end ≤ z + 1)) (All-nil (λ z. z < place)) le moved)
+    rw append-nil at (more_kept place [] new k (All-nil (λ z. end ≤ z + 1)) (All-nil (λ z. z < place))
+    (rw append-nil k.following) le moved)
 
 -- No two labels begin at one place.
 pub apart : {text : List ℕ} {end : ℕ} {given : Labels} {all : List Statement} {later : Option TextFault}
@@ -182,14 +195,14 @@ apart {kept = kept} k =
 label_step : {text bytes : List ℕ} {start line : ℕ} {name : Option (List ℕ)} {given : Labels} {all : List Statement}
     {begins old new : List ℕ} (label : Option ℕ) (i later : Option TextFault)
     → AreKept text start given all (option_or (option_or (label_fault (place_of given) line name) i) later) begins old
-    → IsPart text line start bytes → option_map (word_at bytes) label ≡ name → unwrap_or label 0 ≤ length bytes
+    → IsLinePart text line start bytes → option_map (name_at bytes) label ≡ name → unwrap_or label 0 ≤ length bytes
     → IsPermutation (old ++ option_to_list (option_map (λ _. start + unwrap_or label 0) label)) new
     → AreKept text (start + unwrap_or label 0 + 1) (given ++ label_at (length begins) name) all (option_or i later)
     begins new
 label_step {text} {bytes} {start} {line} {name} {given} {all} {begins} {old} {new} None i later k part e le moved =
     rw (← e, append-nil) (place_kept (start + 0 + 1) new (rw (← e) at k) (omega arith) (rw append-nil at moved))
 label_step {text} {bytes} {start} {line} {name} {given} {all} {begins} {old} {new} (Some l) i later k part e le moved =
-    let same : Some (word_at text (start + l)) ≡ name = ap Some (word_of_part text bytes line start l part le) ∙ e in
+    let same : Some (name_at text (start + l)) ≡ name = ap Some (name_of_part text bytes line start l part le) ∙ e in
     subst (λ (n : Option (List ℕ)). AreKept text (start + l + 1) (given ++ label_at (length begins) n) all
     (option_or i later) begins new) same
     (label_kept text (start + l) i later
@@ -200,7 +213,7 @@ label_step {text} {bytes} {start} {line} {name} {given} {all} {begins} {old} {ne
 -- a statement of a part, its label and where it begins
 module _ {text bytes : List ℕ} {start : ℕ} {all rest : List Statement} {old : List ℕ} {ds : List NumberedDraft}
     (s : Statement) (label : Option ℕ) (new : List ℕ) (left : IsLeft text start all (s ∷ rest) old ds)
-    (part : IsPart text s.line start bytes) (named : option_map (word_at bytes) label ≡ label_in s.tokens)
+    (part : IsLinePart text s.line start bytes) (named : option_map (name_at bytes) label ≡ label_in s.tokens)
     (within : unwrap_or label 0 ≤ length bytes) where
   -- where the statement begins, with its label if it has one
   abbrev place : ℕ
@@ -246,12 +259,15 @@ module _ {text bytes : List ℕ} {start : ℕ} {all rest : List Statement} {old 
     before = left.before ++ s ∷ [];
     whole = left.whole ∙ sym (append_assoc left.before (s ∷ []) rest);
     drafts = h.1 ∙ rw (left.drafts, flat_map-append, append-nil) refl;
-    labels = subst (λ (bs : List ℕ). AreKept text (end x) given all later_fault bs new) (sym h.2)
+    labels =
+        let k = statement_label moved in
+        subst (λ (bs : List ℕ). AreKept text (end x) given all later_fault bs new) (sym h.2)
         (more_kept (end x) (map (λ _. place) (drafts_in s)) new
         (subst (λ (f : Option TextFault). AreKept text (place + 1) given all (option_or f later_fault) (begins_of ds)
-        new) h.0 (statement_label moved))
-        (All-map (λ z. place + 1 ≤ z + 1) (λ _. place) (drafts_in s) (λ k d lt. omega arith))
-        (All-map (λ z. z < end x) (λ _. place) (drafts_in s) (λ k d lt. omega arith)) behind (IsPermutation-refl new));
+        new) h.0 k) (All-map (λ z. place + 1 ≤ z + 1) (λ _. place) (drafts_in s) (λ k d lt. omega arith))
+        (All-map (λ z. z < end x) (λ _. place) (drafts_in s) (λ k d lt. omega arith))
+        (more_following (begins_of ds) place (drafts_in s) k.following (λ j d lt. omega (arith, k.begun j d lt)))
+        behind (IsPermutation-refl new));
   }
   statement_leaves (Err e) end es moved h behind some = record {
     end = place + 1;
@@ -264,7 +280,7 @@ module _ {text bytes : List ℕ} {start : ℕ} {all rest : List Statement} {old 
   }
 
   -- a statement with a label has a token
-  label_tokens : (b : ℕ) (o : Option ℕ) → option_map (word_at bytes) o ≡ label_in s.tokens
+  label_tokens : (b : ℕ) (o : Option ℕ) → option_map (name_at bytes) o ≡ label_in s.tokens
       → IsSome (option_map (λ _. b) o) → s.tokens ≢ []
   label_tokens b None named some = cc
   label_tokens b (Some l) named some = λ none. let e = rw none at named in cc

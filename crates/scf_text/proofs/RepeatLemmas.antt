@@ -1,8 +1,8 @@
 -- Sorted labels, and the first that has the name of an earlier one.
-use Rattle.scf_text.proofs.Common.{◌≡◌, ◌≢◌, ◌⊎◌, ℕ, ◌+◌, ◌-◌, ◌<◌, ◌≤◌, Bool, true, false, List, length, length-take-le, get_or, get_or-take, get_or_default, take, take_more, Decides, Option, Some, None, refl, sym, ap, ◌∙◌, min, arith, inl, inr, IsDistinct, IsPermutation, IsSortedBy, bytes_eq, bytes_eq-Decides, slice_cmp, nat_cmp, nat_tests, cases_lt, IsTotalOrder, Ordering, Less, Equal, Greater, is_lt, is_eq, ordering_then, ordering_reverse, nat_list_cmp_total, nat_cmp_total, on_total, then_total, ranks_by, sorted_far, is_eq-slice_cmp, apart_from_distinct, Contains-append_left, Contains-permutation, Contains-push, Contains-push_cases, Contains, MatchBool, cond, [], ◌∷◌, ◌++◌, IsPermutation-sym, nat_eq, MatchOption, All, All-contains, option_or, cases_Bool, word_at, compared, is_before, IsRepeat, IsFirstRepeat, least}
+use Rattle.scf_text.proofs.Common.{◌≡◌, ◌≢◌, ◌⊎◌, ℕ, ◌+◌, ◌-◌, ◌<◌, ◌≤◌, Bool, true, false, List, length, length-take-le, get_or, get_or-take, get_or_default, take, take_more, Decides, Option, Some, None, refl, sym, ap, ◌∙◌, min, arith, inl, inr, IsDistinct, IsPermutation, IsSortedBy, bytes_eq, bytes_eq-Decides, slice_cmp, nat_cmp, nat_tests, cases_lt, IsTotalOrder, Ordering, Less, Equal, Greater, is_lt, is_eq, ordering_then, ordering_reverse, nat_list_cmp_total, nat_cmp_total, on_total, then_total, ranks_by, sorted_far, is_eq-slice_cmp, apart_from_distinct, Contains-append_left, Contains-permutation, Contains-push, Contains-push_cases, Contains, MatchBool, cond, [], ◌∷◌, ◌++◌, IsPermutation-sym, nat_eq, MatchOption, All, All-contains, option_or, cases_Bool, name_at, compared, is_before, IsRepeat, IsFirstRepeat, least}
 
 pub compared_total : (text : List ℕ) → IsTotalOrder (compared text)
-compared_total text = then_total (on_total (word_at text) nat_list_cmp_total) nat_cmp_total
+compared_total text = then_total (on_total (name_at text) nat_list_cmp_total) nat_cmp_total
 
 pub word_decides : (r : Ordering) (b : Bool) (xs ys : List ℕ) → r ≡ slice_cmp nat_cmp xs ys → b ≡ is_eq r
     → Decides b (xs ≡ ys)
@@ -50,10 +50,10 @@ one_first text xs ys (Some q) (Some r) m h k =
 -- some label has the name of this one, or none has
 abbrev pub IsKnown : List ℕ → List ℕ → ℕ → Bool → Type 0
 IsKnown text xs s known =
-    MatchBool known ((a : ℕ) × Contains xs a × (word_at text a ≡ word_at text s))
-    ((a : ℕ) → Contains xs a → word_at text a ≢ word_at text s)
+    MatchBool known ((a : ℕ) × Contains xs a × (name_at text a ≡ name_at text s))
+    ((a : ℕ) → Contains xs a → name_at text a ≢ name_at text s)
 
-module _ (text xs : List ℕ) (s : ℕ) (behind : (a : ℕ) → Contains xs a → word_at text a ≡ word_at text s → a < s) where
+module _ (text xs : List ℕ) (s : ℕ) (behind : (a : ℕ) → Contains xs a → name_at text a ≡ name_at text s → a < s) where
   kept : (b : ℕ) → IsRepeat text xs b → IsRepeat text (xs ++ s ∷ []) b
   kept b r = record {
     given = Contains-append_left xs (s ∷ []) b r.given;
@@ -65,7 +65,7 @@ module _ (text xs : List ℕ) (s : ℕ) (behind : (a : ℕ) → Contains xs a �
 
   -- a repeat was one before, or it is this label
   new_or_kept : (b : ℕ) → IsRepeat text (xs ++ s ∷ []) b
-      → IsRepeat text xs b ⊎ ((b ≡ s) × (a : ℕ) × Contains xs a × (word_at text a ≡ word_at text s))
+      → IsRepeat text xs b ⊎ ((b ≡ s) × (a : ℕ) × Contains xs a × (name_at text a ≡ name_at text s))
   new_or_kept b r =
       let less : r.earlier < b = r.before in
       elim (Contains-push_cases xs s r.earlier r.given_before) [
@@ -78,12 +78,12 @@ module _ (text xs : List ℕ) (s : ℕ) (behind : (a : ℕ) → Contains xs a �
                 before = less;
                 same = r.same;
               })
-              | inr e ↦ inr (sym e, r.earlier, before, r.same ∙ ap (word_at text) (sym e))
+              | inr e ↦ inr (sym e, r.earlier, before, r.same ∙ ap (name_at text) (sym e))
             ]
         | inr e ↦
             elim (Contains-push_cases xs s b r.given) [
               | inl given ↦
-                  let lt : b < s = behind b given (sym r.same ∙ ap (word_at text) (sym e)) in absurd (omega arith)
+                  let lt : b < s = behind b given (sym r.same ∙ ap (name_at text) (sym e)) in absurd (omega arith)
               | inr f ↦ absurd (omega arith)
             ]
       ]
@@ -136,23 +136,23 @@ module _ (text labels : List ℕ) (sorted : IsSortedBy (is_before text) labels) 
       sorted_far (is_before text) (ranks_by (compared_total text) (λ (x : ℕ). x)) labels sorted i j 0 le within
 
   sandwich : (i k j : ℕ) → i ≤ k → k ≤ j → j < length labels
-      → word_at text (get_or labels i 0) ≡ word_at text (get_or labels j 0)
-      → (word_at text (get_or labels i 0) ≡ word_at text (get_or labels k 0))
+      → name_at text (get_or labels i 0) ≡ name_at text (get_or labels j 0)
+      → (name_at text (get_or labels i 0) ≡ name_at text (get_or labels k 0))
       × (get_or labels i 0 ≤ get_or labels k 0)
   sandwich i k j le ge within same =
       let a = get_or labels i 0 in
       let c = get_or labels k 0 in
       let b = get_or labels j 0 in
-      let r = slice_cmp nat_cmp (word_at text c) (word_at text a) in
-      let turned : slice_cmp nat_cmp (word_at text b) (word_at text c) ≡ ordering_reverse r =
-      ap (λ (w : List ℕ). slice_cmp nat_cmp w (word_at text c)) (sym same)
-      ∙ nat_list_cmp_total.antisymm (word_at text a) (word_at text c) in
-      let all = between r (slice_cmp nat_cmp (word_at text b) (word_at text c)) a c b turned
+      let r = slice_cmp nat_cmp (name_at text c) (name_at text a) in
+      let turned : slice_cmp nat_cmp (name_at text b) (name_at text c) ≡ ordering_reverse r =
+      ap (λ (w : List ℕ). slice_cmp nat_cmp w (name_at text c)) (sym same)
+      ∙ nat_list_cmp_total.antisymm (name_at text a) (name_at text c) in
+      let all = between r (slice_cmp nat_cmp (name_at text b) (name_at text c)) a c b turned
       (far i k le (omega arith)) (far k j ge within) in
-      (sym ((word_decides r (is_eq r) (word_at text c) (word_at text a) refl refl).0 all.0), all.1)
+      (sym ((word_decides r (is_eq r) (name_at text c) (name_at text a) refl refl).0 all.0), all.1)
 
   pub label_looked : (i : ℕ) (first : Option ℕ) (known : Bool) → IsDistinct nat_eq labels → 0 < i → i < length labels
-      → Decides known (word_at text (get_or labels (i - 1) 0) ≡ word_at text (get_or labels i 0))
+      → Decides known (name_at text (get_or labels (i - 1) 0) ≡ name_at text (get_or labels i 0))
       → IsFirstRepeat text (take i labels) first
       → IsFirstRepeat text (take (i + 1) labels) (cond known (Some (least first (get_or labels i 0))) first)
   label_looked i first known apart some within decides k =

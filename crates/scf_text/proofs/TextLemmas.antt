@@ -1,5 +1,5 @@
 -- What reading a text gives.
-use Rattle.scf_text.proofs.Common.{◌≡◌, ◌≢◌, ℕ, ◌<◌, List, [], map, Option, Some, None, Result, Ok, Err, refl, sym, ap, subst, ◌∙◌, arith, append-nil, flat_map, option_or, option_map, IfOk, IfErr, Vec, nat_eq, bytes_eq, Contains, All-nil, Contains-permutation, IsDistinct, IsPermutation, IsPermutation-refl, IsPermutation-sym, Insn, TextFault, Statement, labels_from, Places, place_of, places_in, statements_of, drafts_in, drafts_of, Spells, ascii_fault, statements_fault, targets_fault, fault_of, IsFault, NumberedDraft, TellsInsns, TellsText, fault_in, Labels, labels_at, repeat_fault, IsFirstRepeat, TellsRepeat, word_at, drafts_view, begins_of, AreKept, IsEnded, IsLeft, Leaves, HaveTokens}
+use Rattle.scf_text.proofs.Common.{◌≡◌, ◌≢◌, ℕ, ◌<◌, List, [], map, Option, Some, None, Result, Ok, Err, refl, sym, ap, subst, ◌∙◌, arith, append-nil, flat_map, option_or, option_map, IfOk, IfErr, Vec, nat_eq, bytes_eq, Contains, All-nil, Contains-permutation, IsDistinct, IsPermutation, IsPermutation-refl, IsPermutation-sym, IsSortedBy, is_before, Insn, TextFault, Statement, labels_from, Places, place_of, places_in, statements_of, drafts_in, drafts_of, Spells, ascii_fault, statements_fault, targets_fault, fault_of, IsFault, NumberedDraft, TellsInsns, TellsText, fault_in, Labels, labels_at, repeat_fault, IsFirstRepeat, TellsRepeat, name_at, drafts_view, begins_of, AreKept, IsEnded, IsLeft, IsRead, Leaves, HaveTokens}
 use Rattle.scf_text.specs.declared.fault.TextFault.TheVariants as fault
 use Rattle.scf_text.specs.Drafts as drafts
 use Rattle.scf_text.proofs.ReadLemmas.{apart, fault_first, fault_then, is_fault, place_kept, place_left}
@@ -36,6 +36,7 @@ nothing_read text all none empty =
         rising = λ i j d lt within. absurd (omega arith);
         before = All-nil (λ s. s < 0);
         begun = All-nil (λ b. b < 0);
+        following = λ i j d le within. absurd (omega arith);
         repeat = None;
         first = λ b repeat. let lt : repeat.given.0 < 0 = repeat.given.1 in absurd (omega arith);
         fault = refl;
@@ -106,7 +107,7 @@ module _ {text : List ℕ} {all : List Statement} {sorted : List ℕ} where
         )
 
     pub names_told : {end : ℕ} {ds : List NumberedDraft} → IsLeft text end all [] sorted ds
-        → IsDistinct bytes_eq (map (word_at text) sorted)
+        → IsDistinct bytes_eq (map (name_at text) sorted)
     names_told left = names_apart text sorted (apart left.labels) (tells (apart left.labels))
 
 pub label_told : {T : Type 0} (e : TextFault) (r : Result T TextFault) (text : List ℕ) (end : ℕ)
@@ -120,20 +121,31 @@ label_told e (Ok x) text end all sorted ds left tells =
 label_told e (Err f) text end all sorted ds ended tells =
     (told_fault e ended.labels (tells (apart ended.labels)), ended.some)
 
-pub text_tells : (text : List ℕ) {end : ℕ} {sorted : List ℕ} {ds : List NumberedDraft}
-    (r : Result (Vec Insn) TextFault) → IsLeft text end (statements_of text) [] sorted ds
-    → (IsDistinct nat_eq sorted → IsFirstRepeat text sorted None)
-    → TellsInsns (targets_fault (place_of (labels_at text (begins_of ds) sorted)) 0 (drafts_view ds))
-    (place_of (labels_at text (begins_of ds) sorted)) (drafts_view ds) r → TellsText (fault_in text) text r
-unfolding fault_in
-text_tells text {sorted = sorted} {ds} r left tells h =
-    let all = statements_of text in
+pub is_read : (text : List ℕ) {end : ℕ} {sorted : List ℕ} {ds : List NumberedDraft}
+    → IsLeft text end (statements_of text) [] sorted ds → IsSortedBy (is_before text) sorted
+    → (IsDistinct nat_eq sorted → IsFirstRepeat text sorted None) → IsRead text sorted ds
+is_read text {sorted = sorted} {ds} left ordered tells =
     let k = left.labels in
-    let named : place_of (labels_at text (begins_of ds) sorted) ≡ places_in all =
-    places_moved text (begins_of ds) k.labels sorted k.moved (names_told tells left)
-    ∙ ap place_of k.named ∙ ap places_in (all_read left) in
-    tells_then (statements_fault [] all) (targets_fault (places_in all) 0 (drafts_of text)) (places_in all)
-    (drafts_of text) r (first_fault None k (tells (apart k))) (rw (named, drafts_read left) at h)
+    let distinct = names_told tells left in
+    record {
+      sorted = ordered;
+      distinct = distinct;
+      following = k.following;
+      faultless = first_fault None k (tells (apart k));
+      written = drafts_read left;
+      places = places_moved text (begins_of ds) k.labels sorted k.moved distinct ∙ ap place_of k.named
+          ∙ ap places_in (all_read left);
+    }
+
+pub read_tells : (text labels : List ℕ) (ds : List NumberedDraft) (r : Result (Vec Insn) TextFault)
+    → IsRead text labels ds
+    → TellsInsns (targets_fault (place_of (labels_at text (begins_of ds) labels)) 0 (drafts_view ds))
+    (place_of (labels_at text (begins_of ds) labels)) (drafts_view ds) r → TellsText (fault_in text) text r
+unfolding fault_in
+read_tells text labels ds r read h =
+    let places = places_in (statements_of text) in
+    tells_then (statements_fault [] (statements_of text)) (targets_fault places 0 (drafts_of text)) places
+    (drafts_of text) r read.faultless (rw (read.places, read.written) at h)
 
 pub ascii_fails : (e : TextFault) (text : List ℕ) → ascii_fault 1 text ≡ Some e → IsFault e (fault_of text)
 unfolding fault_of fault_in

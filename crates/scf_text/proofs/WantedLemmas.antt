@@ -20,13 +20,12 @@ no_labels at (s ∷ ss) none =
     rw both.0 (no_labels (at + 0) ss both.1)
 
 -- some instruction was read where one of them is refused
-pub drafts_words : {T E : Type 0} (ss : List Statement) (lines kept : List NumberedDraft) (r : Result T E)
-    → kept ≡ lines
-    → drafts_view lines ≡ flat_map drafts_in ss → OnErr r (0 < length kept) → OnErr r (HaveTokens ss)
-drafts_words ss lines kept (Ok v) same read some = tt
-drafts_words ss lines kept (Err e) same read some = λ none.
-    let no_lines = none_mapped _ lines (read ∙ no_drafts ss none) in
-    omega (arith, ap length same, ap length no_lines, some)
+pub drafts_words : {T E : Type 0} (ss : List Statement) (kept : List NumberedDraft) (r : Result T E)
+    → drafts_view kept ≡ flat_map drafts_in ss → OnErr r (0 < length kept) → OnErr r (HaveTokens ss)
+drafts_words ss kept (Ok v) read some = tt
+drafts_words ss kept (Err e) read some = λ none.
+    let no_lines = none_mapped _ kept (read ∙ no_drafts ss none) in
+    omega (arith, ap length no_lines, some)
 
 no_tokens : (n : ℕ) (lines : List (List ℕ)) → flat_map words_of_line lines ≡ []
     → flat_map (λ (s : Statement). s.tokens) (statements_from n lines) ≡ []

@@ -6,8 +6,8 @@ ghost use Rattle.scf_text.specs.Drafts.{is_below};
 ghost use Rattle.scf_text.specs.Statements.{Statement, statements_of};
 ghost use Rattle.scf_text.specs.Spelling.{Spells};
 ghost use Rattle.scf_text.specs.Tokens.{tokens_of};
-ghost use Rattle.scf_text.specs.Faults.{IsFault, ascii_fault, targets_fault, fault_of};
-ghost use Rattle.scf_text.specs.internal.Reading.{drafts_view, HaveTokens, IsLeft, Leaves};
+ghost use Rattle.scf_text.specs.Faults.{IsFault, ascii_fault, statements_fault, targets_fault, fault_of};
+ghost use Rattle.scf_text.specs.internal.Reading.{drafts_view, HaveTokens, IsLeft, IsRead, Leaves};
 ghost use Rattle.scf_text.specs.internal.Results.{TellsTarget, TellsInsn, TellsInsns, TellsText, fault_in, places_view};
 ghost use Rattle.scf_text.specs.internal.Views.{written_view, draft_view};
 
@@ -15,7 +15,7 @@ use crate::draft::Written;
 use crate::fault::TextFault;
 use crate::label::{check_labels, compare_with};
 use crate::numbered_draft::NumberedDraft;
-use crate::part::Part;
+use crate::part::LinePart;
 use crate::places::Places;
 use crate::statement::add_line;
 use crate::token::{first_line, without_comment};
@@ -53,7 +53,7 @@ fn read_text<'a>(
     let mut number = 1;
     'lines: loop {
         let (line, after) = first_line(rest);
-        let part = Part {
+        let part = LinePart {
             line: number,
             start: text.len() - rest.len(),
             bytes: without_comment(line),
@@ -80,8 +80,7 @@ fn find_place(places: &Places<'_>, name: &[u8]) -> Option<usize>
         return None;
     };
     let label = places.labels[index];
-    let before = places.drafts.iter().take_while(|draft| draft.start < label);
-    Some(before.count())
+    Some(places.drafts.partition_point(|draft| draft.start < label))
 }
 
 /// The number that is written, or the offset to the label, below the limit.
@@ -149,12 +148,16 @@ fn resolve_all(alloc: Global, places: &Places<'_>) -> Result<Vec<Insn>, TextFaul
     Ok(insns)
 }
 
-/// What the statements of an ASCII text say.
+/// Reads the statements of an ASCII text: its labels in order, and its instructions.
 ///
 /// A label that is given twice stands in no statement behind the one at which the reading ended, and in that one its
 /// fault comes first.
-fn read_all(alloc: Global, text: &[u8]) -> Result<Vec<Insn>, TextFault>
-    ensures tells { TellsText (fault_in text.now) text.now result }
+fn read_statements<'a>(
+    alloc: Global,
+    text: &'a [u8],
+) -> Result<(Vec<usize>, Vec<NumberedDraft<'a>>), TextFault>
+    ensures read { IfOk result (λ read. IsRead text.now read.0.items read.1.items) }
+    ensures fault { IfErr result (λ e. IsFault e (statements_fault [] (statements_of text.now))) }
     ensures some { OnErr result (HaveTokens (statements_of text.now)) }
 {
     let mut labels = Vec::new(alloc);
@@ -162,6 +165,15 @@ fn read_all(alloc: Global, text: &[u8]) -> Result<Vec<Insn>, TextFault>
     let read = read_text(text, &mut labels, &mut drafts);
     check_labels(text, &mut labels)?;
     read?;
+    Ok((labels, drafts))
+}
+
+/// What the statements of an ASCII text say.
+fn read_all(alloc: Global, text: &[u8]) -> Result<Vec<Insn>, TextFault>
+    ensures tells { TellsText (fault_in text.now) text.now result }
+    ensures some { OnErr result (HaveTokens (statements_of text.now)) }
+{
+    let (labels, drafts) = read_statements(alloc, text)?;
     resolve_all(
         alloc,
         &Places {

@@ -5,7 +5,7 @@ ghost use Rattle.std.specs.List.{IsDistinct};
 ghost use Rattle.std.specs.List.Sorted.{IsPermutation, IsSortedBy};
 ghost use Rattle.std.specs.Ordering.{nat_cmp};
 ghost use Rattle.scf_text.specs.internal.Labels.{compared, is_before, IsFirstRepeat, TellsRepeat};
-ghost use Rattle.scf_text.specs.internal.Places.{word_at, line_at};
+ghost use Rattle.scf_text.specs.internal.Places.{name_at, line_at};
 
 use crate::fault::TextFault;
 use crate::token::is_of_word;
@@ -20,7 +20,7 @@ fn text_from(text: &[u8], place: usize) -> &[u8]
 
 /// Compares the words at two places, no further than they are alike.
 fn compare_words(text: &[u8], left: usize, right: usize) -> Ordering
-    ensures { result ≡ slice_cmp nat_cmp (word_at text.now left) (word_at text.now right) }
+    ensures { result ≡ slice_cmp nat_cmp (name_at text.now left) (name_at text.now right) }
 {
     let left = text_from(text, left)
         .iter()
@@ -33,7 +33,7 @@ fn compare_words(text: &[u8], left: usize, right: usize) -> Ordering
 
 /// Compares the word at this place with another, no further than they are alike.
 pub(crate) fn compare_with(text: &[u8], place: usize, name: &[u8]) -> Ordering
-    ensures { result ≡ slice_cmp nat_cmp (word_at text.now place) name.now }
+    ensures { result ≡ slice_cmp nat_cmp (name_at text.now place) name.now }
 {
     let word = text_from(text, place)
         .iter()

@@ -7,7 +7,7 @@ use crate::token::{Token, first_token};
 
 /// A part of a line without its comment: from where a statement begins to the end.
 #[derive(Clone, Copy)]
-pub(crate) struct Part<'a> {
+pub(crate) struct LinePart<'a> {
     /// The number of the line.
     pub(crate) line: usize,
     /// Where the part begins in the text.
@@ -25,6 +25,7 @@ pub(crate) enum Next<'a> {
 }
 
 /// What stands in front of a part of a line.
+#[tactic(auto, using(crate::proofs::PlaceLemmas::token_behind))]
 pub(crate) fn front(part: &[u8]) -> Next<'_>
     ensures words { (words_in part.now ≡ words_at result) × (others_in part.now ≡ others_at result) }
     ensures behind { LiesBehind part.now 0 result }

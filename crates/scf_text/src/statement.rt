@@ -4,7 +4,7 @@ ghost use Rattle.std.specs.Option.{option_map, unwrap_or};
 ghost use Rattle.scf_text.specs.Statements.{Statement, label_in, instruction_in};
 ghost use Rattle.scf_text.specs.internal.Reading.{drafts_view, IsLeft, Leaves, part_statements};
 ghost use Rattle.scf_text.specs.internal.Parts.{words_in, others_in, words_at, others_at, statements_after};
-ghost use Rattle.scf_text.specs.internal.Places.{IsPart, FollowsBehind, LiesBehind, word_at, place_after};
+ghost use Rattle.scf_text.specs.internal.Places.{IsLinePart, FollowsBehind, LiesBehind, name_at, place_after};
 ghost use Rattle.scf_text.specs.internal.Results.{TellsDraft, AddsLabel, AddsInstruction};
 ghost use Rattle.scf_text.specs.internal.Views.{draft_view};
 
@@ -13,7 +13,7 @@ use crate::fault::TextFault;
 use crate::form::Form;
 use crate::label::check_labels;
 use crate::numbered_draft::NumberedDraft;
-use crate::part::{Next, Part, front};
+use crate::part::{LinePart, Next, front};
 use scf_insn::kernel::BPF_MAXINSNS;
 
 /// Reads the instruction that a mnemonic and what follows it are, in this line and behind as many others, and gives
@@ -46,7 +46,7 @@ fn read_instruction<'a>(
 
 /// Where the label of the statement in front begins in the part, and what stands in front of what follows it.
 fn split_label(part: &[u8]) -> (Option<usize>, Next<'_>)
-    ensures label { option_map (word_at part.now) result.0 ≡ label_in (words_in part.now) }
+    ensures label { option_map (name_at part.now) result.0 ≡ label_in (words_in part.now) }
     ensures rest { words_at result.1 ≡ instruction_in (words_in part.now) }
     ensures stops { others_at result.1 ≡ others_in part.now }
     ensures behind { LiesBehind part.now (unwrap_or result.0 0) result.1 }
@@ -112,9 +112,9 @@ fn add_statement<'a>(
     text: &[u8],
     labels: &mut Vec<usize>,
     drafts: &mut Vec<NumberedDraft<'a>>,
-    part: Part<'a>,
+    part: LinePart<'a>,
 ) -> Result<Option<&'a [u8]>, TextFault>
-    requires { IsPart text.now part.line part.start part.bytes.now }
+    requires { IsLinePart text.now part.line part.start part.bytes.now }
     ensures leaves { (all rest : List Statement)
         → IsLeft text.now part.entry.start all
         ((record { line = part.entry.line; tokens = words_in part.entry.bytes.now }) ∷ rest) labels.old.items
@@ -135,9 +135,9 @@ pub(crate) fn add_line<'a>(
     text: &[u8],
     labels: &mut Vec<usize>,
     drafts: &mut Vec<NumberedDraft<'a>>,
-    line: Part<'a>,
+    line: LinePart<'a>,
 ) -> Result<(), TextFault>
-    requires { IsPart text.now line.line line.start line.bytes.now }
+    requires { IsLinePart text.now line.line line.start line.bytes.now }
     ensures { (all rest : List Statement)
         → IsLeft text.now line.entry.start all (part_statements line.entry.line line.entry.bytes.now ++ rest)
         labels.old.items drafts.old.items

@@ -7,7 +7,7 @@ ghost use Rattle.scf_text.specs.Drafts.{is_name};
 ghost use Rattle.scf_text.specs.Tokens.{before_comment, lexemes_from, lines_of, tokens_of};
 ghost use Rattle.scf_text.specs.Tokens.{IsSliceOf, lexemes};
 ghost use Rattle.scf_text.specs.internal.Parts.{begins_comment, lines_after};
-ghost use Rattle.scf_text.specs.internal.Places.{count_ends, word_at};
+ghost use Rattle.scf_text.specs.internal.Places.{count_ends, name_at};
 
 use scf_insn::Memory;
 use std::alloc::{AllocError, Global};
@@ -105,7 +105,7 @@ pub(crate) fn first_token(part: &[u8]) -> Option<Token<'_>>
         → lexemes_from at part.now ≡ (record { start = at + t.start; text = t.text.now })
         ∷ lexemes_from (at + (t.start + length t.text.now)) (drop (t.start + length t.text.now) part.now)) }
     ensures some { IfSome result (λ t. 0 < length t.text.now) }
-    ensures word { IfSome result (λ t. is_name t.text.now ≡ true → word_at part.now t.start ≡ t.text.now) }
+    ensures word { IfSome result (λ t. is_name t.text.now ≡ true → name_at part.now t.start ≡ t.text.now) }
     ensures within { IfSome result (λ t. t.start + length t.text.now ≤ length part.now) }
 {
     let start = blanks_len(part);

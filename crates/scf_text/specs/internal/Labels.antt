@@ -6,7 +6,7 @@ use Rattle.std.specs.List.{Contains, prefix_len}
 use Rattle.std.specs.Ordering.{is_lt, nat_cmp, ordering_then}
 use Rattle.scf_text.specs.declared.fault.TextFault.{TextFault}
 use Rattle.scf_text.specs.declared.fault.TextFault.TheVariants as fault
-use Rattle.scf_text.specs.internal.Places.{word_at, line_at}
+use Rattle.scf_text.specs.internal.Places.{name_at, line_at}
 
 -- names that stand for places, each with its place
 abbrev pub Labels : Type 0
@@ -15,11 +15,11 @@ Labels = List (List ℕ × ℕ)
 -- The labels that begin at these places, where instructions begin at those: a label stands for the number of the
 -- instructions before it.
 abbrev pub labels_at : List ℕ → List ℕ → List ℕ → Labels
-labels_at text begins starts = map (λ s. (word_at text s, prefix_len (λ b. nat_lt b s) begins)) starts
+labels_at text begins starts = map (λ s. (name_at text s, prefix_len (λ b. nat_lt b s) begins)) starts
 
 -- by their names, and those of one name by where they begin
 abbrev pub compared : List ℕ → ℕ → ℕ → Ordering
-compared text a b = ordering_then (slice_cmp nat_cmp (word_at text a) (word_at text b)) (nat_cmp a b)
+compared text a b = ordering_then (slice_cmp nat_cmp (name_at text a) (name_at text b)) (nat_cmp a b)
 
 abbrev pub is_before : List ℕ → ℕ → ℕ → Bool
 is_before text a b = is_lt (compared text a b)
@@ -30,7 +30,7 @@ pub record IsRepeat (text starts : List ℕ) (b : ℕ) : Type 0 where
   pub earlier : ℕ
   pub given_before : Contains starts earlier
   pub before : earlier < b
-  pub same : word_at text earlier ≡ word_at text b
+  pub same : name_at text earlier ≡ name_at text b
 
 -- the first of those, if there are any
 abbrev pub IsFirstRepeat : List ℕ → List ℕ → Option ℕ → Type 0

@@ -8,9 +8,9 @@ use Rattle.scf_text.specs.Characters.{is_line_end, is_word_byte}
 use Rattle.scf_text.specs.Drafts.{is_name}
 use Rattle.scf_text.specs.internal.Parts.{begins_in_word}
 
--- the word that begins at this place
-abbrev pub word_at : List ℕ → ℕ → List ℕ
-word_at text place = take_while is_word_byte (drop place text)
+-- the name that begins at this place: the word there
+abbrev pub name_at : List ℕ → ℕ → List ℕ
+name_at text place = take_while is_word_byte (drop place text)
 
 -- how many line ends there are
 abbrev pub count_ends : List ℕ → ℕ
@@ -21,7 +21,7 @@ abbrev pub line_at : List ℕ → ℕ → ℕ
 line_at text place = 1 + count_ends (take place text)
 
 -- The part begins at this place, in this line. No word goes on behind it.
-pub record IsPart (text : List ℕ) (line start : ℕ) (part : List ℕ) : Type 0 where
+pub record IsLinePart (text : List ℕ) (line start : ℕ) (part : List ℕ) : Type 0 where
   pub behind : List ℕ
   pub whole : drop start text ≡ part ++ behind
   pub ends : begins_in_word behind ≡ false
@@ -49,7 +49,7 @@ LiesBehind part place (End rest) = FollowsBehind part place rest
 -- The token begins at its start. If it is a name, it is the word there.
 abbrev pub BeginsAt : List ℕ → Next → Type 0
 BeginsAt part (Token t rest) =
-    (is_name t.text.now ≡ true → word_at part t.start ≡ t.text.now) × IsBehind part t.start rest.now
+    (is_name t.text.now ≡ true → name_at part t.start ≡ t.text.now) × IsBehind part t.start rest.now
 BeginsAt part (End rest) = Unit {0}
 
 -- where what follows a statement begins, or a place behind the part if nothing does

@@ -1,15 +1,18 @@
 -- What the code keeps of the statements that it has read.
 use Rattle.std.specs.Prelude.{◌≡◌, ◌≢◌, ℕ, ◌<◌, List, [], ◌∷◌, ◌++◌, map, Option, None, Result, Ok, Err}
-use Rattle.std.specs.List.{All, AllPairs, flat_map, enumerate_from}
-use Rattle.std.specs.List.Sorted.{IsPermutation}
+use Rattle.std.specs.List.{All, AllPairs, IsDistinct, flat_map, enumerate_from}
+use Rattle.std.specs.List.Sorted.{IsNonDecreasing, IsPermutation, IsSortedBy}
 use Rattle.std.specs.Option.{option_map, option_or, option_to_list}
+use Rattle.std.specs.Str.{bytes_eq}
 use Rattle.scf_text.specs.declared.fault.TextFault.{TextFault}
 use Rattle.scf_text.specs.declared.numbered_draft.NumberedDraft.{NumberedDraft}
 use Rattle.scf_text.specs.Drafts as drafts
 use Rattle.scf_text.specs.Faults.{IsFault, statements_fault}
-use Rattle.scf_text.specs.Statements.{Statement, place_of, labels_from, drafts_in, line_statements}
-use Rattle.scf_text.specs.internal.Labels.{Labels, labels_at, IsFirstRepeat, repeat_fault}
+use Rattle.scf_text.specs.Statements.{Statement, place_of, places_in, labels_from, drafts_in, drafts_of}
+use Rattle.scf_text.specs.Statements.{line_statements, statements_of}
+use Rattle.scf_text.specs.internal.Labels.{Labels, labels_at, is_before, IsFirstRepeat, repeat_fault}
 use Rattle.scf_text.specs.internal.Parts.{words_in, others_in}
+use Rattle.scf_text.specs.internal.Places.{name_at}
 use Rattle.scf_text.specs.internal.Views.{draft_view}
 
 -- each of the names is new: no earlier label has it
@@ -41,8 +44,8 @@ part_statements line part =
 abbrev pub HaveTokens : List Statement → Type 0
 HaveTokens ss = flat_map (λ (s : Statement). s.tokens) ss ≢ []
 
--- Labels that were given are kept by where they begin, all before this place, as instructions are. The first fault of
--- all these statements is the first repeat among the labels, or else a later one.
+-- Labels that were given are kept by where they begin, all before this place, as instructions are, which follow one
+-- another. The first fault of all these statements is the first repeat among the labels, or else a later one.
 pub record AreKept (text : List ℕ) (end : ℕ) (given : Labels) (all : List Statement) (later : Option TextFault)
     (begins kept : List ℕ) : Type 0 where
   pub labels : List ℕ
@@ -51,6 +54,7 @@ pub record AreKept (text : List ℕ) (end : ℕ) (given : Labels) (all : List St
   pub rising : AllPairs (λ a b. a < b) labels
   pub before : All (λ s. s < end) labels
   pub begun : All (λ b. b < end) begins
+  pub following : IsNonDecreasing begins
   pub repeat : Option ℕ
   pub first : IsFirstRepeat text labels repeat
   pub fault : statements_fault [] all ≡ option_or (option_map (repeat_fault text) repeat) later
@@ -79,3 +83,13 @@ abbrev pub Leaves : {T : Type 0} → List ℕ → Result T TextFault → List St
     → List NumberedDraft → Type 0
 Leaves text (Ok x) all rest end kept kept_drafts = IsLeft text (end x) all rest kept kept_drafts
 Leaves text (Err e) all rest end kept kept_drafts = IsEnded text all kept e
+
+-- All statements were read, and none has a fault: the labels are sorted, no two of one name, and stand for the places
+-- that the text gives to them.
+pub record IsRead (text labels : List ℕ) (drafts : List NumberedDraft) : Type 0 where
+  pub sorted : IsSortedBy (is_before text) labels
+  pub distinct : IsDistinct bytes_eq (map (name_at text) labels)
+  pub following : IsNonDecreasing (begins_of drafts)
+  pub faultless : statements_fault [] (statements_of text) ≡ None
+  pub written : drafts_view drafts ≡ drafts_of text
+  pub places : place_of (labels_at text (begins_of drafts) labels) ≡ places_in (statements_of text)

@@ -1,72 +1,29 @@
-use Rattle.scf_text.proofs.Common.{◌≡◌, Err, length_permutation, arith, err_from_is_err_and, statements_of}
-use Rattle.std.proofs.lemmas.Grind.{common_steps}
-use Rattle.scf_text.proofs.TextLemmas.{statements_fail, drafts_read, text_tells, nothing_read, sorted_leaves, label_told, ended_told, names_told}
-use Rattle.scf_text.proofs.ReadLemmas.{place_left}
+use Rattle.scf_text.proofs.Common.{err_from_is_err_and, statements_of}
+use Rattle.scf_text.proofs.TextLemmas.{read_tells, statements_fail}
 use Rattle.scf_text.proofs.WantedLemmas.{drafts_words}
 use Rattle.scf_text.proofs.assembler.read_all.Goals as goal
 
-pub returns-in_err-check_labels : goal.returns-in_err-check_labels
-returns-in_err-check_labels c =
+pub returns-in_err-labels-clause-tells : goal.returns-in_err-labels-clause-tells
+returns-in_err-labels-clause-tells c =
     let p = err_from_is_err_and c.from_residual.result c.from_residual.ensures.1 in
-    let text = c.args.text.now in
-    let read = c.read_text-read.ensures (statements_of text)
-    (nothing_read text (statements_of text) c.new-labels.ensures.items c.new-drafts.ensures.items) in
-    let moved = rw c.deref_mut.ensures.value at c.in_err-check_labels.ensures.permutation in
-    let kept = c.read_text-read.new.labels.items in
-    let sorted = c.check_labels.new.labels in
-    let drafts = c.read_text-read.new.drafts.items in
-    let refused = label_told c.in_err-check_labels.field-0.0 c.read_text-read.result text read.0 (statements_of text)
-    sorted drafts
-    (sorted_leaves c.read_text-read.result text read.0 (statements_of text) kept sorted drafts read.1 moved)
-    c.in_err-check_labels.ensures.tells in
-    record {
-      tells = rw (p.1, p.2) (statements_fail c.in_err-check_labels.field-0.0 text refused.0);
-      some = rw p.1 refused.1;
-    }
-
-pub returns-in_err-read : goal.returns-in_err-read
-returns-in_err-read c =
-    let p = err_from_is_err_and c.from_residual-in_err-read.result c.from_residual-in_err-read.ensures.1 in
-    let text = c.args.text.now in
-    let e = c.in_err-read.field-0.0 in
-    let read = c.in_err-read.ensures (statements_of text)
-    (nothing_read text (statements_of text) c.new-labels.ensures.items c.new-drafts.ensures.items) in
-    let moved = rw c.deref_mut.ensures.value at c.in_ok-check_labels.ensures.permutation in
-    let refused = ended_told c.in_ok-check_labels.ensures.tells e
-    (sorted_leaves {T = Unit {0}} (Err e) text read.0 (statements_of text) c.read_text-read.new.labels.items
-    c.check_labels.new.labels c.read_text-read.new.drafts.items read.1 moved) in
-    record {
-      tells = rw (p.1, p.2) (statements_fail e text refused.0);
-      some = rw p.1 refused.1;
-    }
+    rw (p.1, p.2) (statements_fail c.in_err-labels.field-0.0 c.args.text.now c.in_err-labels.ensures.fault)
 
 pub invariant_of-resolve_all : goal.invariant_of-resolve_all
 invariant_of-resolve_all c =
-    let text = c.args.text.now in
-    let read = c.in_ok-read.ensures (statements_of text)
-    (nothing_read text (statements_of text) c.new-labels.ensures.items c.new-drafts.ensures.items) in
-    let kept = c.read_text-read.new.labels in
-    let sorted = c.check_labels.new.labels in
-    let moved = rw c.deref_mut.ensures.value at c.in_ok-check_labels.ensures.permutation in
-    let back : c.deref.result.now ≡ sorted = grind (arith, common_steps, length_permutation) in
+    let read = c.in_ok-labels.ensures.read in
     record {
-      sorted = rw back c.in_ok-check_labels.ensures.sorted;
-      distinct = rw back
-          (names_told c.in_ok-check_labels.ensures.tells (place_left read.0 sorted read.1 (omega arith) moved));
+      sorted = rw c.deref.ensures.value read.sorted;
+      distinct = rw c.deref.ensures.value read.distinct;
+      following = rw c.deref-2.ensures.value read.following;
     }
 
 pub returns : goal.returns
 returns c =
-    let text = c.args.text.now in
-    let read = c.in_ok-read.ensures (statements_of text)
-    (nothing_read text (statements_of text) c.new-labels.ensures.items c.new-drafts.ensures.items) in
-    let kept = c.read_text-read.new.labels in
-    let sorted = c.check_labels.new.labels in
-    let moved = rw c.deref_mut.ensures.value at c.in_ok-check_labels.ensures.permutation in
-    let back : c.deref.result.now ≡ sorted = grind (arith, common_steps, length_permutation) in
+    let read = c.in_ok-labels.ensures.read in
+    let resolved = rw (c.deref.ensures.value, c.deref-2.ensures.value) at c.resolve_all.ensures in
     record {
-      tells = text_tells text c.resolve_all.result (place_left read.0 sorted read.1 (omega arith) moved)
-          c.in_ok-check_labels.ensures.tells (rw (back, c.deref-2.ensures.value) at c.resolve_all.ensures.tells);
-      some = drafts_words (statements_of text) c.read_text-read.new.drafts.items c.deref-2.result.now
-          c.resolve_all.result c.deref-2.ensures.value (drafts_read read.1) c.resolve_all.ensures.some;
+      tells = read_tells c.args.text.now c.in_ok-labels.labels.items c.in_ok-labels.drafts.items c.resolve_all.result
+          read resolved.tells;
+      some = drafts_words (statements_of c.args.text.now) c.in_ok-labels.drafts.items c.resolve_all.result read.written
+          resolved.some;
     }

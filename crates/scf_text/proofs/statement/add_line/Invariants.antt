@@ -1,9 +1,9 @@
-use Rattle.scf_text.proofs.Common.{◌≡◌, ◌+◌, List, ◌++◌, length, Statement, others_in, IsLeft, IsPart, part_statements}
+use Rattle.scf_text.proofs.Common.{◌≡◌, ◌+◌, List, ◌++◌, length, Statement, others_in, IsLeft, IsLinePart, part_statements}
 use Rattle.scf_text.proofs.statement.add_line.Given as goal
 
 abbrev pub invariant-statements : goal.invariant-statements
 invariant-statements l = record {
-  part : IsPart l.text l.part.line l.part.start l.part.bytes.now;
+  part : IsLinePart l.text l.part.line l.part.start l.part.bytes.now;
   end : l.part.start + length l.part.bytes.now ≡ l.line.start + length l.line.bytes.now;
   left : (all rest : List Statement)
       → IsLeft l.text l.line.start all (part_statements l.line.line l.line.bytes.now ++ rest) l.fn.labels.items
