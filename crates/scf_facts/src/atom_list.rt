@@ -96,7 +96,6 @@ impl WordFacts for AtomList {
         false
     }
 
-    #[tactic(auto, using(crate::proofs::AtomLaws::learned_now))]
     fn pick(&self) -> Option<[u32; 16]> {
         let mut words = [0; 16];
         for known in &self.learned {

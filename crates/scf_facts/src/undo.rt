@@ -87,7 +87,6 @@ pub(crate) fn make_room(trail: &mut Vec<Change>, marks: &[usize]) -> Result<(), 
 }
 
 /// Puts a change on the trail, where a mark is open and the last change past it doesn't cover this one.
-#[tactic(auto, using(crate::proofs::TrailLaws::known_covered, crate::proofs::TrailLaws::known_pushed))]
 pub(crate) fn note(trail: &mut Vec<Change>, marks: &[usize], change: Change) -> Result<(), Memory>
     requires { AreRising marks.now (length trail.old.items) }
     ensures room { (0 < length marks.now → vec_len trail.old < vec_capacity trail.old) → IsOk result }

@@ -135,7 +135,6 @@ impl WordSet {
     }
 
     /// Keeps the numbers that don't have the bits.
-    #[tactic(auto, using(crate::proofs::SetLaws::allows_refuted))]
     fn drop_bits(&mut self, alloc: Global, bits: Bits) -> Result<Former, Memory>
         ensures kept { OnOk result ((x : ℕ) → AllowsNumber self.new x ↔ (AllowsNumber self.old x × LacksBits bits x)) }
         ensures before { IfOk result (λ former. facts_before former self.new ≡ self.old) }

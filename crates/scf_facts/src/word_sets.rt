@@ -66,7 +66,7 @@ impl WordFacts for WordSets {
         })
     }
 
-    #[tactic(auto, using(crate::proofs::TrailLaws::known_now, crate::proofs::TrailLaws::exact_learned))]
+    #[tactic(auto, using(crate::proofs::TrailLaws::known_now))]
     fn learn(&mut self, atom: Atom, holds: bool) -> Result<(), Memory> {
         let word = atom.word();
         make_room(&mut self.trail, &self.marks)?;
@@ -101,7 +101,6 @@ impl WordFacts for WordSets {
         self.marks.len()
     }
 
-    #[tactic(auto, using(crate::proofs::TrailLaws::known_now))]
     fn tell(&self, atom: Atom) -> Tell {
         tell_known(&self.sets, &self.pairs, atom)
     }
@@ -111,7 +110,6 @@ impl WordFacts for WordSets {
         is_known_empty(&self.sets, &self.pairs)
     }
 
-    #[tactic(auto, using(crate::proofs::TrailLaws::known_now))]
     fn pick(&self) -> Option<[u32; 16]> {
         let mut words = pick_by_word(&self.sets)?;
         part_pairs(&self.sets, &self.pairs, &mut words);

@@ -1,5 +1,5 @@
-use Rattle.scf_facts.proofs.Common.{◌<◌, arith, length, WordChange}
-use Rattle.scf_facts.proofs.TrailLaws.{known_now, noted, allows_learned}
+use Rattle.scf_facts.proofs.Common.{◌<◌, arith, length, refl, set-get_or, WordChange}
+use Rattle.scf_facts.proofs.TrailLaws.{known_now, noted, allows_learned, exact_learned}
 use Rattle.scf_facts.proofs.word_sets.WordSetsWordFacts.learn.Goals as goal
 
 pub returns-clause-at_marks : goal.returns-clause-at_marks
@@ -22,3 +22,16 @@ returns-clause-law_learn c = λ words.
     simp known_now (allows_learned facts.sets.items facts.pairs.items c.word-word.result
     c.index_mut.result.now c.learn.new.self within c.index_mut.ensures.value c.args.atom c.args.holds
     c.word-word.ensures c.in_ok-former.ensures.learned words)
+
+pub returns-clause-exact : goal.returns-clause-exact
+returns-clause-exact c = λ keeps.
+    let facts = c.args.self.now in
+    let within : c.word-word.result < length facts.sets.items =
+    omega (arith, c.word-word.ensures, c.requires.word, facts.sixteen) in
+    simp known_now (exact_learned facts.sets.items facts.pairs.items c.word-word.result
+    c.index_mut.result.now c.learn.new.self within c.index_mut.ensures.value (c.in_ok-former.ensures.exact keeps))
+
+pub returns-in_err-former-clause-at_marks : goal.returns-in_err-former-clause-at_marks
+returns-in_err-former-clause-at_marks c = λ place _.
+    rw (c.make_room.ensures.items, c.in_err-former.ensures.refused, c.index_mut.ensures.value, set-get_or)
+    (λ words. (λ h. h, λ h. h), refl)
