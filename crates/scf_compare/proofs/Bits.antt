@@ -23,6 +23,3 @@ at_least x v e = grind arith
 
 pub below : (x v : ℕ) → leb v x ≡ false → x < v
 below x v e = grind arith
-
--- what an atom's answer about a whole word means
-pub ruleset whole_words = (word_is, word_isnt, at_least, below)

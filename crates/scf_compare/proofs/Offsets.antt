@@ -118,5 +118,3 @@ pub ruleset equal_offsets = (number_fits, sum_is, difference_is)
 pub ruleset sums_above = (image_within, sum_above, sum_above_all)
 
 pub ruleset differences_above = (number_fits, image_within, difference_on_arc, difference_above, difference_above_none)
-
-pub ruleset offset_values = (number_fits, image_bits, apart, inside, sum_by_bits, difference_by_bits)

@@ -1,5 +1,5 @@
 -- Orders of an image of a word whose mask has all bits from one on.
-use Rattle.scf_compare.proofs.Common.{◌≡◌, ℕ, ◌+◌, ◌-◌, ◌*◌, ◌/◌, ◌%◌, ◌<◌, ◌≤◌, ◌^◌, ◌↔◌, true, false, sym, ◌∙◌, arith, bit_and, bit_xor, nat_lt, xor_zero_r, le-ltb, pow_pos, shr_split, div-lt_iff_lt-mul, le-div_iff_mul-le, lt_of_mul-lt-mul_right, mod-eq_of_lt, mul-lt-mul_of_pos_right, one_more, of_multiple, beyond_mask, word_below}
+use Rattle.scf_compare.proofs.Common.{◌≡◌, ℕ, ◌+◌, ◌-◌, ◌*◌, ◌/◌, ◌%◌, ◌<◌, ◌≤◌, ◌^◌, ◌↔◌, true, false, sym, ◌∙◌, arith, bit_and, bit_xor, nat_lt, xor_zero_r, le-ltb, pow_pos, shr_split, div-lt_iff_lt-mul, le-div_iff_mul-le, lt_of_mul-lt-mul_right, mod-eq_of_lt, mul-lt-mul_of_pos_right, one_more, of_multiple, beyond_mask}
 use Rattle.scf_compare.proofs.Images.{shifted_back, under_mask}
 
 not_less : (a b : ℕ) → (a < b → ⊥) → nat_lt a b ≡ false
@@ -45,5 +45,3 @@ module _ (w s t m c k : ℕ) (none : c ≡ 0) (below : w < 2 ^ 32) (within : k <
       → nat_lt v (bit_xor (bit_and (w / 2 ^ s * 2 ^ t) m) c) ≡ false
   image_not_above v past =
       grind (arith, above_quotient, div-lt_iff_lt-mul, not_less, number_of_bits, pow_pos, shr_split)
-
-pub ruleset image_orders = (image_above, image_not_above, word_below, mod-eq_of_lt)

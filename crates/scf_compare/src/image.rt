@@ -198,7 +198,6 @@ impl Image {
     }
 
     /// Whether it is a number, as an atom about its word.
-    #[tactic(auto, using(crate::proofs::Images::image_is))]
     pub(crate) fn is(self, v: u32) -> Decision
         requires { IsImage self }
         ensures asks { IsTestDecision result }
@@ -220,7 +219,6 @@ impl Image {
     }
 
     /// Whether it is above a number, as an atom about its word, where its mask has all bits of the word from one on.
-    #[tactic(auto, using(crate::proofs::Orders::image_orders))]
     pub(crate) fn is_above(self, v: u32) -> Decision
         requires { IsImage self }
         ensures asks { IsTestDecision result }

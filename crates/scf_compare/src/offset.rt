@@ -20,7 +20,6 @@ pub(crate) struct Offset {
 
 impl Offset {
     /// An image. Where all bits under its mask are flipped or none is, it is an offset of the image without flips.
-    #[tactic(auto, using(crate::proofs::Offsets::unflipped_sum, crate::proofs::Offsets::flipped_difference))]
     pub(crate) fn of(image: Image) -> Offset
         requires { IsImage image }
         ensures image { IsImage result.image }
@@ -94,7 +93,6 @@ impl Offset {
     }
 
     /// It as a value: an image where no bit is carried.
-    #[tactic(auto, using(crate::proofs::Offsets::offset_values))]
     pub(crate) fn value(self) -> Value
         requires { IsImage self.image }
         ensures value { IsValue result }

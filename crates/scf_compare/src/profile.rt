@@ -49,7 +49,6 @@ pub(crate) enum ProfileNode {
 
 impl ByNumber<'_> {
     /// What comes next at a node, for the words that the facts allow.
-    #[tactic(auto, using(scf_profile::specs::ProfileAnswers::foreign, crate::proofs::Bits::whole_words))]
     pub(crate) fn turn<F: WordFacts>(
         &self,
         facts: &F,

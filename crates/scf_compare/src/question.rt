@@ -132,7 +132,6 @@ impl Way {
 }
 
 /// What a part of a condition asks.
-#[tactic(auto, using(scf_profile::proofs::NumberTests::plain_of))]
 pub(crate) fn question_of(condition: Condition, part: ConditionPart) -> Question
     requires { condition.index < seccomp_data_args }
     ensures word { word_of result.atom < 16 }

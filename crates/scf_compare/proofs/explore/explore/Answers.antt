@@ -1,38 +1,54 @@
-use Rattle.scf_compare.proofs.Common.{◌≡◌, ◌⊎◌, ◌∙◌, ℕ, List, inl, inr, arith, rules, Option, None, IfSome, IsSome, IsDecided, Compared, AllRelated, IsTrueVerdict, WereSeen, WereAllSeen, verdict_of_all}
+use Rattle.scf_compare.proofs.Common.{◌≡◌, ◌+◌, ◌<◌, ◌≤◌, ◌⊎◌, ◌∙◌, ℕ, List, inl, inr, arith, Option, None, Some, IfSome, IsSome, IsDecided, Compared, AllRelated, IsTrueVerdict, WereSeen, WereAllSeen, verdict_of_all}
+use Rattle.scf_compare.specs.Verdicts.{IsWithin}
 use Rattle.scf_compare.proofs.explore.explore.Goals as goal
 
 -- what was seen stays so
 still_seen : (compared : Compared) (old new : Option ℕ) (words : List ℕ) → (IsSome old → new ≡ old)
     → WereSeen compared old words → WereSeen compared new words
-still_seen compared old new words first seen = grind arith
+still_seen compared old new words first seen = elim seen [
+  | inl related ↦ inl related
+  | inr open_end ↦ inr (rw (first open_end.0) open_end.0, open_end.1)
+]
 
 -- words that were seen before, or are seen now, were seen
 all_seen : (compared : Compared) (old new : Option ℕ) (words : List ℕ) (ahead : Type 0) → (IsSome old → new ≡ old)
     → WereSeen compared old words ⊎ ahead → (ahead → WereSeen compared new words) → WereSeen compared new words
-all_seen compared old new words ahead first seen now = grind (arith, still_seen)
+all_seen compared old new words ahead first seen now = elim seen [
+  | inl before ↦ still_seen compared old new words first before
+  | inr ahead ↦ now ahead
+]
 
 -- so the verdict is true, all was seen, and it decides where nothing is left open
 of_all : (compared : Compared) (steps limit effort : ℕ) (left_open : Option ℕ) → IfSome left_open compared.is_place
     → ((words : List ℕ) → compared.in_scope words → WereSeen compared left_open words)
+    → (0 < limit) × (steps ≤ limit) × (steps ≤ effort)
     → let verdict = verdict_of_all steps left_open in
-    IsTrueVerdict compared verdict × WereAllSeen compared verdict
+    IsTrueVerdict compared verdict × WereAllSeen compared verdict × IsWithin limit effort verdict
     × (left_open ≡ None → IsDecided (AllRelated compared) limit effort verdict)
-of_all compared steps limit effort left_open place seen = grind arith
+of_all compared steps limit effort None place seen bounds =
+    let all : AllRelated compared = λ words within.
+    elim (seen words within) [ inl related ↦ related | inr open_end ↦ absurd (let none = open_end.0 in cc) ] in
+    (all, tt, (bounds.1, bounds.2), λ _. all)
+of_all compared steps limit effort (Some at) place seen bounds = (place, seen, bounds.0, λ e. absurd (cc))
 
 pub returns-in-AllSeen : goal.returns-in-AllSeen
 returns-in-AllSeen g c =
     let after = c.in_ok-next.ensures in
     let seen = rw c.in-AllSeen.is at after.stage in
     let compared = g.C.Comparison.compared c.args.comparison.now in
+    let tree = g.C.Comparison.tree c.args.comparison.now in
+    let counts = g.met.C.Comparison.counts c.args.comparison.now c.loop-steps.known c.loop-steps.node in
     let all =
-    of_all compared _ c.args.limit _ c.advance.new.left_open after.place
-    (λ words within. all_seen _ _ _ words _ after.first (c.loop-steps.invariant.words words within) (seen words)) in
+    of_all compared (c.loop-steps.steps + 1) c.args.limit
+    ((tree c.args.start).size c.args.root) c.advance.new.left_open after.place
+    (λ words within. all_seen _ _ _ words _ after.first (c.loop-steps.invariant.words words within) (seen words))
+    (omega arith, omega arith, omega (arith, c.loop-steps.invariant.size, counts)) in
     rw c.seen_in.ensures (record {
       holds = all.0;
-      within = search rules;
+      within = all.2;
       seen = all.1;
       decided = λ exact plain.
-          let before = c.loop-steps.invariant.exact exact plain in all.2 (after.exact before.1 ∙ before.0);
+          let before = c.loop-steps.invariant.exact exact plain in all.3 (after.exact before.1 ∙ before.0);
     })
 
 pub returns-in-Found : goal.returns-in-Found

@@ -1,4 +1,4 @@
-use Rattle.scf_compare.proofs.Common.{common_steps, arith, inr}
+use Rattle.scf_compare.proofs.Common.{common_steps, arith, inl, inr, refl}
 use Rattle.scf_compare.specs.internal.Ends.{IsOpen}
 use Rattle.scf_compare.proofs.explore.judge.Goals as goal
 
@@ -10,3 +10,11 @@ returns-clause-seen g c =
       grind (arith, common_steps),
       record { end = c.args.end; is_end = c.requires.end; is_open = is_open; tells = tells },
     )
+
+pub returns-then-relates-clause-seen : goal.returns-then-relates-clause-seen
+returns-then-relates-clause-seen g c = λ words _ tells.
+    let answers = rw c.in-Some.is at tells.0 in
+    inl (c.in-Some.answer.0, c.args.end.profile.0, answers, tells.1, c.if-relates.ensures.0 refl)
+
+pub returns-then-is_empty-clause-exact : goal.returns-then-is_empty-clause-exact
+returns-then-is_empty-clause-exact g c = λ _ _ _. refl

@@ -10,7 +10,7 @@ returns-in-Next c = record {
   leads = λ words w r.
       leads c.requires.stands r (c.requires.safe words) _ (sym c.of.ensures.flow ∙ c.in-Next.is) _
       (λ t. c.apply.ensures.describes words r.state t w r.describes);
-  costs = grind (arith, size_by_flow c.requires.stands);
+  costs = omega (arith, (rw (sym c.of.ensures.flow ∙ c.in-Next.is) at (size_by_flow c.requires.stands)).0);
   plain = λ plain.
       let loads =
       rw (sym c.of.ensures.flow ∙ c.in-Next.is) at (plain_flow _ _ _ _ plain.0 c.requires.stands) in
@@ -21,7 +21,7 @@ pub returns-in-Jump : goal.returns-in-Jump
 returns-in-Jump c = record {
   proper = search rules;
   leads = λ words w r. leads c.requires.stands r (c.requires.safe words) _ (sym c.of.ensures.flow ∙ c.in-Jump.is);
-  costs = grind (arith, size_by_flow c.requires.stands);
+  costs = omega (arith, (rw (sym c.of.ensures.flow ∙ c.in-Jump.is) at (size_by_flow c.requires.stands)).0);
   plain = search rules;
 }
 
@@ -31,7 +31,7 @@ returns-then-if_true-if_false c = record {
   leads = λ words w r.
       let on = leads c.requires.stands r (c.requires.safe words) _ (sym c.of.ensures.flow ∙ c.in-Branch.is) in
       grind (arith, common_steps, on);
-  costs = grind (arith, size_by_flow c.requires.stands);
+  costs = omega (arith, (rw (sym c.of.ensures.flow ∙ c.in-Branch.is) at (size_by_flow c.requires.stands)).0);
   plain = search rules;
 }
 
@@ -42,7 +42,8 @@ returns-else-if_true-if_false c = record {
       let on = leads c.requires.stands r (c.requires.safe words) _ (sym c.of.ensures.flow ∙ c.in-Branch.is) in
       let operand = c.operand.ensures.stands words r.state r.describes in
       let decides = c.decide-decision.ensures.decides words r.state.a _ w r.describes.a operand in
-      grind (arith, on.0, on.1, decides, c.turn_by.ensures);
+      turn_leads (filter_tree c.args.insns.now c.args.registers.now) _ words c.decide-decision.result _ _
+      c.turn_by.result _ c.turn_by.ensures decides on.0 on.1;
   costs = grind (arith, size_by_flow c.requires.stands);
   plain = λ plain.
       let branch =
@@ -74,7 +75,7 @@ returns-in-ReturnConstant c = record {
   proper = search rules;
   leads = λ words w r.
       leads c.requires.stands r (c.requires.safe words) _ (sym c.of.ensures.flow ∙ c.in-ReturnConstant.is);
-  costs = grind (arith, size_by_flow c.requires.stands);
+  costs = omega (arith, (rw (sym c.of.ensures.flow ∙ c.in-ReturnConstant.is) at (size_by_flow c.requires.stands)).0);
   plain = search rules;
 }
 
@@ -86,7 +87,7 @@ returns-in-ReturnAccumulator c = record {
       leads c.requires.stands r (c.requires.safe words) _ (sym c.of.ensures.flow ∙ c.in-ReturnAccumulator.is) in
       IfSome_then c.answer.result (c.answer.ensures words r.state.a r.describes.a)
       (λ (answer : Answer) same. subst (RunAnswers c.args.insns.now words) same answered);
-  costs = grind (arith, size_by_flow c.requires.stands);
+  costs = omega (arith, (rw (sym c.of.ensures.flow ∙ c.in-ReturnAccumulator.is) at (size_by_flow c.requires.stands)).0);
   plain = λ plain.
       let returns = plain_flow _ _ _ _ plain.0 c.requires.stands in
       grind (arith, common_steps, returns);

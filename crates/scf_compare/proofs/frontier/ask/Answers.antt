@@ -1,4 +1,4 @@
-use Rattle.scf_compare.proofs.Common.{◌∙◌, arith}
+use Rattle.scf_compare.proofs.Common.{◌≡◌, ◌↔◌, ◌∙◌, ℕ, List, true, arith, atoms_answer}
 use Rattle.scf_compare.proofs.Stages.{asked}
 use Rattle.scf_compare.proofs.frontier.ask.Goals as goal
 
@@ -11,6 +11,12 @@ returns-in_ok-learn-in-Still g c =
     let left = c.in-Still.atoms in
     let ensures = c.in_ok-branch_out-in-Still.ensures in
     let learned = c.in_ok-learn-in-Still.ensures in
+    let known = rw (← ensures.marks) at ensures.known in
+    let now : (words : List ℕ) → store.allows new (store.level new) words
+    ↔ (store.allows old (store.level old) words × (atoms_answer left words ≡ true)) = λ words. rw learned.marks (
+      λ h. let both = (learned.learned words).0 h in ((known.0 words).0 both.0, both.1),
+      λ h. (learned.learned words).1 ((known.0 words).1 h.0, h.1),
+    ) in
     asked store (g.C.Comparison.compared c.args.comparison.now) (g.C.Comparison.tree c.args.comparison.now)
     c.args.frontier.now (record { facts = new; branches = c.branch_out.new.self.branches }) c.requires.frontier
     c.args.known.now c.args.atoms left c.args.if_true c.args.if_false c.requires.proper
@@ -18,8 +24,13 @@ returns-in_ok-learn-in-Still g c =
     (record {
       branches = ensures.branches;
       marks = learned.marks ∙ ensures.marks;
-      levels = λ place up_to. grind (arith, ensures.marks, ensures.at_marks place, learned.at_marks place);
-      fewer = λ words allowed. grind (arith, learned.learned words, learned.marks, ensures.marks, ensures.known);
+      levels = λ place up_to.
+          let one = ensures.at_marks place up_to in
+          let other = learned.at_marks place (omega (arith, ensures.marks)) in (
+            λ words. (λ h. (one.0 words).0 ((other.0 words).0 h), λ h. (other.0 words).1 ((one.0 words).1 h)),
+            other.1 ∙ one.1,
+          );
+      fewer = λ words allowed. ((now words).0 allowed).0;
     })
-    (λ words. grind (arith, learned.learned words, learned.marks, ensures.marks, ensures.known))
-    (λ keeps was. grind (arith, learned.exact keeps, ensures.known))
+    now
+    (λ keeps was. rw learned.marks (learned.exact keeps (rw known.1 was)))

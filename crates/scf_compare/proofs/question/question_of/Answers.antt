@@ -1,6 +1,7 @@
 use Rattle.scf_compare.proofs.Common.{arith}
 use Rattle.scf_compare.proofs.Halves.{halves_of, on_way, on_opposite, opposite_size}
 use Rattle.scf_compare.specs.declared.question.Way.TheVariants.{Then}
+use Rattle.scf_profile.proofs.NumberTests.{plain_of}
 use Rattle.scf_compare.proofs.question.question_of.Goals as goal
 
 pub returns-then-expected-clause-splits : goal.returns-then-expected-clause-splits
@@ -26,3 +27,11 @@ returns-else-expected-clause-costs c = λ holds fails.
     rw (c.ask.ensures, c.opposite.ensures, c.opposite-else-expected.ensures)
     (rw (opposite_size asked.if_true holds fails, opposite_size asked.if_false holds fails)
     (omega (arith, c.ask_test-asked.ensures.costs fails holds, opposite_size (Then c.args.part) holds fails)))
+
+pub returns-then-expected-clause-keeps : goal.returns-then-expected-clause-keeps
+returns-then-expected-clause-keeps c = λ plain.
+    c.ask_test-asked.ensures.keeps (rw c.test-test.ensures (plain_of c.args.condition plain))
+
+pub returns-else-expected-clause-keeps : goal.returns-else-expected-clause-keeps
+returns-else-expected-clause-keeps c = λ plain.
+    rw c.ask.ensures (c.ask_test-asked.ensures.keeps (rw c.test-test.ensures (plain_of c.args.condition plain)))

@@ -1,4 +1,4 @@
-use Rattle.scf_compare.proofs.Common.{◌≡◌, Bool, true, false, List, ℕ, inl, inr}
+use Rattle.scf_compare.proofs.Common.{◌≡◌, Bool, true, false, List, ℕ, inl, inr, refl}
 use Rattle.scf_facts.specs.declared.atom.Atom.{Atom}
 use Rattle.scf_facts.specs.declared.atom.Tell.{Tell}
 use Rattle.scf_facts.specs.declared.atom.Tell.TheVariants.{Always, Never, Maybe}
@@ -25,3 +25,19 @@ returns-in-Maybe-tell-clause-untold g c = λ exact some allowed atom answer is s
           (c.tell-in-Maybe.ensures.told_always exact some allowed)
           (c.tell-in-Maybe.ensures.told_never exact some allowed) answer (rw e at same)
     ]
+
+pub returns-in-Always-tell-clause-untold : goal.returns-in-Always-tell-clause-untold
+returns-in-Always-tell-clause-untold g c = λ exact some allowed atom answer is same.
+    let facts = c.args.facts.now in
+    let store = g.F.WordFacts in
+    is_told c.tell.result c.in-Maybe.is (λ (answer : Bool).
+    (words : List ℕ) → store.allows facts (store.level facts) words → atom_answer c.in-Both.first words ≡ answer)
+    (c.tell.ensures.told_always exact some allowed) (c.tell.ensures.told_never exact some allowed) answer
+    (rw is at same)
+
+pub returns-in-Always-tell-clause-keeps : goal.returns-in-Always-tell-clause-keeps
+returns-in-Always-tell-clause-keeps g c = λ keeps. absurd ((rw c.in-Both.is at keeps).0)
+
+pub returns-in-Never-clause-answers : goal.returns-in-Never-clause-answers
+returns-in-Never-clause-answers g c = λ words allowed.
+    rw (c.in-Both.is, c.in-Never.ensures.law_never refl words allowed) refl

@@ -4,12 +4,29 @@ use Rattle.scf_compare.proofs.pair.PairComparison.turn.Goals as goal
 pub returns-in-Go : goal.returns-in-Go
 returns-in-Go g c =
     let turn = rw c.in-Go.is at c.turn_in_stack.ensures in
-    rw c.in-AtFilter.is (grind (arith, scaled_costs, turn.costs, turn.leads))
+    let size = stack_size c.args.self.now.filters.now in
+    rw c.in-AtFilter.is (record {
+      proper = turn.proper;
+      leads = λ words given on. (on.0, turn.leads words on.0 on.1);
+      costs = omega (
+        arith,
+        scaled_costs (size c.in-Go.next) 0 (size c.in-AtFilter.node)
+            (8 + numbers_size c.args.self.now.profile.numbers) (omega (arith, turn.costs)) (omega arith),
+      );
+      plain = λ plain. (turn.plain plain.0, plain.1);
+    })
 
 pub returns-in-Split : goal.returns-in-Split
 returns-in-Split g c =
     let turn = rw c.in-Split.is at c.turn_in_stack.ensures in
-    rw c.in-AtFilter.is (grind (arith, scaled_costs, turn.costs, turn.leads))
+    let size = stack_size c.args.self.now.filters.now in
+    rw c.in-AtFilter.is (record {
+      proper = turn.proper;
+      leads = λ words given on. grind (arith, turn.leads words on.0 on.1);
+      costs = scaled_costs (size c.in-Split.if_true) (size c.in-Split.if_false) (size c.in-AtFilter.node)
+          (8 + numbers_size c.args.self.now.profile.numbers) turn.costs (omega arith);
+      plain = λ plain. let stays = turn.plain plain.0 in (stays.0, (stays.1, plain.1), (stays.2, plain.1));
+    })
 
 pub returns-in-End : goal.returns-in-End
 returns-in-End g c =
