@@ -1,6 +1,26 @@
-use Rattle.scf_compile.proofs.Common.{rules, ◌≡◌, ◌++◌, ap, arith, IfOk-weaker, sum_by, sum_by-append, IsFirst, IsPut, IsSearchPut, rules_code, stretch_bound}
-use Rattle.scf_compile.proofs.Searches.{one_is, search_branch, search_one}
+use Rattle.scf_compile.proofs.Common.{rules, IsRule, ◌≡◌, ◌++◌, ap, arith, IfOk-weaker, sum_by, sum_by-append, IsFirst, IsPut, IsSearchPut, rules_code, stretch_bound}
+use Rattle.scf_compile.proofs.Searches.{all_parts, one_is, search_branch, search_one}
 use Rattle.scf_compile.proofs.search.+put_search.Goals as goal
+
+pub put_search-requires : goal.put_search-requires
+put_search-requires t c =
+    let halves = c.split_at.ensures in
+    let sums = rw sum_by-append at (ap (sum_by stretch_bound) halves.by_index.0) in
+    (omega arith, (omega arith, ((all_parts IsRule _ _ (rw halves.by_index.0 at c.requires.rules)).0, omega arith)))
+
+pub put_search-requires-then-stretches-gt1 : goal.put_search-requires-then-stretches-gt1
+put_search-requires-then-stretches-gt1 t c =
+    let halves = c.split_at.ensures in
+    let sums = rw sum_by-append at (ap (sum_by stretch_bound) halves.by_index.0) in (
+      omega arith,
+      (
+        omega arith,
+        (
+          (all_parts IsRule _ _ (rw halves.by_index.0 at c.requires.rules)).1,
+          omega (arith, c.in_ok-miss.ensures.small),
+        ),
+      ),
+    )
 
 pub put_branch-requires-clause-few : goal.put_branch-requires-clause-few
 put_branch-requires-clause-few t c =
