@@ -38,4 +38,4 @@ pub use Rattle.scf_request.specs.declared.bundle.PartKind.TheVariants.{Filter, P
 pub use Rattle.scf_request.specs.declared.options.NumberOption.{NumberOption as Kept}
 pub use Rattle.scf_request.specs.Contents.{of_kind}
 pub use Rattle.scf_request.specs.internal.Contents.{with_one}
-pub use Rattle.scf_request.specs.internal.Parsing.{IsNamed, ReadsAsProgram, flags_in, option_of, options_kept, scf_with}
+pub use Rattle.scf_request.specs.internal.Parsing.{MakesNamed, ReadsAsProgram, flags_in, option_of, options_kept, scf_with}

@@ -98,7 +98,6 @@ fn count_of(digits: &[u8]) -> Option<usize>
 }
 
 /// The count in a header of this kind, given without its line end.
-#[tactic(auto, using(std::proofs::lemmas::Grind::common_steps, crate::proofs::HeaderLemmas::header_by_count, std::proofs::lemmas::Slice::Eq::strip_prefix_is))]
 fn count_in(kind: PartKind, line: &[u8]) -> Option<usize>
     ensures { MatchOption result
         ((n : ℕ) → IsHeader (line.now ++ codes "\n") kind n → ⊥)

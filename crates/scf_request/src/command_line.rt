@@ -1,10 +1,10 @@
 //! The words that the program takes.
 
 ghost use Rattle.std.specs.Prelude.{◌≡◌, [], codes, false, true, map, IfOk, IfSome};
-ghost use Rattle.clap.specs.Words.{FailsBy, app_of, fault_of, new_app, rule_of, subcommand_of, subcommand_rows_of};
+ghost use Rattle.clap.specs.Words.{App, FailsBy, Shape, app_of, fault_of, new_app, rule_of, subcommand_of, subcommand_rows_of, with_subcommand};
 ghost use Rattle.scf_request.specs.CommandLine.{flag_rule, option_rule, scf, shape_with};
 ghost use Rattle.scf_request.specs.Requests.Command.{Ask, Asm, Check, Compare, Compile, Decide, Dis, Run};
-ghost use Rattle.scf_request.specs.internal.Parsing.{IsNamed, ReadsAsProgram, definition_of, option_of, options_kept};
+ghost use Rattle.scf_request.specs.internal.Parsing.{MakesNamed, ReadsAsProgram, definition_of, option_of, options_kept};
 
 use crate::options::{
     CALLS_FLAG, NATIVE_FLAG, NO_LESS_FLAG, NO_MORE_FLAG, NumberOption, PATH_FLAG, call_options,
@@ -145,37 +145,47 @@ fn alone<'a>(alloc: Global) -> Command<'a>
         .subcommand_required(true)
 }
 
+/// The program with one command more, where both could be made.
+fn with<'a>(
+    program: Result<Command<'a>, AllocError>,
+    command: Result<Command<'a>, AllocError>,
+) -> Result<Command<'a>, AllocError>
+    ensures { (before : App) (own : Shape) → IfOk program.entry (λ p. app_of p ≡ before)
+        → IfOk command.entry (λ c. app_of c ≡ record { top = own; subs = [] }) → own.is_plain ≡ true
+        → IfOk result (λ whole. app_of whole ≡ with_subcommand before own) }
+{
+    program?.subcommand(command?)
+}
+
 /// The program with all its commands and their options.
 fn program<'a>(alloc: Global) -> Result<Command<'a>, AllocError>
     ensures { IfOk result (λ command. app_of command ≡ scf) }
 {
-    alone(alloc)
-        .subcommand(checking(alloc)?)?
-        .subcommand(running(alloc)?)?
-        .subcommand(deciding(alloc)?)?
-        .subcommand(listing(alloc)?)?
-        .subcommand(assembling(alloc)?)?
-        .subcommand(compiling(alloc)?)?
-        .subcommand(comparing(alloc)?)?
-        .subcommand(asking(alloc)?)
+    let program = with(Ok(alone(alloc)), checking(alloc));
+    let program = with(program, running(alloc));
+    let program = with(program, deciding(alloc));
+    let program = with(program, listing(alloc));
+    let program = with(program, assembling(alloc));
+    let program = with(program, compiling(alloc));
+    let program = with(program, comparing(alloc));
+    with(program, asking(alloc))
 }
 
 /// The command that the word names.
-fn command_named<'a>(alloc: Global, word: &str) -> Result<Option<Command<'a>>, AllocError>
-    ensures { IfOk result (λ found. IfSome found (λ command. IsNamed word.now (app_of command))) }
+fn command_named<'a>(alloc: Global, word: &str) -> Option<Result<Command<'a>, AllocError>>
+    ensures { IfSome result (MakesNamed word.now) }
 {
-    let command = match word {
-        "ask" => asking(alloc)?,
-        "asm" => assembling(alloc)?,
-        "check" => checking(alloc)?,
-        "compare" => comparing(alloc)?,
-        "compile" => compiling(alloc)?,
-        "decide" => deciding(alloc)?,
-        "dis" => listing(alloc)?,
-        "run" => running(alloc)?,
-        _ => return Ok(None),
-    };
-    Ok(Some(command))
+    Some(match word {
+        "ask" => asking(alloc),
+        "asm" => assembling(alloc),
+        "check" => checking(alloc),
+        "compare" => comparing(alloc),
+        "compile" => compiling(alloc),
+        "decide" => deciding(alloc),
+        "dis" => listing(alloc),
+        "run" => running(alloc),
+        _ => return None,
+    })
 }
 
 /// The program with the one command that the words begin with, or else with all. To define a command costs more than
@@ -184,8 +194,8 @@ fn program_for<'a, T: AsStr>(alloc: Global, words: &[T]) -> Result<Command<'a>, 
     ensures { IfOk result (λ command. ReadsAsProgram (app_of command) (map T.text words.now)) }
 {
     if let Some(word) = words.get(1) {
-        if let Some(command) = command_named(alloc, word.as_str())? {
-            return alone(alloc).subcommand(command);
+        if let Some(command) = command_named(alloc, word.as_str()) {
+            return with(Ok(alone(alloc)), command);
         }
     }
     program(alloc)

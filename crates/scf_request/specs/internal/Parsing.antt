@@ -1,7 +1,9 @@
 -- The program's options and commands, as it defines them.
-use Rattle.std.specs.Prelude.{◌≡◌, ℕ, List, [], ◌∷◌, map, true}
+use Rattle.std.specs.Prelude.{◌≡◌, ℕ, List, [], ◌∷◌, map, true, Result, IfOk}
+use Rattle.std.specs.declared.alloc.AllocError.{AllocError}
 use Rattle.std.specs.Borrow.{Bor}
-use Rattle.clap.specs.Words.{App, Text, fault_of, is_simple_and_free, subcommand_of}
+use Rattle.clap.specs.declared.builder.command.Command.{Command as Definition}
+use Rattle.clap.specs.Words.{App, Text, app_of, fault_of, is_simple_and_free, subcommand_of}
 use Rattle.scf_request.specs.declared.options.NumberOption.{NumberOption as Kept}
 use Rattle.scf_request.specs.Options.{NumberOption}
 use Rattle.scf_request.specs.CommandLine.{scf, scf_shape, shape_for}
@@ -25,9 +27,10 @@ definition_of command = record { top = shape_for command; subs = [] }
 abbrev pub scf_with : Command → App
 scf_with command = record { top = scf_shape; subs = shape_for command ∷ [] }
 
--- the word names a command, and this is it
-abbrev pub IsNamed : Text → App → Type 0
-IsNamed word app = (command : Command) × (word ≡ command_word command) × (app ≡ definition_of command)
+-- the word names a command, and what is made, unless memory is wanting, is its definition
+abbrev pub MakesNamed : Text → Result Definition AllocError → Type 0
+MakesNamed word made =
+    (command : Command) × (word ≡ command_word command) × IfOk made (λ d. app_of d ≡ definition_of command)
 
 -- The words come to the same by this definition as by the program's.
 pub record ReadsAsProgram (app : App) (words : List Text) : Type 0 where
