@@ -118,7 +118,6 @@ fn condition_of(
 }
 
 /// The conditions that the members of `args` state, one after another.
-#[tactic(auto, using(crate::proofs::Loops::items_left), unfolding(crate::specs::JsonMembers::each))]
 fn conditions_of(
     alloc: Global,
     entry: Option<u32>,

@@ -69,7 +69,6 @@ fn string_of(entry: Option<u32>, value: &Value) -> Result<&str, LoadFault>
 }
 
 /// The strings of an array.
-#[tactic(auto, using(crate::proofs::Loops::items_left), unfolding(crate::specs::JsonMembers::each))]
 pub(crate) fn strings_of<'v>(
     alloc: Global,
     entry: Option<u32>,

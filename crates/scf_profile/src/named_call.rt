@@ -33,7 +33,6 @@ fn add_name<'a>(
 }
 
 /// The names of each number.
-#[tactic(auto, using(std::proofs::lemmas::Grind::common_steps))]
 fn names_by_number(
     alloc: Global,
     numbers: &BTreeMap<String, u32>,

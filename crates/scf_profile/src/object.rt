@@ -93,7 +93,6 @@ pub(crate) fn find_architectures(
 }
 
 /// What the entries of an array state, each with its place.
-#[tactic(auto, using(crate::proofs::Loops::items_left), unfolding(crate::specs::JsonMembers::each))]
 fn entries_of<'v>(alloc: Global, items: &'v [Value]) -> Result<Vec<Entry<'v>>, LoadFault>
     ensures value { Gives faults.Memory (result_map (λ v. v.items) result)
         (each (λ before. entry_of (Some (length before))) [] (items_view items.now)) }

@@ -107,7 +107,7 @@ fn call_number(digits: &[u8]) -> Option<u32>
 }
 
 /// The name and the number on a line, where it has them.
-#[tactic(auto, using(crate::proofs::NamesOf::names_are_text), unfolding(crate::specs::Table::pair_of))]
+#[tactic(auto, unfolding(crate::specs::Table::pair_of))]
 pub(crate) fn entry_on(line: usize, text: &[u8]) -> Result<Option<(&str, u32)>, TableFault>
     ensures value { result_map (option_map (λ e. (e.0.now, e.1))) result
         ≡ entry_in line (fields text.now) }

@@ -1,5 +1,5 @@
 use Rattle.scf_profile.proofs.Common.{arith, each, ◌≡◌, ◌≢◌, false, List, [], ◌∷◌, ◌++◌, eqb, list_any, AllByRecursion, or_parts, eqb-false, Condition, IsCondition, HaveDistinctIndices, AreConditions}
-use Rattle.scf_profile.proofs.Loops.{items_left}
+use Rattle.scf_profile.proofs.Loops.{items_at, items_end, items_left}
 use Rattle.scf_profile.proofs.args.conditions_of.Goals as goal
 
 all_push : (P : Condition → Type 0) (cs : List Condition) (c : Condition) → AllByRecursion P cs → P c
@@ -28,3 +28,11 @@ loop-member-preserved c = record {
       (conditions_push c.loop-member.conditions.items c.in_ok-condition.condition c.loop-member.invariant.range
       c.in_ok-condition.ensures.range (rw c.deref.ensures.value at c.in_ok-condition.ensures.apart));
 }
+
+pub returns-clause-value : goal.returns-clause-value
+unfolding each
+returns-clause-value c = grind (arith, items_end)
+
+pub returns-in_err-condition-clause-value : goal.returns-in_err-condition-clause-value
+unfolding each
+returns-in_err-condition-clause-value c = grind (arith, items_at)
