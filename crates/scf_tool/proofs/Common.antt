@@ -1,5 +1,5 @@
 -- The names that proofs of this crate cite, passed on from one place. Declares nothing.
-pub use Rattle.std.proofs.Common.{Bor, Err, IfErr, IfSome, List, None, Ok, Option, Result, Some, String, [], add-one, ap, append-nil, append_assoc, arith, codes, drop, get_or, inl, inr, length, length-drop, map, refl, rules, set, string_bytes, subst, sym, take, ℕ, ◌++◌, ◌+◌, ◌<◌, ◌∙◌, ◌∷◌, ◌≡◌, ◌≢◌, ◌≤◌, ◌⊎◌}
+pub use Rattle.std.proofs.Common.{Err, IfErr, IfSome, List, None, Ok, Option, Result, Some, String, [], add-one, ap, append-nil, append_assoc, arith, codes, drop, get_or, inl, inr, length, length-drop, map, refl, set, string_bytes, subst, sym, take, ℕ, ◌++◌, ◌+◌, ◌<◌, ◌∙◌, ◌∷◌, ◌≡◌, ◌≢◌, ◌≤◌, ◌⊎◌}
 pub use Rattle.clap.specs.Words.{IsAmong, Row, Text, fault_of}
 pub use Rattle.clap.specs.declared.error.kind.ErrorKind.{ErrorKind}
 pub use Rattle.clap.specs.declared.error.kind.ErrorKind.TheVariants.{OutOfMemory}
@@ -11,17 +11,16 @@ pub use Rattle.std.specs.declared.alloc.Global.{Global}
 pub use Rattle.scf_compare.proofs.Common.{take_all}
 pub use Rattle.scf_compare.specs.declared.verdict.Verdict.{Verdict}
 pub use Rattle.scf_compile.proofs.Common.{drop_more, take_more}
-pub use Rattle.scf_facts.proofs.Common.{nat_tests, take-append-drop}
+pub use Rattle.scf_facts.proofs.Common.{take-append-drop}
 pub use Rattle.scf_insn.proofs.Common.{TakesAll, max_filter_len, max_insns_per_path, program_bytes}
 pub use Rattle.scf_insn.proofs.Written.{fails_then, takes_then}
 pub use Rattle.scf_insn.specs.declared.insn.Insn.{Insn}
 pub use Rattle.scf_machine.proofs.Common.{IsPush, cost_of}
-pub use Rattle.scf_profile.proofs.Common.{Answering, Names, Refuses, err_from_is_err_and, length-map, map-append, option_map_or, texts_at}
+pub use Rattle.scf_profile.proofs.Common.{Answering, Names, Refuses, err_from_is_err_and, map-append, option_map_or, texts_at}
 pub use Rattle.scf_profile.specs.declared.load_fault.LoadFault.{LoadFault}
 pub use Rattle.scf_text.proofs.Common.{each_fails, fails_first, flat_map, flat_map-append, writes_then}
-pub use Rattle.scf_request.specs.Bundle.{IsBundle}
 pub use Rattle.scf_tool.specs.CallReports.{joint_of, named_line}
-pub use Rattle.scf_tool.specs.Commands.{ComparesParts, HoldsBundle, NoReadFailed, ReadsInput}
+pub use Rattle.scf_tool.specs.Commands.{NoReadFailed, ReadsInput}
 pub use Rattle.scf_tool.specs.Faults.{number_words}
 pub use Rattle.scf_tool.specs.FilterStacks.{HasNoStack, HasStack, HaveEnded, HaveStopped, IsNotPushed}
 pub use Rattle.scf_tool.specs.Reports.{argument_text, name_line}
@@ -33,7 +32,6 @@ pub use Rattle.scf_tool.specs.VerifyingCalls.{IsVerdictOnCall}
 pub use Rattle.scf_tool.specs.VerifyingStacks.{AreComparedParties, IsRefusedStack}
 pub use Rattle.scf_request.specs.declared.contents.PartReader.{PartReader}
 pub use Rattle.scf_tool.specs.declared.fault.Fault.{Fault}
-pub use Rattle.scf_tool.specs.declared.fault.Fault.TheVariants.{Verify}
 pub use Rattle.scf_tool.specs.declared.fault_line.FaultField.{FaultField}
 pub use Rattle.scf_tool.specs.declared.parties.Parties.{Parties}
 pub use Rattle.scf_tool.specs.declared.reply.Reply.{Reply}

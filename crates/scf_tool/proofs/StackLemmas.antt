@@ -1,5 +1,5 @@
 -- Readers of filters, one after another.
-use Rattle.scf_tool.proofs.Common.{◌≡◌, ℕ, ◌+◌, ◌<◌, ◌≤◌, List, [], ◌∷◌, ◌++◌, length, take, drop, set, get_or, map, Option, Some, Ok, Err, Bor, refl, sym, ap, ◌∙◌, ◌≢◌, arith, add-one, length-drop, drop_more, take_more, take_more_set, set_split, drop-set-lt, take-append-drop, map-append, length-map, sum_by_push, AllZip, Insn, max_insns_per_path, IsPush, cost_of, PartReader, HasEnded, IsFilter, LeavesFilterReader, HasStack, HasNoStack, IsNotPushed, HaveEnded, HaveStopped, VerifyFault, FilterRead, IsBundle, HoldsBundle, ReadsInput, texts_at, rest_of}
+use Rattle.scf_tool.proofs.Common.{◌≡◌, ℕ, ◌+◌, ◌<◌, ◌≤◌, List, [], ◌∷◌, ◌++◌, length, take, drop, set, get_or, map, Option, Some, Ok, Err, refl, sym, ap, ◌∙◌, ◌≢◌, arith, add-one, length-drop, drop_more, take_more, take_more_set, set_split, drop-set-lt, take-append-drop, map-append, sum_by_push, AllZip, Insn, max_insns_per_path, IsPush, cost_of, PartReader, HasEnded, IsFilter, LeavesFilterReader, HasStack, HasNoStack, IsNotPushed, HaveEnded, HaveStopped, VerifyFault, FilterRead, rest_of}
 use Rattle.scf_insn.specs.declared.encoding.ReadFault.TheVariants as reads
 
 -- one more on both sides
@@ -105,14 +105,3 @@ told_of_parts (reader ∷ readers) = ap (λ told. Some (rest_of reader) ∷ told
 pub never_fails : {R : Type 0} (remaining : R → Option (List ℕ)) (fault : VerifyFault) (olds news : List R)
     → HaveStopped remaining (λ _. 0) fault olds news → fault ≢ FilterRead reads.Read
 never_fails remaining fault olds news h = grind arith
-
--- a bundle of filters, a profile and a table of which this holds
-pub bundle_compared : (told : Option (List ℕ)) (bytes : List ℕ) (readers : List PartReader)
-    (profiles tables : List (Bor (List ℕ))) (profile table : List ℕ) (holds : List (List ℕ) → List ℕ → List ℕ → Type 0)
-    → ReadsInput told (Ok bytes)
-    → IsBundle bytes (map rest_of readers) (texts_at profiles) (texts_at tables)
-    → texts_at profiles ≡ profile ∷ [] → texts_at tables ≡ table ∷ [] → 1 ≤ length readers
-    → holds (map rest_of readers) profile table
-    → (filters : List (List ℕ)) × (one other : List ℕ) × (1 ≤ length filters)
-    × HoldsBundle told filters (one ∷ []) (other ∷ []) × holds filters one other
-bundle_compared told bytes readers profiles tables profile table holds h1 h2 h3 h4 h5 h6 = grind (arith, length-map)

@@ -26,7 +26,7 @@ use crate::reporting::{
     failing, holding, write_answer_line, write_arguments, write_left_out, write_verdict, write_word,
 };
 use scf_compare::Verdict;
-use scf_insn::{Answer, Memory, Sink, WriteFault, write_whole};
+use scf_insn::{Answer, CallRecord, Memory, Sink, WriteFault, write_whole};
 use scf_profile::{Relation, Texts};
 use std::alloc::Global;
 
@@ -116,6 +116,24 @@ fn write_front<S: Sink>(sink: &mut S, call: &CallVerdict) -> Result<(), WriteFau
     write_whole(sink, b" ")
 }
 
+/// Writes the rest of the line of a call of whose answers a relation doesn't hold.
+fn write_difference_found<S: Sink>(
+    sink: &mut S,
+    relation: Relation,
+    call: &CallRecord,
+    filter: Answer,
+    profile: Answer,
+) -> Result<(), WriteFault>
+    ensures { Writes S.contents S.failures sink.old
+        (found_text relation (Verdict.Differs call.now filter profile)) result sink.new }
+{
+    write_pieces(sink, &[Text(failing(relation)), Text(" args")])?;
+    write_arguments(sink, &call.args)?;
+    write_whole(sink, b" filter ")?;
+    write_answer(sink, filter)?;
+    write_answer_line(sink, " profile", profile)
+}
+
 fn write_found<S: Sink>(
     sink: &mut S,
     relation: Relation,
@@ -128,13 +146,7 @@ fn write_found<S: Sink>(
             call,
             filter,
             profile,
-        } => {
-            write_pieces(sink, &[Text(failing(relation)), Text(" args")])?;
-            write_arguments(sink, &call.args)?;
-            write_whole(sink, b" filter ")?;
-            write_answer(sink, *filter)?;
-            write_answer_line(sink, " profile", *profile)
-        }
+        } => write_difference_found(sink, relation, call, *filter, *profile),
         _ => write_verdict(sink, relation, verdict),
     }
 }

@@ -1,10 +1,11 @@
 //! The program's commands.
 
-ghost use Rattle.std.specs.Prelude.{◌≡◌, ◌≢◌, ◌∷◌, [], length, map, MatchOption};
+ghost use Rattle.std.specs.Prelude.{◌≡◌, ◌≢◌, ◌∷◌, [], length, map, MatchOption, Ok, Err, IfErr, IfOk, OnOk};
 ghost use Rattle.scf_profile.specs.References.{texts_at};
-ghost use Rattle.scf_tool.specs.Commands.{IsTrueReply};
+ghost use Rattle.scf_tool.specs.Commands.{IsTrueReply, ReadsInput};
 ghost use Rattle.scf_tool.specs.Runs.{Ends, IsRunOfProgram};
 ghost use Rattle.scf_tool.specs.Statuses.{LeavesInput};
+ghost use Rattle.scf_tool.specs.Verifying.{HasEnded, HasFailedWhere};
 
 mod compare;
 mod filter;
@@ -20,7 +21,7 @@ use crate::status::Status;
 use compare::compare_bundle;
 use filter::{check_filter, list_filter, run_filter, trace_filter};
 use profile::{ask_profile, compile_profile};
-use scf_insn::{Sink, Source};
+use scf_insn::{InputFault, Sink, Source, read_input};
 use scf_request::{Request, parse, request_of};
 use stack::decide_stack;
 use std::alloc::Global;
@@ -29,6 +30,17 @@ use text::assemble_text;
 
 /// The most bytes of standard input, where it isn't one filter.
 const MAX_INPUT: usize = 16_777_216;
+
+/// All of standard input, where it isn't one filter.
+fn whole_input<R: Source>(alloc: Global, input: &mut R) -> Result<Vec<u8>, InputFault>
+    ensures read { IfOk result (λ bytes. ReadsInput (R.remaining input.old) (Ok bytes.items)) }
+    ensures ended { OnOk result (HasEnded R.remaining R.failures input.old input.new) }
+    ensures fault { IfErr result (λ fault. ReadsInput (R.remaining input.old) (Err fault)) }
+    ensures failed { IfErr result (λ fault.
+        HasFailedWhere (fault ≡ InputFault.Read) R.failures input.old input.new) }
+{
+    read_input(alloc, input, MAX_INPUT)
+}
 
 /// The one of a list, where it has no more.
 fn only<'a>(list: &[&'a [u8]]) -> Option<&'a [u8]>

@@ -48,6 +48,14 @@ pub(crate) fn write_answer<S: Sink>(sink: &mut S, answer: Answer) -> Result<(), 
     }
 }
 
+/// Writes an answer, and ends the line.
+pub(crate) fn write_last_answer<S: Sink>(sink: &mut S, answer: Answer) -> Result<(), WriteFault>
+    ensures { Writes S.contents S.failures sink.old (answer_text answer.0 ++ codes "\n") result sink.new }
+{
+    write_answer(sink, answer)?;
+    write_whole(sink, b"\n")
+}
+
 /// Writes the count of steps behind an answer, and ends the line.
 pub(crate) fn write_steps<S: Sink>(sink: &mut S, steps: u64) -> Result<(), WriteFault>
     ensures { Writes S.contents S.failures sink.old (steps_text steps) result sink.new }

@@ -1,15 +1,16 @@
 //! What the program prints, and its exit status.
 #![tactic(auto, using(crate::proofs::WritingLemmas::one_after_another))]
 
-ghost use Rattle.std.specs.Prelude.{◌≡◌, []};
+ghost use Rattle.std.specs.Prelude.{◌≡◌, ◌++◌, []};
 ghost use Rattle.scf_insn.specs.Streams.{Writes};
+ghost use Rattle.scf_tool.specs.Lines.{answer_text, reason_text, steps_text};
 ghost use Rattle.scf_tool.specs.Replies.{printed};
 ghost use Rattle.scf_tool.specs.internal.Gathering.{gathered};
 
 use crate::fault::Fault;
 use crate::fault_line::write_fault;
 use crate::gathered::Gathered;
-use crate::lines::{write_answer, write_reason, write_steps};
+use crate::lines::{write_answer, write_last_answer, write_reason, write_steps};
 use crate::pieces::LinePiece::{Decimal, Text};
 use crate::pieces::write_pieces;
 use crate::status::Status;
@@ -47,6 +48,23 @@ pub(crate) fn status_of(ending: &Result<Reply, Fault>) -> Status
     }
 }
 
+/// Writes the answer of a run and the count of its steps.
+fn write_ran<S: Sink>(sink: &mut S, ran: &Ran) -> Result<(), WriteFault>
+    ensures { Writes S.contents S.failures sink.old
+        (answer_text ran.now.answer.0 ++ steps_text ran.now.steps) result sink.new }
+{
+    write_answer(sink, ran.answer)?;
+    write_steps(sink, u64::from(ran.steps))
+}
+
+/// Writes the answer of a profile, and why.
+fn write_asked<S: Sink>(sink: &mut S, answer: Answer, reason: Reason) -> Result<(), WriteFault>
+    ensures { Writes S.contents S.failures sink.old (answer_text answer.0 ++ reason_text reason) result sink.new }
+{
+    write_answer(sink, answer)?;
+    write_reason(sink, reason)
+}
+
 /// Writes what a command ended with, piece by piece.
 fn write_ending<S: Sink>(sink: &mut S, ending: &Result<Reply, Fault>) -> Result<(), WriteFault>
     ensures { Writes S.contents S.failures sink.old (printed ending.now).1 result sink.new }
@@ -57,18 +75,9 @@ fn write_ending<S: Sink>(sink: &mut S, ending: &Result<Reply, Fault>) -> Result<
             let line = [Text("accepted "), Decimal(*count as u64), Text("\n")];
             write_pieces(sink, &line)
         }
-        Ok(Reply::Ran(ran)) => {
-            write_answer(sink, ran.answer)?;
-            write_steps(sink, u64::from(ran.steps))
-        }
-        Ok(Reply::Decided(answer)) => {
-            write_answer(sink, *answer)?;
-            write_whole(sink, b"\n")
-        }
-        Ok(Reply::Asked { answer, reason }) => {
-            write_answer(sink, *answer)?;
-            write_reason(sink, *reason)
-        }
+        Ok(Reply::Ran(ran)) => write_ran(sink, ran),
+        Ok(Reply::Decided(answer)) => write_last_answer(sink, *answer),
+        Ok(Reply::Asked { answer, reason }) => write_asked(sink, *answer, *reason),
         Ok(Reply::Bytes(bytes)) => write_whole(sink, bytes),
         Ok(Reply::Compared { text, .. }) => write_whole(sink, text),
         Err(fault) => write_fault(sink, *fault),

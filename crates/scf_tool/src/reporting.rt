@@ -18,7 +18,7 @@ ghost use Rattle.scf_tool.specs.Reports.{
 };
 
 use crate::gathered::Gathered;
-use crate::lines::write_answer;
+use crate::lines::write_last_answer;
 use crate::pieces::LinePiece::{Decimal, Hexadecimal, Text};
 use crate::pieces::write_pieces;
 use crate::verification::Outcome;
@@ -71,8 +71,7 @@ pub(crate) fn write_answer_line<S: Sink>(
     ensures { Writes S.contents S.failures sink.old (answer_line who.now answer.0) result sink.new }
 {
     write_pieces(sink, &[Text(who), Text(" ")])?;
-    write_answer(sink, answer)?;
-    write_whole(sink, b"\n")
+    write_last_answer(sink, answer)
 }
 
 /// What is said where a relation holds of all answers.
@@ -104,6 +103,23 @@ pub(crate) fn write_word<S: Sink>(sink: &mut S, word: &str) -> Result<(), WriteF
     write_pieces(sink, &[Text(word), Text("\n")])
 }
 
+/// Writes the lines of a call of whose answers a relation doesn't hold.
+fn write_difference<S: Sink>(
+    sink: &mut S,
+    relation: Relation,
+    call: &CallRecord,
+    filter: Answer,
+    profile: Answer,
+) -> Result<(), WriteFault>
+    ensures { Writes S.contents S.failures sink.old
+        (verdict_text relation (Verdict.Differs call.now filter profile)) result sink.new }
+{
+    write_word(sink, failing(relation))?;
+    write_call(sink, call)?;
+    write_answer_line(sink, "filter", filter)?;
+    write_answer_line(sink, "profile", profile)
+}
+
 pub(crate) fn write_verdict<S: Sink>(
     sink: &mut S,
     relation: Relation,
@@ -117,12 +133,7 @@ pub(crate) fn write_verdict<S: Sink>(
             call,
             filter,
             profile,
-        } => {
-            write_word(sink, failing(relation))?;
-            write_call(sink, call)?;
-            write_answer_line(sink, "filter", *filter)?;
-            write_answer_line(sink, "profile", *profile)
-        }
+        } => write_difference(sink, relation, call, *filter, *profile),
         Verdict::Undecided { at } => {
             let line = [Text("undecided at "), Decimal(*at as u64), Text("\n")];
             write_pieces(sink, &line)

@@ -1,15 +1,31 @@
 //! The comparison of a stack of filters with a profile.
 
-ghost use Rattle.std.specs.Prelude.{◌≡◌, map, IfOk, IfErr, Ok, Err};
+ghost use Rattle.std.specs.Prelude.{
+  ◌≡◌,
+  ◌≤◌,
+  ℕ,
+  List,
+  Option,
+  ◌∷◌,
+  [],
+  length,
+  map,
+  IfOk,
+  IfErr,
+  MatchOption,
+  Ok,
+  Err,
+};
 ghost use Rattle.std.specs.Option.{option_map_or};
-ghost use Rattle.scf_tool.specs.Commands.{Compares, ComparesParts};
+ghost use Rattle.scf_tool.specs.Commands.{Compares, ComparesParts, HoldsBundle, ReadsInput};
 ghost use Rattle.scf_tool.specs.Statuses.{LeavesWhole, verdict_status};
+ghost use Rattle.scf_request.specs.Bundle.{IsBundleFault};
 ghost use Rattle.scf_request.specs.Contents.{rest_of};
 ghost use Rattle.scf_tool.specs.internal.Reporting.{IsReportOn};
 
 use crate::call_reporting::{joint_verdict, report_calls_by};
 use crate::call_verification::compare_named_calls;
-use crate::commands::{MAX_INPUT, only};
+use crate::commands::{only, whole_input};
 use crate::fault::Fault;
 use crate::parties::{Parties, parties_in};
 use crate::reply::Reply;
@@ -18,9 +34,9 @@ use crate::stack_verification::compare_parties;
 use crate::status::Status;
 use crate::verification::VerifyFault;
 use scf_compare::Verdict;
-use scf_insn::{Memory, Source, read_input};
+use scf_insn::{Memory, Source};
 use scf_profile::{Relation, Scope};
-use scf_request::{Contents, PartReader, Scopes};
+use scf_request::{BundleFault, Contents, PartReader, Scopes};
 use std::alloc::Global;
 
 /// The exit status that goes with a verdict.
@@ -87,6 +103,28 @@ fn compare_parts(
     Ok(report_on(alloc, scopes, relation, parties, limit)?)
 }
 
+/// The filters, the profile and the table of a bundle, where it holds one filter or more and one of each other kind.
+fn compared_parts<'a>(
+    alloc: Global,
+    bytes: &'a [u8],
+) -> Result<Option<(Vec<PartReader<'a>>, &'a [u8], &'a [u8])>, BundleFault>
+    // Where it holds other parts, that is what any comparison ends with.
+    ensures parts { (told : Option (List ℕ)) → ReadsInput told (Ok bytes.now) → IfOk result (λ parts.
+        MatchOption parts
+        (Compares Scopes.EachCall Relation.Same 0 told (Err Fault.Parts))
+        (λ own. (1 ≤ length (map rest_of own.0.items))
+        × HoldsBundle told (map rest_of own.0.items) (own.1.now ∷ []) (own.2.now ∷ []))) }
+    ensures fault { IfErr result (IsBundleFault bytes.now) }
+{
+    let contents = Contents::of(alloc, bytes)?;
+    match only(&contents.profiles).zip(only(&contents.tables)) {
+        Some((profile, table)) if !contents.filters.is_empty() => {
+            Ok(Some((contents.filters, profile, table)))
+        }
+        _ => Ok(None),
+    }
+}
+
 /// `compare`: whether a stack of filters answers as a profile does, or lets through no more or no less.
 pub(super) fn compare_bundle<R: Source>(
     alloc: Global,
@@ -98,14 +136,10 @@ pub(super) fn compare_bundle<R: Source>(
     ensures answer { Compares scopes relation limit (R.remaining input.old) result }
     ensures left { LeavesWhole R.remaining R.failures input.old result input.new }
 {
-    let bytes = read_input(alloc, input, MAX_INPUT)?;
-    let mut contents = Contents::of(alloc, &bytes)?;
-    let profile = only(&contents.profiles);
-    let table = only(&contents.tables);
-    let (Some(profile), Some(table), false) = (profile, table, contents.filters.is_empty()) else {
+    let bytes = whole_input(alloc, input)?;
+    let Some((mut filters, profile, table)) = compared_parts(alloc, &bytes)? else {
         return Err(Fault::Parts);
     };
-    let filters = &mut contents.filters;
-    let reply = compare_parts(alloc, filters, profile, table, scopes, relation, limit)?;
+    let reply = compare_parts(alloc, &mut filters, profile, table, scopes, relation, limit)?;
     Ok(reply)
 }

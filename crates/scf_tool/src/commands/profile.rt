@@ -1,19 +1,31 @@
 //! Commands on a profile and its call table.
 
-ghost use Rattle.std.specs.Prelude.{IfOk, IfErr, Ok, Err};
-ghost use Rattle.scf_tool.specs.Commands.{CantLoad, Compiles, EndsOnProfile, GivesReason, IsStated};
+ghost use Rattle.std.specs.Prelude.{ℕ, List, Option, ◌∷◌, [], IfOk, IfErr, MatchOption, Ok, Err};
+ghost use Rattle.scf_machine.specs.Machine.{RunAnswers};
+ghost use Rattle.scf_profile.specs.SameAnswers.{SameAnswers};
+ghost use Rattle.scf_request.specs.Bundle.{IsBundleFault};
+ghost use Rattle.scf_tool.specs.Commands.{
+  CantLoad,
+  Compiles,
+  EndsOnProfile,
+  GivesReason,
+  HoldsBundle,
+  IsStated,
+  ReadsInput,
+};
 ghost use Rattle.scf_tool.specs.Statuses.{LeavesWhole};
 
-use crate::commands::{MAX_INPUT, only};
+use crate::commands::{only, whole_input};
 use crate::fault::Fault;
 use crate::gathered::encoding_of;
 use crate::reply::Reply;
 use crate::stated::stated_by;
 use crate::verification::VerifyFault;
 use scf_compile::{CompileFault, compile};
-use scf_insn::{CallRecord, Source, read_input};
+use scf_insn::{CallRecord, Source};
+use scf_machine::Program;
 use scf_profile::Loaded;
-use scf_request::Contents;
+use scf_request::{BundleFault, Contents};
 use std::alloc::Global;
 
 /// What a profile and a table state, however long they are.
@@ -26,17 +38,44 @@ fn loaded(alloc: Global, profile: &[u8], table: &[u8]) -> Result<Loaded, VerifyF
     Ok(said.loaded)
 }
 
+/// The filter of a profile and a table.
+fn compiled(alloc: Global, profile: &[u8], table: &[u8]) -> Result<Program, Fault>
+    ensures program { IfOk result (λ program. (loaded : Loaded) × IsStated profile.now table.now loaded
+        × SameAnswers (RunAnswers program) loaded.profile) }
+    ensures fault { IfErr result (λ fault. Compiles profile.now table.now (Err fault)) }
+{
+    let loaded = loaded(alloc, profile, table)?;
+    Ok(compile(alloc, &loaded.profile)?)
+}
+
 /// The bytes of the filter of a profile and a table.
 fn filter_bytes(alloc: Global, profile: &[u8], table: &[u8]) -> Result<Vec<u8>, Fault>
     ensures filter { IfOk result (λ bytes. Compiles profile.now table.now (Ok (Reply.Bytes bytes))) }
     ensures fault { IfErr result (λ fault. Compiles profile.now table.now (Err fault)) }
 {
-    let loaded = loaded(alloc, profile, table)?;
-    let program = compile(alloc, &loaded.profile)?;
+    let program = compiled(alloc, profile, table)?;
     match encoding_of(alloc, program.insns()) {
         Ok(bytes) => Ok(bytes),
         Err(_) => Err(Fault::Compile(CompileFault::Memory)),
     }
+}
+
+/// The profile and the table of a bundle, where they are all that it holds.
+fn profile_and_table<'a>(
+    alloc: Global,
+    bytes: &'a [u8],
+) -> Result<Option<(&'a [u8], &'a [u8])>, BundleFault>
+    ensures parts { (told : Option (List ℕ)) → ReadsInput told (Ok bytes.now) → IfOk result (λ parts.
+        MatchOption parts
+        (EndsOnProfile told (λ _ _ _. ⊥) (Err Fault.Parts))
+        (λ both. HoldsBundle told [] (both.0.now ∷ []) (both.1.now ∷ []))) }
+    ensures fault { IfErr result (IsBundleFault bytes.now) }
+{
+    let contents = Contents::of(alloc, bytes)?;
+    if !contents.filters.is_empty() {
+        return Ok(None);
+    }
+    Ok(only(&contents.profiles).zip(only(&contents.tables)))
 }
 
 /// `compile`: the filter that answers as a profile does.
@@ -44,11 +83,8 @@ pub(super) fn compile_profile<R: Source>(alloc: Global, input: &mut R) -> Result
     ensures answer { EndsOnProfile (R.remaining input.old) Compiles result }
     ensures left { LeavesWhole R.remaining R.failures input.old result input.new }
 {
-    let bytes = read_input(alloc, input, MAX_INPUT)?;
-    let contents = Contents::of(alloc, &bytes)?;
-    let profile = only(&contents.profiles);
-    let table = only(&contents.tables);
-    let (Some(profile), Some(table), true) = (profile, table, contents.filters.is_empty()) else {
+    let bytes = whole_input(alloc, input)?;
+    let Some((profile, table)) = profile_and_table(alloc, &bytes)? else {
         return Err(Fault::Parts);
     };
     Ok(Reply::Bytes(filter_bytes(alloc, profile, table)?))
@@ -63,14 +99,8 @@ pub(super) fn ask_profile<R: Source>(
     ensures answer { EndsOnProfile (R.remaining input.old) (GivesReason call.now) result }
     ensures left { LeavesWhole R.remaining R.failures input.old result input.new }
 {
-    let bytes = read_input(alloc, input, MAX_INPUT)?;
-    let contents = Contents::of(alloc, &bytes)?;
-    let alone = contents.filters.is_empty();
-    let (Some(profile), Some(table), true) = (
-        only(&contents.profiles),
-        only(&contents.tables),
-        alone,
-    ) else {
+    let bytes = whole_input(alloc, input)?;
+    let Some((profile, table)) = profile_and_table(alloc, &bytes)? else {
         return Err(Fault::Parts);
     };
     let loaded = loaded(alloc, profile, table)?;

@@ -3,11 +3,11 @@
 ghost use Rattle.scf_tool.specs.Commands.{Assembles};
 ghost use Rattle.scf_tool.specs.Statuses.{LeavesWhole};
 
-use crate::commands::MAX_INPUT;
+use crate::commands::whole_input;
 use crate::fault::Fault;
 use crate::gathered::encoding_of;
 use crate::reply::Reply;
-use scf_insn::{Source, read_input};
+use scf_insn::Source;
 use scf_text::{TextFault, assemble};
 use std::alloc::Global;
 
@@ -16,7 +16,7 @@ pub(super) fn assemble_text<R: Source>(alloc: Global, input: &mut R) -> Result<R
     ensures answer { Assembles (R.remaining input.old) result }
     ensures left { LeavesWhole R.remaining R.failures input.old result input.new }
 {
-    let text = read_input(alloc, input, MAX_INPUT)?;
+    let text = whole_input(alloc, input)?;
     let insns = assemble(alloc, &text)?;
     match encoding_of(alloc, &insns) {
         Ok(bytes) => Ok(Reply::Bytes(bytes)),

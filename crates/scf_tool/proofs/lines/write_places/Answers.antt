@@ -1,6 +1,12 @@
 use Rattle.std.specs.Fmt.{decimal}
 use Rattle.scf_tool.proofs.Common.{◌++◌, ℕ, append-nil, codes, err_from_is_err_and, each_fails}
+use Rattle.scf_tool.proofs.WritingLemmas.{each_takes}
 use Rattle.scf_tool.proofs.lines.write_places.Goals as goal
+
+pub loop-place-preserved : goal.loop-place-preserved
+loop-place-preserved g c =
+    each_takes (λ (place : ℕ). codes " " ++ decimal place) c.args.places.now c.loop-place.place-index _
+    c.loop-place-test.true c.loop-place.invariant (rw append-nil at c.in_ok-write_pieces.ensures)
 
 pub returns-in_err-write_pieces : goal.returns-in_err-write_pieces
 returns-in_err-write_pieces g c =

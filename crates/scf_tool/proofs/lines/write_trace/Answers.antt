@@ -1,6 +1,11 @@
 use Rattle.scf_tool.proofs.Common.{err_from_is_err_and, fails_first, fails_then, writes_then}
 use Rattle.scf_tool.proofs.lines.write_trace.Goals as goal
 
+pub returns-in_err-write_answer : goal.returns-in_err-write_answer
+returns-in_err-write_answer g c =
+    rw (err_from_is_err_and c.from_residual.result c.from_residual.ensures.1).1
+    (fails_first _ c.in_err-write_answer.ensures)
+
 pub returns-in_err-write_steps : goal.returns-in_err-write_steps
 returns-in_err-write_steps g c =
     rw
