@@ -1,168 +1,190 @@
 //! What stores of facts know where two atoms aren't both true.
 
-use crate::word_4::{ALL_BITS, above, arc, at_least, equal, is_told, learn, undo};
+use crate::script::{ALL_BITS, Step, above, arc, at_least, equal, follow_each, is, take, take_all};
+use Step::{IsEmpty, Learn, Mark, NotBoth, OpenMarks, Picks, PicksNone, PicksOther, Tells, Undo};
+use Tell::{Always, Maybe, Never};
 use scf_facts::{Atom, AtomList, Tell, WordFacts, WordSets};
 use std::alloc::Global;
 use std::process::Abort;
 
-/// Learns that not both atoms are true, each on one of the sixteen words.
-fn learn_not_both<F: WordFacts>(rt: &impl Abort, facts: &mut F, first: Atom, second: Atom) {
-    assert!(rt; first.word() < 16);
-    assert!(rt; second.word() < 16);
-    facts.learn_not_both(first, second).expect(rt, "no fault");
-}
+/// What is so of each store: pairs behind marks, and the way back to each.
+const BOTH_STORES: &[&'static [Step]] = &[&[
+    Learn(is!(0, 3), true),
+    Picks(3, 0),
+    Mark,
+    NotBoth(is!(0, 3), is!(4, 0)),
+    PicksOther(3, 0),
+    Mark,
+    Learn(is!(4, 0), true),
+    PicksNone,
+    Undo,
+    PicksOther(3, 0),
+    Tells(is!(4, 5), Maybe),
+    Undo,
+    OpenMarks(0),
+    Picks(3, 0),
+    Tells(is!(4, 0), Maybe),
+]];
 
-/// An `Eq` of all bits of a word.
-fn is(word: u8, value: u32) -> Atom {
-    Atom::Eq {
-        word,
-        mask: ALL_BITS,
-        value,
-    }
-}
-
-/// The words that are 0 save words 0 and 4.
-fn words_of(word_0: u32, word_4: u32) -> Option<[u32; 16]> {
-    let mut words = [0; 16];
-    words[0] = word_0;
-    words[4] = word_4;
-    Some(words)
-}
-
-/// Learns pairs behind marks, and goes back to each.
-fn goes_back<F: WordFacts>(rt: &impl Abort, alloc: Global) {
-    let mut facts = F::all(alloc).expect(rt, "no fault");
-    learn(rt, &mut facts, is(0, 3), true);
-    assert!(rt; facts.pick() == words_of(3, 0));
-    facts.mark().expect(rt, "no fault");
-    learn_not_both(rt, &mut facts, is(0, 3), is(4, 0));
-    assert!(rt; facts.pick() != words_of(3, 0));
-    facts.mark().expect(rt, "no fault");
-    learn(rt, &mut facts, is(4, 0), true);
-    assert!(rt; facts.pick().is_none());
-    undo(rt, &mut facts);
-    assert!(rt; facts.pick() != words_of(3, 0));
-    is_told(rt, &facts, is(4, 5), Tell::Maybe);
-    undo(rt, &mut facts);
-    assert!(rt; facts.open_marks() == 0);
-    assert!(rt; facts.pick() == words_of(3, 0));
-    is_told(rt, &facts, is(4, 0), Tell::Maybe);
+fn both_stores() -> &'static [&'static [Step]] {
+    BOTH_STORES
 }
 
 #[test]
 fn both_stores_go_back_behind_pairs(rt: HostRuntime) {
-    goes_back::<AtomList>(&rt, rt.alloc());
-    goes_back::<WordSets>(&rt, rt.alloc());
+    follow_each::<AtomList>(&rt, rt.alloc(), both_stores());
+    follow_each::<WordSets>(&rt, rt.alloc(), both_stores());
 }
 
-/// Sets are exact again where no pair is left.
-#[test]
-fn sets_are_exact_behind_the_way_back(rt: HostRuntime) {
-    let mut facts = WordSets::all(rt.alloc()).expect(&rt, "no fault");
-    facts.mark().expect(&rt, "no fault");
-    learn_not_both(&rt, &mut facts, at_least(1), is(0, 0));
-    learn_not_both(&rt, &mut facts, equal(ALL_BITS, 0), is(0, 0));
-    learn(&rt, &mut facts, is(0, 0), true);
-    assert!(rt; facts.pick().is_none());
-    undo(&rt, &mut facts);
-    learn(&rt, &mut facts, is(0, 0), true);
-    learn(&rt, &mut facts, above(6), true);
-    is_told(&rt, &facts, at_least(7), Tell::Always);
-    assert!(rt; facts.pick() == words_of(0, 7));
-    learn(&rt, &mut facts, above(6), false);
-    assert!(rt; facts.is_empty());
+/// Both atoms of a pair are true, and one is that is in a pair with itself: nothing is picked, and it is seen or not
+/// that nothing is left.
+macro_rules! both_are_true {
+    ($sees:expr) => {
+        &[
+            &[
+                NotBoth(at_least!(5), is!(0, 3)),
+                Learn(is!(0, 3), true),
+                Learn(at_least!(5), true),
+                IsEmpty($sees),
+                PicksNone,
+            ],
+            &[
+                NotBoth(is!(0, 0), is!(0, 0)),
+                IsEmpty(false),
+                PicksOther(0, 0),
+                Learn(is!(0, 0), true),
+                IsEmpty($sees),
+                PicksNone,
+            ],
+        ]
+    };
 }
 
-/// An atom is never true where the other one of its pair always is, whichever stands first.
-#[test]
-fn sets_tell_the_other_atom(rt: HostRuntime) {
-    for (first, second) in [(is(0, 3), at_least(5)), (at_least(5), is(0, 3))] {
-        let mut facts = WordSets::all(rt.alloc()).expect(&rt, "no fault");
-        learn_not_both(&rt, &mut facts, first, second);
-        is_told(&rt, &facts, first, Tell::Maybe);
-        is_told(&rt, &facts, second, Tell::Maybe);
-        learn(&rt, &mut facts, is(0, 3), true);
-        is_told(&rt, &facts, at_least(5), Tell::Never);
-        // Nothing was learned of another atom on the word.
-        is_told(&rt, &facts, at_least(3), Tell::Maybe);
-        assert!(rt; !facts.is_empty());
-    }
+const SEEN: &[&'static [Step]] = both_are_true!(true);
+
+const NOT_SEEN: &[&'static [Step]] = both_are_true!(false);
+
+fn seen() -> &'static [&'static [Step]] {
+    SEEN
 }
 
-/// No list is left where both atoms of a pair are true, nor where an atom is true that is in a pair with itself.
-fn leaves_none<F: WordFacts>(rt: &impl Abort, alloc: Global, sees: bool) {
-    let mut facts = F::all(alloc).expect(rt, "no fault");
-    learn_not_both(rt, &mut facts, at_least(5), is(0, 3));
-    learn(rt, &mut facts, is(0, 3), true);
-    learn(rt, &mut facts, at_least(5), true);
-    assert!(rt; facts.is_empty() == sees);
-    assert!(rt; facts.pick().is_none());
-    let mut facts = F::all(alloc).expect(rt, "no fault");
-    learn_not_both(rt, &mut facts, is(0, 0), is(0, 0));
-    assert!(rt; !facts.is_empty());
-    assert!(rt; facts.pick() != words_of(0, 0));
-    learn(rt, &mut facts, is(0, 0), true);
-    assert!(rt; facts.is_empty() == sees);
-    assert!(rt; facts.pick().is_none());
+fn not_seen() -> &'static [&'static [Step]] {
+    NOT_SEEN
 }
 
-/// `AtomList` doesn't see that, but picks nothing then, either.
 #[test]
 fn both_atoms_of_a_pair_are_true(rt: HostRuntime) {
-    leaves_none::<AtomList>(&rt, rt.alloc(), false);
-    leaves_none::<WordSets>(&rt, rt.alloc(), true);
+    follow_each::<AtomList>(&rt, rt.alloc(), not_seen());
+    follow_each::<WordSets>(&rt, rt.alloc(), seen());
+}
+
+/// An atom is never true where the other one of its pair always is, and nothing was learned of another one on the word.
+macro_rules! other_atom {
+    ($first:expr, $second:expr) => {
+        &[
+            NotBoth($first, $second),
+            Tells($first, Maybe),
+            Tells($second, Maybe),
+            Learn(is!(0, 3), true),
+            Tells(at_least!(5), Never),
+            Tells(at_least!(3), Maybe),
+            IsEmpty(false),
+        ]
+    };
 }
 
 /// What was learned of word 4, an atom on it that isn't true where word 0 is 0, and words 0 and 4 of what is picked:
 /// word 4 is the first number of which the atom is false, or word 0 is 1 where there is none.
-fn picks() -> [(Atom, Atom, (u32, u32)); 7] {
-    [
-        (at_least(0), equal(ALL_BITS, 0), (0, 1)),
-        (at_least(5), arc(5, 9), (0, 10)),
-        (at_least(5), at_least(5), (1, 5)),
-        (above(7), at_least(5), (1, 8)),
-        (equal(0x10, 0x10), equal(0x30, 0x10), (0, 0x30)),
-        (equal(0x10, 0x10), equal(0x10, 0x10), (1, 0x10)),
-        (equal(ALL_BITS, 6), above(5), (1, 6)),
-    ]
+macro_rules! another_number {
+    ($learned:expr, $refuted:expr, $word_0:expr, $word_4:expr) => {
+        &[Learn($learned, true), NotBoth($refuted, is!(0, 0)), Picks($word_0, $word_4)]
+    };
+}
+
+/// What is so of sets.
+const SETS: &[&'static [Step]] = &[
+    // They are exact again where no pair is left.
+    &[
+        Mark,
+        NotBoth(at_least!(1), is!(0, 0)),
+        NotBoth(is!(4, 0), is!(0, 0)),
+        Learn(is!(0, 0), true),
+        PicksNone,
+        Undo,
+        Learn(is!(0, 0), true),
+        Learn(above!(6), true),
+        Tells(at_least!(7), Always),
+        Picks(0, 7),
+        Learn(above!(6), false),
+        IsEmpty(true),
+    ],
+    other_atom!(is!(0, 3), at_least!(5)),
+    other_atom!(at_least!(5), is!(0, 3)),
+    another_number!(at_least!(0), is!(4, 0), 0, 1),
+    another_number!(at_least!(5), arc!(5, 9), 0, 10),
+    another_number!(at_least!(5), at_least!(5), 1, 5),
+    another_number!(above!(7), at_least!(5), 1, 8),
+    another_number!(equal!(0x10, 0x10), equal!(0x30, 0x10), 0, 0x30),
+    another_number!(equal!(0x10, 0x10), equal!(0x10, 0x10), 1, 0x10),
+    another_number!(is!(4, 6), above!(5), 1, 6),
+];
+
+fn sets() -> &'static [&'static [Step]] {
+    SETS
 }
 
 #[test]
-fn sets_pick_another_number(rt: HostRuntime) {
-    for (learned, refuted, (word_0, word_4)) in picks() {
-        let mut facts = WordSets::all(rt.alloc()).expect(&rt, "no fault");
-        learn(&rt, &mut facts, learned, true);
-        learn_not_both(&rt, &mut facts, refuted, is(0, 0));
-        assert!(rt; facts.pick() == words_of(word_0, word_4), "{refuted:?}");
-    }
+fn sets_know_pairs(rt: HostRuntime) {
+    follow_each::<WordSets>(&rt, rt.alloc(), sets());
 }
 
 /// How many pairs are learned.
 const COUNT: u32 = 5000;
 
+/// A number of word 0 is learned behind a mark, and this is told of word 4.
+fn one_learned(number: u32, told: Tell) -> [Step; 6] {
+    [
+        Mark,
+        Learn(is!(0, number), true),
+        Tells(is!(4, number), told),
+        Tells(is!(4, number.wrapping_add(1)), Maybe),
+        Picks(number, 0),
+        Undo,
+    ]
+}
+
+/// No pair is left.
+const UNMARKED: &[Step] = &[
+    OpenMarks(0),
+    Learn(is!(0, COUNT), true),
+    Learn(is!(4, COUNT), true),
+    Picks(COUNT, COUNT),
+];
+
+fn unmarked() -> &'static [Step] {
+    UNMARKED
+}
+
 /// Words 0 and 4 aren't both one of many numbers, each pair behind a mark of its own, and back to all of the marks.
 fn many_pairs<F: WordFacts>(rt: &impl Abort, alloc: Global, told: Tell) {
     let mut facts = F::all(alloc).expect(rt, "no fault");
     for number in 1..=COUNT {
-        facts.mark().expect(rt, "no fault");
-        learn_not_both(rt, &mut facts, is(0, number), is(4, number));
+        take(rt, &mut facts, number, Mark);
+        take(
+            rt,
+            &mut facts,
+            number,
+            NotBoth(is!(0, number), is!(4, number)),
+        );
     }
-    assert!(rt; facts.pick() == words_of(0, 0));
+    take(rt, &mut facts, COUNT, Picks(0, 0));
     for number in [1, 2500, COUNT] {
-        facts.mark().expect(rt, "no fault");
-        learn(rt, &mut facts, is(0, number), true);
-        is_told(rt, &facts, is(4, number), told);
-        is_told(rt, &facts, is(4, number + 1), Tell::Maybe);
-        assert!(rt; facts.pick() == words_of(number, 0));
-        undo(rt, &mut facts);
+        take_all(rt, &mut facts, number, &one_learned(number, told));
     }
-    for _ in 0..COUNT {
-        undo(rt, &mut facts);
+    for number in 0..COUNT {
+        take(rt, &mut facts, number, Undo);
     }
-    assert!(rt; facts.open_marks() == 0);
-    learn(rt, &mut facts, is(0, COUNT), true);
-    learn(rt, &mut facts, is(4, COUNT), true);
-    assert!(rt; facts.pick() == words_of(COUNT, COUNT));
+    take_all(rt, &mut facts, COUNT, unmarked());
 }
 
 /// To `AtomList` pairs tell nothing.

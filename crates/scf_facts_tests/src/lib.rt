@@ -14,6 +14,6 @@ mod facts_largest;
 #[cfg(test)]
 mod facts_pairs;
 #[cfg(test)]
-mod word_4;
+mod script;
 #[cfg(test)]
 mod word_sets;

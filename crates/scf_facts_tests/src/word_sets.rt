@@ -1,127 +1,113 @@
 //! What sets of numbers for each word tell, see and pick.
 
-use crate::word_4::{ALL_BITS, above, at_least, equal, is_told, learn, tell, undo, words_with};
-use Asked::{Above, AtLeast, Equal};
+use crate::script::{ALL_BITS, Step, above, at_least, equal, take, take_all};
+use Step::{IsEmpty, Learn, Mark, Picks, PicksNone, Tells, Undo};
 use Tell::{Always, Maybe, Never};
 use scf_facts::{Atom, Tell, WordFacts, WordSets};
 use std::alloc::Global;
 use std::process::Abort;
 
-/// An atom on word 4.
-#[derive(Clone, Copy, Debug)]
-enum Asked {
-    /// The bits of a mask have these values.
-    Equal(u32, u32),
-    Above(u32),
-    AtLeast(u32),
-}
-
-impl Asked {
-    fn atom(self) -> Atom {
-        match self {
-            Equal(mask, value) => equal(mask, value),
-            Above(value) => above(value),
-            AtLeast(value) => at_least(value),
-        }
-    }
-}
-
 /// What is told after two answers, and what is picked for word 4.
 struct Row {
-    learned: &'static [(Asked, bool)],
-    tells: &'static [(Asked, Tell)],
+    learned: &'static [(Atom, bool)],
+    tells: &'static [(Atom, Tell)],
     pick: u32,
 }
 
-/// Checks what is told and picked after a row's answers.
-fn check_learned(rt: &impl Abort, facts: &WordSets, row: &Row) {
-    for (asked, expected) in row.tells {
-        is_told(rt, facts, asked.atom(), *expected);
-    }
-    let is_picked = !facts.is_empty() && facts.pick() == words_with(row.pick);
-    assert!(rt; is_picked, "after {:?}", row.learned);
+/// What is told of an atom on one of the sixteen words where nothing was learned.
+fn told_of_all(rt: &impl Abort, alloc: Global, atom: Atom) -> Tell {
+    let nothing_learned = WordSets::all(alloc).expect(rt, "no fault");
+    assert!(rt; atom.word() < 16);
+    nothing_learned.tell(atom)
 }
 
-/// Checks what is told after a row's answers, and that nothing is known of them before a mark.
-fn check_row(rt: &impl Abort, alloc: Global, row: &Row) {
+/// A number is picked, and 0 before a mark.
+fn picked_and_undone(pick: u32) -> [Step; 5] {
+    [
+        IsEmpty(false),
+        Picks(0, pick),
+        Undo,
+        IsEmpty(false),
+        Picks(0, 0),
+    ]
+}
+
+/// Checks what is told and picked after a row's answers, and that nothing is known of them before a mark.
+fn check_row(rt: &impl Abort, alloc: Global, number: u32, row: &Row) {
     let mut facts = WordSets::all(alloc).expect(rt, "no fault");
-    facts.mark().expect(rt, "no fault");
-    for (asked, holds) in row.learned {
-        learn(rt, &mut facts, asked.atom(), *holds);
+    take(rt, &mut facts, number, Mark);
+    for (atom, holds) in row.learned {
+        take(rt, &mut facts, number, Learn(*atom, *holds));
     }
-    check_learned(rt, &facts, row);
-    undo(rt, &mut facts);
-    let nothing_learned = WordSets::all(alloc).expect(rt, "no fault");
-    for (asked, _) in row.tells {
-        is_told(
-            rt,
-            &facts,
-            asked.atom(),
-            tell(rt, &nothing_learned, asked.atom()),
-        );
+    for (atom, told) in row.tells {
+        take(rt, &mut facts, number, Tells(*atom, *told));
     }
-    assert!(rt; !facts.is_empty() && facts.pick() == Some([0; 16]));
+    take_all(rt, &mut facts, number, &picked_and_undone(row.pick));
+    for (atom, _) in row.tells {
+        let told = told_of_all(rt, alloc, *atom);
+        take(rt, &mut facts, number, Tells(*atom, told));
+    }
 }
 
 /// Answers that end in intervals.
 const BY_INTERVALS: &[Row] = &[
     Row {
-        learned: &[(AtLeast(5), true), (AtLeast(10), false)],
+        learned: &[(at_least!(5), true), (at_least!(10), false)],
         tells: &[
-            (AtLeast(5), Always),
-            (Above(9), Never),
-            (Equal(ALL_BITS, 10), Never),
-            (AtLeast(7), Maybe),
+            (at_least!(5), Always),
+            (above!(9), Never),
+            (equal!(ALL_BITS, 10), Never),
+            (at_least!(7), Maybe),
         ],
         pick: 5,
     },
     Row {
-        learned: &[(Equal(ALL_BITS, 7), false), (AtLeast(8), false)],
+        learned: &[(equal!(ALL_BITS, 7), false), (at_least!(8), false)],
         tells: &[
-            (Equal(ALL_BITS, 7), Never),
-            (AtLeast(7), Never),
-            (Above(5), Maybe),
-            (Equal(8, 0), Always),
+            (equal!(ALL_BITS, 7), Never),
+            (at_least!(7), Never),
+            (above!(5), Maybe),
+            (equal!(8, 0), Always),
         ],
         pick: 0,
     },
     Row {
-        learned: &[(Equal(ALL_BITS, 7), true), (Above(3), true)],
+        learned: &[(equal!(ALL_BITS, 7), true), (above!(3), true)],
         tells: &[
-            (Equal(3, 3), Always),
-            (Equal(6, 2), Never),
-            (Above(6), Always),
-            (Equal(ALL_BITS, 6), Never),
+            (equal!(3, 3), Always),
+            (equal!(6, 2), Never),
+            (above!(6), Always),
+            (equal!(ALL_BITS, 6), Never),
         ],
         pick: 7,
     },
     Row {
-        learned: &[(Above(4), true), (Above(5), false)],
+        learned: &[(above!(4), true), (above!(5), false)],
         tells: &[
-            (Equal(ALL_BITS, 5), Always),
-            (Equal(0xff, 5), Always),
-            (Equal(0xff, 4), Never),
-            (Equal(3, 0), Never),
+            (equal!(ALL_BITS, 5), Always),
+            (equal!(0xff, 5), Always),
+            (equal!(0xff, 4), Never),
+            (equal!(3, 0), Never),
         ],
         pick: 5,
     },
     Row {
-        learned: &[(Equal(ALL_BITS, 0), false), (Above(1), false)],
+        learned: &[(equal!(ALL_BITS, 0), false), (above!(1), false)],
         tells: &[
-            (Equal(ALL_BITS, 1), Always),
-            (AtLeast(1), Always),
-            (Above(0), Always),
-            (Above(1), Never),
+            (equal!(ALL_BITS, 1), Always),
+            (at_least!(1), Always),
+            (above!(0), Always),
+            (above!(1), Never),
         ],
         pick: 1,
     },
     Row {
-        learned: &[(Equal(ALL_BITS, u32::MAX), false), (AtLeast(3), true)],
+        learned: &[(equal!(ALL_BITS, u32::MAX), false), (at_least!(3), true)],
         tells: &[
-            (AtLeast(u32::MAX), Never),
-            (AtLeast(u32::MAX - 1), Maybe),
-            (Above(2), Always),
-            (Above(3), Maybe),
+            (at_least!(u32::MAX), Never),
+            (at_least!(u32::MAX - 1), Maybe),
+            (above!(2), Always),
+            (above!(3), Maybe),
         ],
         pick: 3,
     },
@@ -130,42 +116,42 @@ const BY_INTERVALS: &[Row] = &[
 /// Answers that end in known bits.
 const BY_BITS: &[Row] = &[
     Row {
-        learned: &[(Equal(0xff, 0x12), true), (AtLeast(0x100), true)],
+        learned: &[(equal!(0xff, 0x12), true), (at_least!(0x100), true)],
         tells: &[
-            (Equal(0x0f, 2), Always),
-            (Equal(0xf0, 0x20), Never),
-            (Equal(ALL_BITS, 0x113), Never),
-            (AtLeast(0x112), Always),
+            (equal!(0x0f, 2), Always),
+            (equal!(0xf0, 0x20), Never),
+            (equal!(ALL_BITS, 0x113), Never),
+            (at_least!(0x112), Always),
         ],
         pick: 0x112,
     },
     Row {
-        learned: &[(Equal(4, 4), false), (Equal(2, 0), false)],
+        learned: &[(equal!(4, 4), false), (equal!(2, 0), false)],
         tells: &[
-            (Equal(6, 2), Always),
-            (Equal(4, 0), Always),
-            (Equal(2, 0), Never),
-            (Equal(1, 0), Maybe),
+            (equal!(6, 2), Always),
+            (equal!(4, 0), Always),
+            (equal!(2, 0), Never),
+            (equal!(1, 0), Maybe),
         ],
         pick: 2,
     },
     Row {
-        learned: &[(Equal(1, 2), false), (AtLeast(1), true)],
+        learned: &[(equal!(1, 2), false), (at_least!(1), true)],
         tells: &[
-            (Equal(1, 2), Never),
-            (Equal(1, 1), Maybe),
-            (Equal(0, 0), Always),
-            (Equal(0, 1), Never),
+            (equal!(1, 2), Never),
+            (equal!(1, 1), Maybe),
+            (equal!(0, 0), Always),
+            (equal!(0, 1), Never),
         ],
         pick: 1,
     },
     Row {
-        learned: &[(Equal(0x8000_0000, 0), true), (Equal(0, 0), true)],
+        learned: &[(equal!(0x8000_0000, 0), true), (equal!(0, 0), true)],
         tells: &[
-            (AtLeast(0x8000_0000), Never),
-            (Above(0x7fff_ffff), Never),
-            (Above(0x7fff_fffe), Maybe),
-            (Equal(0xc000_0000, 0x8000_0000), Never),
+            (at_least!(0x8000_0000), Never),
+            (above!(0x7fff_ffff), Never),
+            (above!(0x7fff_fffe), Maybe),
+            (equal!(0xc000_0000, 0x8000_0000), Never),
         ],
         pick: 0,
     },
@@ -174,58 +160,58 @@ const BY_BITS: &[Row] = &[
 /// Answers that refute bits of several places.
 const BY_REFUTED_BITS: &[Row] = &[
     Row {
-        learned: &[(Equal(3, 0), false), (Equal(1, 0), true)],
+        learned: &[(equal!(3, 0), false), (equal!(1, 0), true)],
         tells: &[
-            (Equal(3, 0), Never),
-            (Equal(1, 1), Never),
-            (Equal(7, 4), Never),
-            (Equal(2, 2), Always),
+            (equal!(3, 0), Never),
+            (equal!(1, 1), Never),
+            (equal!(7, 4), Never),
+            (equal!(2, 2), Always),
         ],
         pick: 2,
     },
     Row {
-        learned: &[(Equal(3, 0), true), (Equal(1, 1), false)],
+        learned: &[(equal!(3, 0), true), (equal!(1, 1), false)],
         tells: &[
-            (Equal(1, 0), Always),
-            (Equal(3, 0), Always),
-            (Equal(3, 1), Never),
-            (Equal(4, 0), Maybe),
+            (equal!(1, 0), Always),
+            (equal!(3, 0), Always),
+            (equal!(3, 1), Never),
+            (equal!(4, 0), Maybe),
         ],
         pick: 0,
     },
     Row {
-        learned: &[(Equal(0x7c02_0000, 0), false), (AtLeast(1), true)],
+        learned: &[(equal!(0x7c02_0000, 0), false), (at_least!(1), true)],
         tells: &[
-            (Equal(0x7e02_0000, 0), Never),
-            (Equal(0x7c02_0000, 0), Never),
-            (Equal(0x7e02_0000, 0x0002_0000), Maybe),
-            (Equal(0x0002_0000, 0), Maybe),
+            (equal!(0x7e02_0000, 0), Never),
+            (equal!(0x7c02_0000, 0), Never),
+            (equal!(0x7e02_0000, 0x0002_0000), Maybe),
+            (equal!(0x0002_0000, 0), Maybe),
         ],
         pick: u32::MAX,
     },
     Row {
         learned: &[
-            (Equal(0x7c02_0000, 0), true),
-            (Equal(0x7e02_0000, 0), false),
+            (equal!(0x7c02_0000, 0), true),
+            (equal!(0x7e02_0000, 0), false),
         ],
         tells: &[
-            (Equal(0x7e02_0000, 0), Never),
-            (Equal(0x0200_0000, 0), Never),
-            (Equal(0x0200_0000, 0x0200_0000), Always),
-            (Equal(1, 0), Maybe),
+            (equal!(0x7e02_0000, 0), Never),
+            (equal!(0x0200_0000, 0), Never),
+            (equal!(0x0200_0000, 0x0200_0000), Always),
+            (equal!(1, 0), Maybe),
         ],
         pick: 0x0200_0000,
     },
     Row {
         learned: &[
-            (Equal(0x7e02_0000, 0), false),
-            (Equal(0x7c02_0000, 0), true),
+            (equal!(0x7e02_0000, 0), false),
+            (equal!(0x7c02_0000, 0), true),
         ],
         tells: &[
-            (Equal(0x7e02_0000, 0), Never),
-            (Equal(0x0200_0000, 0), Never),
-            (Equal(0x0200_0000, 0x0200_0000), Always),
-            (Equal(1, 0), Maybe),
+            (equal!(0x7e02_0000, 0), Never),
+            (equal!(0x0200_0000, 0), Never),
+            (equal!(0x0200_0000, 0x0200_0000), Always),
+            (equal!(1, 0), Maybe),
         ],
         pick: 0x0200_0000,
     },
@@ -238,55 +224,45 @@ fn rows() -> [&'static [Row]; 3] {
 #[test]
 fn tells_and_picks(rt: HostRuntime) {
     for table in rows() {
-        for row in table {
-            check_row(&rt, rt.alloc(), row);
+        for (number, row) in (0..).zip(table.iter()) {
+            check_row(&rt, rt.alloc(), number, row);
         }
     }
 }
 
 /// Answers that no number gives.
-const CONTRADICTIONS: &[[(Asked, bool); 2]] = &[
-    [(Above(u32::MAX), true), (AtLeast(0), true)],
-    [(AtLeast(0), false), (Equal(1, 0), true)],
-    [(AtLeast(5), true), (Above(3), false)],
-    [(Equal(ALL_BITS, 5), true), (Equal(ALL_BITS, 5), false)],
-    [(Equal(ALL_BITS, 5), true), (Equal(1, 0), true)],
-    [(Equal(0xf0, 0x10), true), (Equal(0x30, 0x20), true)],
-    [(Equal(1, 2), true), (AtLeast(0), true)],
-    [(Equal(0, 0), false), (AtLeast(0), true)],
-    [(Equal(8, 8), true), (AtLeast(8), false)],
-    [(Equal(0xff, 0), true), (Equal(0x0f, 0), false)],
-    [(Equal(3, 0), false), (Equal(7, 0), true)],
-    [(Equal(3, 0), false), (Equal(ALL_BITS, 4), true)],
+const CONTRADICTIONS: &[[(Atom, bool); 2]] = &[
+    [(above!(u32::MAX), true), (at_least!(0), true)],
+    [(at_least!(0), false), (equal!(1, 0), true)],
+    [(at_least!(5), true), (above!(3), false)],
+    [(equal!(ALL_BITS, 5), true), (equal!(ALL_BITS, 5), false)],
+    [(equal!(ALL_BITS, 5), true), (equal!(1, 0), true)],
+    [(equal!(0xf0, 0x10), true), (equal!(0x30, 0x20), true)],
+    [(equal!(1, 2), true), (at_least!(0), true)],
+    [(equal!(0, 0), false), (at_least!(0), true)],
+    [(equal!(8, 8), true), (at_least!(8), false)],
+    [(equal!(0xff, 0), true), (equal!(0x0f, 0), false)],
+    [(equal!(3, 0), false), (equal!(7, 0), true)],
+    [(equal!(3, 0), false), (equal!(ALL_BITS, 4), true)],
 ];
 
-fn contradictions() -> &'static [[(Asked, bool); 2]] {
+fn contradictions() -> &'static [[(Atom, bool); 2]] {
     CONTRADICTIONS
+}
+
+/// Checks that nothing is left after these answers.
+fn check_contradiction(rt: &impl Abort, alloc: Global, number: u32, learned: &[(Atom, bool)]) {
+    let mut facts = WordSets::all(alloc).expect(rt, "no fault");
+    for (atom, holds) in learned {
+        take(rt, &mut facts, number, Learn(*atom, *holds));
+    }
+    take(rt, &mut facts, number, IsEmpty(true));
+    take(rt, &mut facts, number, PicksNone);
 }
 
 #[test]
 fn sees_where_nothing_is_left(rt: HostRuntime) {
-    for learned in contradictions() {
-        let mut facts = WordSets::all(rt.alloc()).expect(&rt, "no fault");
-        for (asked, holds) in learned {
-            learn(&rt, &mut facts, asked.atom(), *holds);
-        }
-        assert!(rt; facts.is_empty(), "after {learned:?}");
-        assert!(rt; facts.pick().is_none(), "after {learned:?}");
+    for (number, learned) in (0..).zip(contradictions()) {
+        check_contradiction(&rt, rt.alloc(), number, learned);
     }
-}
-
-#[test]
-fn finds_the_open_bit_behind_refuted_masks(rt: HostRuntime) {
-    let mut facts = WordSets::all(rt.alloc()).expect(&rt, "no fault");
-    let learned = [
-        (equal(0x10, 0x10), true),
-        (above(0xffff_fffc), false),
-        (equal(3, 0), false),
-        (equal(0x13, 0x12), false),
-    ];
-    for (atom, holds) in learned {
-        learn(&rt, &mut facts, atom, holds);
-    }
-    assert!(rt; facts.pick() == words_with(0x11));
 }
