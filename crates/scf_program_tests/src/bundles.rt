@@ -1,43 +1,34 @@
 //! The parts of a bundle.
 
 use crate::parts::{add, filter_of};
-use crate::runs::run_with;
+use crate::runs::prints;
 use scf_test_fixtures::filters::ALLOW_ALL;
 use scf_test_fixtures::profiles::DEFAULT_ALLOW;
 use scf_tool::{Part, PartKind, split};
+use std::alloc::Global;
+use std::process::Abort;
 
-/// 62 filters, a profile and a table: where each of them stands, and that all are compared.
-#[test]
-fn bundle_of_64_parts(rt: HostRuntime) {
-    let filter = filter_of(&rt, rt.alloc(), ALLOW_ALL);
-    let mut input = Vec::new(rt.alloc());
-    let mut wanted = Vec::new(rt.alloc());
-    // A header of 9 bytes, and one instruction.
-    for place in 0..62usize {
-        add(&rt, rt.alloc(), &mut input, "filter", &filter);
-        let start = 17 * place + 9;
-        wanted
-            .push(part(PartKind::Filter, start, 8))
-            .expect(&rt, "no fault");
+/// 62 filters of one instruction, a profile and a table.
+fn of_64_parts(rt: &impl Abort, alloc: Global) -> Vec<u8> {
+    let filter = filter_of(rt, alloc, ALLOW_ALL);
+    let mut bundle = Vec::new(alloc);
+    for _ in 0..62 {
+        add(rt, alloc, &mut bundle, "filter", &filter);
     }
-    // Headers of 11 bytes and of 8 behind 62 times 17 bytes.
-    add(
-        &rt,
-        rt.alloc(),
-        &mut input,
-        "profile",
-        DEFAULT_ALLOW.as_bytes(),
-    );
-    add(&rt, rt.alloc(), &mut input, "table", b"");
-    let of_both = [
-        part(PartKind::Profile, 1065, 34),
-        part(PartKind::Table, 1107, 0),
-    ];
-    wanted.extend_from_slice(&of_both).expect(&rt, "no fault");
-    let parts = split(rt.alloc(), &input).expect(&rt, "parts");
-    assert!(rt; parts.as_slice() == wanted.as_slice(), "{parts:?}");
-    let ended = run_with(&rt, rt.alloc(), "compare", "--native", &input);
-    assert!(rt; ended.is(b"same\n", 0, 0), "{ended:?}");
+    add(rt, alloc, &mut bundle, "profile", DEFAULT_ALLOW.as_bytes());
+    add(rt, alloc, &mut bundle, "table", b"");
+    bundle
+}
+
+/// The part that stands at a place of them.
+fn part_at(place: usize) -> Part {
+    match place {
+        // A header of 9 bytes, and one instruction.
+        0..62 => part(PartKind::Filter, 17 * place + 9, 8),
+        // Headers of 11 bytes and of 8 behind 62 times 17 bytes.
+        62 => part(PartKind::Profile, 1065, 34),
+        _ => part(PartKind::Table, 1107, 0),
+    }
 }
 
 fn part(kind: PartKind, start: usize, length: usize) -> Part {
@@ -46,4 +37,29 @@ fn part(kind: PartKind, start: usize, length: usize) -> Part {
         start,
         length,
     }
+}
+
+/// Whether each part stands where it is to.
+fn are_in_place(parts: &[Part]) -> bool {
+    for (place, part) in parts.iter().enumerate() {
+        if *part != part_at(place) {
+            return false;
+        }
+    }
+    true
+}
+
+fn are_split(rt: &impl Abort, alloc: Global, bundle: &[u8]) {
+    let parts = split(alloc, bundle).expect(rt, "parts");
+    let are_wanted = parts.len() == 64 && are_in_place(parts.as_slice());
+    assert!(rt; are_wanted, "{parts:?}");
+}
+
+/// Where each part stands, and that all are compared.
+#[test]
+fn bundle_of_64_parts(rt: HostRuntime) {
+    let bundle = of_64_parts(&rt, rt.alloc());
+    are_split(&rt, rt.alloc(), &bundle);
+    let words = ["scf", "compare", "--native"];
+    prints(&rt, rt.alloc(), &words, &bundle, usize::MAX, b"same\n");
 }

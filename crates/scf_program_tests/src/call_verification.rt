@@ -2,6 +2,7 @@
 //! which are those of the comparison of the whole stack.
 
 use crate::parts::{filter_of, long_filter};
+use crate::verification::failing_at;
 use scf_compare::{Scope, Verdict};
 use scf_insn::faults::{Failing, Reader};
 use scf_insn::{Answer, InputFault, ReadFault};
@@ -67,8 +68,10 @@ const PROFILE: &str =
     r#"{"defaultAction":"SCMP_ACT_ALLOW","architectures":["SCMP_ARCH_X86_64","SCMP_ARCH_X86"],
     "syscalls":[{"names":["c","gone"],"action":"SCMP_ACT_ERRNO"}]}"#;
 
-/// The numbers of the table, their names, and what is wanted with ample steps and with 64.
-const CALLS: &[(u32, &[&str], Wanted, Wanted)] = &[
+/// A number of the table, its names, and what is wanted with ample steps and with 64.
+type Call = (u32, &'static [&'static str], Wanted, Wanted);
+
+const CALLS: &[Call] = &[
     (0, &["same"], Wanted::Same, Wanted::Same),
     (1, &["a"], Wanted::Same, Wanted::Unfinished),
     // The one filter comes to its `ret #0` at 10, and the other to its last return.
@@ -110,22 +113,67 @@ fn verified(alloc: Global, given: &[&[u8]; 4], limit: u64) -> Result<CallsOutcom
     verify_calls(alloc, &mut filters, &mut profile, &mut table, limit)
 }
 
+/// Whether this is told of a call of the table.
+fn is_told(told: &CallVerdict, call: &Call, is_ample: bool) -> bool {
+    let (number, names, ample, few) = call;
+    let wanted = if is_ample { *ample } else { *few };
+    told.number == *number && are(told.names.as_slice(), names) && is_wanted(told, wanted)
+}
+
+/// That the verdict at a place is that on a call.
+fn tells(rt: &impl Abort, told: &[CallVerdict], place: usize, call: &Call, is_ample: bool) {
+    let told = told.get(place).expect(rt, "a verdict");
+    let is_so = is_told(told, call, is_ample);
+    assert!(rt; is_so, "{told:?}, {is_ample}");
+}
+
+/// That these are the verdicts on the calls of the table.
+fn tells_of_each(rt: &impl Abort, told: &[CallVerdict], is_ample: bool) {
+    for (place, call) in calls().iter().enumerate() {
+        tells(rt, told, place, call, is_ample);
+    }
+}
+
+fn calls() -> &'static [Call] {
+    CALLS
+}
+
+/// Whether each call of the table is there, and the names and architectures that are left out.
+fn is_whole(outcome: &CallsOutcome) -> bool {
+    outcome.calls.len() == calls().len()
+        && are(outcome.skipped.as_slice(), &["gone"])
+        && are(outcome.other_architectures.as_slice(), &["SCMP_ARCH_X86"])
+}
+
+/// What is told within ample steps, or within 64.
+fn verdicts_within(rt: &impl Abort, alloc: Global, given: &[&[u8]; 4], is_ample: bool) {
+    let limit = if is_ample { 1_000_000 } else { 64 };
+    let outcome = verified(alloc, given, limit).expect(rt, "no fault");
+    assert!(rt; is_whole(&outcome));
+    tells_of_each(rt, outcome.calls.as_slice(), is_ample);
+}
+
 #[test]
 fn verdict_of_each_call(rt: HostRuntime) {
     let older = filter_of(&rt, rt.alloc(), MIXED);
     let newer = filter_of(&rt, rt.alloc(), NEWER);
     let given = given(&older, &newer, TABLE, PROFILE);
-    for (limit, is_ample) in [(1_000_000, true), (64, false)] {
-        let outcome = verified(rt.alloc(), &given, limit).expect(&rt, "no fault");
-        assert!(rt; outcome.calls.len() == CALLS.len());
-        for (told, (number, names, ample, few)) in outcome.calls.iter().zip(CALLS) {
-            let wanted = if is_ample { *ample } else { *few };
-            assert!(rt; told.number == *number);
-            assert!(rt; are(told.names.as_slice(), names), "{number}");
-            assert!(rt; is_wanted(told, wanted), "{told:?} within {limit}");
-        }
-        assert!(rt; are(outcome.skipped.as_slice(), &["gone"]));
-        assert!(rt; are(outcome.other_architectures.as_slice(), &["SCMP_ARCH_X86"]));
+    verdicts_within(&rt, rt.alloc(), &given, true);
+    verdicts_within(&rt, rt.alloc(), &given, false);
+}
+
+/// The fault of a comparison by calls, or of the whole stack.
+fn fault_by(
+    alloc: Global,
+    filters: &mut [Reader<'_>],
+    table: &mut Reader<'_>,
+    profile: &mut Reader<'_>,
+    by_calls: bool,
+) -> Option<VerifyFault> {
+    if by_calls {
+        verify_calls(alloc, filters, profile, table, 1_000).err()
+    } else {
+        verify_stack(alloc, filters, profile, table, Scope::All, 1_000).err()
     }
 }
 
@@ -145,12 +193,7 @@ fn fault_of(
     ];
     let mut table = Reader::new(*table, 1, *of_table);
     let mut profile = Reader::new(*profile, 1, *of_profile);
-    let fault = if by_calls {
-        verify_calls(alloc, &mut filters, &mut profile, &mut table, 1_000).err()
-    } else {
-        let scope = Scope::All;
-        verify_stack(alloc, &mut filters, &mut profile, &mut table, scope, 1_000).err()
-    };
+    let fault = fault_by(alloc, &mut filters, &mut table, &mut profile, by_calls);
     let [older, newer] = &filters;
     (
         fault,
@@ -167,10 +210,9 @@ fn is_fault(
     wanted: VerifyFault,
 ) -> [u64; 4] {
     let (fault, asks) = fault_of(alloc, given, failing, true);
-    assert!(rt; fault == Some(wanted));
-    let (fault, asks_of_stack) = fault_of(alloc, given, failing, false);
-    assert!(rt; fault == Some(wanted));
-    assert!(rt; asks_of_stack == asks, "{wanted:?}");
+    let (fault_of_stack, asks_of_stack) = fault_of(alloc, given, failing, false);
+    let are_wanted = fault == Some(wanted) && fault_of_stack == Some(wanted);
+    assert!(rt; are_wanted && asks_of_stack == asks, "{wanted:?}");
     asks
 }
 
@@ -244,21 +286,55 @@ const REFUSED: &[Refused] = &[
     },
 ];
 
+fn all_refused() -> &'static [Refused] {
+    REFUSED
+}
+
+/// How many of the readers were read.
+fn read_of(asks: &[u64; 4]) -> usize {
+    asks.iter().filter(|count| **count > 0).count()
+}
+
 fn is_refused(rt: &impl Abort, alloc: Global, filter: &[u8], refused: &Refused) {
     let older = filter.get(..refused.older).expect(rt, "so many bytes");
     let newer = filter.get(..refused.newer).expect(rt, "so many bytes");
     let given = given(older, newer, refused.table, refused.profile);
     let asks = is_fault(rt, alloc, &given, &[Failing::Never; 4], refused.fault);
-    let read = asks.iter().filter(|count| **count > 0).count();
-    assert!(rt; read == refused.read, "{:?}", refused.fault);
+    assert!(rt; read_of(&asks) == refused.read, "{:?}", refused.fault);
 }
 
 #[test]
 fn faults_of_stacks_in_order(rt: HostRuntime) {
     let filter = filter_of(&rt, rt.alloc(), "ld #0; ret a");
-    for refused in REFUSED {
+    for refused in all_refused() {
         is_refused(&rt, rt.alloc(), &filter, refused);
     }
+}
+
+/// Nine readers of a filter.
+fn nine_readers<'a>(rt: &impl Abort, alloc: Global, filter: &'a [u8]) -> Vec<Reader<'a>> {
+    let mut readers = Vec::new(alloc);
+    for _ in 0..9 {
+        readers
+            .push(Reader::new(filter, usize::MAX, Failing::Never))
+            .expect(rt, "no fault");
+    }
+    readers
+}
+
+/// The stack that these filters come to is too long, and neither the table nor the profile is read then.
+fn are_too_many(rt: &impl Abort, alloc: Global, filters: &mut [Reader<'_>], total: usize) {
+    let mut table = Reader::new(b"read", 1, Failing::Never);
+    let mut profile = Reader::new(b"[", 1, Failing::Never);
+    let answer = verify_calls(alloc, filters, &mut profile, &mut table, 1_000);
+    let wanted = VerifyFault::Stack(PushFault::TooMany { total });
+    assert!(rt; answer.err() == Some(wanted));
+    assert!(rt; (table.asks(), profile.asks()) == (0, 0));
+}
+
+/// How many of these readers weren't read.
+fn unread_of(readers: &[Reader<'_>]) -> usize {
+    readers.iter().filter(|reader| reader.asks() == 0).count()
 }
 
 /// The eighth of these filters isn't pushed: seven of 4096 instructions are there, each of which counts four more. The
@@ -266,59 +342,80 @@ fn faults_of_stacks_in_order(rt: HostRuntime) {
 #[test]
 fn full_stack(rt: HostRuntime) {
     let filter = long_filter(&rt, rt.alloc(), 4095);
-    let mut filters = Vec::new(rt.alloc());
-    for _ in 0..9 {
-        filters
-            .push(Reader::new(&filter, usize::MAX, Failing::Never))
-            .expect(&rt, "no fault");
-    }
-    let mut table = Reader::new(b"read", 1, Failing::Never);
-    let mut profile = Reader::new(b"[", 1, Failing::Never);
-    let answer = verify_calls(
-        rt.alloc(),
-        filters.as_mut_slice(),
-        &mut profile,
-        &mut table,
-        1_000,
-    );
-    let wanted = VerifyFault::Stack(PushFault::TooMany { total: 32796 });
-    assert!(rt; answer.err() == Some(wanted));
-    let unread = filters.iter().filter(|reader| reader.asks() == 0).count();
-    assert!(rt; (unread, table.asks(), profile.asks()) == (1, 0, 0));
+    let mut filters = nine_readers(&rt, rt.alloc(), &filter);
+    are_too_many(&rt, rt.alloc(), filters.as_mut_slice(), 32796);
+    assert!(rt; unread_of(filters.as_slice()) == 1);
 }
 
-/// Each reader fails after each count of bytes. It isn't asked again then, those before it were read to their ends, and
-/// none behind it is asked.
+/// How often the reader at a place of four is asked, of so many bytes, where one fails after a share of its own. That
+/// isn't asked again then, those before it were read to their ends, and none behind it is asked.
+fn asks_at(place: usize, length: usize, failing: usize, share: usize) -> u64 {
+    if place > failing {
+        return 0;
+    }
+    let bytes = if place < failing { length } else { share };
+    (bytes as u64).saturating_add(1)
+}
+
+/// How often each reader is asked then.
+fn wanted_asks(given: &[&[u8]; 4], failing: usize, share: usize) -> [u64; 4] {
+    let [older, newer, table, profile] = given;
+    [
+        asks_at(0, older.len(), failing, share),
+        asks_at(1, newer.len(), failing, share),
+        asks_at(2, table.len(), failing, share),
+        asks_at(3, profile.len(), failing, share),
+    ]
+}
+
+/// The reader at a place fails after so many bytes.
+fn fail_read(
+    rt: &impl Abort,
+    alloc: Global,
+    given: &[&[u8]; 4],
+    (place, share): (usize, usize),
+    wanted: VerifyFault,
+) {
+    let asks = is_fault(rt, alloc, given, &failing_at(place, share), wanted);
+    let is_so = asks == wanted_asks(given, place, share);
+    assert!(rt; is_so, "{wanted:?} after {share}: {asks:?}");
+}
+
+/// The reader at a place fails after each count of its bytes.
+fn fail_each_read(
+    rt: &impl Abort,
+    alloc: Global,
+    given: &[&[u8]; 4],
+    place: usize,
+    wanted: VerifyFault,
+) {
+    let bytes = given.get(place).expect(rt, "a reader");
+    for share in 0..=bytes.len() {
+        fail_read(rt, alloc, given, (place, share), wanted);
+    }
+}
+
+/// The faults of the readers of an older and a newer filter, of a table and of a profile.
+const READ_FAULTS: &[VerifyFault; 4] = &[
+    VerifyFault::FilterRead(ReadFault::Read),
+    VerifyFault::FilterRead(ReadFault::Read),
+    VerifyFault::TableRead(InputFault::Read),
+    VerifyFault::ProfileRead(InputFault::Read),
+];
+
+fn read_faults() -> &'static [VerifyFault; 4] {
+    READ_FAULTS
+}
+
+fn fail_each_reader(rt: &impl Abort, alloc: Global, given: &[&[u8]; 4]) {
+    for (place, wanted) in read_faults().iter().enumerate() {
+        fail_each_read(rt, alloc, given, place, *wanted);
+    }
+}
+
 #[test]
 fn failing_readers_of_stacks(rt: HostRuntime) {
     let filter = filter_of(&rt, rt.alloc(), "ret a");
     let given = given(&filter, &filter, READ_TABLE, DEFAULT_ALLOW);
-    let faults = [
-        VerifyFault::FilterRead(ReadFault::Read),
-        VerifyFault::FilterRead(ReadFault::Read),
-        VerifyFault::TableRead(InputFault::Read),
-        VerifyFault::ProfileRead(InputFault::Read),
-    ];
-    for (place, (bytes, wanted)) in given.iter().zip(faults).enumerate() {
-        for share in 0..=bytes.len() {
-            let failing_at = |other| {
-                if other == place {
-                    Failing::After(share)
-                } else {
-                    Failing::Never
-                }
-            };
-            let failing = [failing_at(0), failing_at(1), failing_at(2), failing_at(3)];
-            let asks = is_fault(&rt, rt.alloc(), &given, &failing, wanted);
-            for (other, (count, whole)) in asks.iter().zip(given).enumerate() {
-                let given_before = if other < place { whole.len() } else { share };
-                let wanted_asks = if other <= place {
-                    (given_before as u64).saturating_add(1)
-                } else {
-                    0
-                };
-                assert!(rt; *count == wanted_asks, "{wanted:?} after {share}: {other}");
-            }
-        }
-    }
+    fail_each_reader(&rt, rt.alloc(), &given);
 }

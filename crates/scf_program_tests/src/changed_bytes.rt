@@ -1,7 +1,8 @@
 //! A bundle of two filters in which one byte is changed.
 
 use crate::runs::{answer_line, run};
-use std::alloc::{AllocError, Global};
+use std::alloc::Global;
+use std::process::Abort;
 
 /// Two filters of one instruction each, of which the first answers ERRNO 1 and the second ERRNO 2.
 const TWO_FILTERS: [u8; 34] = *b"filter 8\n\x06\0\0\0\x01\0\x05\0filter 8\n\x06\0\0\0\x02\0\x05\0";
@@ -49,57 +50,65 @@ fn fault_of_code(code: u8) -> &'static str {
     }
 }
 
-fn bundle_fault(alloc: Global, kind: &str, offset: usize) -> Result<(String, u8), AllocError> {
-    Ok((
-        format!(in alloc; "fault bundle {kind} offset {offset}\n")?,
-        3,
-    ))
+fn bundle_fault(rt: &impl Abort, alloc: Global, kind: &str, offset: usize) -> (String, u8) {
+    let text = format!(in alloc; "fault bundle {kind} offset {offset}\n");
+    (text.expect(rt, "no fault"), 3)
 }
 
-fn filter_fault(alloc: Global, kind: &str) -> Result<(String, u8), AllocError> {
-    Ok((format!(in alloc; "fault filter {kind}\n")?, 1))
+fn filter_fault(rt: &impl Abort, alloc: Global, kind: &str) -> (String, u8) {
+    let text = format!(in alloc; "fault filter {kind}\n");
+    (text.expect(rt, "no fault"), 1)
 }
 
 /// What `decide` prints where the part that begins at an offset says another count of bytes, and its status. No header
 /// stands where the part then ends.
-fn with_count(alloc: Global, start: usize, count: u8) -> Result<(String, u8), AllocError> {
+fn with_count(rt: &impl Abort, alloc: Global, start: usize, count: u8) -> (String, u8) {
     let end = start.saturating_add(HEADER + usize::from(count));
     if end > TWO_FILTERS.len() {
-        return bundle_fault(alloc, "Short", start);
+        return bundle_fault(rt, alloc, "Short", start);
     }
-    bundle_fault(alloc, "Header", end)
+    bundle_fault(rt, alloc, "Header", end)
 }
 
 /// What `decide` prints where a filter has another code, and its status. `ret a` answers 0, which goes before ERRNO.
-fn with_code(alloc: Global, code: u8) -> Result<(String, u8), AllocError> {
+fn with_code(rt: &impl Abort, alloc: Global, code: u8) -> (String, u8) {
     if code == 0x16 {
-        return Ok((answer_line(alloc, 0)?, 0));
+        return (answer_line(rt, alloc, 0), 0);
     }
-    filter_fault(alloc, fault_of_code(code))
+    filter_fault(rt, alloc, fault_of_code(code))
 }
 
 /// What `decide` prints of the bundle in which the byte at this place is now this one, and its status.
 fn wanted(
+    rt: &impl Abort,
     alloc: Global,
     bundle: &[u8; 34],
     place: usize,
     byte: u8,
-) -> Result<(String, u8), AllocError> {
+) -> (String, u8) {
     let (oldest, newest) = bundle.split_at(PART);
     let start = if place < PART { 0 } else { PART };
     match (place - start, byte) {
         // The digit of a header, and the rest of it.
-        (7, b'0'..=b'9') => with_count(alloc, start, byte - b'0'),
-        (0..HEADER, _) => bundle_fault(alloc, "Header", start),
+        (7, b'0'..=b'9') => with_count(rt, alloc, start, byte - b'0'),
+        (0..HEADER, _) => bundle_fault(rt, alloc, "Header", start),
         // The code of an instruction, in two bytes.
-        (9, code) => with_code(alloc, code),
-        (10, _) => filter_fault(alloc, "Code at 0"),
+        (9, code) => with_code(rt, alloc, code),
+        (10, _) => filter_fault(rt, alloc, "Code at 0"),
         // Two fields that a return doesn't use, and its constant.
-        _ => Ok((
-            answer_line(alloc, decided(constant(oldest), constant(newest)))?,
-            0,
-        )),
+        _ => {
+            let answer = decided(constant(oldest), constant(newest));
+            (answer_line(rt, alloc, answer), 0)
+        }
     }
+}
+
+/// What is decided of the bundle in which the byte at this place is now this one.
+fn is_decided(rt: &impl Abort, alloc: Global, bundle: &[u8; 34], place: usize, byte: u8) {
+    let (text, status) = wanted(rt, alloc, bundle, place, byte);
+    let ended = run(alloc, &["scf", "decide"], bundle, usize::MAX);
+    let is_wanted = ended.is(text.as_bytes(), status, 0);
+    assert!(rt; is_wanted, "{byte} at {place}: {ended:?}");
 }
 
 /// Each byte is changed to each other byte.
@@ -108,16 +117,10 @@ fn changed_bytes(rt: HostRuntime) {
     for place in 0..TWO_FILTERS.len() {
         for byte in 0..=u8::MAX {
             let mut bundle = TWO_FILTERS;
-            if bundle[place] == byte {
-                continue;
+            if bundle[place] != byte {
+                bundle[place] = byte;
+                is_decided(&rt, rt.alloc(), &bundle, place, byte);
             }
-            bundle[place] = byte;
-            let (text, status) = wanted(rt.alloc(), &bundle, place, byte).expect(&rt, "no fault");
-            let ended = run(rt.alloc(), &["scf", "decide"], &bundle, usize::MAX);
-            assert!(rt;
-                ended.is(text.as_bytes(), status, 0),
-                "{byte} at {place}: {ended:?}"
-            );
         }
     }
 }

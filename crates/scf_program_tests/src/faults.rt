@@ -1,11 +1,11 @@
 //! Readers and writers that fail.
 
 use crate::parts::{ALL, ALLOW, NO_TABLE, Part, WITHOUT_WRITE, bundle, filter_of};
-use crate::runs::{run, run_on};
-use scf_insn::Counted;
-use scf_insn::faults::{Failing, Reader, Writer};
+use crate::runs::{
+    Ended, asked_once_more, ends, prints, run, run_from, run_from_std, run_into, run_into_std,
+};
+use scf_insn::faults::{Failing, Reader};
 use scf_test_fixtures::filters::ARCH_GATE;
-use scf_tool::run_command;
 use std::alloc::Global;
 use std::process::Abort;
 
@@ -49,140 +49,27 @@ const CALLS: Input = Input::Bundle(&[
 
 const TEXT: Input = Input::Text("ja on; on: ret a");
 
+/// Words, what they read, and what is printed.
+type Asked = (&'static [&'static str], Input, &'static [u8]);
+
 /// A command of each kind that reads, an input that it doesn't refuse, and what it prints where the input fails.
-const READS: &[(&[&str], Input, &str)] = &[
-    (&["scf", "run"], GATE, "fault filter Read\n"),
-    (&["scf", "check"], GATE, "fault filter Read\n"),
-    (&["scf", "dis"], GATE, "fault filter Read\n"),
-    (&["scf", "asm"], TEXT, "fault input Read\n"),
-    (&["scf", "decide"], STACK, "fault input Read\n"),
-    (&["scf", "compile"], PROFILE, "fault input Read\n"),
-    (&["scf", "compare"], PAIR, "fault input Read\n"),
-    (&["scf", "compare", "--calls"], CALLS, "fault input Read\n"),
+const READS: &[Asked] = &[
+    (&["scf", "run"], GATE, b"fault filter Read\n"),
+    (&["scf", "check"], GATE, b"fault filter Read\n"),
+    (&["scf", "dis"], GATE, b"fault filter Read\n"),
+    (&["scf", "asm"], TEXT, b"fault input Read\n"),
+    (&["scf", "decide"], STACK, b"fault input Read\n"),
+    (&["scf", "compile"], PROFILE, b"fault input Read\n"),
+    (&["scf", "compare"], PAIR, b"fault input Read\n"),
+    (&["scf", "compare", "--calls"], CALLS, b"fault input Read\n"),
 ];
 
-/// A reader that fails after each count of bytes, and one that fails only past the end.
-#[test]
-fn failing_readers(rt: HostRuntime) {
-    for (words, input, fault) in READS {
-        let input = bytes_of(&rt, rt.alloc(), *input);
-        let on = |share| {
-            let reader = Reader::new(&input, 1, Failing::After(share));
-            run_on(
-                rt.alloc(),
-                words,
-                reader,
-                Writer::new(rt.alloc(), usize::MAX, Failing::Never),
-            )
-        };
-        for share in 0..=input.len() {
-            let ended = on(share);
-            assert!(rt;
-                ended.is(fault.as_bytes(), 3, 1),
-                "{words:?} after {share}: {ended:?}"
-            );
-        }
-        let well = run(rt.alloc(), words, &input, 1);
-        let ended = on(input.len().saturating_add(1));
-        assert!(rt;
-            ended.is(well.text(), well.status, 0),
-            "{words:?}: {ended:?}"
-        );
-    }
-}
-
-/// A reader of std that is interrupted after each count of bytes: that is a failure, and isn't tried again.
-#[test]
-fn interrupted_readers(rt: HostRuntime) {
-    for (words, input, fault) in READS {
-        let input = bytes_of(&rt, rt.alloc(), *input);
-        for share in 0..=input.len() {
-            let mut inner = Reader::new(&input, 1, Failing::OnceAfter(share));
-            let mut source = Counted::new(&mut inner);
-            let mut out = Writer::new(rt.alloc(), usize::MAX, Failing::Never);
-            let status = run_command(rt.alloc(), words, &mut source, &mut out);
-            assert!(rt;
-                (status, source.failures()) == (3, 1),
-                "{words:?} after {share}"
-            );
-            assert!(rt; out.taken() == fault.as_bytes(), "{words:?} after {share}");
-            assert!(rt;
-                inner.asks() == ((share as u64).saturating_add(1)),
-                "{words:?}"
-            );
-        }
-    }
-}
-
-/// A reader isn't asked again once it has ended.
-#[test]
-fn ended_readers(rt: HostRuntime) {
-    for (words, input, _) in READS {
-        let input = bytes_of(&rt, rt.alloc(), *input);
-        let mut source = Reader::new(&input, 1, Failing::Never);
-        let mut out = Writer::new(rt.alloc(), usize::MAX, Failing::Never);
-        let _status = run_command(rt.alloc(), words, &mut source, &mut out);
-        let reads = (input.len() as u64).saturating_add(1);
-        assert!(rt; source.asks() == reads, "{words:?}");
-    }
-}
-
-/// A writer that fails at each write in turn, and one that fails only past the end.
-fn fail_each_write(rt: &impl Abort, alloc: Global, words: &[&str], input: &[u8]) {
-    let well = run(alloc, words, input, 1);
-    let text = well.text();
-    let on = |share| {
-        let out = Writer::new(alloc, 1, Failing::After(share));
-        run_on(alloc, words, Reader::new(input, 1, Failing::Never), out)
-    };
-    for share in 0..text.len() {
-        let ended = on(share);
-        assert!(rt;
-            ended.is(&text[..share], 3, 1),
-            "{words:?} after {share}: {ended:?}"
-        );
-    }
-    let ended = on(text.len());
-    assert!(rt; ended.is(text, well.status, 0), "{words:?}: {ended:?}");
-}
-
-/// A writer of std that takes no byte at each write in turn: that is a failure, and isn't tried again.
-fn take_nothing_once(rt: &impl Abort, alloc: Global, words: &[&str], input: &[u8]) {
-    let well = run(alloc, words, input, 1);
-    let text = well.text();
-    for share in 0..text.len() {
-        let mut inner = Writer::new(alloc, 1, Failing::OnceAfter(share));
-        let mut out = Counted::new(&mut inner);
-        let mut source = Reader::new(input, 1, Failing::Never);
-        let status = run_command(alloc, words, &mut source, &mut out);
-        assert!(rt;
-            (status, out.failures()) == (3, 1),
-            "{words:?} after {share}"
-        );
-        assert!(rt; inner.taken() == &text[..share], "{words:?}");
-        assert!(rt;
-            inner.asks() == ((share as u64).saturating_add(1)),
-            "{words:?}"
-        );
-    }
-}
-
-/// What went out is a beginning of the text.
-#[test]
-fn failing_writers(rt: HostRuntime) {
-    for (words, input, _) in READS {
-        let input = bytes_of(&rt, rt.alloc(), *input);
-        fail_each_write(&rt, rt.alloc(), words, &input);
-        take_nothing_once(&rt, rt.alloc(), words, &input);
-    }
-    for words in [["scf", "--help"].as_slice(), &["scf"]] {
-        fail_each_write(&rt, rt.alloc(), words, b"");
-        take_nothing_once(&rt, rt.alloc(), words, b"");
-    }
+fn reads() -> &'static [Asked] {
+    READS
 }
 
 /// Commands, inputs and what is printed of them.
-const ANSWERS: &[(&[&str], Input, &[u8])] = &[
+const ANSWERS: &[Asked] = &[
     (&["scf", "run"], GATE, b"ALLOW 0 steps 3\n"),
     (&["scf", "check"], GATE, b"accepted 4\n"),
     (
@@ -195,32 +82,175 @@ const ANSWERS: &[(&[&str], Input, &[u8])] = &[
     (&["scf", "ask"], PROFILE, b"ALLOW 0 default\n"),
 ];
 
+fn answered() -> &'static [Asked] {
+    ANSWERS
+}
+
+/// Runs a command whose reader gives byte by byte, and fails once so many bytes were read.
+fn run_failing(alloc: Global, words: &[&str], input: &[u8], share: usize) -> Ended {
+    run_from(alloc, words, Reader::new(input, 1, Failing::After(share)))
+}
+
+/// A reader that fails after each count of bytes.
+fn fail_each_read(rt: &impl Abort, alloc: Global, words: &[&str], input: &[u8], fault: &[u8]) {
+    for share in 0..=input.len() {
+        let ended = run_failing(alloc, words, input, share);
+        ends(rt, words, share, &ended, (fault, 3, 1));
+    }
+}
+
+/// A reader that fails only past the end.
+fn fail_past_end(rt: &impl Abort, alloc: Global, words: &[&str], input: &[u8]) {
+    let well = run(alloc, words, input, 1);
+    let share = input.len().saturating_add(1);
+    let ended = run_failing(alloc, words, input, share);
+    ends(rt, words, share, &ended, (well.text(), well.status, 0));
+}
+
+/// A reader of std that is interrupted after each count of bytes: that is a failure, and isn't tried again.
+fn interrupt_each_read(rt: &impl Abort, alloc: Global, words: &[&str], input: &[u8], fault: &[u8]) {
+    for share in 0..=input.len() {
+        let ended = run_from_std(alloc, words, input, Failing::OnceAfter(share));
+        ends(rt, words, share, &ended, (fault, 3, 1));
+        asked_once_more(rt, words, share, ended.reads());
+    }
+}
+
+/// What went out to a writer that failed is this beginning of the text.
+fn fail_behind(
+    rt: &impl Abort,
+    alloc: Global,
+    words: &[&str],
+    input: &[u8],
+    beginning: &[u8],
+    failing: Failing,
+) {
+    let ended = run_into(alloc, words, input, failing);
+    ends(rt, words, beginning.len(), &ended, (beginning, 3, 1));
+}
+
+/// A writer that fails at each write in turn.
+fn fail_each_write(rt: &impl Abort, alloc: Global, words: &[&str], input: &[u8], text: &[u8]) {
+    for share in 0..text.len() {
+        let failing = Failing::After(share);
+        fail_behind(rt, alloc, words, input, &text[..share], failing);
+    }
+}
+
+/// A writer that fails at each write in turn, and only then.
+fn fail_each_write_once(rt: &impl Abort, alloc: Global, words: &[&str], input: &[u8], text: &[u8]) {
+    for share in 0..text.len() {
+        let failing = Failing::OnceAfter(share);
+        fail_behind(rt, alloc, words, input, &text[..share], failing);
+    }
+}
+
+/// A writer that fails only past the end.
+fn fail_past_text(rt: &impl Abort, alloc: Global, words: &[&str], input: &[u8], well: &Ended) {
+    let share = well.text().len();
+    let ended = run_into(alloc, words, input, Failing::After(share));
+    ends(rt, words, share, &ended, (well.text(), well.status, 0));
+}
+
+/// A writer of std that takes no byte at each write in turn: that is a failure, and isn't tried again.
+fn take_nothing_once(rt: &impl Abort, alloc: Global, words: &[&str], input: &[u8], text: &[u8]) {
+    for share in 0..text.len() {
+        let ended = run_into_std(alloc, words, input, Failing::OnceAfter(share));
+        ends(rt, words, share, &ended, (&text[..share], 3, 1));
+        asked_once_more(rt, words, share, ended.writes());
+    }
+}
+
+fn fail_writers(rt: &impl Abort, alloc: Global, words: &[&str], input: &[u8]) {
+    let well = run(alloc, words, input, 1);
+    fail_each_write(rt, alloc, words, input, well.text());
+    fail_past_text(rt, alloc, words, input, &well);
+    take_nothing_once(rt, alloc, words, input, well.text());
+}
+
+/// What is tried of a command.
+#[derive(Clone, Copy)]
+enum Trial {
+    FailingReaders,
+    InterruptedReaders,
+    EndedReaders,
+    FailingWriters,
+    /// That it is answered.
+    Answers,
+    WritersThatFailOnce,
+}
+
+fn take(
+    rt: &impl Abort,
+    alloc: Global,
+    trial: Trial,
+    words: &[&str],
+    input: &[u8],
+    printed: &[u8],
+) {
+    match trial {
+        Trial::FailingReaders => {
+            fail_each_read(rt, alloc, words, input, printed);
+            fail_past_end(rt, alloc, words, input);
+        }
+        Trial::InterruptedReaders => interrupt_each_read(rt, alloc, words, input, printed),
+        Trial::EndedReaders => {
+            let ended = run(alloc, words, input, 1);
+            asked_once_more(rt, words, input.len(), ended.reads());
+        }
+        Trial::FailingWriters => fail_writers(rt, alloc, words, input),
+        Trial::Answers => {
+            prints(rt, alloc, words, input, 1, printed);
+            prints(rt, alloc, words, input, usize::MAX, printed);
+        }
+        Trial::WritersThatFailOnce => fail_each_write_once(rt, alloc, words, input, printed),
+    }
+}
+
+fn take_each(rt: &impl Abort, alloc: Global, trial: Trial, asked: &[Asked]) {
+    for (words, input, printed) in asked {
+        let input = bytes_of(rt, alloc, *input);
+        take(rt, alloc, trial, words, &input, printed);
+    }
+}
+
+#[test]
+fn failing_readers(rt: HostRuntime) {
+    take_each(&rt, rt.alloc(), Trial::FailingReaders, reads());
+}
+
+#[test]
+fn interrupted_readers(rt: HostRuntime) {
+    take_each(&rt, rt.alloc(), Trial::InterruptedReaders, reads());
+}
+
+/// A reader isn't asked again once it has ended.
+#[test]
+fn ended_readers(rt: HostRuntime) {
+    take_each(&rt, rt.alloc(), Trial::EndedReaders, reads());
+}
+
+/// What went out is a beginning of the text.
+#[test]
+fn failing_writers(rt: HostRuntime) {
+    take_each(&rt, rt.alloc(), Trial::FailingWriters, reads());
+}
+
+/// So it is where nothing is read.
+#[test]
+fn failing_writers_of_words(rt: HostRuntime) {
+    fail_writers(&rt, rt.alloc(), &["scf", "--help"], b"");
+    fail_writers(&rt, rt.alloc(), &["scf"], b"");
+}
+
 /// Each is answered, with status 0, whether the input comes byte by byte or at once.
 #[test]
 fn answers(rt: HostRuntime) {
-    for (words, input, answer) in ANSWERS {
-        let input = bytes_of(&rt, rt.alloc(), *input);
-        for step in [1, usize::MAX] {
-            let ended = run(rt.alloc(), words, &input, step);
-            assert!(rt; ended.is(answer, 0, 0), "{words:?}: {ended:?}");
-        }
-    }
+    take_each(&rt, rt.alloc(), Trial::Answers, answered());
 }
 
 /// A writer isn't asked again once it has failed.
 #[test]
 fn writers_that_fail_once(rt: HostRuntime) {
-    for (words, input, answer) in ANSWERS {
-        let input = bytes_of(&rt, rt.alloc(), *input);
-        for share in 0..answer.len() {
-            let mut source = Reader::new(&input, 1, Failing::Never);
-            let mut out = Writer::new(rt.alloc(), 1, Failing::OnceAfter(share));
-            let status = run_command(rt.alloc(), words, &mut source, &mut out);
-            assert!(rt;
-                (status, out.failures()) == (3, 1),
-                "{words:?} after {share}"
-            );
-            assert!(rt; out.taken() == &answer[..share], "{words:?}");
-        }
-    }
+    take_each(&rt, rt.alloc(), Trial::WritersThatFailOnce, answered());
 }

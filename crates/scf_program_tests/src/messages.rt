@@ -5,6 +5,21 @@ use scf_machine::{CheckFault, PushFault};
 use scf_profile::{LoadFault, TableFault};
 use scf_request::RequestFault;
 use scf_tool::{BundleFault, NumberFault, VerifyFault};
+use std::alloc::Global;
+use std::fmt::Display;
+use std::process::Abort;
+
+/// That each of these errors prints its message.
+fn print_each<E: Display>(rt: &impl Abort, alloc: Global, errors: &[(E, &str)]) {
+    for (error, wanted) in errors {
+        prints(rt, alloc, error, wanted);
+    }
+}
+
+fn prints<E: Display>(rt: &impl Abort, alloc: Global, error: &E, wanted: &str) {
+    let message = format!(in alloc; "{error}").expect(rt, "no fault");
+    assert!(rt; message.as_str() == wanted);
+}
 
 /// Faults of bundles, and what they print.
 const BUNDLES: &[(BundleFault, &str)] = &[
@@ -21,21 +36,24 @@ const BUNDLES: &[(BundleFault, &str)] = &[
 
 #[test]
 fn bundles(rt: HostRuntime) {
-    for (fault, wanted) in BUNDLES {
-        let shown = format!(in rt.alloc(); "{fault}").expect(&rt, "no fault");
-        assert!(rt; shown.as_str() == *wanted);
-    }
+    print_each(&rt, rt.alloc(), BUNDLES);
 }
+
+/// Options that are no numbers, and what they print.
+const OPTIONS: &[(NumberFault, &str)] = &[
+    (
+        NumberFault { name: "nr" },
+        "the option nr is no number in its range",
+    ),
+    (
+        NumberFault { name: "limit" },
+        "the option limit is no number in its range",
+    ),
+];
 
 #[test]
 fn options(rt: HostRuntime) {
-    for (name, wanted) in [
-        ("nr", "the option nr is no number in its range"),
-        ("limit", "the option limit is no number in its range"),
-    ] {
-        let shown = format!(in rt.alloc(); "{}", NumberFault { name }).expect(&rt, "no fault");
-        assert!(rt; shown.as_str() == wanted);
-    }
+    print_each(&rt, rt.alloc(), OPTIONS);
 }
 
 /// Faults of requests, and what they print.
@@ -50,10 +68,7 @@ const REQUESTS: &[(RequestFault, &str)] = &[
 
 #[test]
 fn requests(rt: HostRuntime) {
-    for (fault, wanted) in REQUESTS {
-        let shown = format!(in rt.alloc(); "{fault}").expect(&rt, "no fault");
-        assert!(rt; shown.as_str() == *wanted);
-    }
+    print_each(&rt, rt.alloc(), REQUESTS);
 }
 
 /// Faults of a comparison from its readers, and what they print: what was read, and that fault's message.
@@ -91,8 +106,5 @@ const COMPARISONS: &[(VerifyFault, &str)] = &[
 
 #[test]
 fn comparisons(rt: HostRuntime) {
-    for (fault, wanted) in COMPARISONS {
-        let shown = format!(in rt.alloc(); "{fault}").expect(&rt, "no fault");
-        assert!(rt; shown.as_str() == *wanted);
-    }
+    print_each(&rt, rt.alloc(), COMPARISONS);
 }

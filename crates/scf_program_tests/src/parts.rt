@@ -32,14 +32,19 @@ pub(crate) fn repeated(rt: &impl Abort, alloc: Global, text: &str, count: usize)
 
 /// The bytes of the filter that a text spells.
 pub(crate) fn filter_of(rt: &impl Abort, alloc: Global, text: &str) -> Vec<u8> {
-    let insns = assemble(alloc, text.as_bytes()).expect(rt, "no fault");
     let mut bytes = Vec::new(alloc);
+    add_filter(rt, alloc, &mut bytes, text);
+    bytes
+}
+
+/// Adds the bytes of the filter that a text spells.
+fn add_filter(rt: &impl Abort, alloc: Global, bytes: &mut Vec<u8>, text: &str) {
+    let insns = assemble(alloc, text.as_bytes()).expect(rt, "no fault");
     for insn in &insns {
         bytes
             .extend_from_slice(&insn.to_bytes())
             .expect(rt, "no fault");
     }
-    bytes
 }
 
 /// `ld #0` so many times, and then an instruction that answers ALLOW.
@@ -49,9 +54,7 @@ pub(crate) fn long_filter(rt: &impl Abort, alloc: Global, loads: usize) -> Vec<u
     for _ in 0..loads {
         filter.extend_from_slice(&load).expect(rt, "no fault");
     }
-    filter
-        .extend_from_slice(&filter_of(rt, alloc, filters::ALLOW_ALL))
-        .expect(rt, "no fault");
+    add_filter(rt, alloc, &mut filter, filters::ALLOW_ALL);
     filter
 }
 
@@ -64,37 +67,34 @@ pub(crate) fn add(rt: &impl Abort, alloc: Global, bundle: &mut Vec<u8>, word: &s
     bundle.extend_from_slice(bytes).expect(rt, "no fault");
 }
 
+/// Adds this part.
+fn add_part(rt: &impl Abort, alloc: Global, bundle: &mut Vec<u8>, part: Part) {
+    match part {
+        Part::Filter(text) => add(rt, alloc, bundle, "filter", &filter_of(rt, alloc, text)),
+        Part::Profile(text) => add(rt, alloc, bundle, "profile", text.as_bytes()),
+        Part::Table(text) => add(rt, alloc, bundle, "table", text.as_bytes()),
+    }
+}
+
 /// The bundle of these parts.
 pub(crate) fn bundle(rt: &impl Abort, alloc: Global, parts: &[Part]) -> Vec<u8> {
     let mut bundle = Vec::new(alloc);
     for part in parts {
-        match part {
-            Part::Filter(text) => add(
-                rt,
-                alloc,
-                &mut bundle,
-                "filter",
-                &filter_of(rt, alloc, text),
-            ),
-            Part::Profile(text) => add(rt, alloc, &mut bundle, "profile", text.as_bytes()),
-            Part::Table(text) => add(rt, alloc, &mut bundle, "table", text.as_bytes()),
-        }
+        add_part(rt, alloc, &mut bundle, *part);
     }
     bundle
 }
 
-/// The bundle of a filter, a profile and a table, each where it is given.
+/// The bundle of a filter, a profile and a table.
 pub(crate) fn bundle_of(
     rt: &impl Abort,
     alloc: Global,
-    filter: Option<&[u8]>,
+    filter: &[u8],
     profile: &[u8],
     table: &[u8],
 ) -> Vec<u8> {
     let mut bundle = Vec::new(alloc);
-    if let Some(filter) = filter {
-        add(rt, alloc, &mut bundle, "filter", filter);
-    }
+    add(rt, alloc, &mut bundle, "filter", filter);
     add(rt, alloc, &mut bundle, "profile", profile);
     add(rt, alloc, &mut bundle, "table", table);
     bundle

@@ -4,28 +4,16 @@ use scf_compare::Verdict;
 use scf_insn::{Answer, CallRecord};
 use scf_profile::Texts;
 use scf_tool::{CallVerdict, CallsOutcome, Outcome, report, report_calls};
-use std::alloc::{AllocError, Global};
+use std::alloc::Global;
+use std::process::Abort;
 
-fn texts_of(alloc: Global, words: &[&'static str]) -> Result<Texts, AllocError> {
+fn texts_of(rt: &impl Abort, alloc: Global, words: &[&'static str]) -> Texts {
     let mut texts = Vec::new(alloc);
     for word in words {
-        texts.push(String::from_str(alloc, word)?)?;
+        let text = String::from_str(alloc, word).expect(rt, "no fault");
+        texts.push(text).expect(rt, "no fault");
     }
-    Ok(Texts::from_vec(texts))
-}
-
-/// An outcome with these skipped names and other architectures.
-fn outcome_of(
-    alloc: Global,
-    verdict: Verdict,
-    skipped: &[&'static str],
-    others: &[&'static str],
-) -> Result<Outcome, AllocError> {
-    Ok(Outcome {
-        verdict,
-        skipped: texts_of(alloc, skipped)?,
-        other_architectures: texts_of(alloc, others)?,
-    })
+    Texts::from_vec(texts)
 }
 
 /// A call whose numbers have one digit up to sixteen.
@@ -48,57 +36,96 @@ const SKIPPED: &[&str] = &["no_such_call", "umount2", "no_such_call"];
 
 const OTHERS: &[&str] = &["SCMP_ARCH_X86", "\u{e9}"];
 
-/// An outcome for each verdict, one with names, and what is printed of each.
-fn outcomes(alloc: Global) -> [(Result<Outcome, AllocError>, &'static str); 5] {
-    [
-        (
-            outcome_of(alloc, Verdict::Same { steps: 7 }, &[], &[]),
-            "same\n",
-        ),
-        (
-            outcome_of(alloc, DIFFERS, &[], &[]),
-            "differs\n\
+/// A verdict, skipped names and other architectures, and what is printed of them.
+struct Told {
+    verdict: Verdict,
+    skipped: &'static [&'static str],
+    others: &'static [&'static str],
+    text: &'static str,
+}
+
+/// One for each verdict, and one with names.
+const OUTCOMES: &[Told] = &[
+    Told {
+        verdict: Verdict::Same { steps: 7 },
+        skipped: &[],
+        others: &[],
+        text: "same\n",
+    },
+    Told {
+        verdict: DIFFERS,
+        skipped: &[],
+        others: &[],
+        text: "differs\n\
              call nr 41 arch 0xc000003e ip 0x0 args 0x2 0x80000 0x0 0xffffffffffffffff 0xabc 0x10\n\
              filter ERRNO 38\n\
              profile UNNAMED 0x00010000\n",
-        ),
-        (
-            outcome_of(alloc, UNDECIDED, &[], &[]),
-            "undecided at 4095\n",
-        ),
-        (
-            outcome_of(alloc, Verdict::Unfinished, &[], &[]),
-            "unfinished\n",
-        ),
-        (
-            outcome_of(alloc, Verdict::Unfinished, SKIPPED, OTHERS),
-            "unfinished\n\
+    },
+    Told {
+        verdict: UNDECIDED,
+        skipped: &[],
+        others: &[],
+        text: "undecided at 4095\n",
+    },
+    Told {
+        verdict: Verdict::Unfinished,
+        skipped: &[],
+        others: &[],
+        text: "unfinished\n",
+    },
+    Told {
+        verdict: Verdict::Unfinished,
+        skipped: SKIPPED,
+        others: OTHERS,
+        text: "unfinished\n\
              skipped no_such_call\n\
              skipped umount2\n\
              skipped no_such_call\n\
              other SCMP_ARCH_X86\n\
              other \u{e9}\n",
-        ),
-    ]
+    },
+];
+
+fn outcomes() -> &'static [Told] {
+    OUTCOMES
+}
+
+/// Whether this is printed of an outcome.
+fn is_report(alloc: Global, outcome: &Outcome, wanted: &str) -> bool {
+    match report(alloc, outcome) {
+        Ok(text) => text.as_slice() == wanted.as_bytes(),
+        Err(_) => false,
+    }
+}
+
+/// That there is a report of this text.
+fn is_reported(rt: &impl Abort, is_so: bool, text: &str) {
+    assert!(rt; is_so, "no report of {text}");
+}
+
+fn is_told(rt: &impl Abort, alloc: Global, told: &Told) {
+    let outcome = Outcome {
+        verdict: told.verdict,
+        skipped: texts_of(rt, alloc, told.skipped),
+        other_architectures: texts_of(rt, alloc, told.others),
+    };
+    is_reported(rt, is_report(alloc, &outcome, told.text), told.text);
 }
 
 #[test]
 fn reported_lines(rt: HostRuntime) {
-    for (outcome, wanted) in outcomes(rt.alloc()) {
-        match report(rt.alloc(), &outcome.expect(&rt, "no fault")) {
-            Ok(text) => assert!(rt; text.as_slice() == wanted.as_bytes()),
-            Err(_) => assert!(rt; false, "no report of {wanted}"),
-        }
+    for told in outcomes() {
+        is_told(&rt, rt.alloc(), told);
     }
 }
 
 /// A number, its names and its verdict.
-type Told = (u32, &'static [&'static str], Verdict);
+type ToldCall = (u32, &'static [&'static str], Verdict);
 
-const SAME: Told = (1, &["write"], Verdict::Same { steps: 7 });
+const SAME: ToldCall = (1, &["write"], Verdict::Same { steps: 7 });
 
 /// Calls, and what is printed of them: of all, and of each that isn't the same.
-const CALLS: &[(&[Told], &str)] = &[
+const CALLS: &[(&[ToldCall], &str)] = &[
     (&[], "same\n"),
     (&[SAME], "same\n"),
     (
@@ -139,33 +166,59 @@ const CALLS: &[(&[Told], &str)] = &[
 const LEFT_OUT: &str = "skipped no_such_call\nskipped umount2\nskipped no_such_call\n\
     other SCMP_ARCH_X86\nother \u{e9}\n";
 
-/// An outcome with these calls, and with names and architectures that were left out.
-fn told_of(alloc: Global, told: &[Told]) -> Result<CallsOutcome, AllocError> {
+/// The verdicts on these calls.
+fn verdicts_of(rt: &impl Abort, alloc: Global, told: &[ToldCall]) -> Vec<CallVerdict> {
     let mut calls = Vec::new(alloc);
     for (number, names, verdict) in told {
-        calls.push(CallVerdict {
+        let call = CallVerdict {
             number: *number,
-            names: texts_of(alloc, names)?,
+            names: texts_of(rt, alloc, names),
             verdict: *verdict,
-        })?;
+        };
+        calls.push(call).expect(rt, "no fault");
     }
-    Ok(CallsOutcome {
-        calls,
-        skipped: texts_of(alloc, SKIPPED)?,
-        other_architectures: texts_of(alloc, OTHERS)?,
-    })
+    calls
+}
+
+/// An outcome with these calls, and with names and architectures that were left out.
+fn told_of(rt: &impl Abort, alloc: Global, told: &[ToldCall]) -> CallsOutcome {
+    CallsOutcome {
+        calls: verdicts_of(rt, alloc, told),
+        skipped: texts_of(rt, alloc, SKIPPED),
+        other_architectures: texts_of(rt, alloc, OTHERS),
+    }
+}
+
+fn calls() -> &'static [(&'static [ToldCall], &'static str)] {
+    CALLS
+}
+
+/// Whether a text is this, with what is left out behind it.
+fn is_with_left_out(text: &[u8], wanted: &str) -> bool {
+    match text.split_at_checked(wanted.len()) {
+        Some((of_calls, left_out)) => {
+            of_calls == wanted.as_bytes() && left_out == LEFT_OUT.as_bytes()
+        }
+        None => false,
+    }
+}
+
+/// Whether this is printed of an outcome, with what is left out behind it.
+fn is_report_of_calls(alloc: Global, outcome: &CallsOutcome, wanted: &str) -> bool {
+    match report_calls(alloc, outcome) {
+        Ok(text) => is_with_left_out(text.as_slice(), wanted),
+        Err(_) => false,
+    }
+}
+
+fn are_told(rt: &impl Abort, alloc: Global, told: &[ToldCall], wanted: &str) {
+    let outcome = told_of(rt, alloc, told);
+    is_reported(rt, is_report_of_calls(alloc, &outcome, wanted), wanted);
 }
 
 #[test]
 fn reported_calls(rt: HostRuntime) {
-    for (told, wanted) in CALLS {
-        let wanted = format!(in rt.alloc(); "{wanted}{LEFT_OUT}").expect(&rt, "no fault");
-        match report_calls(
-            rt.alloc(),
-            &told_of(rt.alloc(), told).expect(&rt, "no fault"),
-        ) {
-            Ok(text) => assert!(rt; text.as_slice() == wanted.as_bytes()),
-            Err(_) => assert!(rt; false, "no report of {wanted}"),
-        }
+    for (told, wanted) in calls() {
+        are_told(&rt, rt.alloc(), told, wanted);
     }
 }

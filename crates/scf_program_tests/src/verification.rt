@@ -7,89 +7,140 @@ use scf_machine::CheckFault;
 use scf_profile::{LoadFault, TableFault};
 use scf_test_fixtures::filters::ALLOW_ALL;
 use scf_test_fixtures::profiles::{DEFAULT_ALLOW, READ_TABLE};
-use scf_tool::{Outcome, VerifyFault, verify};
+use scf_tool::{VerifyFault, verify};
 use std::alloc::Global;
+use std::process::Abort;
 
-/// What a filter, a table and a profile come to.
-fn verified(
-    alloc: Global,
-    filter: &[u8],
-    table: &str,
-    profile: &str,
-) -> Result<Outcome, VerifyFault> {
-    let mut filter = Reader::new(filter, 1, Failing::Never);
-    let mut table = Reader::new(table.as_bytes(), 1, Failing::Never);
-    let mut profile = Reader::new(profile.as_bytes(), 1, Failing::Never);
-    verify(alloc, &mut filter, &mut profile, &mut table, 1_000)
-}
-
-/// Whether the answer is this fault.
-fn is_fault(answer: Result<Outcome, VerifyFault>, wanted: VerifyFault) -> bool {
-    match answer {
-        Ok(_) => false,
-        Err(fault) => fault == wanted,
+/// That of some readers which stands at a place fails after so many bytes.
+pub(crate) fn failing_at<const READERS: usize>(place: usize, share: usize) -> [Failing; READERS] {
+    let mut failing = [Failing::Never; READERS];
+    if let Some(at_place) = failing.get_mut(place) {
+        *at_place = Failing::After(share);
     }
+    failing
 }
 
-/// How many bytes of the filter are given, tables and profiles, of which the first that is wrong, in this order, is
+/// The bytes of a filter, of a table and of a profile.
+fn given<'a>(filter: &'a [u8], table: &'a str, profile: &'a str) -> [&'a [u8]; 3] {
+    [filter, table.as_bytes(), profile.as_bytes()]
+}
+
+/// The fault of a filter, a table and a profile, whose readers fail there.
+fn fault_of(alloc: Global, given: &[&[u8]; 3], failing: &[Failing; 3]) -> Option<VerifyFault> {
+    let [filter, table, profile] = given;
+    let [of_filter, of_table, of_profile] = failing;
+    let mut filter = Reader::new(*filter, 1, *of_filter);
+    let mut table = Reader::new(*table, 1, *of_table);
+    let mut profile = Reader::new(*profile, 1, *of_profile);
+    verify(alloc, &mut filter, &mut profile, &mut table, 1_000).err()
+}
+
+/// That this is the fault where readers fail there.
+fn is_fault(
+    rt: &impl Abort,
+    alloc: Global,
+    given: &[&[u8]; 3],
+    failing: &[Failing; 3],
+    wanted: VerifyFault,
+) {
+    let is_so = fault_of(alloc, given, failing) == Some(wanted);
+    assert!(rt; is_so, "{wanted:?}, {failing:?}");
+}
+
+/// How many bytes of the filter are given, a table and a profile, of which the first that is wrong, in this order, is
 /// named.
-const FAULTS: &[(usize, &str, &str, VerifyFault)] = &[
-    (
-        7,
-        "read",
-        "[",
-        VerifyFault::FilterRead(ReadFault::Truncated { offset: 0 }),
-    ),
-    (0, "read", "[", VerifyFault::Check(CheckFault::Empty)),
-    (
-        8,
-        "read",
-        "[",
-        VerifyFault::Table(TableFault::Form { line: 1 }),
-    ),
-    (8, READ_TABLE, "[", VerifyFault::Profile(LoadFault::Json)),
-    (
-        8,
-        "",
-        "{}",
-        VerifyFault::Profile(LoadFault::Missing { entry: None }),
-    ),
+struct Refused {
+    filter: usize,
+    table: &'static str,
+    profile: &'static str,
+    fault: VerifyFault,
+}
+
+const REFUSED: &[Refused] = &[
+    Refused {
+        filter: 7,
+        table: "read",
+        profile: "[",
+        fault: VerifyFault::FilterRead(ReadFault::Truncated { offset: 0 }),
+    },
+    Refused {
+        filter: 0,
+        table: "read",
+        profile: "[",
+        fault: VerifyFault::Check(CheckFault::Empty),
+    },
+    Refused {
+        filter: 8,
+        table: "read",
+        profile: "[",
+        fault: VerifyFault::Table(TableFault::Form { line: 1 }),
+    },
+    Refused {
+        filter: 8,
+        table: READ_TABLE,
+        profile: "[",
+        fault: VerifyFault::Profile(LoadFault::Json),
+    },
+    Refused {
+        filter: 8,
+        table: "",
+        profile: "{}",
+        fault: VerifyFault::Profile(LoadFault::Missing { entry: None }),
+    },
 ];
+
+fn all_refused() -> &'static [Refused] {
+    REFUSED
+}
+
+fn is_refused(rt: &impl Abort, alloc: Global, filter: &[u8], refused: &Refused) {
+    let filter = filter.get(..refused.filter).expect(rt, "so many bytes");
+    let given = given(filter, refused.table, refused.profile);
+    is_fault(rt, alloc, &given, &[Failing::Never; 3], refused.fault);
+}
 
 #[test]
 fn faults_in_order(rt: HostRuntime) {
     let filter = filter_of(&rt, rt.alloc(), ALLOW_ALL);
-    for (given, table, profile, wanted) in FAULTS {
-        let given = filter.get(..*given).expect(&rt, "so many bytes");
-        let answer = verified(rt.alloc(), given, table, profile);
-        assert!(rt; is_fault(answer, *wanted), "{wanted:?}");
+    for refused in all_refused() {
+        is_refused(&rt, rt.alloc(), &filter, refused);
     }
 }
 
-/// Each reader fails after each count of bytes.
+/// The faults of the readers of a filter, of a table and of a profile.
+const READ_FAULTS: &[VerifyFault; 3] = &[
+    VerifyFault::FilterRead(ReadFault::Read),
+    VerifyFault::TableRead(InputFault::Read),
+    VerifyFault::ProfileRead(InputFault::Read),
+];
+
+fn read_faults() -> &'static [VerifyFault; 3] {
+    READ_FAULTS
+}
+
+/// The reader at a place fails after each count of its bytes.
+fn fail_each_read(
+    rt: &impl Abort,
+    alloc: Global,
+    given: &[&[u8]; 3],
+    place: usize,
+    wanted: VerifyFault,
+) {
+    let bytes = given.get(place).expect(rt, "a reader");
+    for share in 0..=bytes.len() {
+        is_fault(rt, alloc, given, &failing_at(place, share), wanted);
+    }
+}
+
+fn fail_each_reader(rt: &impl Abort, alloc: Global, given: &[&[u8]; 3]) {
+    for (place, wanted) in read_faults().iter().enumerate() {
+        fail_each_read(rt, alloc, given, place, *wanted);
+    }
+}
+
 #[test]
 fn failing_readers(rt: HostRuntime) {
     let filter = filter_of(&rt, rt.alloc(), ALLOW_ALL);
-    let (table, profile) = (READ_TABLE.as_bytes(), DEFAULT_ALLOW.as_bytes());
-    let reads = [
-        (filter.as_slice(), VerifyFault::FilterRead(ReadFault::Read)),
-        (table, VerifyFault::TableRead(InputFault::Read)),
-        (profile, VerifyFault::ProfileRead(InputFault::Read)),
-    ];
-    for (failing, (bytes, wanted)) in reads.iter().enumerate() {
-        for share in 0..=bytes.len() {
-            let failing_at = |place| {
-                if place == failing {
-                    Failing::After(share)
-                } else {
-                    Failing::Never
-                }
-            };
-            let mut filter = Reader::new(&filter, 1, failing_at(0));
-            let mut table = Reader::new(table, 1, failing_at(1));
-            let mut profile = Reader::new(profile, 1, failing_at(2));
-            let answer = verify(rt.alloc(), &mut filter, &mut profile, &mut table, 1_000);
-            assert!(rt; is_fault(answer, *wanted), "{wanted:?} after {share}");
-        }
-    }
+    let given = given(&filter, READ_TABLE, DEFAULT_ALLOW);
+    fail_each_reader(&rt, rt.alloc(), &given);
 }

@@ -1,9 +1,10 @@
 //! Each run hands what it prints to its writer at once.
 
 use crate::parts::{ALL, ALLOW, NO_TABLE, Part, bundle, filter_of, long_filter};
+use crate::runs::run_on;
 use scf_insn::faults::{Failing, Reader, Writer};
 use scf_test_fixtures::filters::ARCH_GATE;
-use scf_tool::{refuse_words, run_command};
+use scf_tool::refuse_words;
 use std::alloc::Global;
 use std::io;
 use std::process::Abort;
@@ -48,50 +49,80 @@ const ALONE: &[&[&str]] = &[
     &["scf", "run", "--a3", "-"],
 ];
 
-/// Whether all is handed over at once, and a writer that fails then is handed nothing more.
+/// The status of a run whose writer fails there, how often it was asked, and how many bytes it took.
+fn handed_over(alloc: Global, words: &[&str], input: &[u8], failing: Failing) -> (u8, u64, usize) {
+    let reader = Reader::new(input, usize::MAX, Failing::Never);
+    let out = Writer::new(alloc, usize::MAX, failing);
+    let ended = run_on(alloc, words, reader, out);
+    (ended.status, ended.writes(), ended.text().len())
+}
+
+/// That all is handed over at once, and a writer that fails then is handed nothing more.
 fn is_one_write(rt: &impl Abort, alloc: Global, words: &[&str], input: &[u8]) {
-    let mut reader = Reader::new(input, usize::MAX, Failing::Never);
-    let mut out = Writer::new(alloc, usize::MAX, Failing::Never);
-    run_command(alloc, words, &mut reader, &mut out);
+    let (_, writes, bytes) = handed_over(alloc, words, input, Failing::Never);
+    let is_last = handed_over(alloc, words, input, Failing::After(0)) == (3, 1, 0);
+    let is_one = writes == 1 && bytes > 0 && is_last;
     assert!(rt;
-        out.asks() == 1 && !out.taken().is_empty(),
-        "{words:?}: {} writes",
-        out.asks()
-    );
-    let mut reader = Reader::new(input, usize::MAX, Failing::Never);
-    let mut out = Writer::new(alloc, usize::MAX, Failing::After(0));
-    let status = run_command(alloc, words, &mut reader, &mut out);
-    assert!(rt;
-        (status, out.asks(), out.taken().len()) == (3, 1, 0),
-        "{words:?}"
+        is_one,
+        "{words:?}: {writes} writes, a failing one the last: {is_last}"
     );
 }
 
+fn on_filters() -> &'static [(&'static [&'static str], &'static str)] {
+    ON_FILTERS
+}
+
+fn on_bundles() -> &'static [(&'static [&'static str], &'static [Part])] {
+    ON_BUNDLES
+}
+
+fn alone() -> &'static [&'static [&'static str]] {
+    ALONE
+}
+
 #[test]
-fn one_write(rt: HostRuntime) {
-    for (words, text) in ON_FILTERS {
+fn one_write_of_filters(rt: HostRuntime) {
+    for (words, text) in on_filters() {
         is_one_write(&rt, rt.alloc(), words, &filter_of(&rt, rt.alloc(), text));
     }
-    for (words, parts) in ON_BUNDLES {
+}
+
+#[test]
+fn one_write_of_bundles(rt: HostRuntime) {
+    for (words, parts) in on_bundles() {
         is_one_write(&rt, rt.alloc(), words, &bundle(&rt, rt.alloc(), parts));
     }
-    for words in ALONE {
+}
+
+#[test]
+fn one_write_of_words(rt: HostRuntime) {
+    for words in alone() {
         is_one_write(&rt, rt.alloc(), words, b"");
     }
+}
+
+#[test]
+fn one_write_of_the_longest(rt: HostRuntime) {
     let longest = long_filter(&rt, rt.alloc(), 4095);
-    for words in [["scf", "dis"].as_slice(), &["scf", "run", "--path"]] {
-        is_one_write(&rt, rt.alloc(), words, &longest);
-    }
+    is_one_write(&rt, rt.alloc(), &["scf", "dis"], &longest);
+    is_one_write(&rt, rt.alloc(), &["scf", "run", "--path"], &longest);
+}
+
+#[test]
+fn one_write_of_texts(rt: HostRuntime) {
     is_one_write(&rt, rt.alloc(), &["scf", "asm"], b"ld [0]; ret a");
     is_one_write(&rt, rt.alloc(), &["scf", "asm"], b"ld [0]; ret b");
 }
 
 /// So it is where the words can't be had.
+fn is_one_refusal(rt: &impl Abort, alloc: Global, kind: io::ErrorKind) {
+    let mut out = Writer::new(alloc, usize::MAX, Failing::Never);
+    refuse_words(&io::Error::from(kind), &mut out);
+    assert!(rt; out.asks() == 1);
+}
+
 #[test]
 fn one_write_of_refused_words(rt: HostRuntime) {
-    for kind in [io::ErrorKind::InvalidData, io::ErrorKind::OutOfMemory] {
-        let mut out = Writer::new(rt.alloc(), usize::MAX, Failing::Never);
-        refuse_words(&io::Error::from(kind), &mut out);
-        assert!(rt; out.asks() == 1);
-    }
+    is_one_refusal(&rt, rt.alloc(), io::ErrorKind::InvalidData);
+    is_one_refusal(&rt, rt.alloc(), io::ErrorKind::OutOfMemory);
 }

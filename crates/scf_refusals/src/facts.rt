@@ -1,22 +1,25 @@
 //! Stores of facts.
 
-use crate::twice::{note, twice};
+use crate::lines::Lines;
+use crate::shown::{Shown, show_all};
 use scf_facts::{Atom, AtomList, Tell, WordFacts, WordSets};
 use scf_insn::Memory;
 use std::alloc::Global;
-use std::{fmt, io};
+use std::fmt;
 
-/// One thing to learn.
+/// One thing that is told to a store.
 #[derive(Clone, Copy)]
 enum Lesson {
     /// The answer of an atom.
     Answer(Atom, bool),
     /// Two atoms aren't both true.
     NotBoth(Atom, Atom),
+    /// A mark, to which what is learned from there on is taken back.
+    Mark,
 }
 
 /// What is learned, the answers first: those are asked of.
-const LESSONS: [Lesson; 9] = [
+const LESSONS: &[Lesson] = &[
     Lesson::Answer(Atom::Ge { word: 0, value: 5 }, true),
     Lesson::Answer(Atom::Gt { word: 1, value: 9 }, false),
     Lesson::Answer(
@@ -77,7 +80,21 @@ const LESSONS: [Lesson; 9] = [
 /// refused too.
 const BEFORE_MARK: usize = 4;
 
+/// All that is learned.
+fn lessons() -> &'static [Lesson] {
+    LESSONS
+}
+
+fn lessons_before_mark() -> &'static [Lesson] {
+    &LESSONS[..BEFORE_MARK]
+}
+
+fn lessons_after_mark() -> &'static [Lesson] {
+    &LESSONS[BEFORE_MARK..]
+}
+
 /// The names of a store's calls.
+#[derive(Drop)]
 struct Names {
     all: &'static str,
     learn: &'static str,
@@ -86,21 +103,25 @@ struct Names {
     undo: &'static str,
 }
 
-const OF_LIST: Names = Names {
-    all: "AtomList::all",
-    learn: "AtomList::learn",
-    learn_not_both: "AtomList::learn_not_both",
-    mark: "AtomList::mark",
-    undo: "AtomList::undo",
-};
+fn names_of_list() -> Names {
+    Names {
+        all: "AtomList::all",
+        learn: "AtomList::learn",
+        learn_not_both: "AtomList::learn_not_both",
+        mark: "AtomList::mark",
+        undo: "AtomList::undo",
+    }
+}
 
-const OF_SETS: Names = Names {
-    all: "WordSets::all",
-    learn: "WordSets::learn",
-    learn_not_both: "WordSets::learn_not_both",
-    mark: "WordSets::mark",
-    undo: "WordSets::undo",
-};
+fn names_of_sets() -> Names {
+    Names {
+        all: "WordSets::all",
+        learn: "WordSets::learn",
+        learn_not_both: "WordSets::learn_not_both",
+        mark: "WordSets::mark",
+        undo: "WordSets::undo",
+    }
+}
 
 /// What a store answers: what it tells, whether it is empty, what it picks and how many marks are open.
 #[derive(Clone, Copy, PartialEq, Eq)]
@@ -111,18 +132,27 @@ struct State {
     open_marks: usize,
 }
 
+/// What a store tells of the atom that a lesson answers.
+fn tell_of<F: WordFacts>(facts: &F, lesson: Lesson) -> Tell {
+    match lesson {
+        Lesson::Answer(atom, _) if atom.word() < 16 => facts.tell(atom),
+        _ => Tell::Maybe,
+    }
+}
+
+/// What a store tells of the atoms of the lessons that come first.
+fn tells_of<F: WordFacts>(facts: &F) -> [Tell; 7] {
+    let mut tells = [Tell::Maybe; 7];
+    for (tell, lesson) in tells.iter_mut().zip(lessons()) {
+        *tell = tell_of(facts, *lesson);
+    }
+    tells
+}
+
 impl State {
     fn of<F: WordFacts>(facts: &F) -> State {
-        let mut tells = [Tell::Maybe; 7];
-        for (tell, lesson) in tells.iter_mut().zip(LESSONS.iter()) {
-            if let Lesson::Answer(atom, _) = lesson {
-                if atom.word() < 16 {
-                    *tell = facts.tell(*atom);
-                }
-            }
-        }
         State {
-            tells,
+            tells: tells_of(facts),
             is_empty: facts.is_empty(),
             pick: facts.pick(),
             open_marks: facts.open_marks(),
@@ -130,127 +160,148 @@ impl State {
     }
 }
 
-impl fmt::Display for State {
-    fn fmt<W: fmt::Write>(&self, f: &mut fmt::Formatter<W>) -> fmt::Result {
-        for tell in &self.tells {
-            write!(f, "{tell:?} ")?;
-        }
+impl Shown for Tell {
+    fn show<W: fmt::Write>(&self, f: &mut fmt::Formatter<W>) -> fmt::Result {
+        write!(f, " {self:?}")
+    }
+}
+
+impl Shown for State {
+    fn show<W: fmt::Write>(&self, f: &mut fmt::Formatter<W>) -> fmt::Result {
+        show_all(&self.tells, f)?;
         let is_empty = self.is_empty;
         let is_picked = self.pick.is_some();
         let open_marks = self.open_marks;
-        write!(f, "empty {is_empty} pick {is_picked} marks {open_marks}")
+        write!(f, " empty {is_empty} pick {is_picked} marks {open_marks}")
     }
 }
 
 impl Lesson {
-    /// Learns it, where its words are among the sixteen.
-    fn learn<F: WordFacts>(self, facts: &mut F) -> Option<Result<(), Memory>> {
+    /// Tells it to a store. It is refused where its words aren't among the sixteen.
+    fn learn<F: WordFacts>(self, facts: &mut F) -> Result<(), Memory> {
         match self {
-            Lesson::Answer(atom, holds) if atom.word() < 16 => Some(facts.learn(atom, holds)),
+            Lesson::Answer(atom, holds) if atom.word() < 16 => facts.learn(atom, holds),
             Lesson::NotBoth(first, second) if first.word() < 16 && second.word() < 16 => {
-                Some(facts.learn_not_both(first, second))
+                facts.learn_not_both(first, second)
             }
-            _ => None,
+            Lesson::Mark => facts.mark(),
+            _ => Err(Memory),
         }
     }
 
-    /// The name of the call that learns it.
+    /// The name of the call that tells it.
     fn call(self, names: &Names) -> &'static str {
         match self {
             Lesson::Answer(..) => names.learn,
             Lesson::NotBoth(..) => names.learn_not_both,
+            Lesson::Mark => names.mark,
+        }
+    }
+}
+
+/// Whether this was learned now.
+fn is_learned_now<F: WordFacts, R: Print>(
+    lines: &mut Lines<R>,
+    call: &str,
+    facts: &mut F,
+    lesson: Lesson,
+) -> bool {
+    let before = State::of(facts);
+    match lesson.learn(facts) {
+        Ok(()) => {
+            lines.answer(call, &State::of(facts));
+            true
+        }
+        Err(fault) => {
+            lines.refused(call, &fault, State::of(facts) == before);
+            false
         }
     }
 }
 
 /// Whether this could be learned.
-fn is_learned<F: WordFacts>(
-    rt: &impl Print,
+fn is_learned<F: WordFacts, R: Print>(
+    lines: &mut Lines<R>,
     names: &Names,
     facts: &mut F,
     lesson: Lesson,
-) -> io::Result<bool> {
+) -> bool {
     let call = lesson.call(names);
-    let before = State::of(facts);
-    for _ in 0..2 {
-        match lesson.learn(facts) {
-            Some(Ok(())) => {
-                println!(rt; "{call} {}", State::of(facts))?;
-                return Ok(true);
-            }
-            Some(Err(fault)) => println!(rt; "{call} {fault:?}")?,
-            None => {}
-        }
-        note(rt, call, State::of(facts) == before)?;
-    }
-    Ok(false)
+    is_learned_now(lines, call, facts, lesson) || is_learned_now(lines, call, facts, lesson)
 }
 
 /// Whether all of these could be learned.
-fn are_learned<F: WordFacts>(
-    rt: &impl Print,
+fn are_learned<F: WordFacts, R: Print>(
+    lines: &mut Lines<R>,
     names: &Names,
     facts: &mut F,
     lessons: &[Lesson],
-) -> io::Result<bool> {
+) -> bool {
     for lesson in lessons {
-        if !is_learned(rt, names, facts, *lesson)? {
-            return Ok(false);
+        if !is_learned(lines, names, facts, *lesson) {
+            return false;
         }
     }
-    Ok(true)
-}
-
-/// Whether a mark could be opened.
-fn is_marked<F: WordFacts>(rt: &impl Print, names: &Names, facts: &mut F) -> io::Result<bool> {
-    let call = names.mark;
-    let before = State::of(facts);
-    for _ in 0..2 {
-        match facts.mark() {
-            Ok(()) => {
-                println!(rt; "{call} {}", State::of(facts))?;
-                return Ok(true);
-            }
-            Err(fault) => println!(rt; "{call} {fault:?}")?,
-        }
-        note(rt, call, State::of(facts) == before)?;
-    }
-    Ok(false)
+    true
 }
 
 /// Goes back to the mark. No memory is taken.
-fn undo<F: WordFacts>(
-    rt: &impl Print,
+fn undo<F: WordFacts, R: Print>(
+    lines: &mut Lines<R>,
     names: &Names,
     facts: &mut F,
-    before: State,
-) -> io::Result<()> {
+    before: &State,
+) {
     if facts.open_marks() > 0 {
         facts.undo();
     }
-    println!(rt; "{} {}", names.undo, State::of(facts))?;
-    note(rt, names.undo, State::of(facts) == before)
+    let after = State::of(facts);
+    lines.answer(names.undo, &after);
+    lines.note(names.undo, after == *before);
+}
+
+/// Opens a mark, learns these and goes back, as far as memory is given.
+fn walk_back<F: WordFacts, R: Print>(
+    lines: &mut Lines<R>,
+    names: &Names,
+    facts: &mut F,
+    lessons: &[Lesson],
+) {
+    let before = State::of(facts);
+    if is_learned(lines, names, facts, Lesson::Mark) {
+        are_learned(lines, names, facts, lessons);
+        undo(lines, names, facts, &before);
+    }
 }
 
 /// Learns, opens a mark, learns more and goes back, as far as memory is given.
-fn walk<F: WordFacts>(rt: &impl Print, alloc: Global, names: &Names) -> io::Result<()> {
-    let Some(mut facts) = twice(rt, names.all, || F::all(alloc))? else {
-        return Ok(());
-    };
-    println!(rt; "{} {}", names.all, State::of(&facts))?;
-    let (first, then) = LESSONS.split_at(BEFORE_MARK);
-    if !are_learned(rt, names, &mut facts, first)? {
-        return Ok(());
+fn walk<F: WordFacts, R: Print>(lines: &mut Lines<R>, names: &Names, facts: &mut F) {
+    lines.answer(names.all, &State::of(facts));
+    if are_learned(lines, names, facts, lessons_before_mark()) {
+        walk_back(lines, names, facts, lessons_after_mark());
     }
-    let before = State::of(&facts);
-    if !is_marked(rt, names, &mut facts)? {
-        return Ok(());
-    }
-    are_learned(rt, names, &mut facts, then)?;
-    undo(rt, names, &mut facts, before)
 }
 
-pub(crate) fn try_all(rt: &impl Print, alloc: Global) -> io::Result<()> {
-    walk::<AtomList>(rt, alloc, &OF_LIST)?;
-    walk::<WordSets>(rt, alloc, &OF_SETS)
+/// A store that has learned nothing.
+fn store_of<F: WordFacts, R: Print>(
+    lines: &mut Lines<R>,
+    alloc: Global,
+    names: &Names,
+) -> Option<F> {
+    match lines.granted(names.all, F::all(alloc)) {
+        None => lines.granted(names.all, F::all(alloc)),
+        facts => facts,
+    }
+}
+
+/// Walks in a store of a kind.
+fn walk_in<F: WordFacts, R: Print>(lines: &mut Lines<R>, alloc: Global, names: &Names) {
+    if let Some(mut facts) = store_of::<F, R>(lines, alloc, names) {
+        walk(lines, names, &mut facts);
+    }
+}
+
+pub(crate) fn try_all<R: Print>(lines: &mut Lines<R>, alloc: Global) {
+    walk_in::<AtomList, R>(lines, alloc, &names_of_list());
+    walk_in::<WordSets, R>(lines, alloc, &names_of_sets());
 }

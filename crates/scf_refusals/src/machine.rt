@@ -1,13 +1,13 @@
 //! The checker, and stacks of filters.
 
+use crate::lines::{Lines, tell_twice};
 use crate::readers::list_of;
-use crate::rows::{GATE, RETURNS, UNSET};
-use crate::shown::{Answered, Listed};
-use crate::twice::{note, twice};
+use crate::rows;
+use crate::shown::{Shown, show_all};
 use scf_insn::{Answer, CallRecord, Insn};
-use scf_machine::{CheckFault, FilterStack, Program, check, trace};
+use scf_machine::{CheckFault, FilterStack, Program, Trace, check, trace};
 use std::alloc::Global;
-use std::io;
+use std::fmt;
 
 /// A call of x86-64.
 const CALL: CallRecord = CallRecord {
@@ -29,59 +29,67 @@ fn are(insns: &[Insn], row: &[u8]) -> bool {
     rest.is_empty()
 }
 
-/// What the checker says of the list of a row: it comes back where it is refused.
-fn checked(
-    rt: &impl Print,
+/// What the checker says of a list, which comes back where it is refused.
+type Checked = Result<Program, (CheckFault, Vec<Insn>)>;
+
+impl Shown for Checked {
+    fn show<W: fmt::Write>(&self, f: &mut fmt::Formatter<W>) -> fmt::Result {
+        match self {
+            Ok(program) => show_all(program.insns(), f),
+            Err((fault, back)) => {
+                write!(f, " {fault:?}")?;
+                back.show(f)
+            }
+        }
+    }
+}
+
+/// Has the list of a row checked.
+fn check_once<R: Print>(
+    lines: &mut Lines<R>,
     alloc: Global,
     row: &[u8],
     insns: Vec<Insn>,
-) -> io::Result<Option<Result<Program, (CheckFault, Vec<Insn>)>>> {
-    let mut list = insns;
-    for _ in 0..2 {
-        match check(alloc, list) {
-            Err((CheckFault::Memory, back)) => {
-                println!(rt; "check Memory")?;
-                note(rt, "check", are(&back, row))?;
-                list = back;
-            }
-            answer => return Ok(Some(answer)),
+) -> Checked {
+    let checked = check(alloc, insns);
+    match &checked {
+        Err((CheckFault::Memory, back)) => {
+            lines.refused("check", &CheckFault::Memory, are(back, row));
         }
+        answer => lines.answer("check", answer),
     }
-    Ok(None)
+    checked
+}
+
+/// The program of a row's list, which is checked again where memory was refused.
+fn checked<R: Print>(
+    lines: &mut Lines<R>,
+    alloc: Global,
+    row: &[u8],
+    insns: Vec<Insn>,
+) -> Option<Program> {
+    match check_once(lines, alloc, row, insns) {
+        Err((CheckFault::Memory, back)) => check_once(lines, alloc, row, back).ok(),
+        answer => answer.ok(),
+    }
 }
 
 /// The program of a row.
-pub(crate) fn program_of(
-    rt: &impl Print,
+pub(crate) fn program_of<R: Print>(
+    lines: &mut Lines<R>,
     alloc: Global,
     row: &'static [u8],
-) -> io::Result<Option<Program>> {
-    let Some(insns) = list_of(rt, alloc, row)? else {
-        return Ok(None);
-    };
-    match checked(rt, alloc, row, insns)? {
-        Some(Ok(program)) => {
-            println!(rt; "check{}", Listed(program.insns()))?;
-            Ok(Some(program))
-        }
-        Some(Err((fault, back))) => {
-            println!(rt; "check {fault:?}{}", Listed(&back))?;
-            Ok(None)
-        }
-        None => Ok(None),
-    }
+) -> Option<Program> {
+    let insns = list_of(lines, alloc, row)?;
+    checked(lines, alloc, row, insns)
 }
 
-/// The way of a call through a program.
-fn trace_call(rt: &impl Print, alloc: Global, program: &Program) -> io::Result<()> {
-    if let Some(traced) = twice(rt, "trace", || trace(alloc, program, &CALL))? {
-        print!(rt; "trace {} path", Answered(traced.answer))?;
-        for place in &traced.places {
-            print!(rt; " {place}")?;
-        }
-        println!(rt; "")?;
+impl Shown for Trace {
+    fn show<W: fmt::Write>(&self, f: &mut fmt::Formatter<W>) -> fmt::Result {
+        self.answer.show(f)?;
+        write!(f, " path")?;
+        show_all(&self.places, f)
     }
-    Ok(())
 }
 
 /// How many filters a stack has, and what it answers to a call.
@@ -89,54 +97,89 @@ fn state_of(stack: &FilterStack) -> (usize, Answer) {
     (stack.len(), stack.decide(&CALL))
 }
 
-/// Whether the filter of a row could be pushed: it comes back where it is refused.
-fn is_pushed(
-    rt: &impl Print,
+impl Shown for FilterStack {
+    fn show<W: fmt::Write>(&self, f: &mut fmt::Formatter<W>) -> fmt::Result {
+        let (count, answer) = state_of(self);
+        write!(f, " {count} answer")?;
+        answer.show(f)
+    }
+}
+
+/// Pushes the filter of a row. It comes back where it is refused.
+fn push_once<R: Print>(
+    lines: &mut Lines<R>,
     stack: &mut FilterStack,
     row: &[u8],
     program: Program,
-) -> io::Result<bool> {
+) -> Option<Program> {
     let before = state_of(stack);
-    let mut filter = program;
-    for _ in 0..2 {
-        match stack.push(filter) {
-            Ok(()) => return Ok(true),
-            Err((fault, back)) => {
-                println!(rt; "FilterStack::push {fault:?}")?;
-                let is_as_before = state_of(stack) == before && are(back.insns(), row);
-                note(rt, "FilterStack::push", is_as_before)?;
-                filter = back;
-            }
+    match stack.push(program) {
+        Ok(()) => {
+            lines.answer("FilterStack::push", stack);
+            None
+        }
+        Err((fault, back)) => {
+            let is_as_before = state_of(stack) == before && are(back.insns(), row);
+            lines.refused("FilterStack::push", &fault, is_as_before);
+            Some(back)
         }
     }
-    Ok(false)
+}
+
+/// Whether the filter of a row could be pushed.
+fn is_pushed<R: Print>(
+    lines: &mut Lines<R>,
+    stack: &mut FilterStack,
+    row: &[u8],
+    program: Program,
+) -> bool {
+    match push_once(lines, stack, row, program) {
+        Some(back) => push_once(lines, stack, row, back).is_none(),
+        None => true,
+    }
+}
+
+/// Whether the filter of a row could be made and pushed.
+fn is_row_pushed<R: Print>(
+    lines: &mut Lines<R>,
+    alloc: Global,
+    stack: &mut FilterStack,
+    row: &'static [u8],
+) -> bool {
+    match program_of(lines, alloc, row) {
+        Some(program) => is_pushed(lines, stack, row, program),
+        None => false,
+    }
 }
 
 /// The stack of the filters of these rows, the oldest first.
-pub(crate) fn stack_of(
-    rt: &impl Print,
+pub(crate) fn stack_of<R: Print>(
+    lines: &mut Lines<R>,
     alloc: Global,
     rows: &[&'static [u8]],
-) -> io::Result<Option<FilterStack>> {
+) -> Option<FilterStack> {
     let mut stack = FilterStack::new(alloc);
     for row in rows {
-        let Some(program) = program_of(rt, alloc, row)? else {
-            return Ok(None);
-        };
-        if !is_pushed(rt, &mut stack, row, program)? {
-            return Ok(None);
+        if !is_row_pushed(lines, alloc, &mut stack, row) {
+            return None;
         }
-        let (count, answer) = state_of(&stack);
-        println!(rt; "FilterStack::push {count} answer {}", Answered(answer))?;
     }
-    Ok(Some(stack))
+    Some(stack)
 }
 
-pub(crate) fn try_all(rt: &impl Print, alloc: Global) -> io::Result<()> {
-    let _unset = program_of(rt, alloc, UNSET)?;
-    if let Some(gate) = program_of(rt, alloc, GATE)? {
-        trace_call(rt, alloc, &gate)?;
+/// The way of the call through a program.
+fn trace_call<R: Print>(lines: &mut Lines<R>, alloc: Global, program: &Program) {
+    tell_twice!(lines, "trace", trace(alloc, program, &CALL));
+}
+
+fn try_trace<R: Print>(lines: &mut Lines<R>, alloc: Global) {
+    if let Some(gate) = program_of(lines, alloc, rows::gate()) {
+        trace_call(lines, alloc, &gate);
     }
-    let _returns = stack_of(rt, alloc, RETURNS)?;
-    Ok(())
+}
+
+pub(crate) fn try_all<R: Print>(lines: &mut Lines<R>, alloc: Global) {
+    program_of(lines, alloc, rows::unset());
+    try_trace(lines, alloc);
+    stack_of(lines, alloc, rows::returns());
 }

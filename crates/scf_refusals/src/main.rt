@@ -8,6 +8,7 @@
 mod comparer;
 mod compiler;
 mod facts;
+mod lines;
 mod machine;
 mod profiles;
 mod readers;
@@ -15,20 +16,28 @@ mod rows;
 mod shown;
 mod texts;
 mod tool;
-mod twice;
 
+use lines::Lines;
+use std::alloc::Global;
 use std::io;
+
+/// The calls that take a table.
+fn try_with_table<R: Print>(lines: &mut Lines<R>, alloc: Global) {
+    if let Some(table) = profiles::table_of(lines, alloc) {
+        profiles::try_all(lines, alloc, &table);
+        compiler::try_all(lines, alloc, &table);
+        comparer::try_all(lines, alloc, &table);
+    }
+}
 
 fn main(rt: HostRuntime) -> io::Result<()> {
     let alloc = rt.alloc();
-    readers::try_all(&rt, alloc)?;
-    texts::try_all(&rt, alloc)?;
-    machine::try_all(&rt, alloc)?;
-    facts::try_all(&rt, alloc)?;
-    if let Some(table) = profiles::table_of(&rt, alloc)? {
-        profiles::try_all(&rt, alloc, &table)?;
-        compiler::try_all(&rt, alloc, &table)?;
-        comparer::try_all(&rt, alloc, &table)?;
-    }
-    tool::try_all(&rt, alloc)
+    let mut lines = Lines::new(&rt);
+    readers::try_all(&mut lines, alloc);
+    texts::try_all(&mut lines, alloc);
+    machine::try_all(&mut lines, alloc);
+    facts::try_all(&mut lines, alloc);
+    try_with_table(&mut lines, alloc);
+    tool::try_all(&mut lines, alloc);
+    lines.into_outcome()
 }

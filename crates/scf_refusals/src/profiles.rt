@@ -1,98 +1,95 @@
 //! Call tables and profiles.
 
-use crate::rows::{CONFIG, TABLE};
-use crate::shown::{Answered, Words};
-use crate::twice::twice;
-use scf_profile::{CallTable, Loaded, NamedCall, Rule, load};
+use crate::lines::{Lines, tell_twice, twice};
+use crate::rows;
+use crate::shown::{Shown, show_all};
+use scf_profile::{CallTable, Condition, Loaded, NamedCall, Rule, load};
 use std::alloc::Global;
-use std::{fmt, io};
+use std::fmt;
 
-/// Calls of a table: the number of each, with its names.
-#[derive(Clone, Copy)]
-struct Named<'a>(&'a [NamedCall<'a>]);
+/// Names that a table is asked for.
+const NAMES: &[&str] = &["read", "write", "clone", "absent"];
 
-impl fmt::Display for Named<'_> {
-    fn fmt<W: fmt::Write>(&self, f: &mut fmt::Formatter<W>) -> fmt::Result {
-        for call in self.0 {
-            let number = call.number;
-            write!(f, " {number}")?;
-            for name in &call.names {
-                write!(f, " {name}")?;
-            }
+/// The numbers that it has for the names.
+impl Shown for CallTable {
+    fn show<W: fmt::Write>(&self, f: &mut fmt::Formatter<W>) -> fmt::Result {
+        for name in NAMES {
+            write!(f, " {name} {:?}", self.number_of(name))?;
         }
         Ok(())
     }
 }
 
-/// A rule: its number, its answer, its entry and its conditions.
-#[derive(Clone, Copy)]
-struct Ruled<'a>(&'a Rule);
-
-impl fmt::Display for Ruled<'_> {
-    fn fmt<W: fmt::Write>(&self, f: &mut fmt::Formatter<W>) -> fmt::Result {
-        let number = self.0.number;
-        let answer = Answered(self.0.answer);
-        let entry = self.0.entry;
-        write!(f, " rule {number} {answer} of entry {entry}")?;
-        for condition in self.0.conditions.as_slice() {
-            let index = condition.index;
-            let op = condition.op;
-            let value = condition.value;
-            let value_two = condition.value_two;
-            write!(f, " if {index} {op:?} {value} {value_two}")?;
-        }
-        Ok(())
+impl Shown for NamedCall<'_> {
+    fn show<W: fmt::Write>(&self, f: &mut fmt::Formatter<W>) -> fmt::Result {
+        let number = self.number;
+        write!(f, " {number}")?;
+        show_all(&self.names, f)
     }
 }
 
-/// The rules of a profile, in the order of the text.
-#[derive(Clone, Copy)]
-struct Rules<'a>(&'a [Rule]);
-
-impl fmt::Display for Rules<'_> {
-    fn fmt<W: fmt::Write>(&self, f: &mut fmt::Formatter<W>) -> fmt::Result {
-        for rule in self.0 {
-            let ruled = Ruled(rule);
-            write!(f, "{ruled}")?;
-        }
-        Ok(())
+impl Shown for Vec<NamedCall<'_>> {
+    fn show<W: fmt::Write>(&self, f: &mut fmt::Formatter<W>) -> fmt::Result {
+        show_all(self, f)
     }
 }
 
-pub(crate) fn table_of(rt: &impl Print, alloc: Global) -> io::Result<Option<CallTable>> {
-    let read = twice(rt, "CallTable::read", || CallTable::read(alloc, TABLE))?;
-    if let Some(table) = &read {
-        print!(rt; "CallTable::read")?;
-        for name in ["read", "write", "clone", "absent"] {
-            print!(rt; " {name} {:?}", table.number_of(name))?;
-        }
-        println!(rt; "")?;
+impl Shown for Condition {
+    fn show<W: fmt::Write>(&self, f: &mut fmt::Formatter<W>) -> fmt::Result {
+        let index = self.index;
+        let op = self.op;
+        let value = self.value;
+        let value_two = self.value_two;
+        write!(f, " if {index} {op:?} {value} {value_two}")
     }
-    Ok(read)
+}
+
+impl Shown for Rule {
+    fn show<W: fmt::Write>(&self, f: &mut fmt::Formatter<W>) -> fmt::Result {
+        let number = self.number;
+        write!(f, " rule {number}")?;
+        self.answer.show(f)?;
+        let entry = self.entry;
+        write!(f, " of entry {entry}")?;
+        show_all(self.conditions.as_slice(), f)
+    }
+}
+
+/// The default answer, the rules in the order of the text, and what was left out.
+impl Shown for Loaded {
+    fn show<W: fmt::Write>(&self, f: &mut fmt::Formatter<W>) -> fmt::Result {
+        self.profile.default_answer().show(f)?;
+        show_all(self.profile.rules(), f)?;
+        write!(f, " skipped")?;
+        show_all(self.skipped.as_slice(), f)?;
+        write!(f, " other")?;
+        show_all(self.other_architectures.as_slice(), f)
+    }
+}
+
+pub(crate) fn table_of<R: Print>(lines: &mut Lines<R>, alloc: Global) -> Option<CallTable> {
+    twice!(
+        lines,
+        "CallTable::read",
+        CallTable::read(alloc, rows::table())
+    )
 }
 
 /// What a row states with a table.
-pub(crate) fn loaded_of(
-    rt: &impl Print,
+pub(crate) fn loaded_of<R: Print>(
+    lines: &mut Lines<R>,
     alloc: Global,
     table: &CallTable,
     row: &'static [u8],
-) -> io::Result<Option<Loaded>> {
-    let read = twice(rt, "load", || load(alloc, row, table))?;
-    if let Some(loaded) = &read {
-        let default = Answered(loaded.profile.default_answer());
-        let rules = Rules(loaded.profile.rules());
-        let skipped = Words(loaded.skipped.as_slice());
-        let others = Words(loaded.other_architectures.as_slice());
-        println!(rt; "load {default}{rules} skipped{skipped} other{others}")?;
-    }
-    Ok(read)
+) -> Option<Loaded> {
+    twice!(lines, "load", load(alloc, row, table))
 }
 
-pub(crate) fn try_all(rt: &impl Print, alloc: Global, table: &CallTable) -> io::Result<()> {
-    if let Some(calls) = twice(rt, "CallTable::calls", || table.calls(alloc))? {
-        println!(rt; "CallTable::calls{}", Named(&calls))?;
-    }
-    loaded_of(rt, alloc, table, CONFIG)?;
-    Ok(())
+fn list_calls<R: Print>(lines: &mut Lines<R>, alloc: Global, table: &CallTable) {
+    tell_twice!(lines, "CallTable::calls", table.calls(alloc));
+}
+
+pub(crate) fn try_all<R: Print>(lines: &mut Lines<R>, alloc: Global, table: &CallTable) {
+    list_calls(lines, alloc, table);
+    loaded_of(lines, alloc, table, rows::config());
 }

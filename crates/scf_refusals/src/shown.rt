@@ -2,54 +2,93 @@
 
 use scf_compare::Verdict;
 use scf_insn::{Answer, Insn};
-use std::fmt;
+use std::{fmt, str};
 
-/// Instructions: of each the code, the two offsets and the constant, code and constant in hexadecimal.
-#[derive(Clone, Copy)]
-pub(crate) struct Listed<'a>(pub(crate) &'a [Insn]);
+/// An answer of a call, as the call's line has it behind the name.
+pub(crate) trait Shown {
+    fn show<W: fmt::Write>(&self, f: &mut fmt::Formatter<W>) -> fmt::Result;
+}
 
-impl fmt::Display for Listed<'_> {
+/// Shows these, one behind another.
+pub(crate) fn show_all<T: Shown, W: fmt::Write>(
+    items: &[T],
+    f: &mut fmt::Formatter<W>,
+) -> fmt::Result {
+    for item in items {
+        item.show(f)?;
+    }
+    Ok(())
+}
+
+/// An answer within a line.
+#[derive(Drop)]
+pub(crate) struct InLine<'a, T>(pub(crate) &'a T);
+
+impl<T: Shown> fmt::Display for InLine<'_, T> {
     fn fmt<W: fmt::Write>(&self, f: &mut fmt::Formatter<W>) -> fmt::Result {
-        for Insn { code, jt, jf, k } in self.0 {
-            write!(f, " {code:x}/{jt}/{jf}/{k:x}")?;
-        }
-        Ok(())
+        self.0.show(f)
     }
 }
 
-/// Words, one after another.
-#[derive(Clone, Copy)]
-pub(crate) struct Words<'a>(pub(crate) &'a [String]);
-
-impl fmt::Display for Words<'_> {
-    fn fmt<W: fmt::Write>(&self, f: &mut fmt::Formatter<W>) -> fmt::Result {
-        for word in self.0 {
-            write!(f, " {word}")?;
-        }
-        Ok(())
+/// The code, the two offsets and the constant, code and constant in hexadecimal.
+impl Shown for Insn {
+    fn show<W: fmt::Write>(&self, f: &mut fmt::Formatter<W>) -> fmt::Result {
+        let Insn { code, jt, jf, k } = self;
+        write!(f, " {code:x}/{jt}/{jf}/{k:x}")
     }
 }
 
-/// A verdict, without the steps that it took: how many these are is left open.
-#[derive(Clone, Copy)]
-pub(crate) struct Found<'a>(pub(crate) &'a Verdict);
+impl Shown for Vec<Insn> {
+    fn show<W: fmt::Write>(&self, f: &mut fmt::Formatter<W>) -> fmt::Result {
+        show_all(self, f)
+    }
+}
 
-impl fmt::Display for Found<'_> {
-    fn fmt<W: fmt::Write>(&self, f: &mut fmt::Formatter<W>) -> fmt::Result {
-        match self.0 {
-            Verdict::Same { .. } => write!(f, "Same"),
-            other => write!(f, "{other:?}"),
+impl Shown for &str {
+    fn show<W: fmt::Write>(&self, f: &mut fmt::Formatter<W>) -> fmt::Result {
+        write!(f, " {self}")
+    }
+}
+
+impl Shown for String {
+    fn show<W: fmt::Write>(&self, f: &mut fmt::Formatter<W>) -> fmt::Result {
+        write!(f, " {self}")
+    }
+}
+
+impl Shown for usize {
+    fn show<W: fmt::Write>(&self, f: &mut fmt::Formatter<W>) -> fmt::Result {
+        write!(f, " {self}")
+    }
+}
+
+impl Shown for u64 {
+    fn show<W: fmt::Write>(&self, f: &mut fmt::Formatter<W>) -> fmt::Result {
+        write!(f, " {self}")
+    }
+}
+
+/// A text, as a literal.
+impl Shown for Vec<u8> {
+    fn show<W: fmt::Write>(&self, f: &mut fmt::Formatter<W>) -> fmt::Result {
+        write!(f, " {:?}", str::from_utf8(self).unwrap_or("?"))
+    }
+}
+
+/// The steps that were taken are left out: how many these are is left open.
+impl Shown for Verdict {
+    fn show<W: fmt::Write>(&self, f: &mut fmt::Formatter<W>) -> fmt::Result {
+        match self {
+            Verdict::Same { .. } => write!(f, " Same"),
+            other => write!(f, " {other:?}"),
         }
     }
 }
 
-/// An answer, in hexadecimal.
-#[derive(Clone, Copy)]
-pub(crate) struct Answered(pub(crate) Answer);
-
-impl fmt::Display for Answered {
-    fn fmt<W: fmt::Write>(&self, f: &mut fmt::Formatter<W>) -> fmt::Result {
-        let number = self.0.0;
-        write!(f, "0x{number:08x}")
+/// In hexadecimal.
+impl Shown for Answer {
+    fn show<W: fmt::Write>(&self, f: &mut fmt::Formatter<W>) -> fmt::Result {
+        let number = self.0;
+        write!(f, " 0x{number:08x}")
     }
 }

@@ -1,24 +1,23 @@
 //! Tokens, the assembler and the disassembler.
 
-use crate::rows::TEXT;
-use crate::shown::Listed;
-use crate::twice::twice;
+use crate::lines::{Lines, tell_twice, twice};
+use crate::rows;
+use crate::shown::{Shown, show_all};
 use scf_insn::{Counted, Failed, Insn, Sink};
 use scf_text::{Token, assemble, disassemble, tokens};
 use std::alloc::Global;
 use std::{fmt, io, str};
 
-/// The texts of tokens.
-#[derive(Clone, Copy)]
-struct Spelled<'a>(&'a [Token<'a>]);
+/// Its text.
+impl Shown for Token<'_> {
+    fn show<W: fmt::Write>(&self, f: &mut fmt::Formatter<W>) -> fmt::Result {
+        str::from_utf8(self.text).unwrap_or("?").show(f)
+    }
+}
 
-impl fmt::Display for Spelled<'_> {
-    fn fmt<W: fmt::Write>(&self, f: &mut fmt::Formatter<W>) -> fmt::Result {
-        for token in self.0 {
-            let text = str::from_utf8(token.text).unwrap_or("?");
-            write!(f, " {text}")?;
-        }
-        Ok(())
+impl Shown for Vec<Token<'_>> {
+    fn show<W: fmt::Write>(&self, f: &mut fmt::Formatter<W>) -> fmt::Result {
+        show_all(self, f)
     }
 }
 
@@ -52,15 +51,24 @@ fn list(rt: &impl Print, insns: &[Insn]) -> io::Result<()> {
     }
 }
 
-pub(crate) fn try_all(rt: &impl Print, alloc: Global) -> io::Result<()> {
-    if let Some(found) = twice(rt, "tokens", || tokens(alloc, TEXT))? {
-        println!(rt; "tokens{}", Spelled(&found))?;
+/// Writes the listing of these, where all lines before it were printed.
+fn try_list<R: Print>(lines: &mut Lines<R>, insns: &[Insn]) {
+    if lines.outcome.is_ok() {
+        lines.outcome = list(lines.rt, insns);
     }
-    match twice(rt, "assemble", || assemble(alloc, TEXT))? {
-        Some(insns) => {
-            println!(rt; "assemble{}", Listed(&insns))?;
-            list(rt, &insns)
-        }
-        None => Ok(()),
+}
+
+fn split_text<R: Print>(lines: &mut Lines<R>, alloc: Global, text: &[u8]) {
+    tell_twice!(lines, "tokens", tokens(alloc, text));
+}
+
+fn insns_of<R: Print>(lines: &mut Lines<R>, alloc: Global, text: &[u8]) -> Option<Vec<Insn>> {
+    twice!(lines, "assemble", assemble(alloc, text))
+}
+
+pub(crate) fn try_all<R: Print>(lines: &mut Lines<R>, alloc: Global) {
+    split_text(lines, alloc, rows::text());
+    if let Some(insns) = insns_of(lines, alloc, rows::text()) {
+        try_list(lines, &insns);
     }
 }

@@ -1,18 +1,18 @@
 //! Words, bundles, comparisons from bytes and what is printed of them.
 
-use crate::rows::{ALLOW_ALL, BUNDLE, CLONE, MASKED, TABLE};
-use crate::shown::Found;
-use crate::twice::twice;
+use crate::lines::{Lines, tell_twice, twice};
+use crate::rows;
+use crate::shown::{Shown, show_all};
 use scf_compare::{Relation, Scope, Verdict};
 use scf_insn::{Answer, CallRecord, Counted, Memory};
 use scf_profile::Texts;
 use scf_request::{Contents, Request, parse, request_of};
 use scf_tool::{
-    CallsOutcome, Outcome, report, report_by, report_calls, report_calls_by, split, verify,
-    verify_by, verify_calls, verify_calls_by, verify_stack,
+    CallVerdict, CallsOutcome, Outcome, Part, VerifyFault, report, report_by, report_calls,
+    report_calls_by, split, verify, verify_by, verify_calls, verify_calls_by, verify_stack,
 };
 use std::alloc::Global;
-use std::{io, str};
+use std::fmt;
 
 /// The most steps of a comparison.
 const LIMIT: u64 = 1_000_000;
@@ -29,27 +29,43 @@ const DIFFERS: Verdict = Verdict::Differs {
     profile: Answer(0x7fff_0000),
 };
 
-fn split_bundle(rt: &impl Print, alloc: Global) -> io::Result<()> {
-    if let Some(parts) = twice(rt, "split", || split(alloc, BUNDLE))? {
-        print!(rt; "split")?;
-        for part in &parts {
-            print!(rt; " {:?} {} {}", part.kind, part.start, part.length)?;
-        }
-        println!(rt; "")?;
-    }
-    Ok(())
+fn words() -> &'static [&'static str] {
+    &["scf", "run", "--nr", "41", "--a0", "0x10"]
 }
 
-fn hold_bundle(rt: &impl Print, alloc: Global) -> io::Result<()> {
-    if let Some(contents) = twice(rt, "Contents::of", || Contents::of(alloc, BUNDLE))? {
-        let filters = contents.filters.len();
-        let profiles = contents.profiles.len();
-        println!(rt;
-            "Contents::of {filters} {profiles} {}",
-            contents.tables.len()
-        )?;
+impl Shown for Part {
+    fn show<W: fmt::Write>(&self, f: &mut fmt::Formatter<W>) -> fmt::Result {
+        write!(f, " {:?} {} {}", self.kind, self.start, self.length)
     }
-    Ok(())
+}
+
+impl Shown for Vec<Part> {
+    fn show<W: fmt::Write>(&self, f: &mut fmt::Formatter<W>) -> fmt::Result {
+        show_all(self, f)
+    }
+}
+
+/// How many there are of each kind.
+impl Shown for Contents<'_> {
+    fn show<W: fmt::Write>(&self, f: &mut fmt::Formatter<W>) -> fmt::Result {
+        let filters = self.filters.len();
+        let profiles = self.profiles.len();
+        let tables = self.tables.len();
+        write!(f, " {filters} {profiles} {tables}")
+    }
+}
+
+/// Some of what a run is asked for, and nothing of others.
+impl Shown for Option<Request> {
+    fn show<W: fmt::Write>(&self, f: &mut fmt::Formatter<W>) -> fmt::Result {
+        match self {
+            Some(Request::Run(call)) => {
+                let argument = call.args[0];
+                write!(f, " run nr {} a0 {argument}", call.nr)
+            }
+            _ => Ok(()),
+        }
+    }
 }
 
 /// What the words ask for; None where they ask for nothing.
@@ -60,169 +76,165 @@ fn request_in(alloc: Global, words: &[&str]) -> Result<Option<Request>, Memory> 
     }
 }
 
-fn parse_words(rt: &impl Print, alloc: Global) -> io::Result<()> {
-    let words = ["scf", "run", "--nr", "41", "--a0", "0x10"];
-    let request = twice(rt, "parse", || request_in(alloc, &words))?;
-    if let Some(Some(Request::Run(call))) = request {
-        let argument = call.args[0];
-        println!(rt; "parse run nr {} a0 {argument}", call.nr)?;
-    }
-    Ok(())
-}
-
-fn write_outcome(rt: &impl Print, call: &str, outcome: &Outcome) -> io::Result<()> {
-    let found = Found(&outcome.verdict);
-    let skipped = outcome.skipped.as_slice().len();
-    let others = outcome.other_architectures.as_slice().len();
-    println!(rt; "{call} {found} skipped {skipped} other {others}")
-}
-
-/// Writes the text that a call makes, as a literal.
-fn write_text<F: Fn() -> Result<Vec<u8>, Memory>>(
-    rt: &impl Print,
-    call: &str,
-    make: F,
-) -> io::Result<()>
-    requires { F.IsAlwaysCallable make }
-{
-    if let Some(text) = twice(rt, call, make)? {
-        println!(rt; "{call} {:?}", str::from_utf8(&text).unwrap_or("?"))?;
-    }
-    Ok(())
-}
-
-fn verify_filter(rt: &impl Print, alloc: Global) -> io::Result<()> {
-    let verified = twice(rt, "verify", || {
-        verify(
-            alloc,
-            &mut Counted::new(CLONE),
-            &mut Counted::new(MASKED),
-            &mut Counted::new(TABLE),
-            LIMIT,
-        )
-    })?;
-    match verified {
-        Some(outcome) => {
-            write_outcome(rt, "verify", &outcome)?;
-            write_text(rt, "report", || report(alloc, &outcome))
-        }
-        None => Ok(()),
+impl Shown for Outcome {
+    fn show<W: fmt::Write>(&self, f: &mut fmt::Formatter<W>) -> fmt::Result {
+        self.verdict.show(f)?;
+        let skipped = self.skipped.as_slice().len();
+        let others = self.other_architectures.as_slice().len();
+        write!(f, " skipped {skipped} other {others}")
     }
 }
 
-fn verify_two(rt: &impl Print, alloc: Global) -> io::Result<()> {
-    let verified = twice(rt, "verify_stack", || {
-        verify_stack(
-            alloc,
-            &mut [Counted::new(ALLOW_ALL), Counted::new(CLONE)],
-            &mut Counted::new(MASKED),
-            &mut Counted::new(TABLE),
-            Scope::All,
-            LIMIT,
-        )
-    })?;
-    match verified {
-        Some(outcome) => write_outcome(rt, "verify_stack", &outcome),
-        None => Ok(()),
+impl Shown for CallVerdict {
+    fn show<W: fmt::Write>(&self, f: &mut fmt::Formatter<W>) -> fmt::Result {
+        let number = self.number;
+        write!(f, " {number}")?;
+        show_all(self.names.as_slice(), f)?;
+        self.verdict.show(f)
     }
 }
 
-fn verify_no_more(rt: &impl Print, alloc: Global) -> io::Result<()> {
-    let verified = twice(rt, "verify_by", || {
-        verify_by(
-            alloc,
-            &mut [Counted::new(CLONE)],
-            &mut Counted::new(MASKED),
-            &mut Counted::new(TABLE),
-            Scope::Native,
-            Relation::NoMore,
-            LIMIT,
-        )
-    })?;
-    match verified {
-        Some(outcome) => {
-            write_outcome(rt, "verify_by", &outcome)?;
-            write_text(rt, "report_by", || {
-                report_by(alloc, Relation::NoMore, &outcome)
-            })
-        }
-        None => Ok(()),
+impl Shown for CallsOutcome {
+    fn show<W: fmt::Write>(&self, f: &mut fmt::Formatter<W>) -> fmt::Result {
+        show_all(&self.calls, f)
     }
 }
 
-fn write_calls(rt: &impl Print, name: &str, outcome: &CallsOutcome) -> io::Result<()> {
-    print!(rt; "{name}")?;
-    for call in &outcome.calls {
-        print!(rt; " {}", call.number)?;
-        for name in call.names.as_slice() {
-            print!(rt; " {name}")?;
-        }
-        print!(rt; " {}", Found(&call.verdict))?;
-    }
-    println!(rt; "")
+fn verify_filter(alloc: Global) -> Result<Outcome, VerifyFault> {
+    verify(
+        alloc,
+        &mut Counted::new(rows::clone()),
+        &mut Counted::new(rows::masked()),
+        &mut Counted::new(rows::table()),
+        LIMIT,
+    )
 }
 
-fn verify_each(rt: &impl Print, alloc: Global) -> io::Result<()> {
-    let verified = twice(rt, "verify_calls", || {
-        verify_calls(
-            alloc,
-            &mut [Counted::new(CLONE)],
-            &mut Counted::new(MASKED),
-            &mut Counted::new(TABLE),
-            LIMIT,
-        )
-    })?;
-    match verified {
-        Some(outcome) => {
-            write_calls(rt, "verify_calls", &outcome)?;
-            write_text(rt, "report_calls", || report_calls(alloc, &outcome))
-        }
-        None => Ok(()),
-    }
+fn verify_two(alloc: Global) -> Result<Outcome, VerifyFault> {
+    verify_stack(
+        alloc,
+        &mut [Counted::new(rows::allow_all()), Counted::new(rows::clone())],
+        &mut Counted::new(rows::masked()),
+        &mut Counted::new(rows::table()),
+        Scope::All,
+        LIMIT,
+    )
 }
 
-fn verify_each_no_less(rt: &impl Print, alloc: Global) -> io::Result<()> {
-    let verified = twice(rt, "verify_calls_by", || {
-        verify_calls_by(
-            alloc,
-            &mut [Counted::new(CLONE)],
-            &mut Counted::new(MASKED),
-            &mut Counted::new(TABLE),
-            Relation::NoLess,
-            LIMIT,
-        )
-    })?;
-    match verified {
-        Some(outcome) => {
-            write_calls(rt, "verify_calls_by", &outcome)?;
-            write_text(rt, "report_calls_by", || {
-                report_calls_by(alloc, Relation::NoLess, &outcome)
-            })
-        }
-        None => Ok(()),
-    }
+fn verify_no_more(alloc: Global) -> Result<Outcome, VerifyFault> {
+    verify_by(
+        alloc,
+        &mut [Counted::new(rows::clone())],
+        &mut Counted::new(rows::masked()),
+        &mut Counted::new(rows::table()),
+        Scope::Native,
+        Relation::NoMore,
+        LIMIT,
+    )
 }
 
-fn report_difference(rt: &impl Print, alloc: Global) -> io::Result<()> {
+fn verify_each(alloc: Global) -> Result<CallsOutcome, VerifyFault> {
+    verify_calls(
+        alloc,
+        &mut [Counted::new(rows::clone())],
+        &mut Counted::new(rows::masked()),
+        &mut Counted::new(rows::table()),
+        LIMIT,
+    )
+}
+
+fn verify_each_no_less(alloc: Global) -> Result<CallsOutcome, VerifyFault> {
+    verify_calls_by(
+        alloc,
+        &mut [Counted::new(rows::clone())],
+        &mut Counted::new(rows::masked()),
+        &mut Counted::new(rows::table()),
+        Relation::NoLess,
+        LIMIT,
+    )
+}
+
+fn tell_report<R: Print>(lines: &mut Lines<R>, alloc: Global, outcome: &Outcome) {
+    tell_twice!(lines, "report", report(alloc, outcome));
+}
+
+fn tell_report_by<R: Print>(
+    lines: &mut Lines<R>,
+    alloc: Global,
+    relation: Relation,
+    outcome: &Outcome,
+) {
+    tell_twice!(lines, "report_by", report_by(alloc, relation, outcome));
+}
+
+fn tell_report_calls<R: Print>(lines: &mut Lines<R>, alloc: Global, outcome: &CallsOutcome) {
+    tell_twice!(lines, "report_calls", report_calls(alloc, outcome));
+}
+
+fn tell_report_calls_by<R: Print>(lines: &mut Lines<R>, alloc: Global, outcome: &CallsOutcome) {
+    tell_twice!(
+        lines,
+        "report_calls_by",
+        report_calls_by(alloc, Relation::NoLess, outcome)
+    );
+}
+
+/// What is printed of a difference.
+fn report_difference<R: Print>(lines: &mut Lines<R>, alloc: Global) {
     let outcome = Outcome {
         verdict: DIFFERS,
         skipped: Texts::from_vec(Vec::new(alloc)),
         other_architectures: Texts::from_vec(Vec::new(alloc)),
     };
-    write_text(rt, "report", || report(alloc, &outcome))?;
-    write_text(rt, "report_by", || {
-        report_by(alloc, Relation::NoLess, &outcome)
-    })
+    tell_report(lines, alloc, &outcome);
+    tell_report_by(lines, alloc, Relation::NoLess, &outcome);
 }
 
-pub(crate) fn try_all(rt: &impl Print, alloc: Global) -> io::Result<()> {
-    parse_words(rt, alloc)?;
-    split_bundle(rt, alloc)?;
-    hold_bundle(rt, alloc)?;
-    report_difference(rt, alloc)?;
-    verify_filter(rt, alloc)?;
-    verify_two(rt, alloc)?;
-    verify_no_more(rt, alloc)?;
-    verify_each(rt, alloc)?;
-    verify_each_no_less(rt, alloc)
+fn try_verify<R: Print>(lines: &mut Lines<R>, alloc: Global) {
+    if let Some(outcome) = twice!(lines, "verify", verify_filter(alloc)) {
+        tell_report(lines, alloc, &outcome);
+    }
+}
+
+fn try_verify_by<R: Print>(lines: &mut Lines<R>, alloc: Global) {
+    if let Some(outcome) = twice!(lines, "verify_by", verify_no_more(alloc)) {
+        tell_report_by(lines, alloc, Relation::NoMore, &outcome);
+    }
+}
+
+fn try_verify_calls<R: Print>(lines: &mut Lines<R>, alloc: Global) {
+    if let Some(outcome) = twice!(lines, "verify_calls", verify_each(alloc)) {
+        tell_report_calls(lines, alloc, &outcome);
+    }
+}
+
+fn try_verify_calls_by<R: Print>(lines: &mut Lines<R>, alloc: Global) {
+    if let Some(outcome) = twice!(lines, "verify_calls_by", verify_each_no_less(alloc)) {
+        tell_report_calls_by(lines, alloc, &outcome);
+    }
+}
+
+fn try_verify_stack<R: Print>(lines: &mut Lines<R>, alloc: Global) {
+    tell_twice!(lines, "verify_stack", verify_two(alloc));
+}
+
+fn try_parse<R: Print>(lines: &mut Lines<R>, alloc: Global) {
+    tell_twice!(lines, "parse", request_in(alloc, words()));
+}
+
+/// What a bundle is taken apart into.
+fn try_bundle<R: Print>(lines: &mut Lines<R>, alloc: Global, bundle: &[u8]) {
+    tell_twice!(lines, "split", split(alloc, bundle));
+    tell_twice!(lines, "Contents::of", Contents::of(alloc, bundle));
+}
+
+pub(crate) fn try_all<R: Print>(lines: &mut Lines<R>, alloc: Global) {
+    try_parse(lines, alloc);
+    try_bundle(lines, alloc, rows::bundle());
+    report_difference(lines, alloc);
+    try_verify(lines, alloc);
+    try_verify_stack(lines, alloc);
+    try_verify_by(lines, alloc);
+    try_verify_calls(lines, alloc);
+    try_verify_calls_by(lines, alloc);
 }
