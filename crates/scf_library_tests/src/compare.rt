@@ -1,7 +1,7 @@
 //! The comparer on worked pairs of a filter and a profile by a list of atoms, and the effort of a comparison. What is
 //! said by sets of numbers is tested on the program.
 
-use crate::fixtures::{APART, assembled, profile_of};
+use crate::fixtures::{APART, assembled, holds_of, holds_of_both, profile_of};
 use scf_compare::{Verdict, compare, effort, is_plain};
 use scf_facts::AtomList;
 use scf_insn::Answer;
@@ -211,22 +211,44 @@ fn says(
     is_wanted(verdict, wanted)
 }
 
+/// Whether so many steps are enough for this verdict on a filter and a profile, as more are.
+fn are_enough(
+    rt: &impl Abort,
+    alloc: Global,
+    program: &Program,
+    profile: &Profile,
+    steps: u64,
+    wanted: Wanted,
+) -> bool {
+    says(rt, alloc, program, profile, steps, wanted)
+        && says(rt, alloc, program, profile, steps.wrapping_add(1), wanted)
+        && says(rt, alloc, program, profile, u64::MAX, wanted)
+}
+
+/// That a pair takes so many steps.
+fn takes(rt: &impl Abort, pair: &Pair, steps: u64) {
+    assert!(rt;
+        steps == pair.effort,
+        "{} {}: {steps}",
+        pair.rest,
+        pair.text
+    );
+}
+
+/// That the effort of a pair and the verdicts on it are those that are wanted.
+fn compared(rt: &impl Abort, alloc: Global, pair: &Pair) {
+    let program = assembled(rt, alloc, pair.head, pair.rest);
+    let profile = profile_of(rt, alloc, pair.table, pair.text);
+    let steps = effort(&program, &profile);
+    takes(rt, pair, steps);
+    let are_enough = are_enough(rt, alloc, &program, &profile, steps, pair.wanted);
+    holds_of_both(rt, are_enough, pair.rest, pair.text);
+}
+
 #[test]
 fn efforts_and_verdicts(rt: HostRuntime) {
     for pair in pairs() {
-        let program = assembled(&rt, rt.alloc(), pair.head, pair.rest);
-        let profile = profile_of(&rt, rt.alloc(), pair.table, pair.text);
-        let steps = effort(&program, &profile);
-        assert!(rt;
-            steps == pair.effort,
-            "{} {}: {steps}",
-            pair.rest,
-            pair.text
-        );
-        for limit in [steps, steps.wrapping_add(1), u64::MAX] {
-            let is_so = says(&rt, rt.alloc(), &program, &profile, limit, pair.wanted);
-            assert!(rt; is_so, "{} {}", pair.rest, pair.text);
-        }
+        compared(&rt, rt.alloc(), pair);
     }
 }
 
@@ -261,7 +283,9 @@ const TESTS_OF_BITS: &str =
     jset #0x10000000, 0, 0; jset #0x20000000, 0, 0; jset #0x40000000, 0, 0; jset #0x80000000, 0, 0; ret #0x7fff0000";
 
 /// A text so many times, with another one behind it, and the effort of that filter beside a profile without rules.
-const EFFORTS: &[(&'static str, usize, &'static str, u64)] = &[
+type Repeated = (&'static str, usize, &'static str, u64);
+
+const EFFORTS: &[Repeated] = &[
     // 8 times one less than a power of two, while that fits.
     ("jeq #7, 0, 0;", 0, ALLOW_ALL, 8),
     ("jeq #7, 0, 0;", 1, ALLOW_ALL, 24),
@@ -281,21 +305,42 @@ const EFFORTS: &[(&'static str, usize, &'static str, u64)] = &[
     (GATE, 1, TESTS_OF_BITS, u64::MAX),
 ];
 
-fn rows_of_efforts() -> &'static [(&'static str, usize, &'static str, u64)] {
+fn rows_of_efforts() -> &'static [Repeated] {
     EFFORTS
+}
+
+/// The effort of the filter of a part so many times and the rest, beside a profile.
+fn effort_of_parts(
+    rt: &impl Abort,
+    alloc: Global,
+    profile: &Profile,
+    part: &str,
+    count: usize,
+    rest: &str,
+) -> u64 {
+    let text = part.repeat(alloc, count).expect(rt, "no fault");
+    let program = assembled(rt, alloc, text.as_str(), rest);
+    effort(&program, profile)
+}
+
+/// That a filter has the effort that is wanted beside a profile.
+fn has_effort(rt: &impl Abort, alloc: Global, profile: &Profile, row: Repeated) {
+    let (part, count, rest, expected) = row;
+    let found = effort_of_parts(rt, alloc, profile, part, count, rest);
+    assert!(rt; found == expected, "{count} of {part}");
+}
+
+/// That filters have the efforts that are wanted beside a profile.
+fn have_efforts(rt: &impl Abort, alloc: Global, profile: &Profile, rows: &[Repeated]) {
+    for row in rows {
+        has_effort(rt, alloc, profile, *row);
+    }
 }
 
 #[test]
 fn efforts_of_many_paths(rt: HostRuntime) {
     let profile = profile_of(&rt, rt.alloc(), "", DEFAULT_ALLOW);
-    for (part, count, rest, expected) in rows_of_efforts() {
-        let text = part.repeat(rt.alloc(), *count).expect(&rt, "no fault");
-        let program = assembled(&rt, rt.alloc(), text.as_str(), rest);
-        assert!(rt;
-            effort(&program, &profile) == *expected,
-            "{count} of {part}"
-        );
-    }
+    have_efforts(&rt, rt.alloc(), &profile, rows_of_efforts());
 }
 
 /// Filters, and whether they are plain.
@@ -321,10 +366,15 @@ fn filters() -> &'static [(&'static str, bool)] {
     FILTERS
 }
 
+/// Whether the filter of a text is plain.
+fn is_text_plain(rt: &impl Abort, alloc: Global, text: &str) -> bool {
+    is_plain(&assembled(rt, alloc, "", text))
+}
+
 #[test]
 fn plain_filters(rt: HostRuntime) {
     for (text, expected) in filters() {
-        let program = assembled(&rt, rt.alloc(), "", text);
-        assert!(rt; is_plain(&program) == *expected, "{text}");
+        let is_so = is_text_plain(&rt, rt.alloc(), text) == *expected;
+        holds_of(&rt, is_so, text);
     }
 }

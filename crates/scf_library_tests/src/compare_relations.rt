@@ -9,11 +9,15 @@ use scf_profile::Profile;
 use std::alloc::Global;
 use std::process::Abort;
 
-const RELATIONS: [Relation; 3] = [Relation::Same, Relation::NoMore, Relation::NoLess];
+const RELATIONS: &[Relation] = &[Relation::Same, Relation::NoMore, Relation::NoLess];
+
+fn relations() -> &'static [Relation] {
+    RELATIONS
+}
 
 /// Answers by the kernel's header, with unnamed ones at both borders, and what becomes of a call: 0 it is refused, 1
 /// referred, 2 made.
-const ANSWERS: [(u32, u8); 22] = [
+const ANSWERS: &[(u32, u8)] = &[
     // KILL_PROCESS, and half numbers that are negative
     (0x8000_0000, 0),
     (0x8000_0007, 0),
@@ -49,9 +53,13 @@ const ANSWERS: [(u32, u8); 22] = [
     (0x7fff_0001, 2),
 ];
 
+fn answers() -> &'static [(u32, u8)] {
+    ANSWERS
+}
+
 /// Profiles of each action, their answers (TRACE has errno 1 where none is stated, as ERRNO has), and what becomes of a
 /// call.
-const PROFILES: [(&str, u32, u8); 8] = [
+const PROFILES: &[(&'static str, u32, u8)] = &[
     (
         r#"{"defaultAction":"SCMP_ACT_KILL_PROCESS"}"#,
         0x8000_0000,
@@ -69,6 +77,10 @@ const PROFILES: [(&str, u32, u8); 8] = [
     (r#"{"defaultAction":"SCMP_ACT_LOG"}"#, 0x7ffc_0000, 2),
     (r#"{"defaultAction":"SCMP_ACT_ALLOW"}"#, 0x7fff_0000, 2),
 ];
+
+fn profiles() -> &'static [(&'static str, u32, u8)] {
+    PROFILES
+}
 
 /// Whether a relation holds of the answers of a filter and a profile, where this becomes of the call by each.
 fn holds(relation: Relation, filter: (u32, u8), profile: (u32, u8)) -> bool {
@@ -104,21 +116,38 @@ fn says(
     }
 }
 
+/// Compares a stack with a profile by each relation, and asks it of their answers.
+fn by_each_relation(
+    rt: &impl Abort,
+    alloc: Global,
+    stack: &FilterStack,
+    profile: &Profile,
+    filter: (u32, u8),
+    stated: (u32, u8),
+) {
+    let answers = (Answer(filter.0), Answer(stated.0));
+    for relation in relations() {
+        let wanted = holds(*relation, filter, stated);
+        let is_said = says(rt, alloc, stack, profile, *relation, answers, wanted);
+        let is_so = is_said && relation.holds(answers.0, answers.1) == wanted;
+        assert!(rt; is_so, "{answers:?} {relation:?}");
+    }
+}
+
+/// Compares filters that give one answer to each call with such a profile.
+fn each_answer(rt: &impl Abort, alloc: Global, profile: &Profile, stated: (u32, u8)) {
+    for filter in answers() {
+        let mut stack = FilterStack::new(alloc);
+        push_answer(rt, alloc, &mut stack, filter.0);
+        by_each_relation(rt, alloc, &stack, profile, *filter, stated);
+    }
+}
+
 /// Compares a filter that answers each call so with profiles that do, by atoms, and asks each relation of two answers.
 #[test]
 fn each_answer_by_each_relation(rt: HostRuntime) {
-    for (text, answer, fate) in PROFILES {
+    for (text, answer, fate) in profiles() {
         let profile = profile_of(&rt, rt.alloc(), "", text);
-        for filter in ANSWERS {
-            let mut stack = FilterStack::new(rt.alloc());
-            push_answer(&rt, rt.alloc(), &mut stack, filter.0);
-            let answers = (Answer(filter.0), Answer(answer));
-            for relation in RELATIONS {
-                let wanted = holds(relation, filter, (answer, fate));
-                let is_said = says(&rt, rt.alloc(), &stack, &profile, relation, answers, wanted);
-                let is_so = is_said && relation.holds(answers.0, answers.1) == wanted;
-                assert!(rt; is_so, "{answers:?} {relation:?}");
-            }
-        }
+        each_answer(&rt, rt.alloc(), &profile, (*answer, *fate));
     }
 }

@@ -1,7 +1,7 @@
 //! Stacks of filters against a profile, by sets of numbers: efforts, and what the command doesn't show, which wants a
 //! filter at least, and takes single numbers from a table alone.
 
-use crate::fixtures::{profile_of, stack_of};
+use crate::fixtures::{holds_of, profile_of, stack_of};
 use scf_compare::Relation::{NoLess, NoMore, Same};
 use scf_compare::Scope::{All, Call, Native};
 use scf_compare::{Relation, Scope, Verdict, compare_by, compare_stack, effort_stack};
@@ -222,21 +222,34 @@ fn says(
     is_so && (relation != Same || same == verdict)
 }
 
+/// That each verdict on a stack and a profile within a limit is the one that is wanted.
+fn says_each(
+    rt: &impl Abort,
+    alloc: Global,
+    stack: &FilterStack,
+    profile: &Profile,
+    shown: &[(Scope, Relation, Shown)],
+    limit: u64,
+) {
+    for wanted in shown {
+        let is_so = says(rt, alloc, stack, profile, *wanted, limit);
+        assert!(rt; is_so, "{wanted:?} {limit}");
+    }
+}
+
+/// That the effort of a row and the verdicts on it are those that are wanted.
+fn compared(rt: &impl Abort, alloc: Global, row: &Row) {
+    let stack = stack_of(rt, alloc, row.filters);
+    let profile = profile_of(rt, alloc, row.table, row.text);
+    let is_effort = effort_stack(&stack, &profile) == row.effort;
+    holds_of(rt, is_effort, row.text);
+    says_each(rt, alloc, &stack, &profile, row.shown, 0);
+    says_each(rt, alloc, &stack, &profile, row.shown, row.effort);
+}
+
 #[test]
 fn stacks_in_scopes_by_relations(rt: HostRuntime) {
     for row in rows() {
-        let stack = stack_of(&rt, rt.alloc(), row.filters);
-        let profile = profile_of(&rt, rt.alloc(), row.table, row.text);
-        assert!(rt;
-            effort_stack(&stack, &profile) == row.effort,
-            "{}",
-            row.text
-        );
-        for wanted in row.shown {
-            for limit in [0, row.effort] {
-                let is_so = says(&rt, rt.alloc(), &stack, &profile, *wanted, limit);
-                assert!(rt; is_so, "{wanted:?} {limit}");
-            }
-        }
+        compared(&rt, rt.alloc(), row);
     }
 }

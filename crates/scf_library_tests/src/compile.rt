@@ -1,9 +1,9 @@
 //! The compiler: the bound of a filter's size, and the largest filters. What filters answer is tested on the program.
 
-use crate::fixtures::{APART, allowing, call, profile_of};
+use crate::fixtures::{APART, allowing, call, holds_at, holds_of, profile_of};
 use scf_compile::{CompileFault, compile, size_bound};
 use scf_insn::Answer;
-use scf_machine::run;
+use scf_machine::{Program, run};
 use scf_profile::Profile;
 use scf_test_fixtures::kernel::{ALLOW, ERRNO_1, X86_64};
 use scf_test_fixtures::profiles::{
@@ -29,35 +29,54 @@ fn of_entries(rt: &impl Abort, alloc: Global, entries: &str) -> Profile {
     profile_of(rt, alloc, READ_WRITE_TABLE, text.as_str())
 }
 
+/// Tables and profiles, and the bound of the size of each one's filter.
+const BOUNDS: &[(&'static str, &'static str, u64)] = &[
+    ("", DEFAULT_ALLOW, 8),
+    (CLONE_TABLE, CLONE_MASK, 22),
+    (READ_WRITE_TABLE, EXTREMES, 36),
+    (SOCKET_TABLE, APART, 40),
+];
+
+fn rows_of_bounds() -> &'static [(&'static str, &'static str, u64)] {
+    BOUNDS
+}
+
+/// The bound of the size of a profile's filter.
+fn bound_of(rt: &impl Abort, alloc: Global, table: &str, text: &str) -> u64 {
+    size_bound(&profile_of(rt, alloc, table, text))
+}
+
 #[test]
 fn bounds(rt: HostRuntime) {
-    for (table, text, bound) in [
-        ("", DEFAULT_ALLOW, 8),
-        (CLONE_TABLE, CLONE_MASK, 22),
-        (READ_WRITE_TABLE, EXTREMES, 36),
-        (SOCKET_TABLE, APART, 40),
-    ] {
-        let profile = profile_of(&rt, rt.alloc(), table, text);
-        assert!(rt; size_bound(&profile) == bound, "{text}");
+    for (table, text, bound) in rows_of_bounds() {
+        let found = bound_of(&rt, rt.alloc(), table, text);
+        holds_of(&rt, found == *bound, text);
     }
+}
+
+/// The bound of so many numbers without conditions.
+fn bound_of_numbers(rt: &impl Abort, alloc: Global, count: u32) -> u64 {
+    size_bound(&allowing(rt, alloc, (0, 1, count)))
 }
 
 #[test]
 fn bounds_of_many_numbers(rt: HostRuntime) {
-    for (count, bound) in [(681, 4094), (682, 4100)] {
-        let profile = allowing(&rt, rt.alloc(), (0, 1, count));
-        assert!(rt; size_bound(&profile) == bound, "{count}");
-    }
+    holds_at(&rt, bound_of_numbers(&rt, rt.alloc(), 681) == 4094, 681);
+    holds_at(&rt, bound_of_numbers(&rt, rt.alloc(), 682) == 4100, 682);
+}
+
+/// Whether this is the bound of a number that has one rule and so many others.
+fn is_bound_of_rules(rt: &impl Abort, alloc: Global, others: usize, bound: u64) -> bool {
+    let names = entry(rt, alloc, "\"read\",", others, "");
+    let profile = of_entries(rt, alloc, names.as_str());
+    profile.rules().len().checked_sub(1) == Some(others) && size_bound(&profile) == bound
 }
 
 /// Many rules of one number.
 #[test]
 fn bounds_of_many_rules(rt: HostRuntime) {
-    for (others, bound) in [(599, 1212), (4095, 8204)] {
-        let names = entry(&rt, rt.alloc(), "\"read\",", others, "");
-        let profile = of_entries(&rt, rt.alloc(), names.as_str());
-        assert!(rt; profile.rules().len() == others + 1 && size_bound(&profile) == bound);
-    }
+    assert!(rt; is_bound_of_rules(&rt, rt.alloc(), 599, 1212));
+    assert!(rt; is_bound_of_rules(&rt, rt.alloc(), 4095, 8204));
 }
 
 /// As many rules of one number that test an argument for a value, and as many that test it for a greater one; and one
@@ -87,6 +106,19 @@ fn rows_of_calls() -> &'static [(u32, u64, u32)] {
     TESTED
 }
 
+/// That a filter answers a call so.
+fn answers(rt: &impl Abort, program: &Program, (nr, a0, answer): (u32, u64, u32)) {
+    let ran = run(program, &call(nr, X86_64, [a0, 0, 0, 0, 0, 0]));
+    assert!(rt; ran.answer == Answer(answer), "{nr} {a0}");
+}
+
+/// That a filter answers each of these calls so.
+fn answers_each(rt: &impl Abort, program: &Program, rows: &[(u32, u64, u32)]) {
+    for row in rows {
+        answers(rt, program, *row);
+    }
+}
+
 /// The tests in front take 5 instructions, those of the two numbers 2 and 1, each test for a value 5 with its answer,
 /// each for a greater one 6, and the default answers 3.
 #[test]
@@ -94,10 +126,7 @@ fn largest_filter(rt: HostRuntime) {
     let profile = tested(&rt, rt.alloc(), 810, 4);
     let program = compile(rt.alloc(), &profile).expect(&rt, "no fault");
     assert!(rt; program.len() == 4096);
-    for (nr, a0, answer) in rows_of_calls() {
-        let ran = run(&program, &call(*nr, X86_64, [*a0, 0, 0, 0, 0, 0]));
-        assert!(rt; ran.answer == Answer(*answer), "{nr} {a0}");
-    }
+    answers_each(&rt, &program, rows_of_calls());
 }
 
 #[test]

@@ -2,6 +2,7 @@
 //!
 //! Tests run with ample memory. Where one is refused any, or a text isn't what it is to be, the test ends there.
 
+use scf_insn::faults::Failing;
 use scf_insn::{CallRecord, Insn};
 use scf_machine::{FilterStack, Program, check};
 use scf_profile::{CallTable, Loaded, Profile, TableFault, load};
@@ -15,6 +16,26 @@ pub(crate) const APART: &str = r#"{"defaultAction":"SCMP_ACT_ERRNO","syscalls":[
     {"names":["socket"],"action":"SCMP_ACT_ERRNO","errnoRet":22,
     "args":[{"index":0,"value":16,"op":"SCMP_CMP_EQ"},{"index":2,"value":9,"op":"SCMP_CMP_EQ"}]},
     {"names":["socket"],"action":"SCMP_ACT_ALLOW","args":[{"index":2,"value":9,"op":"SCMP_CMP_NE"}]}]}"#;
+
+/// That it is so of what a text tells.
+pub(crate) fn holds_of(rt: &impl Abort, is_so: bool, text: &str) {
+    assert!(rt; is_so, "{text}");
+}
+
+/// That it is so of what two texts tell.
+pub(crate) fn holds_of_both(rt: &impl Abort, is_so: bool, first: &str, second: &str) {
+    assert!(rt; is_so, "{first} {second}");
+}
+
+/// That it is so at a number.
+pub(crate) fn holds_at(rt: &impl Abort, is_so: bool, number: usize) {
+    assert!(rt; is_so, "{number}");
+}
+
+/// That it is so where a reader or a writer fails.
+pub(crate) fn holds_where(rt: &impl Abort, is_so: bool, failing: Failing) {
+    assert!(rt; is_so, "{failing:?}");
+}
 
 pub(crate) fn insn(code: u16, jt: u8, jf: u8, k: u32) -> Insn {
     Insn { code, jt, jf, k }
@@ -33,6 +54,13 @@ pub(crate) fn call(nr: u32, arch: u32, args: [u64; 6]) -> CallRecord {
 /// The table of a text.
 pub(crate) fn table(alloc: Global, text: &str) -> Result<CallTable, TableFault> {
     CallTable::read(alloc, text.as_bytes())
+}
+
+/// That a table lacks each of these names.
+pub(crate) fn lacks(rt: &impl Abort, table: &CallTable, names: &[&str]) {
+    for name in names {
+        holds_of(rt, table.number_of(name).is_none(), name);
+    }
 }
 
 /// What is loaded of a table's and a profile's text.
@@ -63,17 +91,23 @@ fn write_table<W: fmt::Write>(f: &mut W, (first, apart, count): Numbers) -> fmt:
     Ok(())
 }
 
-/// Writes the profile that allows these numbers, of which there is to be one.
-fn write_allowing<W: fmt::Write>(f: &mut W, (first, apart, count): Numbers) -> fmt::Result {
-    f.write_str(
-        r#"{"defaultAction":"SCMP_ACT_ERRNO","syscalls":[{"action":"SCMP_ACT_ALLOW","names":["#,
-    )?;
+/// Writes the names of these numbers, with commas between them.
+fn write_names<W: fmt::Write>(f: &mut W, (first, apart, count): Numbers) -> fmt::Result {
     let mut comma = "";
     for place in 0..count {
         let number = first.wrapping_add(place.wrapping_mul(apart));
         write!(f, r#"{comma}"c{number}""#)?;
         comma = ",";
     }
+    Ok(())
+}
+
+/// Writes the profile that allows these numbers, of which there is to be one.
+fn write_allowing<W: fmt::Write>(f: &mut W, numbers: Numbers) -> fmt::Result {
+    f.write_str(
+        r#"{"defaultAction":"SCMP_ACT_ERRNO","syscalls":[{"action":"SCMP_ACT_ALLOW","names":["#,
+    )?;
+    write_names(f, numbers)?;
     f.write_str("]}]}")
 }
 

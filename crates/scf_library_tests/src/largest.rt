@@ -1,12 +1,16 @@
 //! Each call once at its largest, with ample memory: the exact answer, worked out beside the libraries.
 
-use crate::fixtures::{allowing, assembled, call, insn, profile_of, push_answer, table};
+use crate::fixtures::{
+    allowing, assembled, call, holds_at, insn, lacks, profile_of, push_answer, table,
+};
 use scf_compare::{Scope, Verdict, compare_stack, effort_stack};
 use scf_facts::WordSets;
 use scf_insn::faults::{Failing, Reader, Writer};
-use scf_insn::{Answer, InputFault, Insn, ReadFault, read_input, read_program, write_program};
-use scf_machine::{FilterStack, PushFault, run, trace};
-use scf_profile::{CallTable, NamedCall, Reason};
+use scf_insn::{
+    Answer, CallRecord, InputFault, Insn, ReadFault, read_input, read_program, write_program,
+};
+use scf_machine::{FilterStack, Program, PushFault, run, trace};
+use scf_profile::{CallTable, NamedCall, NumberRules, Profile, Reason};
 use scf_test_fixtures::filters::ALLOW_ALL;
 use scf_test_fixtures::kernel::{ALLOW, ERRNO, ERRNO_1, X86_64};
 use scf_test_fixtures::profiles::DEFAULT_ALLOW;
@@ -39,17 +43,27 @@ fn places(alloc: Global, count: u32) -> Result<(Vec<Insn>, Vec<u8>), AllocError>
     Ok((insns, bytes))
 }
 
+/// Whether the bytes of these instructions, one at a time, are read as them.
+fn are_read(rt: &impl Abort, alloc: Global, insns: &[Insn], bytes: &[u8]) -> bool {
+    let mut source = Reader::new(bytes, 1, Failing::Never);
+    let found = read_program(alloc, &mut source).expect(rt, "no fault");
+    found.as_slice() == insns && source.asks() == 32769
+}
+
+/// Whether the bytes of one instruction more are refused.
+fn are_too_long(rt: &impl Abort, alloc: Global) -> bool {
+    let (_insns, bytes) = places(alloc, 4097).expect(rt, "no fault");
+    let mut source = Reader::new(&bytes, 1, Failing::Never);
+    let refused = read_program(alloc, &mut source).err();
+    refused == Some(ReadFault::TooLong) && source.asks() == 32769
+}
+
 #[test]
 fn filters_read_byte_by_byte(rt: HostRuntime) {
     let (insns, bytes) = places(rt.alloc(), 4096).expect(&rt, "no fault");
     assert!(rt; bytes.len() == 32768);
-    let mut source = Reader::new(&bytes, 1, Failing::Never);
-    let found = read_program(rt.alloc(), &mut source).expect(&rt, "no fault");
-    assert!(rt; found.as_slice() == insns.as_slice() && source.asks() == 32769);
-    let (_insns, longer) = places(rt.alloc(), 4097).expect(&rt, "no fault");
-    let mut source = Reader::new(&longer, 1, Failing::Never);
-    let refused = read_program(rt.alloc(), &mut source);
-    assert!(rt; refused.err() == Some(ReadFault::TooLong) && source.asks() == 32769);
+    assert!(rt; are_read(&rt, rt.alloc(), &insns, &bytes));
+    assert!(rt; are_too_long(&rt, rt.alloc()));
 }
 
 #[test]
@@ -60,63 +74,103 @@ fn filters_written_byte_by_byte(rt: HostRuntime) {
     assert!(rt; sink.taken() == bytes.as_slice() && sink.asks() == 32768);
 }
 
+/// Whether bytes, one at a time, are read where that many may be.
+fn is_input(rt: &impl Abort, alloc: Global, bytes: &[u8]) -> bool {
+    let mut source = Reader::new(bytes, 1, Failing::Never);
+    let found = read_input(alloc, &mut source, 32768).expect(rt, "no fault");
+    found.as_slice() == bytes && source.asks() == 32769
+}
+
+/// Whether bytes, one at a time, are refused where one fewer may be read.
+fn is_past_limit(alloc: Global, bytes: &[u8]) -> bool {
+    let mut source = Reader::new(bytes, 1, Failing::Never);
+    let refused = read_input(alloc, &mut source, 32767).err();
+    refused == Some(InputFault::TooLong) && source.asks() == 32768
+}
+
 #[test]
 fn inputs_byte_by_byte(rt: HostRuntime) {
     let (_insns, bytes) = places(rt.alloc(), 4096).expect(&rt, "no fault");
-    let mut source = Reader::new(&bytes, 1, Failing::Never);
-    let found = read_input(rt.alloc(), &mut source, 32768).expect(&rt, "no fault");
-    assert!(rt; found.as_slice() == bytes.as_slice() && source.asks() == 32769);
-    let mut source = Reader::new(&bytes, 1, Failing::Never);
-    let refused = read_input(rt.alloc(), &mut source, 32767);
-    assert!(rt; refused.err() == Some(InputFault::TooLong) && source.asks() == 32768);
+    assert!(rt; is_input(&rt, rt.alloc(), &bytes));
+    assert!(rt; is_past_limit(rt.alloc(), &bytes));
+}
+
+/// Whether the listing of 4096 instructions like this one is this.
+fn is_listed(rt: &impl Abort, alloc: Global, one: Insn, listing: &str) -> bool {
+    let insns = vec![in alloc; one; 4096].expect(rt, "no fault");
+    let mut sink = Writer::new(alloc, 7, Failing::Never);
+    disassemble(&insns, &mut sink).expect(rt, "no fault");
+    sink.taken() == listing.as_bytes()
+}
+
+/// Whether a text is assembled to 4096 instructions like this one.
+fn is_assembled(rt: &impl Abort, alloc: Global, text: &str, one: Insn) -> bool {
+    let insns = vec![in alloc; one; 4096].expect(rt, "no fault");
+    let found = assemble(alloc, text.as_bytes()).expect(rt, "no fault");
+    found.as_slice() == insns.as_slice()
 }
 
 /// The longest lines: 4096 of 33 bytes.
 #[test]
 fn listing_of_the_longest_lines(rt: HostRuntime) {
     let one = insn(0xffff, 255, 255, u32::MAX);
-    let insns = vec![in rt.alloc(); one; 4096].expect(&rt, "no fault");
     let listing = "raw 0xffff, 255, 255, 0xffffffff\n"
         .repeat(rt.alloc(), 4096)
         .expect(&rt, "no fault");
-    let mut sink = Writer::new(rt.alloc(), 7, Failing::Never);
-    disassemble(&insns, &mut sink).expect(&rt, "no fault");
-    assert!(rt; sink.taken() == listing.as_bytes());
-    let found = assemble(rt.alloc(), listing.as_bytes()).expect(&rt, "no fault");
-    assert!(rt; found.as_slice() == insns.as_slice());
+    assert!(rt; is_listed(&rt, rt.alloc(), one, listing.as_str()));
+    assert!(rt; is_assembled(&rt, rt.alloc(), listing.as_str(), one));
 }
 
-/// Each line has a jump in 7 tokens, 193 empty statements and a comment.
+fn count_of_tokens(rt: &impl Abort, alloc: Global, text: &str) -> usize {
+    tokens(alloc, text.as_bytes()).expect(rt, "no fault").len()
+}
+
+/// 4096 lines, of which each has a jump in 7 tokens, 193 empty statements and a comment.
+fn lines_of_200_tokens(rt: &impl Abort, alloc: Global) -> String {
+    let empty = " ;".repeat(alloc, 193).expect(rt, "no fault");
+    let empty = empty.as_str();
+    let line = format!(in alloc; "jgt #7, 0, 0{empty} // ret a; jgt #1, 2, 3\n").expect(
+        rt, "no fault",
+    );
+    line.repeat(alloc, 4096).expect(rt, "no fault")
+}
+
 #[test]
 fn text_of_4096_lines_of_200_tokens(rt: HostRuntime) {
-    let empty = " ;".repeat(rt.alloc(), 193).expect(&rt, "no fault");
-    let empty = empty.as_str();
-    let line = format!(in rt.alloc(); "jgt #7, 0, 0{empty} // ret a; jgt #1, 2, 3\n").expect(
-        &rt, "no fault",
-    );
-    let text = line.repeat(rt.alloc(), 4096).expect(&rt, "no fault");
-    let insns = vec![in rt.alloc(); insn(0x25, 0, 0, 7); 4096].expect(&rt, "no fault");
-    let found = assemble(rt.alloc(), text.as_bytes()).expect(&rt, "no fault");
-    assert!(rt; found.as_slice() == insns.as_slice());
-    let pieces = tokens(rt.alloc(), text.as_bytes()).expect(&rt, "no fault");
-    assert!(rt; pieces.len() == 4096 * 200);
+    let text = lines_of_200_tokens(&rt, rt.alloc());
+    assert!(rt; is_assembled(&rt, rt.alloc(), text.as_str(), insn(0x25, 0, 0, 7)));
+    assert!(rt; count_of_tokens(&rt, rt.alloc(), text.as_str()) == 4096 * 200);
 }
 
 /// A longest filter: loads and jumps to the next place by turns, and a return.
+fn longest_filter(rt: &impl Abort, alloc: Global) -> Program {
+    let pairs = "ld #9; ja 0;".repeat(alloc, 2047).expect(rt, "no fault");
+    assembled(rt, alloc, pairs.as_str(), "ld #9; ret #0x7fff0000")
+}
+
+/// Whether these are the places from 0 on.
+fn are_in_order(places: &[usize]) -> bool {
+    let mut are_so = true;
+    for (steps, place) in places.iter().enumerate() {
+        are_so &= *place == steps;
+    }
+    are_so
+}
+
+/// A call goes through each place of a longest filter, which allows it.
+fn goes_through(rt: &impl Abort, alloc: Global, program: &Program, call: &CallRecord) {
+    let path = trace(alloc, program, call).expect(rt, "no fault");
+    assert!(rt; path.answer == Answer(ALLOW) && path.places.len() == 4096);
+    assert!(rt; are_in_order(&path.places));
+}
+
 #[test]
 fn longest_path(rt: HostRuntime) {
-    let pair = "ld #9; ja 0;"
-        .repeat(rt.alloc(), 2047)
-        .expect(&rt, "no fault");
-    let program = assembled(&rt, rt.alloc(), pair.as_str(), "ld #9; ret #0x7fff0000");
+    let program = longest_filter(&rt, rt.alloc());
     let call = call(0, X86_64, [0; 6]);
     let ran = run(&program, &call);
     assert!(rt; program.len() == 4096 && ran.answer == Answer(ALLOW) && ran.steps == 4096);
-    let path = trace(rt.alloc(), &program, &call).expect(&rt, "no fault");
-    assert!(rt; path.answer == Answer(ALLOW) && path.places.len() == 4096);
-    for (steps, place) in path.places.iter().enumerate() {
-        assert!(rt; *place == steps);
-    }
+    goes_through(&rt, rt.alloc(), &program, &call);
 }
 
 /// A stack of as many filters as it takes, whose second oldest gives this answer: each counts its one instruction, and
@@ -131,17 +185,21 @@ fn full_stack(rt: &impl Abort, alloc: Global, second: u32) -> FilterStack {
     stack
 }
 
+/// Whether such a stack refuses one filter more, and hands it back.
+fn refuses(stack: &mut FilterStack, more: Program) -> bool {
+    match stack.push(more) {
+        Ok(()) => false,
+        Err((fault, back)) => fault == PushFault::TooMany { total: 32771 } && back.len() == 1,
+    }
+}
+
 #[test]
 fn as_many_filters_as_a_stack_takes(rt: HostRuntime) {
     let mut stack = full_stack(&rt, rt.alloc(), ERRNO | 9);
     let native = call(0, X86_64, [0; 6]);
     assert!(rt; stack.len() == 6554 && stack.decide(&native) == Answer(ERRNO | 9));
     let more = assembled(&rt, rt.alloc(), ALLOW_ALL, "");
-    let is_refused = match stack.push(more) {
-        Ok(()) => false,
-        Err((fault, back)) => fault == PushFault::TooMany { total: 32771 } && back.len() == 1,
-    };
-    assert!(rt; is_refused && stack.len() == 6554);
+    assert!(rt; refuses(&mut stack, more) && stack.len() == 6554);
 }
 
 /// What the comparison of such a stack with a profile that allows all says of the native calls.
@@ -171,41 +229,98 @@ fn full_stacks_beside_a_profile(rt: HostRuntime) {
 }
 
 /// What the names of a number begin with. With the number behind each, they are in the order of their bytes.
-const BEGINS: [&str; 8] = ["B", "Z", "_", "a", "a_", "az", "z", "zz"];
+const BEGINS: &[&'static str] = &["B", "Z", "_", "a", "a_", "az", "z", "zz"];
 
-/// Writes a table of 5,000 numbers, three times those below that, which have eight names each.
-fn write_names<W: fmt::Write>(f: &mut W) -> fmt::Result {
-    for begin in ["zz", "a", "_", "Z", "a_", "B", "az", "z"] {
-        for multiple in 0..5000u32 {
-            let number = multiple * 7919 % 5000 * 3;
-            writeln!(f, "{begin}{number} {number}")?;
-        }
+fn begin_at(place: usize) -> Option<&'static str> {
+    BEGINS.get(place).copied()
+}
+
+/// Writes a name of each of 5,000 numbers, three times those below that.
+fn write_names<W: fmt::Write>(f: &mut W, begin: &str) -> fmt::Result {
+    for multiple in 0..5000u32 {
+        let number = multiple * 7919 % 5000 * 3;
+        writeln!(f, "{begin}{number} {number}")?;
     }
     Ok(())
 }
 
-/// Whether a call has this number and the eight names of it, under which the table has it, too.
-fn has_its_names(table: &CallTable, call: &NamedCall<'_>, number: usize) -> bool {
-    for (name, begin) in call.names.iter().zip(&BEGINS) {
-        if !name.starts_with(begin) || table.number_of(name) != Some(call.number) {
-            return false;
-        }
+/// The table of these numbers, which have eight names each.
+fn table_of_names(rt: &impl Abort, alloc: Global) -> CallTable {
+    let mut text = String::new(alloc);
+    for begin in &["zz", "a", "_", "Z", "a_", "B", "az", "z"] {
+        write_names(&mut text, begin).expect(rt, "no fault");
     }
-    call.number as usize == number && call.names.len() == 8
+    table(alloc, text.as_str()).expect(rt, "no fault")
+}
+
+/// Whether a name begins so, and the table has this number under it.
+fn is_name(table: &CallTable, name: &str, begin: Option<&str>, number: u32) -> bool {
+    match begin {
+        Some(begin) => name.starts_with(begin) && table.number_of(name) == Some(number),
+        None => false,
+    }
+}
+
+/// Whether these are the names that the table has this number under.
+fn are_names(table: &CallTable, names: &[&str], number: u32) -> bool {
+    let mut are_names = names.len() == 8;
+    for (place, name) in names.iter().enumerate() {
+        are_names &= is_name(table, name, begin_at(place), number);
+    }
+    are_names
+}
+
+/// That each call has its number and the eight names of it, under which the table has it, too.
+fn have_their_names(rt: &impl Abort, table: &CallTable, calls: &[NamedCall<'_>]) {
+    for (place, call) in calls.iter().enumerate() {
+        let is_number = call.number as usize == 3 * place;
+        holds_at(
+            rt,
+            is_number && are_names(table, &call.names, call.number),
+            place,
+        );
+    }
+}
+
+/// That a table has 5,000 calls with their names.
+fn has_calls(rt: &impl Abort, alloc: Global, table: &CallTable) {
+    let calls = table.calls(alloc).expect(rt, "no fault");
+    assert!(rt; calls.len() == 5000);
+    have_their_names(rt, table, &calls);
 }
 
 #[test]
 fn table_of_5000_numbers_of_8_names(rt: HostRuntime) {
-    let mut text = String::new(rt.alloc());
-    write_names(&mut text).expect(&rt, "no fault");
-    let names = table(rt.alloc(), text.as_str()).expect(&rt, "no fault");
-    let calls = names.calls(rt.alloc()).expect(&rt, "no fault");
-    assert!(rt; calls.len() == 5000);
-    for (place, call) in calls.iter().enumerate() {
-        assert!(rt; has_its_names(&names, call, 3 * place), "{place}");
+    let names = table_of_names(&rt, rt.alloc());
+    has_calls(&rt, rt.alloc(), &names);
+    lacks(&rt, &names, &["a1", "a14998", "a15000"]);
+}
+
+/// That these are 4096 numbers from 7 on, with a rule each.
+fn have_a_rule_each(rt: &impl Abort, numbers: &[NumberRules]) {
+    assert!(rt; numbers.len() == 4096);
+    for (place, own) in numbers.iter().enumerate() {
+        let is_so = own.number as usize == place + 7 && own.rules.len() == 1;
+        holds_at(rt, is_so, place);
     }
-    for lacked in ["a1", "a14998", "a15000"] {
-        assert!(rt; names.number_of(lacked).is_none(), "{lacked}");
+}
+
+/// Whether a profile allows a call by its one entry, or refuses it by its default answer.
+fn allows(profile: &Profile, number: u32, is_allowed: bool) -> bool {
+    let one = call(number, X86_64, [0; 6]);
+    let wanted = if is_allowed {
+        (Answer(ALLOW), Reason::Entry(0))
+    } else {
+        (Answer(ERRNO_1), Reason::Default)
+    };
+    (profile.answer(&one), profile.reason(&one)) == wanted
+}
+
+/// That a profile allows the numbers from 7 to 4102, and not the ones beside them.
+fn allows_each(rt: &impl Abort, profile: &Profile) {
+    for number in 6..4104u32 {
+        let is_allowed = number != 6 && number != 4103;
+        holds_at(rt, allows(profile, number, is_allowed), number as usize);
     }
 }
 
@@ -215,22 +330,6 @@ fn profile_of_4096_numbers(rt: HostRuntime) {
     let profile = allowing(&rt, rt.alloc(), (4102, u32::MAX, 4096));
     let rules = profile.rules();
     assert!(rt; rules.len() == 4096 && rules[0].number == 4102);
-    let numbers = profile.numbers();
-    assert!(rt; numbers.len() == 4096);
-    for (place, own) in numbers.iter().enumerate() {
-        assert!(rt;
-            own.number as usize == place + 7 && own.rules.len() == 1,
-            "{place}"
-        );
-    }
-    for number in 6..4104u32 {
-        let one = call(number, X86_64, [0; 6]);
-        let found = (profile.answer(&one), profile.reason(&one));
-        let wanted = if number == 6 || number == 4103 {
-            (Answer(ERRNO_1), Reason::Default)
-        } else {
-            (Answer(ALLOW), Reason::Entry(0))
-        };
-        assert!(rt; found == wanted, "{number}");
-    }
+    have_a_rule_each(&rt, profile.numbers());
+    allows_each(&rt, &profile);
 }

@@ -1,8 +1,8 @@
 //! The checker, the machine and stacks of filters.
 
-use crate::fixtures::{call, insn, push_answer};
-use scf_insn::{Answer, Insn};
-use scf_machine::{CheckFault, FilterStack, check, decide, run, with_newest};
+use crate::fixtures::{call, holds_at, holds_of, insn, push_answer};
+use scf_insn::{Answer, CallRecord, Insn};
+use scf_machine::{CheckFault, FilterStack, Program, check, decide, run, with_newest};
 use scf_test_fixtures::filters::{DIVIDED_BY_0, STORED_BOTH_WAYS, STORED_ONE_WAY};
 use scf_test_fixtures::kernel::{ALLOW, X86_64};
 use scf_text::assemble;
@@ -22,21 +22,36 @@ fn programs() -> &'static [(&'static str, u32, u32)] {
     PROGRAMS
 }
 
+/// Whether a filter gives this answer to a call of number 0 in so many steps.
+fn answers(program: &Program, answer: u32, steps: u32) -> bool {
+    let ran = run(program, &call(0, X86_64, [0; 6]));
+    ran.answer == Answer(answer) && ran.steps == steps
+}
+
+/// Whether a filter has these instructions, and hands them back.
+fn is_of(program: Program, insns: &[Insn]) -> bool {
+    let is_of = program.len() == insns.len() && !program.is_empty() && program.insns() == insns;
+    is_of && program.into_insns().as_slice() == insns
+}
+
+/// The filter of a list.
+fn program_of(rt: &impl Abort, alloc: Global, insns: &[Insn]) -> Program {
+    let copy = insns.to_vec(alloc).expect(rt, "no fault");
+    check(alloc, copy).expect(rt, "no fault")
+}
+
+/// That the filter of a text is accepted as it stands, and answers so.
+fn accepts(rt: &impl Abort, alloc: Global, (text, answer, steps): (&str, u32, u32)) {
+    let list = assemble(alloc, text.as_bytes()).expect(rt, "no fault");
+    let program = program_of(rt, alloc, &list);
+    let is_so = answers(&program, answer, steps) && is_of(program, &list);
+    holds_of(rt, is_so, text);
+}
+
 #[test]
 fn accepted_programs(rt: HostRuntime) {
-    let call = call(0, X86_64, [0; 6]);
-    for (text, answer, steps) in programs() {
-        let list = assemble(rt.alloc(), text.as_bytes()).expect(&rt, "no fault");
-        let copy = list.to_vec(rt.alloc()).expect(&rt, "no fault");
-        let program = check(rt.alloc(), copy).expect(&rt, "no fault");
-        let ran = run(&program, &call);
-        let is_so = ran.answer == Answer(*answer)
-            && ran.steps == *steps
-            && program.len() == list.len()
-            && !program.is_empty()
-            && program.insns() == list.as_slice();
-        let back = program.into_insns();
-        assert!(rt; is_so && back.as_slice() == list.as_slice(), "{text}");
+    for row in programs() {
+        accepts(&rt, rt.alloc(), *row);
     }
 }
 
@@ -79,11 +94,16 @@ fn refused() -> &'static [(&'static str, CheckFault)] {
     REFUSED
 }
 
+/// That the list of a text is refused by this fault.
+fn refuses_text(rt: &impl Abort, alloc: Global, (text, fault): (&str, CheckFault)) {
+    let list = assemble(alloc, text.as_bytes()).expect(rt, "no fault");
+    holds_of(rt, refuses(rt, alloc, &list, fault), text);
+}
+
 #[test]
 fn refused_lists(rt: HostRuntime) {
-    for (text, fault) in refused() {
-        let list = assemble(rt.alloc(), text.as_bytes()).expect(&rt, "no fault");
-        assert!(rt; refuses(&rt, rt.alloc(), &list, *fault), "{text}");
+    for row in refused() {
+        refuses_text(&rt, rt.alloc(), *row);
     }
     let last = insn(0x16, 0, 0, 0);
     assert!(rt; refuses(&rt, rt.alloc(), &[last; 4097], CheckFault::TooLong));
@@ -130,28 +150,65 @@ fn decisions() -> &'static [(&'static [u32], u32)] {
     DECISIONS
 }
 
+/// A stack of filters that give these answers.
+fn stack_of_answers(rt: &impl Abort, alloc: Global, answers: &[u32]) -> FilterStack {
+    let mut stack = FilterStack::new(alloc);
+    for answer in answers {
+        push_answer(rt, alloc, &mut stack, *answer);
+    }
+    stack
+}
+
+/// What is decided of answers one by one.
+fn decided(answers: &[u32]) -> Answer {
+    let mut decided = Answer(ALLOW);
+    for answer in answers {
+        decided = with_newest(decided, Answer(*answer));
+    }
+    decided
+}
+
+/// That the filters of a stack give these answers, each at its place.
+fn give(rt: &impl Abort, stack: &FilterStack, call: &CallRecord, answers: &[u32]) {
+    for (place, answer) in answers.iter().enumerate() {
+        let filter = stack.get(place).expect(rt, "a filter");
+        holds_at(rt, run(filter, call).answer == Answer(*answer), place);
+    }
+}
+
+/// Whether a stack has so many filters.
+fn has_length(stack: &FilterStack, length: usize) -> bool {
+    stack.len() == length
+        && stack.filters().len() == length
+        && stack.get(length).is_none()
+        && stack.is_empty() == (length == 0)
+}
+
+/// That this is decided of answers, by a stack and by its filters.
+fn decides(
+    rt: &impl Abort,
+    stack: &FilterStack,
+    call: &CallRecord,
+    answers: &[u32],
+    wanted: Answer,
+) {
+    let found = (stack.decide(call), decide(stack.filters(), call));
+    let is_so = decided(answers) == wanted && found == (wanted, wanted);
+    assert!(rt; is_so, "{wanted:?}");
+}
+
+/// That the stack of filters that give these answers has them, and decides so.
+fn stacked(rt: &impl Abort, alloc: Global, answers: &[u32], wanted: Answer) {
+    let call = call(0, X86_64, [0; 6]);
+    let stack = stack_of_answers(rt, alloc, answers);
+    give(rt, &stack, &call, answers);
+    assert!(rt; has_length(&stack, answers.len()));
+    decides(rt, &stack, &call, answers, wanted);
+}
+
 #[test]
 fn decisions_of_stacks(rt: HostRuntime) {
-    let call = call(0, X86_64, [0; 6]);
     for (answers, wanted) in decisions() {
-        let mut stack = FilterStack::new(rt.alloc());
-        let mut decided = Answer(ALLOW);
-        for answer in *answers {
-            push_answer(&rt, rt.alloc(), &mut stack, *answer);
-            decided = with_newest(decided, Answer(*answer));
-        }
-        for (place, answer) in answers.iter().enumerate() {
-            let filter = stack.get(place).expect(&rt, "a filter");
-            assert!(rt; run(filter, &call).answer == Answer(*answer), "{place}");
-        }
-        let (len, filters) = (answers.len(), stack.filters());
-        let is_full = stack.len() == len && filters.len() == len && stack.get(len).is_none();
-        assert!(rt; is_full && stack.is_empty() == (len == 0));
-        let found = (stack.decide(&call), decide(filters, &call));
-        let wanted = Answer(*wanted);
-        assert!(rt;
-            decided == wanted && found == (wanted, wanted),
-            "{wanted:?}"
-        );
+        stacked(&rt, rt.alloc(), answers, Answer(*wanted));
     }
 }

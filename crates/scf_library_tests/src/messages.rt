@@ -3,6 +3,7 @@
 //! What a message says is in the name of its fault and the fields beside it; its limits are those of the formats: 32768
 //! bytes and 4096 instructions of a filter, 4194304 bytes and 4096 rules of a profile, 127 levels of JSON.
 
+use crate::fixtures::holds_of;
 use scf_compile::CompileFault;
 use scf_insn::{Failed, InputFault, Memory, NumeralFault, ReadFault, WriteFault};
 use scf_machine::{CheckFault, PushFault};
@@ -12,48 +13,57 @@ use std::alloc::Global;
 use std::fmt::Display;
 use std::process::Abort;
 
+/// That an error prints this.
+fn print_one<E: Display>(rt: &impl Abort, alloc: Global, error: &E, wanted: &str) {
+    let shown = format!(in alloc; "{error}").expect(rt, "no fault");
+    holds_of(rt, shown.as_str() == wanted, shown.as_str());
+}
+
 /// That each error prints what stands beside it.
 fn print<E: Display>(rt: &impl Abort, alloc: Global, errors: &[(E, &'static str)]) {
     for (error, wanted) in errors {
-        let shown = format!(in alloc; "{error}").expect(rt, "no fault");
-        assert!(rt; shown.as_str() == *wanted, "{shown}");
+        print_one(rt, alloc, error, wanted);
     }
 }
 
+const READS: &[(ReadFault, &str)] = &[
+    (ReadFault::Read, "the input can't be read"),
+    (
+        ReadFault::Truncated { offset: 8 },
+        "the instruction at byte 8 is cut",
+    ),
+    (ReadFault::TooLong, "the input has more than 32768 bytes"),
+    (ReadFault::Memory, "out of memory"),
+];
+
+const INPUTS: &[(InputFault, &str)] = &[
+    (InputFault::Read, "the input can't be read"),
+    (InputFault::TooLong, "the input is too long"),
+    (InputFault::Memory, "out of memory"),
+];
+
 #[test]
 fn of_streams(rt: HostRuntime) {
-    let reads = [
-        (ReadFault::Read, "the input can't be read"),
-        (
-            ReadFault::Truncated { offset: 8 },
-            "the instruction at byte 8 is cut",
-        ),
-        (ReadFault::TooLong, "the input has more than 32768 bytes"),
-        (ReadFault::Memory, "out of memory"),
-    ];
-    print(&rt, rt.alloc(), &reads);
-    let inputs = [
-        (InputFault::Read, "the input can't be read"),
-        (InputFault::TooLong, "the input is too long"),
-        (InputFault::Memory, "out of memory"),
-    ];
-    print(&rt, rt.alloc(), &inputs);
-    print(
+    print(&rt, rt.alloc(), READS);
+    print(&rt, rt.alloc(), INPUTS);
+    print_one(
         &rt,
         rt.alloc(),
-        &[(WriteFault::Write, "the output can't be written")],
+        &WriteFault::Write,
+        "the output can't be written",
     );
-    print(&rt, rt.alloc(), &[(Failed, "a read or a write failed")]);
-    print(&rt, rt.alloc(), &[(Memory, "out of memory")]);
+    print_one(&rt, rt.alloc(), &Failed, "a read or a write failed");
+    print_one(&rt, rt.alloc(), &Memory, "out of memory");
 }
+
+const NUMBERS: &[(NumeralFault, &str)] = &[
+    (NumeralFault::Malformed, "not a number"),
+    (NumeralFault::TooLarge, "a number past 2^64-1"),
+];
 
 #[test]
 fn of_numbers(rt: HostRuntime) {
-    let numbers = [
-        (NumeralFault::Malformed, "not a number"),
-        (NumeralFault::TooLarge, "a number past 2^64-1"),
-    ];
-    print(&rt, rt.alloc(), &numbers);
+    print(&rt, rt.alloc(), NUMBERS);
 }
 
 const CHECKS: &[(CheckFault, &str)] = &[

@@ -1,12 +1,13 @@
 //! Instructions, records and numbers, and the readers and writers of their bytes.
 
-use crate::fixtures::insn;
+use crate::fixtures::{holds_at, holds_of, holds_where, insn};
 use scf_insn::faults::{Failing, Reader, Writer};
 use scf_insn::{
     CallRecord, Counted, Failed, InputFault, Insn, MaskKind, ReadFault, Sink, Source, WriteFault,
     high_half, low_half, mask_kind, read_input, read_program, write_numeral, write_program,
 };
 use std::alloc::Global;
+use std::process::Abort;
 
 /// Three instructions, and their bytes (filter.h: code, jt, jf, k, little-endian).
 const LIST: [Insn; 3] = [
@@ -43,8 +44,8 @@ fn are_read(alloc: Global, step: usize, failing: Failing) -> bool {
 
 #[test]
 fn readers_in_steps(rt: HostRuntime) {
-    for step in [1, 3, 7, 8, 24, 100] {
-        assert!(rt; are_read(rt.alloc(), step, Failing::Never), "{step}");
+    for step in &[1, 3, 7, 8, 24, 100] {
+        holds_at(&rt, are_read(rt.alloc(), *step, Failing::Never), *step);
     }
     // a failure past the end: it isn't asked for again once it gave nothing
     assert!(rt; are_read(rt.alloc(), 1, Failing::After(25)));
@@ -62,17 +63,16 @@ fn is_refused_behind(alloc: Global, count: usize, failing: Failing) -> bool {
     }
 }
 
+/// That a read which fails there, behind so many bytes, is answered so.
+fn refused_behind(rt: &impl Abort, alloc: Global, count: usize, failing: Failing) {
+    holds_where(rt, is_refused_behind(alloc, count, failing), failing);
+}
+
 #[test]
 fn readers_that_fail(rt: HostRuntime) {
     for count in 0..=BYTES.len() {
-        assert!(rt;
-            is_refused_behind(rt.alloc(), count, Failing::After(count)),
-            "{count}"
-        );
-        assert!(rt;
-            is_refused_behind(rt.alloc(), count, Failing::OnceAfter(count)),
-            "{count}"
-        );
+        refused_behind(&rt, rt.alloc(), count, Failing::After(count));
+        refused_behind(&rt, rt.alloc(), count, Failing::OnceAfter(count));
     }
 }
 
@@ -85,17 +85,27 @@ fn is_interrupted_behind(alloc: Global, count: usize) -> bool {
     }
 }
 
+/// What a read gives, and the bytes behind it.
+fn read_once(source: &mut Counted<Reader<'_>>) -> (Result<usize, Failed>, [u8; 4]) {
+    let mut buffer = [0; 4];
+    let given = Source::read(source, &mut buffer);
+    (given, buffer)
+}
+
+/// A reader of std goes on after an interruption, with the next byte.
+fn goes_on_after_interruption(rt: &impl Abort) {
+    let mut source = Counted::new(Reader::new(BYTES, 1, Failing::OnceAfter(0)));
+    assert!(rt; read_once(&mut source) == (Err(Failed), [0; 4]));
+    assert!(rt; read_once(&mut source) == (Ok(1), [0x20, 0, 0, 0]));
+    assert!(rt; source.failures() == 1);
+}
+
 #[test]
 fn interrupted_readers(rt: HostRuntime) {
     for count in 0..=BYTES.len() {
-        assert!(rt; is_interrupted_behind(rt.alloc(), count), "{count}");
+        holds_at(&rt, is_interrupted_behind(rt.alloc(), count), count);
     }
-    // it goes on after the interruption, with the next byte
-    let mut source = Counted::new(Reader::new(BYTES, 1, Failing::OnceAfter(0)));
-    let mut buffer = [0; 4];
-    assert!(rt; Source::read(&mut source, &mut buffer) == Err(Failed));
-    assert!(rt; Source::read(&mut source, &mut buffer) == Ok(1));
-    assert!(rt; buffer == [0x20, 0, 0, 0] && source.failures() == 1);
+    goes_on_after_interruption(&rt);
 }
 
 /// Whether so many of the bytes, given one at a time, are refused so under a limit.
@@ -107,33 +117,56 @@ fn is_input_fault(alloc: Global, limit: usize, failing: Failing, wanted: InputFa
     }
 }
 
+/// Whether the bytes are read where as many may be.
+fn is_input(rt: &impl Abort, alloc: Global) -> bool {
+    let mut source = Reader::new(BYTES, 5, Failing::Never);
+    let bytes = read_input(alloc, &mut source, 24).expect(rt, "no fault");
+    bytes.as_slice() == BYTES.as_slice()
+}
+
+/// Limits, where the reader fails, and what is answered: what comes first, a byte past the limit or the failure in
+/// front of it.
+const LIMITS: &[(usize, Failing, InputFault)] = &[
+    (23, Failing::Never, InputFault::TooLong),
+    (0, Failing::Never, InputFault::TooLong),
+    (9, Failing::After(10), InputFault::TooLong),
+    (9, Failing::After(9), InputFault::Read),
+];
+
+fn limits() -> &'static [(usize, Failing, InputFault)] {
+    LIMITS
+}
+
+/// That the bytes are refused so under a limit.
+fn refused_under(rt: &impl Abort, alloc: Global, row: (usize, Failing, InputFault)) {
+    let (limit, failing, wanted) = row;
+    let is_so = is_input_fault(alloc, limit, failing, wanted);
+    assert!(rt; is_so, "{limit} {failing:?}");
+}
+
 #[test]
 fn limits_of_inputs(rt: HostRuntime) {
-    let bytes = read_input(rt.alloc(), &mut Reader::new(BYTES, 5, Failing::Never), 24).expect(
-        &rt, "no fault",
-    );
-    assert!(rt; bytes.as_slice() == BYTES.as_slice());
-    assert!(rt; is_input_fault(rt.alloc(), 23, Failing::Never, InputFault::TooLong));
-    assert!(rt; is_input_fault(rt.alloc(), 0, Failing::Never, InputFault::TooLong));
-    // what comes first is answered: a byte past the limit, or the failure in front of it
-    assert!(rt; is_input_fault(rt.alloc(), 9, Failing::After(10), InputFault::TooLong));
-    assert!(rt; is_input_fault(rt.alloc(), 9, Failing::After(9), InputFault::Read));
+    assert!(rt; is_input(&rt, rt.alloc()));
+    for row in limits() {
+        refused_under(&rt, rt.alloc(), *row);
+    }
+}
+
+/// Whether bytes are read where no instruction is cut, and refused where one is.
+fn is_read_or_cut(alloc: Global, bytes: &[u8]) -> bool {
+    let mut source = Reader::new(bytes, 5, Failing::Never);
+    let rest = bytes.len() % 8;
+    let offset = bytes.len() - rest;
+    match read_program(alloc, &mut source) {
+        Ok(_) => rest == 0,
+        Err(fault) => rest != 0 && fault == ReadFault::Truncated { offset },
+    }
 }
 
 #[test]
 fn cut_files(rt: HostRuntime) {
     for count in 0..BYTES.len() {
-        let mut source = Reader::new(&BYTES[..count], 5, Failing::Never);
-        let answer = read_program(rt.alloc(), &mut source);
-        if count % 8 == 0 {
-            assert!(rt; answer.is_ok(), "{count}");
-        } else {
-            let offset = count - count % 8;
-            assert!(rt;
-                answer.err() == Some(ReadFault::Truncated { offset }),
-                "{count}"
-            );
-        }
+        holds_at(&rt, is_read_or_cut(rt.alloc(), &BYTES[..count]), count);
     }
 }
 
@@ -147,36 +180,40 @@ fn stops_behind(alloc: Global, count: usize, failing: Failing) -> bool {
         && sink.asks() == count as u64 + 1
 }
 
+/// That a write which fails there, behind so many bytes, is answered so.
+fn stopped_behind(rt: &impl Abort, alloc: Global, count: usize, failing: Failing) {
+    holds_where(rt, stops_behind(alloc, count, failing), failing);
+}
+
+/// Whether the list is written in steps of so many bytes, to a writer that takes no more.
+fn is_written(rt: &impl Abort, alloc: Global, step: usize) -> bool {
+    let mut sink = Writer::new(alloc, step, Failing::After(24));
+    write_program(&LIST, &mut sink).expect(rt, "no fault");
+    sink.taken() == BYTES.as_slice() && sink.failures() == 0
+}
+
 #[test]
 fn writers_that_fail(rt: HostRuntime) {
     for count in 0..BYTES.len() {
-        assert!(rt;
-            stops_behind(rt.alloc(), count, Failing::After(count)),
-            "{count}"
-        );
-        assert!(rt;
-            stops_behind(rt.alloc(), count, Failing::OnceAfter(count)),
-            "{count}"
-        );
+        stopped_behind(&rt, rt.alloc(), count, Failing::After(count));
+        stopped_behind(&rt, rt.alloc(), count, Failing::OnceAfter(count));
     }
-    for step in [1, 5, 8, 100] {
-        let mut sink = Writer::new(rt.alloc(), step, Failing::After(24));
-        write_program(&LIST, &mut sink).expect(&rt, "no fault");
-        assert!(rt;
-            sink.taken() == BYTES.as_slice() && sink.failures() == 0,
-            "{step}"
-        );
+    for step in &[1, 5, 8, 100] {
+        holds_at(&rt, is_written(&rt, rt.alloc(), *step), *step);
     }
+}
+
+/// A writer of std that takes no byte of some has failed, and goes on then.
+fn fails_and_goes_on(rt: &impl Abort, sink: &mut Counted<Writer>) {
+    assert!(rt; write_program(&LIST, sink) == Err(WriteFault::Write));
+    assert!(rt; sink.failures() == 1);
+    assert!(rt; Sink::write(sink, b"ab") == Ok(1));
 }
 
 #[test]
 fn unwilling_writers(rt: HostRuntime) {
-    // a writer of std that takes no byte of some has failed
     let mut sink = Counted::new(Writer::new(rt.alloc(), 1, Failing::OnceAfter(2)));
-    assert!(rt; write_program(&LIST, &mut sink) == Err(WriteFault::Write));
-    assert!(rt; sink.failures() == 1);
-    // it goes on then
-    assert!(rt; Sink::write(&mut sink, b"ab") == Ok(1));
+    fails_and_goes_on(&rt, &mut sink);
 }
 
 /// Whether this numeral is written, also where each byte is a write of its own.
@@ -188,19 +225,26 @@ fn is_numeral(alloc: Global, number: u64, radix: u32, wanted: &str) -> bool {
     write_numeral(&mut sink, number, radix).is_ok() && sink.taken() == wanted.as_bytes()
 }
 
+/// Numbers, and their numerals by a radix.
+const NUMERALS: &[(u64, u32, &'static str)] = &[
+    (0, 10, "0"),
+    (0, 16, "0"),
+    (9, 10, "9"),
+    (10, 10, "10"),
+    (10, 16, "a"),
+    (0xdead_beef, 16, "deadbeef"),
+    (u64::MAX, 10, "18446744073709551615"),
+    (u64::MAX, 16, "ffffffffffffffff"),
+];
+
+fn rows_of_numerals() -> &'static [(u64, u32, &'static str)] {
+    NUMERALS
+}
+
 #[test]
 fn numerals(rt: HostRuntime) {
-    for (number, radix, wanted) in [
-        (0, 10, "0"),
-        (0, 16, "0"),
-        (9, 10, "9"),
-        (10, 10, "10"),
-        (10, 16, "a"),
-        (0xdead_beef, 16, "deadbeef"),
-        (u64::MAX, 10, "18446744073709551615"),
-        (u64::MAX, 16, "ffffffffffffffff"),
-    ] {
-        assert!(rt; is_numeral(rt.alloc(), number, radix, wanted), "{wanted}");
+    for (number, radix, wanted) in rows_of_numerals() {
+        holds_of(&rt, is_numeral(rt.alloc(), *number, *radix, wanted), wanted);
     }
 }
 
@@ -209,57 +253,76 @@ fn codes_and_operations(rt: HostRuntime) {
     let mut known: u32 = 0;
     for code in 0..=u16::MAX {
         if let Some(operation) = insn(code, 0, 0, 0).operation() {
-            assert!(rt; operation.code() == code, "{code}");
+            holds_at(&rt, operation.code() == code, code as usize);
             known = known.saturating_add(1);
         }
     }
     assert!(rt; known == 41);
 }
 
+const MASKS: &[(u32, MaskKind)] = &[
+    (0, MaskKind::Empty),
+    (1, MaskKind::OneBit),
+    (0x8000_0000, MaskKind::OneBit),
+    (3, MaskKind::Mixed),
+    (0x7fff_ffff, MaskKind::Mixed),
+    (0xffff_fffe, MaskKind::Mixed),
+    (0xffff_ffff, MaskKind::Full),
+];
+
+fn masks() -> &'static [(u32, MaskKind)] {
+    MASKS
+}
+
 #[test]
 fn kinds_of_masks(rt: HostRuntime) {
-    for (mask, wanted) in [
-        (0, MaskKind::Empty),
-        (1, MaskKind::OneBit),
-        (0x8000_0000, MaskKind::OneBit),
-        (3, MaskKind::Mixed),
-        (0x7fff_ffff, MaskKind::Mixed),
-        (0xffff_fffe, MaskKind::Mixed),
-        (0xffff_ffff, MaskKind::Full),
-    ] {
-        assert!(rt; mask_kind(mask) == wanted, "{mask}");
+    for (mask, wanted) in masks() {
+        holds_at(&rt, mask_kind(*mask) == *wanted, *mask as usize);
     }
+}
+
+/// A call, and its words.
+const CALL: CallRecord = CallRecord {
+    nr: 39,
+    arch: 0xc000_003e,
+    ip: 0x1122_3344_5566_7788,
+    args: [1, 0x2_0000_0000, u64::MAX, 0, 5, 0x8000_0000_0000_0006],
+};
+
+const WORDS: &[u32; 16] = &[
+    39,
+    0xc000_003e,
+    0x5566_7788,
+    0x1122_3344,
+    1,
+    0,
+    0,
+    2,
+    0xffff_ffff,
+    0xffff_ffff,
+    0,
+    0,
+    5,
+    0,
+    6,
+    0x8000_0000,
+];
+
+fn words() -> &'static [u32; 16] {
+    WORDS
+}
+
+/// That a call has these words, and is made of them and of its bytes.
+fn has_words(rt: &impl Abort, call: &CallRecord, words: &[u32; 16]) {
+    assert!(rt; call.words() == *words);
+    assert!(rt; CallRecord::from_words(words) == *call);
+    assert!(rt; CallRecord::from_bytes(call.to_bytes()) == *call);
 }
 
 #[test]
 fn words_of_records(rt: HostRuntime) {
-    let call = CallRecord {
-        nr: 39,
-        arch: 0xc000_003e,
-        ip: 0x1122_3344_5566_7788,
-        args: [1, 0x2_0000_0000, u64::MAX, 0, 5, 0x8000_0000_0000_0006],
-    };
-    let words = [
-        39,
-        0xc000_003e,
-        0x5566_7788,
-        0x1122_3344,
-        1,
-        0,
-        0,
-        2,
-        0xffff_ffff,
-        0xffff_ffff,
-        0,
-        0,
-        5,
-        0,
-        6,
-        0x8000_0000,
-    ];
-    assert!(rt; call.words() == words);
+    let call = CALL;
+    has_words(&rt, &call, words());
     assert!(rt; call.word(7) == 2);
     assert!(rt; low_half(call.ip) == 0x5566_7788 && high_half(call.ip) == 0x1122_3344);
-    assert!(rt; CallRecord::from_words(&words) == call);
-    assert!(rt; CallRecord::from_bytes(call.to_bytes()) == call);
 }

@@ -1,21 +1,33 @@
 //! The tokens of a text, and listings to writers that fail. What texts spell, and what is listed, is tested on the
 //! program.
 
-use crate::fixtures::insn;
+use crate::fixtures::holds_where;
 use scf_insn::faults::{Failing, Writer};
 use scf_insn::{Insn, WriteFault};
-use scf_text::{disassemble, tokens};
+use scf_text::{Token, disassemble, tokens};
 use std::alloc::Global;
 use std::process::Abort;
 
-/// Whether the tokens of a text are these, with their starts.
-fn are_tokens(rt: &impl Abort, alloc: Global, text: &[u8], wanted: &[(usize, &[u8])]) -> bool {
-    let found = tokens(alloc, text).expect(rt, "no fault");
+/// Whether a token has the start and the text that are wanted.
+fn is_token(token: &Token<'_>, wanted: Option<&(usize, &[u8])>) -> bool {
+    match wanted {
+        Some((start, text)) => token.start == *start && token.text == *text,
+        None => false,
+    }
+}
+
+/// Whether tokens are these, with their starts.
+fn are(found: &[Token<'_>], wanted: &[(usize, &[u8])]) -> bool {
     let mut are_so = found.len() == wanted.len();
-    for (token, (start, word)) in found.iter().zip(wanted) {
-        are_so = are_so && token.start == *start && token.text == *word;
+    for (place, token) in found.iter().enumerate() {
+        are_so &= is_token(token, wanted.get(place));
     }
     are_so
+}
+
+/// Whether the tokens of a text are these, with their starts.
+fn are_tokens(rt: &impl Abort, alloc: Global, text: &[u8], wanted: &[(usize, &[u8])]) -> bool {
+    are(&tokens(alloc, text).expect(rt, "no fault"), wanted)
 }
 
 #[test]
@@ -92,19 +104,23 @@ fn stops_behind(alloc: Global, count: usize, failing: Failing) -> bool {
         && sink.asks() == count as u64 + 1
 }
 
+/// That a write which fails there, behind so many bytes, is answered so.
+fn stopped_behind(rt: &impl Abort, alloc: Global, count: usize, failing: Failing) {
+    holds_where(rt, stops_behind(alloc, count, failing), failing);
+}
+
+/// Whether the whole listing is written to a writer that takes no more.
+fn is_listed(rt: &impl Abort, alloc: Global) -> bool {
+    let mut sink = Writer::new(alloc, 1, Failing::After(LISTING.len()));
+    disassemble(&LISTED, &mut sink).expect(rt, "no fault");
+    sink.taken() == LISTING.as_bytes() && sink.failures() == 0
+}
+
 #[test]
 fn writers_that_fail(rt: HostRuntime) {
     for count in 0..LISTING.len() {
-        assert!(rt;
-            stops_behind(rt.alloc(), count, Failing::After(count)),
-            "{count}"
-        );
-        assert!(rt;
-            stops_behind(rt.alloc(), count, Failing::OnceAfter(count)),
-            "{count}"
-        );
+        stopped_behind(&rt, rt.alloc(), count, Failing::After(count));
+        stopped_behind(&rt, rt.alloc(), count, Failing::OnceAfter(count));
     }
-    let mut sink = Writer::new(rt.alloc(), 1, Failing::After(LISTING.len()));
-    disassemble(&LISTED, &mut sink).expect(&rt, "no fault");
-    assert!(rt; sink.taken() == LISTING.as_bytes() && sink.failures() == 0);
+    assert!(rt; is_listed(&rt, rt.alloc()));
 }
