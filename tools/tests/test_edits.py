@@ -1,5 +1,6 @@
-"""The must-fail edits, both those that the gate tries and those that tools/edits tries: each can be applied; and what
-tools/edits makes of what the kit prints of them."""
+"""The must-fail edits, both those that the gate tries and those that tools/edits tries: each can be applied, and those
+that the gate leaves out were tried on the crates as they stand; and what tools/edits makes of what the kit prints of
+them."""
 import collections
 import os
 import shutil
@@ -27,7 +28,8 @@ def edits():
     for crate in sorted(os.listdir(CRATES)):
         for kind in ("must-fail", "edits"):
             folder = os.path.join(CRATES, crate, kind)
-            for name in sorted(os.listdir(folder)) if os.path.isdir(folder) else []:
+            names = sorted(os.listdir(folder)) if os.path.isdir(folder) else []
+            for name in (it for it in names if it.endswith(".edit")):
                 yield os.path.join(CRATES, crate), os.path.join(folder, name)
 
 
@@ -51,11 +53,14 @@ class Edits(Case):
         names = collections.Counter((crate, os.path.basename(path)) for crate, path in edits())
         self.assertEqual([name for name, count in names.items() if count > 1], [])
 
-    def test_each_crate_with_contracts_has_edits_in_the_gate(self):
-        for crate in sorted(os.listdir(CRATES)):
-            if os.path.isdir(os.path.join(CRATES, crate, "specs")):
-                with self.subTest(crate=crate):
-                    self.assertTrue(os.listdir(os.path.join(CRATES, crate, "must-fail")))
+    def test_each_crate_with_contracts_has_edits(self):
+        with_edits = {os.path.basename(crate) for crate, _ in edits()}
+        with_contracts = {it for it in os.listdir(CRATES) if os.path.isdir(os.path.join(CRATES, it, "specs"))}
+        self.assertEqual(with_contracts - with_edits, set())
+
+    def test_each_was_tried_on_its_crate_as_it_stands(self):
+        status, out, err = self.run_tool("edits", "--tried")
+        self.assertEqual((status, err), (0, ""), out)
 
     def test_words(self):
         status, out, err = self.run_tool("edits", "--help")
@@ -65,7 +70,8 @@ class Edits(Case):
         self.assertEqual((status, out), (2, ""))
         self.assertIn("'no_such_crate' has no edits", err)
         for words in (("--printed",), ("--printed", self.folder), ("--printed", "none"),
-                      ("--printed", "/dev/null", "scf_insn")):
+                      ("--printed", "/dev/null", "scf_insn"), ("--tried", "scf_insn"),
+                      ("--tried", "--printed", "/dev/null")):
             status, out, err = self.run_tool("edits", *words)
             self.assertEqual((status, out), (2, ""), words)
             self.assertIn("edits: error: ", err)
@@ -141,3 +147,30 @@ class Refusals(Case):
             self.assertEqual((status, lines[-1]), (1, "1 passed, 1 failed"))
             self.assertTrue(lines[-2].startswith("edits: low/d.edit: "), lines)
         self.assertEqual(self.tried()[1][-1], "0 passed, 2 failed")
+
+    def looked_at(self):
+        status, out, err = self.run_words([*self.words, "--tried"])
+        self.assertEqual(err, "")
+        return status, out.splitlines()
+
+    def test_that_they_were_tried(self):
+        changed = (1, ["edits: low has changed since its edits were tried: tools/edits low", "0 passed, 1 failed"])
+        well = (0, ["1 passed, 0 failed"])
+        code = self.file("tree/crates/low/src/lib.rt", "//! Low.\nfn low() {}\n")
+        self.assertEqual(self.looked_at(), changed)
+        self.tried(f"low/c.edit: {WRONG}", f"low/d.edit: {LABEL}")
+        self.assertEqual(self.looked_at(), changed)
+        self.tried(f"low/c.edit: {WRONG}", f"low/d.edit: {WRONG_TOO}")
+        self.assertEqual(self.looked_at(), well)
+        for name, text, wanted in (("src/lib.rt", "//! The low one.\n// One.\nfn low() {}\n", well),
+                                   ("must-fail/c.edit", "", well),
+                                   ("src/lib.rt", "fn low() -> u8 { 0 }\n", changed),
+                                   ("src/lib.rt", "fn low() {}\n", well),
+                                   ("specs/Low.antt", "-- Low.\n", changed),
+                                   ("proofs/low/Answers.antt", "-- Low.\n", changed),
+                                   ("edits/e.edit", "", changed)):
+            path = self.file(f"tree/crates/low/{name}", text)
+            self.assertEqual(self.looked_at(), wanted, name)
+            if path != code:
+                os.remove(path)
+        self.assertEqual(self.looked_at(), well)
