@@ -8,6 +8,7 @@ import resource
 import shutil
 import struct
 import subprocess
+import sys
 import tempfile
 import time
 import unittest
@@ -30,6 +31,8 @@ def module(name):
     """A tool, imported."""
     loader = importlib.machinery.SourceFileLoader(name.replace("-", "_"), tool(name))
     found = importlib.util.module_from_spec(importlib.util.spec_from_loader(loader.name, loader))
+    # (its dataclasses look for their module there)
+    sys.modules[loader.name] = found
     loader.exec_module(found)
     return found
 

@@ -1,179 +1,318 @@
-"""The must-fail edits, both those that the gate tries and those that tools/edits tries: each can be applied, and those
-that the gate leaves out were tried on the crates as they stand; and what tools/edits makes of what the kit prints of
-them."""
+"""The must-fail edits: each can be applied, and each public function is turned by one; and what tools/edits makes of
+what the prover says of them, and the kit, both made."""
 import collections
 import os
 import shutil
+import sys
 
-from common import TOP, Case
+from common import TOP, Case, module
 
-CRATES = os.path.join(TOP, "crates")
+sys.path.insert(0, os.path.join(TOP, "tools"))
+import sources  # noqa: E402
 
-
-def pairs_of(path):
-    """The file, the old text and the new one of each change that an edit makes."""
-    file = old = None
-    with open(path, encoding="utf-8") as text:
-        for line in text.read().split("\n"):
-            if line.startswith("file: "):
-                file = line[len("file: "):]
-            elif line.startswith("old: "):
-                old = line[len("old: "):]
-            elif line.startswith("new:"):
-                yield file, old, line[len("new:"):].removeprefix(" ")
-
-
-def edits():
-    """Each edit, as its crate's folder and its path."""
-    for crate in sorted(os.listdir(CRATES)):
-        for kind in ("must-fail", "edits"):
-            folder = os.path.join(CRATES, crate, kind)
-            names = sorted(os.listdir(folder)) if os.path.isdir(folder) else []
-            for name in (it for it in names if it.endswith(".edit")):
-                yield os.path.join(CRATES, crate), os.path.join(folder, name)
+EDITS = module("edits")
 
 
 class Edits(Case):
-    def test_each_old_text_stands_once(self):
-        for crate, path in edits():
-            with self.subTest(edit=os.path.relpath(path, TOP)):
-                texts, changes = {}, 0
-                for file, old, new in pairs_of(path):
-                    self.assertTrue(file.startswith("src/"), "an edit changes code, and no definition or proof")
-                    if file not in texts:
-                        with open(os.path.join(crate, file), encoding="utf-8") as text:
-                            texts[file] = text.read()
-                    self.assertEqual(texts[file].count(old), 1, old)
-                    self.assertNotEqual(old, new)
-                    texts[file] = texts[file].replace(old, new)
-                    changes += 1
-                self.assertGreater(changes, 0)
+    """The repository's."""
+
+    def test_each_can_be_applied_to_code(self):
+        for name in EDITS.needs():
+            crate = EDITS.Crate(name, [])
+            for path in EDITS.edits_of(name):
+                with self.subTest(edit=f"{name}/{path}"):
+                    edit = crate.edit(path)
+                    for file, old, new in edit.changes:
+                        self.assertTrue(file.startswith("src/"), "an edit changes code, and no definition or proof")
+                        self.assertNotEqual(old, new)
 
     def test_names_are_told_apart(self):
-        names = collections.Counter((crate, os.path.basename(path)) for crate, path in edits())
+        names = collections.Counter((crate, os.path.basename(path)) for crate in EDITS.needs()
+                                    for path in EDITS.edits_of(crate))
         self.assertEqual([name for name, count in names.items() if count > 1], [])
 
-    def test_each_crate_with_contracts_has_edits_in_the_gate(self):
-        for crate in sorted(os.listdir(CRATES)):
-            if os.path.isdir(os.path.join(CRATES, crate, "specs")):
-                with self.subTest(crate=crate):
-                    self.assertTrue(os.listdir(os.path.join(CRATES, crate, "must-fail")))
+    def test_the_gate_turns_each_public_function(self):
+        """Laws apart, and what else does nothing."""
+        for name in EDITS.needs():
+            if not os.path.isdir(os.path.join(TOP, "crates", name, "specs")):
+                continue
+            crate = EDITS.Crate(name, [])
+            turned = {it for path in EDITS.edits_of(name, is_all=False) for it in crate.edit(path).turned}
+            left = {it.name for it in crate.functions if it.is_public and it.file != "src/laws.rt"} - {
+                it.name for it in turned}
+            with self.subTest(crate=name):
+                self.assertEqual({it for it in left if not it.endswith("::within_widths")}, set())
+                self.assertTrue(turned)
 
-    def test_each_was_tried_on_its_crate_as_it_stands(self):
-        status, out, err = self.run_tool("edits", "--tried")
-        self.assertEqual((status, err), (0, ""), out)
-
-    def test_words(self):
-        status, out, err = self.run_tool("edits", "--help")
-        self.assertEqual((status, err), (0, ""))
-        self.assertIn("tools/edits [CRATE ..]", out)
-        status, out, err = self.run_tool("edits", "no_such_crate")
-        self.assertEqual((status, out), (2, ""))
-        self.assertIn("'no_such_crate' has no edits", err)
-        for words in (("--printed",), ("--printed", self.folder), ("--printed", "none"),
-                      ("--printed", "/dev/null", "scf_insn"), ("--tried", "scf_insn"),
-                      ("--tried", "--printed", "/dev/null")):
-            status, out, err = self.run_tool("edits", *words)
-            self.assertEqual((status, out), (2, ""), words)
-            self.assertIn("edits: error: ", err)
+    def test_the_kit_tries_none_by_itself(self):
+        for name in EDITS.needs():
+            self.assertFalse(os.path.exists(os.path.join(TOP, "crates", name, "must-fail")), name)
 
 
-# What the kit prints of an edit: of two that do something wrong, of two for which a proof lost a name (of a loop, of a
-# variable), of one that does nothing, of one that isn't Rust, of one that can't be applied.
-WRONG = ("refused, as it must be: note: src/input.rt:78:13: it is not proved that what the function ensures holds when "
-         "it returns (`returns-then-count-limit-clause-input`)")
-WRONG_TOO = ("refused, as it must be: note: src/number.rt:48:1: it is not proved that what the function ensures holds "
-             "when it returns (`returns-in-48`); `search` gave up at one of its limits")
-LABEL = ("refused, as it must be (only because a proof file names what the edit took away, so this says little of the "
-         "contract: change a value and keep the names): ./proofs/input/read_input/Invariants.antt:5:31: error: "
-         "`invariant-chunks`: `goal.invariant-chunks`: module `Rattle.scf_insn.proofs.input.read_input.Given` has n")
-LOCAL = ("refused, as it must be (only because a proof file names what the edit took away, so this says little of the "
-         "contract: change a value and keep the names): ./proofs/input/read_input/Answers.antt:10:33: error: "
-         "`returns-then-count-limit-clause-past`: record `Rattle.scf_insn.proofs.input.read_input.Lts.After-drop2` ha")
-NOTHING = "NOT REFUSED: the crate is still proved with this edit"
-NO_RUST = ("BAD EDIT: it did not reach the prover; the first lines of what it said:\n"
-           "src/input.rt:46:22: error[unknown-name]")
-NOT_ONCE = "BAD EDIT: an 'old:' text is in src/input.rt 0 times, and not once"
+LOW = """//! Low.
+
+const LIMIT: usize = 8;
+static TABLE: [u8; 2] = made! {
+    1 One;
+    2 Two;
+};
+
+/// A half.
+#[inline]
+pub fn half(n: u8) -> u8
+    ensures { result ≡ half n }
+{
+    n / 2
+}
+
+fn least(n: usize) -> usize
+{
+    n.min(LIMIT)
+}
+
+fn first() -> u8
+{
+    TABLE[0]
+}
+"""
+MORE = """use crate::kind::Kind;
+
+impl<'a, T: From<Option<u8>>> Kind<'a, T> {
+    ghost use Rattle.low.specs.Kinds.{it};
+
+    pub(crate) fn told(&self) -> u8 {
+        1
+    }
+}
+
+impl<T> From<io::Failed<T>> for Fault {
+    fn from(fault: io::Failed<T>) -> Fault {
+        Fault
+    }
+}
+
+pub trait Told {
+    fn tell(&self) -> u8
+        ensures { result ≡ 1 };
+}
+
+impl Told for Kind<'_, u8> {
+    fn tell(&self) -> u8
+        ensures { result ≡ 1 }
+    {
+        1
+    }
+}
+
+pub fn law()
+    ensures { 1 ≡ 1 }
+{}
+"""
+KIND = """pub struct Kind<'a, T> {
+    it: &'a T,
+}
+"""
 
 
-class Refusals(Case):
-    """What tools/edits makes of the kit's lines, in a made tree of two crates."""
+class Functions(Case):
+    """What tools/sources.py has of the functions of a crate: the names are the prover's."""
+
+    TEXTS = {"src/lib.rt": LOW, "src/more.rt": MORE, "src/kind.rt": KIND}
+
+    def test_names_and_lines(self):
+        found = [(it.name, it.file, it.first, it.last, it.is_public) for it in sources.functions_in(self.TEXTS)]
+        self.assertEqual(found, [("half", "src/lib.rt", 9, 15, True), ("least", "src/lib.rt", 17, 20, False),
+                                 ("first", "src/lib.rt", 22, 25, False),
+                                 ("kind::Kind::told", "src/more.rt", 6, 8, False),
+                                 ("more::FaultFromFailed::from", "src/more.rt", 12, 14, False),
+                                 ("more::KindTold::tell", "src/more.rt", 23, 27, False),
+                                 ("more::law", "src/more.rt", 30, 32, True)])
+
+    def test_bodies_are_left_out(self):
+        functions = {it.name: it for it in sources.functions_in(self.TEXTS)}
+        self.assertEqual(sources.without_bodies(LOW, [functions["half"]]), LOW.replace("    n / 2\n", "loop {}\n"))
+        for it in functions.values():
+            text = sources.without_bodies(self.TEXTS[it.file], [it])
+            self.assertEqual(text.count("\n"), self.TEXTS[it.file].count("\n"), it.name)
+            self.assertEqual(text.count("loop {}"), it.name != "more::law", it.name)
+        told = sources.without_bodies(MORE, [functions["kind::Kind::told"]])
+        self.assertEqual(told, MORE.replace("u8 {\n        1\n", "u8 {\nloop {}\n"))
+
+    def test_names_of_closures(self):
+        names = {it.name: it.names()[1] for it in sources.functions_in(self.TEXTS)}
+        self.assertEqual(names["half"], "fn::half")
+        self.assertEqual(names["kind::Kind::told"], "kind::fn::Kind::told")
+
+    def test_readers_of_a_constant_and_of_a_table(self):
+        functions = sources.functions_in(self.TEXTS)
+        for text, wanted in (("usize = 8", {"least"}), ("2 Two", {"first"}), ("n / 2", set())):
+            found = sources.readers_of(self.TEXTS, functions, "src/lib.rt", LOW.index(text))
+            self.assertEqual({it.name for it in found}, wanted, text)
+
+
+# A prover that says what the file SAID has, and keeps its words and the sizes of the proofs; of a text with a word that
+# isn't Rattle it says that.
+PROVER = """#!/usr/bin/env python3
+import os, sys
+proofs = sorted((os.path.relpath(os.path.join(at, it)), os.path.getsize(os.path.join(at, it)))
+                for at, _, files in os.walk("proofs") for it in files)
+text = "".join(open(os.path.join("src", it)).read() for it in sorted(os.listdir("src")))
+with open(os.environ["ASKED"], "a") as asked:
+    only = [it for at, it in enumerate(sys.argv) if sys.argv[at - 1] == "--only"]
+    print(only, proofs, text.count("loop {}"), file=asked)
+for line, code in enumerate(open("src/lib.rt").read().split("\\n"), 1):
+    if "unread" in code:
+        sys.exit(f"src/lib.rt:{line}:5: error[unknown-name]: there is no `unread`")
+print("by-macro: x blocks=1")
+print(open(os.environ["SAID"]).read(), end="")
+print("only=2 proved=0")
+sys.exit(1)
+"""
+KIT = """#!/bin/sh
+case $1 in
+doc) echo "$KIT/START-HERE.md" ;;
+must-fail) ls crates/low/must-fail >&2; cat "$SAID" ;;
+esac
+"""
+HALF = "fn low::half: no proof: expected answers in ./proofs/half/Answers.antt; `search` did not prove `returns`"
+LEAST = "note: src/lib.rt:17:1: it is not proved that what the function ensures holds when it returns (`returns`)"
+
+
+class Trials(Case):
+    """tools/edits, in a made tree of two crates."""
 
     def setUp(self):
         super().setUp()
         self.tree = os.path.join(self.folder, "tree")
         os.makedirs(os.path.join(self.tree, "tools"))
-        shutil.copy2(os.path.join(TOP, "tools", "edits"), os.path.join(self.tree, "tools"))
-        for name in ("crates.txt", "HANDLES", "crates/low/must-fail/a.edit", "crates/low/must-fail/b.edit",
-                     "crates/low/edits/c.edit", "crates/low/edits/d.edit", "crates/top/must-fail/a.edit",
-                     "crates/low/must-fail/why.md"):
-            self.file(f"tree/{name}", b"")
+        for name in ("edits", "sources.py"):
+            shutil.copy2(os.path.join(TOP, "tools", name), os.path.join(self.tree, "tools"))
+        for name, text in (("crates.txt", "# crates\nlow: thiserror\ntop: low\nplain:\n"), ("HANDLES", ""),
+                           ("crates/low/src/lib.rt", LOW), ("crates/low/src/more.rt", MORE),
+                           ("crates/low/src/kind.rt", KIND), ("crates/low/specs/Lib.antt", "-- Low.\n"),
+                           ("crates/low/proofs/half/Answers.antt", "-- Half.\n"),
+                           ("crates/low/proofs/more/KindTold/tell/Answers.antt", "-- Told.\n"),
+                           ("crates/low/edits/limit_of_nine.edit", "file: src/lib.rt\nold: = 8;\nnew: = 9;\n"),
+                           ("crates/low/edits/third.edit", "file: src/lib.rt\nold:     n / 2\nnew:     n / 3\n"),
+                           ("crates/low/edits/more/fourth.edit", "file: src/lib.rt\nold: n / 2\nnew: n / 4\n"),
+                           ("crates/top/src/lib.rt", "//! Top.\n"), ("crates/plain/src/lib.rt", "//! Plain.\n")):
+            self.file(f"tree/{name}", text)
+        for name, text in (("kit/bin/rattle", PROVER), ("bin/rt", KIT)):
+            os.chmod(self.file(name, text), 0o755)
         self.words = [os.path.join(self.tree, "tools", "edits")]
+        self.env = {**os.environ, "PATH": f"{self.folder}/bin:{os.environ['PATH']}", "KIT": f"{self.folder}/kit",
+                    "SAID": os.path.join(self.folder, "said"), "ASKED": os.path.join(self.folder, "asked")}
 
-    def of_gate(self, *printed):
-        text = "\n".join(["rt: low: trying its must-fail edits (2)", *(f"rt: must-fail {it}" for it in printed),
-                          "3 passed, 0 failed", ""])
-        status, out, err = self.run_words([*self.words, "--printed", self.file("ci", text)])
-        self.assertEqual(err, "")
-        return status, out.splitlines()
+    def tried(self, *printed, words=()):
+        self.file("said", "".join(f"{it}\n" for it in printed))
+        status, out, err = self.run_words([*self.words, *words], env=self.env)
+        return status, out.splitlines(), err
 
-    def test_of_the_gate(self):
-        self.assertEqual(self.of_gate(f"low/a.edit: {WRONG}", f"low/b.edit: {WRONG_TOO}", f"top/a.edit: {WRONG}"),
-                         (0, ["3 passed, 0 failed"]))
-        for_a_name = "refused for a name alone, which a proof lost; plant it anew, with the names kept"
-        for printed, said in ((LABEL, for_a_name), (LOCAL, for_a_name),
-                              (NOTHING, f"not refused for what it does: {NOTHING}"),
-                              ("refused, as it must be", "not refused for what it does: refused, as it must be")):
-            self.assertEqual(self.of_gate(f"low/a.edit: {WRONG}", f"low/b.edit: {printed}", f"top/a.edit: {WRONG}"),
-                             (1, [f"edits: low/b.edit: {said}", "2 passed, 1 failed"]))
+    def asked(self):
+        with open(self.env["ASKED"], encoding="utf-8") as file:
+            return file.read().splitlines()
 
-    def test_an_edit_of_which_nothing_is_printed(self):
-        self.assertEqual(self.of_gate(f"low/a.edit: {WRONG}", f"top/a.edit: {WRONG}", f"top/z.edit: {WRONG}"),
-                         (1, ["edits: low/b.edit: nothing was printed of it", "2 passed, 1 failed"]))
-        self.assertEqual(self.of_gate()[1][-1], "0 passed, 3 failed")
+    def test_all_refused_in_one_check(self):
+        status, lines, err = self.tried(HALF, LEAST)
+        self.assertEqual((status, lines[-1], err), (0, "2 passed, 0 failed", ""))
+        self.assertIn("edits: low/third.edit: refused: no proof: expected answers in ./proofs/half/Answers.antt; "
+                      "`search` did not prove `returns`", lines)
+        self.assertEqual(self.asked(), [
+            "['half', 'least'] [('proofs/first/Proof.antt', 0), ('proofs/half/Answers.antt', 9), "
+            "('proofs/kind/Kind/told/Proof.antt', 0), ('proofs/more/FaultFromFailed/from/Proof.antt', 0), "
+            "('proofs/more/KindTold/tell/Proof.antt', 0), ('proofs/more/law/Proof.antt', 0)] 4"])
 
-    def tried(self, *printed):
-        lines = "".join(f"rt: must-fail {it}\n" for it in printed)
-        rt = self.file("bin/rt", f"#!/bin/sh\nls crates/low/must-fail >&2\ncat <<'END'\n{lines}END\n")
-        os.chmod(rt, 0o755)
-        path = f"{self.folder}/bin:{os.environ['PATH']}"
-        status, out, err = self.run_words(self.words, env={**os.environ, "PATH": path})
-        self.assertEqual(err, "c.edit\nd.edit\n")
-        return status, out.splitlines()
+    def test_what_is_held_against_a_function(self):
+        for printed in (HALF, "note: src/lib.rt:10:1: it is not proved that what the function ensures holds",
+                        "note: src/lib.rt:14:5: it is not proved that what `div` requires holds at this call",
+                        "./proofs/half/Answers.antt:3:4: error: `loop-n`: `grind` found no proof",
+                        "./proofs/fn/half/any+FnMut/call_mut/Answers.antt:3:4: error: `returns`: the two types differ",
+                        "fn low::fn::half::any+FnMut::call_mut: no proof: `search` did not prove `returns`"):
+            status, lines, _ = self.tried(printed, LEAST)
+            self.assertEqual((status, lines[-1]), (0, "2 passed, 0 failed"), printed)
 
-    def test_those_that_are_tried(self):
-        self.assertEqual(self.tried(f"low/c.edit: {WRONG}", f"low/d.edit: {WRONG_TOO}")[1][-1], "2 passed, 0 failed")
-        for printed in (LABEL, LOCAL, NOTHING, NO_RUST, NOT_ONCE):
-            status, lines = self.tried(f"low/c.edit: {WRONG}", f"low/d.edit: {printed}")
+    def test_what_is_not(self):
+        for printed in ("", "fn low::half: proved",
+                        "fn low::half: no proof: it calls `low::least`, which is not proved",
+                        "fn low::halves: no proof: `search` did not prove `returns`",
+                        "fn low::more::half: no proof: `search` did not prove `returns`",
+                        "note: src/lib.rt:16:1: it is not proved that what the function ensures holds",
+                        "note: src/kind.rt:10:1: it is not proved that what the function ensures holds",
+                        "note: src/lib.rt:14:5: a goal may be false even if its line does not say so",
+                        "./proofs/halves/Answers.antt:3:4: error: `loop-n`: `grind` found no proof"):
+            status, lines, _ = self.tried(printed, LEAST)
+            self.assertEqual((status, lines[-1]), (1, "1 passed, 1 failed"), printed)
+            self.assertIn("edits: low/third.edit: not refused", lines)
+
+    def test_a_lost_name_says_nothing_of_the_contract(self):
+        lost = "./proofs/half/Answers.antt:9:3: error: `returns`: record `Lts.After` has no field `n` (nearest: .m)"
+        status, lines, _ = self.tried(lost, LEAST)
+        self.assertEqual((status, lines[-1]), (1, "1 passed, 1 failed"))
+        self.assertIn(f"edits: low/third.edit: {EDITS.LOST_NAME}", lines)
+        self.assertEqual(self.tried(lost, HALF, LEAST)[1][-1], "2 passed, 0 failed")
+
+    def test_those_of_one_function_take_a_check_each(self):
+        status, lines, _ = self.tried(HALF, LEAST, words=("--all",))
+        self.assertEqual((status, lines[-1]), (0, "3 passed, 0 failed"))
+        self.assertIn("edits: low/more/fourth.edit: refused: ", "\n".join(lines))
+        self.assertEqual(sorted(it.partition("]")[0] for it in self.asked()), ["['half'", "['half', 'least'"])
+
+    def test_one_that_does_not_compile_is_left_out(self):
+        self.file("tree/crates/low/edits/third.edit", "file: src/lib.rt\nold: n / 2\nnew: unread(n)\n")
+        status, lines, _ = self.tried(LEAST)
+        self.assertEqual((status, lines[-1]), (1, "1 passed, 1 failed"))
+        self.assertIn("edits: low/third.edit: not tried: error[unknown-name]: there is no `unread`", lines)
+        self.assertEqual([it.partition("]")[0] for it in self.asked()], ["['half', 'least'", "['least'"])
+        self.file("tree/crates/low/src/lib.rt", LOW + "fn unread() -> u8\n{\n    1\n}\n")
+        self.assertEqual(self.tried(HALF, LEAST)[1][-1], "0 passed, 2 failed")
+
+    def test_one_that_cannot_be_applied(self):
+        for text, why in (("file: src/lib.rt\nold: n / 7\nnew: n\n", "an old text is in 'src/lib.rt' 0 times, and not"),
+                          ("file: src/lib.rt\nold: n\nnew: m\n", "times, and not once"),
+                          ("file: src/none.rt\nold: n / 2\nnew: n\n", "an old text is in 'src/none.rt' 0 times"),
+                          ("file: src/lib.rt\nold: //! Low.\nnew: //! Lower.\n", "no function is found that it turns"),
+                          ("", "no function is found that it turns")):
+            self.file("tree/crates/low/edits/third.edit", text)
+            status, lines, _ = self.tried(LEAST)
             self.assertEqual((status, lines[-1]), (1, "1 passed, 1 failed"))
-            self.assertTrue(lines[-2].startswith("edits: low/d.edit: "), lines)
-        self.assertEqual(self.tried()[1][-1], "0 passed, 2 failed")
+            self.assertIn(why, lines[0])
 
-    def looked_at(self):
-        status, out, err = self.run_words([*self.words, "--tried"])
-        self.assertEqual(err, "")
-        return status, out.splitlines()
+    def test_unchanged_nothing_may_be_refused(self):
+        status, lines, _ = self.tried(LEAST, words=("--unchanged",))
+        self.assertEqual((status, lines[-1]), (1, "1 passed, 1 failed"))
+        self.assertEqual(self.tried("fn low::half: proved", words=("--unchanged",))[1][-1], "2 passed, 0 failed")
+        self.file("tree/crates/low/edits/third.edit", "file: src/lib.rt\nold: n / 2\nnew: unread(n)\n")
+        self.assertEqual(self.tried("fn low::half: proved", words=("--unchanged",))[1][-1], "2 passed, 0 failed")
 
-    def test_that_they_were_tried(self):
-        changed = (1, ["edits: low has changed since its edits were tried: tools/edits low", "0 passed, 1 failed"])
-        well = (0, ["1 passed, 0 failed"])
-        skipped = (0, ["edits: skipped: low has no note that its edits were tried: tools/edits low",
-                       "0 passed, 0 failed, 1 skipped"])
-        code = self.file("tree/crates/low/src/lib.rt", "//! Low.\nfn low() {}\n")
-        self.assertEqual(self.looked_at(), skipped)
-        self.tried(f"low/c.edit: {WRONG}", f"low/d.edit: {LABEL}")
-        self.assertEqual(self.looked_at(), skipped)
-        self.tried(f"low/c.edit: {WRONG}", f"low/d.edit: {WRONG_TOO}")
-        self.assertEqual(self.looked_at(), well)
-        for name, text, wanted in (("src/lib.rt", "//! The low one.\n// One.\nfn low() {}\n", well),
-                                   ("must-fail/c.edit", "", well),
-                                   ("src/lib.rt", "fn low() -> u8 { 0 }\n", changed),
-                                   ("src/lib.rt", "fn low() {}\n", well),
-                                   ("specs/Low.antt", "-- Low.\n", changed),
-                                   ("proofs/low/Answers.antt", "-- Low.\n", changed),
-                                   ("edits/e.edit", "", changed)):
-            path = self.file(f"tree/crates/low/{name}", text)
-            self.assertEqual(self.looked_at(), wanted, name)
-            if path != code:
-                os.remove(path)
-        self.assertEqual(self.looked_at(), well)
+    def test_what_a_crate_stands_on_must_be_built(self):
+        self.file("tree/crates/top/src/lib.rt", "//! Top.\nfn one() -> u8\n{\n    1\n}\n")
+        self.file("tree/crates/top/edits/two.edit", "file: src/lib.rt\nold:     1\nnew:     2\n")
+        status, lines, err = self.tried(LEAST)
+        self.assertEqual((status, lines), (2, []))
+        self.assertIn("low, on which top stands, isn't built: run rt ci", err)
+        self.file("tree/crates/low/out/rlib/low.rlib/format", "")
+        refused = "no proof: `search` did not prove `returns`"
+        self.assertEqual(self.tried(f"fn top::one: {refused}", words=("top",))[1],
+                         [f"edits: top/two.edit: refused: {refused}", "1 passed, 0 failed"])
+
+    def test_alone(self):
+        alone = ("rt: must-fail low/third.edit: refused, as it must be: note: src/lib.rt:10:1: it is not proved",
+                 "rt: must-fail low/fourth.edit: refused, as it must be (only because a proof file names what the edit "
+                 "took away, so this says little of the contract: change a value and keep the names): ./proofs/x",
+                 "rt: must-fail low/limit_of_nine.edit: NOT REFUSED: the crate is still proved with this edit")
+        status, lines, err = self.tried(*alone, words=("--alone",))
+        self.assertEqual((status, lines[-1]), (1, "1 passed, 2 failed"))
+        self.assertEqual(err.split(), ["fourth.edit", "limit_of_nine.edit", "third.edit"])
+        self.assertIn(f"edits: low/more/fourth.edit: {EDITS.LOST_NAME}", lines)
+        self.assertEqual(self.tried(alone[0], words=("--alone", "low"))[1][-1], "1 passed, 2 failed")
+
+    def test_words(self):
+        status, out, err = self.tried(words=("--help",))
+        self.assertEqual((status, err), (0, ""))
+        self.assertIn("tools/edits [--all | --unchanged | --alone] [CRATE ..]", "\n".join(out))
+        for words, why in ((("none",), "'none' has no edits"), (("plain",), "'plain' has no edits"),
+                           (("--all", "--alone"), "not allowed with argument"),
+                           (("--some",), "unrecognized arguments")):
+            status, out, err = self.tried(words=words)
+            self.assertEqual((status, out), (2, []), words)
+            self.assertIn(why, err)

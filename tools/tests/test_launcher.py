@@ -317,12 +317,6 @@ class Gate(Tree):
         status, lines, _ = self.gate("7 passed, 0 failed, 2 skipped", tests)
         self.assertEqual((status, lines[-1]), (1, "14 passed, 2 failed, 5 skipped"))
 
-    def test_what_the_kit_printed_of_the_edits_is_looked_at(self):
-        edits = "import sys\nprint(open(sys.argv[2]).read(), end='')\nprint('1 passed, 1 failed')\nsys.exit(1)\n"
-        status, lines, _ = self.gate("rt: must-fail low/a.edit: x\n7 passed, 0 failed", edits=edits)
-        self.assertEqual(lines[2:5], ["rt: must-fail low/a.edit: x", "7 passed, 0 failed", "1 passed, 1 failed"])
-        self.assertEqual((status, lines[-1]), (1, "15 passed, 1 failed"))
-
     def test_a_folder_for_temporary_files_with_another_name(self):
         for name in (b"a\xff", b"a\nb", b"a b:c", b"a\n"):
             room = os.path.join(os.fsencode(self.folder), name)
