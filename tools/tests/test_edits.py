@@ -295,6 +295,35 @@ class Trials(Case):
         self.assertEqual(self.tried(f"fn top::one: {refused}", words=("top",))[1],
                          [f"edits: top/two.edit: refused: {refused}", "1 passed, 0 failed"])
 
+    def beside(self, kit, **said):
+        """With a kit that is this script, in place of `rt ci`."""
+        self.file("tree/crates/top/src/lib.rt", "//! Top.\nfn one() -> u8\n{\n    1\n}\n")
+        self.file("tree/crates/top/edits/two.edit", "file: src/lib.rt\nold:     1\nnew:     2\n")
+        lines = (HALF, LEAST, "fn top::one: no proof: `search` did not prove `returns`")
+        return self.tried(*lines, words=("--beside", "sh", "-c", f"mkdir -p tree/crates/low/out/rlib; cd $0; {kit}",
+                                         self.folder), **said)
+
+    def test_beside_the_kit(self):
+        status, lines, err = self.beside("mkdir tree/crates/low/out/rlib/low.rlib; echo 'rt: low proved'; "
+                                         "echo 'rt: low: its tests are proved'; echo '7 passed, 0 failed'")
+        self.assertEqual((status, lines[:3], lines[-1], err), (
+            0, ["rt: low proved", "rt: low: its tests are proved", "7 passed, 0 failed"], "10 passed, 0 failed", ""))
+        self.assertEqual(sorted(it.partition("]")[0] for it in self.asked()), ["['half', 'least'", "['one'"])
+
+    def test_beside_the_kit_that_has_kept_a_proof(self):
+        lines = self.beside("mkdir tree/crates/low/out/rlib/low.rlib; echo 'rt: low is kept: an earlier run'; "
+                            "echo '7 passed, 0 failed'")[1]
+        self.assertEqual(lines[-1], "10 passed, 0 failed")
+
+    def test_beside_the_kit_that_fails(self):
+        status, lines, _ = self.beside("echo 'rt: low NOT PROVED'; echo '5 passed, 2 failed'; exit 1")
+        self.assertEqual((status, lines[-1]), (1, "7 passed, 3 failed"))
+        self.assertIn("edits: top/two.edit: not tried: low wasn't built", lines)
+        for kit, last in (("exit 3", "2 passed, 2 failed"), ("echo '5 passed, 0 failed'; exit 1", "7 passed, 2 failed"),
+                          ("echo 'nothing'", "2 passed, 2 failed")):
+            status, lines, _ = self.beside(kit)
+            self.assertEqual((status, lines[-1]), (1, last), kit)
+
     def test_alone(self):
         alone = ("rt: must-fail low/third.edit: refused, as it must be: note: src/lib.rt:10:1: it is not proved",
                  "rt: must-fail low/fourth.edit: refused, as it must be (only because a proof file names what the edit "
@@ -310,8 +339,10 @@ class Trials(Case):
         status, out, err = self.tried(words=("--help",))
         self.assertEqual((status, err), (0, ""))
         self.assertIn("tools/edits [--all | --unchanged | --alone] [CRATE ..]", "\n".join(out))
-        for words, why in ((("none",), "'none' has no edits"), (("plain",), "'plain' has no edits"),
+        for words, why in ((("--beside",), "--beside takes a command"), (("low", "--beside", "x"), "and all crates"),
+                           (("none",), "'none' has no edits"), (("plain",), "'plain' has no edits"),
                            (("--all", "--alone"), "not allowed with argument"),
+                           (("--all", "--beside", "x"), "not allowed with argument"),
                            (("--some",), "unrecognized arguments")):
             status, out, err = self.tried(words=words)
             self.assertEqual((status, out), (2, []), words)

@@ -293,12 +293,13 @@ class Bench(Tree):
 class Gate(Tree):
     """./test: the counts of `rt ci`, of the tools' tests and of the refusals, in one last line."""
 
-    def gate(self, ci, tests=None, makes="one", refusals=None, edits=None, **more):
+    def gate(self, ci, tests=None, makes="one", refusals=None, **more):
         for name in ("scf", "scf_refusals"):
             os.makedirs(os.path.join(self.tree, "crates", name, "out"), exist_ok=True)
         self.file("tree/tools/tests/__main__.py", tests or "print('3 passed, 0 failed')\n")
         self.file("tree/tools/refusals", refusals or "print('4 passed, 0 failed')\n")
-        self.file("tree/tools/edits", edits or "print('2 passed, 0 failed')\n")
+        # (it only runs the kit)
+        self.file("tree/tools/edits", "import subprocess, sys\nsys.exit(subprocess.run(sys.argv[2:]).returncode)\n")
         made = self.file("made", f"#!/bin/sh\necho {makes}\n")
         os.chmod(made, 0o755)
         status, out, err = self.run_words([os.path.join(self.tree, "test")],
@@ -307,22 +308,22 @@ class Gate(Tree):
 
     def test_all_are_counted(self):
         status, lines, _ = self.gate("proved\n7 passed, 0 failed")
-        self.assertEqual((status, lines), (0, ["proved", "7 passed, 0 failed", "2 passed, 0 failed",
-                                               "3 passed, 0 failed", "4 passed, 0 failed", "16 passed, 0 failed"]))
+        self.assertEqual((status, lines), (0, ["proved", "7 passed, 0 failed", "3 passed, 0 failed",
+                                               "4 passed, 0 failed", "14 passed, 0 failed"]))
 
     def test_what_is_skipped_is_counted(self):
         self.assertEqual(self.gate("7 passed, 0 failed", "print('3 passed, 0 failed, 5 skipped')\n")[1][-1],
-                         "16 passed, 0 failed, 5 skipped")
+                         "14 passed, 0 failed, 5 skipped")
         tests = "import sys\nprint('1 passed, 2 failed, 3 skipped')\nsys.exit(1)\n"
         status, lines, _ = self.gate("7 passed, 0 failed, 2 skipped", tests)
-        self.assertEqual((status, lines[-1]), (1, "14 passed, 2 failed, 5 skipped"))
+        self.assertEqual((status, lines[-1]), (1, "12 passed, 2 failed, 5 skipped"))
 
     def test_a_folder_for_temporary_files_with_another_name(self):
         for name in (b"a\xff", b"a\nb", b"a b:c", b"a\n"):
             room = os.path.join(os.fsencode(self.folder), name)
             os.mkdir(room)
             status, lines, _ = self.gate("7 passed, 0 failed", TMPDIR=os.fsdecode(room))
-            self.assertEqual((status, lines[-1]), (0, "16 passed, 0 failed"))
+            self.assertEqual((status, lines[-1]), (0, "14 passed, 0 failed"))
             self.assertEqual(os.listdir(room), [])
             self.assertEqual(self.launch(TMPDIR=os.fsdecode(room)), (0, "one\n", ""))
 
@@ -331,7 +332,7 @@ class Gate(Tree):
         self.file("kit/bin/rt", text)
         status, lines, _ = self.gate("7 passed, 0 failed", TOUCHED="1")
         self.assertEqual((status, lines[-1]), (1, "7 passed, 1 failed"))
-        self.assertIn("test: the tools aren't tested, since the programs weren't built, or a source was changed", lines)
+        self.assertIn("test: the tools aren't tested, since something failed above, or a source was changed", lines)
 
     def test_the_program_of_the_gate_is_taken(self):
         self.gate("7 passed, 0 failed", makes="of the gate")
@@ -340,24 +341,26 @@ class Gate(Tree):
     def test_failures_are_counted(self):
         status, lines, _ = self.gate("5 passed, 2 failed", CI_STATUS="1")
         self.assertEqual((status, lines[-1]), (1, "5 passed, 3 failed"))
-        self.assertIn("test: the tools aren't tested, since the programs weren't built, or a source was changed", lines)
+        self.assertIn("test: the tools aren't tested, since something failed above, or a source was changed", lines)
         wrong = "import sys\nprint('1 passed, 2 failed')\nsys.exit(1)\n"
-        for which, last in (("tests", "14 passed, 2 failed"), ("refusals", "13 passed, 2 failed"),
-                            ("edits", "15 passed, 2 failed")):
+        for which, last in (("tests", "12 passed, 2 failed"), ("refusals", "11 passed, 2 failed")):
             status, lines, _ = self.gate("7 passed, 0 failed", **{which: wrong})
             self.assertEqual((status, lines[-1]), (1, last))
 
     def test_a_status_without_a_count_fails(self):
         for ci, told, last in (("7 passed, 0 failed", {"CI_STATUS": "3"}, "7 passed, 2 failed"),
-                               ("nothing", {}, "9 passed, 1 failed"), ("", {"CI_STATUS": "2"}, "0 passed, 2 failed")):
+                               ("nothing", {}, "7 passed, 1 failed"), ("", {"CI_STATUS": "2"}, "0 passed, 2 failed")):
             status, lines, _ = self.gate(ci, **told)
             self.assertEqual((status, lines[-1]), (1, last))
         status, lines, _ = self.gate("7 passed, 0 failed", "import sys\nsys.exit(1)\n")
-        self.assertEqual((status, lines[-1]), (1, "13 passed, 1 failed"))
+        self.assertEqual((status, lines[-1]), (1, "11 passed, 1 failed"))
         self.assertEqual(self.gate("0 passed, 0 failed", "print('1 passed, 0 failed')\n", makes="x")[0], 0)
 
     def test_output_comes_as_it_is_printed(self):
         """The kit goes on once its first line was read, or after a minute, which it says."""
+        for name in ("edits", "sources.py"):
+            shutil.copy2(os.path.join(TOP, "tools", name), os.path.join(self.tree, "tools"))
+        self.file("tree/crates.txt", "")
         held = self.file("held", b"")
         with open(os.path.join(self.folder, "kit", "bin", "rt"), "w", encoding="utf-8") as file:
             file.write("#!/usr/bin/env python3\nimport os, sys, time\nprint('early')\n"
