@@ -149,6 +149,12 @@ class Function:
         """Its name, and that behind which its closures have theirs."""
         return self.name, f"{self.module}::fn::{self.within}" if self.module else f"fn::{self.within}"
 
+    def proofs(self) -> tuple[str, ...]:
+        """The folders in which its proof stands, that of a function that calls itself, and those of its closures."""
+        above, _, last = self.name.rpartition("::")
+        paths = (*self.names(), f"{above}::+{last}" if above else f"+{last}")
+        return tuple(f"proofs/{it.replace('::', '/')}/" for it in paths)
+
 
 def module_of(file: str) -> str:
     """The module, below its crate, that a file of src/ holds: nothing for the crate's root."""

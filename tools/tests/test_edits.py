@@ -143,6 +143,12 @@ class Functions(Case):
         self.assertEqual(names["half"], "fn::half")
         self.assertEqual(names["kind::Kind::told"], "kind::fn::Kind::told")
 
+    def test_folders_of_proofs(self):
+        folders = {it.name: it.proofs() for it in sources.functions_in(self.TEXTS)}
+        self.assertEqual(folders["half"], ("proofs/half/", "proofs/fn/half/", "proofs/+half/"))
+        self.assertEqual(folders["kind::Kind::told"], ("proofs/kind/Kind/told/", "proofs/kind/fn/Kind/told/",
+                                                       "proofs/kind/Kind/+told/"))
+
     def test_readers_of_a_constant_and_of_a_table(self):
         functions = sources.functions_in(self.TEXTS)
         for text, wanted in (("usize = 8", {"least"}), ("2 Two", {"first"}), ("n / 2", set())):
@@ -227,6 +233,7 @@ class Trials(Case):
                         "note: src/lib.rt:14:5: it is not proved that what `div` requires holds at this call",
                         "./proofs/half/Answers.antt:3:4: error: `loop-n`: `grind` found no proof",
                         "./proofs/fn/half/any+FnMut/call_mut/Answers.antt:3:4: error: `returns`: the two types differ",
+                        "./proofs/+half/Answers.antt:3:4: error: `half-requires`: `omega`: the goal does not follow",
                         "fn low::fn::half::any+FnMut::call_mut: no proof: `search` did not prove `returns`"):
             status, lines, _ = self.tried(printed, LEAST)
             self.assertEqual((status, lines[-1]), (0, "2 passed, 0 failed"), printed)
