@@ -32,12 +32,14 @@ class Edits(Case):
         self.assertEqual([name for name, count in names.items() if count > 1], [])
 
     def test_the_gate_turns_each_public_function(self):
-        """Laws apart, and what else does nothing."""
+        """By an edit of that function alone: of one that turns several it is enough that one of them is refused. Laws
+        apart, and what else does nothing."""
         for name in EDITS.needs():
             if not os.path.isdir(os.path.join(TOP, "crates", name, "specs")):
                 continue
             crate = EDITS.Crate(name, [])
-            turned = {it for path in EDITS.edits_of(name, is_all=False) for it in crate.edit(path).turned}
+            edits = [crate.edit(path) for path in EDITS.edits_of(name, is_all=False)]
+            turned = {function for it in edits if len(it.turned) == 1 for function in it.turned}
             left = {it.name for it in crate.functions if it.is_public and it.file != "src/laws.rt"} - {
                 it.name for it in turned}
             with self.subTest(crate=name):
