@@ -93,6 +93,44 @@ class Launcher(Tree):
         self.file("tree/README.md", b"x")
         self.assertEqual(self.launch("y"), (0, "six y\n", ""))
 
+    def test_nothing_is_read_where_all_look_as_they_did(self):
+        read = os.path.join(self.folder, "read")
+        cksum = self.file("bin/cksum", f"#!/bin/sh\n[ $# = 0 ] || echo >>{read}\nexec {shutil.which('cksum')} \"$@\"\n")
+        os.chmod(cksum, 0o755)
+        path = f"{self.folder}/bin:{self.env['PATH']}"
+
+        def reads():
+            self.assertEqual(self.launch(PATH=path), (0, "one\n", ""))
+            is_read = os.path.exists(read)
+            if is_read:
+                os.remove(read)
+            return is_read
+
+        self.launch()
+        self.assertTrue(reads(), "what has just been built may change at once")
+        time.sleep(1.1)
+        self.assertEqual([reads() for _ in range(3)], [True, False, False])
+        os.utime(self.source)
+        time.sleep(1.1)
+        self.assertEqual([reads() for _ in range(3)], [True, False, False])
+        self.assertEqual(self.builds(), 1)
+        times = os.stat(self.source)
+        self.write("two")
+        os.utime(self.source, ns=(times.st_atime_ns, times.st_mtime_ns))
+        self.assertEqual(self.launch(PATH=path)[:2], (0, "two\n"))
+
+    def test_without_a_find_that_prints_how_files_look(self):
+        """All are read each time, as long as only the standard's words are known to find."""
+        find = (f"#!/bin/sh\nfor it; do case $it in -printf | -newerct) echo unknown >&2; exit 1;; esac; done\n"
+                f"exec {shutil.which('find')} \"$@\"\n")
+        os.chmod(self.file("bin/find", find), 0o755)
+        self.launch()
+        time.sleep(1.1)
+        for text in ("one", "two", "one"):
+            self.write(text)
+            self.assertEqual(self.launch()[1], f"{text}\n")
+        self.assertEqual(self.builds(), 3)
+
     def test_another_program_is_noticed(self):
         self.launch()
         program = os.path.join(self.tree, "crates/scf/out/scf")
@@ -172,7 +210,7 @@ class Launcher(Tree):
         mark = os.path.join(self.tree, "crates/scf/out/scf.built")
         with open(mark, encoding="utf-8") as file:
             lines = file.read().splitlines()
-        self.assertEqual((len(lines), lines[2]), (3, "a kit 1"))
+        self.assertEqual((len(lines), lines[2]), (4, "a kit 1"))
         for text in (f"{lines[0]}\n", f"{lines[0]}\n{lines[1]}\n", f"{lines[0]}\n{lines[1]}", ""):
             with open(mark, "w", encoding="utf-8") as file:
                 file.write(text)
