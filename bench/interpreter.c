@@ -6,7 +6,7 @@
 
    It reads a filter on standard input and runs it TIMES times (once if no argument says so) on call 0 of x86-64, each
    time with another instruction pointer, and prints the answer of the last run and the steps of all: what the program
-   of crates/scf_bench does. */
+   of crates/scf_trials does. */
 #include <stdint.h>
 #include <stdio.h>
 #include <stdlib.h>

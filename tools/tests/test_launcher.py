@@ -13,7 +13,7 @@ echo "asked: $*" >>"$ASKED"
 case $1 in
 version) echo "a kit ${KIT-1}" ;;
 ci) printf '%s\\n' "$CI"
-    for name in scf scf_refusals; do [ -z "${MAKES-}" ] || cp "$MAKES" crates/$name/out/$name; done
+    for name in scf scf_trials; do [ -z "${MAKES-}" ] || cp "$MAKES" crates/$name/out/$name; done
     exit "${CI_STATUS-0}" ;;
 run) [ "${FAILS-}" = "" ] || exit 1
     text=$(cat src/main.rt)
@@ -216,6 +216,17 @@ class Launcher(Tree):
                 file.write(text)
             self.assertIn("proving and building", self.launch()[2])
 
+    def test_a_mark_that_does_not_say_how_the_sources_looked_still_vouches(self):
+        self.launch()
+        mark = os.path.join(self.tree, "crates/scf/out/scf.built")
+        with open(mark, encoding="utf-8") as file:
+            lines = file.read().splitlines()
+        with open(mark, "w", encoding="utf-8") as file:
+            file.write("".join(f"{it}\n" for it in lines[:3]))
+        self.assertEqual(self.launch(), (0, "one\n", ""))
+        self.write("two")
+        self.assertEqual(self.launch()[1], "two\n")
+
     def test_a_kit_that_does_not_say_its_version(self):
         with open(os.path.join(self.folder, "kit", "bin", "rt"), "w", encoding="utf-8") as file:
             file.write(RT.replace('echo "a kit ${KIT-1}"', ":"))
@@ -317,22 +328,22 @@ class Bench(Tree):
         self.launch()
         os.makedirs(os.path.join(self.tree, "bench"))
         shutil.copy2(os.path.join(TOP, "bench", "run"), os.path.join(self.tree, "bench"))
-        self.file("tree/crates/scf_bench/src/main.rt", b"times")
-        os.chmod(self.file("tree/crates/scf_bench/out/scf_bench", "#!/bin/sh\necho 0 steps 1\n"), 0o755)
+        self.file("tree/crates/scf_trials/src/main.rt", b"times")
+        os.chmod(self.file("tree/crates/scf_trials/out/scf_trials", "#!/bin/sh\necho 0 steps 1\n"), 0o755)
         self.launch()
         bench = os.path.join(self.tree, "bench", "run")
         status, out, err = self.run_words([bench, "1"], env={**self.env, "FAILS": "1"})
         self.assertEqual((status, out), (125, ""))
-        self.assertIn("scf_bench: the program was not built", err)
+        self.assertIn("scf_trials: the program was not built", err)
         with open(self.asked, encoding="utf-8") as file:
-            self.assertEqual(file.read().splitlines()[-1], "asked: run -- 1 check")
+            self.assertEqual(file.read().splitlines()[-1], "asked: run -- --help")
 
 
 class Gate(Tree):
     """./test: the counts of `rt ci`, of the tools' tests and of the refusals, in one last line."""
 
     def gate(self, ci, tests=None, makes="one", refusals=None, **more):
-        for name in ("scf", "scf_refusals"):
+        for name in ("scf", "scf_trials"):
             os.makedirs(os.path.join(self.tree, "crates", name, "out"), exist_ok=True)
         self.file("tree/tools/tests/__main__.py", tests or "print('3 passed, 0 failed')\n")
         self.file("tree/tools/refusals", refusals or "print('4 passed, 0 failed')\n")

@@ -2,22 +2,11 @@
 //!
 //! Each answer has a line, `CALL` and what it is. A refused call has the line `CALL Memory` and is made again; where
 //! that is refused too, the calls that need its answer aren't made. Where what was handed in, or a store that stays,
-//! isn't as it was before a refused call, the line `CALL changed` follows. Printing takes no memory.
-#![tactic(auto)]
+//! isn't as it was before a refused call, the line `CALL changed` follows. Nothing takes memory before the first call,
+//! and printing takes none.
 
-mod comparer;
-mod compiler;
-mod facts;
-mod lines;
-mod machine;
-mod profiles;
-mod readers;
-mod rows;
-mod shown;
-mod texts;
-mod tool;
-
-use lines::Lines;
+use crate::lines::Lines;
+use crate::{comparer, compiler, facts, machine, profiles, readers, texts, tool};
 use std::alloc::Global;
 use std::io;
 
@@ -30,9 +19,9 @@ fn try_with_table<R: Print>(lines: &mut Lines<R>, alloc: Global) {
     }
 }
 
-fn main(rt: HostRuntime) -> io::Result<()> {
+pub(crate) fn make_all(rt: &HostRuntime) -> io::Result<()> {
     let alloc = rt.alloc();
-    let mut lines = Lines::new(&rt);
+    let mut lines = Lines::new(rt);
     readers::try_all(&mut lines, alloc);
     texts::try_all(&mut lines, alloc);
     machine::try_all(&mut lines, alloc);

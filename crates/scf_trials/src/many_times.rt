@@ -1,18 +1,14 @@
 //! Runs a filter or a command of scf many times in one process, for bench/run to time. The first argument says how
-//! often; without it, once. The other arguments are those of a command, which runs on standard input's bytes; what is
-//! written is its last status and how many bytes it answered. Without them a filter from standard input runs on a call
-//! record; what is written is its last answer and the steps of all runs.
-#![tactic(auto)]
+//! often; without it, once. The other arguments are those of a command, which runs on the input; what is written is its
+//! last status and how many bytes it answered. Without them the input is a filter, which runs on a call record; what is
+//! written is its last answer and the steps of all runs.
 
 use scf_insn::faults::{Failing, Writer};
-use scf_insn::{Answer, CallRecord, Counted, read_input, read_program};
+use scf_insn::{Answer, CallRecord, Counted, read_program};
 use scf_machine::{Program, check, run};
 use scf_tool::run_command;
 use std::process::ExitCode;
 use std::{env, io};
-
-/// The most bytes that a command runs on.
-const MAX_INPUT_LEN: usize = 0x1000_0000;
 
 /// Call 0 of x86-64. The instruction pointer is another in each round, so that no round can stand for the next.
 fn record_of(round: u64) -> CallRecord {
@@ -36,8 +32,8 @@ fn run_often(program: &Program, times: u64) -> (Answer, u64) {
     (answer, steps)
 }
 
-fn time_filter(rt: &HostRuntime, times: u64) -> io::Result<ExitCode> {
-    let Ok(insns) = read_program(rt.alloc(), &mut Counted::new(rt.reader())) else {
+fn run_filter(rt: &HostRuntime, input: &[u8], times: u64) -> io::Result<ExitCode> {
+    let Ok(insns) = read_program(rt.alloc(), &mut Counted::new(input)) else {
         println!(rt; "unreadable")?;
         return Ok(ExitCode::FAILURE);
     };
@@ -51,16 +47,11 @@ fn time_filter(rt: &HostRuntime, times: u64) -> io::Result<ExitCode> {
 }
 
 /// The first of the words stands for the program's name.
-fn time_command(rt: &HostRuntime, words: &[String], times: u64) -> io::Result<ExitCode> {
-    let mut source = Counted::new(rt.reader());
-    let Ok(input) = read_input(rt.alloc(), &mut source, MAX_INPUT_LEN) else {
-        println!(rt; "unreadable")?;
-        return Ok(ExitCode::FAILURE);
-    };
+fn run_words(rt: &HostRuntime, words: &[String], input: &[u8], times: u64) -> io::Result<ExitCode> {
     let mut status = 0;
     let mut len = 0;
     for _ in 0..times {
-        let mut source = Counted::new(input.as_slice());
+        let mut source = Counted::new(input);
         let mut out = Writer::new(rt.alloc(), usize::MAX, Failing::Never);
         status = run_command(rt.alloc(), words, &mut source, &mut out);
         len = out.taken().len();
@@ -69,16 +60,16 @@ fn time_command(rt: &HostRuntime, words: &[String], times: u64) -> io::Result<Ex
     Ok(ExitCode::SUCCESS)
 }
 
-fn main(rt: HostRuntime) -> io::Result<ExitCode> {
-    let words: Vec<String> = env::args(&rt)?.collect(rt.alloc())?;
+pub(crate) fn run_on(rt: &HostRuntime, input: &[u8]) -> io::Result<ExitCode> {
+    let words: Vec<String> = env::args(rt)?.collect(rt.alloc())?;
     let words = words.as_slice();
     let times = match words.get(1) {
         Some(word) => word.parse().unwrap_or(0),
         None => 1,
     };
     if words.len() > 2 {
-        time_command(&rt, &words[1..], times)
+        run_words(rt, &words[1..], input, times)
     } else {
-        time_filter(&rt, times)
+        run_filter(rt, input, times)
     }
 }
