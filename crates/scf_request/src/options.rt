@@ -1,6 +1,7 @@
 //! Options of the command line, each of which takes a number.
 
-ghost use Rattle.std.specs.Prelude.{◌≡◌, ◌≤◌, Some, None, IfOk, IfErr};
+ghost use Rattle.std.specs.Prelude.{◌≡◌, ◌≤◌, Some, None, IfOk, IfErr, length, map};
+ghost use Rattle.std.specs.List.{AllByRecursion};
 ghost use Rattle.clap.specs.Words.{found_of, rows_of};
 ghost use Rattle.scf_request.specs.Options as table;
 ghost use Rattle.scf_request.specs.internal.Parsing.{flags_in, option_of, options_kept};
@@ -61,7 +62,8 @@ fn long(name: &'static str, default: u64, help: &'static str) -> NumberOption
 
 /// The options that say what call a filter is asked about.
 pub(crate) fn call_options() -> [NumberOption; 9]
-    ensures { options_kept result ≡ table.call_options }
+    ensures kept { options_kept result ≡ table.call_options }
+    ensures fair { AllByRecursion (λ o. o.default ≤ o.most) result }
 {
     let arch = "The architecture [default: 0xc000003e, x86-64]";
     [
@@ -167,6 +169,29 @@ impl NumberOption {
     }
 }
 
+/// The numbers of some options, in their order. The fault names the first that has none.
+fn numbers_in(
+    matches: &ArgMatches<'_>,
+    options: &[NumberOption],
+    numbers: &mut [u64],
+) -> Result<(), NumberFault>
+    requires room { length numbers.old ≡ length options.now }
+    requires fair { AllByRecursion (λ o. o.default ≤ o.most) options.now }
+    ensures ok { IfOk result (λ _.
+        map Some numbers.new ≡ map (table.number_in (rows_of (found_of matches.now))) (options_kept options.now)) }
+    ensures err { IfErr result (λ fault.
+        table.first_wrong (options_kept options.now) (rows_of (found_of matches.now)) ≡ Some fault.name.now) }
+{
+    let (Some((option, options)), Some((number, numbers))) = (
+        options.split_first(),
+        numbers.split_first_mut(),
+    ) else {
+        return Ok(());
+    };
+    *number = option.number_in(matches)?;
+    numbers_in(matches, options, numbers)
+}
+
 /// The call record that the options `nr`, `arch`, `ip` and `a0` to `a5` of these matches spell. Without a text `arch`
 /// is that of x86-64, and the others are 0. The fault names the first, in this order, whose text is no number in its
 /// range: decimal digits, or `0x` or `0X` and hexadecimal digits, below 2^32 for `nr` and `arch` and below 2^64 for
@@ -174,17 +199,13 @@ impl NumberOption {
 pub fn record_of(matches: &ArgMatches<'_>) -> Result<CallRecord, NumberFault>
     ensures { table.SpellsCall (rows_of (found_of matches.now)) result }
 {
-    let [nr, arch, ip, a0, a1, a2, a3, a4, a5] = call_options();
-    let nr = nr.number_in(matches)? as u32;
-    let arch = arch.number_in(matches)? as u32;
-    let ip = ip.number_in(matches)?;
-    let args = [
-        a0.number_in(matches)?,
-        a1.number_in(matches)?,
-        a2.number_in(matches)?,
-        a3.number_in(matches)?,
-        a4.number_in(matches)?,
-        a5.number_in(matches)?,
-    ];
-    Ok(CallRecord { nr, arch, ip, args })
+    let mut numbers = [0; 9];
+    numbers_in(matches, &call_options(), &mut numbers)?;
+    let [nr, arch, ip, a0, a1, a2, a3, a4, a5] = numbers;
+    Ok(CallRecord {
+        nr: nr as u32,
+        arch: arch as u32,
+        ip,
+        args: [a0, a1, a2, a3, a4, a5],
+    })
 }
