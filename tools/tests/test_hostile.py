@@ -180,15 +180,15 @@ class Hostile(Case):
 
     def test_texts_of_labels(self):
         """No more than three times the text is kept, however short its labels are, and whatever their order."""
-        most = 3 * LIMIT_OF_INPUT / 2**20
         letters = string.ascii_letters.encode()
         names = [bytes(it) for it in itertools.islice(itertools.product(letters, repeat=4), LIMIT_OF_INPUT // 6)]
-        for order in names, names[::-1], random.Random(1).sample(names, len(names)):
-            self.ends(["asm"], b":\n".join(order) + b":", (0, b""), most=most)
-        half = LIMIT_OF_INPUT // 12
-        text = b":\n".join(names[:half]) + b":\n"
-        again = b"a:;" * ((LIMIT_OF_INPUT - len(text)) // 3)
-        first = f"line {half + 1}"
+        quarter = names[:len(names) // 4]
+        for labels in random.Random(1).sample(names, len(names)), quarter, quarter[::-1]:
+            text = b":\n".join(labels) + b":"
+            self.ends(["asm"], text, (0, b""), most=3 * len(text) / 2**20)
+        text = b":\n".join(quarter) + b":\n"
+        again = b"a:;" * (len(text) // 3)
+        first, most = f"line {len(quarter) + 1}", 3 * 2 * len(text) / 2**20
         self.faults(["asm"], text + again, f"fault text Label {first}", 1, most)
         self.faults(["asm"], text + names[0] + b":ld\nld", f"fault text Label {first}", 1, most)
         self.faults(["asm"], text + b"ld\n" + names[0] + b":", f"fault text Operand {first}", 1, most)
