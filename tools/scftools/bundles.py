@@ -1,11 +1,13 @@
 """Bundles: several inputs as one, which is what scf reads where it needs several, since it opens none itself."""
 from __future__ import annotations
 
+import re
 from collections.abc import Iterable, Sequence
 
 KINDS = ("filter", "profile", "table")
 # The most bytes that scf reads. Of a longer bundle it only says that it is too long.
 LIMIT = 1 << 24
+HEADER = re.compile(rb"(filter|profile|table) ([0-9]{1,8})\n")
 
 
 def bundle(parts: Iterable[tuple[str, bytes]]) -> bytes:
@@ -18,6 +20,18 @@ def bundle(parts: Iterable[tuple[str, bytes]]) -> bytes:
         if length > LIMIT:
             break
     return b"".join(pieces)
+
+
+def part_of(data: bytes, kind: str) -> bytes | None:
+    """The first part of a kind, where a bundle has one as far as its parts are whole."""
+    at = 0
+    while True:
+        header = HEADER.match(data, at)
+        if header is None or header.end() + int(header[2]) > len(data):
+            return None
+        at = header.end() + int(header[2])
+        if header[1].decode() == kind:
+            return data[header.end():at]
 
 
 def of_stack(filters: Sequence[bytes]) -> bytes:

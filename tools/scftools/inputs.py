@@ -12,7 +12,7 @@ from . import output, program
 
 # The most bytes of what scf reads: a filter of 4096 instructions, a profile, a table; and of what the tools alone
 # read: an engine's profile, a kernel's header, a list of calls to try.
-LIMITS = {"filter": 1 << 15, "profile": 1 << 22, "table": 1 << 22,
+LIMITS = {"bundle": 1 << 24, "filter": 1 << 15, "profile": 1 << 22, "table": 1 << 22,
           "engine's profile": 1 << 24, "header": 1 << 22, "list of calls": 1 << 16,
           # of oci-hook alone: what a runtime says of a container
           "state": 1 << 20}
@@ -44,6 +44,9 @@ def read(name: str, kind: str) -> bytes:
             os.close(file)
     except OSError as error:
         raise program.Refused(why(name, kind, error)) from error
+    except UnicodeEncodeError as error:
+        # half a pair of surrogates, which no name of a file has
+        raise program.Refused(f"there is no file '{output.escaped(name)}'") from error
     return b"".join(found)
 
 

@@ -5,6 +5,8 @@ terminal reads it.
 """
 from __future__ import annotations
 
+import codecs
+import errno
 import os
 import re
 import sys
@@ -18,17 +20,35 @@ def _bytes_of(found: re.Match[str]) -> str:
     return "".join(f"\\x{byte:02x}" for byte in found[0].encode())
 
 
+def _of_surrogates(error: UnicodeError) -> tuple[bytes, int]:
+    """The byte that isn't UTF-8 for which Python keeps a surrogate, and of any other surrogate its own three bytes."""
+    assert isinstance(error, UnicodeEncodeError)
+    found = error.object[error.start:error.end]
+    return b"".join(bytes([ord(it) - 0xDC00]) if "\udc80" <= it <= "\udcff" else it.encode("utf-8", "surrogatepass")
+                    for it in found), error.end
+
+
+codecs.register_error("surrogates", _of_surrogates)
+
+
 def escaped(text: str | bytes) -> str:
     """A text of one line: each byte of a control character, and each that isn't UTF-8, as `\\xNN`."""
-    data = text.encode("utf-8", "surrogateescape") if isinstance(text, str) else text
+    data = text.encode("utf-8", "surrogates") if isinstance(text, str) else text
     return CONTROL.sub(_bytes_of, data.decode("utf-8", "backslashreplace"))
 
 
+class Failed(OSError):
+    """What is printed can't be written."""
+
+
 def put(text: str | bytes) -> None:
-    """Prints a text that is safe, or bytes as they are; an OSError where that fails."""
+    """Prints a text that is safe, or bytes as they are."""
     if sys.stdout is None:
-        raise OSError(9, os.strerror(9))
-    sys.stdout.buffer.write(text.encode("utf-8", "backslashreplace") if isinstance(text, str) else text)
+        raise Failed(errno.EBADF, os.strerror(errno.EBADF))
+    try:
+        sys.stdout.buffer.write(text.encode("utf-8", "backslashreplace") if isinstance(text, str) else text)
+    except OSError as error:
+        raise Failed(error.errno, error.strerror) from error
 
 
 def put_line(text: str) -> None:
@@ -37,7 +57,9 @@ def put_line(text: str) -> None:
 
 
 def say(name: str, text: str) -> None:
-    """A line on standard error, behind the name of the tool."""
+    """A line on standard error, behind the name of the tool; none where that is closed."""
+    if sys.stderr is None:
+        return
     try:
         print(f"{escaped(name)}: {escaped(text)}", file=sys.stderr, flush=True)
     except (OSError, ValueError):
@@ -45,9 +67,12 @@ def say(name: str, text: str) -> None:
 
 
 def flush() -> None:
-    """Everything printed goes out; an OSError where that fails."""
-    if sys.stdout is not None:
-        sys.stdout.flush()
+    """Everything printed goes out."""
+    try:
+        if sys.stdout is not None:
+            sys.stdout.flush()
+    except OSError as error:
+        raise Failed(error.errno, error.strerror) from error
 
 
 def put_json(value: object) -> None:

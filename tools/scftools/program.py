@@ -56,8 +56,9 @@ def start(main: Callable[[], int]) -> NoReturn:
         output.say(name(), "memory was refused")
         status = FAILED
     except OSError as error:
-        output.say(name(), f"the output failed: {error.strerror}" if error.filename is None else
-                   f"'{error.filename}': {error.strerror}")
+        what = "the output failed: " if isinstance(error, output.Failed) else \
+            "" if error.filename is None else f"'{error.filename}': "
+        output.say(name(), f"{what}{error.strerror}")
         status = FAILED
     finish(status)
 

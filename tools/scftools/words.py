@@ -41,10 +41,15 @@ class Parser(argparse.ArgumentParser):
 
     def error(self, message: str) -> NoReturn:
         try:
-            self.print_usage(sys.stderr)
+            if sys.stderr is not None:
+                self.print_usage(sys.stderr)
         except (OSError, AttributeError):
             pass
         raise program.Refused(message)
+
+    def print_help(self, file: Any = None) -> None:
+        """The help, which is an output like any other."""
+        output.put(self.format_help())
 
     def table(self, dash: str = "; - is standard input") -> None:
         """Adds `--table`."""

@@ -30,13 +30,16 @@ HOSTILE = {
     "t\u202eerom\u2028z": "t\\xe2\\x80\\xaeerom\\xe2\\x80\\xa8z",
     "naïve-名": "naïve-名",
 }
+# A tool's Python itself: what stands in for it on the path may open closed descriptors again.
+PYTHON = ["sh", sys.executable, "-IS"]
 
 
 class Escaped(unittest.TestCase):
     def test_texts(self):
         for text, shown in (("same", "same"), ("a\tb\n", "a\\x09b\\x0a"), ("\x1b[0m", "\\x1b[0m"),
                             (b"\xff\xc3", "\\xff\\xc3"), (b"\x80ab", "\\x80ab"), ("\x80", "\\xc2\\x80"),
-                            ("\udcff", "\\xff"), ("é", "é"), ("\u2066", "\\xe2\\x81\\xa6"), ("", "")):
+                            ("\udcff", "\\xff"), ("é", "é"), ("\ud800x\udcffé", "\\xed\\xa0\\x80x\\xffé"),
+                            ("\udc00", "\\xed\\xb0\\x80"), ("\u2066", "\\xe2\\x81\\xa6"), ("", "")):
             self.assertEqual(output.escaped(text), shown)
 
     def test_no_byte_is_left_that_works(self):
@@ -118,6 +121,16 @@ class Hostile(Case):
                                 err.split("\n")[:-1]), err)
             self.assertTrue(out)
             self.assertIn(f" {shown[:40]}", err)
+
+    def test_explain_has_the_names_from_the_profile(self):
+        for name in ("nosuch\nskipped mount", "x\nother SCMP_ARCH_X86"):
+            text = profile_of(name, "mount")
+            for table in (b"mount 165\n", b"read 0\nmount 165\n"):
+                given = part("profile", text) + part("filter", filter_of([165])) + part("table", table)
+                shown = name.replace("\n", "\\x0a")
+                self.assertEqual(self.run_tool("explain", "compare", given=given)[1].split("\n")[:4], [
+                    "same", f"skipped {shown}", "# names of the profile that were skipped, since the table doesn't "
+                    "name such calls: 1", f"# no call that is known here is called {shown}"])
 
     def compiled(self, name):
         done = subprocess.run([tool("compile"), self.profile(name)], stdout=subprocess.PIPE, stderr=subprocess.PIPE,
@@ -215,6 +228,25 @@ class Failing(Case):
                               check=False)
         self.assertEqual((done.returncode, done.stdout), (2, b""))
         self.assertIn(b"standard input can't be read", done.stderr)
+
+    def test_what_is_said_stays_out_of_the_output_where_standard_error_is_closed(self):
+        odd = self.file("odd.json", profile_of("read", "raed"))
+        for words in (("compile", odd), ("plain-profile", odd), ("compile", "none"), ("lint", "--no-such"), ("run",)):
+            ways = [subprocess.run(["sh", "-c", f'exec "$@" {closing}', *PYTHON, tool(words[0]), *words[1:]],
+                                   stdout=subprocess.PIPE, stderr=subprocess.DEVNULL, check=False)
+                    for closing in ("", "2>&-")]
+            self.assertEqual((ways[0].returncode, ways[0].stdout), (ways[1].returncode, ways[1].stdout), words)
+
+    def test_a_help_that_can_not_be_printed(self):
+        for name in ("compare", "bundle"):
+            for closing in (">&-", ">/dev/full"):
+                status, out, err = self.run_words(["sh", "-c", f'exec "$@" {closing}', *PYTHON, tool(name), "--help"])
+                self.assertEqual((status, out), (3, ""))
+                self.assertRegex(err, rf"^{name}: the output failed: .*\n$")
+
+    def test_what_fails_beside_the_output_is_not_said_of_it(self):
+        done = self.run_words(["sh", "-c", 'ulimit -n 4; exec "$@"', *PYTHON, tool("check"), self.same])
+        self.assertEqual(done, (3, "", "check: Too many open files\n"))
 
     def test_standard_error_that_fails(self):
         with open("/dev/full", "wb") as full:

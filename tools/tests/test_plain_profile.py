@@ -65,6 +65,12 @@ class PlainProfile(Case):
             self.assertEqual(self.names(given, "--caps", caps), names, caps)
         self.assertIn("entry 1 (b) left out: only with CAP_SYSLOG\n", self.plain(given, "--caps", "SYS_ADMIN")[1])
 
+    def test_names_with_half_a_pair_of_surrogates(self):
+        given = engine(entry("mount", "\ud800x", includes={"caps": ["CAP_SYS_ADMIN"]}))
+        self.assertEqual(self.plain(given, "--caps", "none")[1].split(" left out: ")[0],
+                         "plain-profile: entry 0 (mount, \\xed\\xa0\\x80x)")
+        self.refused(b'{"\\ud800":1,"\\ud800":2}', "the member '\\xed\\xa0\\x80' stands twice")
+
     def test_excludes_of_capabilities_want_none(self):
         given = engine(entry("a", excludes={"caps": ["CAP_SYS_ADMIN", "CAP_SYSLOG"]}))
         for caps, names in (("none", ["a"]), ("SYS_ADMIN", []), ("SYSLOG", []), ("KILL", ["a"])):
