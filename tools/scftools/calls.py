@@ -14,11 +14,11 @@ PRINTED = re.compile(r"call nr ([0-9]+) arch (0x[0-9a-f]+) ip (0x[0-9a-f]+) args
 
 @dataclass(frozen=True)
 class Call:
-    """A call record (struct seccomp_data in linux/seccomp.h)."""
+    """A call record (struct seccomp_data in linux/seccomp.h). The instruction pointer is None where it isn't known."""
 
     number: int
     architecture: int = X86_64
-    pointer: int = 0
+    pointer: int | None = 0
     arguments: tuple[int, ...] = (0,) * 6
 
     @classmethod
@@ -36,7 +36,7 @@ class Call:
     def words(self) -> list[str]:
         """The options of scf that give this call."""
         numbers = (self.number, self.architecture, self.pointer, *self.arguments)
-        return [f"--{name}={number:#x}" for name, number in zip(OPTIONS, numbers)]
+        return [f"--{name}={number:#x}" for name, number in zip(OPTIONS, numbers) if number is not None]
 
     def told(self, table: Table) -> str:
         """What the call is called."""
@@ -56,7 +56,7 @@ class Call:
 
     def as_json(self, table: Table) -> dict[str, object]:
         return {"number": self.number, "names": table.names_of(self.number) if self.is_native else [],
-                "architecture": hex(self.architecture), "pointer": hex(self.pointer),
+                "architecture": hex(self.architecture), "pointer": None if self.pointer is None else hex(self.pointer),
                 "arguments": [hex(it) for it in self.arguments]}
 
 

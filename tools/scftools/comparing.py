@@ -6,7 +6,7 @@ from dataclasses import dataclass, field
 
 from . import bundles, explaining, program, verdicts
 from .answers import REFUSED
-from .filters import LONGEST_STACK, MORE_OF_OLDER, Filter
+from .filters import LONGEST_STACK, MORE_OF_OLDER, Filter, looks_at_pointer
 from .tables import Table
 from .verdicts import DIFFERS, LESS, MORE, NO_LESS, NO_MORE, SAME, UNDECIDED, NamedCall, Report, Verdict
 
@@ -50,7 +50,8 @@ class Comparison:
         given = bundles.of_comparison(filters, self.profile if profile is None else profile, self.table.data)
         done = program.scf(words, given)
         known = self.facts if b"\nskipped " in done.out else None
-        return done.status, verdicts.report(done.text, known.names if known else None, self.table)
+        pointer = None if scope == CALLS and any(map(looks_at_pointer, filters)) else 0
+        return done.status, verdicts.report(done.text, known.names if known else None, self.table, pointer)
 
     def run(self, scope: str = ALL, relation: str | None = None) -> tuple[int, Report]:
         """The status of scf, and what it printed, by the relation that was asked for or by this one."""

@@ -12,6 +12,8 @@ INSTRUCTION = struct.Struct("<HBBI")
 LONGEST = 4096
 # linux/bpf_common.h: the codes that the tools make or look at.
 LOAD_WORD, LOAD_CONSTANT, RETURN_CONSTANT, JUMP = 0x20, 0x00, 0x06, 0x05
+# Where the halves of the instruction pointer stand in struct seccomp_data (linux/seccomp.h).
+POINTER = (8, 12)
 JEQ, JGT, JGE, JSET, BY_X = 0x10, 0x20, 0x30, 0x40, 0x08
 # The whole of a stack, of which each older filter counts so many instructions more (MAX_INSNS_PER_PATH in
 # kernel/seccomp.c, which counts the kernel's own translation).
@@ -50,6 +52,12 @@ def read_stack(names: Sequence[str]) -> list[Filter]:
 
 def instruction(code: int, k: int, if_true: int = 0, if_false: int = 0) -> bytes:
     return INSTRUCTION.pack(code, if_true, if_false, k)
+
+
+def looks_at_pointer(data: bytes) -> bool:
+    """Whether a half of the instruction pointer is loaded somewhere."""
+    whole = data[:len(data) // INSTRUCTION.size * INSTRUCTION.size]
+    return any(code == LOAD_WORD and k in POINTER for code, _, _, k in INSTRUCTION.iter_unpack(whole))
 
 
 def answering_from(data: bytes, number: int, answer: int) -> bytes:

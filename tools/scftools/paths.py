@@ -79,7 +79,7 @@ def givers(filters: Sequence[Filter], words: Sequence[str], answer: Answer) -> l
 
 def _words_of(call: Call) -> list[int]:
     """The words of a call record, in their order (struct seccomp_data in linux/seccomp.h)."""
-    halves = (half for it in (call.pointer, *call.arguments) for half in (it & 0xFFFFFFFF, it >> 32))
+    halves = (half for it in (call.pointer or 0, *call.arguments) for half in (it & 0xFFFFFFFF, it >> 32))
     return [call.number, call.architecture, *halves]
 
 

@@ -37,7 +37,8 @@ class Shown:
 
     def as_json(self) -> dict[str, object]:
         return {"arguments": [hex(it) for it in self.call.arguments], "is_whole": self.is_whole,
-                "pointer": hex(self.call.pointer), "answer": {**self.answer.as_json(), "does": self.answer.does()}}
+                "pointer": hex(self.call.pointer or 0) if self.is_whole else None,
+                "answer": {**self.answer.as_json(), "does": self.answer.does()}}
 
 
 @dataclass

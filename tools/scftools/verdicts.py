@@ -119,15 +119,15 @@ def _verdict(lines: Sequence[str]) -> Verdict | None:
     return Verdict(UNDECIDED, at=int(place[1])) if word == UNDECIDED and place else None
 
 
-def named_call(line: str) -> NamedCall | None:
-    """The call of a line of `--calls`."""
+def named_call(line: str, pointer: int | None = 0) -> NamedCall | None:
+    """The call of a line of `--calls`, which lacks the instruction pointer."""
     found = NAMED.fullmatch(line)
     if not found:
         return None
     number, answered = int(found[1]), ANSWERED.fullmatch(found[4])
     verdict = Verdict(found[3])
     if verdict.fails and answered:
-        call = Call(number, arguments=tuple(int(it, 16) for it in answered[1].split()))
+        call = Call(number, pointer=pointer, arguments=tuple(int(it, 16) for it in answered[1].split()))
         verdict = Verdict(found[3], call, Answer.read(answered[2]), Answer.read(answered[3]))
     return NamedCall(line, number, tuple(found[2].split(",")), verdict)
 
@@ -149,11 +149,12 @@ def _names(lines: Sequence[str]) -> tuple[list[str], list[str]]:
     return found[LEFT_OUT[0]], found[LEFT_OUT[1]]
 
 
-def report(text: str, profile_names: Sequence[str] | None = None, table: Table | None = None) -> Report:
+def report(text: str, profile_names: Sequence[str] | None = None, table: Table | None = None,
+           pointer: int | None = 0) -> Report:
     """What a text says that `scf compare` printed.
 
     Where the names of the profile are known, a name in which further lines `skipped ..` or `other ..` stand is told
-    from several names.
+    from several names. The calls of lines get this instruction pointer, None where it matters and isn't known.
     """
     lines = program.lines_of(text)
     count = next((at for at, line in enumerate(lines) if line.startswith(LEFT_OUT)), len(lines))
@@ -164,7 +165,7 @@ def report(text: str, profile_names: Sequence[str] | None = None, table: Table |
         head, tail = "".join(f"skipped {name}\n" for name in exact), "".join(f"{line}\n" for line in rest)
         if tail.startswith(head) and not tail.startswith(LEFT_OUT[0], len(head)):
             skipped, architectures = exact, _names(tail[len(head):].split("\n")[:-1])[1]
-    calls = tuple(filter(None, map(named_call, own[1:]))) if own else ()
+    calls = tuple(filter(None, (named_call(line, pointer) for line in own[1:])))
     return Report(tuple(own), _verdict(own) if own else None, Fault.read(own[0]) if own else None, calls,
                   tuple(skipped), tuple(architectures))
 

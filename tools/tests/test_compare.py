@@ -1,4 +1,5 @@
 """tools/compare, tools/decide and tools/explain."""
+import json
 import os
 import shutil
 import unittest
@@ -105,6 +106,17 @@ class Compare(Case):
     def test_a_whole_config(self):
         config = b'{"ociVersion":"1.0.2","linux":{"seccomp":' + profile_of("read", "write") + b"}}"
         self.assertEqual(self.run_tool("compare", self.same, self.file("config.json", config)), (0, "same\n", ""))
+
+    def test_a_call_of_a_line_has_its_instruction_pointer_where_it_does_not_matter(self):
+        of_one = load(8) + jeq(0x1234, 0, 1) + ret(EPERM) + ret(ALLOW)
+        of_all = load(0) + jeq(0, 0, 1) + ret(EPERM) + ret(ALLOW)
+        allows, table = self.file("a.json", b'{"defaultAction":"SCMP_ACT_ALLOW"}'), self.file("t", b"read 0\n")
+        for data, pointers in ((of_one, (None, "0x1234")), (of_all, ("0x0", "0x0"))):
+            for words, pointer in zip((("--calls",), ("--native",)), pointers):
+                report = json.loads(self.run_tool("compare", "--json", *words, "--table", table,
+                                                  self.file("f.bpf", data), allows)[1])
+                found = report["calls"][0] if words == ("--calls",) else report
+                self.assertEqual(found["call"]["pointer"], pointer, (words, report))
 
     def test_wrong_files(self):
         for words in (("none.bpf", self.profile), (self.same, "none.json"), (self.folder, self.profile),
