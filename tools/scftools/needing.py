@@ -7,6 +7,7 @@ from __future__ import annotations
 
 import itertools
 import json
+import re
 from collections.abc import Iterator, Sequence
 from dataclasses import dataclass, field
 
@@ -84,6 +85,7 @@ class Needs:
     unnamed: dict[str, int] = field(default_factory=dict)
     foreign: int = 0
     unread: int = 0
+    cut: int = 0
     left: int = 0
 
     def of(self, fate: str) -> list[Judged]:
@@ -92,7 +94,7 @@ class Needs:
     @property
     def isnt_whole(self) -> bool:
         """Whether something in the log wasn't judged, or there was nothing to judge."""
-        return bool(self.unnamed or self.foreign or self.left or not self.judged)
+        return bool(self.unnamed or self.foreign or self.cut or self.left or not self.judged)
 
     @property
     def status(self) -> int:
@@ -103,10 +105,8 @@ class Needs:
 
 def number_of(name: str, table: Table) -> int | None:
     """The number of a call by its name in a log; strace prints one without a name as `syscall_0x1c3`."""
-    if name.startswith("syscall_0x"):
-        digits = name[len("syscall_0x"):]
-        return int(digits, 16) if len(digits) <= 8 and not set(digits) - set("0123456789abcdef") else None
-    return table.number_of(name)
+    without_name = re.fullmatch("syscall_0x([0-9a-f]{1,8})", name)
+    return int(without_name[1], 16) if without_name else table.number_of(name)
 
 
 class Judge:
@@ -127,6 +127,10 @@ class Judge:
     def looked_at(self, name: str) -> tuple[int, ...]:
         """The arguments of a call that a condition looks at."""
         return tuple(sorted(self.looked.get(number_of(name, self.table), ())))
+
+    def is_named(self, name: str) -> bool:
+        """Whether a call is called so."""
+        return number_of(name, self.table) is not None
 
     def of(self, traced: Traced) -> Judged:
         made, refused, line = None, None, ""
@@ -171,7 +175,7 @@ class Judge:
 
 def find(log: Log, judge: Judge) -> Needs:
     """The calls of a log, by their numbers, each judged."""
-    found = Needs([], foreign=log.foreign.count, unread=log.unread.count)
+    found = Needs([], foreign=log.foreign.count, unread=log.unread.count, cut=log.cut.count)
     traced: list[Traced] = []
     for (name, values), seen in log.calls.items():
         number = number_of(name, judge.table)
@@ -215,6 +219,8 @@ def _of_unjudged(needs: Needs) -> Iterator[str]:
         yield f"more such names: {len(needs.unnamed) - tables.TOLD}"
     if needs.foreign:
         yield f"not judged, since they are calls of processes that don't run in 64 bit mode: {needs.foreign}"
+    if needs.cut:
+        yield f"not judged, since their lines end before their results: calls: {needs.cut}"
     if needs.left:
         yield f"not judged, since there are more than {CALLS}: {needs.left} calls with other arguments"
     if needs.unread:
@@ -252,7 +258,8 @@ def as_json(needs: Needs, table: Table) -> dict[str, object]:
             shown["verdict"] = one.line
         found.append(shown)
     return {"status": needs.status, "calls": found,
-            "not_judged": {"names": needs.unnamed, "foreign": needs.foreign, "more": needs.left, "lines": needs.unread}}
+            "not_judged": {"names": needs.unnamed, "foreign": needs.foreign, "cut": needs.cut, "more": needs.left,
+                           "lines": needs.unread}}
 
 
 def _entries(needs: Needs) -> Iterator[dict[str, object]]:
@@ -301,7 +308,7 @@ def of_refusal(why: Unanswered, profile: bytes, table: Table) -> Iterator[str]:
 
 
 def read(name: str, judge: Judge) -> Needs:
-    return find(straces.read(name, judge.looked_at), judge)
+    return find(straces.read(name, judge.looked_at, judge.is_named), judge)
 
 
 def put(found: Iterator[str]) -> None:

@@ -129,9 +129,12 @@ class Log:
     """What stands in a log: calls by their names and the values of those arguments that are asked for."""
 
     looked_at: Callable[[str], tuple[int, ...]]
+    is_named: Callable[[str], bool] = lambda name: False
     calls: dict[tuple[str, tuple], Seen] = field(default_factory=dict)
     foreign: Seen = field(default_factory=lambda: Seen(0))
     unread: Seen = field(default_factory=lambda: Seen(0))
+    # lines that begin as a call that has a name, and have no result
+    cut: Seen = field(default_factory=lambda: Seen(0))
     _modes: dict[str | None, str] = field(default_factory=dict)
     _alive: set[str] = field(default_factory=set)
     _pending: dict[str | None, tuple[int, str]] = field(default_factory=dict)
@@ -229,7 +232,7 @@ class Log:
         """Counts a call: its name, and of what is asked for the values that it shows."""
         name = CALL.match(text)
         if name is None or not (is_cut or len(text) >= LINE or " = " in text):
-            self._count(self.unread, number)
+            self._count(self.cut if name and self.is_named(name[1]) else self.unread, number)
             return
         if text.startswith(FORKS):
             self._forked(who, text)
@@ -285,9 +288,9 @@ def lines(name: str) -> Iterator[str]:
         yield kept.decode("latin-1")
 
 
-def read(name: str, looked_at: Callable[[str], tuple[int, ...]]) -> Log:
+def read(name: str, looked_at: Callable[[str], tuple[int, ...]], is_named: Callable[[str], bool]) -> Log:
     """What stands in a log; of the arguments of a call those that are asked for."""
-    found = Log(looked_at)
+    found = Log(looked_at, is_named)
     for number, line in enumerate(lines(name), 1):
         found.add(number, line)
     found.end()

@@ -238,7 +238,8 @@ class Needs(Judged):
         log = "read(1) = 1\nno_such_call(1) = 1\n[ Process PID=7 runs in 32 bit mode. ]\nopen(1) = 1\nwhat\n"
         fates, report, out = self.judged(log, 4)
         self.assertEqual((fates, report["not_judged"]),
-                         ({"read": "made"}, {"names": {"no_such_call": 1}, "foreign": 1, "more": 0, "lines": 1}))
+                         ({"read": "made"},
+                          {"names": {"no_such_call": 1}, "foreign": 1, "cut": 0, "more": 0, "lines": 1}))
         for line in ("# not judged, since the table names no such call: no_such_call, calls of it: 1",
                      "# not judged, since they are calls of processes that don't run in 64 bit mode: 1",
                      "# lines that strace didn't write, or that can't be read: 1"):
@@ -251,12 +252,24 @@ class Needs(Judged):
         for log in ("", "\n\n", "what\n"):
             self.assertIn("# no call was found in the log\n", self.judged(log, 4)[2])
 
+    def test_a_line_that_ends_before_its_result(self):
+        for cut in ('mount("/dev/sda", "/mnt"', "mount(", 'mount("/dev/sda", "/mnt", NULL, 0, NULL)'):
+            for log in (f"read(1) = 1\n{cut}", f"read(1) = 1\n{cut}\nread(1) = 1\n"):
+                fates, report, out = self.judged(log, 4)
+                self.assertEqual((fates, report["not_judged"]["cut"], report["not_judged"]["lines"]),
+                                 ({"read": "made"}, 1, 0))
+                self.assertIn("# not judged, since their lines end before their results: calls: 1\n", out)
+                self.assertEqual(self.needs(log, "--profile")[0], 4)
+        # what isn't a call's name isn't strace's
+        self.assertEqual(self.judged("read(1) = 1\nwhat(1\n", 0)[1]["not_judged"]["lines"], 1)
+
     def test_a_call_without_a_name(self):
         fates, report, out = self.judged("syscall_0x3ff(0x1, 0, 0, 0, 0, 0) = -1\nsyscall_0x1(0x1) = 0", 1)
         self.assertEqual(out.split("\n")[0], "1023 syscall_0x3ff ERRNO 1 default")
         self.assertEqual(fates, {"syscall_0x3ff": "not made", "syscall_0x1": "made"})
         self.assertIn("isn't in the profile", self.needs("syscall_0x3ff(0x1) = -1", "--profile")[2])
-        self.assertEqual(self.judged("syscall_0x1ffffffff(0x1) = -1", 4)[0], {})
+        for name in ("syscall_0x1ffffffff", "syscall_0x", "syscall_0xg"):
+            self.assertEqual(self.judged(f"{name}(0x1) = -1", 4)[1]["not_judged"]["names"], {name: 1})
 
     def test_limits_and_refusals(self):
         status, out, _ = self.needs("socket(X) = 3", "--limit=0")
@@ -415,7 +428,7 @@ class Real(Judged):
                 self.assertEqual((status, err), (1, ""), words)
                 report = json.loads(out)
                 self.assertEqual({key: it for key, it in report["not_judged"].items() if key != "lines"},
-                                 {"names": {}, "foreign": 0, "more": 0}, words)
+                                 {"names": {}, "foreign": 0, "cut": 0, "more": 0}, words)
                 self.assertEqual(report["not_judged"]["lines"], 0, words)
                 found = {it["name"] for it in report["calls"]}
                 with open(log, encoding="utf-8", errors="replace") as file:
