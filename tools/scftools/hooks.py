@@ -7,6 +7,7 @@ other process that comes to that number is taken for it, or ended in its place.
 from __future__ import annotations
 
 import json
+import math
 import os
 import signal
 import sys
@@ -29,7 +30,9 @@ CREATED = "created"
 PAUSE = 0.02
 # A hook has no environment but the one that is named.
 PATH = "PATH=/usr/local/sbin:/usr/local/bin:/usr/sbin:/usr/bin:/sbin:/bin"
-TIMEOUT = 60
+# How long a runtime lets the hook run beyond its wait, in seconds: threads take some time to stop (`PATIENCE` of
+# `processes`), and then the filters are compared.
+BEYOND_WAIT = 60
 
 
 class Failed(Exception):
@@ -197,9 +200,25 @@ def verdict_line(container: Container | None, result: Result) -> str:
     return f"{who}: it can't be told whether it is confined as configured"
 
 
-def hook_file(path: str, words: Sequence[str]) -> str:
+def hook_words(words: Sequence[str]) -> list[str]:
+    """The words that the hook is called with. A runtime calls it in a folder of its own, so the table's path is the
+    absolute one."""
+    found: list[str] = []
+    for word in words:
+        name = word.removeprefix("--table=")
+        if found[-1:] == ["--table"]:
+            found.append(os.path.abspath(word))
+        elif name != word:
+            found.append(f"--table={os.path.abspath(name)}")
+        elif word != "--print-hook":
+            found.append(word)
+    return found
+
+
+def hook_file(path: str, words: Sequence[str], wait: float) -> str:
     """The text of a file for hooks.d, as oci-hooks(5) has it, that calls this tool for each container."""
-    hook = {"path": path, "args": [os.path.basename(path), *words], "env": [PATH], "timeout": TIMEOUT}
+    hook = {"path": path, "args": [os.path.basename(path), *hook_words(words)], "env": [PATH],
+            "timeout": math.ceil(wait) + BEYOND_WAIT}
     return json.dumps({"version": "1.0.0", "hook": hook, "when": {"always": True}, "stages": ["poststart"]},
                       indent=4) + "\n"
 
@@ -219,3 +238,6 @@ def guarded(look: Callable[[], Result]) -> Result:
         return failed("memory was refused")
     except OSError as error:
         return failed(f"it can't be looked at: {error.strerror}")
+    except Exception as error:  # pylint: disable=broad-exception-caught
+        # a fault of this tool's own: nothing fails open
+        return failed(f"{program.name()} itself failed: {type(error).__name__}")

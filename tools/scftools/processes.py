@@ -48,6 +48,8 @@ PF_IO_WORKER = 0x00000010
 PF_USER_WORKER = 0x00004000
 # linux/nsfs.h
 NS_GET_PARENT = 0xB702
+# linux/proc_ns.h: the number of the initial cgroup namespace.
+PROC_CGROUP_INIT_INO = 0xEFFFFFFB
 # How long all threads may take to stop, in seconds: one that sleeps uninterruptibly doesn't.
 PATIENCE = 10.0
 # How long the others are held for one that doesn't stop: it may wait for one of them, as a thread in vfork(2) does.
@@ -185,6 +187,14 @@ class Kernel:
             if path:
                 found.update((name, path) for name in controllers.decode("utf-8", "replace").split(","))
         return found
+
+    def is_root_the_first(self) -> bool:
+        """Whether the control group `/` is the root of its hierarchy, and not that of a cgroup namespace alone."""
+        try:
+            return os.stat("/proc/self/ns/cgroup").st_ino == PROC_CGROUP_INIT_INO
+        except OSError as error:
+            # a kernel without such namespaces
+            return error.errno == errno.ENOENT
 
     def namespaces_of(self, process: int) -> list[tuple[int, int]]:
         """The PID namespace of a process and those around it that this tool may see, the innermost first."""
@@ -518,19 +528,32 @@ class Container:
         return "a PID namespace" if self.group is None else f"the control group {output.escaped(self.group)}"
 
 
+def why_no_group(process: int, path: bytes) -> str:
+    return (f"the container of process {process} can't be told: this tool is in a cgroup namespace of its own, which "
+            f"shows the control group of the process as {output.escaped(path)}: run it in the initial one")
+
+
 def container_of(kernel: Kernel, process: int) -> Container:
     """The processes of the control group of a process, and of those below it; where that is the root, those of its PID
-    namespace, and of those within it."""
+    namespace, and of those within it.
+
+    In a cgroup namespace the kernel shows its root as `/`, whichever group that is, and what is outside as `/..` and
+    what follows, so that what is in such a group isn't known.
+    """
     groups = kernel.groups_of(process)
     for name in HIERARCHIES:
         path = groups.get(name, b"/")
         if path == b"/":
             continue
+        if path.startswith(b"/../") or path == b"/..":
+            raise Unreadable(why_no_group(process, path))
 
         def is_member(other: int, name: str = name, path: bytes = path) -> bool:
             return (kernel.groups_of(other).get(name, b"") + b"/").startswith(path + b"/")
 
         return Container(path, lambda: [it for it in kernel.processes() if is_member(it)])
+    if any(name in groups for name in HIERARCHIES) and not kernel.is_root_the_first():
+        raise Unreadable(why_no_group(process, b"/"))
     space = kernel.namespaces_of(process)[:1]
     if not space or space == kernel.namespaces_of(os.getpid())[:1]:
         raise Unreadable(f"process {process} is in no container: its control group is the root, and its PID namespace "

@@ -206,6 +206,9 @@ class FakeKernel:
     def is_proc_ours(self):
         return True
 
+    def is_root_the_first(self):
+        return True
+
     def processes(self):
         return [7]
 

@@ -403,12 +403,17 @@ class Containers(Confined):
     def verify(self, pid, profile, *words):
         return self.run_tool("verify-process", *words, str(pid), self.file("p", profile))
 
+    def skip_in_a_group(self, pid):
+        kernel = processes.Kernel()
+        if any(kernel.groups_of(pid).get(name, b"/") != b"/" for name in processes.HIERARCHIES):
+            self.skipTest("the tests run in a control group of their own")
+        if not kernel.is_root_the_first():
+            self.skipTest("the tests run in a cgroup namespace of their own")
+
     @here
     def test_no_container(self):
         child = self.child([OLDEST])
-        groups = processes.Kernel().groups_of(child.pid)
-        if any(groups.get(name, b"/") != b"/" for name in processes.HIERARCHIES):
-            self.skipTest("the tests run in a control group of their own")
+        self.skip_in_a_group(child.pid)
         status, out, err = self.verify(child.pid, ALLOWS_ALL, "--all")
         self.assertEqual((status, out), (3, ""))
         self.assertIn(f"process {child.pid} is in no container", err)
@@ -425,8 +430,7 @@ class Containers(Confined):
         if child.stdout.readline() != "1\n":
             self.skipTest("no PID namespace can be made here")
         first = processes.numbers_in(f"/proc/{child.pid}/task") and self.children(child.pid)[0]
-        if any(processes.Kernel().groups_of(first).get(name, b"/") != b"/" for name in processes.HIERARCHIES):
-            self.skipTest("the tests run in a control group of their own")
+        self.skip_in_a_group(first)
         self.do(child, f"(os.fork() or (confine([{lax!r}]), time.sleep(1000))); confine([{kept!r}]); "
                        f"print(2, flush=True)")
         self.assertEqual(child.stdout.readline(), "2\n")

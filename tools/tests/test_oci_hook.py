@@ -88,6 +88,21 @@ class OfStates(Hook):
                             (b" " * (1 << 20 | 1), "has more than")):
             self.fails(given, says, "--kill")
 
+    def test_it_is_killed_whatever_fails(self):
+        """Also where the folder or a member of the configuration has half a pair of surrogates."""
+        twice = self.folder + "/twice"
+        self.file("twice/config.json", b'{"\\ud800":1,"\\ud800":2}')
+        for bundle, says in (("/b\ud800", "there is no file '/b\\xed\\xa0\\x80/config.json'"),
+                             (twice, "the member '\\xed\\xa0\\x80' stands twice")):
+            child = subprocess.Popen(["sleep", "1000"])
+            self.addCleanup(child.kill)
+            status, _, err = self.run_tool("oci-hook", "--kill", given=self.state(child.pid, bundle, id="a\udfff"))
+            self.assertEqual((status, child.wait()), (3, -signal.SIGKILL), err)
+            self.assertIn("container a\\xed\\xbf\\xbf", err)
+            self.assertIn(says, err)
+        with mock.patch.object(hooks, "failed", side_effect=str):
+            self.assertIn("itself failed: KeyError", hooks.guarded(lambda: {}["none"]))
+
     def test_a_process_that_is_gone(self):
         child = subprocess.Popen(["true"])
         child.wait()
@@ -126,6 +141,26 @@ class OfStates(Hook):
                               stderr=subprocess.PIPE, env=dict(it.split("=", 1) for it in found["hook"]["env"]))
         self.assertEqual(done.returncode, 3, done.stderr)
         self.assertEqual(self.run_tool("oci-hook", "--print-hook", "--wait", "x")[0], 2)
+
+    def printed_hook(self, *words):
+        status, out, err = self.run_tool("oci-hook", "--print-hook", *words)
+        self.assertEqual((status, err), (0, ""))
+        return json.loads(out)["hook"]
+
+    def test_the_timeout_of_the_file_for_hooks(self):
+        """It is a whole number, and leaves time to stop the threads and to compare after the wait."""
+        for words, wait in (((), 1), (("--wait", "0"), 0), (("--wait=0.5",), 1), (("--kill", "--wait", "60"), 60)):
+            timeout = self.printed_hook(*words)["timeout"]
+            self.assertEqual((timeout, type(timeout)), (wait + 60, int), words)
+            self.assertGreater(timeout, wait + 2 * processes.PATIENCE)
+
+    def test_the_table_of_the_file_for_hooks(self):
+        """A runtime calls the hook elsewhere: the path is the absolute one."""
+        path = os.path.join(os.path.realpath(self.folder), "x/a.table")
+        for words, printed in ((("--table", "x/a.table", "--kill"), ["--table", path, "--kill"]),
+                               (("--table=./x/a.table",), [f"--table={path}"]),
+                               (("--table", "/x/a.table"), ["--table", "/x/a.table"])):
+            self.assertEqual(self.printed_hook(*words)["args"], ["oci-hook", *printed])
 
 
 @here

@@ -265,6 +265,33 @@ class Asked(Case):
             processes.container_of(kernel, 7)
         self.assertIn("process 7 is in no container", str(caught.exception))
 
+    def test_containers_in_a_cgroup_namespace(self):
+        """Its root may be any group, and what is outside of it isn't known; what is below it is."""
+        groups = {7: b"/..", 8: b"/", 9: b"/b", 10: b"/b/c", 11: b"/../other", 12: b"/..b", 13: b"/../../b"}
+        kernel = FakeKernel([OLDEST])
+        kernel.is_root_the_first = lambda: False
+        kernel.processes, kernel.namespaces_of = lambda: list(groups), lambda _: [(1, 1)]
+        kernel.groups_of = lambda it: {"": b"/", "name=systemd": groups.get(it, b"/")}
+        for process in (7, 8, 11, 13):
+            for space in ([(1, 1)], [(1, 7), (1, 1)]):
+                kernel.namespaces_of = lambda it, space=space: [(1, 1)] if it == os.getpid() else space
+                with self.assertRaises(processes.Unreadable) as caught:
+                    processes.container_of(kernel, process)
+                self.assertIn(f"the container of process {process} can't be told: ", str(caught.exception))
+                self.assertIn(f" as {groups[process].decode()}: ", str(caught.exception))
+        for process, members in ((9, [9, 10]), (10, [10]), (12, [12])):
+            container = processes.container_of(kernel, process)
+            self.assertEqual((container.group, container.processes()), (groups[process], members))
+        # where the kernel lists no control group, the PID namespace is asked
+        kernel.groups_of, kernel.namespaces_of = lambda _: {}, lambda it: [(1, 1)] if it == os.getpid() else [(1, 7)]
+        self.assertIsNone(processes.container_of(kernel, 7).group)
+
+    def test_whether_the_root_group_is_the_first(self):
+        for found, is_first in ((mock.Mock(st_ino=0xEFFFFFFB), True), (mock.Mock(st_ino=0xF0000001), False),
+                                (OSError(errno.ENOENT, "none"), True), (OSError(errno.EACCES, "no"), False)):
+            with mock.patch("os.stat", side_effect=[found]):
+                self.assertEqual(processes.Kernel().is_root_the_first(), is_first)
+
     def test_the_name_of_a_group_is_a_stranger_s(self):
         group = b"/\x1b[2J\xff/box"
         self.assertEqual(processes.Container(group, list).told, "the control group /\\x1b[2J\\xff/box")
