@@ -7,15 +7,19 @@ from collections import Counter
 from collections.abc import Sequence
 from dataclasses import dataclass, field
 from errno import EINVAL, ENOSYS
+from typing import Any
 
 from . import bundles, kernel_child, kernel_profiles, program
 from .answers import I386, MAX_ERRNO, X86_64, Answer
 from .calls import Call
 from .kernel_child import Kernel, Setting
-from .kernel_programs import HARMLESS
+from .kernel_programs import HARMLESS, Calls
 
 # So many programs that scf refuses are handed to one child: none of them leaves anything behind.
 TOGETHER = 32
+# A case has at most so many filters and calls, and a filter so many bytes, of which the kernel is told the count of
+# instructions in 16 bits.
+MOST_FILTERS, MOST_CALLS, MOST_BYTES = 8, 24, 8 * 0xFFFF
 
 
 class Scf:
@@ -56,23 +60,64 @@ class Case:
                 "listener": self.setting.listener, "profile": self.profile is not None,
                 "calls": [line_of(call) for call in self.calls]}
         files["case.json"] = json.dumps(case, indent=1).encode()
-        files["said"] = "".join(f"{line}\n" for line in said).encode()
+        files["said"] = "".join(f"{line}\n" for line in said).encode("utf-8", "surrogateescape")
         for name, data in files.items():
             with open(os.path.join(folder, name), "wb") as file:
                 file.write(data)
 
     @classmethod
     def kept(cls, folder: str) -> Case:
+        """The case of a folder; an OSError, or what a wrong text or type raises, where it holds none."""
         def read(name: str) -> bytes:
             with open(os.path.join(folder, name), "rb") as file:
                 return file.read()
 
         case = json.loads(read("case.json"))
-        calls = [Call.read(line) for line in case["calls"]]
-        if None in calls:
-            raise ValueError("a call isn't one")
-        return cls(case["name"], [read(f"{place}.bpf") for place in range(case["filters"])], calls,
-                   Setting(case["traced"], case["listener"]), read("profile.json") if case["profile"] else None)
+        calls = calls_of_kept(case)
+        filters = [read(f"{place}.bpf") for place in range(case["filters"])]
+        if any(len(data) % 8 or len(data) > MOST_BYTES for data in filters):
+            raise ValueError("a filter has no length of one")
+        profile = read("profile.json") if case["profile"] else None
+        for call in calls if profile is not None else ():
+            # one that the small reading can't read is none
+            kernel_profiles.answer_of(profile, call)
+        return cls(case["name"], filters, calls, Setting(case["traced"], case["listener"]), profile)
+
+
+def calls_of_kept(case: dict[str, Any]) -> list[Call]:
+    """The calls of a kept case; a ValueError where a member isn't of its type, or not in its range."""
+    count, listener, has_profile = case["filters"], case["listener"], case["profile"]
+
+    def refuse_unless(holds: bool, member: str) -> None:
+        if not holds:
+            raise ValueError(f"its member {member} isn't as it is kept")
+
+    refuse_unless(isinstance(case["name"], str) and case["name"].isprintable(), "name")
+    refuse_unless(isinstance(has_profile, bool), "profile")
+    counts = range(1) if has_profile else range(1, MOST_FILTERS + 1)
+    refuse_unless(is_one_of(count, counts), "filters")
+    refuse_unless(isinstance(case["traced"], bool), "traced")
+    places = range(0 if case["traced"] else count or 1)
+    refuse_unless(listener is None or is_one_of(listener, places), "listener")
+    refuse_unless(isinstance(case["calls"], list), "calls")
+    calls = [Call.read(line) for line in case["calls"]]
+    # without calls it is a program
+    refuse_unless(len(calls) in range(0 if count == 1 else 1, MOST_CALLS + 1), "calls")
+    found = [call for call in calls if call is not None and is_made(call)]
+    refuse_unless(len(found) == len(calls), "calls")
+    return found
+
+
+def is_one_of(value: Any, numbers: range) -> bool:
+    return isinstance(value, int) and not isinstance(value, bool) and value in numbers
+
+
+def is_made(call: Call) -> bool:
+    """Whether a child makes this call: at one of its places, and one that does nothing."""
+    site = call.pointer - 2
+    return (site in kernel_child.SITES and call == kernel_child.call_at(site, call.number, call.arguments)
+            and call.number < 1 << 32 and all(argument < 1 << 64 for argument in call.arguments)
+            and Calls(True, False).does_nothing(site, call.number))
 
 
 def line_of(call: Call) -> str:

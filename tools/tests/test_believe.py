@@ -2,6 +2,7 @@
 import os
 import re
 import shutil
+import signal
 
 from common import TOP, Case, tool
 
@@ -193,6 +194,34 @@ class Believe(Case):
         path = self.file("page.md", brief.format(re.sub(r"`low`, `by_kinds`", "2 definitions", self.LISTS).replace(
             "`IsFine`", "1 definition")))
         self.assertEqual(self.believe("--page", path), (0, "", ""))
+
+    def test_a_page_that_is_not_utf_8(self):
+        path = self.file("page.md", b"a\xff\n")
+        for more in ([], ["--write"]):
+            status, out, err = self.believe("--page", path, *more)
+            self.assertEqual((status, out), (2, ""))
+            self.assertRegex(err, r"\nbelieve: error: '.*page\.md' isn't UTF-8, at byte 1\n$")
+
+    def test_sources_that_are_not_utf_8(self):
+        status, out, err = self.believe("low::made", **{FINE: b"\xff"})
+        self.assertEqual((status, out), (3, ""))
+        self.assertRegex(err, r"^believe: a file of the sources isn't UTF-8: .*\n$")
+
+    def test_the_output_fails(self):
+        page = self.file("page.md", self.PAGE.format(""))
+        begin = [tool("believe"), "--repository", self.tree()]
+        for words in (["low::made"], ["--page", page]):
+            with open("/dev/full", "wb") as full:
+                self.assertEqual(self.run_words([*begin, *words], stdout=full),
+                                 (3, "", "believe: the output failed: No space left on device\n"))
+            closed = ["/bin/sh", "-c", 'exec "$@" >&-', "sh", *begin, *words]
+            self.assertEqual(self.run_words(closed), (3, "", "believe: the output failed: Bad file descriptor\n"))
+            read, write = os.pipe()
+            os.close(read)
+            try:
+                self.assertEqual(self.run_words([*begin, *words], stdout=write), (-signal.SIGPIPE, "", ""))
+            finally:
+                os.close(write)
 
     def test_a_page_without_an_end(self):
         path = self.file("page.md", "<!-- believe low::made fine -->\n\nMore.\n")

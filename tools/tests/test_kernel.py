@@ -206,8 +206,8 @@ class Reading(unittest.TestCase):
 
 
 class Kept(Asked):
-    def kept(self, name="case", **parts):
-        folder = os.path.join(self.folder, name)
+    def kept(self, place="case", **parts):
+        folder = os.path.join(self.folder, place)
         case = {"name": "it", "filters": [ret(0x00050007)], "calls": [kernel_child.call_at(kernel_child.SITE, 39, ())]}
         kernel_asking.Case(**{**case, **parts}).keep(folder, ["a line"])
         return folder
@@ -228,6 +228,40 @@ class Kept(Asked):
             status, out, err = self.run_tool("kernel", "--repeat", name)
             self.assertEqual(status, 3, out)
             self.assertIn("holds no case", err)
+
+    def test_members_that_no_case_has(self):
+        line = kernel_asking.line_of(kernel_child.call_at(kernel_child.SITE, 39, ()))
+        rows = [{"name": value} for value in ("\ud800", "a\nb", 1)]
+        rows += [{"filters": value} for value in (0, -1, 9, 1 << 70, True, 1.0, "1", None)]
+        rows += [{"calls": value} for value in ("", {}, [1], ["call"], [line] * 25)]
+        rows += [{"calls": [line.replace(*change)]} for change in (
+            ("nr 39 ", f"nr {(1 << 32) + 39} "), ("nr 39 ", "nr 60 "), ("0xc000003e", "0x0"),
+            ("0xc000003e", "0x40000003"), ("ip 0x5", "ip 0x6"), ("args 0x0", f"args {1 << 64:#x}"))]
+        rows += [{"traced": "x"}, {"traced": 0}, {"traced": True, "listener": 0}, {"profile": None}, {"profile": True}]
+        rows += [{"listener": value} for value in ("y", 1, -1, False, 0.0)]
+        folder = self.kept()
+        with open(os.path.join(folder, "case.json"), encoding="utf-8") as file:
+            case = json.load(file)
+        texts = [json.dumps({**case, **row}) for row in rows]
+        texts += [json.dumps({name: case[name] for name in case if name != left_out}) for left_out in case]
+        for text in (*texts, "[" * 100000, "[]", "1", "{", b"\xff"):
+            with self.subTest(text[:200]):
+                self.file("case/case.json", text)
+                self.assertRaises((ValueError, LookupError, TypeError, RecursionError), kernel_asking.Case.kept, folder)
+        self.file("case/case.json", json.dumps(case))
+        self.assertEqual(kernel_asking.Case.kept(folder).filters, [ret(0x00050007)])
+
+    def test_such_members_are_no_traceback(self):
+        for place, (parts, name, data) in enumerate((
+                ({}, "case.json", "[" * 100000), ({"name": "\ud800"}, "said", b""), ({}, "0.bpf", bytes(8 << 16)),
+                ({"filters": [], "calls": []}, "said", b""), ({"filters": [ret(0)] * 2, "calls": []}, "said", b""),
+                ({"setting": Setting("x", "y")}, "said", b""), ({"calls": [Call(0)]}, "said", b""),
+                ({"filters": [], "profile": b'{"defaultAction": "SCMP_ACT_ALLOW"}'}, "said", b""))):
+            folder = self.kept(f"{place}", **parts)
+            self.file(f"{place}/{name}", data)
+            status, out, err = self.run_tool("kernel", "--repeat", folder)
+            self.assertEqual(status, 3, (place, out, err))
+            self.assertRegex(err, r"^kernel: '.*' holds no case: .*\n$", place)
 
     def test_what_differs_is_printed_and_kept(self):
         """A program that says the same of each filter stands in for scf."""
@@ -251,6 +285,10 @@ class Kept(Asked):
         with open(os.path.join(kept, name, "said"), encoding="utf-8") as file:
             self.assertIn(f"repeat it by: tools/kernel --repeat kernel-failures-x/{name}\n", file.read())
         self.assertIn(f"    kept in kernel-failures-x/{name}", out.split("\n"))
+        status, out, err = self.run_words([words[0], *few, "--failures", b"\xff"])
+        self.assertEqual((status, err), (1, ""), out)
+        with open(os.path.join(os.fsencode(self.folder), b"\xff", name.encode(), b"said"), "rb") as file:
+            self.assertIn(b"--repeat \xff/%s\n" % name.encode(), file.read())
         status, lines = self.asked("--repeat", os.path.join(kept, name))
         self.assertEqual((status, lines[-1]), (0, "1 passed, 0 failed"), lines)
 
@@ -288,6 +326,11 @@ class Words(Case):
             status, out, err = self.run_tool("kernel", *words)
             self.assertEqual((status, out), (2, ""), words)
             self.assertIn("kernel", err)
+
+    def test_any_word_is_a_seed(self):
+        for seed in (b"\xff", b"\xed\xa0\x80", "\u2115\n", ""):
+            status, out, err = self.run_tool("kernel", "--seed", seed, "--programs=1", "--filters=0", "--profiles=0")
+            self.assertIn((status, err), ((0, ""), (4, "")), out)
 
     def test_closed_output(self):
         self.assertEqual(self.closed_output("kernel", "--programs=0", "--filters=0", "--profiles=0")[0], 3)
