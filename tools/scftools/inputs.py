@@ -27,8 +27,9 @@ def why(name: str, kind: str, error: OSError) -> str:
     return f"the {kind} {shown} can't be read: {error.strerror}"
 
 
-def read(name: str, kind: str) -> bytes:
-    """The bytes of an input, `-` being standard input: at most one more than its kind may have."""
+def read(name: str, kind: str, status: int = program.WRONG_WORDS) -> bytes:
+    """The bytes of an input, `-` being standard input: at most one more than its kind may have. Refused with a status
+    where it can't be read."""
     room = LIMITS[kind] + 1
     found = []
     try:
@@ -43,10 +44,10 @@ def read(name: str, kind: str) -> bytes:
         finally:
             os.close(file)
     except OSError as error:
-        raise program.Refused(why(name, kind, error)) from error
+        raise program.Refused(why(name, kind, error), status) from error
     except UnicodeEncodeError as error:
         # half a pair of surrogates, which no name of a file has
-        raise program.Refused(f"there is no file '{output.escaped(name)}'") from error
+        raise program.Refused(f"there is no file '{output.escaped(name)}'", status) from error
     return b"".join(found)
 
 

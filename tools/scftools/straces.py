@@ -142,6 +142,8 @@ class Log:
     _makers: dict[str | None, None] = field(default_factory=dict)
     _other_mode: str | None = None
     _broken: str = ""
+    # whether the line that is looked at is longer than it is looked at
+    _is_long: bool = False
 
     def add(self, number: int, line: str) -> None:
         """Takes a line of the log."""
@@ -152,6 +154,7 @@ class Log:
             # a message of strace's stands where the line was broken off, which goes on in the next one
             self._broken = line[:message.start()]
             return
+        self._is_long = len(line) >= LINE
         leader = LEADER.match(line)
         start = leader.end() if leader else 0
         who = self._who(leader[1] or leader[2] if leader else None)
@@ -231,7 +234,7 @@ class Log:
     def _call(self, number: int, who: str | None, text: str, is_cut: bool = False) -> None:
         """Counts a call: its name, and of what is asked for the values that it shows."""
         name = CALL.match(text)
-        if name is None or not (is_cut or len(text) >= LINE or " = " in text):
+        if name is None or not (is_cut or self._is_long or len(text) >= LINE or " = " in text):
             self._count(self.cut if name and self.is_named(name[1]) else self.unread, number)
             return
         if text.startswith(FORKS):

@@ -210,7 +210,7 @@ class Believe(Case):
     def test_the_output_fails(self):
         page = self.file("page.md", self.PAGE.format(""))
         begin = [tool("believe"), "--repository", self.tree()]
-        for words in (["low::made"], ["--page", page]):
+        for words in (["low::made"], ["--page", page], ["--help"]):
             with open("/dev/full", "wb") as full:
                 self.assertEqual(self.run_words([*begin, *words], stdout=full),
                                  (3, "", "believe: the output failed: No space left on device\n"))

@@ -263,6 +263,13 @@ class Needs(Judged):
         # what isn't a call's name isn't strace's
         self.assertEqual(self.judged("read(1) = 1\nwhat(1\n", 0)[1]["not_judged"]["lines"], 1)
 
+    def test_a_line_longer_than_it_is_looked_at(self):
+        for leader in ("", "7 ", "[pid     7] ", "12:00:00 "):
+            log = f"read(1) = 1\n{leader}read(1, \"{'a' * (1 << 17)}\", 7) = 7\n"
+            fates, report, _ = self.judged(log, 0)
+            self.assertEqual((fates, report["not_judged"]["cut"]), ({"read": "made"}, 0))
+            self.assertEqual(report["calls"][0]["count"], 2)
+
     def test_a_call_without_a_name(self):
         fates, report, out = self.judged("syscall_0x3ff(0x1, 0, 0, 0, 0, 0) = -1\nsyscall_0x1(0x1) = 0", 1)
         self.assertEqual(out.split("\n")[0], "1023 syscall_0x3ff ERRNO 1 default")

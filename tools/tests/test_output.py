@@ -132,6 +132,19 @@ class Hostile(Case):
                     "same", f"skipped {shown}", "# names of the profile that were skipped, since the table doesn't "
                     "name such calls: 1", f"# no call that is known here is called {shown}"])
 
+    def test_explain_reads_what_it_compares_once_and_only_where_it_is_needed(self):
+        read, write = os.pipe()
+        self.addCleanup(os.close, write)
+        for words, status in ((("--help",), 0), (("--no-such",), 2), (("--limit", "x"), 2)):
+            self.assertEqual(self.run_tool("explain", "compare", *words, given=read)[0], status)
+        # what was read before a failure isn't left out
+        os.set_blocking(read, False)
+        os.write(write, part("filter", SAME))
+        status, out, err = self.run_tool("explain", "compare", given=read)
+        self.assertEqual((status, out), (3, ""))
+        self.assertIn("standard input can't be read", err)
+        os.close(read)
+
     def compiled(self, name):
         done = subprocess.run([tool("compile"), self.profile(name)], stdout=subprocess.PIPE, stderr=subprocess.PIPE,
                               check=False)
