@@ -1,4 +1,5 @@
-"""Answers: actions, errnos, architectures, and what the kernel does with an answer (seccomp(2), linux/seccomp.h)."""
+"""Answers: actions, errnos, architectures, and what the kernel does with an answer (seccomp(2), linux/seccomp.h, and
+`__seccomp_filter` of kernel/seccomp.c, whose default case kills the process for each action without a name)."""
 from __future__ import annotations
 
 import errno
@@ -17,13 +18,13 @@ DOES = {
     "KILL_PROCESS": "the process ends",
     "USER_NOTIF": "a supervisor answers the call",
     "TRACE": "a tracer is told of the call; without one it fails with ENOSYS",
-    "UNNAMED": "seccomp(2) names no such action",
+    "UNNAMED": "the process ends, since seccomp(2) names no such action",
 }
 # Where the call is made, and where it isn't whoever looks on.
 LETS_THROUGH = ("ALLOW", "LOG")
-REFUSES = ("ERRNO", "TRAP", "KILL_THREAD", "KILL_PROCESS")
-# What becomes of a call, the least first: an answer's rank is its high half, signed (seccomp(2)), and a call is refused
-# up to the rank of ERRNO, and made from the rank of LOG on.
+REFUSES = ("ERRNO", "TRAP", "KILL_THREAD", "KILL_PROCESS", "UNNAMED")
+# What becomes of a call, the least permissive first. It follows from the action alone: the rank of an answer only says
+# which of a stack's answers decides.
 FATES = REFUSED, REFERRED, MADE = "refused", "referred to a supervisor or tracer", "made"
 # An answer of these without a number still has one.
 HAS_DATA = ("ERRNO", "TRACE", "TRAP", "UNNAMED")
@@ -78,8 +79,7 @@ class Answer:
     @property
     def fate(self) -> str:
         """What becomes of the call."""
-        rank = (self.word >> 16 ^ 0x8000) - 0x8000
-        return REFUSED if rank <= 0x0005 else REFERRED if rank < 0x7FFC else MADE
+        return MADE if self.lets_through else REFUSED if self.refuses else REFERRED
 
     def does(self) -> str:
         """What the kernel does with it."""

@@ -375,7 +375,8 @@ class Explain(Case):
                                      "ERRNO 4096: the call isn't made, and fails with errno 4095, the greatest that "
                                      "the kernel gives"),
                                     (0x12340000, "UNNAMED 0x12340000",
-                                     "UNNAMED 0x12340000: seccomp(2) names no such action")):
+                                     "UNNAMED 0x12340000: the process ends, since seccomp(2) names no such "
+                                     "action")):
             self.assertEqual(self.run_tool("explain", "run", given=ret(answer)),
                              (0, f"{line} steps 1\n# the call is read (0)\n# {means}\n", ""))
 

@@ -15,7 +15,7 @@ from stand_in import OF_ANSWERS, OF_CHECKER, StandIn
 sys.path.append(os.path.join(TOP, "tools"))
 from scftools import kernel_asking, kernel_child, kernel_otherwise, kernel_profiles  # noqa: E402
 from scftools import kernel_programs as programs  # noqa: E402
-from scftools.answers import Answer  # noqa: E402
+from scftools.answers import REFUSED, Answer  # noqa: E402
 from scftools.calls import Call  # noqa: E402
 from scftools.kernel_child import Setting  # noqa: E402
 
@@ -95,6 +95,28 @@ class Gate(Asked):
             text = file.read().split("## Where the kernel does otherwise")[1]
         rows = re.findall(r"^\| ([^|]+?) \|", text.split("\n## ")[0], re.M)
         self.assertEqual(rows[1:], list(kernel_otherwise.ROWS))
+
+
+# Actions without a name, on both sides of each that linux/seccomp.h names.
+WITHOUT_A_NAME = (0x00010000, 0x00020000, 0x00040000, 0x00060000, 0x7FBF0000, 0x7FC10000, 0x7FEF0000, 0x7FF10000,
+                  0x7FFB0000, 0x7FFD0000, 0x7FFE0000, 0x80010000, 0xFFFF0000)
+
+
+class Dispositions(unittest.TestCase):
+    """What becomes of a syscall by an answer: what the kernel does, and what the tools say."""
+
+    def test_an_action_without_a_name_ends_the_process(self):
+        try:
+            kernel = kernel_child.Kernel()
+        except kernel_child.Unavailable as why:
+            self.skipTest(str(why))
+        getpid = kernel_child.call_at(kernel_child.SITE, 39, ())
+        for action in WITHOUT_A_NAME:
+            with self.subTest(action=hex(action)):
+                self.assertEqual(kernel.ask([ret(action | 5)], [getpid]).texts, [kernel_child.PROCESS_ENDS])
+                answer = Answer.read(StandIn().printed(action | 5))
+                self.assertEqual((answer.refuses, answer.lets_through, answer.fate), (True, False, REFUSED))
+                self.assertIn("the process ends", answer.does())
 
 
 class Planted(unittest.TestCase):

@@ -29,12 +29,14 @@ SCOPES = {"all": [], "native": ["--native"], "calls": ["--calls"]}
 NAMES = {"read": READ, "write": WRITE, "socket": SOCKET, "getpid": GETPID, "exit_group": EXIT_GROUP}
 
 
+# linux/seccomp.h, and what __seccomp_filter of kernel/seccomp.c does by each action: 0 it denies the syscall, 1 it
+# delegates it, 2 it allows it. Its default case, for all other actions, kills the process.
+DEGREES = {KILL_PROCESS: 0, KILL_THREAD: 0, TRAP: 0, 0x00050000: 0, USER_NOTIF: 1, TRACE: 1, LOG: 2, ALLOW: 2}
+
+
 def degree(answer):
-    """How far an answer lets a call through: 0 refused, 1 referred, 2 made; by its high half, which has a sign."""
-    high = answer >> 16
-    if high >= 0x8000 or high <= 0x0005:
-        return 0
-    return 1 if high < 0x7FFC else 2
+    """How permissive an answer is, by its action alone."""
+    return DEGREES.get(answer & 0xFFFF0000, 0)
 
 
 def related(relation, one, other):
@@ -97,13 +99,18 @@ PAIRS = {
     "both together too little": ([filter_of([READ]), filter_of([WRITE])], ALLOWS_READ, ("differs", "no more", "less")),
     "foreign calls are made": ([filter_of([READ], foreign=ALLOW)], ALLOWS_READ, ("differs", "more", "no less")),
     "foreign calls are referred": ([filter_of([READ], foreign=TRACE)], ALLOWS_READ, ("differs", "more", "no less")),
+    "an action without a name kills": ([gate(ret(0x7FFE0000))], ALLOWS, ("differs", "no more", "less")),
+    "no more than one that is killed": ([gate(ret(0x7FFE0000))], profile(default="SCMP_ACT_KILL_PROCESS"),
+                                        ("differs", "no more", "no less")),
+    "one without a name loses to TRACE": ([gate(ret(0x7FFE0000)), ret(TRACE)], profile(default="SCMP_ACT_ERRNO"),
+                                          ("differs", "more", "no less")),
     "all is refused": ([ret(KILL_PROCESS)], ALLOWS, ("differs", "no more", "less")),
     "no native call is refused": ([gate(ret(ALLOW))], profile(("read", "LOG", {}), default="SCMP_ACT_ALLOW"),
                                   ("differs", "no more", "no less")),
 }
 # Answers on both sides of each border, and what the profile's answers are: ERRNO, USER_NOTIF, TRACE, LOG and ALLOW.
 EACH = (KILL_PROCESS, 0x80000001, 0xFFFF0000, KILL_THREAD, 0x00020000, TRAP, 0x00040007, EPERM, ENOSYS, 0x00060000,
-        0x7FBF0000, USER_NOTIF, TRACE, 0x7FFB0000, LOG, 0x7FFD0000, ALLOW)
+        0x7FBF0000, USER_NOTIF, 0x7FEF0000, TRACE, 0x7FF10000, 0x7FFB0000, LOG, 0x7FFD0000, 0x7FFE0000, ALLOW)
 PROFILES = {"ERRNO": EPERM, "KILL_PROCESS": KILL_PROCESS, "TRAP": TRAP, "NOTIFY": USER_NOTIF, "TRACE": TRACE | 1,
             "LOG": LOG, "ALLOW": ALLOW}
 
@@ -172,7 +179,7 @@ class Relations(Case):
                         self.assertEqual(found, row)
 
     def test_each_answer(self):
-        """Every kind of answer, unnamed ones at both borders, beside each action of a profile."""
+        """Every kind of answer, unnamed ones beside each named one, against each action of a profile."""
         for (action, default), answer in itertools.product(PROFILES.items(), EACH):
             given = profile(default=f"SCMP_ACT_{action}")
             self.assertEqual(kernel_profiles.answer_of(given, calls.Call(0)).word, default)

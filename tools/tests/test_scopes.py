@@ -75,8 +75,8 @@ BY_RELATIONS = (
     ([TRACES], READ_TABLE, ONE_CALL, 0, [("LOG 0", MADE), SAME, SAME]),
     ([TRACES], READ_TABLE, ONE_CALL, 2, [("TRACE 0", FAILS), ("TRACE 0", FAILS), SAME]),
 )
-# Answers by the kernel's header, with unnamed ones at both borders, and what becomes of a call: 0 it is refused, 1
-# referred, 2 made.
+# Answers by the kernel's header, with unnamed ones beside them, and what becomes of a syscall by __seccomp_filter of
+# kernel/seccomp.c, whose default case kills the process: 0 denied, 1 delegated, 2 allowed.
 ANSWERS = (
     # KILL_PROCESS, and half numbers that are negative
     (0x80000000, 0), (0x80000007, 0), (0x80010000, 0), (0xFFFFFFFF, 0),
@@ -84,9 +84,9 @@ ANSWERS = (
     (0x00000000, 0), (0x0000FFFF, 0), (0x00010000, 0), (0x00030000, 0), (0x00040000, 0), (0x00050000, 0),
     (0x00050001, 0), (0x0005FFFF, 0),
     # between ERRNO and USER_NOTIF, USER_NOTIF, TRACE, and between TRACE and LOG
-    (0x00060000, 1), (0x7FC00000, 1), (0x7FF00000, 1), (0x7FF00001, 1), (0x7FFB0000, 1), (0x7FFBFFFF, 1),
+    (0x00060000, 0), (0x7FC00000, 1), (0x7FF00000, 1), (0x7FF00001, 1), (0x7FFB0000, 0), (0x7FFBFFFF, 0),
     # LOG, between LOG and ALLOW, and ALLOW
-    (0x7FFC0000, 2), (0x7FFD0000, 2), (0x7FFF0000, 2), (0x7FFF0001, 2),
+    (0x7FFC0000, 2), (0x7FFD0000, 0), (0x7FFE0000, 0), (0x7FFF0000, 2), (0x7FFF0001, 2),
 )
 # The actions of profiles, their answers (TRACE has errno 1 where none is stated, as ERRNO has), and what becomes of a
 # call.

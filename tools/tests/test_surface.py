@@ -34,7 +34,7 @@ NUMBERS = sorted(set(NAMES.values()))
 X32 = 0x40000000
 OTHERS = X32 - len(NUMBERS)
 TRAP, USER_NOTIF, TRACE, LOG = 0x00030000, 0x7FC00000, 0x7FF00000, 0x7FFC0000
-# Answers that seccomp(2) doesn't name, between those of ERRNO and USER_NOTIF, and of LOG and ALLOW.
+# Answers that seccomp(2) doesn't name, with ranks between those of ERRNO and USER_NOTIF, and of LOG and ALLOW.
 BETWEEN, NEARLY = 0x00060000, 0x7FFD0000
 HIGH = 1 << 32
 
@@ -90,19 +90,18 @@ KNOWN = {
     "a stack of conditions": ([of_number(SOCKET, by_argument(40, EPERM, ALLOW), ALLOW),
                                of_number(SOCKET, by_argument(41, TRACE, EPERM), ALLOW)], [M, M, M, D, M]),
     "foreign calls are made": ([gate(jeq(READ, 0, 1) + ret(ALLOW) + ret(EPERM), ALLOW)], [M, R, R, R, R]),
-    "between refused and referred": ([ret(BETWEEN)], [F] * 5),
-    "between logged and made": ([ret(NEARLY)], [M] * 5),
+    "an action without a name": ([ret(BETWEEN)], [R] * 5),
+    "an action without a name, between LOG and ALLOW": ([ret(NEARLY)], [R] * 5),
+    "an action without a name, and one before it": ([ret(NEARLY), ret(LOG)], [M] * 5),
 }
 ARGUMENTS = (0, 1, 2, 3, 4, 5, 8, 39, 40, 41, 42, 40 * HIGH, 40 * HIGH + 40, 41 * HIGH, (1 << 64) - 1)
 POINTERS = (0, 0x1234, 0x1235)
 
 
 def fate(answer):
-    """What becomes of a call by an answer of 32 bits, whose high half has a sign."""
-    high = answer >> 16
-    if high >= 0x8000 or high <= 0x0005:
-        return R
-    return F if high < 0x7FFC else M
+    """What becomes of a call by the action of an answer (`__seccomp_filter` of kernel/seccomp.c)."""
+    action = answer & 0xFFFF0000
+    return F if action in (USER_NOTIF, TRACE) else M if action in (LOG, ALLOW) else R
 
 
 def fate_by_hand(filters, call):

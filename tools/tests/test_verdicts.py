@@ -79,7 +79,7 @@ ALSO_CLOSE = a_filter("ld [0]; jeq #0, yes, 0; jeq #3, yes, 0; ret #0x50001; yes
 LOGGED = a_profile('{"defaultAction":"SCMP_ACT_LOG"}')
 REFERRED = a_profile('{"defaultAction":"SCMP_ACT_NOTIFY"}')
 TRACED = behind_gate("ret #0x7ff00000")
-# An answer without a name that goes just behind ERRNO, and one just before LOG.
+# Answers without a name, which deny: one whose rank is just behind that of ERRNO, and one just before LOG.
 BEHIND_ERRNO = behind_gate("ret #0x60000")
 BEFORE_LOG = behind_gate("ret #0x7ffb0000")
 # Options and parts, how what is printed begins and ends, and the status. Between the two stands what is shown of a
@@ -106,8 +106,10 @@ RELATIONS = (
     ("--no-more", [TRACED, REFERRED, NO_TABLE], "no more\n", "", 0),
     ("--no-less", [TRACED, REFERRED, NO_TABLE], "no less\n", "", 0),
     ("--no-more", [BEHIND_ERRNO, REFERRED, NO_TABLE], "no more\n", "", 0),
-    ("--no-less", [BEHIND_ERRNO, REFERRED, NO_TABLE], "no less\n", "", 0),
-    ("--no-less", [BEFORE_LOG, REFERRED, NO_TABLE], "no less\n", "", 0),
+    ("--no-less", [BEHIND_ERRNO, REFERRED, NO_TABLE], "less\ncall nr ",
+     "\nfilter UNNAMED 0x00060000\nprofile USER_NOTIF 0\n", 1),
+    ("--no-less", [BEFORE_LOG, REFERRED, NO_TABLE], "less\ncall nr ",
+     "\nfilter UNNAMED 0x7ffb0000\nprofile USER_NOTIF 0\n", 1),
     ("--no-more", [BEFORE_LOG, REFERRED, NO_TABLE], "no more\n", "", 0),
     ("--no-more", [NATIVE, REFERRED, NO_TABLE], "more\ncall nr ", "\nfilter ALLOW 0\nprofile USER_NOTIF 0\n", 1),
     ("--no-less --native", [NOTHING, REFERRED, NO_TABLE], "less\ncall nr ",

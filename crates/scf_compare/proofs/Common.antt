@@ -14,11 +14,11 @@ pub use Rattle.scf_facts.specs.declared.atom.Atom.{Atom}
 pub use Rattle.scf_facts.specs.declared.atom.Atom.TheVariants.{Eq, Ge}
 pub use Rattle.scf_facts.specs.declared.word_facts.WordFacts.{Ghosts as Store}
 pub use Rattle.scf_insn.proofs.CallWords.{IsRecord-call_of, IsWords-words_of, call_of-words_of, word_below, words_of-call_of}
-pub use Rattle.scf_insn.proofs.Common.{drop-drop, IsRecord, IsSimpleMask, IsWords, and_shr, argument, bpf_memwords, call_of, degree_of, fate_of, mul-le-mul_left, rank_of, words_of, x32_syscall_bit}
+pub use Rattle.scf_insn.proofs.Common.{drop-drop, IsRecord, IsSimpleMask, IsWords, and_shr, argument, bpf_memwords, call_of, disposition_of, mul-le-mul_left, permissiveness_of, rank_of, words_of, x32_syscall_bit}
 unfoldable pub use Rattle.scf_insn.proofs.Common.{operation_of}
 pub use Rattle.scf_insn.proofs.Halves.{argument_high, argument_low}
 pub use Rattle.scf_insn.specs.declared.answer.Answer.{Answer}
-pub use Rattle.scf_insn.specs.declared.answer.Fate.{Fate}
+pub use Rattle.scf_insn.specs.declared.answer.Disposition.{Disposition}
 pub use Rattle.scf_insn.specs.declared.insn.Insn.{Insn}
 pub use Rattle.scf_insn.specs.declared.operation.Operand.TheVariants.{Constant}
 pub use Rattle.scf_insn.specs.declared.operation.Operation.{Operation}

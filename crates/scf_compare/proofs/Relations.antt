@@ -1,5 +1,5 @@
 -- What follows from one relation for another.
-use Rattle.scf_compare.proofs.Common.{call_of-words_of, ◌≡◌, ◌≤◌, ℕ, List, arith, subst, Fate, Insn, CallRecord, degree_of, fate_of, IsRecord, words_of, StackAnswers, stack_answer_once, Profile, HaveNoConflict, ProfileAnswers, AnswersRelated, one_answer, Relation, Same, NoMore, NoLess, Scope, IsRelated, IsInScope, RelatedAnswersIn}
+use Rattle.scf_compare.proofs.Common.{call_of-words_of, ◌≡◌, ◌≤◌, ℕ, List, arith, subst, Disposition, Insn, CallRecord, permissiveness_of, disposition_of, IsRecord, words_of, StackAnswers, stack_answer_once, Profile, HaveNoConflict, ProfileAnswers, AnswersRelated, one_answer, Relation, Same, NoMore, NoLess, Scope, IsRelated, IsInScope, RelatedAnswersIn}
 
 pub all_related : (relation : Relation) (filters : List (List Insn)) (p : Profile) (scope : Scope)
     → RelatedAnswersIn Same scope (StackAnswers filters) p → RelatedAnswersIn relation scope (StackAnswers filters) p

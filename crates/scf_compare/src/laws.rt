@@ -3,7 +3,7 @@
 ghost use Rattle.std.specs.Prelude.{◌≡◌, ℕ, List};
 ghost use Rattle.scf_insn.specs.declared.insn.Insn.{Insn};
 ghost use Rattle.scf_insn.specs.declared.record.CallRecord.{CallRecord};
-ghost use Rattle.scf_insn.specs.Answers.{fate_of};
+ghost use Rattle.scf_insn.specs.Answers.{disposition_of};
 ghost use Rattle.scf_insn.specs.Words.{IsRecord, words_of};
 ghost use Rattle.scf_machine.specs.Precedence.{StackAnswers};
 ghost use Rattle.scf_profile.specs.Profile.{Profile, HaveNoConflict};
@@ -13,7 +13,7 @@ ghost use Rattle.scf_profile.specs.Scope.{IsInScope, RelatedAnswersIn, SameAnswe
 
 use scf_profile::{Relation, Scope};
 
-/// A stack that answers as a profile does lets through no more of each call than the profile, and no less.
+/// A stack that answers as a profile does is no more permissive of any syscall than the profile, and no less.
 #[tactic(auto, using(crate::proofs::Relations::all_related))]
 pub fn same_is_no_more_and_no_less()
     ensures no_more { (filters : List (List Insn)) (p : Profile) (scope : Scope)
@@ -24,16 +24,16 @@ pub fn same_is_no_more_and_no_less()
         → RelatedAnswersIn Relation.NoLess scope (StackAnswers filters) p }
 {}
 
-/// Where a stack lets through no more of each call than a profile, and no less, by both the same becomes of each call:
-/// it is refused, referred or made.
-pub fn no_more_and_no_less_is_one_fate()
+/// Where a stack is no more permissive of any syscall than a profile, and no less, both have the same disposition of
+/// each: denied, delegated or allowed.
+pub fn no_more_and_no_less_is_one_disposition()
     ensures { (filters : List (List Insn)) (p : Profile) (scope : Scope) (call : CallRecord) (filter profile : ℕ)
         → HaveNoConflict p.rules
         → RelatedAnswersIn Relation.NoMore scope (StackAnswers filters) p
         → RelatedAnswersIn Relation.NoLess scope (StackAnswers filters) p
         → IsRecord call → IsInScope scope call
         → StackAnswers filters (words_of call) filter → ProfileAnswers p call profile
-        → fate_of filter ≡ fate_of profile }
+        → disposition_of filter ≡ disposition_of profile }
 {}
 
 /// The headline, which follows from what `check`, `compare_stack` and `compare_by` promise.

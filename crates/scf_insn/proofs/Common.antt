@@ -20,7 +20,7 @@ pub use Rattle.std.specs.List.{AllByRecursion, flat_map, list_all}
 pub use Rattle.std.specs.Map.{lookup}
 pub use Rattle.std.specs.Str.Parse.{digits_value}
 pub use borrow.Rule.Slice.PartMut.{put_mid}
-pub use Rattle.scf_insn.specs.Answers.{LetsThroughNoMore, degree_of, fate_of, rank_of}
+pub use Rattle.scf_insn.specs.Answers.{IsNamed, IsNoMorePermissive, action_disposition, action_half, action_of, disposition_of, permissiveness_of, rank_of}
 pub use Rattle.scf_insn.specs.Codes.{Row, code_of, operations}
 unfoldable pub use Rattle.scf_insn.specs.Codes.{code_table, operation_of}
 pub use Rattle.scf_insn.specs.Insn.{IsInsn, insn_bytes, program_bytes}

@@ -1,6 +1,5 @@
 -- The parts of an answer (Linux uapi seccomp.h), and which of two answers goes first (seccomp(2)).
 use Rattle.std.specs.Prelude.{ℕ, ℤ, ◌+◌, ◌*◌, ◌/◌, ◌%◌, ◌^◌, ◌==◌, ◌≤◌, List, [], ◌∷◌, unwrap_or}
-use Rattle.std.specs.Prelude.{int_lt, if◌then◌else◌}
 use Rattle.std.specs.List.{find}
 use Rattle.std.specs.Int.{w16, cast_signed}
 use Rattle.scf_insn.specs.Kernel.{seccomp_ret_kill_process, seccomp_ret_kill_thread, seccomp_ret_trap}
@@ -9,8 +8,8 @@ use Rattle.scf_insn.specs.Kernel.{seccomp_ret_log, seccomp_ret_allow}
 use Rattle.scf_insn.specs.declared.answer.Action.{Action}
 use Rattle.scf_insn.specs.declared.answer.Action.TheVariants.{KillProcess, KillThread, Trap, Errno, UserNotif, Trace}
 use Rattle.scf_insn.specs.declared.answer.Action.TheVariants.{Log, Allow, Other}
-use Rattle.scf_insn.specs.declared.answer.Fate.{Fate}
-use Rattle.scf_insn.specs.declared.answer.Fate.TheVariants.{Refused, Referred, Made}
+use Rattle.scf_insn.specs.declared.answer.Disposition.{Disposition}
+use Rattle.scf_insn.specs.declared.answer.Disposition.TheVariants.{Denied, Delegated, Allowed}
 
 -- the high half, which names the action
 abbrev pub action_half : ℕ → ℕ
@@ -40,6 +39,11 @@ named_actions = KillProcess ∷ KillThread ∷ Trap ∷ Errno ∷ UserNotif ∷ 
 abbrev pub action_of : ℕ → Action
 action_of half = unwrap_or (find (λ action. half == half_of action) named_actions) (Other half)
 
+-- an action has a name
+abbrev pub IsNamed : Action → Type 0
+IsNamed (Other half) = ⊥
+IsNamed action = Unit {0}
+
 -- the answer of an action with its data
 abbrev pub answer_of : Action → ℕ → ℕ
 answer_of action detail = half_of action * 2 ^ 16 + detail
@@ -48,20 +52,30 @@ answer_of action detail = half_of action * 2 ^ 16 + detail
 abbrev pub rank_of : ℕ → ℤ
 rank_of answer = cast_signed w16 (action_half answer)
 
--- What becomes of a call by the rank of its answer: it is refused up to the rank of ERRNO, referred to a supervisor or
--- a tracer above that and below the rank of LOG, and made from that on. The data play no part.
-abbrev pub fate_of : ℕ → Fate
-fate_of answer = (
-    if int_lt (rank_of seccomp_ret_errno) (rank_of answer)
-    then (if int_lt (rank_of answer) (rank_of seccomp_ret_log) then Referred else Made)
-    else Refused)
+-- What becomes of a syscall by the action of its answer (kernel/seccomp.c, `__seccomp_filter`): an action without a name
+-- kills the process there, and so denies (seccomp(2): since Linux 4.14).
+abbrev pub action_disposition : Action → Disposition
+action_disposition KillProcess = Denied
+action_disposition KillThread = Denied
+action_disposition Trap = Denied
+action_disposition Errno = Denied
+action_disposition UserNotif = Delegated
+action_disposition Trace = Delegated
+action_disposition Log = Allowed
+action_disposition Allow = Allowed
+action_disposition (Other half) = Denied
 
--- how much is let through: refused < referred < made
-abbrev pub degree_of : Fate → ℕ
-degree_of Refused = 0
-degree_of Referred = 1
-degree_of Made = 2
+-- what becomes of a syscall that is answered so: the data play no part, and neither does the rank
+abbrev pub disposition_of : ℕ → Disposition
+disposition_of answer = action_disposition (action_of (action_half answer))
 
--- by one answer no more of a call is let through than by another
-abbrev pub LetsThroughNoMore : ℕ → ℕ → Type 0
-LetsThroughNoMore answer other = degree_of (fate_of answer) ≤ degree_of (fate_of other)
+-- denied < delegated < allowed
+abbrev pub permissiveness_of : Disposition → ℕ
+permissiveness_of Denied = 0
+permissiveness_of Delegated = 1
+permissiveness_of Allowed = 2
+
+-- the one answer is no more permissive than the other
+abbrev pub IsNoMorePermissive : ℕ → ℕ → Type 0
+IsNoMorePermissive answer other =
+    permissiveness_of (disposition_of answer) ≤ permissiveness_of (disposition_of other)

@@ -2,7 +2,7 @@
 
 ghost use Rattle.std.specs.Prelude.{◌≡◌, ◌↔◌, IsTrue};
 ghost use Rattle.scf_insn.specs.Answers.{action_half, data_half, rank_of, action_of, half_of, answer_of};
-ghost use Rattle.scf_insn.specs.Answers.{fate_of, LetsThroughNoMore};
+ghost use Rattle.scf_insn.specs.Answers.{disposition_of, IsNoMorePermissive};
 
 use crate::kernel;
 
@@ -42,15 +42,15 @@ pub enum Action {
     Other(u16),
 }
 
-/// What becomes of a call, from the least that is let through to the most.
+/// What becomes of a syscall, the least permissive first.
 #[derive(Clone, Copy, Debug, PartialEq, Eq)]
-pub enum Fate {
-    /// It isn't made: the process or the thread is killed, gets a signal, or the call fails.
-    Refused,
-    /// A supervisor or a tracer says what becomes of it.
-    Referred,
-    /// It is made, and may be logged.
-    Made,
+pub enum Disposition {
+    /// It isn't executed: the process or the thread ends, the thread gets SIGSYS, or the syscall fails.
+    Denied,
+    /// A supervisor (seccomp_unotify(2)) or a tracer (ptrace(2)) decides.
+    Delegated,
+    /// It is executed, and may be logged.
+    Allowed,
 }
 
 impl Action {
@@ -117,28 +117,26 @@ impl Answer {
         self.high_half().cast_signed()
     }
 
-    /// What becomes of a call that is answered so, by the rank of the answer.
-    pub fn fate(&self) -> Fate
-        ensures { result ≡ fate_of self.now.0 }
+    /// What becomes of a syscall that is answered so, by the action alone: an action without a name kills the process
+    /// (seccomp(2)), whatever its rank.
+    pub fn disposition(&self) -> Disposition
+        ensures { result ≡ disposition_of self.now.0 }
     {
-        let rank = self.rank();
-        if rank <= ERRNO.cast_signed() {
-            Fate::Refused
-        } else if rank < LOG.cast_signed() {
-            Fate::Referred
-        } else {
-            Fate::Made
+        match self.action() {
+            Action::UserNotif | Action::Trace => Disposition::Delegated,
+            Action::Log | Action::Allow => Disposition::Allowed,
+            _ => Disposition::Denied,
         }
     }
 
-    /// Whether no more of a call is let through by this answer than by another: a call that is refused counts least,
-    /// and one that is made most.
-    pub fn lets_through_no_more(&self, other: Answer) -> bool
-        ensures { IsTrue result ↔ LetsThroughNoMore self.now.0 other.0 }
+    /// Whether this answer is no more permissive than another: denied < delegated < allowed.
+    pub fn is_no_more_permissive(&self, other: Answer) -> bool
+        ensures { IsTrue result ↔ IsNoMorePermissive self.now.0 other.0 }
     {
-        match (self.fate(), other.fate()) {
-            (Fate::Refused, _) | (_, Fate::Made) | (Fate::Referred, Fate::Referred) => true,
-            (Fate::Referred, Fate::Refused) | (Fate::Made, Fate::Refused | Fate::Referred) => false,
+        match (self.disposition(), other.disposition()) {
+            (Disposition::Denied, _) | (_, Disposition::Allowed) => true,
+            (Disposition::Delegated, other) => other == Disposition::Delegated,
+            (Disposition::Allowed, _) => false,
         }
     }
 }

@@ -17,7 +17,7 @@ mod operation;
 mod record;
 mod stream;
 
-pub use answer::{Action, Answer, Fate};
+pub use answer::{Action, Answer, Disposition};
 pub use digits::{digit_byte, write_numeral};
 pub use encoding::{ReadFault, read_program, write_program};
 pub use input::{InputFault, read_input};

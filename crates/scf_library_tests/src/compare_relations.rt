@@ -15,8 +15,8 @@ fn relations() -> &'static [Relation] {
     RELATIONS
 }
 
-/// Answers by the kernel's header, with unnamed ones at both borders, and what becomes of a call: 0 it is refused, 1
-/// referred, 2 made.
+/// Answers by the kernel's header, with unnamed ones beside them, and what becomes of a syscall by `__seccomp_filter` of
+/// kernel/seccomp.c, whose default case kills the process: 0 denied, 1 delegated, 2 allowed.
 const ANSWERS: &[(u32, u8)] = &[
     // KILL_PROCESS, and half numbers that are negative
     (0x8000_0000, 0),
@@ -35,19 +35,20 @@ const ANSWERS: &[(u32, u8)] = &[
     (0x0005_0001, 0),
     (0x0005_ffff, 0),
     // between ERRNO and USER_NOTIF
-    (0x0006_0000, 1),
+    (0x0006_0000, 0),
     // USER_NOTIF
     (0x7fc0_0000, 1),
     // TRACE
     (0x7ff0_0000, 1),
     (0x7ff0_0001, 1),
     // between TRACE and LOG
-    (0x7ffb_0000, 1),
-    (0x7ffb_ffff, 1),
+    (0x7ffb_0000, 0),
+    (0x7ffb_ffff, 0),
     // LOG
     (0x7ffc_0000, 2),
     // between LOG and ALLOW
-    (0x7ffd_0000, 2),
+    (0x7ffd_0000, 0),
+    (0x7ffe_0000, 0),
     // ALLOW
     (0x7fff_0000, 2),
     (0x7fff_0001, 2),
@@ -58,7 +59,7 @@ fn answers() -> &'static [(u32, u8)] {
 }
 
 /// Profiles of each action, their answers (TRACE has errno 1 where none is stated, as ERRNO has), and what becomes of a
-/// call.
+/// syscall.
 const PROFILES: &[(&'static str, u32, u8)] = &[
     (
         r#"{"defaultAction":"SCMP_ACT_KILL_PROCESS"}"#,
@@ -82,14 +83,14 @@ fn profiles() -> &'static [(&'static str, u32, u8)] {
     PROFILES
 }
 
-/// Whether a relation holds of the answers of a filter and a profile, where this becomes of the call by each.
+/// Whether a relation holds of the answers of a filter and a profile, where these are the dispositions by each.
 fn holds(relation: Relation, filter: (u32, u8), profile: (u32, u8)) -> bool {
-    let (answer, fate) = filter;
-    let (stated, stated_fate) = profile;
+    let (answer, disposition) = filter;
+    let (wanted, wanted_disposition) = profile;
     match relation {
-        Relation::Same => answer == stated,
-        Relation::NoMore => fate <= stated_fate,
-        Relation::NoLess => fate >= stated_fate,
+        Relation::Same => answer == wanted,
+        Relation::NoMore => disposition <= wanted_disposition,
+        Relation::NoLess => disposition >= wanted_disposition,
     }
 }
 
@@ -146,8 +147,8 @@ fn each_answer(rt: &impl Abort, alloc: Global, profile: &Profile, stated: (u32, 
 /// Compares a filter that answers each call so with profiles that do, by atoms, and asks each relation of two answers.
 #[test]
 fn each_answer_by_each_relation(rt: HostRuntime) {
-    for (text, answer, fate) in profiles() {
+    for (text, answer, disposition) in profiles() {
         let profile = profile_of(&rt, rt.alloc(), "", text);
-        each_answer(&rt, rt.alloc(), &profile, (*answer, *fate));
+        each_answer(&rt, rt.alloc(), &profile, (*answer, *disposition));
     }
 }

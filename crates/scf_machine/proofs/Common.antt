@@ -8,7 +8,7 @@ pub use Rattle.std.proofs.lemmas.Nat.Bits.{bit_at-zero, bit_at_and, bit_at_ones,
 pub use Rattle.std.proofs.lemmas.Option.{gets, slice_get-get_or, slice_get_read, slice_get_within}
 pub use Rattle.std.specs.Int.{bit_at}
 pub use Rattle.std.specs.List.{list_any, slice_get}
-pub use Rattle.scf_insn.proofs.Common.{AllByRecursion, IsInsn, LetsThroughNoMore, bpf_maxinsns, bpf_memwords, cases_eq, common_steps, nat_tests, rank_of, seccomp_ret_allow, take_all, take_more, w16, words_of}
+pub use Rattle.scf_insn.proofs.Common.{AllByRecursion, IsInsn, IsNamed, IsNoMorePermissive, action_disposition, action_half, action_of, bpf_maxinsns, bpf_memwords, cases_eq, common_steps, disposition_of, nat_tests, permissiveness_of, rank_of, seccomp_ret_allow, take_all, take_more, w16, words_of}
 pub use Rattle.scf_insn.specs.declared.answer.Answer.{Answer}
 pub use Rattle.scf_insn.specs.declared.insn.Insn.{Insn}
 pub use Rattle.scf_insn.specs.declared.operation.Arithmetic.{Arithmetic}

@@ -1,5 +1,5 @@
 -- What a stack answers, one filter after another.
-use Rattle.scf_machine.proofs.Common.{cases_eq, ◌≡◌, ◌↔◌, ℕ, zero, suc, ◌+◌, ◌<◌, ◌≤◌, ◌≤ℤ◌, ◌<ℤ◌, List, [], ◌∷◌, ◌++◌, Some, refl, ap, subst, arith, length, get_or, take, reverse, All, slice_get, ints, take_more, take_all, reverse-append, length-reverse, get_or-reverse, Contains, ◌-◌, Insn, rank_of, LetsThroughNoMore, seccomp_ret_allow, RunAnswers, IsFilter, IsFirstLeast, IsDecision, AreAnswers, StackAnswers, with_newest}
+use Rattle.scf_machine.proofs.Common.{cases_eq, ◌≡◌, ◌↔◌, ℕ, zero, suc, ◌+◌, ◌<◌, ◌≤◌, ◌≤ℤ◌, ◌<ℤ◌, List, [], ◌∷◌, ◌++◌, Some, refl, ap, subst, arith, length, get_or, take, reverse, All, slice_get, ints, take_more, take_all, reverse-append, length-reverse, get_or-reverse, Contains, ◌-◌, Insn, rank_of, IsNamed, IsNoMorePermissive, action_half, action_of, nat_tests, seccomp_ret_allow, RunAnswers, IsFilter, IsFirstLeast, IsDecision, AreAnswers, StackAnswers, with_newest}
 use Rattle.scf_machine.proofs.Meets.{run_once}
 use Rattle.scf_machine.proofs.Runs.{runs_safely}
 
@@ -127,7 +127,7 @@ stack_answer_is filters words each =
     rw (take_all (length filters) filters (omega arith)) at
     (answer_below filters words each (length filters) (omega arith))
 
--- ---- what a stack lets through
+-- ---- how permissive a stack is
 answer_among : (filters : List (List Insn)) (words answers : List ℕ) (filter : List Insn) (answer : ℕ)
     → AreAnswers filters words answers → Contains filters filter → RunAnswers filter words answer
     → (q : ℕ) × (slice_get answers q ≡ Some answer)
@@ -152,18 +152,19 @@ least_rank : (answers : List ℕ) (decision answer q : ℕ) → IsDecision answe
     → slice_get answers q ≡ Some answer → rank_of decision ≤ℤ rank_of answer
 least_rank answers decision answer q decides at = grind (arith, ints)
 
--- the less the rank, the less is let through
-pub fate_by_rank : (answer other : ℕ) → rank_of answer ≤ℤ rank_of other → LetsThroughNoMore answer other
-fate_by_rank answer other le = grind (arith, ints)
+-- of named actions the lesser rank is no more permissive, and an action without a name denies
+pub no_more_by_rank : (answer other : ℕ) → rank_of answer ≤ℤ rank_of other
+    → IsNamed (action_of (action_half other)) → IsNoMorePermissive answer other
+no_more_by_rank answer other le named = grind (arith, ints, nat_tests)
 
--- a stack lets through no more than each of its filters
-pub stack_lets_through_no_more : (filters : List (List Insn)) (filter : List Insn) (words : List ℕ)
+-- a stack is no more permissive than each of its filters that answers by a named action
+pub stack_is_no_more_permissive : (filters : List (List Insn)) (filter : List Insn) (words : List ℕ)
     (decision answer : ℕ)
     → Contains filters filter → StackAnswers filters words decision → RunAnswers filter words answer
-    → LetsThroughNoMore decision answer
-stack_lets_through_no_more filters filter words decision answer has stack run =
+    → IsNamed (action_of (action_half answer)) → IsNoMorePermissive decision answer
+stack_is_no_more_permissive filters filter words decision answer has stack run named =
     let at = answer_among (reverse filters) words stack.answers filter answer stack.are
     (has_reverse filters filter has) run in
-    fate_by_rank decision answer (least_rank stack.answers decision answer at.0 stack.decides at.1)
+    no_more_by_rank decision answer (least_rank stack.answers decision answer at.0 stack.decides at.1) named
 
 pub ruleset decision_laws = (decision_is, decision_once, decision_with_newest)

@@ -3,7 +3,7 @@
 
 ghost use Rattle.std.specs.Prelude.{◌≡◌, ◌↔◌, ◌+◌, ◌++◌, [], ◌∷◌, ℕ, All, Contains, List, length, map, reverse};
 ghost use Rattle.scf_insn.specs.declared.insn.Insn.{Insn};
-ghost use Rattle.scf_insn.specs.Answers.{LetsThroughNoMore};
+ghost use Rattle.scf_insn.specs.Answers.{IsNamed, IsNoMorePermissive, action_half, action_of};
 ghost use Rattle.scf_insn.specs.Kernel.{seccomp_ret_allow};
 ghost use Rattle.scf_machine.specs.Machine.{State, IsChain, IsRun, IsRunFrom, RunAnswers, step, Goes, Ends};
 ghost use Rattle.scf_machine.specs.Parts.{IsPart, moved};
@@ -65,9 +65,10 @@ pub fn stack_answers()
         → StackAnswers (filters ++ filter ∷ []) words (with_newest older newest) }
 {}
 
-/// Of each call record a stack of filters lets through no more than each of them does.
-pub fn stack_lets_through_no_more()
+/// A stack is no more permissive than each of its filters that answers a syscall by a named action. An answer without a
+/// name denies, but by its rank it may lose to one that delegates or allows.
+pub fn stack_is_no_more_permissive()
     ensures { (filters : List (List Insn)) (filter : List Insn) (words : List ℕ) (decision answer : ℕ)
         → Contains filters filter → StackAnswers filters words decision → RunAnswers filter words answer
-        → LetsThroughNoMore decision answer }
+        → IsNamed (action_of (action_half answer)) → IsNoMorePermissive decision answer }
 {}

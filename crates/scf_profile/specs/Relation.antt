@@ -1,12 +1,12 @@
--- What relates the answers of a filter and a profile to a call.
+-- What relates the answers of a filter and a profile to a syscall.
 use Rattle.std.specs.Prelude.{ℕ}
-use Rattle.scf_insn.specs.Answers.{LetsThroughNoMore}
+use Rattle.scf_insn.specs.Answers.{IsNoMorePermissive}
 use Rattle.scf_profile.specs.SameAnswers.{AreSame}
 use Rattle.scf_profile.specs.declared.relation.Relation.{Relation}
 use Rattle.scf_profile.specs.declared.relation.Relation.TheVariants.{Same, NoMore, NoLess}
 
--- the filter's answer is the profile's, or lets through no more of the call, or no less
+-- the filter's answer is the profile's, or is no more permissive, or no less
 abbrev pub IsRelated : Relation → ℕ → ℕ → Type 0
 IsRelated Same filter profile = AreSame filter profile
-IsRelated NoMore filter profile = LetsThroughNoMore filter profile
-IsRelated NoLess filter profile = LetsThroughNoMore profile filter
+IsRelated NoMore filter profile = IsNoMorePermissive filter profile
+IsRelated NoLess filter profile = IsNoMorePermissive profile filter

@@ -10,9 +10,9 @@ use scf_insn::Answer;
 pub enum Relation {
     /// Both answers are the same, all 32 bits.
     Same,
-    /// The filter lets through no more of a call than the profile.
+    /// The filter's answer is no more permissive than the profile's: denied < delegated < allowed.
     NoMore,
-    /// The filter lets through no less of a call than the profile.
+    /// The filter's answer is no less permissive than the profile's.
     NoLess,
 }
 
@@ -23,8 +23,8 @@ impl Relation {
     {
         match self {
             Relation::Same => filter == profile,
-            Relation::NoMore => filter.lets_through_no_more(profile),
-            Relation::NoLess => profile.lets_through_no_more(filter),
+            Relation::NoMore => filter.is_no_more_permissive(profile),
+            Relation::NoLess => profile.is_no_more_permissive(filter),
         }
     }
 }
