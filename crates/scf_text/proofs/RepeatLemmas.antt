@@ -1,4 +1,9 @@
 -- Sorted labels, and the first that has the name of an earlier one.
+use Rattle.std.proofs.lemmas.List.{drop_more}
+use Rattle.std.proofs.lemmas.List.Sums.{take_while-cons}
+use Rattle.std.specs.List.{take_while}
+use Rattle.scf_text.specs.internal.Labels.{word_order}
+use Rattle.scf_text.proofs.Common.{is_word_byte, drop, cond, [], ◌∷◌}
 use Rattle.scf_text.proofs.Common.{◌≡◌, ◌≢◌, ◌⊎◌, ℕ, ◌+◌, ◌-◌, ◌<◌, ◌≤◌, Bool, true, false, List, length, length-take-le, get_or, get_or-take, get_or_default, take, take_more, Decides, Option, Some, None, refl, sym, ap, ◌∙◌, min, arith, inl, inr, IsDistinct, IsPermutation, IsSortedBy, bytes_eq, bytes_eq-Decides, slice_cmp, nat_cmp, nat_tests, cases_lt, IsTotalOrder, Ordering, Less, Equal, Greater, is_lt, is_eq, ordering_then, ordering_reverse, nat_list_cmp_total, nat_cmp_total, on_total, then_total, ranks_by, sorted_far, is_eq-slice_cmp, apart_from_distinct, Contains-append_left, Contains-permutation, Contains-push, Contains-push_cases, Contains, MatchBool, cond, [], ◌∷◌, ◌++◌, IsPermutation-sym, nat_eq, MatchOption, All, All-contains, option_or, cases_Bool, name_at, compared, is_before, IsRepeat, IsFirstRepeat, least}
 
 pub compared_total : (text : List ℕ) → IsTotalOrder (compared text)
@@ -205,3 +210,39 @@ least_last text xs s (Some r) true below k =
     let lt : r < s = All-contains (λ a. a < s) xs r below k.0.given in
     let e : min r s ≡ r = omega arith in
     ap Some e
+
+-- a byte of a word in front of both changes nothing in how they compare
+equal_front : (x : ℕ) (xs ys : List ℕ) → slice_cmp nat_cmp (x ∷ xs) (x ∷ ys) ≡ slice_cmp nat_cmp xs ys
+equal_front x xs ys = let e : nat_cmp x x ≡ Equal = grind (arith, nat_tests) in rw e refl
+
+front_taken : (p : ℕ → Bool) (x : ℕ) (xs : List ℕ) → p x ≡ true → take_while p (x ∷ xs) ≡ x ∷ take_while p xs
+front_taken p x xs passes = take_while-cons p x xs ∙ ap (λ b. cond b (x ∷ take_while p xs) []) passes
+
+same_front : (p : ℕ → Bool) (x : ℕ) (xs ys : List ℕ) → p x ≡ true
+    → slice_cmp nat_cmp (take_while p (x ∷ xs)) (take_while p (x ∷ ys))
+    ≡ slice_cmp nat_cmp (take_while p xs) (take_while p ys)
+same_front p x xs ys passes =
+    let left = front_taken p x xs passes in
+    let right = front_taken p x ys passes in
+    (λ i. slice_cmp nat_cmp (left i) (right i)) ∙ equal_front x (take_while p xs) (take_while p ys)
+
+ordered_by : (ℕ → Bool) → List ℕ → List ℕ → Ordering
+ordered_by p xs ys = slice_cmp nat_cmp (take_while p xs) (take_while p ys)
+
+drop_same : (p : ℕ → Bool) (xs ys : List ℕ) (i : ℕ) → i < length xs → i < length ys → get_or xs i 0 ≡ get_or ys i 0
+    → p (get_or xs i 0) ≡ true → ordered_by p (drop (i + 1) xs) (drop (i + 1) ys) ≡ ordered_by p (drop i xs) (drop i ys)
+unfolding ordered_by
+drop_same p xs ys i lt below same passes =
+    let x = get_or xs i 0 in
+    let left : drop i xs ≡ x ∷ drop (i + 1) xs = drop_more xs i 0 lt in
+    let right : drop i ys ≡ x ∷ drop (i + 1) ys =
+    drop_more ys i 0 below ∙ ap (λ y. y ∷ drop (i + 1) ys) (sym same) in
+    sym ((λ j. slice_cmp nat_cmp (take_while p (left j)) (take_while p (right j)))
+    ∙ same_front p x (drop (i + 1) xs) (drop (i + 1) ys) passes)
+
+-- nor does one at one place of both behind alike ones
+pub word_order-drop_more : (xs ys : List ℕ) (i : ℕ) → i < length xs → i < length ys → get_or xs i 0 ≡ get_or ys i 0
+    → is_word_byte (get_or xs i 0) ≡ true
+    → word_order (drop (i + 1) xs) (drop (i + 1) ys) ≡ word_order (drop i xs) (drop i ys)
+unfolding ordered_by
+word_order-drop_more xs ys i lt below same of_word = drop_same is_word_byte xs ys i lt below same of_word

@@ -62,12 +62,13 @@ fn split_label(part: &[u8]) -> (Option<usize>, Next<'_>)
     (None, first)
 }
 
-/// From how many labels on a repeat is looked for whenever their number has doubled.
-const FIRST_CHECKED: usize = 1 << 12;
+/// How many labels are kept before a repeat is looked for. It's looked for among all once the text is read.
+const CHECKED_FIRST: usize = 1 << 12;
 
 /// Keeps the label that begins at this place, if there is one.
 ///
-/// A text that repeats short labels is refused before very many are kept.
+/// A text that repeats a few labels over and over is refused early. That isn't looked for again before the end: an input
+/// holds some five million labels at most, and to sort them at each doubling takes twice the time.
 fn add_label(text: &[u8], labels: &mut Vec<usize>, label: Option<usize>) -> Result<(), TextFault>
     ensures adds { AddsLabel text.now labels.old.items label result labels.new.items }
     ensures some { OnErr result (IsSome label) }
@@ -76,7 +77,7 @@ fn add_label(text: &[u8], labels: &mut Vec<usize>, label: Option<usize>) -> Resu
         return Ok(());
     };
     labels.push(start)?;
-    if labels.len() >= FIRST_CHECKED && labels.len().is_power_of_two() {
+    if labels.len() == CHECKED_FIRST {
         check_labels(text, labels)?;
     }
     Ok(())
