@@ -1,10 +1,13 @@
 """`compare --calls`: each call that a table names, compared by itself."""
+import itertools
 import re
 
-from common import X86_64, part
+from common import TABLE, X86_64, part, taken
 from on_parts import (ALL, ALLOW, NATIVE, NO_TABLE, ONE_CALL, READ_WRITE_TABLE, X32, OnProgram, a_filter, a_profile,
                       a_table, bundle, ran)
 
+# Seconds of a processor that no comparison may take: three, and as many again for what else runs.
+MOST_SECONDS = 6
 # An errno for each of three calls.
 ERRNOS = a_profile('''{"defaultAction":"SCMP_ACT_ALLOW","syscalls":[
     {"names":["read"],"action":"SCMP_ACT_ERRNO","errnoRet":1},
@@ -119,7 +122,16 @@ WRONG = (
     (["--native", "--limit", "5", "--calls"], "fault command Flags\n"),
     (["--calls", "--native", "--limit", "x"], "fault number limit\n"),
     (["--calls", "--limit", ""], "fault number limit\n"),
+    (["--calls", "--total-limit=-0"], "fault number total-limit\n"),
+    (["--total-limit", "18446744073709551616"], "fault number total-limit\n"),
+    (["--total-limit", "x", "--limit", "y"], "fault number limit\n"),
+    (["--calls", "--native", "--total-limit", ""], "fault number total-limit\n"),
 )
+
+
+# 48 bits of arguments are tested one after another: 2^48 ways lead to the one answer.
+SLOW = a_filter("".join(f"ld [{16 + at // 32 * 4}]; jset #{1 << at % 32:#x}, 0, 1; tax; " for at in range(48))
+                + "ret #0x7fff0000")
 
 
 def without_arguments(printed):
@@ -154,6 +166,44 @@ class Calls(OnProgram):
         for parts, text, status in REFUSED:
             for options in ([], ["--calls"], ["--calls", "--limit", "0"]):
                 self.prints(["compare", *options], bundle(parts), text, status)
+
+    def test_a_limit_of_all_calls_together(self):
+        """Each call takes what it takes alone, in the order of their numbers, until nothing is left."""
+        for numbers, filters in (((0, 4, 8), MIXED), ((3, 5, 9), MIXED), ((2, 3, 4), MIXED), ((0, 1, 4), OWN)):
+            alone = [self.steps_of(filters, number) for number in numbers]
+            whole = list(itertools.accumulate(alone))
+            rows = a_table("".join(f"c{number} {number}\n" for number in numbers))
+            given = bundle([filters, ALL, rows])
+            self.assertEqual(self.unfinished_of(given, whole[-1]), [])
+            for at, until in enumerate(whole):
+                with self.subTest(numbers=numbers, at=at):
+                    # one step fewer than is wanted up to this call: it and those behind it are unfinished
+                    self.assertEqual(self.unfinished_of(given, until - 1), [str(it) for it in numbers[at:]])
+
+    def steps_of(self, filters, number):
+        """The least limit of steps with which a call is told by itself."""
+        given = bundle([filters, ALL, a_table(f"c{number} {number}\n")])
+        return next(limit for limit in itertools.count() if not self.unfinished_of(given, limit, "--limit"))
+
+    def unfinished_of(self, given, limit, option="--total-limit"):
+        out, _ = self.compared(f"{option} {limit}", given)
+        return [line.split()[0] for line in out.decode().splitlines()[1:] if line.endswith(" unfinished")]
+
+    def test_the_limit_of_all_is_for_single_calls_alone(self):
+        for options in (["--total-limit", "0"], ["--native", "--total-limit", "0"]):
+            self.prints(["compare", *options], bundle([NATIVE, ALL, NO_TABLE]), "same\n", 0)
+
+    def test_many_slow_calls_end(self):
+        """Each call of the table takes all its steps: within the limit of all, and within seconds of a processor."""
+        with open(TABLE, encoding="utf-8") as file:
+            rows = a_table(file.read())
+        before = taken()
+        out, status = self.compared("", bundle([SLOW, ALL, rows]))
+        lines = out.decode().splitlines()
+        self.assertEqual((status, lines[0]), (4, "unfinished"))
+        self.assertGreater(len(lines), 300)
+        self.assertTrue(all(line.endswith(" unfinished") for line in lines[1:]))
+        self.assertLess(taken() - before, MOST_SECONDS)
 
     def test_wrong_words(self):
         for words, text in WRONG:

@@ -1,5 +1,5 @@
 -- What verdicts claim.
-use Rattle.std.specs.Prelude.{◌≡◌, ◌<◌, ◌≤◌, ◌⊎◌, ℕ, List, [], ◌∷◌, Contains}
+use Rattle.std.specs.Prelude.{◌≡◌, ◌+◌, ◌<◌, ◌≤◌, ◌⊎◌, ℕ, List, [], ◌∷◌, Contains}
 use Rattle.scf_insn.specs.declared.insn.Insn.{Insn}
 use Rattle.scf_insn.specs.declared.operation.Arithmetic.TheVariants.{Div}
 use Rattle.scf_insn.specs.declared.operation.Operand.TheVariants.{Index}
@@ -65,6 +65,26 @@ IsWithin limit effort (Same steps) = (steps ≤ limit) × (steps ≤ effort)
 IsWithin limit effort (Differs call filter profile) = Unit {0}
 IsWithin limit effort (Undecided at) = 0 < limit
 IsWithin limit effort Unfinished = limit < effort
+
+-- So many steps were taken for the verdict, of which Same tells the number: a comparison that stays unfinished takes as
+-- many as the limit.
+abbrev pub IsStepCount : ℕ → Verdict → ℕ → Type 0
+IsStepCount limit (Same steps) taken = taken ≡ steps
+IsStepCount limit (Differs call filter profile) taken = 0 < taken
+IsStepCount limit (Undecided at) taken = 0 < taken
+IsStepCount limit Unfinished taken = taken ≡ limit
+
+-- they are within the limit and the effort
+pub record AreSteps (limit effort : ℕ) (verdict : Verdict) (taken : ℕ) : Type 0 where
+  pub within_limit : taken ≤ limit
+  pub within_effort : taken ≤ effort
+  pub of_verdict : IsStepCount limit verdict taken
+
+-- what is left of a number of steps once those of a comparison are taken from it
+pub record LeavesSteps (limit effort old : ℕ) (verdict : Verdict) (new : ℕ) : Type 0 where
+  pub taken : ℕ
+  pub are : AreSteps limit effort verdict taken
+  pub rest : new + taken ≡ old
 
 -- A verdict decides whether a claim holds, which is that of Same, unless the limit is below the effort.
 abbrev pub IsDecided : Type 0 → ℕ → ℕ → Verdict → Type 0

@@ -1,6 +1,6 @@
 //! The comparison of a filter with a profile.
 
-ghost use Rattle.std.specs.Prelude.{All, IsTrue, IfOk};
+ghost use Rattle.std.specs.Prelude.{◌≡◌, All, IsTrue, IfOk, OnErr, min};
 ghost use Rattle.scf_machine.specs.Machine.{RunAnswers};
 ghost use Rattle.scf_machine.specs.Plain.{IsPlainProgram};
 ghost use Rattle.scf_machine.specs.Precedence.{StackAnswers};
@@ -8,7 +8,15 @@ ghost use Rattle.scf_profile.specs.PlainProfile.{IsPlainProfile};
 ghost use Rattle.scf_profile.specs.SameAnswers.{SameAnswers};
 ghost use Rattle.scf_compare.specs.Effort.{effort_of, effort_of_stack};
 ghost use Rattle.scf_profile.specs.Scope.{RelatedAnswersIn, SameAnswersIn};
-ghost use Rattle.scf_compare.specs.Verdicts.{IsTrueOf, IsTrueOfStack, IsTrueOfStackBy, IsWithin, IsDecided};
+ghost use Rattle.scf_compare.specs.Verdicts.{
+  AreSteps,
+  IsDecided,
+  IsTrueOf,
+  IsTrueOfStack,
+  IsTrueOfStackBy,
+  IsWithin,
+  LeavesSteps,
+};
 
 use crate::by_number::ByNumber;
 use crate::explore::explore;
@@ -46,7 +54,16 @@ pub fn compare<F: WordFacts>(
         limit (effort_of program.now profile.now)) }
 {
     let filters = slice::from_ref(program);
-    compare_filters::<F>(alloc, filters, profile, Scope::All, Relation::Same, limit)
+    let mut taken = 0;
+    compare_filters::<F>(
+        alloc,
+        filters,
+        profile,
+        Scope::All,
+        Relation::Same,
+        limit,
+        &mut taken,
+    )
 }
 
 /// Compares what a stack of filters answers with a profile over the calls of a scope, in at most `limit` steps.
@@ -93,10 +110,50 @@ pub fn compare_by<F: WordFacts>(
         (RelatedAnswersIn relation scope (StackAnswers stack.now) profile.now)
         limit (effort_of_stack stack.now profile.now)) }
 {
-    compare_filters::<F>(alloc, stack.filters(), profile, scope, relation, limit)
+    let filters = stack.filters();
+    let mut taken = 0;
+    compare_filters::<F>(alloc, filters, profile, scope, relation, limit, &mut taken)
 }
 
-/// Compares what filters, the oldest first, answer with a profile over the calls of a scope by a relation.
+/// Compares as `compare_by` does, in at most `limit` steps and no more than are left for several comparisons together.
+/// Those that it takes are subtracted from `left`, which stays as it was where memory is refused.
+///
+/// So where none are left the verdict is `Unfinished`.
+pub fn compare_within<F: WordFacts>(
+    alloc: Global,
+    stack: &FilterStack,
+    profile: &Profile,
+    scope: Scope,
+    relation: Relation,
+    limit: u64,
+    left: &mut u64,
+) -> Result<Verdict, Memory>
+    ensures holds { IfOk result (IsTrueOfStackBy relation stack.now profile.now scope) }
+    ensures within { IfOk result (IsWithin (min limit left.old) (effort_of_stack stack.now profile.now)) }
+    ensures decided { IsTrue F.starts_exact → All IsPlainProgram stack.now → IsPlainProfile profile.now
+        → IfOk result (IsDecided
+        (RelatedAnswersIn relation scope (StackAnswers stack.now) profile.now)
+        (min limit left.old) (effort_of_stack stack.now profile.now)) }
+    ensures left { IfOk result (λ verdict.
+        LeavesSteps (min limit left.old) (effort_of_stack stack.now profile.now) left.old verdict left.new) }
+    ensures err { OnErr result (left.new ≡ left.old) }
+{
+    let mut taken = 0;
+    let verdict = compare_filters::<F>(
+        alloc,
+        stack.filters(),
+        profile,
+        scope,
+        relation,
+        limit.min(*left),
+        &mut taken,
+    )?;
+    *left -= taken;
+    Ok(verdict)
+}
+
+/// Compares what filters, the oldest first, answer with a profile over the calls of a scope by a relation. `taken`
+/// becomes the number of steps that were taken.
 fn compare_filters<F: WordFacts>(
     alloc: Global,
     filters: &[Program],
@@ -104,9 +161,12 @@ fn compare_filters<F: WordFacts>(
     scope: Scope,
     relation: Relation,
     limit: u64,
+    taken: &mut u64,
 ) -> Result<Verdict, Memory>
     ensures holds { IfOk result (IsTrueOfStackBy relation filters.now profile.now scope) }
     ensures within { IfOk result (IsWithin limit (effort_of_stack filters.now profile.now)) }
+    ensures taken { IfOk result (λ verdict.
+        AreSteps limit (effort_of_stack filters.now profile.now) verdict taken.new) }
     ensures decided { IsTrue F.starts_exact → All IsPlainProgram filters.now → IsPlainProfile profile.now
         → IfOk result (IsDecided
         (RelatedAnswersIn relation scope (StackAnswers filters.now) profile.now)
@@ -120,5 +180,6 @@ fn compare_filters<F: WordFacts>(
     };
     let facts: F = facts_of(alloc, scope)?;
     let (known, start) = start_of(filters);
-    explore(alloc, &pair, facts, known, PairNode::AtFilter(start), limit)
+    let root = PairNode::AtFilter(start);
+    explore(alloc, &pair, facts, known, root, limit, taken)
 }

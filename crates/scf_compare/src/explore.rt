@@ -1,7 +1,7 @@
 //! Explores the tree of a comparison.
 
 ghost use Rattle.std.specs.Prelude.{◌≡◌, ◌↔◌, ℕ, List, IsTrue, IfOk, IfSome, IfNone, IsSome};
-ghost use Rattle.scf_compare.specs.Verdicts.{IsWithin, IsDecided};
+ghost use Rattle.scf_compare.specs.Verdicts.{AreSteps, IsWithin, IsDecided};
 ghost use Rattle.scf_compare.specs.internal.Compared.{AllRelated, IsTrueVerdict};
 ghost use Rattle.scf_compare.specs.internal.Ends.{IsEnd, Tells, KnowsBoth, WereSeen, WereAllSeen};
 ghost use Rattle.scf_compare.specs.internal.Frontier.{IsFrontier, IsExact};
@@ -121,7 +121,8 @@ fn advance<C: Comparison, F: WordFacts>(
 
 /// Explores every branch of the tree from a node on, and from what is known there, for the words that the facts allow.
 ///
-/// Where an end is left open the others are still explored: one of them may show a difference.
+/// Where an end is left open the others are still explored: one of them may show a difference. `taken` becomes the
+/// number of steps that were taken.
 pub(crate) fn explore<C: Comparison, F: WordFacts>(
     alloc: Global,
     comparison: &C,
@@ -129,6 +130,7 @@ pub(crate) fn explore<C: Comparison, F: WordFacts>(
     start: C::Known,
     root: C::Node,
     limit: u64,
+    taken: &mut u64,
 ) -> Result<Verdict, Memory>
     requires node { (C.tree comparison.now start).is_node root }
     requires unmarked { F.level facts ≡ 0 }
@@ -137,6 +139,8 @@ pub(crate) fn explore<C: Comparison, F: WordFacts>(
         → (C.tree comparison.now start).reaches root words }
     ensures holds { IfOk result (IsTrueVerdict (C.compared comparison.now)) }
     ensures within { IfOk result (IsWithin limit ((C.tree comparison.now start).size root)) }
+    ensures taken { IfOk result (λ verdict.
+        AreSteps limit ((C.tree comparison.now start).size root) verdict taken.new) }
     ensures seen { IfOk result (WereAllSeen (C.compared comparison.now)) }
     ensures decided { let tree = C.tree comparison.now start in
         IsTrue (F.is_exact facts 0) → tree.is_plain root
@@ -149,10 +153,17 @@ pub(crate) fn explore<C: Comparison, F: WordFacts>(
     for steps in 0..limit {
         match advance(comparison, &mut frontier, &mut known, node, &mut left_open)? {
             Stage::At(next) => node = next,
-            Stage::AllSeen => return Ok(seen_in(steps + 1, left_open)),
-            Stage::Found(verdict) => return Ok(verdict),
+            Stage::AllSeen => {
+                *taken = steps + 1;
+                return Ok(seen_in(steps + 1, left_open));
+            }
+            Stage::Found(verdict) => {
+                *taken = steps + 1;
+                return Ok(verdict);
+            }
         }
     }
+    *taken = limit;
     Ok(Verdict::Unfinished)
 }
 

@@ -25,7 +25,7 @@ mod turn;
 mod value;
 mod verdict;
 
-pub use comparer::{compare, compare_by, compare_stack};
+pub use comparer::{compare, compare_by, compare_stack, compare_within};
 pub use laws::{no_more_and_no_less_is_one_disposition, same_is_no_more_and_no_less};
 pub use plain::is_plain;
 pub use scf_profile::{Relation, Scope};

@@ -11,7 +11,7 @@ use scf_profile::{LoadFault, TableFault};
 use scf_test_fixtures::kernel::{ALLOW, ERRNO, ERRNO_1, X86_64};
 use scf_test_fixtures::profiles::{DEFAULT_ALLOW, READ_TABLE};
 use scf_test_fixtures::texts::are;
-use scf_tool::{CallVerdict, CallsOutcome, VerifyFault, verify_calls, verify_stack};
+use scf_tool::{CallVerdict, CallsOutcome, Limits, VerifyFault, verify_calls, verify_stack};
 use std::alloc::Global;
 use std::process::Abort;
 
@@ -101,6 +101,14 @@ fn given<'a>(older: &'a [u8], newer: &'a [u8], table: &'a str, profile: &'a str)
     [older, newer, table.as_bytes(), profile.as_bytes()]
 }
 
+/// So many steps for each call, and as many as are wanted for all together.
+fn each(limit: u64) -> Limits {
+    Limits {
+        each: limit,
+        total: u64::MAX,
+    }
+}
+
 /// What an older and a newer filter, a table and a profile come to, call by call.
 fn verified(alloc: Global, given: &[&[u8]; 4], limit: u64) -> Result<CallsOutcome, VerifyFault> {
     let [older, newer, table, profile] = given;
@@ -110,7 +118,7 @@ fn verified(alloc: Global, given: &[&[u8]; 4], limit: u64) -> Result<CallsOutcom
     ];
     let mut table = Reader::new(*table, 1, Failing::Never);
     let mut profile = Reader::new(*profile, 1, Failing::Never);
-    verify_calls(alloc, &mut filters, &mut profile, &mut table, limit)
+    verify_calls(alloc, &mut filters, &mut profile, &mut table, each(limit))
 }
 
 /// Whether this is told of a call of the table.
@@ -171,7 +179,7 @@ fn fault_by(
     by_calls: bool,
 ) -> Option<VerifyFault> {
     if by_calls {
-        verify_calls(alloc, filters, profile, table, 1_000).err()
+        verify_calls(alloc, filters, profile, table, each(1_000)).err()
     } else {
         verify_stack(alloc, filters, profile, table, Scope::All, 1_000).err()
     }
@@ -326,7 +334,7 @@ fn nine_readers<'a>(rt: &impl Abort, alloc: Global, filter: &'a [u8]) -> Vec<Rea
 fn are_too_many(rt: &impl Abort, alloc: Global, filters: &mut [Reader<'_>], total: usize) {
     let mut table = Reader::new(b"read", 1, Failing::Never);
     let mut profile = Reader::new(b"[", 1, Failing::Never);
-    let answer = verify_calls(alloc, filters, &mut profile, &mut table, 1_000);
+    let answer = verify_calls(alloc, filters, &mut profile, &mut table, each(1_000));
     let wanted = VerifyFault::Stack(PushFault::TooMany { total });
     assert!(rt; answer.err() == Some(wanted));
     assert!(rt; (table.asks(), profile.asks()) == (0, 0));

@@ -1,16 +1,26 @@
 -- Options among the matches of a command line, and among its rules.
-use Rattle.scf_request.proofs.Common.{◌≡◌, ◌<◌, ◌+◌, ℕ, Bor, List, [], ◌∷◌, ◌++◌, Option, Some, None, true, false, append-nil, length, take, drop, get_or, map, refl, sym, ap, ◌∙◌, drop_more, map-append, map_more, map_push, take-append-drop, if◌then◌else◌, is_some, option_to_list, filter_map-append, App, Row, first_value, with_rule, rows_of, Found, first_value-rows, Kept, NumberOption, choice_in, first_wrong, given_of, is_given, number_by, number_in, one_of, option_rule, shape_with, flags_in, option_of, options_kept}
+use Rattle.scf_request.proofs.Common.{◌≡◌, ◌<◌, ◌+◌, ℕ, Bor, List, [], ◌∷◌, ◌++◌, Option, Some, None, true, false, append-nil, length, take, drop, get_or, map, refl, sym, ap, ◌∙◌, drop_more, map-append, map_more, map_push, take-append-drop, if◌then◌else◌, is_some, option_to_list, filter_map-append, App, Row, first_value, with_rule, rows_of, Found, first_value-rows, Kept, NumberOption, choice_in, first_wrong, given_of, is_given, limit_options, number_by, number_in, one_of, option_rule, shape_with, flags_in, option_of, options_kept}
 use Rattle.clap.specs.Words.{Rule}
+use Rattle.std.specs.Prelude.{Ok}
+use Rattle.scf_request.specs.declared.request.Limits.{Limits}
+use Rattle.scf_request.specs.Options.{SpellsLimits, numbers_of_limits}
 
 pub by_value : (f : Found) (o : NumberOption) → number_in (rows_of f) o ≡ number_by o (first_value f o.name)
 by_value f o = ap (number_by o) (sym (first_value-rows f o.name))
 
-pub one_wrong : (o : NumberOption) (rows : List Row) → number_in rows o ≡ None → first_wrong (o ∷ []) rows ≡ Some o.name
-one_wrong o rows none = rw none refl
-
-pub none_wrong : (o : NumberOption) (rows : List Row) (n : ℕ) → number_in rows o ≡ Some n
-    → first_wrong (o ∷ []) rows ≡ None
-none_wrong o rows n some = rw some refl
+-- where the options of limits spell limits, none of them is wrong
+pub none_wrong : (rows : List Row) (limits : Limits) → SpellsLimits rows (Ok limits)
+    → first_wrong limit_options rows ≡ None
+none_wrong rows limits spells = all_right limit_options rows (numbers_of_limits limits) spells
+  where
+    all_right : (options : List NumberOption) (rows : List Row) (numbers : List ℕ)
+        → map Some numbers ≡ map (number_in rows) options → first_wrong options rows ≡ None
+    all_right [] rows numbers e = refl
+    all_right (o ∷ options) rows [] e = absurd (cc)
+    all_right (o ∷ options) rows (n ∷ numbers) e =
+        let first : number_in rows o ≡ Some n = cc in
+        let others : map Some numbers ≡ map (number_in rows) options = cc in
+        rw first (all_right options rows numbers others)
 
 abbrev pub leaf : List ℕ → List Kept → App
 leaf name options = record { top = shape_with name (options_kept options); subs = [] }

@@ -9,6 +9,7 @@ use Rattle.scf_insn.specs.Numbers.{number_of}
 use Rattle.scf_profile.specs.declared.relation.Relation.{Relation}
 use Rattle.scf_profile.specs.declared.relation.Relation.TheVariants.{Same, NoMore, NoLess}
 use Rattle.scf_request.specs.declared.options.NumberFault.{NumberFault}
+use Rattle.scf_request.specs.declared.request.Limits.{Limits}
 use Rattle.scf_request.specs.declared.request.Scopes.{Scopes}
 use Rattle.scf_profile.specs.declared.scope.Scope.TheVariants as scopes
 use Rattle.scf_request.specs.declared.request.Scopes.TheVariants.{AtOnce, EachCall}
@@ -41,9 +42,9 @@ call_options =
     word_option (codes "nr") 0 ∷ word_option (codes "arch") audit_arch_x86_64 ∷ map (λ name. long_option name 0)
     (codes "ip" ∷ codes "a0" ∷ codes "a1" ∷ codes "a2" ∷ codes "a3" ∷ codes "a4" ∷ codes "a5" ∷ [])
 
--- the most steps of a comparison
-abbrev pub limit_option : NumberOption
-limit_option = long_option (codes "limit") 1000000
+-- the options of limits: the most steps of a comparison, and of those of single calls together
+abbrev pub limit_options : List NumberOption
+limit_options = long_option (codes "limit") 1000000 ∷ long_option (codes "total-limit") 10000000 ∷ []
 
 -- the numbers of a record, in the order of its fields
 abbrev pub numbers_of_record : CallRecord → List ℕ
@@ -57,6 +58,15 @@ first_wrong options rows = option_map (λ o. o.name) (find (λ o. is_none (numbe
 abbrev pub SpellsCall : List Row → Result CallRecord NumberFault → Type 0
 SpellsCall rows (Ok call) = map Some (numbers_of_record call) ≡ map (number_in rows) call_options
 SpellsCall rows (Err fault) = first_wrong call_options rows ≡ Some fault.name.now
+
+-- the limits, in that order
+abbrev pub numbers_of_limits : Limits → List ℕ
+numbers_of_limits limits = limits.each ∷ limits.total ∷ []
+
+-- What the options of limits spell: the limits of their numbers, or the first that spells none.
+abbrev pub SpellsLimits : List Row → Result Limits NumberFault → Type 0
+SpellsLimits rows (Ok limits) = map Some (numbers_of_limits limits) ≡ map (number_in rows) limit_options
+SpellsLimits rows (Err fault) = first_wrong limit_options rows ≡ Some fault.name.now
 
 -- A flag is given where its name has the text `true`.
 abbrev pub is_given : List Row → List ℕ → Bool

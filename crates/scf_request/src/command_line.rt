@@ -8,7 +8,7 @@ ghost use Rattle.scf_request.specs.internal.Parsing.{MakesNamed, ReadsAsProgram,
 
 use crate::options::{
     CALLS_FLAG, NATIVE_FLAG, NO_LESS_FLAG, NO_MORE_FLAG, NumberOption, PATH_FLAG, call_options,
-    limit_option,
+    limit_options,
 };
 use clap::{Arg, ArgAction, ArgMatches, Command, Error};
 use std::alloc::{AllocError, Global};
@@ -117,7 +117,7 @@ fn comparing<'a>(alloc: Global) -> Result<Command<'a>, AllocError>
         "Each named call by itself, and a line for each that isn't the same; not with --native";
     let no_more = "Whether no call is let through further than by the profile";
     let no_less = "Whether each call is let through as far as by the profile; not with --no-more";
-    command_with(alloc, "compare", about, &[limit_option()])?
+    command_with(alloc, "compare", about, &limit_options())?
         .arg(flag_argument(alloc, NATIVE_FLAG, native))?
         .arg(flag_argument(alloc, CALLS_FLAG, calls))?
         .arg(flag_argument(alloc, NO_MORE_FLAG, no_more))?

@@ -6,7 +6,7 @@ ghost use Rattle.clap.specs.Words.{found_of, rows_of};
 ghost use Rattle.scf_request.specs.Options as table;
 ghost use Rattle.scf_request.specs.internal.Parsing.{flags_in, option_of, options_kept};
 
-use crate::request::Scopes;
+use crate::request::{Limits, Scopes};
 use crate::request_fault::RequestFault;
 use clap::ArgMatches;
 use scf_insn::kernel::AUDIT_ARCH_X86_64;
@@ -79,12 +79,17 @@ pub(crate) fn call_options() -> [NumberOption; 9]
     ]
 }
 
-/// How many steps a comparison takes at most.
-pub(crate) fn limit_option() -> NumberOption
-    ensures { option_of result ≡ table.limit_option }
+/// The options that say how many steps comparisons may take: each, and those of single calls together.
+pub(crate) fn limit_options() -> [NumberOption; 2]
+    ensures kept { options_kept result ≡ table.limit_options }
+    ensures fair { AllByRecursion (λ o. o.default ≤ o.most) result }
 {
-    let help = "The most steps of the comparison [default: 1000000]";
-    long("limit", 1_000_000, help)
+    let each = "The most steps of a comparison [default: 1000000]";
+    let total = "With --calls, the most steps of all its comparisons together [default: 10000000]";
+    [
+        long("limit", 1_000_000, each),
+        long("total-limit", 10_000_000, total),
+    ]
 }
 
 /// The flag that leaves all but the native calls out of a comparison.
@@ -208,4 +213,16 @@ pub fn record_of(matches: &ArgMatches<'_>) -> Result<CallRecord, NumberFault>
         ip,
         args: [a0, a1, a2, a3, a4, a5],
     })
+}
+
+/// The limits that the options `limit` and `total-limit` of these matches spell, in steps. Without a text they are
+/// 1000000 and 10000000. The fault names the first, in this order, whose text is no number in its range: decimal
+/// digits, or `0x` or `0X` and hexadecimal digits, below 2^64.
+pub(crate) fn limits_of(matches: &ArgMatches<'_>) -> Result<Limits, NumberFault>
+    ensures { table.SpellsLimits (rows_of (found_of matches.now)) result }
+{
+    let mut numbers = [0; 2];
+    numbers_in(matches, &limit_options(), &mut numbers)?;
+    let [each, total] = numbers;
+    Ok(Limits { each, total })
 }

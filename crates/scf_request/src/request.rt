@@ -5,7 +5,7 @@ ghost use Rattle.clap.specs.Words.{found_of, rows_of, subcommand_rows_of};
 ghost use Rattle.scf_request.specs.Requests.{AsksFor};
 
 use crate::options::{
-    PATH_FLAG, RELATION_FLAGS, SCOPE_FLAGS, chosen, is_given, limit_option, record_of,
+    PATH_FLAG, RELATION_FLAGS, SCOPE_FLAGS, chosen, is_given, limits_of, record_of,
 };
 use crate::request_fault::RequestFault;
 use clap::ArgMatches;
@@ -21,6 +21,15 @@ pub enum Scopes {
     EachCall,
 }
 
+/// How many steps comparisons may take.
+#[derive(Clone, Copy)]
+pub struct Limits {
+    /// The most steps of one comparison.
+    pub each: u64,
+    /// The most steps of the comparisons of single calls together. One comparison over many calls isn't bound by it.
+    pub total: u64,
+}
+
 /// What the program is asked for: a command, with the numbers of its options.
 #[derive(Clone, Copy)]
 pub enum Request {
@@ -28,7 +37,7 @@ pub enum Request {
     Assemble,
     Check,
     Compare {
-        limit: u64,
+        limits: Limits,
         scopes: Scopes,
         relation: Relation,
     },
@@ -41,15 +50,15 @@ pub enum Request {
 }
 
 /// The comparison that these options ask for.
-#[tactic(auto, using(std::proofs::lemmas::Grind::common_steps, crate::proofs::OptionLemmas::none_wrong, crate::proofs::OptionLemmas::one_wrong))]
+#[tactic(auto, using(std::proofs::lemmas::Grind::common_steps, crate::proofs::OptionLemmas::none_wrong))]
 fn comparison_in(options: &ArgMatches<'_>) -> Result<Request, RequestFault>
     ensures { AsksFor (Some (codes "compare", rows_of (found_of options.now))) result }
 {
-    let limit = limit_option().number_in(options)?;
+    let limits = limits_of(options)?;
     let scopes = chosen(options, &SCOPE_FLAGS, Scopes::AtOnce(Scope::All))?;
     let relation = chosen(options, &RELATION_FLAGS, Relation::Same)?;
     Ok(Request::Compare {
-        limit,
+        limits,
         scopes,
         relation,
     })

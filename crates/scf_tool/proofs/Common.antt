@@ -28,7 +28,7 @@ pub use Rattle.scf_request.specs.Requests.{AsksFor}
 pub use Rattle.scf_request.specs.CommandLine.{scf}
 pub use Rattle.scf_tool.specs.Runs.{SpeaksOfWords}
 pub use Rattle.scf_tool.specs.Verifying.{HasEnded, IsFilter, LeavesFilterReader}
-pub use Rattle.scf_tool.specs.VerifyingCalls.{IsVerdictOnCall}
+pub use Rattle.scf_tool.specs.VerifyingCalls.{HaveVerdicts, IsVerdictOnCall}
 pub use Rattle.scf_tool.specs.VerifyingStacks.{AreComparedParties, IsRefusedStack}
 pub use Rattle.scf_request.specs.declared.contents.PartReader.{PartReader}
 pub use Rattle.scf_tool.specs.declared.fault.Fault.{Fault}

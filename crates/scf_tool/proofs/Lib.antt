@@ -1,3 +1,4 @@
+mod CallLemmas
 pub mod Common
 mod FaultLemmas
 mod PartyLemmas

@@ -30,6 +30,7 @@ use Rattle.scf_tool.specs.declared.fault.Fault.TheVariants as faults
 use Rattle.scf_profile.specs.declared.relation.Relation.{Relation}
 use Rattle.scf_tool.specs.declared.reply.Reply.{Reply}
 use Rattle.scf_tool.specs.declared.reply.Reply.TheVariants.{Accepted, Ran, Decided, Asked, Bytes, Compared}
+use Rattle.scf_request.specs.declared.request.Limits.{Limits}
 use Rattle.scf_request.specs.declared.request.Request.{Request}
 use Rattle.scf_request.specs.declared.request.Request.TheVariants as requests
 use Rattle.scf_request.specs.declared.request.Scopes.{Scopes}
@@ -172,26 +173,26 @@ GivesReason call profile table ending = ⊥
 
 -- What filters, a profile and a table come to: why they aren't compared; or the report of an outcome over the calls of
 -- a scope, or call by call, and the status of its verdict, where None is that all calls are the same.
-abbrev pub ComparesParts : Scopes → Relation → ℕ → List (List ℕ) → List ℕ → List ℕ → Result Reply Fault → Type 0
-ComparesParts over relation limit filters profile table (Err (faults.Verify fault)) =
+abbrev pub ComparesParts : Scopes → Relation → Limits → List (List ℕ) → List ℕ → List ℕ → Result Reply Fault → Type 0
+ComparesParts over relation limits filters profile table (Err (faults.Verify fault)) =
     NoReadFailed fault × IsRefusedStack (map Some filters) (Some table) (Some profile) fault
-ComparesParts (AtOnce scope) relation limit filters profile table (Ok (Compared text status)) = (outcome : Outcome)
-    × IsVerifiedBy relation (map Some filters) (Some table) (Some profile) scope limit outcome
+ComparesParts (AtOnce scope) relation limits filters profile table (Ok (Compared text status)) = (outcome : Outcome)
+    × IsVerifiedBy relation (map Some filters) (Some table) (Some profile) scope limits.each outcome
     × (text.items ≡ report_text relation outcome) × (status ≡ verdict_status outcome.verdict)
-ComparesParts EachCall relation limit filters profile table (Ok (Compared text status)) = (outcome : CallsOutcome)
-    × AreVerifiedCalls relation (map Some filters) (Some table) (Some profile) limit outcome
+ComparesParts EachCall relation limits filters profile table (Ok (Compared text status)) = (outcome : CallsOutcome)
+    × AreVerifiedCalls relation (map Some filters) (Some table) (Some profile) limits outcome
     × (text.items ≡ calls_text relation outcome)
     × (status ≡ option_map_or verdict_status (joint_of outcome.calls.items) Well)
-ComparesParts over relation limit filters profile table ending = ⊥
+ComparesParts over relation limits filters profile table ending = ⊥
 
 -- `compare`: the report of the comparison, where one filter or more, a profile and a table are all that the bundle
 -- holds
-abbrev pub Compares : Scopes → Relation → ℕ → Option (List ℕ) → Result Reply Fault → Type 0
-Compares over relation limit told =
+abbrev pub Compares : Scopes → Relation → Limits → Option (List ℕ) → Result Reply Fault → Type 0
+Compares over relation limits told =
     EndsOnBundle told (λ filters profiles tables. (1 ≤ filters) × (profiles ≡ 1) × (tables ≡ 1))
     (λ ending. (filters : List (List ℕ)) × (profile table : List ℕ) × (1 ≤ length filters)
     × HoldsBundle told filters (profile ∷ []) (table ∷ [])
-    × ComparesParts over relation limit filters profile table ending)
+    × ComparesParts over relation limits filters profile table ending)
 
 -- ---- all commands
 
@@ -199,7 +200,7 @@ Compares over relation limit told =
 abbrev pub IsTrueReply : Request → Option (List ℕ) → Result Reply Fault → Type 0
 IsTrueReply (requests.Ask call) told = EndsOnProfile told (GivesReason call)
 IsTrueReply requests.Assemble told = Assembles told
-IsTrueReply (requests.Compare limit over relation) told = Compares over relation limit told
+IsTrueReply (requests.Compare limits over relation) told = Compares over relation limits told
 IsTrueReply requests.Compile told = EndsOnProfile told Compiles
 IsTrueReply (requests.Decide call) told = EndsOnFilters told (DecidesCall call)
 IsTrueReply requests.List told = Lists told

@@ -1,12 +1,12 @@
 //! The comparison of a stack of filters with a profile, call by call, from their bytes.
 
 ghost use Rattle.std.specs.Prelude.{◌≡◌, ℕ, List, Option, IfOk, map};
-ghost use Rattle.std.specs.List.{AllZip};
 ghost use Rattle.scf_profile.specs.NamedCalls.{AreCallsOf};
 ghost use Rattle.scf_profile.specs.References.{texts_at};
 ghost use Rattle.scf_tool.specs.Verifying.{LeavesProfileReader, LeavesTableReader};
 ghost use Rattle.scf_tool.specs.VerifyingCalls.{
   AreVerifiedCalls,
+  HaveVerdicts,
   IsVerdictOnCall,
   VerifiesCallsBy,
 };
@@ -15,11 +15,12 @@ ghost use Rattle.scf_tool.specs.internal.Verification.{AreParties};
 
 use crate::parties::{Parties, read_parties};
 use crate::verification::VerifyFault;
-use scf_compare::{Verdict, compare_by};
+use scf_compare::{Verdict, compare_within};
 use scf_facts::WordSets;
 use scf_insn::{Memory, Source};
 use scf_machine::FilterStack;
 use scf_profile::{CallTable, NamedCall, Profile, Relation, Scope, Texts};
+use scf_request::Limits;
 use std::alloc::{AllocError, Global};
 
 /// A call that a table names, and what the comparison over its records comes to.
@@ -54,21 +55,23 @@ fn kept(alloc: Global, words: &[&str]) -> Result<Texts, AllocError>
     Ok(Texts::from_vec(list))
 }
 
-/// Compares parties over the records of a call by a relation.
+/// Compares parties over the records of a call by a relation, in at most `limit` steps and no more than are left. Those
+/// that it takes are subtracted from `left`.
 fn compare_call(
     alloc: Global,
     parties: &Parties,
     call: &NamedCall<'_>,
     relation: Relation,
     limit: u64,
+    left: &mut u64,
 ) -> Result<CallVerdict, Memory>
-    ensures { IfOk result
-        (IsVerdictOnCall relation parties.now.stack parties.now.loaded.profile limit call.now) }
+    ensures { IfOk result (λ own. IsVerdictOnCall relation parties.now.stack parties.now.loaded.profile
+        limit left.old call.now own left.new) }
 {
     let stack = &parties.stack;
     let profile = &parties.loaded.profile;
     let scope = Scope::Call(call.number);
-    let verdict = compare_by::<WordSets>(alloc, stack, profile, scope, relation, limit)?;
+    let verdict = compare_within::<WordSets>(alloc, stack, profile, scope, relation, limit, left)?;
     Ok(CallVerdict {
         number: call.number,
         names: kept(alloc, &call.names)?,
@@ -81,16 +84,17 @@ fn compare_calls(
     alloc: Global,
     parties: &Parties,
     relation: Relation,
-    limit: u64,
+    limits: Limits,
 ) -> Result<Vec<CallVerdict>, Memory>
     ensures { IfOk result (λ calls. (of_table : List NamedCall) × AreCallsOf parties.now.names of_table
-        × AllZip (IsVerdictOnCall relation parties.now.stack parties.now.loaded.profile limit)
-        of_table calls.items) }
+        × (after : ℕ) × HaveVerdicts relation parties.now.stack parties.now.loaded.profile
+        limits.each limits.total of_table calls.items after) }
 {
     let calls = parties.names.calls(alloc)?;
     let mut verdicts = Vec::new(alloc);
+    let mut left = limits.total;
     for call in &calls {
-        let verdict = compare_call(alloc, parties, call, relation, limit)?;
+        let verdict = compare_call(alloc, parties, call, relation, limits.each, &mut left)?;
         verdicts.push(verdict)?;
     }
     Ok(verdicts)
@@ -101,13 +105,13 @@ pub(crate) fn compare_named_calls(
     alloc: Global,
     parties: Parties,
     relation: Relation,
-    limit: u64,
+    limits: Limits,
 ) -> Result<CallsOutcome, Memory>
     ensures { IfOk result (λ outcome. (filters : List (Option (List ℕ))) (table profile : Option (List ℕ))
         → AreParties filters table profile parties
-        → AreVerifiedCalls relation filters table profile limit outcome) }
+        → AreVerifiedCalls relation filters table profile limits outcome) }
 {
-    let calls = compare_calls(alloc, &parties, relation, limit)?;
+    let calls = compare_calls(alloc, &parties, relation, limits)?;
     let loaded = parties.loaded;
     Ok(CallsOutcome {
         calls,
@@ -117,7 +121,8 @@ pub(crate) fn compare_named_calls(
 }
 
 /// Compares the stack of filters with the profile that readers have, call by call: each call that the table names, by
-/// itself and in at most `limit` steps. The profile's names get their numbers from the same table.
+/// itself and in at most `limits.each` steps. All together take at most `limits.total`: the calls for which no step is
+/// left are `Unfinished`. The profile's names get their numbers from the same table.
 ///
 /// What is read, in which order, and the faults are those of `verify_stack`. The verdict on a call is what
 /// `verify_stack` promises over the records of x86-64 with its number.
@@ -126,10 +131,10 @@ pub fn verify_calls<F: Source, P: Source, T: Source>(
     filter_readers: &mut [F],
     profile_reader: &mut P,
     table_reader: &mut T,
-    limit: u64,
+    limits: Limits,
 ) -> Result<CallsOutcome, VerifyFault>
     ensures answer { VerifiesCallsBy Relation.Same (map F.remaining filter_readers.old)
-        (T.remaining table_reader.old) (P.remaining profile_reader.old) limit result }
+        (T.remaining table_reader.old) (P.remaining profile_reader.old) limits result }
     ensures filter_readers { LeavesFilterReaders F.remaining F.failures filter_readers.old result filter_readers.new }
     ensures table_reader { LeavesTableReader T.remaining T.failures table_reader.old result table_reader.new }
     ensures profile_reader { LeavesProfileReader P.remaining P.failures profile_reader.old result profile_reader.new }
@@ -140,12 +145,12 @@ pub fn verify_calls<F: Source, P: Source, T: Source>(
         profile_reader,
         table_reader,
         Relation::Same,
-        limit,
+        limits,
     )
 }
 
 /// Compares the stack of filters with the profile that readers have, call by call and by a relation: each call that the
-/// table names, by itself and in at most `limit` steps.
+/// table names, by itself and within both limits.
 ///
 /// The verdict on a call is what `verify_by` promises over the records of x86-64 with its number. All else is as
 /// `verify_calls` has it, whose relation is that of the same answers.
@@ -155,14 +160,14 @@ pub fn verify_calls_by<F: Source, P: Source, T: Source>(
     profile_reader: &mut P,
     table_reader: &mut T,
     relation: Relation,
-    limit: u64,
+    limits: Limits,
 ) -> Result<CallsOutcome, VerifyFault>
     ensures answer { VerifiesCallsBy relation (map F.remaining filter_readers.old)
-        (T.remaining table_reader.old) (P.remaining profile_reader.old) limit result }
+        (T.remaining table_reader.old) (P.remaining profile_reader.old) limits result }
     ensures filter_readers { LeavesFilterReaders F.remaining F.failures filter_readers.old result filter_readers.new }
     ensures table_reader { LeavesTableReader T.remaining T.failures table_reader.old result table_reader.new }
     ensures profile_reader { LeavesProfileReader P.remaining P.failures profile_reader.old result profile_reader.new }
 {
     let parties = read_parties(alloc, filter_readers, profile_reader, table_reader)?;
-    Ok(compare_named_calls(alloc, parties, relation, limit)?)
+    Ok(compare_named_calls(alloc, parties, relation, limits)?)
 }

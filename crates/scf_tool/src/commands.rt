@@ -62,10 +62,10 @@ fn answer<R: Source>(alloc: Global, request: &Request, input: &mut R) -> Result<
         Request::Assemble => assemble_text(alloc, input),
         Request::Check => check_filter(alloc, input),
         Request::Compare {
-            limit,
+            limits,
             scopes,
             relation,
-        } => compare_bundle(alloc, *limit, *scopes, *relation, input),
+        } => compare_bundle(alloc, *limits, *scopes, *relation, input),
         Request::Compile => compile_profile(alloc, input),
         Request::Decide(call) => decide_stack(alloc, call, input),
         Request::List => list_filter(alloc, input),

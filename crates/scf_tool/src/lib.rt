@@ -25,6 +25,6 @@ pub use call_verification::{CallVerdict, CallsOutcome, verify_calls, verify_call
 pub use command_line::refuse_words;
 pub use commands::run_command;
 pub use reporting::{report, report_by};
-pub use scf_request::{BundleFault, NumberFault, Part, PartKind, record_of, split};
+pub use scf_request::{BundleFault, Limits, NumberFault, Part, PartKind, record_of, split};
 pub use stack_verification::{verify_by, verify_stack};
 pub use verification::{Outcome, VerifyFault, verify};

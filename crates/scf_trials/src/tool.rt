@@ -8,7 +8,7 @@ use scf_insn::{Answer, CallRecord, Counted, Memory};
 use scf_profile::Texts;
 use scf_request::{Contents, Request, parse, request_of};
 use scf_tool::{
-    CallVerdict, CallsOutcome, Outcome, Part, VerifyFault, report, report_by, report_calls,
+    CallVerdict, CallsOutcome, Limits, Outcome, Part, VerifyFault, report, report_by, report_calls,
     report_calls_by, split, verify, verify_by, verify_calls, verify_calls_by, verify_stack,
 };
 use std::alloc::Global;
@@ -16,6 +16,12 @@ use std::fmt;
 
 /// The most steps of a comparison.
 const LIMIT: u64 = 1_000_000;
+
+/// The most steps of each comparison of a call, and of all together.
+const LIMITS: Limits = Limits {
+    each: LIMIT,
+    total: LIMIT,
+};
 
 /// A verdict with a text of several lines.
 const DIFFERS: Verdict = Verdict::Differs {
@@ -139,7 +145,7 @@ fn verify_each(alloc: Global) -> Result<CallsOutcome, VerifyFault> {
         &mut [Counted::new(rows::clone())],
         &mut Counted::new(rows::masked()),
         &mut Counted::new(rows::table()),
-        LIMIT,
+        LIMITS,
     )
 }
 
@@ -150,7 +156,7 @@ fn verify_each_no_less(alloc: Global) -> Result<CallsOutcome, VerifyFault> {
         &mut Counted::new(rows::masked()),
         &mut Counted::new(rows::table()),
         Relation::NoLess,
-        LIMIT,
+        LIMITS,
     )
 }
 

@@ -1,5 +1,5 @@
 -- From one stage of an exploration to the next.
-use Rattle.std.specs.Prelude.{◌≡◌, ◌+◌, ◌≤◌, ◌⊎◌, ℕ, List, Option, Some, None}
+use Rattle.std.specs.Prelude.{◌≡◌, ◌+◌, ◌<◌, ◌≤◌, ◌⊎◌, ℕ, List, Option, Some, None}
 use Rattle.scf_facts.specs.declared.word_facts.WordFacts.{Ghosts as Store}
 use Rattle.scf_compare.specs.declared.comparison.BothEnds.{BothEnds}
 use Rattle.scf_compare.specs.declared.explore.Stage.{Stage}
@@ -8,7 +8,7 @@ use Rattle.scf_compare.specs.declared.frontier.Frontier.{Frontier}
 use Rattle.scf_compare.specs.declared.turn.Turn.{Turn}
 use Rattle.scf_compare.specs.declared.verdict.Verdict.{Verdict}
 use Rattle.scf_compare.specs.declared.verdict.Verdict.TheVariants.{Same, Undecided}
-use Rattle.scf_compare.specs.Verdicts.{IsWithin, IsDecided}
+use Rattle.scf_compare.specs.Verdicts.{IsWithin, IsDecided, IsStepCount}
 use Rattle.scf_compare.specs.internal.Compared.{Compared, AllRelated, IsTrueVerdict}
 use Rattle.scf_compare.specs.internal.Ends.{Tells, KnowsBoth, WereSeen, WereAllSeen}
 use Rattle.scf_compare.specs.internal.Frontier.{IsInBranch, IsAhead, IsFrontier, AreExact, IsExact, open_size}
@@ -20,6 +20,7 @@ pub record IsFound (compared : Compared) (verdict : Verdict) : Type 0 where
   pub within : (limit effort : ℕ) → IsWithin limit effort verdict
   pub decided : (limit effort : ℕ) → IsDecided (AllRelated compared) limit effort verdict
   pub seen : WereAllSeen compared verdict
+  pub counted : (limit taken : ℕ) → 0 < taken → IsStepCount limit verdict taken
 
 -- the verdict once all was seen, in so many steps
 abbrev pub verdict_of_all : ℕ → Option ℕ → Verdict

@@ -1,4 +1,5 @@
 -- The reply of a comparison, by what is compared.
+use Rattle.scf_request.specs.declared.request.Limits.{Limits}
 use Rattle.std.specs.Prelude.{ℕ, List, map, Ok, Some}
 use Rattle.scf_profile.specs.declared.relation.Relation.{Relation}
 use Rattle.scf_tool.specs.declared.parties.Parties.{Parties}
@@ -8,7 +9,7 @@ use Rattle.scf_tool.specs.Commands.{ComparesParts}
 use Rattle.scf_tool.specs.internal.Verification.{AreParties}
 
 -- a report, whatever the texts that the parties are made of
-abbrev pub IsReportOn : Scopes → Relation → ℕ → Parties → Reply → Type 0
-IsReportOn over relation limit parties reply = (filters : List (List ℕ)) (profile table : List ℕ)
+abbrev pub IsReportOn : Scopes → Relation → Limits → Parties → Reply → Type 0
+IsReportOn over relation limits parties reply = (filters : List (List ℕ)) (profile table : List ℕ)
     → AreParties (map Some filters) (Some table) (Some profile) parties
-    → ComparesParts over relation limit filters profile table (Ok reply)
+    → ComparesParts over relation limits filters profile table (Ok reply)

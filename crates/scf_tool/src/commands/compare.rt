@@ -36,7 +36,7 @@ use crate::verification::VerifyFault;
 use scf_compare::Verdict;
 use scf_insn::{Memory, Source};
 use scf_profile::{Relation, Scope};
-use scf_request::{BundleFault, Contents, PartReader, Scopes};
+use scf_request::{BundleFault, Contents, Limits, PartReader, Scopes};
 use std::alloc::Global;
 
 /// The exit status that goes with a verdict.
@@ -63,19 +63,19 @@ fn report_on(
     scopes: Scopes,
     relation: Relation,
     parties: Parties,
-    limit: u64,
+    limits: Limits,
 ) -> Result<Reply, Memory>
-    ensures { IfOk result (IsReportOn scopes relation limit parties) }
+    ensures { IfOk result (IsReportOn scopes relation limits parties) }
 {
     match scopes {
         Scopes::AtOnce(scope) => {
-            let outcome = compare_parties(alloc, parties, scope, relation, limit)?;
+            let outcome = compare_parties(alloc, parties, scope, relation, limits.each)?;
             let status = status_of_verdict(&outcome.verdict);
             let text = report_by(alloc, relation, &outcome)?;
             Ok(Reply::Compared { text, status })
         }
         Scopes::EachCall => {
-            let outcome = compare_named_calls(alloc, parties, relation, limit)?;
+            let outcome = compare_named_calls(alloc, parties, relation, limits)?;
             let status = status_of_joint(joint_verdict(&outcome.calls));
             let text = report_calls_by(alloc, relation, &outcome)?;
             Ok(Reply::Compared { text, status })
@@ -91,16 +91,16 @@ fn compare_parts(
     table: &[u8],
     scopes: Scopes,
     relation: Relation,
-    limit: u64,
+    limits: Limits,
 ) -> Result<Reply, VerifyFault>
     ensures reply { IfOk result (λ reply.
-        ComparesParts scopes relation limit (map rest_of filters.old) profile.now table.now (Ok reply)) }
+        ComparesParts scopes relation limits (map rest_of filters.old) profile.now table.now (Ok reply)) }
     ensures fault { IfErr result (λ fault.
-        ComparesParts scopes relation limit (map rest_of filters.old) profile.now table.now
+        ComparesParts scopes relation limits (map rest_of filters.old) profile.now table.now
         (Err (Fault.Verify fault))) }
 {
     let parties = parties_in(alloc, filters, profile, table)?;
-    Ok(report_on(alloc, scopes, relation, parties, limit)?)
+    Ok(report_on(alloc, scopes, relation, parties, limits)?)
 }
 
 /// The filters, the profile and the table of a bundle, where it holds one filter or more and one of each other kind.
@@ -111,7 +111,7 @@ fn compared_parts<'a>(
     // Where it holds other parts, that is what any comparison ends with.
     ensures parts { (told : Option (List ℕ)) → ReadsInput told (Ok bytes.now) → IfOk result (λ parts.
         MatchOption parts
-        (Compares Scopes.EachCall Relation.Same 0 told (Err Fault.Parts))
+        (Compares Scopes.EachCall Relation.Same (record { each = 0; total = 0 }) told (Err Fault.Parts))
         (λ own. (1 ≤ length (map rest_of own.0.items))
         × HoldsBundle told (map rest_of own.0.items) (own.1.now ∷ []) (own.2.now ∷ []))) }
     ensures fault { IfErr result (IsBundleFault bytes.now) }
@@ -125,21 +125,21 @@ fn compared_parts<'a>(
     }
 }
 
-/// `compare`: whether a stack of filters answers as a profile does, or lets through no more or no less.
+/// `compare`: whether a stack of filters answers as a profile does, or is no more or no less permissive.
 pub(super) fn compare_bundle<R: Source>(
     alloc: Global,
-    limit: u64,
+    limits: Limits,
     scopes: Scopes,
     relation: Relation,
     input: &mut R,
 ) -> Result<Reply, Fault>
-    ensures answer { Compares scopes relation limit (R.remaining input.old) result }
+    ensures answer { Compares scopes relation limits (R.remaining input.old) result }
     ensures left { LeavesWhole R.remaining R.failures input.old result input.new }
 {
     let bytes = whole_input(alloc, input)?;
     let Some((mut filters, profile, table)) = compared_parts(alloc, &bytes)? else {
         return Err(Fault::Parts);
     };
-    let reply = compare_parts(alloc, &mut filters, profile, table, scopes, relation, limit)?;
+    let reply = compare_parts(alloc, &mut filters, profile, table, scopes, relation, limits)?;
     Ok(reply)
 }

@@ -17,6 +17,11 @@ returns-clause-within g c =
     rw (c.start_of-start.ensures.size, numbers_spread _ _ c.new.ensures.numbered.numbers, c.new.ensures.profile)
     at c.explore.ensures.within
 
+pub returns-clause-taken : goal.returns-clause-taken
+returns-clause-taken g c =
+    rw (c.start_of-start.ensures.size, numbers_spread _ _ c.new.ensures.numbered.numbers, c.new.ensures.profile)
+    at c.explore.ensures.taken
+
 pub returns-clause-decided : goal.returns-clause-decided
 returns-clause-decided g c = λ exact plain plain_profile.
     let filters = c.args.filters.now in

@@ -1,5 +1,5 @@
-use Rattle.scf_compare.proofs.Common.{◌≡◌, ◌+◌, ◌<◌, ◌≤◌, ◌⊎◌, ◌∙◌, ℕ, List, inl, inr, arith, Option, None, Some, IfSome, IsSome, IsDecided, Compared, AllRelated, IsTrueVerdict, WereSeen, WereAllSeen, verdict_of_all}
-use Rattle.scf_compare.specs.Verdicts.{IsWithin}
+use Rattle.scf_compare.proofs.Common.{◌≡◌, ◌+◌, ◌<◌, ◌≤◌, ◌⊎◌, ◌∙◌, ℕ, List, inl, inr, arith, refl, Option, None, Some, IfSome, IsSome, IsDecided, Compared, AllRelated, IsTrueVerdict, WereSeen, WereAllSeen, verdict_of_all}
+use Rattle.scf_compare.specs.Verdicts.{AreSteps, IsStepCount, IsWithin}
 use Rattle.scf_compare.proofs.explore.explore.Goals as goal
 
 -- what was seen stays so
@@ -31,6 +31,12 @@ of_all compared steps limit effort None place seen bounds =
     (all, tt, (bounds.1, bounds.2), λ _. all)
 of_all compared steps limit effort (Some at) place seen bounds = (place, seen, bounds.0, λ e. absurd (cc))
 
+-- as many steps as were taken, which is one or more
+counts_all : (steps limit : ℕ) (left_open : Option ℕ) → 0 < steps
+    → IsStepCount limit (verdict_of_all steps left_open) steps
+counts_all steps limit None some = refl
+counts_all steps limit (Some at) some = some
+
 pub returns-in-AllSeen : goal.returns-in-AllSeen
 returns-in-AllSeen g c =
     let after = c.in_ok-next.ensures in
@@ -46,14 +52,31 @@ returns-in-AllSeen g c =
     rw c.seen_in.ensures (record {
       holds = all.0;
       within = all.2;
+      taken = record {
+        within_limit = omega arith;
+        within_effort = omega (arith, c.loop-steps.invariant.size, counts);
+        of_verdict = counts_all (c.loop-steps.steps + 1) c.args.limit c.advance.new.left_open (omega arith);
+      };
       seen = all.1;
       decided = λ exact plain.
           let before = c.loop-steps.invariant.exact exact plain in all.3 (after.exact before.1 ∙ before.0);
     })
 
 pub returns-in-Found : goal.returns-in-Found
-returns-in-Found g c = let found = rw c.in-Found.is at c.in_ok-next.ensures.stage in
-    record { holds = found.holds; within = found.within _ _; seen = found.seen; decided = λ _ _. found.decided _ _ }
+returns-in-Found g c =
+    let found = rw c.in-Found.is at c.in_ok-next.ensures.stage in
+    let counts = g.met.C.Comparison.counts c.args.comparison.now c.loop-steps.known c.loop-steps.node in
+    record {
+      holds = found.holds;
+      within = found.within _ _;
+      taken = record {
+        within_limit = omega arith;
+        within_effort = omega (arith, c.loop-steps.invariant.size, counts);
+        of_verdict = found.counted _ (c.loop-steps.steps + 1) (omega arith);
+      };
+      seen = found.seen;
+      decided = λ _ _. found.decided _ _;
+    }
 
 pub loop-steps-preserved : goal.loop-steps-preserved
 loop-steps-preserved g c =

@@ -1,16 +1,17 @@
-use Rattle.scf_tool.proofs.Common.{take_all, take_more, IsVerdictOnCall}
-use Rattle.scf_tool.proofs.StackLemmas.{AllZip-more}
+use Rattle.scf_tool.proofs.Common.{take_all, take_more}
+use Rattle.scf_tool.proofs.CallLemmas.{one_verdict_more}
 use Rattle.scf_tool.proofs.call_verification.compare_calls.Goals as goal
 
 pub loop-call-preserved : goal.loop-call-preserved
 loop-call-preserved c =
     rw (take_more _ _ c.call-item.result c.loop-call-test.true, c.in_ok-push.ensures.items)
-    (AllZip-more (IsVerdictOnCall c.args.relation c.args.parties.now.stack c.args.parties.now.loaded.profile
-    c.args.limit) _ _ _ _ c.loop-call.invariant (rw c.call-item.is at c.in_ok-verdict.ensures))
+    (one_verdict_more c.args.relation c.args.parties.now.stack c.args.parties.now.loaded.profile c.args.limits.each _ _
+    _ _ _ _ _ c.loop-call.invariant (rw c.call-item.is at c.in_ok-verdict.ensures))
 
 pub returns : goal.returns
 returns c = (
   c.deref-call-items.result.now,
   rw c.deref-call-items.ensures.value c.in_ok-calls.ensures,
+  c.loop-call.left,
   rw (take_all c.loop-call.call-index _ c.loop-call-test.false) at c.loop-call.invariant,
 )
