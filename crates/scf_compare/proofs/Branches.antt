@@ -1,6 +1,6 @@
 -- Open branches, as one is opened and one is taken.
-use Rattle.scf_compare.proofs.Common.{◌≡◌, ℕ, zero, suc, ◌+◌, ◌<◌, ◌≤◌, ◌↔◌, ◌⊎◌, inl, inr, List, [], ◌∷◌, ◌++◌, length, refl, sym, ap, ◌∙◌, arith, length-append, Some, IsTrue, slice_get, slice_get_within, sum_by-append, Store, IsSameLevel, Frontier, Compared, GivesLearned, LearnsExactly, IsBranch, IsInBranch, IsFrontier, AreExact, open_size, IsTaken, Tree}
-use Rattle.scf_compare.specs.declared.frontier.Branch.{Branch}
+use Rattle.scf_compare.proofs.Common.{◌≡◌, ℕ, zero, suc, ◌+◌, ◌<◌, ◌≤◌, ◌↔◌, ◌⊎◌, inl, inr, List, [], ◌∷◌, ◌++◌, length, refl, sym, ap, ◌∙◌, arith, length-append, Some, IsTrue, slice_get, slice_get_within, sum_by-append, Store, IsSameLevel, Frontier, Compared, GivesLearned, LearnsExactly, IsOpenBranch, IsInBranch, IsFrontier, AreExact, open_size, IsTaken, Tree}
+use Rattle.scf_compare.specs.declared.frontier.OpenBranch.{OpenBranch}
 
 -- ---- places in a list with one more at its end
 
@@ -25,13 +25,13 @@ place_last (a ∷ xs) x = place_last xs x
 length_more : {X : Type 0} (xs ys : List X) (x : X) → ys ≡ xs ++ x ∷ [] → length ys ≡ length xs + 1
 length_more xs ys x e = ap length e ∙ length-append xs (x ∷ [])
 
-pub size_more : {F K N : Type 0} (tree : K → Tree N) (fewer more : Frontier F K N) (b : Branch K N)
+pub size_more : {F K N : Type 0} (tree : K → Tree N) (fewer more : Frontier F K N) (b : OpenBranch K N)
     → more.branches.items ≡ fewer.branches.items ++ b ∷ []
     → open_size tree more ≡ open_size tree fewer + (tree b.known).size b.node
 size_more tree fewer more b h = grind (arith, sum_by-append)
 
 -- A branch was opened, and more may have been learned since.
-pub record HasOpened {F K N : Type 0} (store : Store F) (old new : Frontier F K N) (b : Branch K N) : Type 0 where
+pub record HasOpened {F K N : Type 0} (store : Store F) (old new : Frontier F K N) (b : OpenBranch K N) : Type 0 where
   pub branches : new.branches.items ≡ old.branches.items ++ b ∷ []
   pub marks : store.level new.facts ≡ store.level old.facts + 1
   pub levels : (place : ℕ) → place ≤ store.level old.facts
@@ -40,7 +40,7 @@ pub record HasOpened {F K N : Type 0} (store : Store F) (old new : Frontier F K 
       → store.allows old.facts (store.level old.facts) words
 
 module _ {F K N : Type 0} (store : Store F) (tree : K → Tree N) (scope : List ℕ → Type 0) (old new : Frontier F K N)
-    (b : Branch K N) (f : IsFrontier store tree scope old) (opened : HasOpened store old new b) where
+    (b : OpenBranch K N) (f : IsFrontier store tree scope old) (opened : HasOpened store old new b) where
   -- words in a branch are still in it
   pub still_in_branch : (words : List ℕ) → IsInBranch store tree old words → IsInBranch store tree new words
   still_in_branch words h =
@@ -66,7 +66,7 @@ module _ {F K N : Type 0} (store : Store F) (tree : K → Tree N) (scope : List 
     reached = reached;
   }
 
-  pub frontier_opened : IsBranch tree b → IsFrontier store tree scope new
+  pub frontier_opened : IsOpenBranch tree b → IsFrontier store tree scope new
   frontier_opened is_branch =
       let more = length_more old.branches.items new.branches.items b opened.branches in
       record {
@@ -89,7 +89,7 @@ module _ {F K N : Type 0} (store : Store F) (tree : K → Tree N) (scope : List 
       grind (arith, cases, f.marks, opened.levels place, are place branch, reached)
 
 -- The newest branch was taken: its mark was undone, and what leads into it was learned.
-pub record HasTaken {F K N : Type 0} (store : Store F) (old new : Frontier F K N) (b : Branch K N) : Type 0 where
+pub record HasTaken {F K N : Type 0} (store : Store F) (old new : Frontier F K N) (b : OpenBranch K N) : Type 0 where
   pub branches : old.branches.items ≡ new.branches.items ++ b ∷ []
   pub marks : store.level new.facts + 1 ≡ store.level old.facts
   pub levels : (place : ℕ) → place < store.level new.facts
@@ -101,14 +101,14 @@ pub record HasTaken {F K N : Type 0} (store : Store F) (old new : Frontier F K N
       → IsTrue (store.is_exact new.facts (store.level new.facts))
 
 pub taken : {F K N : Type 0} (store : Store F) (compared : Compared) (tree : K → Tree N) (old new : Frontier F K N)
-    (b : Branch K N) → IsFrontier store tree compared.in_scope old → HasTaken store old new b
+    (b : OpenBranch K N) → IsFrontier store tree compared.in_scope old → HasTaken store old new b
     → IsTaken store compared tree old new (tree b.known) b.node
 taken {K = K} {N = N} store compared tree old new b f h =
     let more = length_more new.branches.items old.branches.items b h.branches in
     let marks : store.level new.facts ≡ length new.branches.items = omega (arith, f.marks, h.marks) in
     let last : slice_get old.branches.items (store.level new.facts) ≡ Some b =
     rw (marks, h.branches) (place_last new.branches.items b) in
-    let before = λ (place : ℕ) (branch : Branch K N) (stands : slice_get new.branches.items place ≡ Some branch).
+    let before = λ (place : ℕ) (branch : OpenBranch K N) (stands : slice_get new.branches.items place ≡ Some branch).
     let old_stands : slice_get old.branches.items place ≡ Some branch =
     rw h.branches (place_before new.branches.items b place branch stands) in old_stands in
     record {

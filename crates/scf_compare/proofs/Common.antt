@@ -45,13 +45,13 @@ pub use Rattle.scf_profile.specs.Relation.{IsRelated}
 pub use Rattle.scf_profile.specs.Scope.{IsInScope, RelatedAnswersIn, SameAnswersIn}
 pub use Rattle.scf_compare.specs.Verdicts.{IsDecided, IsEndPlace, IsStackEndPlace, IsTrueBy, IsTrueOf, IsTrueOfStackBy}
 pub use Rattle.scf_compare.specs.declared.asking.Atoms.{Atoms}
-pub use Rattle.scf_compare.specs.declared.comparison.BothEnds.{BothEnds}
-pub use Rattle.scf_compare.specs.declared.comparison.FilterEnd.{FilterEnd}
+pub use Rattle.scf_compare.specs.declared.comparison.PairLeaf.{PairLeaf}
+pub use Rattle.scf_compare.specs.declared.comparison.FilterLeaf.{FilterLeaf}
 pub use Rattle.scf_compare.specs.declared.filter.FilterNode.{FilterNode}
-pub use Rattle.scf_compare.specs.declared.flow.Flow.{Flow}
-pub use Rattle.scf_compare.specs.declared.flow.Flow.TheVariants.{Branch, DivideByIndex, Jump, Next, ReturnAccumulator, ReturnConstant}
+pub use Rattle.scf_compare.specs.declared.control_flow.ControlFlow.{ControlFlow}
+pub use Rattle.scf_compare.specs.declared.control_flow.ControlFlow.TheVariants.{ConditionalJump, DivideByIndex, Jump, FallThrough, ReturnAccumulator, ReturnConstant}
 pub use Rattle.scf_compare.specs.declared.frontier.Frontier.{Frontier}
-pub use Rattle.scf_compare.specs.declared.image.Image.{Image}
+pub use Rattle.scf_compare.specs.declared.bit_slice.BitSlice.{BitSlice}
 pub use Rattle.scf_compare.specs.declared.profile.ConditionPlace.{ConditionPlace}
 pub use Rattle.scf_compare.specs.declared.registers.Registers.{Registers}
 pub use Rattle.scf_profile.specs.declared.relation.Relation.{Relation}
@@ -59,23 +59,23 @@ pub use Rattle.scf_profile.specs.declared.relation.Relation.TheVariants.{NoLess,
 pub use Rattle.scf_profile.specs.declared.scope.Scope.{Scope}
 pub use Rattle.scf_profile.specs.declared.scope.Scope.TheVariants.{Call, Native}
 pub use Rattle.scf_compare.specs.declared.stack.StackNode.TheVariants.{At}
-pub use Rattle.scf_compare.specs.declared.turn.Turn.{Turn}
-pub use Rattle.scf_compare.specs.declared.turn.Turn.TheVariants.{Split}
+pub use Rattle.scf_compare.specs.declared.step.Step.{Step}
+pub use Rattle.scf_compare.specs.declared.step.Step.TheVariants.{Branch}
 pub use Rattle.scf_compare.specs.declared.value.Decision.{Decision}
 pub use Rattle.scf_compare.specs.declared.verdict.Verdict.{Verdict}
 pub use Rattle.scf_compare.specs.internal.Asking.{AsksOfWords, KeepsEither, StaysExact, atoms_answer}
 pub use Rattle.scf_compare.specs.internal.Compared.{AllRelated, Compared, IsTrueVerdict}
-pub use Rattle.scf_compare.specs.internal.Ends.{IsPlaceOf, KnowsBoth, Tells, WereAllSeen, WereSeen}
-pub use Rattle.scf_compare.specs.internal.Filters.{ComesTo, EndsWith, IsFilterEnd, IsTurnOf, filter_size, filter_tree}
-pub use Rattle.scf_compare.specs.internal.Flow.{IsInside, UsesScratch, flow_at, size_of_flow}
-pub use Rattle.scf_compare.specs.internal.Frontier.{AreExact, GivesLearned, IsAhead, IsBranch, IsExact, IsFrontier, IsInBranch, LearnsExactly, open_size}
-pub use Rattle.scf_compare.specs.internal.Images.{AreShiftedAlike, IsWhole, image_number, shifted_word}
+pub use Rattle.scf_compare.specs.internal.Leaves.{IsPlaceOf, KnowsBoth, Tells, WereAllSeen, WereSeen}
+pub use Rattle.scf_compare.specs.internal.Filters.{ComesTo, EndsWith, IsFilterEnd, IsStepOf, filter_size, filter_tree}
+pub use Rattle.scf_compare.specs.internal.ControlFlow.{IsInside, UsesScratch, control_flow_at, size_of_flow}
+pub use Rattle.scf_compare.specs.internal.Frontier.{AreExact, GivesLearned, IsAhead, IsOpenBranch, IsExact, IsFrontier, IsInBranch, LearnsExactly, open_size}
+pub use Rattle.scf_compare.specs.internal.BitSlices.{AreShiftedAlike, IsWhole, bit_slice_value, shifted_word}
 pub use Rattle.scf_compare.specs.internal.Laws.{paths_count, scaled_costs, spread_counts}
 pub use Rattle.scf_compare.specs.internal.NumberedProfiles.{IsNumbered, NumberedProfile}
-pub use Rattle.scf_compare.specs.internal.Offsets.{signed_sum}
+pub use Rattle.scf_compare.specs.internal.AffineTerms.{signed_sum}
 pub use Rattle.scf_compare.specs.internal.Profiles.{IsAtCondition, IsAtRule, IsFrom, numbers_size, own_conditions, own_rules, size_behind}
 pub use Rattle.scf_compare.specs.internal.Scopes.{AreWordsOf, AreWordsOfX86_64, compared_in}
-pub use Rattle.scf_compare.specs.internal.Stacks.{IsStackEnd, filter_at, stack_is_node, stack_is_plain, stack_reaches, stack_size}
+pub use Rattle.scf_compare.specs.internal.Stacks.{IsStackLeaf, filter_at, stack_is_node, stack_is_plain, stack_reaches, stack_size}
 pub use Rattle.scf_compare.specs.internal.Stages.{GoesOver, IsTaken, LeadsTo, verdict_of_all}
 pub use Rattle.scf_compare.specs.internal.Trees.{Costs, GoesOn, StaysPlain, Tree}
 pub use Rattle.scf_compare.specs.internal.Values.{Decides, Describes}

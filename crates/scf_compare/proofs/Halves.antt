@@ -4,8 +4,8 @@ use Rattle.scf_insn.proofs.CallWords.{IsRecord-call_of}
 use Rattle.scf_profile.specs.Condition.{holds}
 use Rattle.scf_profile.specs.NumberTests.{comes_to, test_of}
 use Rattle.scf_profile.proofs.NumberTests.{decides}
-use Rattle.scf_compare.specs.declared.question.Way.{Way}
-use Rattle.scf_compare.specs.internal.Conditions.{HasHalves, IsOnTestWay, IsOnWay, opposite_way, way_size}
+use Rattle.scf_compare.specs.declared.question.Successor.{Successor}
+use Rattle.scf_compare.specs.internal.Conditions.{HasHalves, TestLeadsTo, ConditionLeadsTo, opposite_successor, successor_size}
 
 -- ---- the words of an argument
 
@@ -17,7 +17,7 @@ halves_of words i w = record {
 
 -- ---- a condition by its test
 
-module _ (c : Condition) (way : Way) (words : List ℕ) (w : IsWords words) where
+module _ (c : Condition) (successor : Successor) (words : List ℕ) (w : IsWords words) where
   abbrev number : ℕ
   number = argument (call_of words) c.index
 
@@ -25,12 +25,12 @@ module _ (c : Condition) (way : Way) (words : List ℕ) (w : IsWords words) wher
   decided = decides c number ((IsRecord-call_of words w).args c.index)
 
   -- where a condition holds if its test is met, its ways are the test's
-  pub on_way : (test_of c).1 ≡ true → IsOnTestWay (test_of c).0 way number → IsOnWay c way number
-  on_way e is = grind (arith, decided)
+  pub leads_to : (test_of c).1 ≡ true → TestLeadsTo (test_of c).0 successor number → ConditionLeadsTo c successor number
+  leads_to e is = grind (arith, decided)
 
   -- and else the opposite ones
-  pub on_opposite : (test_of c).1 ≡ false → IsOnTestWay (test_of c).0 way number → IsOnWay c (opposite_way way) number
+  pub on_opposite : (test_of c).1 ≡ false → TestLeadsTo (test_of c).0 successor number → ConditionLeadsTo c (opposite_successor successor) number
   on_opposite e is = grind (arith, decided)
 
-pub opposite_size : (way : Way) (holds fails : ℕ) → way_size (opposite_way way) holds fails ≡ way_size way fails holds
-opposite_size way holds fails = grind arith
+pub opposite_size : (successor : Successor) (holds fails : ℕ) → successor_size (opposite_successor successor) holds fails ≡ successor_size successor fails holds
+opposite_size successor holds fails = grind arith

@@ -1,6 +1,6 @@
 -- Images of one word that are joined.
-use Rattle.scf_compare.proofs.Common.{add_comm, and_comm, mul_comm, or_comm, xor_comm, ◌≡◌, ℕ, ◌*◌, ◌/◌, ◌<◌, ◌^◌, ◌↔◌, true, false, eqb, sym, ◌∙◌, arith, bit_and, bit_or, bit_xor, List, nat_lt, not, and_zero_r, eq-eqb, and_le_r, or_block, or_lt, or_shr, le_or_l, le_or_r, pow_pos, same_from_bits, Image, AreShiftedAlike, shifted_word}
-use Rattle.scf_compare.proofs.Images.{mask_within}
+use Rattle.scf_compare.proofs.Common.{add_comm, and_comm, mul_comm, or_comm, xor_comm, ◌≡◌, ℕ, ◌*◌, ◌/◌, ◌<◌, ◌^◌, ◌↔◌, true, false, eqb, sym, ◌∙◌, arith, bit_and, bit_or, bit_xor, List, nat_lt, not, and_zero_r, eq-eqb, and_le_r, or_block, or_lt, or_shr, le_or_l, le_or_r, pow_pos, same_from_bits, BitSlice, AreShiftedAlike, shifted_word}
+use Rattle.scf_compare.proofs.BitSlices.{mask_within}
 use Rattle.scf_compare.proofs.Bits.{each_bit}
 
 pub joined_and : (w m c n d : ℕ) → bit_and (bit_xor (bit_and w m) c) (bit_xor (bit_and w n) d)

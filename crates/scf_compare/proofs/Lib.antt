@@ -1,12 +1,12 @@
 pub mod Bits
 pub mod Branches
 pub mod Common
-pub mod Flows
+pub mod ControlFlows
 pub mod Halves
-pub mod Images
+pub mod BitSlices
 pub mod Joins
 pub mod Numbered
-pub mod Offsets
+pub mod AffineTerms
 pub mod Orders
 pub mod Relations
 pub mod Rules
@@ -14,4 +14,4 @@ pub mod Saturated
 pub mod Stacks
 pub mod Stages
 pub mod Verdicts
-pub mod Ways
+pub mod Successors

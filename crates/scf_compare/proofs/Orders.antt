@@ -1,6 +1,6 @@
 -- Orders of an image of a word whose mask has all bits from one on.
 use Rattle.scf_compare.proofs.Common.{◌≡◌, ℕ, ◌+◌, ◌-◌, ◌*◌, ◌/◌, ◌%◌, ◌<◌, ◌≤◌, ◌^◌, ◌↔◌, true, false, sym, ◌∙◌, arith, bit_and, bit_xor, nat_lt, xor_zero_r, le-ltb, pow_pos, shr_split, div-lt_iff_lt-mul, le-div_iff_mul-le, lt_of_mul-lt-mul_right, mod-eq_of_lt, mul-lt-mul_of_pos_right, one_more, of_multiple, beyond_mask}
-use Rattle.scf_compare.proofs.Images.{shifted_back, under_mask}
+use Rattle.scf_compare.proofs.BitSlices.{shifted_back, under_mask}
 
 not_less : (a b : ℕ) → (a < b → ⊥) → nat_lt a b ≡ false
 not_less a b h = le-ltb a b (omega (arith, h))

@@ -1,12 +1,12 @@
 -- The filters of a stack by their places.
-use Rattle.scf_compare.proofs.Common.{◌≡◌, ℕ, ◌+◌, ◌*◌, ◌-◌, ◌<◌, ◌≤◌, List, [], ◌∷◌, length, take, drop, arith, Option, IfSome, slice_get-get_or, Answer, Insn, RunAnswers, StackAnswers, one_answers, stack_paths, tree_size, FilterEnd, IsFilterEnd, IsStackEnd, filter_at}
+use Rattle.scf_compare.proofs.Common.{◌≡◌, ℕ, ◌+◌, ◌*◌, ◌-◌, ◌<◌, ◌≤◌, List, [], ◌∷◌, length, take, drop, arith, Option, IfSome, slice_get-get_or, Answer, Insn, RunAnswers, StackAnswers, one_answers, stack_paths, tree_size, FilterLeaf, IsFilterEnd, IsStackLeaf, filter_at}
 use Rattle.scf_compare.proofs.Rules.{contains_here, drop_here}
 
 -- an end of one of the filters is an end of the stack
-pub is_stack_end : (filters : List (List Insn)) (place : ℕ) (end : FilterEnd) → place < length filters
-    → IsFilterEnd (filter_at filters place) end → IsStackEnd filters end
-is_stack_end [] place end inside of_filter = absurd (omega arith)
-is_stack_end (filter ∷ filters) place end inside of_filter =
+pub is_stack_leaf : (filters : List (List Insn)) (place : ℕ) (leaf : FilterLeaf) → place < length filters
+    → IsFilterEnd (filter_at filters place) leaf → IsStackLeaf filters leaf
+is_stack_leaf [] place leaf inside of_filter = absurd (omega arith)
+is_stack_leaf (filter ∷ filters) place leaf inside of_filter =
     (_, contains_here (filter ∷ filters) place _ (slice_get-get_or (filter ∷ filters) place [] inside), of_filter)
 
 -- the trees from a place on begin with that of the filter there

@@ -1,26 +1,26 @@
 -- From one stage of an exploration to the next.
-use Rattle.scf_compare.proofs.Common.{◌≡◌, ◌∙◌, ℕ, ◌≤◌, ◌↔◌, List, true, false, arith, Option, Some, None, IsTrue, cases_Bool, Store, Atoms, BothEnds, Frontier, Turn, Split, AsksOfWords, atoms_answer, StaysExact, KeepsEither, Compared, Tells, KnowsBoth, WereSeen, IsFrontier, LeadsTo, IsTaken, GoesOver, Tree, GoesOn, StaysPlain, Costs}
-use Rattle.scf_compare.specs.declared.frontier.Branch.{Branch}
+use Rattle.scf_compare.proofs.Common.{◌≡◌, ◌∙◌, ℕ, ◌≤◌, ◌↔◌, List, true, false, arith, Option, Some, None, IsTrue, cases_Bool, Store, Atoms, PairLeaf, Frontier, Step, Branch, AsksOfWords, atoms_answer, StaysExact, KeepsEither, Compared, Tells, KnowsBoth, WereSeen, IsFrontier, LeadsTo, IsTaken, GoesOver, Tree, GoesOn, StaysPlain, Costs}
+use Rattle.scf_compare.specs.declared.frontier.OpenBranch.{OpenBranch}
 use Rattle.scf_compare.proofs.Branches.{HasOpened, still_in_branch, in_opened, frontier_opened, size_more, exact_opened}
 
 module _ {F K N : Type 0} (store : Store F) (compared : Compared) (tree : K → Tree N) (old new : Frontier F K N)
     (f : IsFrontier store tree compared.in_scope old) where
   -- One way on from atoms is gone, and a branch stands open for the other: those that are left of them were learned.
-  pub asked : (known : K) (whole left : Atoms) (if_true if_false : N)
+  pub asked : (known : K) (whole remaining : Atoms) (if_true if_false : N)
       → AsksOfWords whole × (tree known).is_node if_true × (tree known).is_node if_false
-      → AsksOfWords left
+      → AsksOfWords remaining
       → ((words : List ℕ) → store.allows old.facts (store.level old.facts) words
-      → atoms_answer whole words ≡ atoms_answer left words)
-      → (KeepsEither whole → KeepsEither left)
-      → HasOpened store old new (record { known = known; node = if_false; learned = Some (left, false) })
+      → atoms_answer whole words ≡ atoms_answer remaining words)
+      → (KeepsEither whole → KeepsEither remaining)
+      → HasOpened store old new (record { known = known; node = if_false; learned = Some (remaining, false) })
       → ((words : List ℕ)
       → store.allows new.facts (store.level new.facts) words
-      ↔ (store.allows old.facts (store.level old.facts) words × (atoms_answer left words ≡ true)))
-      → (StaysExact left true → IsTrue (store.is_exact old.facts (store.level old.facts))
+      ↔ (store.allows old.facts (store.level old.facts) words × (atoms_answer remaining words ≡ true)))
+      → (StaysExact remaining true → IsTrue (store.is_exact old.facts (store.level old.facts))
       → IsTrue (store.is_exact new.facts (store.level new.facts)))
-      → LeadsTo store compared tree old new (tree known) (Split (Some whole) if_true if_false) if_true
-  asked known whole left if_true if_false proper asks same keeps opened learned exact =
-      let other : Branch K N = record { known = known; node = if_false; learned = Some (left, false) } in
+      → LeadsTo store compared tree old new (tree known) (Branch (Some whole) if_true if_false) if_true
+  asked known whole remaining if_true if_false proper asks same keeps opened learned exact =
+      let other : OpenBranch K N = record { known = known; node = if_false; learned = Some (remaining, false) } in
       let still = still_in_branch store tree compared.in_scope old new other f opened in
       let there = in_opened store tree compared.in_scope old new other f opened in
       record {
@@ -29,7 +29,7 @@ module _ {F K N : Type 0} (store : Store F) (compared : Compared) (tree : K → 
             (record { node = proper.2; asks = asks });
         node = proper.1;
         words = λ words ahead.
-            grind (arith, still words, there words, same words, learned words, cases_Bool (atoms_answer left words));
+            grind (arith, still words, there words, same words, learned words, cases_Bool (atoms_answer remaining words));
         size = omega (arith, size_more tree old new other opened.branches);
         exact = λ all. let either = keeps all.plain.0 in record {
           branches =
@@ -47,9 +47,9 @@ module _ {F K N : Type 0} (store : Store F) (compared : Compared) (tree : K → 
       → HasOpened store old new (record { known = known; node = if_false; learned = None })
       → ((words : List ℕ) → store.allows old.facts (store.level old.facts) words
       → store.allows new.facts (store.level new.facts) words)
-      → LeadsTo store compared tree old new (tree known) (Split None if_true if_false) if_true
+      → LeadsTo store compared tree old new (tree known) (Branch None if_true if_false) if_true
   forked known if_true if_false proper opened still =
-      let other : Branch K N = record { known = known; node = if_false; learned = None } in
+      let other : OpenBranch K N = record { known = known; node = if_false; learned = None } in
       let seen = still_in_branch store tree compared.in_scope old new other f opened in
       let there = in_opened store tree compared.in_scope old new other f opened in
       record {
@@ -62,14 +62,14 @@ module _ {F K N : Type 0} (store : Store F) (compared : Compared) (tree : K → 
       }
 
   -- where a turn of a node leads
-  pub led : (here : Tree N) (from : N) (there : Tree N) (turn : Turn N BothEnds) (next : N)
+  pub led : (here : Tree N) (from : N) (there : Tree N) (step : Step N PairLeaf) (next : N)
       → ((words : List ℕ) → store.allows old.facts (store.level old.facts) words → here.reaches from words
-      → GoesOn there (Tells compared) turn words)
-      → Costs there turn (here.size from)
-      → (here.is_plain from → StaysPlain there KnowsBoth turn)
-      → LeadsTo store compared tree old new there turn next
+      → GoesOn there (Tells compared) step words)
+      → Costs there step (here.size from)
+      → (here.is_plain from → StaysPlain there KnowsBoth step)
+      → LeadsTo store compared tree old new there step next
       → (found : Option ℕ) → GoesOver store compared tree old new here from there found next
-  led here from there turn next leads costs plain to found = grind arith
+  led here from there step next leads costs plain to found = grind arith
 
   -- where all was seen at an end, and the newest branch was taken
   pub ended : (here : Tree N) (from : N) (there : Tree N) (found : Option ℕ) (next : N)

@@ -1,5 +1,5 @@
 -- A verdict on words is one on call records.
-use Rattle.scf_compare.proofs.Common.{◌≡◌, ◌⊎◌, ℕ, zero, suc, List, Contains, sym, arith, Option, Answer, [], ◌∷◌, Insn, Operation, words_of, call_of-words_of, words_of-call_of, IsWords-words_of, IsRecord-call_of, Profile, SameAnswers, RunAnswers, StackAnswers, one_answers, Relation, Scope, Verdict, IsRelated, IsInScope, RelatedAnswersIn, SameAnswersIn, IsEndPlace, IsStackEndPlace, IsTrueBy, IsTrueOf, IsTrueOfStackBy, IsDecided, AllRelated, IsTrueVerdict, IsPlaceOf, EndsWith, IsFilterEnd, flow_at, compared_in, IsStackEnd}
+use Rattle.scf_compare.proofs.Common.{◌≡◌, ◌⊎◌, ℕ, zero, suc, List, Contains, sym, arith, Option, Answer, [], ◌∷◌, Insn, Operation, words_of, call_of-words_of, words_of-call_of, IsWords-words_of, IsRecord-call_of, Profile, SameAnswers, RunAnswers, StackAnswers, one_answers, Relation, Scope, Verdict, IsRelated, IsInScope, RelatedAnswersIn, SameAnswersIn, IsEndPlace, IsStackEndPlace, IsTrueBy, IsTrueOf, IsTrueOfStackBy, IsDecided, AllRelated, IsTrueVerdict, IsPlaceOf, EndsWith, IsFilterEnd, control_flow_at, compared_in, IsStackLeaf}
 use Rattle.scf_insn.specs.declared.operation.Arithmetic.TheVariants.{Div}
 use Rattle.scf_insn.specs.declared.operation.Operand.TheVariants.{Index}
 use Rattle.scf_insn.specs.declared.operation.Operation.TheVariants.{Compute, ReturnConstant, ReturnAccumulator}
@@ -55,14 +55,14 @@ module _ (insns : List Insn) (p : Profile) where
   true_alone verdict h = grind (arith, one_answers, only, same_alone)
 
 ending : (operation : Operation) (i : Insn) (at : ℕ) (answer : Option Answer)
-    → EndsWith (flow_at operation i at) i answer
+    → EndsWith (control_flow_at operation i at) i answer
     → (operation ≡ ReturnConstant) ⊎ (operation ≡ ReturnAccumulator) ⊎ (operation ≡ Compute Div Index)
 ending operation i at answer ends = grind arith
 
 -- a place of an end is one where a run can end
 pub end_place : (insns : List Insn) (at : ℕ) → IsPlaceOf (IsFilterEnd insns) at → IsEndPlace insns at
-end_place insns at end = grind (arith, ending)
+end_place insns at leaf = grind (arith, ending)
 
-pub stack_end_place : (filters : List (List Insn)) (at : ℕ) → IsPlaceOf (IsStackEnd filters) at
+pub stack_end_place : (filters : List (List Insn)) (at : ℕ) → IsPlaceOf (IsStackLeaf filters) at
     → IsStackEndPlace filters at
-stack_end_place filters at end = grind (arith, end_place)
+stack_end_place filters at leaf = grind (arith, end_place)

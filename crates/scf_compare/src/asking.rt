@@ -1,59 +1,59 @@
-//! Atoms that are asked at once.
+//! Questions to the store: one atom, or two at once.
 
 ghost use Rattle.std.specs.Prelude.{◌≡◌, ◌<◌, ◌↔◌, ◌-◌, ◌^◌, ℕ, List, Bool, IsTrue, OnOk, true, false};
 ghost use Rattle.scf_facts.specs.Atoms.{atom_answer, word_of};
 ghost use Rattle.scf_facts.specs.Levels.{IsSameLevel};
 ghost use Rattle.scf_compare.specs.internal.Asking.{AsksOfWords, atoms_answer, StaysExact, KeepsEither};
-ghost use Rattle.scf_compare.specs.internal.Asking.{IsAtomOf, IsLeftOf, IfStill};
+ghost use Rattle.scf_compare.specs.internal.Asking.{IsAtomOf, IsRemainingOf, IfUnknown};
 
 use scf_facts::{Atom, Tell, WordFacts};
 use scf_insn::Memory;
 
-/// An atom, or two at once: these hold where both do.
+/// One atom, or the conjunction of two.
 #[derive(Clone, Copy)]
 pub(crate) enum Atoms {
     One(Atom),
     Both(Atom, Atom),
 }
 
-/// What is left to be asked of atoms where facts are known.
+/// What a store leaves open of a question.
 #[derive(Clone, Copy)]
-pub(crate) enum Left {
-    /// Nothing: this is their answer.
-    Told(bool),
-    /// Atoms that have the same answer.
-    Still(Atoms),
+pub(crate) enum Remaining {
+    /// Nothing: this is the answer.
+    Known(bool),
+    /// These atoms, which have the same answer.
+    Unknown(Atoms),
 }
 
 impl Atoms {
-    /// What is left to be asked of them: no atom that the facts tell.
-    pub(crate) fn left<F: WordFacts>(self, facts: &F) -> Left
+    /// What the store leaves open of the question: atoms whose answer it doesn't know.
+    pub(crate) fn remaining<F: WordFacts>(self, facts: &F) -> Remaining
         requires { AsksOfWords self }
-        ensures asks { IfStill result AsksOfWords }
+        ensures asks { IfUnknown result AsksOfWords }
         ensures answers { (words : List ℕ) → F.allows facts.now (F.level facts.now) words
-            → IsLeftOf result self words }
-        ensures keeps { KeepsEither self → IfStill result KeepsEither }
-        ensures untold { IsTrue (F.is_exact facts.now (F.level facts.now))
+            → IsRemainingOf result self words }
+        ensures keeps { KeepsEither self → IfUnknown result KeepsEither }
+        ensures unknown { IsTrue (F.is_exact facts.now (F.level facts.now))
             → (some : List ℕ) → F.allows facts.now (F.level facts.now) some
-            → IfStill result (λ left. (atom : Atom) (answer : Bool) → IsAtomOf atom left
+            → IfUnknown result (λ remaining. (atom : Atom) (answer : Bool) → IsAtomOf atom remaining
             → ((words : List ℕ) → F.allows facts.now (F.level facts.now) words → atom_answer atom words ≡ answer)
             → ⊥) }
     {
         match self {
-            Atoms::One(atom) => left_of(facts, atom),
+            Atoms::One(atom) => remaining_of(facts, atom),
             Atoms::Both(first, second) => match facts.tell(first) {
-                Tell::Always => left_of(facts, second),
-                Tell::Never => Left::Told(false),
+                Tell::Always => remaining_of(facts, second),
+                Tell::Never => Remaining::Known(false),
                 Tell::Maybe => match facts.tell(second) {
-                    Tell::Always => Left::Still(Atoms::One(first)),
-                    Tell::Never => Left::Told(false),
-                    Tell::Maybe => Left::Still(self),
+                    Tell::Always => Remaining::Unknown(Atoms::One(first)),
+                    Tell::Never => Remaining::Known(false),
+                    Tell::Maybe => Remaining::Unknown(self),
                 },
             },
         }
     }
 
-    /// Keeps of the words that the facts allow those of which they have this answer.
+    /// Learns the answer: keeps the allowed lists of words that give it.
     pub(crate) fn learn<F: WordFacts>(self, facts: &mut F, answer: bool) -> Result<(), Memory>
         requires { AsksOfWords self }
         ensures marks { F.level facts.new ≡ F.level facts.old }
@@ -71,14 +71,14 @@ impl Atoms {
                     facts.learn(first, true)?;
                     facts.learn(second, true)
                 } else {
-                    facts.learn_not_both(first, second)
+                    facts.learn_clause(first, second)
                 }
             }
         }
     }
 }
 
-/// Whether a word is a number, as an atom.
+/// The atom `word == value`.
 pub(crate) fn word_is(word: u8, value: u32) -> Atom
     ensures { result ≡ Atom.Eq word (2 ^ 32 - 1) value }
 {
@@ -89,22 +89,22 @@ pub(crate) fn word_is(word: u8, value: u32) -> Atom
     }
 }
 
-/// What is left to be asked of an atom.
-fn left_of<F: WordFacts>(facts: &F, atom: Atom) -> Left
+/// What the store leaves open of one atom.
+fn remaining_of<F: WordFacts>(facts: &F, atom: Atom) -> Remaining
     requires { word_of atom < 16 }
-    ensures asks { IfStill result AsksOfWords }
+    ensures asks { IfUnknown result AsksOfWords }
     ensures answers { (words : List ℕ) → F.allows facts.now (F.level facts.now) words
-        → IsLeftOf result (Atoms.One atom) words }
-    ensures keeps { KeepsEither (Atoms.One atom) → IfStill result KeepsEither }
-    ensures untold { IsTrue (F.is_exact facts.now (F.level facts.now))
+        → IsRemainingOf result (Atoms.One atom) words }
+    ensures keeps { KeepsEither (Atoms.One atom) → IfUnknown result KeepsEither }
+    ensures unknown { IsTrue (F.is_exact facts.now (F.level facts.now))
         → (some : List ℕ) → F.allows facts.now (F.level facts.now) some
-        → IfStill result (λ left. (atom : Atom) (answer : Bool) → IsAtomOf atom left
+        → IfUnknown result (λ remaining. (atom : Atom) (answer : Bool) → IsAtomOf atom remaining
         → ((words : List ℕ) → F.allows facts.now (F.level facts.now) words → atom_answer atom words ≡ answer)
         → ⊥) }
 {
     match facts.tell(atom) {
-        Tell::Always => Left::Told(true),
-        Tell::Never => Left::Told(false),
-        Tell::Maybe => Left::Still(Atoms::One(atom)),
+        Tell::Always => Remaining::Known(true),
+        Tell::Never => Remaining::Known(false),
+        Tell::Maybe => Remaining::Unknown(Atoms::One(atom)),
     }
 }

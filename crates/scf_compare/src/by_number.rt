@@ -1,11 +1,11 @@
-//! A profile with the numbers of its rules.
+//! A profile with its rules by syscall number.
 
 ghost use Rattle.std.specs.Prelude.{◌≡◌};
 
 use scf_profile::{NumberRules, Profile};
 use std::marker::Model;
 
-/// A profile and its numbers, each with its rules.
+/// A profile and its syscall numbers, each with its rules.
 #[derive(Drop)]
 pub(crate) struct ByNumber<'a> {
     profile: &'a Profile,
@@ -25,7 +25,7 @@ impl<'a> Model for ByNumber<'a> {
 impl<'a> ByNumber<'a> {
     ghost use Rattle.scf_compare.specs.internal.NumberedProfiles.{IsNumbered};
 
-    /// A profile with its numbers.
+    /// The profile with its numbers.
     pub(crate) fn new(profile: &'a Profile) -> ByNumber<'a>
         ensures profile { result.profile ≡ profile.now }
         ensures numbered { IsNumbered result }
@@ -43,7 +43,7 @@ impl<'a> ByNumber<'a> {
         self.profile
     }
 
-    /// Its numbers, rising, each with its rules.
+    /// Its syscall numbers in rising order, each with its rules.
     pub(crate) fn numbers(&self) -> &[NumberRules]
         ensures numbers { result.now ≡ self.now.numbers }
         ensures numbered { IsNumbered self.now }

@@ -34,12 +34,12 @@ use std::slice;
 /// Compares a program with a profile over every call record, in at most `limit` steps.
 ///
 /// `Same` is true of every call record. `Differs` shows a record that is answered differently, with both answers.
-/// `Undecided` names a place of the program where its runs end, and where the facts `F` don't decide which answer it
-/// gives: a return, or a division by the index register. It comes only once all else was seen. `Unfinished` comes only
-/// where the limit is below the exact effort; the steps of `Same` are within both.
+/// `Undecided` gives the index of an instruction where runs of the program end (a return, or a division by the index
+/// register) and where the store `F` doesn't decide the answer; it comes only after everything else was explored.
+/// `Unfinished` comes only if the limit is below the exact effort; the steps of `Same` are within both.
 ///
-/// Facts that start exact decide a plain program and a plain profile: with a limit that isn't below the effort the
-/// verdict is `Same` exactly where both answer every call record alike, and `Differs` elsewhere.
+/// A store that starts exact decides plain programs and profiles: with a limit of at least the effort the verdict is
+/// `Same` exactly if both answer every call record alike, else `Differs`.
 pub fn compare<F: WordFacts>(
     alloc: Global,
     program: &Program,
@@ -66,12 +66,12 @@ pub fn compare<F: WordFacts>(
     )
 }
 
-/// Compares what a stack of filters answers with a profile over the calls of a scope, in at most `limit` steps.
+/// Compares a stack of filters with a profile over the records of a scope, in at most `limit` steps.
 ///
-/// The verdicts are those of `compare`. A record that `Differs` shows is of the scope, and the filter's answer in it is
-/// that of the stack. `Undecided` names such a place of the filter whose answer isn't known, and 0 for an empty stack:
-/// the oldest of several; and where each answer is known, and only the way to them isn't, of the filter whose answer
-/// wins. Facts that start exact decide a stack of plain programs and a plain profile.
+/// The verdicts are those of `compare`. The record of `Differs` is in the scope, and its filter's answer is the
+/// stack's. `Undecided` gives an instruction index in the oldest filter whose answer isn't known; if all answers are
+/// known, and only the path to them isn't, in the filter whose answer takes precedence; 0 for an empty stack. A store
+/// that starts exact decides stacks of plain programs and plain profiles.
 pub fn compare_stack<F: WordFacts>(
     alloc: Global,
     stack: &FilterStack,
@@ -89,12 +89,10 @@ pub fn compare_stack<F: WordFacts>(
     compare_by::<F>(alloc, stack, profile, scope, Relation::Same, limit)
 }
 
-/// Compares what a stack of filters answers with a profile over the calls of a scope by a relation, in at most `limit`
-/// steps.
+/// Compares a stack of filters with a profile over the records of a scope by a relation, in at most `limit` steps.
 ///
-/// `Same` says that the relation holds of the answers to every call record of the scope. `Differs` shows a record of
-/// the scope with both answers, of which it doesn't hold. All else is as `compare_stack` has it, whose relation is that
-/// of the same answers.
+/// `Same` says that the relation holds of the answers to every record of the scope; `Differs` shows one, with both
+/// answers, of which it doesn't hold. Everything else is as in `compare_stack`, which is the case of equal answers.
 pub fn compare_by<F: WordFacts>(
     alloc: Global,
     stack: &FilterStack,
@@ -115,10 +113,10 @@ pub fn compare_by<F: WordFacts>(
     compare_filters::<F>(alloc, filters, profile, scope, relation, limit, &mut taken)
 }
 
-/// Compares as `compare_by` does, in at most `limit` steps and no more than are left for several comparisons together.
-/// Those that it takes are subtracted from `left`, which stays as it was where memory is refused.
+/// Compares as `compare_by` does, in at most `limit` steps and at most the `left` ones that several comparisons share.
+/// The steps taken are subtracted from `left`; if an allocation fails, it doesn't change.
 ///
-/// So where none are left the verdict is `Unfinished`.
+/// With no steps left the verdict is `Unfinished`.
 pub fn compare_within<F: WordFacts>(
     alloc: Global,
     stack: &FilterStack,
@@ -152,8 +150,8 @@ pub fn compare_within<F: WordFacts>(
     Ok(verdict)
 }
 
-/// Compares what filters, the oldest first, answer with a profile over the calls of a scope by a relation. `taken`
-/// becomes the number of steps that were taken.
+/// Compares filters, the oldest first, with a profile over the records of a scope by a relation. `taken` becomes the
+/// count of steps taken.
 fn compare_filters<F: WordFacts>(
     alloc: Global,
     filters: &[Program],

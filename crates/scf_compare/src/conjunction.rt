@@ -1,18 +1,18 @@
-//! Where a number that isn't followed otherwise is 0.
+//! Zero tests: when a computed value is 0, as equations of one word or two.
 
 ghost use Rattle.std.specs.Prelude.{◌≡◌, ◌==◌, ◌<◌, ◌↔◌, ◌^◌, ℕ, List, IfSome, true, bit_or};
 ghost use Rattle.scf_facts.specs.Atoms.{atom_answer, word_of};
 ghost use Rattle.scf_machine.specs.Machine.{holds};
 ghost use Rattle.scf_compare.specs.internal.Asking.{AsksOfWords, atoms_answer};
 ghost use Rattle.scf_compare.specs.internal.Conjunctions.{MaskedHolds, IsConjunction, ConjunctionHolds};
-ghost use Rattle.scf_compare.specs.internal.Values.{IsValue, StandsFor, IsTestDecision, Decides, IsZeroWhere};
+ghost use Rattle.scf_compare.specs.internal.Values.{IsValue, StandsFor, IsTestDecision, Decides, IsZeroTest};
 
 use crate::asking::Atoms;
 use crate::value::{Decision, Value};
 use scf_facts::Atom;
 use scf_insn::Test;
 
-/// A word AND a mask is a value.
+/// The equation `word & mask == value`.
 #[derive(Clone, Copy)]
 pub(crate) struct MaskedWord {
     pub(crate) word: u8,
@@ -20,7 +20,7 @@ pub(crate) struct MaskedWord {
     pub(crate) value: u32,
 }
 
-/// One word under a mask is a value, or two different words both are.
+/// One equation, or the conjunction of two about different words.
 #[derive(Clone, Copy)]
 pub(crate) enum Conjunction {
     One(MaskedWord),
@@ -28,7 +28,7 @@ pub(crate) enum Conjunction {
 }
 
 impl MaskedWord {
-    /// Both of one word: never where the values are apart in a bit of both masks.
+    /// The conjunction of two equations about one word, unless they contradict each other in a bit of both masks.
     #[tactic(auto, using(crate::proofs::Joins::under_both_masks, crate::proofs::Joins::never_under_both))]
     fn and(self, other: MaskedWord) -> MaskedWord
         requires { self.word ≡ other.word }
@@ -51,7 +51,7 @@ impl MaskedWord {
         }
     }
 
-    /// It as an atom.
+    /// The equation as an atom.
     fn atom(self) -> Atom
         requires { self.word < 16 }
         ensures word { word_of result < 16 }
@@ -66,7 +66,7 @@ impl MaskedWord {
 }
 
 impl Conjunction {
-    /// Where a number computed from a word is 0, by how its test for 0 comes out.
+    /// When a value computed from `word` is 0, given the decision of its test for 0.
     #[tactic(auto, using(crate::proofs::Joins::zero_by_test, crate::proofs::Joins::never_zero))]
     pub(crate) fn by_test(word: u8, is_zero: Decision) -> Value
         requires word { word < 16 }
@@ -76,19 +76,19 @@ impl Conjunction {
             → StandsFor result words a }
     {
         match is_zero {
-            Decision::Known(false) => Value::ZeroWhere(Conjunction::One(MaskedWord {
+            Decision::Known(false) => Value::ZeroTest(Conjunction::One(MaskedWord {
                 word,
                 mask: 0,
                 value: 1,
             })),
             Decision::Asks(Atoms::One(Atom::Eq { word, mask, value }), true) => {
-                Value::ZeroWhere(Conjunction::One(MaskedWord { word, mask, value }))
+                Value::ZeroTest(Conjunction::One(MaskedWord { word, mask, value }))
             }
             _ => Value::Unknown,
         }
     }
 
-    /// It and another, unless they are of more than two words.
+    /// The conjunction of both, unless it is about more than two words.
     pub(crate) fn and(self, other: Conjunction) -> Option<Conjunction>
         requires first { IsConjunction self }
         requires second { IsConjunction other }
@@ -102,7 +102,7 @@ impl Conjunction {
         }
     }
 
-    /// It and a word under a mask, unless they are of more than two words.
+    /// The conjunction with one more equation, unless it is about more than two words.
     fn and_masked(self, masked: MaskedWord) -> Option<Conjunction>
         requires conjunction { IsConjunction self }
         requires word { masked.word < 16 }
@@ -125,7 +125,7 @@ impl Conjunction {
         }
     }
 
-    /// It as atoms.
+    /// The conjunction as atoms.
     fn atoms(self) -> Atoms
         requires { IsConjunction self }
         ensures words { AsksOfWords result }
@@ -137,11 +137,11 @@ impl Conjunction {
         }
     }
 
-    /// How a test of the number against another comes out: only whether it is 0 is asked.
+    /// The decision of a test of the value against a constant: only tests for 0 are decided.
     pub(crate) fn decide(self, test: Test, v: u32) -> Decision
         requires { IsConjunction self }
         ensures asks { IsTestDecision result }
-        ensures decides { (words : List ℕ) (a : ℕ) → a < 2 ^ 32 → IsZeroWhere self words a
+        ensures decides { (words : List ℕ) (a : ℕ) → a < 2 ^ 32 → IsZeroTest self words a
             → Decides result words (holds test a v) }
     {
         let is_zero = Decision::Asks(self.atoms(), true);

@@ -1,58 +1,58 @@
-//! Explores the tree of a comparison.
+//! The explorer: a depth-first walk of a comparison's tree.
 
 ghost use Rattle.std.specs.Prelude.{◌≡◌, ◌↔◌, ℕ, List, IsTrue, IfOk, IfSome, IfNone, IsSome};
 ghost use Rattle.scf_compare.specs.Verdicts.{AreSteps, IsWithin, IsDecided};
 ghost use Rattle.scf_compare.specs.internal.Compared.{AllRelated, IsTrueVerdict};
-ghost use Rattle.scf_compare.specs.internal.Ends.{IsEnd, Tells, KnowsBoth, WereSeen, WereAllSeen};
+ghost use Rattle.scf_compare.specs.internal.Leaves.{IsLeaf, Tells, KnowsBoth, WereSeen, WereAllSeen};
 ghost use Rattle.scf_compare.specs.internal.Frontier.{IsFrontier, IsExact};
 ghost use Rattle.scf_compare.specs.internal.Stages.{IsFound, IsStageAfter, verdict_of_all};
 
-use crate::comparison::{BothEnds, Comparison};
+use crate::comparison::{Comparison, PairLeaf};
 use crate::frontier::{Frontier, ask, fork, take_branch};
-use crate::turn::Turn;
+use crate::step::Step;
 use crate::verdict::Verdict;
 use scf_facts::WordFacts;
 use scf_insn::{CallRecord, Memory};
 use std::alloc::Global;
 
-/// Where an exploration stands after a step.
+/// Where the walk is after a step.
 #[derive(Drop)]
 pub(crate) enum Stage<N> {
     /// At this node.
     At(N),
-    /// At the end of the last branch.
+    /// Behind the last leaf.
     AllSeen,
     /// At a verdict.
     Found(Verdict),
 }
 
-/// At an end of the tree: a verdict, where a difference is shown. Where the facts don't tell whether the answers are
-/// related, the place of the end is kept, unless an earlier one is.
+/// Judges a leaf: `Differs`, if a record shows it. If the store doesn't decide whether the answers are related, the
+/// leaf's instruction index is kept as the first undecided one, unless there was one before.
 ///
-/// A difference is shown only where the filter was really run and the profile really asked.
+/// A record is shown only after the filter was run on it and the profile was asked.
 fn judge<C: Comparison, F: WordFacts>(
     comparison: &C,
     facts: &F,
-    end: BothEnds,
-    left_open: &mut Option<usize>,
+    leaf: PairLeaf,
+    first_undecided: &mut Option<usize>,
 ) -> Option<Verdict>
-    requires end { IsEnd (C.compared comparison.now) end }
+    requires leaf { IsLeaf (C.compared comparison.now) leaf }
     requires scope { (words : List ℕ) → F.allows facts.now (F.level facts.now) words
         → (C.compared comparison.now).in_scope words }
-    requires place { IfSome left_open.old (C.compared comparison.now).is_place }
+    requires place { IfSome first_undecided.old (C.compared comparison.now).is_place }
     ensures seen { IfNone result ((words : List ℕ) → F.allows facts.now (F.level facts.now) words
-        → Tells (C.compared comparison.now) end words
-        → WereSeen (C.compared comparison.now) left_open.new words) }
+        → Tells (C.compared comparison.now) leaf words
+        → WereSeen (C.compared comparison.now) first_undecided.new words) }
     ensures found { IfSome result (IsFound (C.compared comparison.now)) }
-    ensures place { IfSome left_open.new (C.compared comparison.now).is_place }
-    ensures first { IsSome left_open.old → left_open.new ≡ left_open.old }
-    ensures exact { IsTrue (F.is_exact facts.now (F.level facts.now)) → KnowsBoth end
+    ensures place { IfSome first_undecided.new (C.compared comparison.now).is_place }
+    ensures first { IsSome first_undecided.old → first_undecided.new ≡ first_undecided.old }
+    ensures exact { IsTrue (F.is_exact facts.now (F.level facts.now)) → KnowsBoth leaf
         → ((words : List ℕ) → F.allows facts.now (F.level facts.now) words
-        → Tells (C.compared comparison.now) end words)
-        → left_open.new ≡ left_open.old }
+        → Tells (C.compared comparison.now) leaf words)
+        → first_undecided.new ≡ first_undecided.old }
 {
-    if let Some(answer) = end.filter.answer {
-        if comparison.relates(answer, end.profile) {
+    if let Some(answer) = leaf.filter.answer {
+        if comparison.relates(answer, leaf.profile) {
             return None;
         }
     }
@@ -70,45 +70,44 @@ fn judge<C: Comparison, F: WordFacts>(
             });
         }
     }
-    *left_open = left_open.or(Some(end.filter.at));
+    *first_undecided = first_undecided.or(Some(leaf.filter.at));
     None
 }
 
-/// Explores a node. At an end of the tree the newest branch is taken. The place of the first end that is left open is
-/// kept.
+/// One step of the walk from a node. At a leaf it is judged, and the newest open branch is taken.
 fn advance<C: Comparison, F: WordFacts>(
     comparison: &C,
     frontier: &mut Frontier<F, C::Known, C::Node>,
     known: &mut C::Known,
     node: C::Node,
-    left_open: &mut Option<usize>,
+    first_undecided: &mut Option<usize>,
 ) -> Result<Stage<C::Node>, Memory>
     requires frontier { IsFrontier F.WordFacts (C.tree comparison.now)
         (C.compared comparison.now).in_scope frontier.old }
     requires node { (C.tree comparison.now known.old).is_node node }
-    requires place { IfSome left_open.old (C.compared comparison.now).is_place }
+    requires place { IfSome first_undecided.old (C.compared comparison.now).is_place }
     ensures stage { IfOk result (
         IsStageAfter F.WordFacts (C.compared comparison.now) (C.tree comparison.now)
         frontier.old frontier.new (C.tree comparison.now known.old) node (C.tree comparison.now known.new)
-        left_open.new) }
-    ensures place { IfSome left_open.new (C.compared comparison.now).is_place }
-    ensures first { IsSome left_open.old → left_open.new ≡ left_open.old }
+        first_undecided.new) }
+    ensures place { IfSome first_undecided.new (C.compared comparison.now).is_place }
+    ensures first { IsSome first_undecided.old → first_undecided.new ≡ first_undecided.old }
     ensures exact { let here = C.tree comparison.now known.old in
         IsExact F.WordFacts (C.tree comparison.now) frontier.old (here.is_plain node) (here.reaches node)
-        → left_open.new ≡ left_open.old }
+        → first_undecided.new ≡ first_undecided.old }
 {
-    match comparison.turn(&frontier.facts, known, &node) {
-        Turn::Go(next) => Ok(Stage::At(next)),
-        Turn::Split(Some(atoms), if_true, if_false) => {
+    match comparison.step(&frontier.facts, known, &node) {
+        Step::Next(next) => Ok(Stage::At(next)),
+        Step::Branch(Some(atoms), if_true, if_false) => {
             let next = ask(comparison, frontier, known, atoms, if_true, if_false)?;
             Ok(Stage::At(next))
         }
-        Turn::Split(None, if_true, if_false) => {
+        Step::Branch(None, if_true, if_false) => {
             let next = fork(comparison, frontier, known, if_true, if_false)?;
             Ok(Stage::At(next))
         }
-        Turn::End(end) => {
-            if let Some(verdict) = judge(comparison, &frontier.facts, end, left_open) {
+        Step::Leaf(leaf) => {
+            if let Some(verdict) = judge(comparison, &frontier.facts, leaf, first_undecided) {
                 return Ok(Stage::Found(verdict));
             }
             match take_branch(comparison, frontier, known)? {
@@ -119,10 +118,9 @@ fn advance<C: Comparison, F: WordFacts>(
     }
 }
 
-/// Explores every branch of the tree from a node on, and from what is known there, for the words that the facts allow.
+/// Walks the whole tree from a node, with what is known there, for the words that the store allows.
 ///
-/// Where an end is left open the others are still explored: one of them may show a difference. `taken` becomes the
-/// number of steps that were taken.
+/// An undecided leaf doesn't end the walk: another leaf may show a difference. `taken` becomes the count of steps taken.
 pub(crate) fn explore<C: Comparison, F: WordFacts>(
     alloc: Global,
     comparison: &C,
@@ -149,13 +147,19 @@ pub(crate) fn explore<C: Comparison, F: WordFacts>(
     let mut frontier = Frontier::new(alloc, facts);
     let mut known = start;
     let mut node = root;
-    let mut left_open = None;
+    let mut first_undecided = None;
     for steps in 0..limit {
-        match advance(comparison, &mut frontier, &mut known, node, &mut left_open)? {
+        match advance(
+            comparison,
+            &mut frontier,
+            &mut known,
+            node,
+            &mut first_undecided,
+        )? {
             Stage::At(next) => node = next,
             Stage::AllSeen => {
                 *taken = steps + 1;
-                return Ok(seen_in(steps + 1, left_open));
+                return Ok(seen_in(steps + 1, first_undecided));
             }
             Stage::Found(verdict) => {
                 *taken = steps + 1;
@@ -167,11 +171,11 @@ pub(crate) fn explore<C: Comparison, F: WordFacts>(
     Ok(Verdict::Unfinished)
 }
 
-/// What a comparison comes to that has seen all, in so many steps.
-fn seen_in(steps: u64, left_open: Option<usize>) -> Verdict
-    ensures { result ≡ verdict_of_all steps left_open }
+/// The verdict after everything was seen in `steps` steps.
+fn seen_in(steps: u64, first_undecided: Option<usize>) -> Verdict
+    ensures { result ≡ verdict_of_all steps first_undecided }
 {
-    match left_open {
+    match first_undecided {
         Some(at) => Verdict::Undecided { at },
         None => Verdict::Same { steps },
     }

@@ -1,38 +1,38 @@
-//! The branches of a tree that are still to be explored.
+//! The open branches of a walk.
 
 ghost use Rattle.std.specs.Prelude.{◌≡◌, ◌+◌, ◌<◌, ◌≤◌, ◌↔◌, ◌++◌, ◌∷◌, [], ℕ, List, IsTrue, OnOk, IfOk, MatchOption};
 ghost use Rattle.scf_facts.specs.Levels.{IsSameLevel};
-ghost use Rattle.scf_compare.specs.internal.Ends.{IsEnd};
+ghost use Rattle.scf_compare.specs.internal.Leaves.{IsLeaf};
 ghost use Rattle.scf_compare.specs.internal.Frontier.{GivesLearned, LearnsOfWords, LearnsExactly, IsInBranch, IsFrontier};
 ghost use Rattle.scf_compare.specs.internal.Stages.{LeadsTo, IsTaken};
 ghost use Rattle.scf_compare.specs.internal.Trees.{IsProper};
 
-use crate::asking::{Atoms, Left};
+use crate::asking::{Atoms, Remaining};
 use crate::comparison::Comparison;
-use crate::turn::Turn;
+use crate::step::Step;
 use scf_facts::WordFacts;
 use scf_insn::Memory;
 use std::alloc::Global;
 
-/// A branch that is still to be explored: its node, what is known there, and the answer that is learned on the way in.
+/// A branch that is still to be explored: its node, what is known there, and the answer to learn when it is entered.
 #[derive(Drop)]
-pub(crate) struct Branch<K, N> {
+pub(crate) struct OpenBranch<K, N> {
     pub(crate) known: K,
     pub(crate) node: N,
     pub(crate) learned: Option<(Atoms, bool)>,
 }
 
-/// The facts at the node that is explored, and the open branches, the newest last.
+/// The store at the current node, and the open branches, the newest last.
 ///
-/// Each branch has an open mark of the facts, at what was known where it branched off.
+/// Each branch has an open mark of the store, at what was known where it branched off.
 #[derive(Drop)]
 pub(crate) struct Frontier<F, K, N> {
     pub(crate) facts: F,
-    pub(crate) branches: Vec<Branch<K, N>>,
+    pub(crate) branches: Vec<OpenBranch<K, N>>,
 }
 
 impl<F: WordFacts, K: Copy, N: Drop> Frontier<F, K, N> {
-    /// Nothing branched off yet.
+    /// No open branches.
     pub(crate) fn new(alloc: Global, facts: F) -> Frontier<F, K, N>
         ensures facts { result.facts ≡ facts }
         ensures branches { result.branches.items ≡ [] }
@@ -43,7 +43,7 @@ impl<F: WordFacts, K: Copy, N: Drop> Frontier<F, K, N> {
         }
     }
 
-    /// Opens a branch where the exploration stands.
+    /// Opens a branch at the current state of the store.
     fn branch_out(
         &mut self,
         known: K,
@@ -61,7 +61,7 @@ impl<F: WordFacts, K: Copy, N: Drop> Frontier<F, K, N> {
             → IsSameLevel F.allows F.is_exact self.old.facts place self.new.facts place) }
     {
         self.facts.mark()?;
-        self.branches.push(Branch {
+        self.branches.push(OpenBranch {
             known,
             node,
             learned,
@@ -87,7 +87,7 @@ fn learn_answer<F: WordFacts>(facts: &mut F, learned: Option<(Atoms, bool)>) -> 
     }
 }
 
-/// Takes the newest branch: goes back to what was known at its mark, learns what leads into it, and is at its node.
+/// Takes the newest branch: undoes to its mark, learns the answer that leads into it, and returns its node.
 pub(crate) fn take_branch<C: Comparison, F: WordFacts>(
     comparison: &C,
     frontier: &mut Frontier<F, C::Known, C::Node>,
@@ -109,8 +109,8 @@ pub(crate) fn take_branch<C: Comparison, F: WordFacts>(
     Ok(Some(branch.node))
 }
 
-/// Goes on from atoms. What the facts tell is followed. Where atoms are left to be asked, a branch is opened for the
-/// answer no.
+/// Goes on from a question. If the store knows the answer, that side is followed. Otherwise a branch is opened for the
+/// answer no, and yes is learned.
 pub(crate) fn ask<C: Comparison, F: WordFacts>(
     comparison: &C,
     frontier: &mut Frontier<F, C::Known, C::Node>,
@@ -121,17 +121,17 @@ pub(crate) fn ask<C: Comparison, F: WordFacts>(
 ) -> Result<C::Node, Memory>
     requires frontier { IsFrontier F.WordFacts (C.tree comparison.now)
         (C.compared comparison.now).in_scope frontier.old }
-    requires proper { let turn = Turn.Split (Some atoms) if_true if_false in
-        IsProper (C.tree comparison.now known.now) (IsEnd (C.compared comparison.now)) turn }
-    ensures { let turn = Turn.Split (Some atoms) if_true if_false in
+    requires proper { let step = Step.Branch (Some atoms) if_true if_false in
+        IsProper (C.tree comparison.now known.now) (IsLeaf (C.compared comparison.now)) step }
+    ensures { let step = Step.Branch (Some atoms) if_true if_false in
         IfOk result (LeadsTo F.WordFacts (C.compared comparison.now) (C.tree comparison.now)
-        frontier.old frontier.new (C.tree comparison.now known.now) turn) }
+        frontier.old frontier.new (C.tree comparison.now known.now) step) }
 {
     let _ = comparison;
-    match atoms.left(&frontier.facts) {
-        Left::Told(true) => Ok(if_true),
-        Left::Told(false) => Ok(if_false),
-        Left::Still(atoms) => {
+    match atoms.remaining(&frontier.facts) {
+        Remaining::Known(true) => Ok(if_true),
+        Remaining::Known(false) => Ok(if_false),
+        Remaining::Unknown(atoms) => {
             frontier.branch_out(*known, if_false, Some((atoms, false)))?;
             atoms.learn(&mut frontier.facts, true)?;
             Ok(if_true)
@@ -139,7 +139,7 @@ pub(crate) fn ask<C: Comparison, F: WordFacts>(
     }
 }
 
-/// Goes one way on from a test that no atom decides, and opens a branch for the other.
+/// Goes on from a test that no atom decides: follows one side and opens a branch for the other.
 pub(crate) fn fork<C: Comparison, F: WordFacts>(
     comparison: &C,
     frontier: &mut Frontier<F, C::Known, C::Node>,
@@ -149,11 +149,11 @@ pub(crate) fn fork<C: Comparison, F: WordFacts>(
 ) -> Result<C::Node, Memory>
     requires frontier { IsFrontier F.WordFacts (C.tree comparison.now)
         (C.compared comparison.now).in_scope frontier.old }
-    requires proper { let turn = Turn.Split None if_true if_false in
-        IsProper (C.tree comparison.now known.now) (IsEnd (C.compared comparison.now)) turn }
-    ensures { let turn = Turn.Split None if_true if_false in
+    requires proper { let step = Step.Branch None if_true if_false in
+        IsProper (C.tree comparison.now known.now) (IsLeaf (C.compared comparison.now)) step }
+    ensures { let step = Step.Branch None if_true if_false in
         IfOk result (LeadsTo F.WordFacts (C.compared comparison.now) (C.tree comparison.now)
-        frontier.old frontier.new (C.tree comparison.now known.now) turn) }
+        frontier.old frontier.new (C.tree comparison.now known.now) step) }
 {
     let _ = comparison;
     frontier.branch_out(*known, if_false, None)?;

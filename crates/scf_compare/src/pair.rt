@@ -1,33 +1,33 @@
 //! Filters and a profile as one tree of questions.
 
 ghost use Rattle.scf_machine.specs.Precedence.{StackAnswers};
-ghost use Rattle.scf_compare.specs.internal.Ends.{IsPlaceOf, both_endings};
+ghost use Rattle.scf_compare.specs.internal.Leaves.{IsPlaceOf, pair_leaves};
 ghost use Rattle.scf_compare.specs.internal.Pairs.{pair_tree};
 ghost use Rattle.scf_compare.specs.internal.Profiles.{profile_is_node};
 ghost use Rattle.scf_compare.specs.internal.Scopes.{compared_in};
-ghost use Rattle.scf_compare.specs.internal.Stacks.{IsStackEnd};
-ghost use Rattle.scf_compare.specs.internal.Trees.{IsTurn};
+ghost use Rattle.scf_compare.specs.internal.Stacks.{IsStackLeaf};
+ghost use Rattle.scf_compare.specs.internal.Trees.{IsStep};
 
 use crate::by_number::ByNumber;
-use crate::comparison::{BothEnds, Comparison, FilterEnd};
+use crate::comparison::{Comparison, FilterLeaf, PairLeaf};
 use crate::profile::ProfileNode;
 use crate::registers::Registers;
-use crate::stack::{StackNode, turn_in_stack};
-use crate::turn::Turn;
+use crate::stack::{StackNode, step_in_stack};
+use crate::step::Step;
 use PairNode::{AtFilter, AtProfile};
 use scf_facts::WordFacts;
 use scf_insn::{Answer, CallRecord};
 use scf_machine::{Program, decide};
 use scf_profile::{Relation, Scope};
 
-/// A node of the tree of the filters, or one of the profile's behind an end of it.
+/// A node of the filters' tree, or one of the profile's tree behind a leaf of the filters'.
 #[derive(Clone, Copy)]
 pub(crate) enum PairNode {
     AtFilter(StackNode),
-    AtProfile(FilterEnd, ProfileNode),
+    AtProfile(FilterLeaf, ProfileNode),
 }
 
-/// Filters, the oldest first, and the profile that they are compared with on the calls of a scope, by a relation.
+/// Filters, the oldest first, and the profile that they are compared with over a scope, by a relation.
 #[derive(Drop)]
 pub(crate) struct Pair<'a> {
     pub(crate) filters: &'a [Program],
@@ -41,26 +41,26 @@ impl Comparison for Pair<'_> {
 
     type Node = PairNode;
 
-    ghost compared = { λ pair. compared_in pair.relation pair.scope (IsPlaceOf (IsStackEnd pair.filters.now))
+    ghost compared = { λ pair. compared_in pair.relation pair.scope (IsPlaceOf (IsStackLeaf pair.filters.now))
         (StackAnswers pair.filters.now) pair.profile.profile };
 
     ghost tree = { λ pair. pair_tree pair.filters.now pair.profile };
 
-    fn turn<F: WordFacts>(
+    fn step<F: WordFacts>(
         &self,
         facts: &F,
         known: &mut Registers,
         node: &PairNode,
-    ) -> Turn<PairNode, BothEnds> {
+    ) -> Step<PairNode, PairLeaf> {
         match *node {
-            AtFilter(node) => match turn_in_stack(self.filters, known, node) {
-                Turn::Go(next) => Turn::Go(AtFilter(next)),
-                Turn::Split(asked, if_true, if_false) => {
-                    Turn::Split(asked, AtFilter(if_true), AtFilter(if_false))
+            AtFilter(node) => match step_in_stack(self.filters, known, node) {
+                Step::Next(next) => Step::Next(AtFilter(next)),
+                Step::Branch(asked, if_true, if_false) => {
+                    Step::Branch(asked, AtFilter(if_true), AtFilter(if_false))
                 }
-                Turn::End(end) => self.ask_profile(facts, end, ProfileNode::Architecture),
+                Step::Leaf(leaf) => self.ask_profile(facts, leaf, ProfileNode::Architecture),
             },
-            AtProfile(end, node) => self.ask_profile(facts, end, node),
+            AtProfile(leaf, node) => self.ask_profile(facts, leaf, node),
         }
     }
 
@@ -84,28 +84,28 @@ impl Comparison for Pair<'_> {
 }
 
 impl Pair<'_> {
-    /// The profile's next question, behind an end of the tree of the filters.
+    /// The profile's next question, behind a leaf of the filters' tree.
     fn ask_profile<F: WordFacts>(
         &self,
         facts: &F,
-        end: FilterEnd,
+        leaf: FilterLeaf,
         node: ProfileNode,
-    ) -> Turn<PairNode, BothEnds>
+    ) -> Step<PairNode, PairLeaf>
         requires node { profile_is_node self.now.profile node }
-        requires end { IsStackEnd self.now.filters.now end }
+        requires leaf { IsStackLeaf self.now.filters.now leaf }
         ensures { (registers : Registers) → let filters = self.now.filters.now in
             let s = self.now.profile in
-            IsTurn (both_endings (compared_in self.now.relation self.now.scope (IsPlaceOf (IsStackEnd filters))
+            IsStep (pair_leaves (compared_in self.now.relation self.now.scope (IsPlaceOf (IsStackLeaf filters))
             (StackAnswers filters) s.profile)) (F.allows facts.now (F.level facts.now))
-            (pair_tree filters s registers) (PairNode.AtProfile end node) (pair_tree filters s registers) result }
+            (pair_tree filters s registers) (PairNode.AtProfile leaf node) (pair_tree filters s registers) result }
     {
-        match self.profile.turn(facts, node) {
-            Turn::Go(next) => Turn::Go(AtProfile(end, next)),
-            Turn::Split(asked, if_true, if_false) => {
-                Turn::Split(asked, AtProfile(end, if_true), AtProfile(end, if_false))
+        match self.profile.step(facts, node) {
+            Step::Next(next) => Step::Next(AtProfile(leaf, next)),
+            Step::Branch(asked, if_true, if_false) => {
+                Step::Branch(asked, AtProfile(leaf, if_true), AtProfile(leaf, if_false))
             }
-            Turn::End(profile) => Turn::End(BothEnds {
-                filter: end,
+            Step::Leaf(profile) => Step::Leaf(PairLeaf {
+                filter: leaf,
                 profile,
             }),
         }

@@ -1,4 +1,4 @@
-//! Conditions on 64-bit arguments as questions about words.
+//! Conditions on 64-bit arguments as questions about 32-bit words.
 
 ghost use Rattle.std.specs.Prelude.{◌≡◌, ◌<◌, ℕ, List};
 ghost use Rattle.scf_insn.specs.Kernel.{seccomp_data_args};
@@ -7,35 +7,35 @@ ghost use Rattle.scf_facts.specs.Atoms.{word_of};
 ghost use Rattle.scf_profile.specs.NumberTests.{IsPlainTest};
 ghost use Rattle.scf_profile.specs.PlainProfile.{IsPlainCondition};
 ghost use Rattle.scf_compare.specs.declared.asking.Atoms.TheVariants.{One};
-ghost use Rattle.scf_compare.specs.internal.Conditions.{CostsAt, HasHalves, IsAtTest, SplitsAt, SplitsTest, opposite_way};
+ghost use Rattle.scf_compare.specs.internal.Conditions.{CostsAt, HasHalves, IsAtTest, SplitsAt, SplitsTest, opposite_successor};
 ghost use Rattle.scf_compare.specs.internal.Asking.{KeepsEither};
 
 use crate::asking::word_is;
 use ConditionPart::{Above, Low};
-use Way::{Fails, Holds, Then};
+use Successor::{Fails, Holds, Then};
 use scf_facts::Atom;
 use scf_insn::{high_half, low_half};
 use scf_profile::{Condition, NumberTest};
 
-/// Which question of a condition is asked.
+/// Which part of a condition is asked.
 #[derive(Clone, Copy)]
 pub(crate) enum ConditionPart {
-    /// Whether the high halves are the same, the first question.
+    /// Whether the high half equals the value's: the first question.
     High,
-    /// Whether the argument's high half is above, where it isn't the same.
+    /// Whether the high half is above the value's, if it isn't equal.
     Above,
-    /// The question about the low half, where the high halves are the same.
+    /// The question about the low half, if the high half is equal.
     Low,
 }
 
-/// Where an answer leads.
+/// Where the answer to a question leads.
 #[derive(Clone, Copy)]
-pub(crate) enum Way {
+pub(crate) enum Successor {
     /// The condition holds.
     Holds,
-    /// It doesn't.
+    /// The condition fails.
     Fails,
-    /// It hangs on another question.
+    /// Another part has to be asked.
     Then(ConditionPart),
 }
 
@@ -43,12 +43,12 @@ pub(crate) enum Way {
 #[derive(Clone, Copy)]
 pub(crate) struct Question {
     pub(crate) atom: Atom,
-    pub(crate) if_true: Way,
-    pub(crate) if_false: Way,
+    pub(crate) if_true: Successor,
+    pub(crate) if_false: Successor,
 }
 
 /// A question, and where its two answers lead.
-fn ask(atom: Atom, if_true: Way, if_false: Way) -> Question
+fn ask(atom: Atom, if_true: Successor, if_false: Successor) -> Question
     ensures { result ≡ record { atom = atom; if_true = if_true; if_false = if_false } }
 {
     Question {
@@ -58,7 +58,7 @@ fn ask(atom: Atom, if_true: Way, if_false: Way) -> Question
     }
 }
 
-/// What a part of a test asks of the two words of a number, the low one first. It holds where the test is met.
+/// The question of one part of a test about an argument whose low word has index `low`.
 fn ask_test(test: NumberTest, part: ConditionPart, low: u8) -> Question
     requires { low < 15 }
     ensures word { word_of result.atom < 16 }
@@ -118,10 +118,10 @@ fn ask_test(test: NumberTest, part: ConditionPart, low: u8) -> Question
     }
 }
 
-impl Way {
-    /// The way of the opposite.
-    fn opposite(self) -> Way
-        ensures { result ≡ opposite_way self }
+impl Successor {
+    /// The successor for the negated condition.
+    fn opposite(self) -> Successor
+        ensures { result ≡ opposite_successor self }
     {
         match self {
             Holds => Fails,
@@ -131,7 +131,7 @@ impl Way {
     }
 }
 
-/// What a part of a condition asks.
+/// The question of one part of a condition.
 pub(crate) fn question_of(condition: Condition, part: ConditionPart) -> Question
     requires { condition.index < seccomp_data_args }
     ensures word { word_of result.atom < 16 }

@@ -1,4 +1,4 @@
-//! What is known of the registers and scratch words on a way through a filter.
+//! What is known of the registers and scratch words on a path through a filter.
 
 ghost use Rattle.std.specs.Prelude.{◌≡◌, ℕ, ◌+◌, ◌<◌, List};
 ghost use Rattle.scf_insn.specs.Kernel.{bpf_memwords};
@@ -14,10 +14,10 @@ ghost use Rattle.scf_machine.specs.Machine.{
   effect,
   Goes,
 };
-ghost use Rattle.scf_compare.specs.internal.Flow.{UsesScratch};
+ghost use Rattle.scf_compare.specs.internal.ControlFlow.{UsesScratch};
 ghost use Rattle.scf_compare.specs.internal.Values.{IsValue, StandsFor, IsPlainValue, AreValues, Describes};
 
-use crate::image::Image;
+use crate::bit_slice::BitSlice;
 use crate::value::Value;
 use scf_insn::kernel::{BPF_MEMWORDS, SECCOMP_DATA_LEN};
 use scf_insn::{Arithmetic, Insn, Operand, Operation, Register};
@@ -31,7 +31,7 @@ pub(crate) struct Registers {
 }
 
 impl Registers {
-    /// As a run begins: the registers are 0, and no scratch word is stored.
+    /// At the start of a run: both registers are 0, and no scratch word is stored.
     pub(crate) fn at_start() -> Registers
         ensures values { AreValues result }
         ensures describes { (words : List ℕ) → Describes result words start }
@@ -112,7 +112,7 @@ impl Registers {
         }
     }
 
-    /// Follows an instruction that goes on.
+    /// Applies an instruction that doesn't return.
     pub(crate) fn apply(&mut self, insn: Insn, operation: Operation)
         requires values { AreValues self.old }
         requires load { operation ≡ Operation.LoadWord → insn.k < 64 }
@@ -126,8 +126,8 @@ impl Registers {
     {
         match operation {
             Operation::LoadWord => {
-                let word = Image::of_word((insn.k / 4) as u8);
-                self.set(Register::A, Value::OfWord(word))
+                let word = BitSlice::of_word((insn.k / 4) as u8);
+                self.set(Register::A, Value::Slice(word))
             }
             Operation::LoadLength(register) => {
                 self.set(register, Value::Known(SECCOMP_DATA_LEN as u32))

@@ -1,4 +1,4 @@
-//! Which calls are compared.
+//! The scope of a comparison.
 
 ghost use Rattle.std.specs.Prelude.{◌≡◌, ◌↔◌, ℕ, List, IsTrue, IfOk};
 ghost use Rattle.scf_compare.specs.internal.Scopes.{AreWordsOf, AreWordsOfX86_64};
@@ -10,7 +10,7 @@ use scf_insn::kernel::{AUDIT_ARCH_X86_64, X32_SYSCALL_BIT};
 use scf_profile::Scope;
 use std::alloc::Global;
 
-/// Facts that allow the words of the calls that are compared.
+/// A store that allows exactly the words of the records in the scope.
 pub(crate) fn facts_of<F: WordFacts>(alloc: Global, scope: Scope) -> Result<F, Memory>
     ensures unmarked { IfOk result (λ facts. F.level facts ≡ 0) }
     ensures scope { IfOk result (λ facts. (words : List ℕ) → F.allows facts 0 words ↔ AreWordsOf scope words) }
@@ -36,7 +36,7 @@ pub(crate) fn facts_of<F: WordFacts>(alloc: Global, scope: Scope) -> Result<F, M
     }
 }
 
-/// Facts that allow the words of the calls of x86-64.
+/// A store that allows exactly the words of the records of x86-64 syscalls.
 fn facts_of_x86_64<F: WordFacts>(alloc: Global) -> Result<F, Memory>
     ensures unmarked { IfOk result (λ facts. F.level facts ≡ 0) }
     ensures scope { IfOk result (λ facts. (words : List ℕ) → F.allows facts 0 words ↔ AreWordsOfX86_64 words) }

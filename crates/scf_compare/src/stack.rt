@@ -1,4 +1,4 @@
-//! A stack of filters as a tree of questions: one filter is asked after another, the oldest first.
+//! A stack of filters as a tree of questions: the filters are walked one after another, the oldest first.
 
 ghost use Rattle.std.specs.Prelude.{◌≡◌, ◌+◌, ◌<◌, ℕ, List, All, IfSome, length, take};
 ghost use Rattle.scf_insn.specs.Words.{IsWords};
@@ -7,29 +7,29 @@ ghost use Rattle.scf_machine.specs.Machine.{RunAnswers};
 ghost use Rattle.scf_machine.specs.Plain.{IsPlainProgram};
 ghost use Rattle.scf_machine.specs.Precedence.{StackAnswers};
 ghost use Rattle.scf_compare.specs.Effort.{stack_paths};
-ghost use Rattle.scf_compare.specs.internal.Ends.{FilterTells, KnowsAnswer};
-ghost use Rattle.scf_compare.specs.internal.Stacks.{IsOlder, IsStackEnd, OlderTells, endings_of_stack, filter_at};
+ghost use Rattle.scf_compare.specs.internal.Leaves.{FilterTells, KnowsAnswer};
+ghost use Rattle.scf_compare.specs.internal.Stacks.{IsOlder, IsStackLeaf, OlderTells, leaves_of_stack, filter_at};
 ghost use Rattle.scf_compare.specs.internal.Stacks.{stack_is_node, stack_is_plain, stack_reaches, stack_size, stack_tree};
-ghost use Rattle.scf_compare.specs.internal.Trees.{IsTurn};
+ghost use Rattle.scf_compare.specs.internal.Trees.{IsStep};
 
-use crate::comparison::FilterEnd;
-use crate::filter::{FilterNode, start_in_filter, turn_in_filter};
+use crate::comparison::FilterLeaf;
+use crate::filter::{FilterNode, start_in_filter, step_in_filter};
 use crate::registers::Registers;
-use crate::turn::Turn;
+use crate::step::Step;
 use StackNode::{At, Empty};
 use scf_insn::{Action, Answer};
 use scf_machine::Program;
 
-/// A node of a filter of a stack, with the end at which the older filters decide, if there are any.
+/// A node of one filter of a stack, with the leaf that the older filters came to, if there are any.
 #[derive(Clone, Copy)]
 pub(crate) enum StackNode {
     /// There is no filter.
     Empty,
-    /// At a place of the stack.
-    At(usize, Option<FilterEnd>, FilterNode),
+    /// In the filter at this index.
+    At(usize, Option<FilterLeaf>, FilterNode),
 }
 
-/// Where the tree of filters begins, and what is known there.
+/// The root of the stack's tree, and what is known there.
 #[tactic(auto, using(crate::proofs::Rules::some_of))]
 pub(crate) fn start_of(filters: &[Program]) -> (Registers, StackNode)
     ensures node { stack_is_node filters.now result.0 result.1 }
@@ -44,26 +44,26 @@ pub(crate) fn start_of(filters: &[Program]) -> (Registers, StackNode)
     (known, At(0, None, node))
 }
 
-/// What comes next at a node of filters, and what is known of the registers there.
-pub(crate) fn turn_in_stack(
+/// The step from a node of the stack, and what is known of the registers after it.
+pub(crate) fn step_in_stack(
     filters: &[Program],
     registers: &mut Registers,
     node: StackNode,
-) -> Turn<StackNode, FilterEnd>
+) -> Step<StackNode, FilterLeaf>
     requires { stack_is_node filters.now registers.old node }
-    ensures { IsTurn (endings_of_stack filters.now) IsWords
+    ensures { IsStep (leaves_of_stack filters.now) IsWords
         (stack_tree filters.now registers.old) node (stack_tree filters.now registers.new) result }
 {
     match node {
-        Empty => Turn::End(FilterEnd {
+        Empty => Step::Leaf(FilterLeaf {
             answer: Some(Answer::new(Action::Allow, 0)),
             at: 0,
         }),
-        At(place, older, node) => turn_from(filters, registers, place, older, node),
+        At(place, older, node) => step_from(filters, registers, place, older, node),
     }
 }
 
-/// The filter at a place.
+/// The filter at an index.
 fn filter_of(filters: &[Program], place: usize) -> &Program
     requires { place < length filters.now }
     ensures { result.now ≡ filter_at filters.now place }
@@ -71,12 +71,12 @@ fn filter_of(filters: &[Program], place: usize) -> &Program
     &filters[place]
 }
 
-/// The end at which filters decide with one more, the newest: the one whose answer isn't known, the oldest of several,
-/// or whose answer wins.
+/// The leaf of filters with one more, the newest: the first whose answer isn't known, else the one whose answer takes
+/// precedence.
 #[tactic(auto, using(crate::proofs::Stacks::first_decides))]
-fn decided_at(older: Option<FilterEnd>, newest: FilterEnd) -> FilterEnd
-    ensures end { (filters : List (List Insn)) (place : ℕ) → IsOlder filters place older → IsStackEnd filters newest
-        → IsStackEnd filters result }
+fn decided_at(older: Option<FilterLeaf>, newest: FilterLeaf) -> FilterLeaf
+    ensures leaf { (filters : List (List Insn)) (place : ℕ) → IsOlder filters place older → IsStackLeaf filters newest
+        → IsStackLeaf filters result }
     ensures known { IfSome older KnowsAnswer → KnowsAnswer newest → KnowsAnswer result }
     ensures decides { (filters : List (List Insn)) (place : ℕ) (words : List ℕ) → place < length filters
         → IsOlder filters place older → OlderTells filters place older words
@@ -99,34 +99,34 @@ fn decided_at(older: Option<FilterEnd>, newest: FilterEnd) -> FilterEnd
     }
 }
 
-/// What comes next at a node of a filter, and what is known of its registers there. At an end of a filter the next
-/// newer one begins.
+/// The step from a node of a filter, and what is known of its registers after it. At a leaf the next newer filter
+/// begins.
 #[tactic(auto, using(crate::specs::internal::Laws::paths_count, crate::specs::internal::Laws::scaled_costs))]
-fn turn_from(
+fn step_from(
     filters: &[Program],
     registers: &mut Registers,
     first: usize,
-    decided: Option<FilterEnd>,
+    decided: Option<FilterLeaf>,
     begun: FilterNode,
-) -> Turn<StackNode, FilterEnd>
+) -> Step<StackNode, FilterLeaf>
     requires { stack_is_node filters.now registers.old (StackNode.At first decided begun) }
-    ensures { IsTurn (endings_of_stack filters.now) IsWords (stack_tree filters.now registers.old)
+    ensures { IsStep (leaves_of_stack filters.now) IsWords (stack_tree filters.now registers.old)
         (StackNode.At first decided begun) (stack_tree filters.now registers.new) result }
 {
     let mut place = first;
     let mut older = decided;
     let mut node = begun;
     loop {
-        match turn_in_filter(filter_of(filters, place), registers, node) {
-            Turn::Go(next) => return Turn::Go(At(place, older, next)),
-            Turn::Split(asked, if_true, if_false) => {
-                return Turn::Split(asked, At(place, older, if_true), At(place, older, if_false));
+        match step_in_filter(filter_of(filters, place), registers, node) {
+            Step::Next(next) => return Step::Next(At(place, older, next)),
+            Step::Branch(asked, if_true, if_false) => {
+                return Step::Branch(asked, At(place, older, if_true), At(place, older, if_false));
             }
-            Turn::End(end) => {
-                let decided = decided_at(older, end);
+            Step::Leaf(leaf) => {
+                let decided = decided_at(older, leaf);
                 place += 1;
                 if place == filters.len() {
-                    return Turn::End(decided);
+                    return Step::Leaf(decided);
                 }
                 older = Some(decided);
                 let (known, start) = start_in_filter(filter_of(filters, place));

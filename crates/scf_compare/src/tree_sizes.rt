@@ -6,14 +6,14 @@ ghost use Rattle.scf_compare.specs.Effort.{conditions_size, rules_size, spread, 
 ghost use Rattle.scf_compare.specs.Effort.{effort_of_stack, saturated};
 ghost use Rattle.scf_compare.specs.Paths.{tree_size};
 
-use crate::flow::Flow;
+use crate::control_flow::ControlFlow;
 use scf_insn::kernel::BPF_MAXINSNS;
 use scf_insn::{Insn, Operation};
 use scf_machine::{FilterStack, Program};
 use scf_profile::{Condition, Profile, Rule};
 
-/// How many steps a comparison takes at most, or 2^64-1 where they are more: the size of the filter's tree of paths
-/// times the spread of the profile. A limit that isn't below the exact number is enough for every comparison of the
+/// The effort: how many steps a comparison takes at most, or 2^64-1 if it is more. It is the size of the filter's tree
+/// of paths times the spread of the profile. A limit of at least the exact effort suffices for every comparison of the
 /// two.
 pub fn effort(program: &Program, profile: &Profile) -> u64
     ensures { result ≡ saturated (effort_of program.now profile.now) }
@@ -22,8 +22,8 @@ pub fn effort(program: &Program, profile: &Profile) -> u64
     paths.saturating_mul(spread_of(profile))
 }
 
-/// How many steps a comparison of a stack takes at most, or 2^64-1 where they are more: the product of the sizes of the
-/// filters' trees of paths, 1 for no filter, times the spread of the profile.
+/// The effort of a stack, or 2^64-1 if it is more: the product of the sizes of the filters' trees of paths, 1 for no
+/// filter, times the spread of the profile.
 #[tactic(auto, using(crate::proofs::Saturated::products))]
 pub fn effort_stack(stack: &FilterStack, profile: &Profile) -> u64
     ensures { result ≡ saturated (effort_of_stack stack.now profile.now) }
@@ -55,7 +55,7 @@ fn paths_of(insns: &[Insn]) -> u64
     sizes[0]
 }
 
-/// Finds the size of the tree of paths from each place on, the last place first: jumps go forward.
+/// Computes the size of the tree of paths from each instruction, the last one first: jumps go forward.
 fn fill_sizes(insns: &[Insn], sizes: &mut [u64])
     requires valid { IsValidList insns.now }
     requires room { length insns.now ≤ length sizes.old }
@@ -68,8 +68,8 @@ fn fill_sizes(insns: &[Insn], sizes: &mut [u64])
     }
 }
 
-/// The size of the tree of paths from a place on, where those from the later places on are given.
-#[tactic(auto, using(crate::proofs::Flows::operations))]
+/// The size of the tree of paths from an index, given those from all later ones.
+#[tactic(auto, using(crate::proofs::ControlFlows::operations))]
 fn size_at(insns: &[Insn], place: usize, sizes: &[u64]) -> u64
     requires valid { IsValidList insns.now }
     requires place { place < length insns.now }
@@ -86,7 +86,7 @@ fn size_at(insns: &[Insn], place: usize, sizes: &[u64]) -> u64
     }
 }
 
-/// The size of the tree of paths from an instruction with this operation on.
+/// The size of the tree of paths from an instruction with this operation.
 fn size_of(insns: &[Insn], place: usize, insn: Insn, operation: Operation, sizes: &[u64]) -> u64
     requires valid { IsValidList insns.now }
     requires stands { Stands insns.now place insn operation }
@@ -96,15 +96,15 @@ fn size_of(insns: &[Insn], place: usize, insn: Insn, operation: Operation, sizes
         → slice_index sizes.now at ≡ saturated (tree_size insns.now at) }
     ensures { result ≡ saturated (tree_size insns.now place) }
 {
-    match Flow::of(insns, place, insn, operation) {
-        Flow::Next(next) => sizes[next].saturating_add(1),
-        Flow::Jump(target) => sizes[target].saturating_add(1),
-        Flow::Branch(_, _, if_true, if_false) => sizes[if_true]
+    match ControlFlow::of(insns, place, insn, operation) {
+        ControlFlow::FallThrough(next) => sizes[next].saturating_add(1),
+        ControlFlow::Jump(target) => sizes[target].saturating_add(1),
+        ControlFlow::ConditionalJump(_, _, if_true, if_false) => sizes[if_true]
             .saturating_add(sizes[if_false])
             .saturating_add(1),
-        Flow::DivideByIndex(next) => sizes[next].saturating_add(2),
-        Flow::ReturnConstant => 1,
-        Flow::ReturnAccumulator => 1,
+        ControlFlow::DivideByIndex(next) => sizes[next].saturating_add(2),
+        ControlFlow::ReturnConstant => 1,
+        ControlFlow::ReturnAccumulator => 1,
     }
 }
 
@@ -134,7 +134,7 @@ fn size_of_rules(rules: &[Rule]) -> u64
     size
 }
 
-/// The size of the tree of conditions, where the one behind a condition that fails has this size.
+/// The size of the tree of conditions, given the size of the tree behind a condition that fails.
 #[tactic(auto, using(crate::proofs::Saturated::conditions_added, crate::proofs::Saturated::conditions_step))]
 fn size_of_conditions(conditions: &[Condition], fails: u64) -> u64
     ensures { (behind : ℕ) → fails ≡ saturated behind → result ≡ saturated (conditions_size conditions.now behind) }

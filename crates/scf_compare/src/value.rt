@@ -1,47 +1,47 @@
-//! What is known of a register or a scratch word on a way through a filter.
+//! Abstract values: what is known of a register or a scratch word on a path through a filter.
 
 ghost use Rattle.std.specs.Prelude.{◌≡◌, ◌==◌, ℕ, ◌+◌, ◌-◌, ◌%◌, ◌^◌, ◌<◌, List, Bool, not, IfSome, IsTrue, bit_or};
 ghost use Rattle.scf_insn.specs.SimpleMask.{IsSimpleMask};
 ghost use Rattle.scf_insn.specs.Words.{IsWords};
 ghost use Rattle.scf_machine.specs.Machine.{holds, value_computed};
-ghost use Rattle.scf_compare.specs.internal.Images.{IsImage, IsWhole, image_number};
-ghost use Rattle.scf_compare.specs.internal.Offsets.{offset_number};
+ghost use Rattle.scf_compare.specs.internal.BitSlices.{IsBitSlice, IsWhole, bit_slice_value};
+ghost use Rattle.scf_compare.specs.internal.AffineTerms.{affine_value};
 ghost use Rattle.scf_compare.specs.internal.Values.{IsValue, StandsFor, IsPlainValue, IsTestDecision, Decides};
 ghost use Rattle.scf_compare.specs.internal.Values.{IsPlainDecision};
 
+use crate::affine_term::AffineTerm;
 use crate::asking::Atoms;
+use crate::bit_slice::BitSlice;
 use crate::conjunction::Conjunction;
-use crate::image::Image;
-use crate::offset::Offset;
 use scf_facts::Atom;
 use scf_insn::{Answer, Arithmetic, Test};
 use scf_machine::{compute, holds_of};
 
-/// What is known of a number that a filter computes.
+/// What is known of a value that a filter computes.
 #[derive(Clone, Copy)]
 pub(crate) enum Value {
     Known(u32),
-    /// What is computed from a word of the record bit by bit.
-    OfWord(Image),
-    /// What is computed from a word of the record bit by bit, and a number added to it or it taken from the number.
-    Offset(Offset),
-    /// What is known to be 0 where words of the record under masks are values, and nowhere else.
-    ZeroWhere(Conjunction),
+    /// A bit slice of a word of the record.
+    Slice(BitSlice),
+    /// A bit slice of a word plus a constant, or a constant minus one.
+    AffineTerm(AffineTerm),
+    /// Zero exactly if words of the record under masks have given values.
+    ZeroTest(Conjunction),
     Unknown,
 }
 
-/// How a test comes out.
+/// The decision of a test.
 #[derive(Clone, Copy)]
 pub(crate) enum Decision {
     Known(bool),
-    /// It holds where the atoms have this answer.
+    /// It holds exactly if the atoms have this answer.
     Asks(Atoms, bool),
-    /// No atom tells.
+    /// No atom decides it.
     Open,
 }
 
 impl Value {
-    /// The number as an answer, where it is known.
+    /// The value as an answer, if it is known.
     pub(crate) fn answer(self) -> Option<Answer>
         ensures { (words : List ℕ) (x : ℕ) → StandsFor self words x → IfSome result (λ answer. x ≡ answer.0) }
     {
@@ -51,7 +51,7 @@ impl Value {
         }
     }
 
-    /// What is known of the result of a computation with another value.
+    /// The abstract result of `self op other`.
     pub(crate) fn computed(self, arithmetic: Arithmetic, other: Value) -> Value
         requires value { IsValue self }
         requires other { IsValue other }
@@ -66,7 +66,7 @@ impl Value {
             (Value::Known(a), _, _) if is_commutative(arithmetic) => {
                 other.computed_with(arithmetic, a)
             }
-            (Value::OfWord(first), Value::OfWord(second), _) if first.is_shifted_as(second) => {
+            (Value::Slice(first), Value::Slice(second), _) if first.is_shifted_as(second) => {
                 first.joined(arithmetic, second)
             }
             (_, _, Arithmetic::Or) => self.either(other),
@@ -74,7 +74,7 @@ impl Value {
         }
     }
 
-    /// What is known of it OR another value: of those of one word or two, where it is 0.
+    /// Abstract `self | other`. For operands over at most two words, only when the result is zero is kept.
     fn either(self, other: Value) -> Value
         requires first { IsValue self }
         requires second { IsValue other }
@@ -84,30 +84,33 @@ impl Value {
             → StandsFor result words (bit_or a b) }
     {
         match (self.zeros(), other.zeros()) {
-            (Value::ZeroWhere(first), Value::ZeroWhere(second)) => match first.and(second) {
-                Some(both) => Value::ZeroWhere(both),
+            (Value::ZeroTest(first), Value::ZeroTest(second)) => match first.and(second) {
+                Some(both) => Value::ZeroTest(both),
                 None => Value::Unknown,
             },
             _ => Value::Unknown,
         }
     }
 
-    /// Where it is 0, of all that is known of it.
-    #[tactic(auto, using(crate::proofs::Offsets::number_fits))]
+    /// Only when the value is zero, of all that is known of it.
+    #[tactic(auto, using(crate::proofs::AffineTerms::number_fits))]
     fn zeros(self) -> Value
         requires { IsValue self }
         ensures value { IsValue result }
         ensures stands { (words : List ℕ) (a : ℕ) → StandsFor self words a → StandsFor result words a }
     {
         match self {
-            Value::OfWord(image) => Conjunction::by_test(image.word, image.is(0)),
-            Value::Offset(offset) => Conjunction::by_test(offset.image.word, offset.is(0)),
-            Value::ZeroWhere(conjunction) => Value::ZeroWhere(conjunction),
+            Value::Slice(bit_slice) => Conjunction::by_test(bit_slice.word, bit_slice.is(0)),
+            Value::AffineTerm(affine_term) => Conjunction::by_test(
+                affine_term.bit_slice.word,
+                affine_term.is(0),
+            ),
+            Value::ZeroTest(conjunction) => Value::ZeroTest(conjunction),
             Value::Known(_) | Value::Unknown => Value::Unknown,
         }
     }
 
-    /// What is known of the result of a computation with a known number.
+    /// The abstract result of `self op v`, for a constant `v`.
     fn computed_with(self, arithmetic: Arithmetic, v: u32) -> Value
         requires { IsValue self }
         ensures value { IsValue result }
@@ -116,13 +119,13 @@ impl Value {
     {
         match self {
             Value::Known(a) => known_result(arithmetic, a, v),
-            Value::OfWord(image) => image_result(arithmetic, image, v),
-            Value::Offset(offset) => offset_result(arithmetic, offset, v),
-            Value::ZeroWhere(_) | Value::Unknown => Value::Unknown,
+            Value::Slice(bit_slice) => bit_slice_result(arithmetic, bit_slice, v),
+            Value::AffineTerm(affine_term) => affine_result(arithmetic, affine_term, v),
+            Value::ZeroTest(_) | Value::Unknown => Value::Unknown,
         }
     }
 
-    /// What is known of the difference from a known number.
+    /// Abstract `v - self`, for a constant `v`.
     pub(crate) fn taken_from(self, v: u32) -> Value
         requires { IsValue self }
         ensures value { IsValue result }
@@ -131,13 +134,13 @@ impl Value {
     {
         match self {
             Value::Known(a) => Value::Known(v.wrapping_sub(a)),
-            Value::OfWord(image) => Offset::of(image).taken_from(v).value(),
-            Value::Offset(offset) => offset.taken_from(v).value(),
-            Value::ZeroWhere(_) | Value::Unknown => Value::Unknown,
+            Value::Slice(bit_slice) => AffineTerm::of(bit_slice).taken_from(v).value(),
+            Value::AffineTerm(affine_term) => affine_term.taken_from(v).value(),
+            Value::ZeroTest(_) | Value::Unknown => Value::Unknown,
         }
     }
 
-    /// What is known of its low five bits.
+    /// Abstract `self & 31`.
     pub(crate) fn low_five_bits(self) -> Value
         requires { IsValue self }
         ensures value { IsValue result }
@@ -149,7 +152,7 @@ impl Value {
         }
     }
 
-    /// How a test of it against another value comes out.
+    /// The decision of the test of `self` against `other`.
     pub(crate) fn decide(self, test: Test, other: Value) -> Decision
         requires value { IsValue self }
         requires other { IsValue other }
@@ -169,7 +172,7 @@ impl Value {
         }
     }
 
-    /// How a test of it against a known number comes out.
+    /// The decision of the test of `self` against a constant.
     fn decide_with(self, test: Test, v: u32) -> Decision
         requires { IsValue self }
         ensures asks { IsTestDecision result }
@@ -180,14 +183,14 @@ impl Value {
     {
         match self {
             Value::Known(a) => Decision::Known(holds_of(test, a, v)),
-            Value::OfWord(image) => decide_image(image, test, v),
-            Value::Offset(offset) => decide_offset(offset, test, v),
-            Value::ZeroWhere(conjunction) => conjunction.decide(test, v),
+            Value::Slice(bit_slice) => decide_bit_slice(bit_slice, test, v),
+            Value::AffineTerm(affine_term) => decide_affine(affine_term, test, v),
+            Value::ZeroTest(conjunction) => conjunction.decide(test, v),
             Value::Unknown => Decision::Open,
         }
     }
 
-    /// How a test of a known number against it comes out.
+    /// The decision of the test of the constant `a` against `self`.
     #[tactic(auto, using(std::proofs::lemmas::Nat::and_comm))]
     fn decide_turned(self, a: u32, test: Test) -> Decision
         requires { IsValue self }
@@ -205,7 +208,7 @@ impl Value {
 }
 
 impl Decision {
-    /// How the opposite of the test comes out.
+    /// The decision of the negated test.
     pub(crate) fn negated(self) -> Decision
         requires { IsTestDecision self }
         ensures asks { IsTestDecision result }
@@ -221,7 +224,7 @@ impl Decision {
     }
 }
 
-/// A computation on known numbers. A division by 0 and a shift past 31 have no result.
+/// A computation on constants. Division by 0 and shifts past 31 have no known result.
 fn known_result(arithmetic: Arithmetic, a: u32, v: u32) -> Value
     ensures value { IsValue result }
     ensures stands { (words : List ℕ) → StandsFor result words (value_computed arithmetic a v) }
@@ -233,7 +236,7 @@ fn known_result(arithmetic: Arithmetic, a: u32, v: u32) -> Value
     }
 }
 
-/// Whether the order of its operands makes no difference to a computation.
+/// Whether the operation is commutative.
 #[tactic(auto, using(crate::proofs::Joins::commutative))]
 fn is_commutative(arithmetic: Arithmetic) -> bool
     ensures { IsTrue result → (a v : ℕ) → value_computed arithmetic a v ≡ value_computed arithmetic v a }
@@ -245,49 +248,49 @@ fn is_commutative(arithmetic: Arithmetic) -> bool
     }
 }
 
-/// A computation on an image of a word and a known number.
-fn image_result(arithmetic: Arithmetic, image: Image, v: u32) -> Value
-    requires { IsImage image }
+/// The abstract result of an operation on a bit slice and a constant.
+fn bit_slice_result(arithmetic: Arithmetic, bit_slice: BitSlice, v: u32) -> Value
+    requires { IsBitSlice bit_slice }
     ensures value { IsValue result }
     ensures stands { (words : List ℕ)
-        → StandsFor result words (value_computed arithmetic (image_number image words) v) }
+        → StandsFor result words (value_computed arithmetic (bit_slice_value bit_slice words) v) }
 {
     match arithmetic {
-        Arithmetic::Add => Offset::of(image).plus(v).value(),
-        Arithmetic::Sub => Offset::of(image).minus(v).value(),
-        Arithmetic::And => Value::OfWord(image.and(v)),
-        Arithmetic::Or => Value::OfWord(image.or(v)),
-        Arithmetic::Xor => Value::OfWord(image.xor(v)),
-        Arithmetic::Lsh if v < 32 => image.shifted_left(v),
-        Arithmetic::Rsh if v < 32 => image.shifted_right(v),
+        Arithmetic::Add => AffineTerm::of(bit_slice).plus(v).value(),
+        Arithmetic::Sub => AffineTerm::of(bit_slice).minus(v).value(),
+        Arithmetic::And => Value::Slice(bit_slice.and(v)),
+        Arithmetic::Or => Value::Slice(bit_slice.or(v)),
+        Arithmetic::Xor => Value::Slice(bit_slice.xor(v)),
+        Arithmetic::Lsh if v < 32 => bit_slice.shifted_left(v),
+        Arithmetic::Rsh if v < 32 => bit_slice.shifted_right(v),
         Arithmetic::Mul => match exponent_of(v) {
-            Some(count) => image.shifted_left(count),
+            Some(count) => bit_slice.shifted_left(count),
             None => Value::Unknown,
         },
         Arithmetic::Div => match exponent_of(v) {
-            Some(count) => image.shifted_right(count),
+            Some(count) => bit_slice.shifted_right(count),
             None => Value::Unknown,
         },
         _ => Value::Unknown,
     }
 }
 
-/// A computation on an offset of an image and a known number. A number of 32 ones XOR another is their difference.
-fn offset_result(arithmetic: Arithmetic, offset: Offset, v: u32) -> Value
-    requires { IsImage offset.image }
+/// The abstract result of an operation on an affine term and a constant. XOR with 32 one bits is subtraction from them.
+fn affine_result(arithmetic: Arithmetic, affine_term: AffineTerm, v: u32) -> Value
+    requires { IsBitSlice affine_term.bit_slice }
     ensures value { IsValue result }
     ensures stands { (words : List ℕ)
-        → StandsFor result words (value_computed arithmetic (offset_number offset words) v) }
+        → StandsFor result words (value_computed arithmetic (affine_value affine_term words) v) }
 {
     match arithmetic {
-        Arithmetic::Add => offset.plus(v).value(),
-        Arithmetic::Sub => offset.minus(v).value(),
-        Arithmetic::Xor if v == u32::MAX => offset.taken_from(v).value(),
+        Arithmetic::Add => affine_term.plus(v).value(),
+        Arithmetic::Sub => affine_term.minus(v).value(),
+        Arithmetic::Xor if v == u32::MAX => affine_term.taken_from(v).value(),
         _ => Value::Unknown,
     }
 }
 
-/// The exponent of a power of two.
+/// The exponent, if `v` is a power of two.
 fn exponent_of(v: u32) -> Option<u32>
     ensures { IfSome result (λ count. (count < 32) × (v ≡ 2 ^ count)) }
 {
@@ -298,41 +301,41 @@ fn exponent_of(v: u32) -> Option<u32>
     if v == 1 << count { Some(count) } else { None }
 }
 
-/// How a test of an image of a word against a known number comes out.
-fn decide_image(image: Image, test: Test, v: u32) -> Decision
-    requires { IsImage image }
+/// The decision of a test of a bit slice against a constant.
+fn decide_bit_slice(bit_slice: BitSlice, test: Test, v: u32) -> Decision
+    requires { IsBitSlice bit_slice }
     ensures asks { IsTestDecision result }
     ensures decides { (words : List ℕ) → IsWords words
-        → Decides result words (holds test (image_number image words) v) }
-    ensures plain { IsWhole image → (test ≡ Test.CommonBit → IsSimpleMask v) → IsPlainDecision result }
+        → Decides result words (holds test (bit_slice_value bit_slice words) v) }
+    ensures plain { IsWhole bit_slice → (test ≡ Test.CommonBit → IsSimpleMask v) → IsPlainDecision result }
 {
-    let word = image.word;
+    let word = bit_slice.word;
     match test {
-        Test::Equal => image.is(v),
-        Test::CommonBit => image.and(v).is(0).negated(),
-        Test::Greater if image.is_whole() => {
+        Test::Equal => bit_slice.is(v),
+        Test::CommonBit => bit_slice.and(v).is(0).negated(),
+        Test::Greater if bit_slice.is_whole() => {
             Decision::Asks(Atoms::One(Atom::Gt { word, value: v }), true)
         }
-        Test::GreaterOrEqual if image.is_whole() => {
+        Test::GreaterOrEqual if bit_slice.is_whole() => {
             Decision::Asks(Atoms::One(Atom::Ge { word, value: v }), true)
         }
-        Test::Greater | Test::GreaterOrEqual => decide_offset(Offset::of(image), test, v),
+        Test::Greater | Test::GreaterOrEqual => decide_affine(AffineTerm::of(bit_slice), test, v),
     }
 }
 
-/// How a test of an offset of an image against a known number comes out.
-fn decide_offset(offset: Offset, test: Test, v: u32) -> Decision
-    requires { IsImage offset.image }
+/// The decision of a test of an affine term against a constant.
+fn decide_affine(affine_term: AffineTerm, test: Test, v: u32) -> Decision
+    requires { IsBitSlice affine_term.bit_slice }
     ensures asks { IsTestDecision result }
     ensures decides { (words : List ℕ) → IsWords words
-        → Decides result words (holds test (offset_number offset words) v) }
+        → Decides result words (holds test (affine_value affine_term words) v) }
 {
     match test {
-        Test::Equal => offset.is(v),
-        Test::Greater => offset.is_above(v),
+        Test::Equal => affine_term.is(v),
+        Test::Greater => affine_term.is_above(v),
         Test::GreaterOrEqual if v == 0 => Decision::Known(true),
-        Test::GreaterOrEqual => offset.is_above(v - 1),
-        Test::CommonBit if v == u32::MAX => offset.is(0).negated(),
+        Test::GreaterOrEqual => affine_term.is_above(v - 1),
+        Test::CommonBit if v == u32::MAX => affine_term.is(0).negated(),
         Test::CommonBit => Decision::Open,
     }
 }

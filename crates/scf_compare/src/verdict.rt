@@ -1,21 +1,21 @@
-//! What a comparison comes to.
+//! Verdicts.
 
 use scf_insn::{Answer, CallRecord};
 
-/// What a comparison of a filter with a profile comes to.
+/// The verdict of a comparison of a filter (or a stack) with a profile.
 #[derive(Clone, Copy, Debug, PartialEq, Eq)]
 pub enum Verdict {
-    /// The answers to every call that is compared are related as was asked. This many steps were taken.
+    /// The relation holds of the answers to every record of the scope. `steps` were taken.
     Same {
         steps: u64,
     },
-    /// This record is answered so by the filter and so by the profile, and these answers aren't related as was asked.
+    /// The relation doesn't hold of the answers to this record: `filter` and `profile` are the true answers.
     Differs {
         call: CallRecord,
         filter: Answer,
         profile: Answer,
     },
-    /// At this place of a filter runs of it end, and the facts don't decide which answer it gives there.
+    /// Runs of a filter end at the instruction with index `at`, and the store doesn't decide the answer there.
     Undecided {
         at: usize,
     },

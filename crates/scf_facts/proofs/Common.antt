@@ -22,13 +22,13 @@ pub use Rattle.scf_facts.specs.Atoms.{answer_at, atom_answer, steps_from, word_o
 pub use Rattle.scf_facts.specs.HighMask.{IsHighMask}
 pub use Rattle.scf_facts.specs.Levels.{IsSameLevel}
 pub use Rattle.scf_facts.specs.declared.atom.Atom.{Atom}
-pub use Rattle.scf_facts.specs.declared.atom_pair.AtomPair.{AtomPair}
+pub use Rattle.scf_facts.specs.declared.binary_clause.BinaryClause.{BinaryClause}
 pub use Rattle.scf_facts.specs.declared.bits.Bits.{Bits}
 pub use Rattle.scf_facts.specs.declared.fact.Fact.{Fact}
 pub use Rattle.scf_facts.specs.declared.interval.Interval.{Interval}
 pub use Rattle.scf_facts.specs.declared.trail.Change.{Change}
 pub use Rattle.scf_facts.specs.declared.trail.Change.TheVariants.{OfWord}
-pub use Rattle.scf_facts.specs.declared.trail.Former.TheVariants.{Intervals}
+pub use Rattle.scf_facts.specs.declared.trail.SavedValue.TheVariants.{Intervals}
 pub use Rattle.scf_facts.specs.declared.trail.WordChange.{WordChange}
 pub use Rattle.scf_facts.specs.internal.AtomPairs.{NotBothTrue}
 pub use Rattle.scf_facts.specs.internal.Bits.{HasBits, LacksBits, SomeLack}

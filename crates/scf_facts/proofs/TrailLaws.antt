@@ -1,5 +1,5 @@
 -- What was known at a level, as more is learned and marks are opened and closed.
-use Rattle.scf_facts.proofs.Common.{◌≡◌, ◌^◌, ℕ, ◌≤◌, ◌<◌, ◌↔◌, List, [], ◌∷◌, ◌++◌, length, take, drop, refl, sym, ◌∙◌, ap, arith, length-append, ◌-◌, Bool, IsTrue, Some, slice_set, slice_index, slice_index_or, ◌==◌, list_all, set-set, set-get_or, get_or-set_same, get_or_default, get_or_past, drop-append-le, and_parts, and_from, length-set, length-take-le, take-append-drop, drop_all, All-push, All-pop, Atom, AtomPair, Change, OfWord, WordChange, answer_at, atom_answer, word_of, count_at, AreRising, facts_before, known_before, restored, known_at, Covers, Intervals, Interval, NumberFacts, AllowsNumber, is_exact_set, no_facts, AllFacts, AllowsList, is_exact_known, known_of, NotBothTrue}
+use Rattle.scf_facts.proofs.Common.{◌≡◌, ◌^◌, ℕ, ◌≤◌, ◌<◌, ◌↔◌, List, [], ◌∷◌, ◌++◌, length, take, drop, refl, sym, ◌∙◌, ap, arith, length-append, ◌-◌, Bool, IsTrue, Some, slice_set, slice_index, slice_index_or, ◌==◌, list_all, set-set, set-get_or, get_or-set_same, get_or_default, get_or_past, drop-append-le, and_parts, and_from, length-set, length-take-le, take-append-drop, drop_all, All-push, All-pop, Atom, BinaryClause, Change, OfWord, WordChange, answer_at, atom_answer, word_of, count_at, AreRising, facts_before, known_before, restored, known_at, Covers, Intervals, Interval, NumberFacts, AllowsNumber, is_exact_set, no_facts, AllFacts, AllowsList, is_exact_known, known_of, NotBothTrue}
 use Rattle.scf_facts.proofs.StoreLaws.{allows_set, exact_set}
 use Rattle.scf_facts.proofs.CountLaws.{count_opened, count_closed, count_within, count_newest, rising_closed}
 
@@ -28,10 +28,10 @@ taken_before known trail rest change count e le =
     ∙ ap (restored known) (sym (drop-append-le count rest (change ∷ []) le) ∙ ap (drop count) (sym e))
 
 -- a change of a word is taken back
-before_changed : (sets : List NumberFacts) (pairs : List AtomPair) (change : WordChange) (old new : NumberFacts)
+before_changed : (sets : List NumberFacts) (clauses : List BinaryClause) (change : WordChange) (old new : NumberFacts)
     → change.word < length sets → old ≡ slice_index_or sets change.word old → facts_before change.former new ≡ old
-    → known_before (OfWord change) (known_of (slice_set sets change.word new) pairs) ≡ known_of sets pairs
-before_changed sets pairs change old new within read same =
+    → known_before (OfWord change) (known_of (slice_set sets change.word new) clauses) ≡ known_of sets clauses
+before_changed sets clauses change old new within read same =
     rw (get_or-set_same sets change.word new no_facts within, same, set-set, read, set-get_or)
 
 -- of changes of one word's intervals the first brings back what was known before both
@@ -83,19 +83,19 @@ module _ (known : AllFacts) (trail : List Change) (marks : List ℕ) where
 pub ruleset opened_laws = (known_past, known_opened)
 
 -- so a change of a word that is noted leaves them
-pub noted : (sets : List NumberFacts) (pairs : List AtomPair) (change : WordChange) (old new : NumberFacts)
+pub noted : (sets : List NumberFacts) (clauses : List BinaryClause) (change : WordChange) (old new : NumberFacts)
     (trail room more : List Change) (marks slice : List ℕ) → slice ≡ marks → room ≡ trail
     → ((known : AllFacts) → length known.sets ≡ 16 → (place : ℕ) → place < length slice
     → known_at known more slice place ≡ known_at (known_before (OfWord change) known) room slice place)
     → length sets ≡ 16 → old ≡ slice_index_or sets change.word old → facts_before change.former new ≡ old
-    → (place : ℕ) → place < length marks → IsSameKnown (known_at (known_of sets pairs) trail marks place)
-    (known_at (known_of (slice_set sets change.word new) pairs) more marks place)
-noted sets pairs change old new trail room more marks slice e f marked sixteen read same place lt =
-    let after = known_of (slice_set sets change.word new) pairs in
+    → (place : ℕ) → place < length marks → IsSameKnown (known_at (known_of sets clauses) trail marks place)
+    (known_at (known_of (slice_set sets change.word new) clauses) more marks place)
+noted sets clauses change old new trail room more marks slice e f marked sixteen read same place lt =
+    let after = known_of (slice_set sets change.word new) clauses in
     let within : change.word < length sets = omega (arith, sixteen, change.about_word) in
     let left = rw (e, f) at marked in
     same_known _ _ (left after (length-set sets change.word new ∙ sixteen) place lt
-    ∙ ap (λ (k : AllFacts). known_at k trail marks place) (before_changed sets pairs change old new within read same))
+    ∙ ap (λ (k : AllFacts). known_at k trail marks place) (before_changed sets clauses change old new within read same))
 
 -- the newest mark is closed, and what was changed after it put back
 pub known_closed : (known back : AllFacts) (trail cut : List Change) (marks rest : List ℕ) (count place : ℕ)
@@ -117,27 +117,27 @@ known_closed known back trail cut marks rest count place b e same rising lt =
 
 -- ---- what is learned
 
-module _ (sets : List NumberFacts) (pairs : List AtomPair) where
+module _ (sets : List NumberFacts) (clauses : List BinaryClause) where
   module _ (word : ℕ) (old new : NumberFacts) (within : word < length sets) (read : old ≡ slice_index_or sets word old)
     where
       pub allows_learned : (atom : Atom) (holds : Bool) → word ≡ word_of atom
           → ((x : ℕ) → x < 2 ^ 32 → AllowsNumber new x ↔ (AllowsNumber old x × (answer_at atom x ≡ holds)))
-          → (words : List ℕ) → AllowsList (known_of (slice_set sets word new) pairs) words
-          ↔ (AllowsList (known_of sets pairs) words × (atom_answer atom words ≡ holds))
+          → (words : List ℕ) → AllowsList (known_of (slice_set sets word new) clauses) words
+          ↔ (AllowsList (known_of sets clauses) words × (atom_answer atom words ≡ holds))
       allows_learned atom holds asked learned words =
           rw (← asked)
           (grind (arith, allows_set sets word old within read new (λ x. answer_at atom x ≡ holds) learned words))
 
       pub exact_learned : (IsTrue (is_exact_set old) → IsTrue (is_exact_set new))
-          → IsTrue (is_exact_known (known_of sets pairs))
-          → IsTrue (is_exact_known (known_of (slice_set sets word new) pairs))
+          → IsTrue (is_exact_known (known_of sets clauses))
+          → IsTrue (is_exact_known (known_of (slice_set sets word new) clauses))
       exact_learned exact all =
-          let parts = and_parts (list_all is_exact_set sets) (length pairs == 0) all in
-          and_from _ (length pairs == 0) (exact_set sets word old within read new exact parts.0) parts.1
+          let parts = and_parts (list_all is_exact_set sets) (length clauses == 0) all in
+          and_from _ (length clauses == 0) (exact_set sets word old within read new exact parts.0) parts.1
 
-  pub allows_refuted : (more : List AtomPair) (pair : AtomPair) → more ≡ pairs ++ pair ∷ [] → (words : List ℕ)
+  pub allows_refuted : (more : List BinaryClause) (clause : BinaryClause) → more ≡ clauses ++ clause ∷ [] → (words : List ℕ)
       → AllowsList (known_of sets more) words
-      ↔ (AllowsList (known_of sets pairs) words × NotBothTrue pair.first pair.second words)
-  allows_refuted more pair e words =
-      let Q : AtomPair → Type 0 = λ other. NotBothTrue other.first other.second words in
-      grind (arith, All-pop Q more pairs (Some pair) e, All-push Q pairs pair)
+      ↔ (AllowsList (known_of sets clauses) words × NotBothTrue clause.first clause.second words)
+  allows_refuted more clause e words =
+      let Q : BinaryClause → Type 0 = λ other. NotBothTrue other.first other.second words in
+      grind (arith, All-pop Q more clauses (Some clause) e, All-push Q clauses clause)

@@ -1,4 +1,4 @@
-//! What is asked of a number, by intervals or by bits.
+//! An atom's question about the value of its word, as an interval or as bits.
 
 ghost use Rattle.std.specs.Prelude.{◌≡◌};
 ghost use Rattle.scf_facts.specs.internal.Asked.{Asks, AsksSimply};
@@ -8,17 +8,18 @@ use crate::bits::Bits;
 use crate::high_mask::is_high_mask;
 use crate::interval::Interval;
 
-/// What an atom asks of the number of its word.
+/// An atom's question about the value of its word.
 #[derive(Clone, Copy)]
 pub(crate) enum Asked {
-    /// Whether it lies within a range: it does where the atom has this answer.
+    /// Is the value in `first..=last`? It is exactly if the atom has the answer `answer`.
     Within { range: Interval, answer: bool },
-    /// Whether it has some bits.
+    /// Does the value have these bits?
     Masked(Bits),
 }
 
 impl Asked {
-    /// What the atom asks. A mask of all bits asks for one number, and one of all bits from one on for a range.
+    /// The question of `atom`. An `Eq` under a full mask asks for one value, under a mask of all bits from one on for a
+    /// range.
     #[tactic(auto, using(crate::proofs::HighMasks::high_range))]
     pub(crate) fn of(atom: Atom) -> Asked
         ensures asks { Asks atom result }
@@ -40,7 +41,7 @@ impl Asked {
         }
     }
 
-    /// Whether it lies from one number to another, both included: it does where the atom has this answer.
+    /// Whether the value is in `first..=last`, which is so exactly if the atom has the answer `answer`.
     fn within(low: u32, high: u32, answer: bool) -> Asked
         ensures { result ≡ Asked.Within (record { low = low; high = high }) answer }
     {

@@ -1,24 +1,25 @@
-//! What is asked of one word, and what can be told of that.
+//! Questions about one word of a call record, and what a store knows of the answer.
 
 ghost use Rattle.std.specs.Prelude.{◌≡◌, ◌<◌, if◌then◌else◌};
 ghost use Rattle.scf_facts.specs.Atoms.{answer_at, atom_answer, word_of};
 
-/// What is asked of one of the sixteen words of a call record, by its number from 0 to 15: an answer is true or false.
+/// A question about one of the sixteen 32-bit words of a call record. `word` is the word's index, 0 to 15 (the caller's
+/// condition); comparisons are unsigned. The answer is true or false.
 #[derive(Clone, Copy, Debug, PartialEq, Eq)]
 pub enum Atom {
-    /// The word AND the mask equals the value.
+    /// `word & mask == value`.
     Eq { word: u8, mask: u32, value: u32 },
-    /// The word is above the value.
+    /// `word > value`.
     Gt { word: u8, value: u32 },
-    /// The word is at least the value.
+    /// `word >= value`.
     Ge { word: u8, value: u32 },
-    /// The word is on the arc from `first` up to `last`, both included, round the circle of the numbers of 32 bits,
-    /// where 0 follows 2^32 - 1.
+    /// The word is on the arc from `first` up to `last`, both included, on the circle of the 32-bit numbers, where 0
+    /// follows 2^32 - 1.
     Arc { word: u8, first: u32, last: u32 },
 }
 
 impl Atom {
-    /// The number of its word.
+    /// The index of its word, 0 to 15.
     pub fn word(self) -> u8
         ensures { result ≡ word_of self }
     {
@@ -30,7 +31,7 @@ impl Atom {
         }
     }
 
-    /// What it answers where its word is this number.
+    /// The answer if its word has this value.
     pub fn answer(self, number: u32) -> bool
         ensures { result ≡ answer_at self number }
     {
@@ -42,7 +43,7 @@ impl Atom {
         }
     }
 
-    /// Whether it is true of the words.
+    /// The answer for these words.
     pub(crate) fn is_true_of(self, words: &[u32; 16]) -> bool
         requires { word_of self < 16 }
         ensures { result ≡ atom_answer self words.now }
@@ -51,19 +52,19 @@ impl Atom {
     }
 }
 
-/// What facts tell of an atom.
+/// What a store knows of an atom.
 #[derive(Clone, Copy, Debug, PartialEq, Eq)]
 pub enum Tell {
-    /// It is true of all that is allowed.
+    /// It is true of every allowed list of words.
     Always,
-    /// It is false of all that is allowed.
+    /// It is false of every allowed list of words.
     Never,
-    /// Nothing is said.
+    /// Unknown: it may be either.
     Maybe,
 }
 
 impl Tell {
-    /// What is told where this is the answer of all that is allowed.
+    /// `Always` or `Never` for a known answer, else `Maybe`.
     pub(crate) fn of(answer: bool) -> Tell
         ensures { result ≡ (if answer then Tell.Always else Tell.Never) }
     {

@@ -1,4 +1,4 @@
-//! Facts as the list of what was learned.
+//! A store that keeps what it learned as a list.
 
 ghost use Rattle.std.specs.Prelude.{◌≡◌, ◌↔◌, ℕ, List, IfOk, IsOk, IsTrue, false, length};
 ghost use Rattle.scf_insn.specs.Words.{IsWords};
@@ -6,19 +6,19 @@ ghost use Rattle.scf_facts.specs.internal.Counts.{AreRising};
 ghost use Rattle.scf_facts.specs.internal.Learned.{AllHold, AllowsByFacts};
 
 use crate::atom::{Atom, Tell};
-use crate::atom_pair::AtomPair;
+use crate::binary_clause::BinaryClause;
 use crate::fact::Fact;
 use crate::learned::Learned;
 use crate::word_facts::WordFacts;
 use scf_insn::Memory;
 use std::alloc::Global;
 
-/// The learned atoms with their answers, and pairs of atoms that aren't both true, in order, and how many of these
-/// there were at each open mark.
+/// The learned atoms with their answers and the learned clauses, in order, and the length of that list at each open
+/// mark.
 ///
-/// It tells of an atom that was learned itself, of an `Eq` with mask 0, and of any atom on a word that a true `Eq` with
-/// all bits in its mask has fixed; pairs tell nothing. It picks the words that are 0 save those so fixed, where every
-/// learned atom and pair agrees.
+/// `tell` knows an atom that was itself learned, an `Eq` with mask 0, and any atom on a word whose value a true `Eq`
+/// under a full mask has fixed; clauses aren't used. `pick` gives 0 for each word that isn't fixed, if that agrees with
+/// everything learned.
 #[derive(Drop)]
 pub struct AtomList {
     learned: Vec<Fact>,
@@ -55,9 +55,9 @@ impl WordFacts for AtomList {
     }
 
     #[tactic(auto, using(crate::proofs::AtomLaws::learned_pushed))]
-    fn learn_not_both(&mut self, first: Atom, second: Atom) -> Result<(), Memory> {
+    fn learn_clause(&mut self, first: Atom, second: Atom) -> Result<(), Memory> {
         self.learned
-            .push(Fact::NotBoth(AtomPair { first, second }))?;
+            .push(Fact::Clause(BinaryClause { first, second }))?;
         Ok(())
     }
 
@@ -107,7 +107,7 @@ impl WordFacts for AtomList {
     }
 }
 
-/// Whether each of the facts holds of the words.
+/// Whether every fact is true of the words.
 fn all_agree(learned: &[Fact], words: &[u32; 16]) -> bool
     ensures { IsTrue result ↔ AllHold learned.now words.now }
 {

@@ -1,10 +1,10 @@
-//! Bits of a number under a mask.
+//! The bits of a value under a mask.
 
 ghost use Rattle.std.specs.Prelude.{◌≡◌, ◌+◌, ◌<◌, ◌↔◌, ◌⊎◌, ℕ, IsTrue, false, IfSome, IfNone, bit_and};
 ghost use Rattle.std.specs.Int.{IsPowerOfTwo};
 ghost use Rattle.scf_facts.specs.internal.Bits.{HasBits, LacksBits, SomeLack};
 
-/// A mask and a value. A number has these bits where it AND the mask is the value.
+/// A mask and a value. A number `n` has these bits if `n & mask == value`.
 #[derive(Clone, Copy)]
 pub(crate) struct Bits {
     pub(crate) mask: u32,
@@ -12,24 +12,24 @@ pub(crate) struct Bits {
 }
 
 impl Bits {
-    /// What every number has.
+    /// No bits: every number has them.
     pub(crate) const NONE: Bits = Bits { mask: 0, value: 0 };
 
-    /// Whether a number has them.
+    /// Whether the number has these bits.
     pub(crate) fn are_in(self, x: u32) -> bool
         ensures { IsTrue result ↔ HasBits self x }
     {
         x & self.mask == self.value
     }
 
-    /// Whether a number doesn't have them.
+    /// Whether the number lacks these bits.
     pub(crate) fn are_missing(self, x: u32) -> bool
         ensures { IsTrue result ↔ LacksBits self x }
     {
         x & self.mask != self.value
     }
 
-    /// The bits of both, where some number has both.
+    /// The bits of both, if some number has both.
     #[tactic(auto, using(crate::proofs::MaskLaws::joined, crate::proofs::MaskLaws::in_joined))]
     pub(crate) fn join(self, other: Bits) -> Option<Bits>
         ensures both { IfSome result (λ bits. (x : ℕ) → HasBits bits x ↔ (HasBits self x × HasBits other x)) }
@@ -43,7 +43,7 @@ impl Bits {
         (self.are_in(bits.value) && other.are_in(bits.value)).then_some(bits)
     }
 
-    /// Whether every number with these has the others.
+    /// Whether every number with these bits has the others.
     #[tactic(auto, using(crate::proofs::MaskLaws::part_of, crate::proofs::MaskLaws::some_lack))]
     pub(crate) fn imply(self, others: Bits) -> bool
         ensures each { IsTrue result → (x : ℕ) → HasBits self x → HasBits others x }
@@ -52,7 +52,7 @@ impl Bits {
         self.mask & others.mask == others.mask && others.are_in(self.value)
     }
 
-    /// Those of these bits that the known ones leave open, where some number has both.
+    /// Those of these bits that `known` doesn't fix, if some number has both.
     #[tactic(auto, using(crate::proofs::MaskLaws::beyond_laws))]
     pub(crate) fn beyond(self, known: Bits) -> Bits
         ensures decides { (some x : ℕ) → HasBits known some → HasBits self some
@@ -69,7 +69,7 @@ impl Bits {
         }
     }
 
-    /// The other value of a single bit.
+    /// The same bit with the other value.
     #[tactic(auto, using(crate::proofs::MaskLaws::flipped))]
     pub(crate) fn flipped(self) -> Bits
         requires one { IsPowerOfTwo self.mask }
@@ -82,7 +82,7 @@ impl Bits {
         }
     }
 
-    /// The lowest of these bits.
+    /// The lowest of these bits, alone.
     #[tactic(auto, using(crate::proofs::LowestBit::lowest))]
     pub(crate) fn lowest(self) -> Option<Bits>
         ensures none { IfNone result (self.mask ≡ 0) }
@@ -102,7 +102,7 @@ impl Bits {
         })
     }
 
-    /// Whether the mask has one bit.
+    /// Whether the mask has exactly one bit.
     #[tactic(auto, using(crate::proofs::MaskLaws::is_one))]
     pub(crate) fn is_single(self) -> bool
         ensures { IsTrue result ↔ IsPowerOfTwo self.mask }

@@ -1,4 +1,4 @@
-//! What is known of the sixteen words by the numbers of each alone.
+//! What the possible values of each single word say.
 
 ghost use Rattle.std.specs.Prelude.{◌≡◌, ◌<◌, ℕ, List, IsTrue, IsSome, IfSome, length, true, false};
 ghost use Rattle.std.specs.List.{list_all};
@@ -8,7 +8,7 @@ ghost use Rattle.scf_facts.specs.internal.WordSets.{AllowsWords, is_exact_set};
 use crate::atom::{Atom, Tell};
 use crate::word_set::WordSet;
 
-/// What the atom answers of every allowed list, where the numbers of its word say that.
+/// The atom's answer for every allowed list, if the values of its word show it.
 #[tactic(auto, using(crate::proofs::StoreLaws::each_word))]
 pub(crate) fn tell_by_word(sets: &[WordSet], atom: Atom) -> Tell
     requires sixteen { length sets.now ≡ 16 }
@@ -25,7 +25,7 @@ pub(crate) fn tell_by_word(sets: &[WordSet], atom: Atom) -> Tell
     sets[atom.word() as usize].tell(atom)
 }
 
-/// Whether it is known of a word that it has no number.
+/// Whether some word is known to have no value.
 pub(crate) fn has_empty_word(sets: &[WordSet]) -> bool
     requires { length sets.now ≡ 16 }
     ensures empty { IsTrue result → (words : List ℕ) → AllowsWords sets.now words → ⊥ }
@@ -35,7 +35,7 @@ pub(crate) fn has_empty_word(sets: &[WordSet]) -> bool
     sets.iter().any(|set| set.is_empty())
 }
 
-/// One of its numbers for each word, if they are found.
+/// A possible value for each word, if one is found for all.
 #[tactic(auto, using(crate::proofs::StoreLaws::word_laws))]
 pub(crate) fn pick_by_word(sets: &[WordSet]) -> Option<[u32; 16]>
     requires { length sets.now ≡ 16 }
@@ -50,7 +50,7 @@ pub(crate) fn pick_by_word(sets: &[WordSet]) -> Option<[u32; 16]>
     Some(words)
 }
 
-/// Gives the atom's word another of its numbers, one of which the atom is false, if it is found.
+/// Gives the atom's word a possible value for which the atom is false, if one is found.
 #[tactic(auto, using(crate::proofs::StoreLaws::allows_other))]
 pub(crate) fn refute(sets: &[WordSet], atom: Atom, words: &mut [u32; 16]) -> bool
     requires sixteen { length sets.now ≡ 16 }

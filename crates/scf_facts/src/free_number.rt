@@ -1,4 +1,4 @@
-//! The search for a number that is free of refuted bits.
+//! The search for a value without refuted bits.
 
 ghost use Rattle.std.specs.Prelude.{◌≡◌, ◌<◌, ◌≤◌, ◌^◌, ℕ, All, IsTrue, false, IfSome, IfNone};
 ghost use Rattle.scf_facts.specs.internal.Bits.{HasBits, LacksBits, SomeLack};
@@ -8,22 +8,21 @@ use crate::bits::Bits;
 use crate::interval::Interval;
 use crate::least::first_number;
 
-/// What a search for a number comes to.
+/// The result of a search for a value.
 #[derive(Clone, Copy)]
 pub(crate) enum Searched {
-    /// This is one.
+    /// Found.
     Found(u32),
     /// There is none.
     Nothing,
-    /// Nothing is said: no try was left.
+    /// Unknown: the tries ran out.
     GaveUp,
 }
 
-/// Looks among intervals for a number that has the known bits and some more, and none of the refuted ones.
+/// Looks in intervals for a value with the known bits, the further bits, and none of the refuted ones.
 ///
-/// Where the least number with the bits has refuted ones, a free number lacks one of these: it is looked for among
-/// those without the lowest that isn't known yet, and then among those with it. Each such choice takes one of the tries
-/// that are left.
+/// If the least value with the bits has refuted ones, a value without them lacks one of their bits: the search goes on
+/// without the lowest one that isn't fixed yet, and then with it. Each such choice uses one of the remaining tries.
 pub(crate) fn free_number(
     intervals: &[Interval],
     refuted: &[Bits],
@@ -62,7 +61,7 @@ pub(crate) fn free_number(
     }
 }
 
-/// Whether every number with these bits has refuted ones, the same for each.
+/// Whether every value with these bits has the same refuted ones.
 pub(crate) fn refutes(refuted: &[Bits], bits: Bits) -> bool
     ensures each { IsTrue result → (x : ℕ) → HasBits bits x → All (λ other. LacksBits other x) refuted.now → ⊥ }
     ensures some { result ≡ false → HasBits bits bits.value → All (SomeLack bits) refuted.now }
@@ -70,7 +69,7 @@ pub(crate) fn refutes(refuted: &[Bits], bits: Bits) -> bool
     refuted.iter().any(|other| bits.imply(*other))
 }
 
-/// The first of the refuted bits that a number has.
+/// The first of the refuted bits that the value has.
 fn refuted_in(refuted: &[Bits], x: u32) -> Option<Bits>
     ensures some { IfSome result (λ bits. HasBits bits x) }
     ensures one { IfSome result (λ bits. (y : ℕ) → All (λ other. LacksBits other y) refuted.now → LacksBits bits y) }

@@ -1,9 +1,9 @@
-//! Intervals of numbers, one alone.
+//! One interval of values.
 
 ghost use Rattle.std.specs.Prelude.{◌≡◌};
 ghost use Rattle.scf_facts.specs.internal.Intervals.{part_within, part_below, part_above};
 
-/// The numbers from one to another, both included.
+/// The values `first..=last`.
 #[derive(Clone, Copy)]
 pub(crate) struct Interval {
     pub(crate) low: u32,
@@ -11,13 +11,13 @@ pub(crate) struct Interval {
 }
 
 impl Interval {
-    /// All numbers.
+    /// All 32-bit values.
     pub(crate) const ALL: Interval = Interval {
         low: 0,
         high: u32::MAX,
     };
 
-    /// Its part within a range.
+    /// Its part within a range, if it has one.
     pub(crate) fn part_within(self, range: Interval) -> Option<Interval>
         ensures { result ≡ part_within range self }
     {
@@ -26,7 +26,7 @@ impl Interval {
         (low <= high).then_some(Interval { low, high })
     }
 
-    /// Its part below a number.
+    /// Its part below a value, if it has one.
     pub(crate) fn part_below(self, bound: u32) -> Option<Interval>
         ensures { result ≡ part_below bound self }
     {
@@ -36,7 +36,7 @@ impl Interval {
         })
     }
 
-    /// Its part above a number.
+    /// Its part above a value, if it has one.
     pub(crate) fn part_above(self, bound: u32) -> Option<Interval>
         ensures { result ≡ part_above bound self }
     {

@@ -1,4 +1,4 @@
-//! Numbers, as intervals in order and apart.
+//! Sets of values as sorted, disjoint intervals.
 
 ghost use Rattle.std.specs.Prelude.{◌≡◌, ◌<◌, ◌≤◌, ◌++◌, ◌↔◌, ℕ, [], All, length, IsTrue, IfSome, IfNone, IfOk};
 ghost use Rattle.std.specs.List.{filter_map, AllWithin};
@@ -10,13 +10,13 @@ use scf_insn::Memory;
 use std::alloc::{AllocError, Global};
 use std::marker::Model;
 
-/// The interval of all numbers alone.
+/// The interval of all values.
 static ALL_INTERVALS: [Interval; 1] = [Interval::ALL];
 
-/// Intervals in order and apart.
+/// Sorted, disjoint intervals.
 #[derive(Drop)]
 pub(crate) struct Intervals {
-    /// What is left, once some numbers were cut away. Until then no memory is needed.
+    /// The intervals, once values were removed. Before that nothing is allocated.
     cut: Option<Vec<Interval>>,
 }
 
@@ -34,14 +34,14 @@ impl Model for Intervals {
 }
 
 impl Intervals {
-    /// All numbers.
+    /// All values.
     pub(crate) fn all() -> Intervals
         ensures { result ≡ all_intervals }
     {
         Intervals { cut: None }
     }
 
-    /// No number.
+    /// No value.
     pub(crate) fn none(alloc: Global) -> Intervals
         ensures { result ≡ [] }
     {
@@ -50,7 +50,7 @@ impl Intervals {
         }
     }
 
-    /// The intervals in order.
+    /// The intervals, in order.
     pub(crate) fn as_slice(&self) -> &[Interval]
         ensures same { result.now ≡ self.now }
         ensures apart { AreApart result.now }
@@ -61,7 +61,7 @@ impl Intervals {
         }
     }
 
-    /// Their parts within a range.
+    /// The intervals' parts within a range.
     pub(crate) fn within(&self, alloc: Global, range: Interval) -> Result<Intervals, Memory>
         ensures { IfOk result (λ parts. ArePartsOf (LiesIn range) self.now parts) }
     {
@@ -70,7 +70,7 @@ impl Intervals {
         Ok(Intervals { cut: Some(parts) })
     }
 
-    /// Their parts outside a range.
+    /// The intervals' parts outside a range.
     pub(crate) fn outside(&self, alloc: Global, range: Interval) -> Result<Intervals, Memory>
         requires { range.low ≤ range.high }
         ensures { IfOk result (λ parts. ArePartsOf (LiesOutside range) self.now parts) }
@@ -86,7 +86,7 @@ impl Intervals {
     }
 }
 
-/// The parts of intervals within a range, looked for in each.
+/// The intervals' parts within a range, computed for each.
 fn parts_of_touched_within(
     alloc: Global,
     touched: &[Interval],
@@ -100,7 +100,7 @@ fn parts_of_touched_within(
         .collect(alloc)
 }
 
-/// The parts of intervals outside a range, looked for in each.
+/// The intervals' parts outside a range, computed for each.
 fn parts_of_touched_outside(
     alloc: Global,
     touched: &[Interval],
@@ -118,14 +118,14 @@ fn parts_of_touched_outside(
     below.chain(above).collect(alloc)
 }
 
-/// Sorted intervals by how they stand to a range.
+/// Sorted intervals, split by a range.
 #[derive(Clone, Copy)]
 struct Split<'a> {
-    /// Those that end below it.
+    /// The intervals that end below the range.
     below: &'a [Interval],
-    /// Those between.
+    /// The intervals that touch it.
     touched: &'a [Interval],
-    /// Those that begin above it.
+    /// The intervals that begin above it.
     above: &'a [Interval],
 }
 
@@ -146,7 +146,7 @@ fn split_by(intervals: &[Interval], range: Interval) -> Split<'_>
     }
 }
 
-/// How many of sorted intervals end below a number.
+/// How many of the sorted intervals end below a value.
 fn count_ending_below(intervals: &[Interval], x: u32) -> usize
     requires { AreApart intervals.now }
     ensures bound { result ≤ length intervals.now }
@@ -156,7 +156,7 @@ fn count_ending_below(intervals: &[Interval], x: u32) -> usize
     intervals.partition_point(|interval| interval.high < x)
 }
 
-/// How many of sorted intervals begin at a number or below it.
+/// How many of the sorted intervals begin at or below a value.
 fn count_beginning_within(intervals: &[Interval], x: u32) -> usize
     requires { AreApart intervals.now }
     ensures bound { result ≤ length intervals.now }
@@ -165,7 +165,7 @@ fn count_beginning_within(intervals: &[Interval], x: u32) -> usize
     intervals.partition_point(|interval| interval.low <= x)
 }
 
-/// The first of sorted intervals that reaches up to a number.
+/// The first of the sorted intervals whose end is at least a value.
 pub(crate) fn first_reaching(intervals: &[Interval], x: u32) -> Option<Interval>
     requires { AreApart intervals.now }
     ensures reaches { IfSome result (λ interval. x ≤ interval.high) }
@@ -176,7 +176,7 @@ pub(crate) fn first_reaching(intervals: &[Interval], x: u32) -> Option<Interval>
     intervals.get(count_ending_below(intervals, x)).copied()
 }
 
-/// Whether a number lies in one of sorted intervals.
+/// Whether a value lies in one of the sorted intervals.
 pub(crate) fn lies_in_one(intervals: &[Interval], x: u32) -> bool
     requires { AreApart intervals.now }
     ensures { IsTrue result ↔ LiesInOne intervals.now x }

@@ -1,4 +1,4 @@
-//! Atoms whose answer is known.
+//! Learned answers of atoms.
 
 ghost use Rattle.std.specs.Prelude.{◌≡◌, ◌<◌, ◌^◌, ◌↔◌, ℕ, List, IsTrue, IfSome, true, false};
 ghost use Rattle.scf_insn.specs.Words.{IsWords};
@@ -15,7 +15,7 @@ pub(crate) struct Learned {
 }
 
 impl Learned {
-    /// The number of the word that this fixes, and its only value.
+    /// The word that this fixes, and its only value.
     pub(crate) fn fixes(&self) -> Option<(u8, u32)>
         ensures place { IfSome result (λ fixed. fixed.0 ≡ word_of self.now.atom) }
         ensures value { IfSome result (λ fixed.
@@ -32,7 +32,7 @@ impl Learned {
         }
     }
 
-    /// What this alone tells of another atom.
+    /// What this alone shows of another atom.
     pub(crate) fn tells(&self, atom: Atom) -> Tell
         ensures always { result ≡ Tell.Always
             → (words : List ℕ) → IsWords words
@@ -52,7 +52,7 @@ impl Learned {
         }
     }
 
-    /// Whether the atom has this answer of the words.
+    /// Whether the atom has this answer for the words.
     pub(crate) fn agrees(&self, words: &[u32; 16]) -> bool
         ensures { IsTrue result ↔ (atom_answer self.now.atom words.now ≡ self.now.holds) }
     {

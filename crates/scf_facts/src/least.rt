@@ -1,4 +1,4 @@
-//! The least number with some bits.
+//! The least value with some bits.
 
 ghost use Rattle.std.specs.Prelude.{◌≡◌, ◌<◌, ◌≤◌, ◌^◌, ◌/◌, ℕ, IfSome, IfNone};
 ghost use Rattle.std.specs.Int.{bit_at};
@@ -9,7 +9,7 @@ use crate::bits::Bits;
 use crate::interval::Interval;
 use crate::intervals::first_reaching;
 
-/// The place of the highest bit that is set.
+/// The index of the highest set bit.
 #[tactic(auto, using(crate::proofs::LeastNumber::highest))]
 fn highest_bit(n: u32) -> Option<u32>
     ensures none { IfNone result (n ≡ 0) }
@@ -21,7 +21,7 @@ fn highest_bit(n: u32) -> Option<u32>
     Some(31 - n.leading_zeros())
 }
 
-/// The next multiple of the place's bit: it is past all numbers that share the bits of `x` from the place on.
+/// The next multiple of `1 << place`: the least value past all those that share the bits of `x` from `place` on.
 fn past(x: u32, place: u32) -> u64
     requires { place < 32 }
     ensures above { x < result }
@@ -31,7 +31,7 @@ fn past(x: u32, place: u32) -> u64
     (u64::from(x) / power + 1) * power
 }
 
-/// The least number from a bound on that has the bits.
+/// The least value with the bits that is at least a bound.
 fn least_from(low: u32, bits: Bits) -> Option<u32>
     ensures found { IfSome result (λ x. (low ≤ x) × HasBits bits x) }
     ensures least { IfSome result (λ x. (y : ℕ) → low ≤ y → y < x → LacksBits bits y) }
@@ -48,10 +48,10 @@ fn least_from(low: u32, bits: Bits) -> Option<u32>
     Some(x)
 }
 
-/// The first number of sorted intervals that lies in a range and has the bits.
+/// The first value of sorted intervals that lies in a range and has the bits.
 ///
-/// The least number from a bound on that has the bits may lie before the first interval that reaches up to it: then
-/// that interval's low end is the next bound.
+/// The least value with the bits from a bound on may lie before the first interval that reaches it; then that
+/// interval's low end is the next bound.
 pub(crate) fn first_number(intervals: &[Interval], range: Interval, bits: Bits) -> Option<u32>
     requires { AreApart intervals.now }
     ensures found { IfSome result (λ x. LiesInOne intervals.now x × LiesIn range x × HasBits bits x) }

@@ -4,9 +4,9 @@
 mod asked;
 mod atom;
 mod atom_list;
-mod atom_pair;
+mod binary_clause;
 mod bits;
-mod by_pair;
+mod by_clause;
 mod by_word;
 mod fact;
 mod free_number;

@@ -1,38 +1,38 @@
-//! Changes of what is known, with what was known before.
+//! The trail: changes of a store, with what was known before each.
 
 ghost use Rattle.std.specs.Prelude.{◌<◌};
 
 use crate::bits::Bits;
 use crate::intervals::Intervals;
 
-/// How the facts of a word were before a change.
+/// What was known of a word before a change.
 #[derive(Drop)]
-pub(crate) enum Former {
-    /// As they are.
+pub(crate) enum SavedValue {
+    /// The same as now.
     Same,
-    /// With these intervals.
+    /// These intervals.
     Intervals(Intervals),
-    /// With these known bits.
+    /// These known bits.
     Known(Bits),
-    /// Without the bits that were refuted last.
+    /// One refuted entry less.
     Unrefuted,
 }
 
-/// A change of the facts of a word.
+/// A change of what is known of one word.
 #[derive(Drop)]
 pub(crate) struct WordChange {
-    /// The word's number, below 16.
+    /// The word's index, below 16.
     pub(crate) word: u8,
-    /// The word's facts before.
-    pub(crate) former: Former,
+    /// What was known of it before.
+    pub(crate) former: SavedValue,
     ghost about_word: { word < 16 },
 }
 
-/// A change of what is known.
+/// A change of a store.
 #[derive(Drop)]
 pub(crate) enum Change {
-    /// The facts of a word are others.
+    /// What is known of a word changed.
     OfWord(WordChange),
-    /// There is a pair more: the last one.
+    /// A clause was added, the last one.
     Refuted,
 }

@@ -1,4 +1,4 @@
-//! How changes are taken back.
+//! Undoing changes.
 
 ghost use Rattle.std.specs.Prelude.{◌≡◌, ◌<◌, ◌≤◌, ◌++◌, ◌∷◌, [], ℕ, List, IsTrue, IsOk, OnOk, length, take, drop};
 ghost use Rattle.std.specs.Vec.{vec_capacity, vec_len};
@@ -7,27 +7,27 @@ ghost use Rattle.scf_facts.specs.internal.Counts.{AreRising};
 ghost use Rattle.scf_facts.specs.internal.Trail.{Covers, known_at, known_before, restored};
 ghost use Rattle.scf_facts.specs.internal.WordSets.{AllFacts, known_of};
 
-use crate::atom_pair::AtomPair;
-use crate::trail::{Change, Former};
+use crate::binary_clause::BinaryClause;
+use crate::trail::{Change, SavedValue};
 use crate::word_set::WordSet;
 use scf_insn::Memory;
 
 impl Change {
-    /// Takes it back.
-    pub(crate) fn take_back(self, sets: &mut [WordSet], pairs: &mut Vec<AtomPair>)
+    /// Undoes the change.
+    pub(crate) fn restore(self, sets: &mut [WordSet], clauses: &mut Vec<BinaryClause>)
         requires { length sets.old ≡ 16 }
-        ensures { known_of sets.new pairs.new.items ≡ known_before self (known_of sets.old pairs.old.items) }
+        ensures { known_of sets.new clauses.new.items ≡ known_before self (known_of sets.old clauses.old.items) }
     {
         match self {
-            Change::OfWord(change) => sets[change.word as usize].take_back(change.former),
+            Change::OfWord(change) => sets[change.word as usize].restore(change.former),
             Change::Refuted => {
-                pairs.pop();
+                clauses.pop();
             }
         }
     }
 
-    /// Whether this brings back all that the later change would, which need not be kept then: both are of the intervals
-    /// of one word.
+    /// Whether undoing this also undoes the later change, which then needn't be kept: both changed the intervals of one
+    /// word.
     #[tactic(auto, using(crate::proofs::TrailLaws::covers))]
     fn covers(&self, later: &Change) -> bool
         ensures { IsTrue result → Covers self.now later.now }
@@ -36,7 +36,7 @@ impl Change {
             (Change::OfWord(first), Change::OfWord(second)) if first.word == second.word => {
                 matches!(
                     (&first.former, &second.former),
-                    (Former::Intervals(_), Former::Intervals(_))
+                    (SavedValue::Intervals(_), SavedValue::Intervals(_))
                 )
             }
             _ => false,
@@ -44,27 +44,27 @@ impl Change {
     }
 }
 
-/// Takes back the changes past a count of them, the last one first.
-pub(crate) fn take_back(
+/// Undoes the changes from index `count` on, the last one first.
+pub(crate) fn restore(
     sets: &mut [WordSet],
-    pairs: &mut Vec<AtomPair>,
+    clauses: &mut Vec<BinaryClause>,
     trail: &mut Vec<Change>,
     count: usize,
 )
     requires sixteen { length sets.old ≡ 16 }
     requires within { count ≤ length trail.old.items }
-    ensures known { known_of sets.new pairs.new.items
-        ≡ restored (known_of sets.old pairs.old.items) (drop count trail.old.items) }
+    ensures known { known_of sets.new clauses.new.items
+        ≡ restored (known_of sets.old clauses.old.items) (drop count trail.old.items) }
     ensures trail { trail.new.items ≡ take count trail.old.items }
 {
     while trail.len() > count {
         if let Some(change) = trail.pop() {
-            change.take_back(sets, pairs);
+            change.restore(sets, clauses);
         }
     }
 }
 
-/// Whether the last change past a count of them covers one that follows.
+/// Whether the last change, if it stands at or behind index `count`, covers one that follows.
 fn is_covered(trail: &[Change], count: usize, change: &Change) -> bool
     ensures { IsTrue result → (rest : List Change) × (last : Change)
         × (trail.now ≡ rest ++ last ∷ []) × (count ≤ length rest) × Covers last change.now }
@@ -75,7 +75,7 @@ fn is_covered(trail: &[Change], count: usize, change: &Change) -> bool
     }
 }
 
-/// Makes room for a change, where a mark is open.
+/// Reserves room for one change, if a mark is open.
 pub(crate) fn make_room(trail: &mut Vec<Change>, marks: &[usize]) -> Result<(), Memory>
     ensures items { trail.new.items ≡ trail.old.items }
     ensures room { OnOk result (0 < length marks.now → vec_len trail.new < vec_capacity trail.new) }
@@ -86,7 +86,7 @@ pub(crate) fn make_room(trail: &mut Vec<Change>, marks: &[usize]) -> Result<(), 
     Ok(())
 }
 
-/// Puts a change on the trail, where a mark is open and the last change past it doesn't cover this one.
+/// Appends a change to the trail, if a mark is open and the last change behind it doesn't cover this one.
 pub(crate) fn note(trail: &mut Vec<Change>, marks: &[usize], change: Change) -> Result<(), Memory>
     requires { AreRising marks.now (length trail.old.items) }
     ensures room { (0 < length marks.now → vec_len trail.old < vec_capacity trail.old) → IsOk result }

@@ -1,4 +1,4 @@
-//! The laws of a store of facts about words.
+//! The laws of a store of facts.
 
 ghost use Rattle.std.specs.Prelude.{◌≡◌, ◌+◌, ◌<◌, ◌≤◌, ◌↔◌, ℕ, List, Bool, IsTrue, true, false};
 ghost use Rattle.std.specs.Prelude.{IsSome, IfSome, IfOk, OnOk, OnErr};
@@ -11,15 +11,15 @@ use crate::atom::{Atom, Tell};
 use scf_insn::Memory;
 use std::alloc::Global;
 
-/// What is known of the sixteen words of a call record: a set of lists of sixteen words, those that are allowed.
+/// What is known of the sixteen words of a call record: the set of lists of sixteen words that are still allowed.
 ///
-/// A mark is opened before something is tried, and undone to go back to what was known then. A level is the place of
-/// an open mark, 0 being the oldest, or the count of the open marks, which is the level of what is known now.
+/// A mark saves what is known, and `undo` returns to it. A level is the index of an open mark, 0 being the oldest; the
+/// count of open marks is the level of what is known now.
 ///
-/// Facts may be exact. Then it is always seen where no list is allowed, a list is found wherever one is, and what all
-/// allowed lists agree on is told.
+/// A store may be exact (complete) at a level. Then `is_empty` is true whenever no list is allowed, `pick` finds a list
+/// whenever one is, and `tell` knows every answer on which all allowed lists agree.
 pub trait WordFacts: Sized + Drop {
-    /// How many marks are open: the level of what is known now.
+    /// The count of open marks: the level of what is known now.
     ghost level: { Self → ℕ };
 
     /// The lists of words that are allowed at a level.
@@ -31,14 +31,14 @@ pub trait WordFacts: Sized + Drop {
     /// Whether facts that allow every list are exact.
     ghost starts_exact: { Bool };
 
-    /// Facts that allow every list of sixteen words, with no open mark.
+    /// A store that allows every list of sixteen words, with no open mark.
     fn all(alloc: Global) -> Result<Self, Memory>
         ensures unmarked { IfOk result (λ facts. level facts ≡ 0) }
         ensures law_all { IfOk result (λ facts. (words : List ℕ) → allows facts 0 words ↔ IsWords words) }
         ensures exact { IfOk result (λ facts. is_exact facts 0 ≡ starts_exact) };
 
-    /// Keeps of the allowed lists those that give the atom this answer. The marks stay as they are. Where memory is
-    /// refused, all lists stay.
+    /// Keeps the allowed lists that give the atom this answer. The marks don't change. If allocation fails, nothing
+    /// changes.
     fn learn(&mut self, atom: Atom, holds: bool) -> Result<(), Memory>
         requires word { word_of atom < 16 }
         ensures marks { level self.new ≡ level self.old }
@@ -51,21 +51,21 @@ pub trait WordFacts: Sized + Drop {
         ensures refused { OnErr result (
             IsSameLevel allows is_exact self.old (level self.old) self.new (level self.old)) };
 
-    /// Keeps of the allowed lists those of which not both atoms are true. The marks stay as they are. Where memory is
-    /// refused, all lists stay. Nothing is promised of exactness: a store that holds a pair isn't exact.
-    fn learn_not_both(&mut self, first: Atom, second: Atom) -> Result<(), Memory>
+    /// Keeps the allowed lists of which at most one of the atoms is true. The marks don't change. If allocation fails,
+    /// nothing changes. A store that has a clause need not be exact.
+    fn learn_clause(&mut self, first: Atom, second: Atom) -> Result<(), Memory>
         requires first_word { word_of first < 16 }
         requires second_word { word_of second < 16 }
         ensures marks { level self.new ≡ level self.old }
         ensures at_marks { (place : ℕ) → place < level self.old
             → IsSameLevel allows is_exact self.old place self.new place }
-        ensures law_not_both { OnOk result ((words : List ℕ) → allows self.new (level self.old) words
+        ensures law_clause { OnOk result ((words : List ℕ) → allows self.new (level self.old) words
             ↔ (allows self.old (level self.old) words
             × (atom_answer first words ≡ true → atom_answer second words ≡ false))) }
         ensures refused { OnErr result (
             IsSameLevel allows is_exact self.old (level self.old) self.new (level self.old)) };
 
-    /// Opens a mark at what is known now. Where memory is refused, none is opened.
+    /// Opens a mark at what is known now. If allocation fails, none is opened.
     fn mark(&mut self) -> Result<(), Memory>
         ensures opened { OnOk result (level self.new ≡ level self.old + 1) }
         ensures known { OnOk result (
@@ -74,18 +74,18 @@ pub trait WordFacts: Sized + Drop {
         ensures at_marks { (place : ℕ) → place ≤ level self.old
             → IsSameLevel allows is_exact self.old place self.new place };
 
-    /// Goes back to what was known at the newest open mark, and closes it. Older marks stay. It takes no memory.
+    /// Returns to what was known at the newest open mark, and closes it. Older marks stay. Never allocates.
     fn undo(&mut self)
         requires marked { 0 < level self.old }
         ensures closed { level self.new + 1 ≡ level self.old }
         ensures law_undo { (place : ℕ) → place < level self.old
             → IsSameLevel allows is_exact self.old place self.new place };
 
-    /// How many marks are open.
+    /// The count of open marks.
     fn open_marks(&self) -> usize
         ensures { result ≡ level self.now };
 
-    /// What the atom answers of every allowed list, where that is known.
+    /// The atom's answer for every allowed list, if it is known.
     fn tell(&self, atom: Atom) -> Tell
         requires word { word_of atom < 16 }
         ensures law_always { result ≡ Tell.Always
@@ -103,7 +103,7 @@ pub trait WordFacts: Sized + Drop {
             → ((words : List ℕ) → allows self.now (level self.now) words → atom_answer atom words ≡ false)
             → result ≡ Tell.Never };
 
-    /// Whether it is known that no list is allowed.
+    /// Whether no list is known to be allowed: true only if none is.
     fn is_empty(&self) -> bool
         ensures law_empty { IsTrue result → (words : List ℕ) → allows self.now (level self.now) words → ⊥ }
         ensures seen { IsTrue (is_exact self.now (level self.now))

@@ -17,18 +17,18 @@ use crate::free_number::{Searched, free_number, refutes};
 use crate::interval::Interval;
 use crate::intervals::{Intervals, lies_in_one};
 use crate::least::first_number;
-use crate::trail::Former;
+use crate::trail::SavedValue;
 use scf_insn::Memory;
 use std::alloc::Global;
 use std::marker::Model;
 use std::mem;
 
-/// How often a search for a number may choose one bit or the other.
+/// How many choices of a bit a search for a value may make.
 const MOST_TRIES: u32 = 256;
 
-/// The numbers that one word may be: those in the intervals that have the known bits and none of the refuted ones.
+/// The values that a word may have: those in the intervals with the known bits and none of the refuted ones.
 ///
-/// Bits under a mask of a single bit are never among the refuted ones: the bit's other value is known then.
+/// Refuted bits have at least two bits in their mask: refuting a single bit makes its other value known.
 #[derive(Drop)]
 pub(crate) struct WordSet {
     intervals: Intervals,
@@ -45,7 +45,7 @@ impl Model for WordSet {
 }
 
 impl WordSet {
-    /// Nothing is known.
+    /// Every value.
     pub(crate) fn new(alloc: Global) -> WordSet
         ensures { result ≡ no_facts }
     {
@@ -56,9 +56,14 @@ impl WordSet {
         }
     }
 
-    /// Keeps the numbers for which the atom has this answer, and says how the facts were before. Where memory is
-    /// refused, all of them stay.
-    pub(crate) fn learn(&mut self, alloc: Global, atom: Atom, holds: bool) -> Result<Former, Memory>
+    /// Keeps the values for which the atom has this answer, and returns what was known before. If allocation fails,
+    /// nothing changes.
+    pub(crate) fn learn(
+        &mut self,
+        alloc: Global,
+        atom: Atom,
+        holds: bool,
+    ) -> Result<SavedValue, Memory>
         ensures learned { OnOk result ((x : ℕ) → x < 2 ^ 32
             → AllowsNumber self.new x ↔ (AllowsNumber self.old x × (answer_at atom x ≡ holds))) }
         ensures before { IfOk result (λ former. facts_before former self.new ≡ self.old) }
@@ -74,33 +79,33 @@ impl WordSet {
         }
     }
 
-    /// Takes the last change back.
-    pub(crate) fn take_back(&mut self, former: Former)
+    /// Undoes the last change.
+    pub(crate) fn restore(&mut self, former: SavedValue)
         ensures { self.new ≡ facts_before former self.old }
     {
         match former {
-            Former::Same => {}
-            Former::Intervals(intervals) => self.intervals = intervals,
-            Former::Known(known) => self.known = known,
-            Former::Unrefuted => {
+            SavedValue::Same => {}
+            SavedValue::Intervals(intervals) => self.intervals = intervals,
+            SavedValue::Known(known) => self.known = known,
+            SavedValue::Unrefuted => {
                 self.refuted.pop();
             }
         }
     }
 
-    /// Keeps the numbers within a range.
-    fn keep_range(&mut self, alloc: Global, range: Interval) -> Result<Former, Memory>
+    /// Keeps the values within a range.
+    fn keep_range(&mut self, alloc: Global, range: Interval) -> Result<SavedValue, Memory>
         ensures kept { OnOk result ((x : ℕ) → AllowsNumber self.new x ↔ (AllowsNumber self.old x × LiesIn range x)) }
         ensures before { IfOk result (λ former. facts_before former self.new ≡ self.old) }
         ensures refused { OnErr result (self.new ≡ self.old) }
         ensures refuted { self.new.refuted ≡ self.old.refuted }
     {
         let kept = self.intervals.within(alloc, range)?;
-        Ok(Former::Intervals(mem::replace(&mut self.intervals, kept)))
+        Ok(SavedValue::Intervals(mem::replace(&mut self.intervals, kept)))
     }
 
-    /// Keeps the numbers outside a range.
-    fn drop_range(&mut self, alloc: Global, range: Interval) -> Result<Former, Memory>
+    /// Keeps the values outside a range.
+    fn drop_range(&mut self, alloc: Global, range: Interval) -> Result<SavedValue, Memory>
         requires { range.low ≤ range.high }
         ensures kept { OnOk result ((x : ℕ)
             → AllowsNumber self.new x ↔ (AllowsNumber self.old x × LiesOutside range x)) }
@@ -109,40 +114,40 @@ impl WordSet {
         ensures refuted { self.new.refuted ≡ self.old.refuted }
     {
         let kept = self.intervals.outside(alloc, range)?;
-        Ok(Former::Intervals(mem::replace(&mut self.intervals, kept)))
+        Ok(SavedValue::Intervals(mem::replace(&mut self.intervals, kept)))
     }
 
-    /// Keeps no number.
-    fn keep_none(&mut self, alloc: Global) -> Former
+    /// Keeps no value.
+    fn keep_none(&mut self, alloc: Global) -> SavedValue
         ensures kept { (x : ℕ) → AllowsNumber self.new x → ⊥ }
         ensures before { facts_before result self.new ≡ self.old }
         ensures refuted { self.new.refuted ≡ self.old.refuted }
     {
         let former = mem::replace(&mut self.intervals, Intervals::none(alloc));
-        Former::Intervals(former)
+        SavedValue::Intervals(former)
     }
 
-    /// Keeps the numbers that have the bits.
-    fn keep_bits(&mut self, alloc: Global, bits: Bits) -> Former
+    /// Keeps the values with the bits.
+    fn keep_bits(&mut self, alloc: Global, bits: Bits) -> SavedValue
         ensures kept { (x : ℕ) → AllowsNumber self.new x ↔ (AllowsNumber self.old x × HasBits bits x) }
         ensures before { facts_before result self.new ≡ self.old }
         ensures refuted { self.new.refuted ≡ self.old.refuted }
     {
         match self.known.join(bits) {
-            Some(known) => Former::Known(mem::replace(&mut self.known, known)),
+            Some(known) => SavedValue::Known(mem::replace(&mut self.known, known)),
             None => self.keep_none(alloc),
         }
     }
 
-    /// Keeps the numbers that don't have the bits.
-    fn drop_bits(&mut self, alloc: Global, bits: Bits) -> Result<Former, Memory>
+    /// Keeps the values without the bits.
+    fn drop_bits(&mut self, alloc: Global, bits: Bits) -> Result<SavedValue, Memory>
         ensures kept { OnOk result ((x : ℕ) → AllowsNumber self.new x ↔ (AllowsNumber self.old x × LacksBits bits x)) }
         ensures before { IfOk result (λ former. facts_before former self.new ≡ self.old) }
         ensures refused { OnErr result (self.new ≡ self.old) }
         ensures refuted { (bits.mask ≡ 0) ⊎ IsPowerOfTwo bits.mask → self.new.refuted ≡ self.old.refuted }
     {
         let Some(_) = self.known.join(bits) else {
-            return Ok(Former::Same);
+            return Ok(SavedValue::Same);
         };
         let open = bits.beyond(self.known);
         if open.mask == 0 {
@@ -152,10 +157,10 @@ impl WordSet {
             return Ok(self.keep_bits(alloc, open.flipped()));
         }
         self.refuted.push(bits)?;
-        Ok(Former::Unrefuted)
+        Ok(SavedValue::Unrefuted)
     }
 
-    /// What the atom answers of every number, where that is known.
+    /// The atom's answer for every value, if it is known.
     pub(crate) fn tell(&self, atom: Atom) -> Tell
         ensures always { result ≡ Tell.Always → EachNumber self.now (λ x. answer_at atom x ≡ true) }
         ensures never { result ≡ Tell.Never → EachNumber self.now (λ x. answer_at atom x ≡ false) }
@@ -175,7 +180,7 @@ impl WordSet {
         }
     }
 
-    /// Whether all numbers lie within a range, or none does.
+    /// Whether all values lie within a range, or none does, if either is known.
     fn lies_within(&self, range: Interval) -> Option<bool>
         ensures all { result ≡ Some true → EachNumber self.now (LiesIn range) }
         ensures none { result ≡ Some false → EachNumber self.now (λ x. LiesIn range x → ⊥) }
@@ -191,7 +196,7 @@ impl WordSet {
         }
     }
 
-    /// Whether all numbers have the bits, or none does.
+    /// Whether all values have the bits, or none does, if either is known.
     fn has_bits(&self, bits: Bits) -> Option<bool>
         ensures all { result ≡ Some true → EachNumber self.now (HasBits bits) }
         ensures none { result ≡ Some false → EachNumber self.now (LacksBits bits) }
@@ -210,7 +215,7 @@ impl WordSet {
         }
     }
 
-    /// Whether no number lacks the bits, as far as that is known.
+    /// Whether every value is known to have the bits.
     #[tactic(auto, using(std::proofs::lemmas::Bool::cases_eq))]
     fn has_none_without(&self, bits: Bits) -> bool
         requires within { bit_and bits.value bits.mask ≡ bits.value }
@@ -227,7 +232,7 @@ impl WordSet {
         true
     }
 
-    /// Whether no number lies in the range and has the bits, as far as that is known.
+    /// Whether it is known that no value lies in the range and has the bits.
     fn has_none(&self, range: Interval, bits: Bits) -> bool
         ensures none { IsTrue result → EachNumber self.now (λ x. LiesIn range x → LacksBits bits x) }
         ensures some { result ≡ false → (x : ℕ) × LiesInOne self.now.intervals x × LiesIn range x × HasBits bits x }
@@ -236,7 +241,7 @@ impl WordSet {
             || first_number(self.intervals.as_slice(), range, bits).is_none()
     }
 
-    /// Whether no number has these bits beside the known ones.
+    /// Whether no value has these bits beside the known ones.
     fn has_none_with(&self, bits: Bits) -> bool
         ensures none { IsTrue result → EachNumber self.now (LacksBits bits) }
         ensures some { result ≡ false → IsTrue (is_exact_set self.now) → SomeNumber self.now (HasBits bits) }
@@ -247,7 +252,7 @@ impl WordSet {
         }
     }
 
-    /// Whether no number lies outside the range.
+    /// Whether no value lies outside the range.
     fn has_none_outside(&self, range: Interval) -> bool
         ensures all { IsTrue result → EachNumber self.now (LiesIn range) }
         ensures some { result ≡ false → IsTrue (is_exact_set self.now) → SomeNumber self.now (LiesOutside range) }
@@ -257,7 +262,7 @@ impl WordSet {
         self.has_none_in(below) && self.has_none_in(above)
     }
 
-    /// Whether no number lies in the part, if there is one.
+    /// Whether no value lies in the interval, if there is one.
     fn has_none_in(&self, part: Option<Interval>) -> bool
         ensures none { IsTrue result → IfSome part (λ range. EachNumber self.now (λ x. LiesIn range x → ⊥)) }
         ensures some { result ≡ false → IsTrue (is_exact_set self.now)
@@ -266,7 +271,7 @@ impl WordSet {
         part.is_none_or(|range| self.has_none(range, self.known))
     }
 
-    /// Whether it is known that there is no number.
+    /// Whether the word is known to have no value.
     pub(crate) fn is_empty(&self) -> bool
         ensures empty { IsTrue result → EachNumber self.now (λ _. ⊥) }
         ensures some { IsTrue (is_exact_set self.now) → result ≡ false
@@ -275,7 +280,7 @@ impl WordSet {
         self.has_none(Interval::ALL, self.known) || matches!(self.free_number(), Searched::Nothing)
     }
 
-    /// Whether this is one of the numbers.
+    /// Whether the word may have this value.
     fn allows(&self, x: u32) -> bool
         ensures { IsTrue result ↔ AllowsNumber self.now x }
     {
@@ -284,7 +289,7 @@ impl WordSet {
             && lies_in_one(self.intervals.as_slice(), x)
     }
 
-    /// One of the numbers, if one is found: the least one, where no bits were refuted.
+    /// A possible value, if one is found; the least one, if no bits are refuted.
     pub(crate) fn pick(&self) -> Option<u32>
         ensures allowed { IfSome result (λ x. AllowsNumber self.now x) }
         ensures found { IsTrue (is_exact_set self.now)
@@ -306,7 +311,7 @@ impl WordSet {
         }
     }
 
-    /// One of the numbers of which the atom is false, if one is found: the first one beside what the atom asks for.
+    /// A possible value for which the atom is false, if one is found.
     pub(crate) fn pick_without(&self, atom: Atom) -> Option<u32>
         ensures allowed { IfSome result (λ x. AllowsNumber self.now x) }
         ensures refuted { IfSome result (λ x. answer_at atom x ≡ false) }
@@ -319,14 +324,14 @@ impl WordSet {
         (self.allows(number) && !atom.answer(number)).then_some(number)
     }
 
-    /// The first number in the range that has the bits, whatever is refuted.
+    /// The first value in the range with the bits, refuted or not.
     fn first_in(&self, range: Interval, bits: Bits) -> Option<u32>
         ensures { IfSome result (λ x. LiesInOne self.now.intervals x × LiesIn range x × HasBits bits x) }
     {
         first_number(self.intervals.as_slice(), range, bits)
     }
 
-    /// The first number outside the range, whatever is refuted.
+    /// The first value outside the range, refuted or not.
     fn first_outside(&self, range: Interval) -> Option<u32>
         ensures { IfSome result (λ x. LiesInOne self.now.intervals x × LiesOutside range x) }
     {
@@ -338,7 +343,7 @@ impl WordSet {
         self.first_in(Interval::ALL.part_above(range.high)?, self.known)
     }
 
-    /// The first number that lacks one of the bits, the lowest for which there is one, whatever is refuted.
+    /// The first value that lacks the lowest of the bits that some value lacks, refuted or not.
     fn first_without(&self, bits: Bits) -> Option<u32>
         ensures { IfSome result (λ x. LiesInOne self.now.intervals x × HasBits self.now.known x) }
     {
@@ -354,7 +359,7 @@ impl WordSet {
         None
     }
 
-    /// An end of an interval that is one of the numbers.
+    /// A possible value at an end of an interval.
     fn pick_end(&self) -> Option<u32>
         ensures allowed { IfSome result (λ x. AllowsNumber self.now x) }
         ensures none { IfNone result (All (λ interval. (AllowsNumber self.now interval.low → ⊥)
@@ -371,7 +376,7 @@ impl WordSet {
         None
     }
 
-    /// The known value, or the known value with one bit more, that is one of the numbers.
+    /// A possible value among the known bits' value and that value with one further bit.
     fn pick_by_bits(&self) -> Option<u32>
         ensures allowed { IfSome result (λ x. AllowsNumber self.now x) }
         ensures none { IfNone result (AllowsNumber self.now self.now.known.value → ⊥) }
@@ -390,7 +395,7 @@ impl WordSet {
         None
     }
 
-    /// Looks for one of the numbers, bit by bit.
+    /// Searches a possible value bit by bit.
     fn free_number(&self) -> Searched
         ensures found { (x : ℕ) → result ≡ Searched.Found x → AllowsNumber self.now x }
         ensures nothing { result ≡ Searched.Nothing → EachNumber self.now (λ _. ⊥) }

@@ -1,4 +1,4 @@
-//! Facts as a set of numbers for each word, and pairs of atoms.
+//! A store that keeps a set of values for each word, and clauses.
 
 ghost use Rattle.std.specs.Prelude.{◌≡◌, length, true};
 ghost use Rattle.scf_facts.specs.internal.Counts.{AreRising};
@@ -6,34 +6,34 @@ ghost use Rattle.scf_facts.specs.internal.Trail.{known_at};
 ghost use Rattle.scf_facts.specs.internal.WordSets.{AllowsList, is_exact_known, known_of};
 
 use crate::atom::{Atom, Tell};
-use crate::atom_pair::AtomPair;
-use crate::by_pair::{all_agree, is_known_empty, part_pairs, tell_known};
+use crate::binary_clause::BinaryClause;
+use crate::by_clause::{all_agree, is_known_empty, satisfy_clauses, tell_known};
 use crate::by_word::pick_by_word;
 use crate::trail::{Change, WordChange};
-use crate::undo::{make_room, note, take_back};
+use crate::undo::{make_room, note, restore};
 use crate::word_facts::WordFacts;
 use crate::word_set::WordSet;
 use scf_insn::Memory;
 use std::alloc::Global;
 
-/// For each word the numbers that it may be: sorted intervals, known bits, and refuted bits under masks. Beside them
-/// pairs of atoms that aren't both true.
+/// For each word its possible values, as sorted intervals, known bits and refuted bits under masks; beside them binary
+/// clauses.
 ///
-/// What is learned ends in intervals or known bits, save an `Eq` that fails under a mask of several bits, and a pair.
-/// Where there is none of these, the facts are exact. Beside them it tells of what was learned itself, of an `Eq` under
-/// known bits, and of an atom in a pair whose other atom is told to be true. It picks the least number, an end of an
-/// interval, the known value or that with one bit more; where each of these is refuted, a number is looked for bit by
-/// bit, until one is found, there is none, or no try is left. Where both atoms of a pair are true of the words, another
-/// number of one of its words is tried.
+/// Everything learned becomes intervals or known bits, except an `Eq` that is false under a mask of several bits, and a
+/// clause. Without these two the store is exact. With them, `tell` still knows what was itself learned, an `Eq` under
+/// known bits, and an atom in a clause whose other atom is known to be true. `pick` tries the least value, the ends of
+/// the intervals, the known value and that value with one further bit; if all are refuted, it searches bit by bit until
+/// a value is found, there is none, or the tries run out. If both atoms of a clause are true of the picked words,
+/// another value of one of its words is tried.
 ///
-/// Where a mark is open, a trail has what was changed, in order, and a mark how long it was then. What learns makes
-/// room in it first, so that nothing has changed where memory is refused. Of changes of one word's intervals in a row
-/// it has the first alone, which brings back what they were before all of them.
+/// While a mark is open, a trail records each change, and a mark is the trail's length at that time. `learn` reserves
+/// room in it first, so that a failed allocation changes nothing. Of consecutive changes of one word's intervals only
+/// the first is recorded: undoing it restores what was known before all of them.
 #[derive(Drop)]
 pub struct WordSets {
     alloc: Global,
     sets: Vec<WordSet>,
-    pairs: Vec<AtomPair>,
+    clauses: Vec<BinaryClause>,
     trail: Vec<Change>,
     marks: Vec<usize>,
     ghost sixteen: { length sets.items ≡ 16 },
@@ -44,11 +44,11 @@ impl WordFacts for WordSets {
     ghost level = { λ facts. length facts.marks.items };
 
     ghost allows = { λ facts level. AllowsList
-        (known_at (known_of facts.sets.items facts.pairs.items) facts.trail.items facts.marks.items level) };
+        (known_at (known_of facts.sets.items facts.clauses.items) facts.trail.items facts.marks.items level) };
 
     // Where a pair is held, they aren't exact.
     ghost is_exact = { λ facts level. is_exact_known
-        (known_at (known_of facts.sets.items facts.pairs.items) facts.trail.items facts.marks.items level) };
+        (known_at (known_of facts.sets.items facts.clauses.items) facts.trail.items facts.marks.items level) };
 
     ghost starts_exact = { true };
 
@@ -60,7 +60,7 @@ impl WordFacts for WordSets {
         Ok(WordSets {
             alloc,
             sets,
-            pairs: Vec::new(alloc),
+            clauses: Vec::new(alloc),
             trail: Vec::new(alloc),
             marks: Vec::new(alloc),
         })
@@ -76,10 +76,10 @@ impl WordFacts for WordSets {
         Ok(())
     }
 
-    fn learn_not_both(&mut self, first: Atom, second: Atom) -> Result<(), Memory> {
-        let pair = AtomPair { first, second };
+    fn learn_clause(&mut self, first: Atom, second: Atom) -> Result<(), Memory> {
+        let clause = BinaryClause { first, second };
         make_room(&mut self.trail, &self.marks)?;
-        self.pairs.push(pair)?;
+        self.clauses.push(clause)?;
         note(&mut self.trail, &self.marks, Change::Refuted)?;
         Ok(())
     }
@@ -93,7 +93,7 @@ impl WordFacts for WordSets {
 
     fn undo(&mut self) {
         if let Some(count) = self.marks.pop() {
-            take_back(&mut self.sets, &mut self.pairs, &mut self.trail, count);
+            restore(&mut self.sets, &mut self.clauses, &mut self.trail, count);
         }
     }
 
@@ -102,17 +102,17 @@ impl WordFacts for WordSets {
     }
 
     fn tell(&self, atom: Atom) -> Tell {
-        tell_known(&self.sets, &self.pairs, atom)
+        tell_known(&self.sets, &self.clauses, atom)
     }
 
     #[tactic(auto, using(crate::proofs::TrailLaws::known_now))]
     fn is_empty(&self) -> bool {
-        is_known_empty(&self.sets, &self.pairs)
+        is_known_empty(&self.sets, &self.clauses)
     }
 
     fn pick(&self) -> Option<[u32; 16]> {
         let mut words = pick_by_word(&self.sets)?;
-        part_pairs(&self.sets, &self.pairs, &mut words);
-        all_agree(&self.pairs, &words).then_some(words)
+        satisfy_clauses(&self.sets, &self.clauses, &mut words);
+        all_agree(&self.clauses, &words).then_some(words)
     }
 }

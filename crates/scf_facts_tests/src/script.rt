@@ -94,7 +94,7 @@ fn is_taken<F: WordFacts>(facts: &mut F, step: Step) -> bool {
     match step {
         Step::Learn(atom, holds) => atom.word() < 16 && facts.learn(atom, holds).is_ok(),
         Step::NotBoth(first, second) => {
-            first.word() < 16 && second.word() < 16 && facts.learn_not_both(first, second).is_ok()
+            first.word() < 16 && second.word() < 16 && facts.learn_clause(first, second).is_ok()
         }
         Step::Mark => facts.mark().is_ok(),
         Step::Undo => goes_back(facts),

@@ -98,7 +98,7 @@ fn lessons_after_mark() -> &'static [Lesson] {
 struct Names {
     all: &'static str,
     learn: &'static str,
-    learn_not_both: &'static str,
+    learn_clause: &'static str,
     mark: &'static str,
     undo: &'static str,
 }
@@ -107,7 +107,7 @@ fn names_of_list() -> Names {
     Names {
         all: "AtomList::all",
         learn: "AtomList::learn",
-        learn_not_both: "AtomList::learn_not_both",
+        learn_clause: "AtomList::learn_clause",
         mark: "AtomList::mark",
         undo: "AtomList::undo",
     }
@@ -117,7 +117,7 @@ fn names_of_sets() -> Names {
     Names {
         all: "WordSets::all",
         learn: "WordSets::learn",
-        learn_not_both: "WordSets::learn_not_both",
+        learn_clause: "WordSets::learn_clause",
         mark: "WordSets::mark",
         undo: "WordSets::undo",
     }
@@ -182,7 +182,7 @@ impl Lesson {
         match self {
             Lesson::Answer(atom, holds) if atom.word() < 16 => facts.learn(atom, holds),
             Lesson::NotBoth(first, second) if first.word() < 16 && second.word() < 16 => {
-                facts.learn_not_both(first, second)
+                facts.learn_clause(first, second)
             }
             Lesson::Mark => facts.mark(),
             _ => Err(Memory),
@@ -193,7 +193,7 @@ impl Lesson {
     fn call(self, names: &Names) -> &'static str {
         match self {
             Lesson::Answer(..) => names.learn,
-            Lesson::NotBoth(..) => names.learn_not_both,
+            Lesson::NotBoth(..) => names.learn_clause,
             Lesson::Mark => names.mark,
         }
     }

@@ -5,8 +5,8 @@ use Rattle.scf_facts.specs.Atoms.{atom_answer, word_of}
 use Rattle.scf_facts.specs.Exactness.{KeepsExact}
 use Rattle.scf_compare.specs.declared.asking.Atoms.{Atoms}
 use Rattle.scf_compare.specs.declared.asking.Atoms.TheVariants.{One, Both}
-use Rattle.scf_compare.specs.declared.asking.Left.{Left}
-use Rattle.scf_compare.specs.declared.asking.Left.TheVariants.{Told, Still}
+use Rattle.scf_compare.specs.declared.asking.Remaining.{Remaining}
+use Rattle.scf_compare.specs.declared.asking.Remaining.TheVariants.{Known, Unknown}
 
 -- atoms ask of some of the sixteen words
 abbrev pub AsksOfWords : Atoms → Type 0
@@ -32,11 +32,11 @@ IsAtomOf atom (One one) = atom ≡ one
 IsAtomOf atom (Both first second) = (atom ≡ first) ⊎ (atom ≡ second)
 
 -- over the words what is left has the answer of the atoms
-abbrev pub IsLeftOf : Left → Atoms → List ℕ → Type 0
-IsLeftOf (Told answer) atoms words = atoms_answer atoms words ≡ answer
-IsLeftOf (Still left) atoms words = atoms_answer atoms words ≡ atoms_answer left words
+abbrev pub IsRemainingOf : Remaining → Atoms → List ℕ → Type 0
+IsRemainingOf (Known answer) atoms words = atoms_answer atoms words ≡ answer
+IsRemainingOf (Unknown remaining) atoms words = atoms_answer atoms words ≡ atoms_answer remaining words
 
 -- something is said of the atoms that are left, if there are any
-abbrev pub IfStill : Left → (Atoms → Type 0) → Type 0
-IfStill (Told answer) is = Unit {0}
-IfStill (Still atoms) is = is atoms
+abbrev pub IfUnknown : Remaining → (Atoms → Type 0) → Type 0
+IfUnknown (Known answer) is = Unit {0}
+IfUnknown (Unknown atoms) is = is atoms

@@ -9,8 +9,8 @@ use Rattle.scf_profile.specs.Condition.{holds}
 use Rattle.scf_profile.specs.NumberTests.{test_of, tree_answer}
 use Rattle.scf_compare.specs.declared.question.ConditionPart.{ConditionPart}
 use Rattle.scf_compare.specs.declared.question.ConditionPart.TheVariants.{High, Above, Low}
-use Rattle.scf_compare.specs.declared.question.Way.{Way}
-use Rattle.scf_compare.specs.declared.question.Way.TheVariants.{Holds, Fails, Then}
+use Rattle.scf_compare.specs.declared.question.Successor.{Successor}
+use Rattle.scf_compare.specs.declared.question.Successor.TheVariants.{Holds, Fails, Then}
 use Rattle.scf_compare.specs.declared.question.Question.{Question}
 
 -- a number's halves are two words, the low one first
@@ -40,32 +40,32 @@ abbrev pub IsAtPart : Condition → ConditionPart → ℕ → Type 0
 IsAtPart c part n = IsAtTest (test_of c).0 part n
 
 -- what is known of a number on a way on
-abbrev pub IsOnTestWay : NumberTest → Way → ℕ → Type 0
-IsOnTestWay test Holds n = tree_answer test n ≡ true
-IsOnTestWay test Fails n = tree_answer test n ≡ false
-IsOnTestWay test (Then part) n = IsAtTest test part n
+abbrev pub TestLeadsTo : NumberTest → Successor → ℕ → Type 0
+TestLeadsTo test Holds n = tree_answer test n ≡ true
+TestLeadsTo test Fails n = tree_answer test n ≡ false
+TestLeadsTo test (Then part) n = IsAtTest test part n
 
-abbrev pub IsOnWay : Condition → Way → ℕ → Type 0
-IsOnWay c Holds n = holds c n ≡ true
-IsOnWay c Fails n = holds c n ≡ false
-IsOnWay c (Then part) n = IsAtPart c part n
+abbrev pub ConditionLeadsTo : Condition → Successor → ℕ → Type 0
+ConditionLeadsTo c Holds n = holds c n ≡ true
+ConditionLeadsTo c Fails n = holds c n ≡ false
+ConditionLeadsTo c (Then part) n = IsAtPart c part n
 
 -- the way of the opposite
-abbrev pub opposite_way : Way → Way
-opposite_way Holds = Fails
-opposite_way Fails = Holds
-opposite_way (Then part) = Then part
+abbrev pub opposite_successor : Successor → Successor
+opposite_successor Holds = Fails
+opposite_successor Fails = Holds
+opposite_successor (Then part) = Then part
 
 -- the ways on from an atom, over the words of a call with this number
 abbrev pub SplitsTest : NumberTest → Question → List ℕ → ℕ → Type 0
 SplitsTest test question words n =
-    (atom_answer question.atom words ≡ true → IsOnTestWay test question.if_true n)
-    × (atom_answer question.atom words ≡ false → IsOnTestWay test question.if_false n)
+    (atom_answer question.atom words ≡ true → TestLeadsTo test question.if_true n)
+    × (atom_answer question.atom words ≡ false → TestLeadsTo test question.if_false n)
 
 abbrev pub Splits : Condition → Question → List ℕ → ℕ → Type 0
 Splits c question words n =
-    (atom_answer question.atom words ≡ true → IsOnWay c question.if_true n)
-    × (atom_answer question.atom words ≡ false → IsOnWay c question.if_false n)
+    (atom_answer question.atom words ≡ true → ConditionLeadsTo c question.if_true n)
+    × (atom_answer question.atom words ≡ false → ConditionLeadsTo c question.if_false n)
 
 -- the size of the tree from a part on, where those behind a condition that holds and one that fails have sizes
 abbrev pub part_size : ConditionPart → ℕ → ℕ → ℕ
@@ -73,10 +73,10 @@ part_size High holds fails = 3 + 2 * holds + 2 * fails
 part_size Above holds fails = 1 + holds + fails
 part_size Low holds fails = 1 + holds + fails
 
-abbrev pub way_size : Way → ℕ → ℕ → ℕ
-way_size Holds holds fails = holds
-way_size Fails holds fails = fails
-way_size (Then part) holds fails = part_size part holds fails
+abbrev pub successor_size : Successor → ℕ → ℕ → ℕ
+successor_size Holds holds fails = holds
+successor_size Fails holds fails = fails
+successor_size (Then part) holds fails = part_size part holds fails
 
 -- over the words of a call the ways on from a part's question
 abbrev pub SplitsAt : Condition → ConditionPart → Question → Type 0
@@ -88,4 +88,4 @@ SplitsAt c part question =
 abbrev pub CostsAt : ConditionPart → Question → Type 0
 CostsAt part question =
     (holds fails : ℕ)
-    → way_size question.if_true holds fails + way_size question.if_false holds fails + 1 ≤ part_size part holds fails
+    → successor_size question.if_true holds fails + successor_size question.if_false holds fails + 1 ≤ part_size part holds fails

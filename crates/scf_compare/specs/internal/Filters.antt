@@ -6,20 +6,20 @@ use Rattle.scf_insn.specs.declared.operation.Operation.{Operation}
 use Rattle.scf_machine.specs.Machine.{State, start, IsChain, RunAnswers}
 use Rattle.scf_machine.specs.Plain.{IsPlainProgram}
 use Rattle.scf_machine.specs.Rules.{Stands}
-use Rattle.scf_compare.specs.declared.comparison.FilterEnd.{FilterEnd}
+use Rattle.scf_compare.specs.declared.comparison.FilterLeaf.{FilterLeaf}
 use Rattle.scf_compare.specs.declared.filter.FilterNode.{FilterNode}
 use Rattle.scf_compare.specs.declared.filter.FilterNode.TheVariants.{At, Stopped}
-use Rattle.scf_compare.specs.declared.flow.Flow.{Flow}
-use Rattle.scf_compare.specs.declared.flow.Flow.TheVariants.{DivideByIndex, ReturnConstant, ReturnAccumulator}
+use Rattle.scf_compare.specs.declared.control_flow.ControlFlow.{ControlFlow}
+use Rattle.scf_compare.specs.declared.control_flow.ControlFlow.TheVariants.{DivideByIndex, ReturnConstant, ReturnAccumulator}
 use Rattle.scf_compare.specs.declared.registers.Registers.{Registers}
-use Rattle.scf_compare.specs.declared.turn.Turn.{Turn}
-use Rattle.scf_compare.specs.declared.turn.Turn.TheVariants.{Go, Split}
+use Rattle.scf_compare.specs.declared.step.Step.{Step}
+use Rattle.scf_compare.specs.declared.step.Step.TheVariants.{Next, Branch}
 use Rattle.scf_compare.specs.declared.value.Decision.{Decision}
 use Rattle.scf_compare.specs.declared.value.Decision.TheVariants.{Known as Decided, Asks, Open}
 use Rattle.scf_compare.specs.Paths.{tree_size}
-use Rattle.scf_compare.specs.internal.Flow.{flow_at}
-use Rattle.scf_compare.specs.internal.Ends.{filter_endings}
-use Rattle.scf_compare.specs.internal.Trees.{Endings, Tree}
+use Rattle.scf_compare.specs.internal.ControlFlow.{control_flow_at}
+use Rattle.scf_compare.specs.internal.Leaves.{filter_leaves}
+use Rattle.scf_compare.specs.internal.Trees.{Leaves, Tree}
 use Rattle.scf_compare.specs.internal.Values.{AreValues, IsPlainValue, Describes}
 
 -- The run over the words comes to a place with registers that the values stand for.
@@ -32,18 +32,18 @@ pub record ComesTo (insns : List Insn) (place : ℕ) (registers : Registers) (wo
 
 -- What is known of the answer where a run ends by how its instruction goes on: the constant of a return; 0 of a
 -- division by 0; and whatever is known of the accumulator.
-abbrev pub EndsWith : Flow → Insn → Option Answer → Type 0
+abbrev pub EndsWith : ControlFlow → Insn → Option Answer → Type 0
 EndsWith ReturnConstant i answer = answer ≡ Some (record { 0 = i.k })
 EndsWith ReturnAccumulator i answer = Unit {0}
 EndsWith (DivideByIndex next) i answer = answer ≡ Some (record { 0 = 0 })
 EndsWith _ i answer = ⊥
 
 -- An end of a filter, at the place where a run of it ends: only what is in the accumulator isn't known there.
-pub record IsFilterEnd (insns : List Insn) (end : FilterEnd) : Type 0 where
+pub record IsFilterEnd (insns : List Insn) (leaf : FilterLeaf) : Type 0 where
   pub insn : Insn
   pub operation : Operation
-  pub stands : Stands insns end.at insn operation
-  pub ends : EndsWith (flow_at operation insn end.at) insn end.answer
+  pub stands : Stands insns leaf.at insn operation
+  pub ends : EndsWith (control_flow_at operation insn leaf.at) insn leaf.answer
 
 abbrev pub filter_is_node : List Insn → Registers → FilterNode → Type 0
 filter_is_node insns registers (At place) = (place < length insns) × AreValues registers
@@ -71,12 +71,12 @@ filter_tree insns registers = record {
   is_plain = filter_is_plain insns registers;
 }
 
-abbrev pub endings_of_filter : List Insn → Endings FilterEnd
-endings_of_filter insns = filter_endings (IsFilterEnd insns) (RunAnswers insns)
+abbrev pub leaves_of_filter : List Insn → Leaves FilterLeaf
+leaves_of_filter insns = filter_leaves (IsFilterEnd insns) (RunAnswers insns)
 
 -- the ways on from a test
-abbrev pub IsTurnOf : Decision → FilterNode → FilterNode → Turn FilterNode FilterEnd → Type 0
-IsTurnOf (Decided outcome) if_true if_false turn = turn ≡ Go (if outcome then if_true else if_false)
-IsTurnOf (Asks atoms holds) if_true if_false turn =
-    turn ≡ (if holds then Split (Some atoms) if_true if_false else Split (Some atoms) if_false if_true)
-IsTurnOf Open if_true if_false turn = turn ≡ Split None if_true if_false
+abbrev pub IsStepOf : Decision → FilterNode → FilterNode → Step FilterNode FilterLeaf → Type 0
+IsStepOf (Decided outcome) if_true if_false step = step ≡ Next (if outcome then if_true else if_false)
+IsStepOf (Asks atoms holds) if_true if_false step =
+    step ≡ (if holds then Branch (Some atoms) if_true if_false else Branch (Some atoms) if_false if_true)
+IsStepOf Open if_true if_false step = step ≡ Branch None if_true if_false

@@ -2,7 +2,7 @@
 use Rattle.std.specs.Prelude.{◌≡◌, ◌≤◌, ◌⊎◌, ℕ, List, Bool, IsTrue, Option, Some, None, length, slice_get, sum_by}
 use Rattle.scf_facts.specs.declared.word_facts.WordFacts.{Ghosts as Store}
 use Rattle.scf_compare.specs.declared.asking.Atoms.{Atoms}
-use Rattle.scf_compare.specs.declared.frontier.Branch.{Branch}
+use Rattle.scf_compare.specs.declared.frontier.OpenBranch.{OpenBranch}
 use Rattle.scf_compare.specs.declared.frontier.Frontier.{Frontier}
 use Rattle.scf_compare.specs.internal.Asking.{AsksOfWords, atoms_answer, StaysExact}
 use Rattle.scf_compare.specs.internal.Trees.{Tree}
@@ -23,7 +23,7 @@ LearnsExactly None = Unit {0}
 LearnsExactly (Some learned) = StaysExact learned.0 learned.1
 
 -- A branch stands at a node of the tree, and what is learned on the way in is about some of the sixteen words.
-pub record IsBranch {K N : Type 0} (tree : K → Tree N) (branch : Branch K N) : Type 0 where
+pub record IsOpenBranch {K N : Type 0} (tree : K → Tree N) (branch : OpenBranch K N) : Type 0 where
   pub node : (tree branch.known).is_node branch.node
   pub asks : LearnsOfWords branch.learned
 
@@ -36,7 +36,7 @@ module _ {F K N : Type 0} (store : Store F) (tree : K → Tree N) where
   -- come to its node.
   pub record IsInBranch (frontier : Frontier F K N) (words : List ℕ) : Type 0 where
     pub place : ℕ
-    pub branch : Branch K N
+    pub branch : OpenBranch K N
     pub stands : slice_get frontier.branches.items place ≡ Some branch
     pub allowed : store.allows frontier.facts place words
     pub given : GivesLearned branch.learned words
@@ -51,14 +51,14 @@ module _ {F K N : Type 0} (store : Store F) (tree : K → Tree N) where
   -- scope.
   pub record IsFrontier (scope : List ℕ → Type 0) (frontier : Frontier F K N) : Type 0 where
     pub marks : store.level frontier.facts ≡ length frontier.branches.items
-    pub branches : (place : ℕ) (branch : Branch K N) → slice_get frontier.branches.items place ≡ Some branch
-        → IsBranch tree branch
+    pub branches : (place : ℕ) (branch : OpenBranch K N) → slice_get frontier.branches.items place ≡ Some branch
+        → IsOpenBranch tree branch
     pub within : (level : ℕ) → level ≤ length frontier.branches.items
         → (words : List ℕ) → store.allows frontier.facts level words → scope words
 
   -- An open branch has exact facts at its mark, which stay so with what is learned on the way in, and its node is
   -- plain: all that is allowed there and gives what is learned comes to it.
-  pub record IsExactBranch (frontier : Frontier F K N) (place : ℕ) (branch : Branch K N) : Type 0 where
+  pub record IsExactBranch (frontier : Frontier F K N) (place : ℕ) (branch : OpenBranch K N) : Type 0 where
     pub facts : IsTrue (store.is_exact frontier.facts place)
     pub keeps : LearnsExactly branch.learned
     pub plain : (tree branch.known).is_plain branch.node
@@ -68,7 +68,7 @@ module _ {F K N : Type 0} (store : Store F) (tree : K → Tree N) where
   -- each open branch is so
   abbrev pub AreExact : Frontier F K N → Type 0
   AreExact frontier =
-      (place : ℕ) (branch : Branch K N) → slice_get frontier.branches.items place ≡ Some branch
+      (place : ℕ) (branch : OpenBranch K N) → slice_get frontier.branches.items place ≡ Some branch
       → IsExactBranch frontier place branch
 
   -- So is each open branch, the facts are exact now, what comes is plain, and all that is allowed now comes on from

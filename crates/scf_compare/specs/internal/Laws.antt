@@ -96,4 +96,4 @@ pub pair_counts : (filters : List (List Insn)) (s : NumberedProfile) (registers 
 pair_counts filters s registers (AtFilter node) =
     scaled_counts (stack_size filters node) (8 + numbers_size s.numbers) (stack_node_counts filters registers node)
     (omega arith)
-pair_counts filters s registers (AtProfile end node) = profile_node_counts s node
+pair_counts filters s registers (AtProfile leaf node) = profile_node_counts s node

@@ -19,7 +19,7 @@ use Rattle.scf_compare.specs.declared.question.ConditionPart.{ConditionPart}
 use Rattle.scf_compare.specs.internal.Conditions.{IsAtPart, part_size}
 use Rattle.scf_compare.specs.Effort.{conditions_size, rules_size}
 use Rattle.scf_compare.specs.internal.NumberedProfiles.{NumberedProfile}
-use Rattle.scf_compare.specs.internal.Trees.{Endings, Tree}
+use Rattle.scf_compare.specs.internal.Trees.{Leaves, Tree}
 
 -- the rules of the number at a place
 abbrev pub own_rules : List NumberRules → ℕ → List Rule
@@ -102,9 +102,9 @@ profile_tree s = record {
 }
 
 -- the answer is known at each end
-abbrev pub endings_of_profile : Profile → Endings Answer
-endings_of_profile p = record {
-  is_end = λ _. ⊤;
+abbrev pub leaves_of_profile : Profile → Leaves Answer
+leaves_of_profile p = record {
+  is_leaf = λ _. ⊤;
   tells = λ answer words. ProfileAnswers p (call_of words) answer.0;
   tells_all = λ _. ⊤;
 }

@@ -4,32 +4,32 @@ use Rattle.scf_insn.specs.declared.insn.Insn.{Insn}
 use Rattle.scf_insn.specs.Kernel.{seccomp_ret_allow}
 use Rattle.scf_machine.specs.Plain.{IsPlainProgram}
 use Rattle.scf_machine.specs.Precedence.{StackAnswers}
-use Rattle.scf_compare.specs.declared.comparison.FilterEnd.{FilterEnd}
+use Rattle.scf_compare.specs.declared.comparison.FilterLeaf.{FilterLeaf}
 use Rattle.scf_compare.specs.declared.registers.Registers.{Registers}
 use Rattle.scf_compare.specs.declared.stack.StackNode.{StackNode}
 use Rattle.scf_compare.specs.declared.stack.StackNode.TheVariants.{Empty, At}
 use Rattle.scf_compare.specs.Effort.{stack_paths}
-use Rattle.scf_compare.specs.internal.Ends.{FilterTells, KnowsAnswer, filter_endings}
+use Rattle.scf_compare.specs.internal.Leaves.{FilterTells, KnowsAnswer, filter_leaves}
 use Rattle.scf_compare.specs.internal.Filters.{IsFilterEnd, filter_is_node, filter_reaches, filter_size, filter_is_plain}
-use Rattle.scf_compare.specs.internal.Trees.{Endings, Tree}
+use Rattle.scf_compare.specs.internal.Trees.{Leaves, Tree}
 
 -- the filter at a place of a stack
 abbrev pub filter_at : List (List Insn) → ℕ → List Insn
 filter_at filters place = slice_index_or filters place []
 
 -- An end of one of the filters, or of none, which allow.
-abbrev pub IsStackEnd : List (List Insn) → FilterEnd → Type 0
-IsStackEnd [] end = end ≡ record { answer = Some (record { 0 = seccomp_ret_allow }); at = 0 }
-IsStackEnd (filter ∷ filters) end = (one : List Insn) × Contains (filter ∷ filters) one × IsFilterEnd one end
+abbrev pub IsStackLeaf : List (List Insn) → FilterLeaf → Type 0
+IsStackLeaf [] leaf = leaf ≡ record { answer = Some (record { 0 = seccomp_ret_allow }); at = 0 }
+IsStackLeaf (filter ∷ filters) leaf = (one : List Insn) × Contains (filter ∷ filters) one × IsFilterEnd one leaf
 
 -- what the filters before a place decide, from the second one on
-abbrev pub IsOlder : List (List Insn) → ℕ → Option FilterEnd → Type 0
+abbrev pub IsOlder : List (List Insn) → ℕ → Option FilterLeaf → Type 0
 IsOlder filters place None = place ≡ 0
-IsOlder filters place (Some end) = IsStackEnd filters end
+IsOlder filters place (Some leaf) = IsStackLeaf filters leaf
 
 -- what is known of what they decide is so
-abbrev pub OlderTells : List (List Insn) → ℕ → Option FilterEnd → List ℕ → Type 0
-OlderTells filters place older words = IfSome older (λ end. FilterTells (StackAnswers (take place filters)) end words)
+abbrev pub OlderTells : List (List Insn) → ℕ → Option FilterLeaf → List ℕ → Type 0
+OlderTells filters place older words = IfSome older (λ leaf. FilterTells (StackAnswers (take place filters)) leaf words)
 
 abbrev pub stack_is_node : List (List Insn) → Registers → StackNode → Type 0
 stack_is_node filters registers Empty = filters ≡ []
@@ -62,5 +62,5 @@ stack_tree filters registers = record {
   is_plain = stack_is_plain filters registers;
 }
 
-abbrev pub endings_of_stack : List (List Insn) → Endings FilterEnd
-endings_of_stack filters = filter_endings (IsStackEnd filters) (StackAnswers filters)
+abbrev pub leaves_of_stack : List (List Insn) → Leaves FilterLeaf
+leaves_of_stack filters = filter_leaves (IsStackLeaf filters) (StackAnswers filters)

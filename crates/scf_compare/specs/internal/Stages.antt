@@ -1,18 +1,18 @@
 -- From one stage of an exploration to the next.
 use Rattle.std.specs.Prelude.{◌≡◌, ◌+◌, ◌<◌, ◌≤◌, ◌⊎◌, ℕ, List, Option, Some, None}
 use Rattle.scf_facts.specs.declared.word_facts.WordFacts.{Ghosts as Store}
-use Rattle.scf_compare.specs.declared.comparison.BothEnds.{BothEnds}
+use Rattle.scf_compare.specs.declared.comparison.PairLeaf.{PairLeaf}
 use Rattle.scf_compare.specs.declared.explore.Stage.{Stage}
 use Rattle.scf_compare.specs.declared.explore.Stage.TheVariants.{At, AllSeen, Found}
 use Rattle.scf_compare.specs.declared.frontier.Frontier.{Frontier}
-use Rattle.scf_compare.specs.declared.turn.Turn.{Turn}
+use Rattle.scf_compare.specs.declared.step.Step.{Step}
 use Rattle.scf_compare.specs.declared.verdict.Verdict.{Verdict}
 use Rattle.scf_compare.specs.declared.verdict.Verdict.TheVariants.{Same, Undecided}
 use Rattle.scf_compare.specs.Verdicts.{IsWithin, IsDecided, IsStepCount}
 use Rattle.scf_compare.specs.internal.Compared.{Compared, AllRelated, IsTrueVerdict}
-use Rattle.scf_compare.specs.internal.Ends.{Tells, KnowsBoth, WereSeen, WereAllSeen}
+use Rattle.scf_compare.specs.internal.Leaves.{Tells, KnowsBoth, WereSeen, WereAllSeen}
 use Rattle.scf_compare.specs.internal.Frontier.{IsInBranch, IsAhead, IsFrontier, AreExact, IsExact, open_size}
-use Rattle.scf_compare.specs.internal.Trees.{Tree, GoesOn, StaysPlain, turn_size}
+use Rattle.scf_compare.specs.internal.Trees.{Tree, GoesOn, StaysPlain, step_size}
 
 -- A verdict that was found is true, is neither Same nor Unfinished, and decides.
 pub record IsFound (compared : Compared) (verdict : Verdict) : Type 0 where
@@ -31,13 +31,13 @@ verdict_of_all steps None = Same steps
 module _ {F K N : Type 0} (store : Store F) (compared : Compared) (tree : K → Tree N) (old new : Frontier F K N) where
   -- A turn at one frontier leads to a node at another: no words are lost, no steps are added, and what exact facts
   -- decide they still decide.
-  pub record LeadsTo (here : Tree N) (turn : Turn N BothEnds) (next : N) : Type 0 where
+  pub record LeadsTo (here : Tree N) (step : Step N PairLeaf) (next : N) : Type 0 where
     pub frontier : IsFrontier store tree compared.in_scope new
     pub node : here.is_node next
-    pub words : (words : List ℕ) → IsAhead store tree old (GoesOn here (Tells compared) turn) words
+    pub words : (words : List ℕ) → IsAhead store tree old (GoesOn here (Tells compared) step) words
         → IsAhead store tree new (here.reaches next) words
-    pub size : open_size tree new + here.size next ≤ open_size tree old + turn_size here turn
-    pub exact : IsExact store tree old (StaysPlain here KnowsBoth turn) (GoesOn here (Tells compared) turn)
+    pub size : open_size tree new + here.size next ≤ open_size tree old + step_size here step
+    pub exact : IsExact store tree old (StaysPlain here KnowsBoth step) (GoesOn here (Tells compared) step)
         → IsExact store tree new (here.is_plain next) (here.reaches next)
 
   -- The newest branch was taken, and the exploration is at its node: the words of all branches are still ahead.

@@ -1,8 +1,8 @@
 -- Trees of questions about the words of a call record.
 use Rattle.std.specs.Prelude.{◌≡◌, ◌+◌, ◌≤◌, ◌⊎◌, ℕ, List, Option, None, Some, true, false}
 use Rattle.scf_compare.specs.declared.asking.Atoms.{Atoms}
-use Rattle.scf_compare.specs.declared.turn.Turn.{Turn}
-use Rattle.scf_compare.specs.declared.turn.Turn.TheVariants.{Go, Split, End}
+use Rattle.scf_compare.specs.declared.step.Step.{Step}
+use Rattle.scf_compare.specs.declared.step.Step.TheVariants.{Next, Branch, Leaf}
 use Rattle.scf_compare.specs.internal.Asking.{AsksOfWords, atoms_answer, KeepsEither}
 
 -- A tree by its nodes: which there are, which words come to one, how many steps it takes to see all from one on, and
@@ -30,48 +30,48 @@ KeepsAsked None = ⊥
 KeepsAsked (Some atoms) = KeepsEither atoms
 
 -- A turn leads to nodes of the tree, and asks of some of the sixteen words.
-abbrev pub IsProper : {N E : Type 0} → Tree N → (E → Type 0) → Turn N E → Type 0
-IsProper tree is_end (Go next) = tree.is_node next
-IsProper tree is_end (Split asked if_true if_false) = IsAsked asked × tree.is_node if_true × tree.is_node if_false
-IsProper tree is_end (End end) = is_end end
+abbrev pub IsProper : {N E : Type 0} → Tree N → (E → Type 0) → Step N E → Type 0
+IsProper tree is_leaf (Next next) = tree.is_node next
+IsProper tree is_leaf (Branch asked if_true if_false) = IsAsked asked × tree.is_node if_true × tree.is_node if_false
+IsProper tree is_leaf (Leaf leaf) = is_leaf leaf
 
 -- The words go on from a turn, and what an end tells is true of them.
-abbrev pub GoesOn : {N E : Type 0} → Tree N → (E → List ℕ → Type 0) → Turn N E → List ℕ → Type 0
-GoesOn tree tells (Go next) words = tree.reaches next words
-GoesOn tree tells (Split asked if_true if_false) words =
+abbrev pub GoesOn : {N E : Type 0} → Tree N → (E → List ℕ → Type 0) → Step N E → List ℕ → Type 0
+GoesOn tree tells (Next next) words = tree.reaches next words
+GoesOn tree tells (Branch asked if_true if_false) words =
     GoesEither asked words (tree.reaches if_true words) (tree.reaches if_false words)
-GoesOn tree tells (End end) words = tells end words
+GoesOn tree tells (Leaf leaf) words = tells leaf words
 
 -- how many steps it takes to see all behind a turn
-abbrev pub turn_size : {N E : Type 0} → Tree N → Turn N E → ℕ
-turn_size tree (Go next) = tree.size next
-turn_size tree (Split asked if_true if_false) = tree.size if_true + tree.size if_false
-turn_size tree (End end) = 0
+abbrev pub step_size : {N E : Type 0} → Tree N → Step N E → ℕ
+step_size tree (Next next) = tree.size next
+step_size tree (Branch asked if_true if_false) = tree.size if_true + tree.size if_false
+step_size tree (Leaf leaf) = 0
 
 -- One step, and then what is seen behind the turn, are within a size.
-abbrev pub Costs : {N E : Type 0} → Tree N → Turn N E → ℕ → Type 0
-Costs tree turn size = turn_size tree turn + 1 ≤ size
+abbrev pub Costs : {N E : Type 0} → Tree N → Step N E → ℕ → Type 0
+Costs tree step size = step_size tree step + 1 ≤ size
 
 -- The turn of a plain node: atoms decide, and exact facts stay exact with their answer; the next nodes are plain, and
 -- an end tells all.
-abbrev pub StaysPlain : {N E : Type 0} → Tree N → (E → Type 0) → Turn N E → Type 0
-StaysPlain tree tells_all (Go next) = tree.is_plain next
-StaysPlain tree tells_all (Split asked if_true if_false) =
+abbrev pub StaysPlain : {N E : Type 0} → Tree N → (E → Type 0) → Step N E → Type 0
+StaysPlain tree tells_all (Next next) = tree.is_plain next
+StaysPlain tree tells_all (Branch asked if_true if_false) =
     KeepsAsked asked × tree.is_plain if_true × tree.is_plain if_false
-StaysPlain tree tells_all (End end) = tells_all end
+StaysPlain tree tells_all (Leaf leaf) = tells_all leaf
 
 -- Which ends a tree has, what one tells of the words that come to it, and which tell all that is asked.
-pub record Endings (E : Type 0) : Type 1 where
-  pub is_end : E → Type 0
+pub record Leaves (E : Type 0) : Type 1 where
+  pub is_leaf : E → Type 0
   pub tells : E → List ℕ → Type 0
   pub tells_all : E → Type 0
 
 -- A turn at a node, for what is known here, and the tree for what is known there, where the turn goes on: it leads to
 -- nodes, given words that come to the node go on, one step and what is behind the turn are within the node's size, and
 -- from a plain node all stays plain.
-pub record IsTurn {N E : Type 0} (endings : Endings E) (given : List ℕ → Type 0) (here : Tree N) (node : N)
-    (there : Tree N) (turn : Turn N E) : Type 0 where
-  pub proper : IsProper there endings.is_end turn
-  pub leads : (words : List ℕ) → given words → here.reaches node words → GoesOn there endings.tells turn words
-  pub costs : Costs there turn (here.size node)
-  pub plain : here.is_plain node → StaysPlain there endings.tells_all turn
+pub record IsStep {N E : Type 0} (leaves : Leaves E) (given : List ℕ → Type 0) (here : Tree N) (node : N)
+    (there : Tree N) (step : Step N E) : Type 0 where
+  pub proper : IsProper there leaves.is_leaf step
+  pub leads : (words : List ℕ) → given words → here.reaches node words → GoesOn there leaves.tells step words
+  pub costs : Costs there step (here.size node)
+  pub plain : here.is_plain node → StaysPlain there leaves.tells_all step

@@ -3,34 +3,34 @@ use Rattle.std.specs.Prelude.{◌≡◌, ◌<◌, ◌↔◌, ◌^◌, ℕ, List,
 use Rattle.scf_insn.specs.Kernel.{bpf_memwords}
 use Rattle.scf_machine.specs.Machine.{State, word_at}
 use Rattle.scf_compare.specs.declared.value.Value.{Value}
-use Rattle.scf_compare.specs.declared.value.Value.TheVariants.{Known, OfWord, Offset, ZeroWhere, Unknown}
+use Rattle.scf_compare.specs.declared.value.Value.TheVariants.{Known, Slice, AffineTerm, ZeroTest, Unknown}
 use Rattle.scf_compare.specs.declared.value.Decision.{Decision}
 use Rattle.scf_compare.specs.declared.value.Decision.TheVariants.{Known as Decided, Asks, Open}
 use Rattle.scf_compare.specs.declared.registers.Registers.{Registers}
 use Rattle.scf_compare.specs.declared.conjunction.Conjunction.{Conjunction}
 use Rattle.scf_compare.specs.internal.Asking.{AsksOfWords, atoms_answer, KeepsEither}
 use Rattle.scf_compare.specs.internal.Conjunctions.{IsConjunction, ConjunctionHolds}
-use Rattle.scf_compare.specs.internal.Images.{IsImage, IsWhole, image_number}
-use Rattle.scf_compare.specs.internal.Offsets.{offset_number}
+use Rattle.scf_compare.specs.internal.BitSlices.{IsBitSlice, IsWhole, bit_slice_value}
+use Rattle.scf_compare.specs.internal.AffineTerms.{affine_value}
 
 -- a value is of some of the sixteen words
 abbrev pub IsValue : Value → Type 0
 IsValue (Known value) = Unit {0}
-IsValue (OfWord image) = IsImage image
-IsValue (Offset offset) = IsImage offset.image
-IsValue (ZeroWhere conjunction) = IsConjunction conjunction
+IsValue (Slice bit_slice) = IsBitSlice bit_slice
+IsValue (AffineTerm affine_term) = IsBitSlice affine_term.bit_slice
+IsValue (ZeroTest conjunction) = IsConjunction conjunction
 IsValue Unknown = Unit {0}
 
 -- a number is 0 where a conjunction holds, and nowhere else
-abbrev pub IsZeroWhere : Conjunction → List ℕ → ℕ → Type 0
-IsZeroWhere conjunction words x = (x ≡ 0) ↔ ConjunctionHolds conjunction words
+abbrev pub IsZeroTest : Conjunction → List ℕ → ℕ → Type 0
+IsZeroTest conjunction words x = (x ≡ 0) ↔ ConjunctionHolds conjunction words
 
 -- over the words a value stands for a number
 abbrev pub StandsFor : Value → List ℕ → ℕ → Type 0
 StandsFor (Known value) words x = x ≡ value
-StandsFor (OfWord image) words x = x ≡ image_number image words
-StandsFor (Offset offset) words x = x ≡ offset_number offset words
-StandsFor (ZeroWhere conjunction) words x = (x < 2 ^ 32) × IsZeroWhere conjunction words x
+StandsFor (Slice bit_slice) words x = x ≡ bit_slice_value bit_slice words
+StandsFor (AffineTerm affine_term) words x = x ≡ affine_value affine_term words
+StandsFor (ZeroTest conjunction) words x = (x < 2 ^ 32) × IsZeroTest conjunction words x
 StandsFor Unknown words x = Unit {0}
 
 -- a decision asks of some of the sixteen words
@@ -48,9 +48,9 @@ Decides Open words test = Unit {0}
 -- a known number, or a whole word of the record
 abbrev pub IsPlainValue : Value → Type 0
 IsPlainValue (Known value) = Unit {0}
-IsPlainValue (OfWord image) = IsWhole image
-IsPlainValue (Offset offset) = ⊥
-IsPlainValue (ZeroWhere conjunction) = ⊥
+IsPlainValue (Slice bit_slice) = IsWhole bit_slice
+IsPlainValue (AffineTerm affine_term) = ⊥
+IsPlainValue (ZeroTest conjunction) = ⊥
 IsPlainValue Unknown = ⊥
 
 -- a decision that isn't left open, and that keeps exact facts exact

@@ -2,7 +2,7 @@
 use Rattle.std.specs.Prelude.{◌≡◌, ℕ, List, All, length, take}
 use Rattle.scf_insn.specs.Words.{IsWords}
 use Rattle.scf_facts.specs.declared.fact.Fact.{Fact}
-use Rattle.scf_facts.specs.declared.fact.Fact.TheVariants.{Answer, NotBoth}
+use Rattle.scf_facts.specs.declared.fact.Fact.TheVariants.{Answer, Clause}
 use Rattle.scf_facts.specs.Atoms.{atom_answer}
 use Rattle.scf_facts.specs.internal.AtomPairs.{NotBothTrue}
 use Rattle.scf_facts.specs.internal.Counts.{count_at}
@@ -10,7 +10,7 @@ use Rattle.scf_facts.specs.internal.Counts.{count_at}
 -- a fact holds of the words: the atom has the answer, or not both atoms are true
 abbrev pub IsFactOfWords : Fact → List ℕ → Type 0
 IsFactOfWords (Answer known) words = atom_answer known.atom words ≡ known.holds
-IsFactOfWords (NotBoth pair) words = NotBothTrue pair.first pair.second words
+IsFactOfWords (Clause clause) words = NotBothTrue clause.first clause.second words
 
 -- each fact that was learned holds of the words
 abbrev pub AllHold : List Fact → List ℕ → Type 0

@@ -2,13 +2,13 @@
 use Rattle.std.specs.Prelude.{◌≡◌, ◌-◌, ℕ, List, [], ◌∷◌, length, take, drop, slice_set, slice_index_or}
 use Rattle.scf_facts.specs.declared.trail.Change.{Change}
 use Rattle.scf_facts.specs.declared.trail.Change.TheVariants.{OfWord, Refuted}
-use Rattle.scf_facts.specs.declared.trail.Former.{Former}
-use Rattle.scf_facts.specs.declared.trail.Former.TheVariants.{Same, Intervals, Known, Unrefuted}
+use Rattle.scf_facts.specs.declared.trail.SavedValue.{SavedValue}
+use Rattle.scf_facts.specs.declared.trail.SavedValue.TheVariants.{Same, Intervals, Known, Unrefuted}
 use Rattle.scf_facts.specs.internal.Counts.{count_at}
 use Rattle.scf_facts.specs.internal.WordSets.{NumberFacts, AllFacts, no_facts}
 
 -- what was known of a word before a change of its facts
-abbrev pub facts_before : Former → NumberFacts → NumberFacts
+abbrev pub facts_before : SavedValue → NumberFacts → NumberFacts
 facts_before Same facts = facts
 facts_before (Intervals intervals) facts = record facts { intervals = intervals }
 facts_before (Known known) facts = record facts { known = known }
@@ -20,7 +20,7 @@ known_before (OfWord change) known = record known {
   sets = slice_set known.sets change.word
       (facts_before change.former (slice_index_or known.sets change.word no_facts));
 }
-known_before Refuted known = record known { pairs = take (length known.pairs - 1) known.pairs }
+known_before Refuted known = record known { clauses = take (length known.clauses - 1) known.clauses }
 
 -- what was known before some changes, of which the first is the oldest
 abbrev pub restored : AllFacts → List Change → AllFacts

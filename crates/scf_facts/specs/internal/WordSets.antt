@@ -2,7 +2,7 @@
 use Rattle.std.specs.Prelude.{◌==◌, ◌&&◌, ◌<◌, ◌^◌, ℕ, List, [], Bool, All, length, slice_index, slice_index_or}
 use Rattle.std.specs.List.{list_all}
 use Rattle.scf_insn.specs.Words.{IsWords}
-use Rattle.scf_facts.specs.declared.atom_pair.AtomPair.{AtomPair}
+use Rattle.scf_facts.specs.declared.binary_clause.BinaryClause.{BinaryClause}
 use Rattle.scf_facts.specs.declared.bits.Bits.{Bits}
 use Rattle.scf_facts.specs.declared.interval.Interval.{Interval}
 use Rattle.scf_facts.specs.internal.AtomPairs.{NotBothTrue}
@@ -46,16 +46,16 @@ pub record AllowsWords (sets : List NumberFacts) (words : List ℕ) : Type 0 whe
 -- what is known: the facts of each word, and pairs of atoms that aren't both true
 pub record AllFacts : Type 0 where
   pub sets : List NumberFacts
-  pub pairs : List AtomPair
+  pub clauses : List BinaryClause
 
-abbrev pub known_of : List NumberFacts → List AtomPair → AllFacts
-known_of sets pairs = record { sets = sets; pairs = pairs }
+abbrev pub known_of : List NumberFacts → List BinaryClause → AllFacts
+known_of sets clauses = record { sets = sets; clauses = clauses }
 
 -- the lists of words that are allowed, where of no pair both atoms are true
 abbrev pub AllowsList : AllFacts → List ℕ → Type 0
 AllowsList known words =
-    AllowsWords known.sets words × All (λ pair. NotBothTrue pair.first pair.second words) known.pairs
+    AllowsWords known.sets words × All (λ clause. NotBothTrue clause.first clause.second words) known.clauses
 
 -- what is known is in intervals and known bits: there is no pair
 abbrev pub is_exact_known : AllFacts → Bool
-is_exact_known known = list_all is_exact_set known.sets && (length known.pairs == 0)
+is_exact_known known = list_all is_exact_set known.sets && (length known.clauses == 0)

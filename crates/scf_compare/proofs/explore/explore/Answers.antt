@@ -19,12 +19,12 @@ all_seen compared old new words ahead first seen now = elim seen [
 ]
 
 -- so the verdict is true, all was seen, and it decides where nothing is left open
-of_all : (compared : Compared) (steps limit effort : ℕ) (left_open : Option ℕ) → IfSome left_open compared.is_place
-    → ((words : List ℕ) → compared.in_scope words → WereSeen compared left_open words)
+of_all : (compared : Compared) (steps limit effort : ℕ) (first_undecided : Option ℕ) → IfSome first_undecided compared.is_place
+    → ((words : List ℕ) → compared.in_scope words → WereSeen compared first_undecided words)
     → (0 < limit) × (steps ≤ limit) × (steps ≤ effort)
-    → let verdict = verdict_of_all steps left_open in
+    → let verdict = verdict_of_all steps first_undecided in
     IsTrueVerdict compared verdict × WereAllSeen compared verdict × IsWithin limit effort verdict
-    × (left_open ≡ None → IsDecided (AllRelated compared) limit effort verdict)
+    × (first_undecided ≡ None → IsDecided (AllRelated compared) limit effort verdict)
 of_all compared steps limit effort None place seen bounds =
     let all : AllRelated compared = λ words within.
     elim (seen words within) [ inl related ↦ related | inr open_end ↦ absurd (let none = open_end.0 in cc) ] in
@@ -32,8 +32,8 @@ of_all compared steps limit effort None place seen bounds =
 of_all compared steps limit effort (Some at) place seen bounds = (place, seen, bounds.0, λ e. absurd (cc))
 
 -- as many steps as were taken, which is one or more
-counts_all : (steps limit : ℕ) (left_open : Option ℕ) → 0 < steps
-    → IsStepCount limit (verdict_of_all steps left_open) steps
+counts_all : (steps limit : ℕ) (first_undecided : Option ℕ) → 0 < steps
+    → IsStepCount limit (verdict_of_all steps first_undecided) steps
 counts_all steps limit None some = refl
 counts_all steps limit (Some at) some = some
 
@@ -46,7 +46,7 @@ returns-in-AllSeen g c =
     let counts = g.met.C.Comparison.counts c.args.comparison.now c.loop-steps.known c.loop-steps.node in
     let all =
     of_all compared (c.loop-steps.steps + 1) c.args.limit
-    ((tree c.args.start).size c.args.root) c.advance.new.left_open after.place
+    ((tree c.args.start).size c.args.root) c.advance.new.first_undecided after.place
     (λ words within. all_seen _ _ _ words _ after.first (c.loop-steps.invariant.words words within) (seen words))
     (omega arith, omega arith, omega (arith, c.loop-steps.invariant.size, counts)) in
     rw c.seen_in.ensures (record {
@@ -55,7 +55,7 @@ returns-in-AllSeen g c =
       taken = record {
         within_limit = omega arith;
         within_effort = omega (arith, c.loop-steps.invariant.size, counts);
-        of_verdict = counts_all (c.loop-steps.steps + 1) c.args.limit c.advance.new.left_open (omega arith);
+        of_verdict = counts_all (c.loop-steps.steps + 1) c.args.limit c.advance.new.first_undecided (omega arith);
       };
       seen = all.1;
       decided = λ exact plain.
@@ -89,7 +89,7 @@ loop-steps-preserved g c =
       place = after.place;
       words = λ words within.
           elim (c.loop-steps.invariant.words words within) [
-            | inl before ↦ inl (still_seen compared c.loop-steps.left_open _ words after.first before)
+            | inl before ↦ inl (still_seen compared c.loop-steps.first_undecided _ words after.first before)
             | inr ahead ↦ over.words words ahead
           ];
       size = omega (arith, c.loop-steps.invariant.size, over.size);

@@ -11,10 +11,10 @@ invariant-loop-steps g l =
     record {
       frontier : IsFrontier store tree compared.in_scope l.frontier;
       node : here.is_node l.node;
-      place : IfSome l.left_open compared.is_place;
+      place : IfSome l.first_undecided compared.is_place;
       words : (words : List ℕ) → compared.in_scope words
-          → WereSeen compared l.left_open words ⊎ IsAhead store tree l.frontier (here.reaches l.node) words;
+          → WereSeen compared l.first_undecided words ⊎ IsAhead store tree l.frontier (here.reaches l.node) words;
       size : l.steps + (open_size tree l.frontier + here.size l.node) ≤ whole.size l.fn.root;
       exact : IsTrue (store.is_exact l.fn.facts 0) → whole.is_plain l.fn.root
-          → (l.left_open ≡ None) × IsExact store tree l.frontier (here.is_plain l.node) (here.reaches l.node);
+          → (l.first_undecided ≡ None) × IsExact store tree l.frontier (here.is_plain l.node) (here.reaches l.node);
     }

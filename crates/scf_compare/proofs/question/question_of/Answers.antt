@@ -1,6 +1,6 @@
 use Rattle.scf_compare.proofs.Common.{arith}
-use Rattle.scf_compare.proofs.Halves.{halves_of, on_way, on_opposite, opposite_size}
-use Rattle.scf_compare.specs.declared.question.Way.TheVariants.{Then}
+use Rattle.scf_compare.proofs.Halves.{halves_of, leads_to, on_opposite, opposite_size}
+use Rattle.scf_compare.specs.declared.question.Successor.TheVariants.{Then}
 use Rattle.scf_profile.proofs.NumberTests.{plain_of}
 use Rattle.scf_compare.proofs.question.question_of.Goals as goal
 
@@ -10,7 +10,7 @@ returns-then-expected-clause-splits c = λ words w at_part.
     let splits = rw c.test-test.ensures at c.ask_test-asked.ensures.splits in
     let ways = splits words _ w (halves_of words condition.index w) at_part in
     let met = rw c.test-test.ensures at c.if-expected.true in
-    (λ y. on_way condition _ words w met (ways.0 y), λ f. on_way condition _ words w met (ways.1 f))
+    (λ y. leads_to condition _ words w met (ways.0 y), λ f. leads_to condition _ words w met (ways.1 f))
 
 pub returns-else-expected-clause-splits : goal.returns-else-expected-clause-splits
 returns-else-expected-clause-splits c = λ words w at_part.

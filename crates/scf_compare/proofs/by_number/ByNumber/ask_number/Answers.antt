@@ -7,23 +7,23 @@ use Rattle.scf_compare.proofs.by_number.ByNumber.ask_number.Goals as goal
 pub returns-then-from-numbers : goal.returns-then-from-numbers
 returns-then-from-numbers g c =
     let s = c.args.self.now in
-    let from = c.told_from-from.result in
+    let from = c.first_possible-from.result in
     let past : length s.numbers ≤ from =
     omega (arith, ap length c.numbers-numbers.ensures.numbers, c.if-from-numbers.true) in
     record {
       proper = tt;
       leads = λ words given r. rw (c.default_answer-default_answer.ensures, c.profile.ensures)
           (of_no_number s (call_of words) c.numbers-numbers.ensures.numbered r.0
-          (rw (take_all from s.numbers past) at (c.told_from-from.ensures.told words given.0 given.1 r.1)));
+          (rw (take_all from s.numbers past) at (c.first_possible-from.ensures.told words given.0 given.1 r.1)));
       costs = omega arith;
       plain = λ plain. tt;
     }
 
-pub returns-then-is_told_below : goal.returns-then-is_told_below
-returns-then-is_told_below g c =
+pub returns-then-is_known_below : goal.returns-then-is_known_below
+returns-then-is_known_below g c =
     let s = c.args.self.now in
     let numbered = c.numbers-numbers.ensures.numbered in
-    let from = c.told_from-from.result in
+    let from = c.first_possible-from.result in
     let own = c.index-numbers-from.result in
     let here = read_at _ s.numbers from own c.numbers-numbers.ensures.numbers c.if-from-numbers.false
     c.index-numbers-from.is in
@@ -32,8 +32,8 @@ returns-then-is_told_below g c =
       leads = λ words given r. rw (c.default_answer-default_answer.ensures, c.profile.ensures)
           (of_no_number s (call_of words) numbered r.0
           (from_above s.numbers s.profile.rules numbered.numbers (call_of words) from own here
-          (c.told_from-from.ensures.told words given.0 given.1 r.1)
-          (c.if-is_told_below.ensures refl words given.0 given.1)));
+          (c.first_possible-from.ensures.told words given.0 given.1 r.1)
+          (c.if-is_known_below.ensures refl words given.0 given.1)));
       costs = omega arith;
       plain = λ plain. tt;
     }
@@ -41,7 +41,7 @@ returns-then-is_told_below g c =
 pub returns : goal.returns
 returns g c =
     let s = c.args.self.now in
-    let from = c.told_from-from.result in
+    let from = c.first_possible-from.result in
     let own = c.index-numbers-from.result in
     let here = read_at _ s.numbers from own c.numbers-numbers.ensures.numbers c.if-from-numbers.false
     c.index-numbers-from.is in
@@ -56,11 +56,11 @@ returns g c =
         λ e. (
           r.0,
           all_more (λ o. (call_of words).nr ≢ o.number) s.numbers from own here
-              (c.told_from-from.ensures.told words given.0 given.1 r.1) (word_isnt words 0 own.number given.0 e),
+              (c.first_possible-from.ensures.told words given.0 given.1 r.1) (word_isnt words 0 own.number given.0 e),
         ),
       );
       costs =
-          let size = sizes_from s.numbers c.args.place from own c.told_from-from.ensures.later here in
+          let size = sizes_from s.numbers c.args.place from own c.first_possible-from.ensures.later here in
           omega (arith, c.next_rule.ensures.size, size);
       plain = search rules;
     }

@@ -5,15 +5,15 @@ use Rattle.scf_compare.proofs.Numbered.{conditions_read, no_rule}
 use Rattle.scf_compare.proofs.by_number.ByNumber.follow.Goals as goal
 
 pub returns-in-Holds-clause-reached : goal.returns-in-Holds-clause-reached
-returns-in-Holds-clause-reached c = λ words condition here at. rw c.in-Holds.is (λ way.
+returns-in-Holds-clause-reached c = λ words condition here at. rw c.in-Holds.is (λ successor.
     let conditions = own_conditions c.args.self.now.numbers c.args.at in
     c.next_condition.ensures.reached words (record {
       at_rule = at.at_rule;
-      held = rw add-one (held_more (call_of words) conditions c.args.at.condition condition here at.held way);
+      held = rw add-one (held_more (call_of words) conditions c.args.at.condition condition here at.held successor);
     }))
 
 pub returns-in-Fails-clause-reached : goal.returns-in-Fails-clause-reached
-returns-in-Fails-clause-reached c = λ words condition here at. rw c.in-Fails.is (λ way.
+returns-in-Fails-clause-reached c = λ words condition here at. rw c.in-Fails.is (λ successor.
     let call = call_of words in
     let numbers = c.args.self.now.numbers in
     let rules = own_rules numbers c.args.at.number in
@@ -21,7 +21,7 @@ returns-in-Fails-clause-reached c = λ words condition here at. rw c.in-Fails.is
     let stands = slice_get-get_or rules c.args.at.rule no_rule c.requires.stands.rule in
     let fails =
     rw (conditions_read numbers c.args.at rule stands)
-    at (fails_by call (own_conditions numbers c.args.at) c.args.at.condition condition here way) in
+    at (fails_by call (own_conditions numbers c.args.at) c.args.at.condition condition here successor) in
     c.next_rule.ensures.reached words (record {
       native = at.at_rule.native;
       own = at.at_rule.own;

@@ -1,23 +1,23 @@
 use Rattle.scf_compare.proofs.Common.{arith, rules}
 use Rattle.scf_compare.proofs.pair.Pair.ask_profile.Goals as goal
 
-pub returns-in-Go : goal.returns-in-Go
-returns-in-Go g c = λ registers. let turn = rw c.in-Go.is at c.turn.ensures in record {
-  proper = (c.requires.end, turn.proper);
-  leads = λ words given on. (on.0, on.1, turn.leads words (on.0, given) on.2);
-  costs = turn.costs;
-  plain = λ plain. (plain.0, turn.plain plain.1);
+pub returns-in-Next : goal.returns-in-Next
+returns-in-Next g c = λ registers. let step = rw c.in-Next.is at c.step.ensures in record {
+  proper = (c.requires.leaf, step.proper);
+  leads = λ words given on. (on.0, on.1, step.leads words (on.0, given) on.2);
+  costs = step.costs;
+  plain = λ plain. (plain.0, step.plain plain.1);
 }
 
-pub returns-in-Split : goal.returns-in-Split
-returns-in-Split g c = λ registers.
-    let turn = rw c.in-Split.is at c.turn.ensures in
-    grind (arith, turn.leads)
+pub returns-in-Branch : goal.returns-in-Branch
+returns-in-Branch g c = λ registers.
+    let step = rw c.in-Branch.is at c.step.ensures in
+    grind (arith, step.leads)
 
-pub returns-in-End : goal.returns-in-End
-returns-in-End g c = λ registers. let turn = rw c.in-End.is at c.turn.ensures in record {
+pub returns-in-Leaf : goal.returns-in-Leaf
+returns-in-Leaf g c = λ registers. let step = rw c.in-Leaf.is at c.step.ensures in record {
   proper = search rules;
-  leads = λ words given on. (on.1, turn.leads words (on.0, given) on.2);
-  costs = turn.costs;
+  leads = λ words given on. (on.1, step.leads words (on.0, given) on.2);
+  costs = step.costs;
   plain = λ plain. plain.0;
 }

@@ -1,6 +1,6 @@
 -- What an instruction that goes on does to what is known.
 use Rattle.scf_compare.proofs.Common.{◌≡◌, ℕ, Bool, true, false, Option, None, Some, refl, subst, arith, Register, State, Fault, Goes, unless, loads, sets, word_below, Describes}
-use Rattle.scf_compare.proofs.Images.{of_whole_word}
+use Rattle.scf_compare.proofs.BitSlices.{of_whole_word}
 use Rattle.scf_compare.proofs.registers.Registers.apply.Goals as goal
 
 pub returns-in-LoadWord-clause-describes : goal.returns-in-LoadWord-clause-describes

@@ -1,16 +1,16 @@
 use Rattle.scf_compare.proofs.value.Value.decide_with.Goals as goal
 
-pub returns-in-OfWord-clause-plain : goal.returns-in-OfWord-clause-plain
-returns-in-OfWord-clause-plain c = rw c.in-OfWord.is c.decide_image.ensures.plain
+pub returns-in-Slice-clause-plain : goal.returns-in-Slice-clause-plain
+returns-in-Slice-clause-plain c = rw c.in-Slice.is c.decide_bit_slice.ensures.plain
 
-pub returns-in-OfWord-clause-decides : goal.returns-in-OfWord-clause-decides
-returns-in-OfWord-clause-decides c = λ words a w.
-    rw c.in-OfWord.is (λ stands. rw stands (c.decide_image.ensures.decides words w))
+pub returns-in-Slice-clause-decides : goal.returns-in-Slice-clause-decides
+returns-in-Slice-clause-decides c = λ words a w.
+    rw c.in-Slice.is (λ stands. rw stands (c.decide_bit_slice.ensures.decides words w))
 
-pub returns-in-Offset-clause-decides : goal.returns-in-Offset-clause-decides
-returns-in-Offset-clause-decides c = λ words a w.
-    rw c.in-Offset.is (λ stands. rw stands (c.decide_offset.ensures.decides words w))
+pub returns-in-AffineTerm-clause-decides : goal.returns-in-AffineTerm-clause-decides
+returns-in-AffineTerm-clause-decides c = λ words a w.
+    rw c.in-AffineTerm.is (λ stands. rw stands (c.decide_affine.ensures.decides words w))
 
-pub returns-in-ZeroWhere-clause-decides : goal.returns-in-ZeroWhere-clause-decides
-returns-in-ZeroWhere-clause-decides c = λ words a _.
-    rw c.in-ZeroWhere.is (λ stands. c.decide.ensures.decides words a stands.0 stands.1)
+pub returns-in-ZeroTest-clause-decides : goal.returns-in-ZeroTest-clause-decides
+returns-in-ZeroTest-clause-decides c = λ words a _.
+    rw c.in-ZeroTest.is (λ stands. c.decide.ensures.decides words a stands.0 stands.1)

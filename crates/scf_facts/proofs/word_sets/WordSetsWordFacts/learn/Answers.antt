@@ -10,7 +10,7 @@ returns-clause-at_marks c =
       former = c.in_ok-former.former;
       about_word = omega (arith, c.word-word.ensures, c.requires.word);
     } in
-    noted facts.sets.items facts.pairs.items change c.index_mut.result.now c.learn.new.self facts.trail.items _ _
+    noted facts.sets.items facts.clauses.items change c.index_mut.result.now c.learn.new.self facts.trail.items _ _
     facts.marks.items _ c.deref-2.ensures.value c.make_room.ensures.items c.in_ok-note.ensures.marked facts.sixteen
     c.index_mut.ensures.value c.in_ok-former.ensures.before
 
@@ -19,7 +19,7 @@ returns-clause-law_learn c = λ words.
     let facts = c.args.self.now in
     let within : c.word-word.result < length facts.sets.items =
     omega (arith, c.word-word.ensures, c.requires.word, facts.sixteen) in
-    simp known_now (allows_learned facts.sets.items facts.pairs.items c.word-word.result
+    simp known_now (allows_learned facts.sets.items facts.clauses.items c.word-word.result
     c.index_mut.result.now c.learn.new.self within c.index_mut.ensures.value c.args.atom c.args.holds
     c.word-word.ensures c.in_ok-former.ensures.learned words)
 
@@ -28,7 +28,7 @@ returns-clause-exact c = λ keeps.
     let facts = c.args.self.now in
     let within : c.word-word.result < length facts.sets.items =
     omega (arith, c.word-word.ensures, c.requires.word, facts.sixteen) in
-    simp known_now (exact_learned facts.sets.items facts.pairs.items c.word-word.result
+    simp known_now (exact_learned facts.sets.items facts.clauses.items c.word-word.result
     c.index_mut.result.now c.learn.new.self within c.index_mut.ensures.value (c.in_ok-former.ensures.exact keeps))
 
 pub returns-in_err-former-clause-at_marks : goal.returns-in_err-former-clause-at_marks

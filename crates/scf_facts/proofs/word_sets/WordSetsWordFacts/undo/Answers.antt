@@ -4,16 +4,16 @@ use Rattle.scf_facts.proofs.TrailLaws.{same_known, known_closed}
 use Rattle.scf_facts.proofs.word_sets.WordSetsWordFacts.undo.Goals as goal
 
 pub invariant_of-self-clause-rising : goal.invariant_of-self-clause-rising
-invariant_of-self-clause-rising c = rw c.take_back.ensures.trail
+invariant_of-self-clause-rising c = rw c.restore.ensures.trail
     (rising_cut c.args.self.now.trail.items _ _ c.in-Some.count c.in-Some.ensures.items c.args.self.now.rising)
 
 pub returns-in-Some-clause-law_undo : goal.returns-in-Some-clause-law_undo
 returns-in-Some-clause-law_undo c = λ place lt.
     let facts = c.args.self.now in
-    let back = ap (λ (s : List NumberFacts). known_of s c.take_back.new.pairs.items)
-    (with_items_is facts.sets c.take_back.new.sets (c.take_back.auto.sets ∙ c.deref_mut.ensures.len))
-    ∙ c.take_back.ensures.known
-    ∙ ap (λ (s : List NumberFacts). restored (known_of s facts.pairs.items) (drop c.in-Some.count facts.trail.items))
+    let back = ap (λ (s : List NumberFacts). known_of s c.restore.new.clauses.items)
+    (with_items_is facts.sets c.restore.new.sets (c.restore.auto.sets ∙ c.deref_mut.ensures.len))
+    ∙ c.restore.ensures.known
+    ∙ ap (λ (s : List NumberFacts). restored (known_of s facts.clauses.items) (drop c.in-Some.count facts.trail.items))
     c.deref_mut.ensures.value in
-    same_known _ _ (known_closed (known_of facts.sets.items facts.pairs.items) _ facts.trail.items _ facts.marks.items _
-    c.in-Some.count place back c.take_back.ensures.trail c.in-Some.ensures.items facts.rising lt)
+    same_known _ _ (known_closed (known_of facts.sets.items facts.clauses.items) _ facts.trail.items _ facts.marks.items _
+    c.in-Some.count place back c.restore.ensures.trail c.in-Some.ensures.items facts.rising lt)

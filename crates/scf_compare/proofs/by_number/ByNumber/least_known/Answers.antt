@@ -1,0 +1,22 @@
+use Rattle.scf_compare.proofs.Common.{◌+◌, ◌-◌, ◌/◌, ◌<◌, length, refl, arith, call_of, slice_index, AreNumbersOf}
+use Rattle.scf_compare.proofs.Bits.{at_least}
+use Rattle.scf_compare.proofs.Rules.{read_at}
+use Rattle.scf_compare.proofs.Numbered.{from_number}
+use Rattle.scf_compare.proofs.by_number.ByNumber.least_known.Goals as goal
+
+pub loop-first-preserved-in-Always : goal.loop-first-preserved-in-Always
+loop-first-preserved-in-Always g c =
+    let numbers = c.numbers-numbers.result.now in
+    let rules = c.args.self.now.profile.rules in
+    let own = c.index-numbers-middle.result in
+    let middle = c.loop-first.first + (c.loop-first.last - c.loop-first.first) / 2 in
+    let are : AreNumbersOf numbers rules =
+    rw c.numbers-numbers.ensures.numbers c.numbers-numbers.ensures.numbered.numbers in
+    let inside : middle < length numbers = omega (arith, c.loop-first.invariant.inside, c.loop-first-test.true) in
+    record {
+      inside = c.loop-first.invariant.inside;
+      told = λ words w allowed.
+          from_number numbers rules are (call_of words) middle own
+          (read_at numbers numbers middle own refl inside c.index-numbers-middle.is)
+          (at_least (slice_index words 0) own.number (c.tell.ensures.law_always c.in-Always.is words allowed));
+    }

@@ -1,0 +1,94 @@
+-- The ways on from an instruction follow the runs that come to it, and their sizes are within its size.
+use Rattle.scf_compare.proofs.Common.{refl, sym, subst, ◌∙◌, arith, rules, common_steps, IfSome_then, Answer, RunAnswers, filter_tree}
+use Rattle.scf_compare.proofs.ControlFlows.{plain_flow, size_by_flow}
+use Rattle.scf_compare.proofs.Successors.{leads, step_leads}
+use Rattle.scf_compare.proofs.filter.step_of.Goals as goal
+
+pub returns-in-FallThrough : goal.returns-in-FallThrough
+returns-in-FallThrough c = record {
+  proper = search rules;
+  leads = λ words w r.
+      leads c.requires.stands r (c.requires.safe words) _ (sym c.of.ensures.control_flow ∙ c.in-FallThrough.is) _
+      (λ t. c.apply.ensures.describes words r.state t w r.describes);
+  costs = omega (arith, (rw (sym c.of.ensures.control_flow ∙ c.in-FallThrough.is) at (size_by_flow c.requires.stands)).0);
+  plain = λ plain.
+      let loads =
+      rw (sym c.of.ensures.control_flow ∙ c.in-FallThrough.is) at (plain_flow _ _ _ _ plain.0 c.requires.stands) in
+      (plain.0, c.apply.ensures.plain loads);
+}
+
+pub returns-in-Jump : goal.returns-in-Jump
+returns-in-Jump c = record {
+  proper = search rules;
+  leads = λ words w r. leads c.requires.stands r (c.requires.safe words) _ (sym c.of.ensures.control_flow ∙ c.in-Jump.is);
+  costs = omega (arith, (rw (sym c.of.ensures.control_flow ∙ c.in-Jump.is) at (size_by_flow c.requires.stands)).0);
+  plain = search rules;
+}
+
+pub returns-then-if_true-if_false : goal.returns-then-if_true-if_false
+returns-then-if_true-if_false c = record {
+  proper = search rules;
+  leads = λ words w r.
+      let on = leads c.requires.stands r (c.requires.safe words) _ (sym c.of.ensures.control_flow ∙ c.in-ConditionalJump.is) in
+      grind (arith, common_steps, on);
+  costs = omega (arith, (rw (sym c.of.ensures.control_flow ∙ c.in-ConditionalJump.is) at (size_by_flow c.requires.stands)).0);
+  plain = search rules;
+}
+
+pub returns-else-if_true-if_false : goal.returns-else-if_true-if_false
+returns-else-if_true-if_false c = record {
+  proper = search rules;
+  leads = λ words w r.
+      let on = leads c.requires.stands r (c.requires.safe words) _ (sym c.of.ensures.control_flow ∙ c.in-ConditionalJump.is) in
+      let operand = c.operand.ensures.stands words r.state r.describes in
+      let decides = c.decide-decision.ensures.decides words r.state.a _ w r.describes.a operand in
+      step_leads (filter_tree c.args.insns.now c.args.registers.now) _ words c.decide-decision.result _ _
+      c.step_by.result _ c.step_by.ensures decides on.0 on.1;
+  costs = grind (arith, size_by_flow c.requires.stands);
+  plain = λ plain.
+      let branch =
+      rw (sym c.of.ensures.control_flow ∙ c.in-ConditionalJump.is) at (plain_flow _ _ _ _ plain.0 c.requires.stands) in
+      let decided =
+      c.decide-decision.ensures.plain c.args.insn.k plain.1 (c.operand.ensures.constant branch.0) branch.1 in
+      grind (arith, common_steps, c.step_by.ensures);
+}
+
+pub returns-in-DivideByIndex : goal.returns-in-DivideByIndex
+returns-in-DivideByIndex c = record {
+  proper = search rules;
+  leads = λ words w r.
+      let on =
+      leads c.requires.stands r (c.requires.safe words) _ (sym c.of.ensures.control_flow ∙ c.in-DivideByIndex.is) _
+      (λ t. c.apply-in-DivideByIndex.ensures.describes words r.state t w r.describes) in
+      step_leads (filter_tree c.args.insns.now c.apply-in-DivideByIndex.new.self) _ words
+      c.decide-decision-in-DivideByIndex.result _ _ c.step_by-in-DivideByIndex.result _
+      c.step_by-in-DivideByIndex.ensures
+      (c.decide-decision-in-DivideByIndex.ensures.decides words r.state.x 0 w r.describes.x refl) on.0 on.1;
+  costs = grind (arith, size_by_flow c.requires.stands);
+  plain = λ plain.
+      let divides = plain_flow _ _ _ _ plain.0 c.requires.stands in
+      grind (arith, common_steps, divides);
+}
+
+pub returns-in-ReturnConstant : goal.returns-in-ReturnConstant
+returns-in-ReturnConstant c = record {
+  proper = search rules;
+  leads = λ words w r.
+      leads c.requires.stands r (c.requires.safe words) _ (sym c.of.ensures.control_flow ∙ c.in-ReturnConstant.is);
+  costs = omega (arith, (rw (sym c.of.ensures.control_flow ∙ c.in-ReturnConstant.is) at (size_by_flow c.requires.stands)).0);
+  plain = search rules;
+}
+
+pub returns-in-ReturnAccumulator : goal.returns-in-ReturnAccumulator
+returns-in-ReturnAccumulator c = record {
+  proper = search rules;
+  leads = λ words w r.
+      let answered =
+      leads c.requires.stands r (c.requires.safe words) _ (sym c.of.ensures.control_flow ∙ c.in-ReturnAccumulator.is) in
+      IfSome_then c.answer.result (c.answer.ensures words r.state.a r.describes.a)
+      (λ (answer : Answer) same. subst (RunAnswers c.args.insns.now words) same answered);
+  costs = omega (arith, (rw (sym c.of.ensures.control_flow ∙ c.in-ReturnAccumulator.is) at (size_by_flow c.requires.stands)).0);
+  plain = λ plain.
+      let returns = plain_flow _ _ _ _ plain.0 c.requires.stands in
+      grind (arith, common_steps, returns);
+}

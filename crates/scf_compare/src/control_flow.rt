@@ -1,0 +1,51 @@
+//! Control flow: where an instruction leads.
+
+ghost use Rattle.std.specs.Prelude.{◌≡◌, length};
+ghost use Rattle.scf_machine.specs.Rules.{IsValidList, Stands};
+ghost use Rattle.scf_compare.specs.internal.ControlFlow.{control_flow_at, IsInside};
+
+use scf_insn::{Arithmetic, Insn, Operand, Operation, Test};
+
+/// Where an instruction leads, by indices of instructions.
+#[derive(Clone, Copy)]
+pub(crate) enum ControlFlow {
+    /// To the next instruction.
+    FallThrough(usize),
+    /// To a target.
+    Jump(usize),
+    /// To the first target if the test holds, else to the second.
+    ConditionalJump(Test, Operand, usize, usize),
+    /// To the next instruction, or to the answer 0 if the index register is 0.
+    DivideByIndex(usize),
+    /// To the answer `k`.
+    ReturnConstant,
+    /// To the answer in the accumulator.
+    ReturnAccumulator,
+}
+
+impl ControlFlow {
+    /// Where the instruction at index `place`, with this operation, leads.
+    pub(crate) fn of(insns: &[Insn], place: usize, insn: Insn, operation: Operation) -> ControlFlow
+        requires valid { IsValidList insns.now }
+        requires stands { Stands insns.now place insn operation }
+        ensures control_flow { result ≡ control_flow_at operation insn place }
+        ensures inside { IsInside (length insns.now) result }
+    {
+        let _ = insns;
+        match operation {
+            Operation::Jump => ControlFlow::Jump(place + 1 + insn.k as usize),
+            Operation::JumpIf(test, operand) => ControlFlow::ConditionalJump(
+                test,
+                operand,
+                place + 1 + usize::from(insn.jt),
+                place + 1 + usize::from(insn.jf),
+            ),
+            Operation::ReturnConstant => ControlFlow::ReturnConstant,
+            Operation::ReturnAccumulator => ControlFlow::ReturnAccumulator,
+            Operation::Compute(Arithmetic::Div, Operand::Index) => ControlFlow::DivideByIndex(
+                place + 1,
+            ),
+            _ => ControlFlow::FallThrough(place + 1),
+        }
+    }
+}
