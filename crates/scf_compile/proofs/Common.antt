@@ -45,8 +45,8 @@ pub use Rattle.scf_profile.specs.declared.rule.Rule.{Rule}
 pub use Rattle.scf_compile.specs.SearchBound.{AnswersWithin, digits_within, greatest, search_bound_of}
 unfoldable pub use Rattle.scf_compile.specs.SearchBound.{binary_digits}
 pub use Rattle.scf_compile.specs.SizeBound.{rule_bound, size_bound_of}
-pub use Rattle.scf_compile.specs.declared.placing.Place.{Place}
-pub use Rattle.scf_compile.specs.declared.stretches.Stretch.{Stretch}
+pub use Rattle.scf_compile.specs.declared.placing.Position.{Position}
+pub use Rattle.scf_compile.specs.declared.ranges.NrRange.{NrRange}
 pub use Rattle.scf_compile.specs.internal.Blocks.{argument_word, bit_code, condition_code, exits, half_code_of, test_code, word_code}
 unfoldable pub use Rattle.scf_compile.specs.internal.Blocks.{half_code, masked_code, order_code}
 pub use Rattle.scf_compile.specs.internal.Filters.{ArePut, IsFilterOf, IsSearchOf, IsSearchPut, behind_rule, conditions_code, rules_code}
@@ -54,4 +54,4 @@ pub use Rattle.scf_compile.specs.internal.Insns.{and_with, jump_if, jump_over, l
 pub use Rattle.scf_compile.specs.internal.Placing.{IsFirst, IsPut, branch_code, code_from}
 pub use Rattle.scf_compile.specs.internal.Runs.{EndsWithin, at}
 pub use Rattle.scf_compile.specs.internal.Sound.{AreSound, IsSound, Keeps}
-pub use Rattle.scf_compile.specs.internal.Stretches.{AllRules, AreServed, AreStretchesOf, AreStretchesUpTo, AreTelling, IsLaid, IsServed, StandsFor, begins, first_answer, goes_on, rules_bound, stretch_bound}
+pub use Rattle.scf_compile.specs.internal.NrRanges.{AllRules, AreServed, AreRangesOf, AreRangesUpTo, AreEffective, IsLaid, IsServed, StandsFor, begins, first_answer, continues, rules_bound, range_bound}

@@ -1,5 +1,5 @@
 -- The distinct numbers of a profile's rules: how many there are, and the bounds that their search keeps.
-use Rattle.scf_compile.proofs.Common.{◌≡◌, ℕ, zero, suc, ◌/◌, ◌^◌, ◌<◌, ◌≤◌, List, [], ◌∷◌, length, map, All, ap, arith, inl, inr, sum_by, Contains, cases_eq, eq-eqb, ne_eqb, All-contains, x32_syscall_bit, Rule, IsPlainRule, Profile, IsProfile, IsRule, numbers_of, number_there, rules_of, Answer, Stretch, digits_within, binary_digits, greatest, rule_bound, AllRules, AreServed, AreStretchesOf, IsSearchOf, IsSearchPut, Insn, Place, stretch_bound}
+use Rattle.scf_compile.proofs.Common.{◌≡◌, ℕ, zero, suc, ◌/◌, ◌^◌, ◌<◌, ◌≤◌, List, [], ◌∷◌, length, map, All, ap, arith, inl, inr, sum_by, Contains, cases_eq, eq-eqb, ne_eqb, All-contains, x32_syscall_bit, Rule, IsPlainRule, Profile, IsProfile, IsRule, numbers_of, number_there, rules_of, Answer, NrRange, digits_within, binary_digits, greatest, rule_bound, AllRules, AreServed, AreRangesOf, IsSearchOf, IsSearchPut, Insn, Position, range_bound}
 use Rattle.scf_compile.proofs.Runs.{more}
 use Rattle.scf_compile.proofs.Sizes.{rules_valid, size_small}
 
@@ -38,28 +38,28 @@ sum_at_most rules nr =
 
 -- ---- the filter of a profile
 
-some_served : (default : Answer) (wanted : ℕ → List Rule) (ss : List Stretch)
+some_served : (default : Answer) (wanted : ℕ → List Rule) (ss : List NrRange)
     → AreServed default wanted 0 ss x32_syscall_bit → 0 < length ss
 some_served default wanted [] serve = absurd (omega arith)
 some_served default wanted (s ∷ ss) serve = omega arith
 
-module _ (p : Profile) (valid : IsProfile p) (ss : List Stretch)
-    (laid : AreStretchesOf p.default_answer ss p.rules) where
+module _ (p : Profile) (valid : IsProfile p) (ss : List NrRange)
+    (laid : AreRangesOf p.default_answer ss p.rules) where
   abbrev count : ℕ
   count = length (numbers_of p.rules)
 
   of_profile : (P : Rule → Type 0) → All P p.rules → AllRules P ss
   of_profile P all k d lt j r inside = All-contains P p.rules _ all (laid.own k d lt j r inside)
 
-  pub may_be_put : (0 < length ss) × AllRules IsRule ss × (sum_by stretch_bound ss < 2 ^ 32)
+  pub may_be_put : (0 < length ss) × AllRules IsRule ss × (sum_by range_bound ss < 2 ^ 32)
   may_be_put = (
     some_served _ _ ss laid.serve,
     of_profile IsRule (rules_valid p valid),
     omega (arith, laid.small, size_small p valid),
   )
 
-  -- The search of the stretches is that of the profile.
-  pub search_of_profile : {code : List Insn} {place : Place} → IsSearchPut p.default_answer ss [] code place
+  -- The search of the ranges is that of the profile.
+  pub search_of_profile : {code : List Insn} {place : Position} → IsSearchPut p.default_answer ss [] code place
       → IsSearchOf p code place
   search_of_profile found = record {
     some = found.put.some;

@@ -1,5 +1,5 @@
 -- What is put before a search makes it a filter.
-use Rattle.scf_compile.proofs.Common.{◌≡◌, ℕ, suc, ◌+◌, ◌-◌, ◌<◌, ◌≤◌, Bool, true, false, cond, eqb, ltb, find, List, [], ◌∷◌, length, refl, ap, arith, IsTrue, le-leb, eqb-true, eqb-false, nat_tests, Insn, CallRecord, Equal, GreaterOrEqual, audit_arch_x86_64, x32_syscall_bit, seccomp_ret_kill_process as kill, words_of, IsRecord, IsPlainProfile, Profile, ProfileAnswers, foreign, rules_of, Place, search_bound_of, load_word, return_with, branch_code, IsFirst, IsPut, ArePut, IsSearchOf, IsFilterOf, EndsWithin, AreSound, first_answer, sym, inl, inr, cases_Bool, cases_eq, eq-eqb, ne_eqb, Answer, Rule, meets, all_hold}
+use Rattle.scf_compile.proofs.Common.{◌≡◌, ℕ, suc, ◌+◌, ◌-◌, ◌<◌, ◌≤◌, Bool, true, false, cond, eqb, ltb, find, List, [], ◌∷◌, length, refl, ap, arith, IsTrue, le-leb, eqb-true, eqb-false, nat_tests, Insn, CallRecord, Equal, GreaterOrEqual, audit_arch_x86_64, x32_syscall_bit, seccomp_ret_kill_process as kill, words_of, IsRecord, IsPlainProfile, Profile, ProfileAnswers, foreign, rules_of, Position, search_bound_of, load_word, return_with, branch_code, IsFirst, IsPut, ArePut, IsSearchOf, IsFilterOf, EndsWithin, AreSound, first_answer, sym, inl, inr, cases_Bool, cases_eq, eq-eqb, ne_eqb, Answer, Rule, meets, all_hold}
 use Rattle.std.specs.Option.{option_map_or}
 use Rattle.scf_profile.proofs.Answering.{answered as profile_answers}
 use Rattle.scf_compile.proofs.Runs.{more, loads, load_sound}
@@ -25,7 +25,7 @@ kill_answers : Answers (return_with kill ∷ []) 1 (Unit {0}) (λ _. kill)
 kill_answers = return_answers kill 1 (Unit {0}) (omega arith)
 
 module _ {p : Profile} {searched killed ranged loaded answered tested code : List Insn}
-    {search x32 range other first : Place} (native : Place) (found : IsSearchOf p searched search)
+    {search x32 range other first : Position} (native : Position) (found : IsSearchOf p searched search)
     (above : IsPut (return_with kill ∷ []) searched killed x32)
     (by_number : IsFirst (branch_code GreaterOrEqual x32_syscall_bit (length killed - x32.0) (length killed - search.0))
     killed ranged range)

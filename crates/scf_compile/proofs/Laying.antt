@@ -1,27 +1,27 @@
--- Stretches are put one behind another until each number has its rules.
-use Rattle.scf_compile.proofs.Common.{◌≡◌, ℕ, get_or, take, ◌+◌, ◌-◌, ◌*◌, ◌<◌, ◌≤◌, All, List, [], ◌∷◌, ◌++◌, length, map, refl, sym, ap, ◌∙◌, subst, arith, inl, inr, eqb, length-append, length-map, get_or-map, get_or_default, sum_by, Contains, cases_eq, cases_lt, take_all, take_more, All-contains_itself, All-filter, All-push, sum_by-cons, sum_by-append, Answer, x32_syscall_bit, Rule, numbers_of, rules_of, NumberRules, AreNumbersOf, Stretch, rule_bound, StandsFor, AreTelling, rules_bound, stretch_bound, IsServed, AreServed, IsLaid, begins, goes_on, AreStretchesUpTo, AreStretchesOf, Contains-permutation, sum_by_more, number_there, number_in, own_some, rises, count_of_numbers, sum_of_rules}
+-- Ranges are put one behind another until each number has its rules.
+use Rattle.scf_compile.proofs.Common.{◌≡◌, ℕ, get_or, take, ◌+◌, ◌-◌, ◌*◌, ◌<◌, ◌≤◌, All, List, [], ◌∷◌, ◌++◌, length, map, refl, sym, ap, ◌∙◌, subst, arith, inl, inr, eqb, length-append, length-map, get_or-map, get_or_default, sum_by, Contains, cases_eq, cases_lt, take_all, take_more, All-contains_itself, All-filter, All-push, sum_by-cons, sum_by-append, Answer, x32_syscall_bit, Rule, numbers_of, rules_of, NumberRules, AreNumbersOf, NrRange, rule_bound, StandsFor, AreEffective, rules_bound, range_bound, IsServed, AreServed, IsLaid, begins, continues, AreRangesUpTo, AreRangesOf, Contains-permutation, sum_by_more, number_there, number_in, own_some, rises, count_of_numbers, sum_of_rules}
 
--- ---- one stretch more
+-- ---- one range more
 
 module _ (default : Answer) (wanted : ℕ → List Rule) where
-  served_push : (low middle high : ℕ) (ss : List Stretch) (s : Stretch) → AreServed default wanted low ss middle
+  served_push : (low middle high : ℕ) (ss : List NrRange) (s : NrRange) → AreServed default wanted low ss middle
       → IsServed default wanted s middle high → AreServed default wanted low (ss ++ s ∷ []) high
   served_push low middle high [] s before is =
       (high, subst (λ (n : ℕ). IsServed default wanted s n high) (sym before) is, refl)
   served_push low middle high (t ∷ ts) s before is =
       (before.0, before.1, served_push before.0 middle high ts s before.2 is)
 
-  pub served_parts : (low high : ℕ) (ss ts : List Stretch) → AreServed default wanted low (ss ++ ts) high
+  pub served_parts : (low high : ℕ) (ss ts : List NrRange) → AreServed default wanted low (ss ++ ts) high
       → (middle : ℕ) × AreServed default wanted low ss middle × AreServed default wanted middle ts high
   served_parts low high [] ts served = (low, refl, served)
   served_parts low high (s ∷ ss) ts served =
       let rest = served_parts served.0 high ss ts served.2 in (rest.0, (served.0, served.1, rest.1), rest.2)
 
--- ---- the stretches up to a number
+-- ---- the ranges up to a number
 
-module _ {default : Answer} {rules : List Rule} {next most bound : ℕ} {before : List Stretch}
-    (laid : AreStretchesUpTo next most bound default before rules) where
-  pub laid_within : {end m b : ℕ} → next ≡ end → most ≤ m → bound ≤ b → AreStretchesUpTo end m b default before rules
+module _ {default : Answer} {rules : List Rule} {next most bound : ℕ} {before : List NrRange}
+    (laid : AreRangesUpTo next most bound default before rules) where
+  pub laid_within : {end m b : ℕ} → next ≡ end → most ≤ m → bound ≤ b → AreRangesUpTo end m b default before rules
   laid_within same few small = record {
     serve = rw (← same) laid.serve;
     own = laid.own;
@@ -30,24 +30,24 @@ module _ {default : Answer} {rules : List Rule} {next most bound : ℕ} {before 
   }
 
   -- some of the rules apply up to another number
-  laid_more : {after : List Stretch} {others : List Rule} (end : ℕ) → IsLaid before next others after → next < end
+  laid_more : {after : List NrRange} {others : List Rule} (end : ℕ) → IsLaid before next others after → next < end
       → All (Contains rules) others
       → ((nr : ℕ) → next ≤ nr → nr < end → StandsFor default others (rules_of nr rules))
-      → AreStretchesUpTo end (most + 1) (bound + rules_bound others) default after rules
+      → AreRangesUpTo end (most + 1) (bound + rules_bound others) default after rules
   laid_more end (begins s first is put) lt own stand = rw put (record {
     serve = served_push default (λ nr. rules_of nr rules) 0 next end before s laid.serve
         (record { first = first; some = lt; stand = λ nr from below. rw is (stand nr from below) });
-    own = All-push (λ (t : Stretch). All (Contains rules) t.rules.now) before s laid.own (rw is own);
+    own = All-push (λ (t : NrRange). All (Contains rules) t.rules.now) before s laid.own (rw is own);
     few = omega (arith, laid.few, length-append before (s ∷ []));
     small = omega (
       arith,
       laid.small,
       ap rules_bound is,
-      sum_by-append stretch_bound before (s ∷ []),
-      sum_by-cons stretch_bound s [],
+      sum_by-append range_bound before (s ∷ []),
+      sum_by-cons range_bound s [],
     );
   })
-  laid_more end (goes_on earlier last is alike same) lt own stand =
+  laid_more end (continues earlier last is alike same) lt own stand =
       let parts = served_parts default (λ nr. rules_of nr rules) 0 next earlier (last ∷ []) (rw is at laid.serve) in
       let old = parts.2.1 in
       let past = parts.2.2 in
@@ -71,25 +71,25 @@ module _ {default : Answer} {rules : List Rule} {next most bound : ℕ} {before 
       })
 
   -- no rules apply up to another number
-  pub laid_gap : {after : List Stretch} (end : ℕ) → (next < end → IsLaid before next [] after)
+  pub laid_gap : {after : List NrRange} (end : ℕ) → (next < end → IsLaid before next [] after)
       → (end ≤ next → after ≡ before) → next ≤ end → ((nr : ℕ) → next ≤ nr → nr < end → rules_of nr rules ≡ [])
-      → AreStretchesUpTo end (most + 1) (bound + 3) default after rules
+      → AreRangesUpTo end (most + 1) (bound + 3) default after rules
   laid_gap end some none le nothing = elim (cases_lt next end) [
     | inl lt ↦ laid_more end (some lt) lt (λ k d lt. absurd (omega arith))
         (λ nr from below. rw (nothing nr from below) (record { answers = λ call. refl; small = omega arith }))
     | inr past ↦ rw (none past) (laid_within (omega arith) (omega arith) (omega arith))
   ]
 
--- the last of the stretches is the one that goes on
-pub goes_on_last : (before : List Stretch) (first : ℕ) (last : Stretch) (rules : List Rule) → 0 < length before
+-- the last of the ranges is the one that goes on
+pub goes_on_last : (before : List NrRange) (first : ℕ) (last : NrRange) (rules : List Rule) → 0 < length before
     → last ≡ get_or before (length before - 1) last
     → ((default : Answer) → StandsFor default last.rules.now rules)
     → IsLaid before first rules before
 goes_on_last before first last rules some is alike =
     let k = length before - 1 in
-    goes_on (take k before) last
+    continues (take k before) last
     (sym (take_all (k + 1) before (omega arith)) ∙ take_more before k last (omega arith)
-    ∙ ap (λ (s : Stretch). take k before ++ s ∷ []) (sym is)) alike refl
+    ∙ ap (λ (s : NrRange). take k before ++ s ∷ []) (sym is)) alike refl
 
 -- ---- the numbers one after another
 
@@ -97,7 +97,7 @@ abbrev own_bound : NumberRules → ℕ
 own_bound own = sum_by rule_bound own.rules.items
 
 telling_few : {default : Answer} {telling : List Rule} (rules own : List Rule) → 0 < length own
-    → AreTelling default telling own → All (Contains rules) own
+    → AreEffective default telling own → All (Contains rules) own
     → (rules_bound telling ≤ 1 + sum_by rule_bound own) × All (Contains rules) telling
 telling_few rules [] some is all = absurd (omega arith)
 telling_few rules (r ∷ rs) some is all = elim is.some [
@@ -105,10 +105,10 @@ telling_few rules (r ∷ rs) some is all = elim is.some [
   | inr none ↦ rw none (omega (arith, sum_by-cons rule_bound r rs), λ k d lt. absurd (omega arith))
 ]
 
--- The first `k` of the numbers are laid, no more than two stretches for each, and the next one is `next` or above it.
-pub record AreLaid (default : Answer) (numbers : List NumberRules) (rules : List Rule) (ss : List Stretch) (next k : ℕ)
+-- The first `k` of the numbers are laid, no more than two ranges for each, and the next one is `next` or above it.
+pub record AreLaid (default : Answer) (numbers : List NumberRules) (rules : List Rule) (ss : List NrRange) (next k : ℕ)
     : Type 0 where
-  pub laid : AreStretchesUpTo next (2 * k) (4 * k + sum_by own_bound (take k numbers)) default ss rules
+  pub laid : AreRangesUpTo next (2 * k) (4 * k + sum_by own_bound (take k numbers)) default ss rules
   pub inside : next ≤ x32_syscall_bit
   pub above : (j : ℕ) → j < k → get_or (map number_in numbers) j 0 < next
   pub within : k < length numbers → next ≤ get_or (map number_in numbers) k 0
@@ -132,7 +132,7 @@ module _ (numbers : List NumberRules) (rules : List Rule) (are : AreNumbersOf nu
   rise : (i j : ℕ) → i < j → j < length numbers → get_or ns i 0 < get_or ns j 0
   rise i j lt inside = rises ns are.rising i j lt (omega (arith, len))
 
-  module _ {default : Answer} {ss : List Stretch} {next k : ℕ} (laid : AreLaid default numbers rules ss next k) where
+  module _ {default : Answer} {ss : List NrRange} {next k : ℕ} (laid : AreLaid default numbers rules ss next k) where
     -- no rules have a number below the next one
     none_between : (nr : ℕ) → next ≤ nr → (k < length numbers → nr < get_or ns k 0)
         → rules_of nr rules ≡ []
@@ -150,8 +150,8 @@ module _ (numbers : List NumberRules) (rules : List Rule) (are : AreNumbersOf nu
       | inr none ↦ none
     ]
 
-    pub laid_all : {after : List Stretch} → k ≡ length numbers → (next < x32_syscall_bit → IsLaid ss next [] after)
-        → (x32_syscall_bit ≤ next → after ≡ ss) → AreStretchesOf default after rules
+    pub laid_all : {after : List NrRange} → k ≡ length numbers → (next < x32_syscall_bit → IsLaid ss next [] after)
+        → (x32_syscall_bit ≤ next → after ≡ ss) → AreRangesOf default after rules
     laid_all all some none =
         let sums : sum_by own_bound (take k numbers) ≡ sum_by rule_bound rules =
         ap (sum_by own_bound) (take_all k numbers (omega arith)) ∙ sum_of_rules numbers rules are rule_bound in
@@ -161,7 +161,7 @@ module _ (numbers : List NumberRules) (rules : List Rule) (are : AreNumbersOf nu
 
     pub laid_own : {mid telling after : _} (own : NumberRules) → own ≡ get_or numbers k own → k < length numbers
         → own.number < x32_syscall_bit → (next < own.number → IsLaid ss next [] mid) → (own.number ≤ next → mid ≡ ss)
-        → AreTelling default telling own.rules.items → IsLaid mid own.number telling after
+        → AreEffective default telling own.rules.items → IsLaid mid own.number telling after
         → AreLaid default numbers rules after (own.number + 1) (k + 1)
     laid_own own is lt below some none tells put =
         let here : get_or ns k 0 ≡ own.number = get_or-map number_in numbers k own 0 lt ∙ ap number_in (sym is) in

@@ -1,5 +1,5 @@
 -- The code of rules, and what is put before some code.
-use Rattle.scf_compile.proofs.Common.{◌≡◌, ℕ, ◌+◌, ◌-◌, ◌*◌, ◌<◌, ◌≤◌, Bool, true, false, cond, leb, List, [], ◌∷◌, ◌++◌, drop, length, ap, ◌∙◌, arith, inl, inr, length-append, append_assoc, sum_by, length-drop, IsTrue, AllByRecursion, cases_Bool, recursion_from_All, sum_by-cons, drop-append-add, Insn, Answer, CallRecord, Test, JumpIf, Constant, words_of, IsRecord, test_holds, IsPlainOperation, Condition, Rule, IsPlainCondition, IsPlainRule, all_hold, IsCondition, IsRule, Place, rule_bound, jump_if, jump_over, return_with, branch_code, code_from, IsFirst, IsPut, conditions_code, behind_rule, rules_code, ArePut, EndsWithin, AreSound, first_answer, rules_bound}
+use Rattle.scf_compile.proofs.Common.{◌≡◌, ℕ, ◌+◌, ◌-◌, ◌*◌, ◌<◌, ◌≤◌, Bool, true, false, cond, leb, List, [], ◌∷◌, ◌++◌, drop, length, ap, ◌∙◌, arith, inl, inr, length-append, append_assoc, sum_by, length-drop, IsTrue, AllByRecursion, cases_Bool, recursion_from_All, sum_by-cons, drop-append-add, Insn, Answer, CallRecord, Test, JumpIf, Constant, words_of, IsRecord, test_holds, IsPlainOperation, Condition, Rule, IsPlainCondition, IsPlainRule, all_hold, IsCondition, IsRule, Position, rule_bound, jump_if, jump_over, return_with, branch_code, code_from, IsFirst, IsPut, conditions_code, behind_rule, rules_code, ArePut, EndsWithin, AreSound, first_answer, rules_bound}
 use Rattle.scf_compile.proofs.Runs.{more, past, answers, jumps, passes, jump_sound, pass_sound, return_sound}
 use Rattle.scf_compile.proofs.Tests.{conditions_tests}
 
@@ -68,7 +68,7 @@ rules_answer default (r ∷ rs) fine =
 -- ---- what is put before some code
 
 -- what stands from a place on stays where more is put before it
-from_behind : (front code : List Insn) (place : Place) → place.0 ≤ length code
+from_behind : (front code : List Insn) (place : Position) → place.0 ≤ length code
     → code_from place (front ++ code) ≡ code_from place code
 from_behind front code place le =
     let passed : length (front ++ code) - place.0 ≡ length front + (length code - place.0) =
@@ -76,13 +76,13 @@ from_behind front code place le =
     ap (λ (n : ℕ). drop n (front ++ code)) passed ∙ drop-append-add front code (length code - place.0)
 
 -- the first place of some code
-pub from_first : (code : List Insn) (place : Place) → place.0 ≡ length code → code_from place code ≡ code
+pub from_first : (code : List Insn) (place : Position) → place.0 ≡ length code → code_from place code ≡ code
 from_first code place is =
     let passed : length code - place.0 ≡ 0 = omega arith in
     ap (λ (n : ℕ). drop n code) passed
 
 -- code that answers is put before some code, or stands there
-pub answers_put : {block before after : List Insn} {place : Place} {most : ℕ} {p : Type 0} {f : CallRecord → ℕ}
+pub answers_put : {block before after : List Insn} {place : Position} {most : ℕ} {p : Type 0} {f : CallRecord → ℕ}
     (plain : Type 0) → Answers block most p f → (plain → p) → IsPut block before after place
     → ArePut plain before after place
 answers_put {block} {before} {after} {place} plain is simple put =
@@ -98,14 +98,14 @@ answers_put {block} {before} {after} {place} plain is simple put =
       ]);
     }
 
-pub answers_there : {block before after : List Insn} {place : Place} {most : ℕ} {p : Type 0} {f : CallRecord → ℕ}
+pub answers_there : {block before after : List Insn} {place : Position} {most : ℕ} {p : Type 0} {f : CallRecord → ℕ}
     → Answers block most p f → IsPut block before after place → (call : CallRecord) → IsRecord call → (a : ℕ)
     → EndsWithin (words_of call) (code_from place after) a (f call) most
 answers_there is put call fits a = rw put.there (is.ends call fits put.behind a)
 
 -- ---- a branch that is put before some code
 
-module _ (test : Test) (constant : ℕ) (hit miss : Place) {before after : List Insn} {place : Place}
+module _ (test : Test) (constant : ℕ) (hit miss : Position) {before after : List Insn} {place : Position}
     (put : IsFirst (branch_code test constant (length before - hit.0) (length before - miss.0)) before after
     place) where
   -- it goes to both places in as many steps as it has instructions, at most
@@ -137,7 +137,7 @@ module _ (test : Test) (constant : ℕ) (hit miss : Place) {before after : List 
   ])
 
   pub branch_stays : (length before ≤ length after)
-      × ((p : Place) → p.0 ≤ length before → code_from p after ≡ code_from p before)
+      × ((p : Position) → p.0 ≤ length before → code_from p after ≡ code_from p before)
   branch_stays =
       let branch = branch_code test constant (length before - hit.0) (length before - miss.0) in (
         omega (arith, ap (λ (l : List Insn). length l) put.whole, length-append branch before),

@@ -15,9 +15,9 @@ behind_is_part i behind count place insn here =
 
 module _ {words : List ℕ} {behind : List Insn} {answer most : ℕ} where
   -- an instruction, and the code where it goes on
-  goes_on : (i : Insn) (count a b : ℕ) → step (i ∷ behind) words (at 0 a) ≡ Goes (at (1 + count) b)
+  continues : (i : Insn) (count a b : ℕ) → step (i ∷ behind) words (at 0 a) ≡ Goes (at (1 + count) b)
       → EndsWithin words (drop count behind) b answer most → EndsWithin words (i ∷ behind) a answer (suc most)
-  goes_on i count a b goes e =
+  continues i count a b goes e =
       let n = 1 + count in
       let is = behind_is_part i behind count in
       let part = drop count behind in
@@ -43,24 +43,24 @@ module _ {words : List ℕ} {behind : List Insn} {answer most : ℕ} where
       let small : ltb (4 * word) 64 ≡ true = lt-ltb (4 * word) 64 (omega arith) in
       let aligned : (4 * word) % 4 ≡ 0 = omega arith in
       let place : (4 * word) / 4 ≡ word = omega arith in
-      goes_on (load_word word) 0 a n (rw (asks_for LoadWord) (rw (small, aligned, place, is) refl)) e
+      continues (load_word word) 0 a n (rw (asks_for LoadWord) (rw (small, aligned, place, is) refl)) e
 
   pub masks : (mask a : ℕ) → EndsWithin words behind (bit_and a mask) answer most
       → EndsWithin words (and_with mask ∷ behind) a answer (suc most)
-  masks mask a e = goes_on (and_with mask) 0 a (bit_and a mask) (rw (asks_for (Compute And Constant)) refl) e
+  masks mask a e = continues (and_with mask) 0 a (bit_and a mask) (rw (asks_for (Compute And Constant)) refl) e
 
   pub passes : (count a : ℕ) → EndsWithin words (drop count behind) a answer most
       → EndsWithin words (jump_over count ∷ behind) a answer (suc most)
-  passes count a e = goes_on (jump_over count) count a a (rw (asks_for Jump) refl) e
+  passes count a e = continues (jump_over count) count a a (rw (asks_for Jump) refl) e
 
   pub jumps : (test : Test) (constant hit miss a : ℕ)
       → (holds test a constant ≡ true → EndsWithin words (drop hit behind) a answer most)
       → (holds test a constant ≡ false → EndsWithin words (drop miss behind) a answer most)
       → EndsWithin words (jump_if test constant hit miss ∷ behind) a answer (suc most)
   jumps test constant hit miss a over under = elim (cases_Bool (holds test a constant)) [
-    | inl met ↦ goes_on (jump_if test constant hit miss) hit a a (rw (asks_for (JumpIf test Constant), met) refl)
+    | inl met ↦ continues (jump_if test constant hit miss) hit a a (rw (asks_for (JumpIf test Constant), met) refl)
         (over met)
-    | inr unmet ↦ goes_on (jump_if test constant hit miss) miss a a (rw (asks_for (JumpIf test Constant), unmet) refl)
+    | inr unmet ↦ continues (jump_if test constant hit miss) miss a a (rw (asks_for (JumpIf test Constant), unmet) refl)
         (under unmet)
   ]
 

@@ -1,31 +1,31 @@
--- The search of stretches finds that of each number.
-use Rattle.scf_compile.proofs.Common.{◌≡◌, ℕ, zero, suc, ◌+◌, ◌-◌, ◌*◌, ◌^◌, ◌<◌, ◌≤◌, List, [], ◌∷◌, ◌++◌, length, get_or, get_or-append-add, get_or_append_left, sym, ap, ◌∙◌, arith, length-append, sum_by, nat_tests, recursion_from_All, sum_by-cons, sum_by-append, Answer, Insn, CallRecord, IsRecord, GreaterOrEqual, words_of, Rule, IsPlainRule, IsRule, Place, Stretch, rule_bound, branch_code, IsFirst, IsPut, rules_code, IsSearchPut, EndsWithin, AllRules, AreServed, first_answer, stretch_bound}
+-- The search of ranges finds that of each number.
+use Rattle.scf_compile.proofs.Common.{◌≡◌, ℕ, zero, suc, ◌+◌, ◌-◌, ◌*◌, ◌^◌, ◌<◌, ◌≤◌, List, [], ◌∷◌, ◌++◌, length, get_or, get_or-append-add, get_or_append_left, sym, ap, ◌∙◌, arith, length-append, sum_by, nat_tests, recursion_from_All, sum_by-cons, sum_by-append, Answer, Insn, CallRecord, IsRecord, GreaterOrEqual, words_of, Rule, IsPlainRule, IsRule, Position, NrRange, rule_bound, branch_code, IsFirst, IsPut, rules_code, IsSearchPut, EndsWithin, AllRules, AreServed, first_answer, range_bound}
 use Rattle.scf_compile.proofs.Laying.{served_parts}
 use Rattle.scf_compile.proofs.Runs.{more}
 use Rattle.scf_compile.proofs.RuleCode.{rules_answer, rules_bounded, branch_ends, branch_sound, branch_stays}
 use Rattle.scf_compile.proofs.RuleCode.{from_first, answers_put, answers_there}
 
--- the first of some stretches begins at their lower bound
-begins_at : (default : Answer) (wanted : ℕ → List Rule) (low high : ℕ) (ss : List Stretch) (s : Stretch) → 0 < length ss
+-- the first of some ranges begins at their lower bound
+begins_at : (default : Answer) (wanted : ℕ → List Rule) (low high : ℕ) (ss : List NrRange) (s : NrRange) → 0 < length ss
     → s ≡ get_or ss 0 s → AreServed default wanted low ss high → s.first ≡ low
 begins_at default wanted low high [] s some is served = absurd (omega arith)
 begins_at default wanted low high (t ∷ ss) s some is served =
-    ap (λ (u : Stretch). u.first) is ∙ served.1.first
+    ap (λ (u : NrRange). u.first) is ∙ served.1.first
 
-pub all_parts : (P : Rule → Type 0) (low high : List Stretch) → AllRules P (low ++ high)
+pub all_parts : (P : Rule → Type 0) (low high : List NrRange) → AllRules P (low ++ high)
     → AllRules P low × AllRules P high
 all_parts P low high all = (
   λ k d lt. rw (get_or_append_left low high d k lt) at (all k d (omega (arith, length-append low high))),
   λ k d lt. rw (get_or-append-add low high k d) at (all (length low + k) d (omega (arith, length-append low high))),
 )
 
-module _ (default : Answer) (lower upper : List Stretch) (s : Stretch) (some : 0 < length lower)
+module _ (default : Answer) (lower upper : List NrRange) (s : NrRange) (some : 0 < length lower)
     (halves : (length lower ≤ length upper) × (length upper ≤ length lower + 1)) (is : s ≡ get_or upper 0 s)
-    {before mid both after : List Insn} {to_miss to_hit place : Place}
+    {before mid both after : List Insn} {to_miss to_hit place : Position}
     (under : IsSearchPut default lower before mid to_miss) (over : IsSearchPut default upper mid both to_hit)
     (first : IsFirst (branch_code GreaterOrEqual s.first (length both - to_hit.0) (length both - to_miss.0)) both after
     place) where
-  -- a number is looked for in the upper stretches, or in the lower ones
+  -- a number is looked for in the upper ranges, or in the lower ones
   search_ends : (call : CallRecord) (wanted : ℕ → List Rule) (low high halvings : ℕ) → IsRecord call
       → AreServed default wanted low (lower ++ upper) high → low ≤ call.nr → call.nr < high
       → length lower + length upper ≤ 2 ^ halvings
@@ -47,7 +47,7 @@ module _ (default : Answer) (lower upper : List Stretch) (s : Stretch) (some : 0
       let hit = over.put in
       let miss = under.put in
       record {
-        small = omega (arith, under.small, over.small, sum_by-append stretch_bound lower upper, first.few);
+        small = omega (arith, under.small, over.small, sum_by-append range_bound lower upper, first.few);
         put = record {
           longer = omega (arith, branch.0);
           stays = λ p le. branch.1 p (omega arith) ∙ hit.stays p (omega arith) ∙ miss.stays p le;
@@ -64,12 +64,12 @@ module _ (default : Answer) (lower upper : List Stretch) (s : Stretch) (some : 0
             (omega (arith, length-append lower upper)));
       }
 
-pub one_is : (ss : List Stretch) (s : Stretch) → 0 < length ss → length ss ≤ 1 → s ≡ get_or ss 0 s → ss ≡ s ∷ []
+pub one_is : (ss : List NrRange) (s : NrRange) → 0 < length ss → length ss ≤ 1 → s ≡ get_or ss 0 s → ss ≡ s ∷ []
 one_is [] s some one is = absurd (omega arith)
-one_is (t ∷ []) s some one is = ap (λ (u : Stretch). u ∷ []) (sym is)
+one_is (t ∷ []) s some one is = ap (λ (u : NrRange). u ∷ []) (sym is)
 one_is (t ∷ u ∷ ss) s some one is = absurd (omega arith)
 
-pub search_one : (default : Answer) (s : Stretch) (before after : List Insn) (place : Place)
+pub search_one : (default : Answer) (s : NrRange) (before after : List Insn) (place : Position)
     → AllRules IsRule (s ∷ []) → IsPut (rules_code default s.rules.now) before after place
     → IsSearchPut default (s ∷ []) before after place
 search_one default s before after place fine put =
@@ -78,7 +78,7 @@ search_one default s before after place fine put =
     let bounded = rules_bounded rs in
     let code = rules_answer default rs own in
     record {
-      small = omega (arith, code.len, put.few, sum_by-cons stretch_bound s []);
+      small = omega (arith, code.len, put.few, sum_by-cons range_bound s []);
       put = answers_put (AllRules IsPlainRule (s ∷ [])) code
           (λ all. recursion_from_All IsPlainRule rs (all 0 s (omega arith))) put;
       ends = λ call wanted low high n fits served from below few.

@@ -1,6 +1,6 @@
 pub mod Insns
 pub mod Blocks
-pub mod Stretches
+pub mod NrRanges
 pub mod Placing
 pub mod Runs
 pub mod Sound

@@ -1,5 +1,5 @@
-//! The instructions that test a condition. A number of 64 bits stands in two words of the record, the low one first.
-//! Where the condition holds the filter goes on behind them, and where it fails it passes more instructions.
+//! Code that tests a condition. A 64-bit argument is two words of the record, the low one first. If the condition
+//! holds, the next instruction follows; if it fails, instructions are skipped.
 
 ghost use Rattle.std.specs.Prelude.{◌≡◌, ◌++◌, ◌+◌, ◌<◌, ◌≤◌, OnOk, length};
 ghost use Rattle.scf_insn.specs.Kernel.{seccomp_data_args};
@@ -12,7 +12,7 @@ use scf_profile::{Condition, NumberTest};
 use std::alloc::AllocError;
 use std::collections::VecDeque;
 
-/// Tests whether a number is above a value or, where `test` is so, at least it.
+/// Tests whether an argument is greater than a value or, as `test` says, at least it.
 #[tactic(auto, unfolding(crate::specs::internal::Blocks::order_code))]
 fn put_order(
     code: &mut VecDeque<Insn>,
@@ -40,7 +40,7 @@ fn put_order(
     )
 }
 
-/// Tests whether a word has the wanted bits under a mask, which has them all.
+/// Tests `word & mask == wanted`. `mask` has all bits of `wanted`.
 #[tactic(auto, unfolding(crate::specs::internal::Blocks::half_code))]
 fn put_half(
     code: &mut VecDeque<Insn>,
@@ -69,7 +69,7 @@ fn put_half(
     }
 }
 
-/// Tests whether a number has the wanted bits under a mask, which has them all.
+/// Tests `argument & mask == wanted`. `mask` has all bits of `wanted`.
 #[tactic(auto, unfolding(crate::specs::internal::Blocks::masked_code))]
 fn put_masked(
     code: &mut VecDeque<Insn>,
@@ -97,7 +97,7 @@ fn put_masked(
     )
 }
 
-/// Tests a condition before some code. Where it fails, `out` more instructions are passed.
+/// Puts the test of a condition in front of the code. If it fails, `out` instructions behind the test are skipped.
 pub(crate) fn put_condition(
     code: &mut VecDeque<Insn>,
     condition: &Condition,

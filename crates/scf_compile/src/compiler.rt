@@ -12,9 +12,9 @@ ghost use Rattle.scf_compile.specs.internal.Filters.{IsFilterOf, IsSearchOf};
 
 use crate::fault::CompileFault;
 use crate::insns::{load_word, return_with};
-use crate::placing::{Place, put_block, put_branch};
+use crate::placing::{Position, put_block, put_branch};
+use crate::ranges::ranges_of;
 use crate::search::put_search;
-use crate::stretches::stretches_of;
 use scf_insn::kernel::{AUDIT_ARCH_X86_64, BPF_MAXINSNS, X32_SYSCALL_BIT};
 use scf_insn::{Insn, Memory, Test};
 use scf_machine::{CheckFault, Program, check};
@@ -22,18 +22,18 @@ use scf_profile::{FOREIGN_ANSWER, Profile};
 use std::alloc::Global;
 use std::collections::VecDeque;
 
-/// The search of a profile's rules by the call number, and the place where it begins.
-fn search_of(alloc: Global, profile: &Profile) -> Result<(VecDeque<Insn>, Place), Memory>
+/// The binary search for a profile's rules, and the position where it begins.
+fn search_of(alloc: Global, profile: &Profile) -> Result<(VecDeque<Insn>, Position), Memory>
     ensures { IfOk result (λ found. IsSearchOf profile.now found.0.items found.1) }
 {
     let default = profile.default_answer();
-    let stretches = stretches_of(alloc, profile.numbers(), default)?;
+    let ranges = ranges_of(alloc, profile.numbers(), default)?;
     let mut code = VecDeque::new(alloc);
-    let place = put_search(alloc, &mut code, &stretches, default)?;
+    let place = put_search(alloc, &mut code, &ranges, default)?;
     Ok((code, place))
 }
 
-/// The instructions of the filter of a profile, however many there are.
+/// The instructions of a profile's filter, however many there are.
 fn filter_of(alloc: Global, profile: &Profile) -> Result<Vec<Insn>, Memory>
     ensures { IfOk result (λ code. IsFilterOf profile.now code.items) }
 {
@@ -41,18 +41,18 @@ fn filter_of(alloc: Global, profile: &Profile) -> Result<Vec<Insn>, Memory>
     let x32 = put_block(&mut code, &[return_with(FOREIGN_ANSWER)])?;
     put_branch(&mut code, Test::GreaterOrEqual, X32_SYSCALL_BIT, x32, calls)?;
     code.push_front(load_word(0))?;
-    let native = Place(code.len());
+    let native = Position(code.len());
     let foreign = put_block(&mut code, &[return_with(FOREIGN_ANSWER)])?;
     put_branch(&mut code, Test::Equal, AUDIT_ARCH_X86_64, native, foreign)?;
     code.push_front(load_word(1))?;
     Ok(Vec::from(code))
 }
 
-/// Makes a filter that answers every call record as the profile does, in all 32 bits: those of other architectures and
-/// of numbers from 0x40000000 on too. Each is answered within a few steps: 8, and 2 for each binary digit of the count
-/// of distinct numbers, and for the rules of one number 2 and 8 for each condition. A profile whose masks are simple
-/// gives a plain program. `TooLarge` comes only where `size_bound` exceeds `BPF_MAXINSNS`, and `Memory` where a growth
-/// was refused.
+/// Compiles a profile to a filter that answers every call record as the profile does, in all 32 bits; also those of
+/// other architectures and of x32. Each run takes at most 8 steps, plus 2 for each binary digit of the count of
+/// distinct syscall numbers, plus, for the rules of one number, 2 for each rule and 8 for each condition. A plain
+/// profile gives a plain program. `TooLarge` comes only if `size_bound` exceeds `BPF_MAXINSNS`, and `Memory` only if an
+/// allocation failed.
 #[tactic(auto, using(crate::proofs::Valid::answers_same, crate::proofs::Valid::is_plain))]
 pub fn compile(alloc: Global, profile: &Profile) -> Result<Program, CompileFault>
     ensures same { IfOk result (λ program. SameAnswers (RunAnswers program) profile.now) }

@@ -7,7 +7,7 @@ use thiserror::Error;
 /// Why a profile isn't compiled.
 #[derive(Clone, Copy, Debug, PartialEq, Eq, Error)]
 pub enum CompileFault {
-    /// The filter would have more than `BPF_MAXINSNS` instructions. It has no more where `size_bound` doesn't exceed
+    /// The filter would have more than `BPF_MAXINSNS` (4096) instructions. This can happen only if `size_bound` exceeds
     /// that.
     #[error("the filter would have more than {most} instructions", most = BPF_MAXINSNS)]
     TooLarge,

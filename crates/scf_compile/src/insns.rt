@@ -1,4 +1,4 @@
-//! The instructions that compiled filters are made of (Linux uapi filter.h).
+//! The instructions of compiled filters (Linux uapi filter.h).
 
 ghost use Rattle.std.specs.Prelude.{◌≡◌, ◌<◌};
 ghost use Rattle.scf_insn.specs.Codes.{code_of};
@@ -22,7 +22,7 @@ pub(crate) fn load_word(word: u8) -> Insn
     insn_of(Operation::LoadWord, 0, 0, 4 * u32::from(word))
 }
 
-/// Keeps the bits of a mask in the accumulator.
+/// `A &= mask`.
 pub(crate) fn and_with(mask: u32) -> Insn
     ensures { result ≡ and_with mask }
 {
@@ -30,7 +30,7 @@ pub(crate) fn and_with(mask: u32) -> Insn
     insn_of(and, 0, 0, mask)
 }
 
-/// Passes `hit` instructions where the test of the accumulator against a constant holds, else `miss`.
+/// Skips `hit` instructions if the test of A against a constant holds, else `miss`.
 pub(crate) fn jump_if(test: Test, constant: u32, hit: u8, miss: u8) -> Insn
     ensures { result ≡ jump_if test constant hit miss }
 {
@@ -38,14 +38,14 @@ pub(crate) fn jump_if(test: Test, constant: u32, hit: u8, miss: u8) -> Insn
     insn_of(jump, hit, miss, constant)
 }
 
-/// Passes some instructions.
+/// Skips `count` instructions.
 pub(crate) fn jump_over(count: u32) -> Insn
     ensures { result ≡ jump_over count }
 {
     insn_of(Operation::Jump, 0, 0, count)
 }
 
-/// Answers.
+/// Returns an answer.
 pub(crate) fn return_with(answer: Answer) -> Insn
     ensures { result ≡ return_with answer.0 }
 {

@@ -1,4 +1,4 @@
-//! The compiler: a profile becomes a filter with the same answers.
+//! The compiler: from a profile to a filter with the same answers.
 #![tactic(auto)]
 
 mod blocks;
@@ -6,10 +6,10 @@ mod compiler;
 mod fault;
 mod insns;
 mod placing;
+mod ranges;
 mod rules;
 mod search;
 mod size;
-mod stretches;
 
 pub use compiler::compile;
 pub use fault::CompileFault;

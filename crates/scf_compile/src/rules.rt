@@ -1,4 +1,4 @@
-//! The instructions of rules.
+//! Code of rules.
 
 ghost use Rattle.std.specs.Prelude.{◌≡◌, ◌++◌, ◌<◌, ◌≤◌, IfOk, OnOk, length, All};
 ghost use Rattle.scf_insn.specs.Kernel.{seccomp_data_args};
@@ -12,7 +12,8 @@ use scf_profile::{Condition, Rule};
 use std::alloc::{AllocError, Global};
 use std::collections::VecDeque;
 
-/// Tests conditions before some code. Where one fails, what is left of them and one instruction more are passed.
+/// Puts the tests of conditions in front of the code. If one fails, the remaining ones and one more instruction are
+/// skipped.
 fn put_conditions(code: &mut VecDeque<Insn>, conditions: &[Condition]) -> Result<(), AllocError>
     requires few { length conditions.now ≤ seccomp_data_args }
     requires indices { All (λ c. c.index < seccomp_data_args) conditions.now }
@@ -26,7 +27,7 @@ fn put_conditions(code: &mut VecDeque<Insn>, conditions: &[Condition]) -> Result
     Ok(())
 }
 
-/// Answers as a rule does where its conditions hold, else goes on behind.
+/// Puts a rule in front of the code: its answer if its conditions hold, else the code follows.
 #[tactic(auto, using(crate::proofs::Sizes::few_conditions))]
 fn put_rule(code: &mut VecDeque<Insn>, rule: &Rule) -> Result<(), AllocError>
     requires { IsRule rule.now }
@@ -36,7 +37,7 @@ fn put_rule(code: &mut VecDeque<Insn>, rule: &Rule) -> Result<(), AllocError>
     put_conditions(code, rule.conditions.as_slice())
 }
 
-/// Some rules, one after another, and the default answer behind them. Nothing stands behind a rule without conditions.
+/// The code of rules, one after another, and the default answer behind them. A rule without conditions ends it.
 pub(crate) fn rules_block(
     alloc: Global,
     rules: &[Rule],

@@ -1,35 +1,35 @@
-//! The tests of the call number that lead to its rules: a search by halves.
+//! The binary search for the rules of a syscall number.
 
 ghost use Rattle.std.specs.Prelude.{◌+◌, ◌^◌, ◌<◌, IfOk, length, sum_by};
 ghost use Rattle.scf_profile.specs.Rule.{IsRule};
 ghost use Rattle.scf_compile.specs.internal.Filters.{IsSearchPut};
-ghost use Rattle.scf_compile.specs.internal.Stretches.{AllRules, stretch_bound};
+ghost use Rattle.scf_compile.specs.internal.NrRanges.{AllRules, range_bound};
 
-use crate::placing::{Place, put_block, put_branch};
+use crate::placing::{Position, put_block, put_branch};
+use crate::ranges::NrRange;
 use crate::rules::rules_block;
-use crate::stretches::Stretch;
 use scf_insn::{Answer, Insn, Test};
 use std::alloc::{AllocError, Global};
 use std::collections::VecDeque;
 
-/// Puts the search of some stretches by halves before the code: the upper half before the lower one.
+/// Puts a binary search over ranges in front of the code, the upper half in front of the lower one.
 pub(crate) fn put_search(
     alloc: Global,
     code: &mut VecDeque<Insn>,
-    stretches: &[Stretch],
+    ranges: &[NrRange],
     default: Answer,
-) -> Result<Place, AllocError>
-    requires some { 0 < length stretches.now }
-    requires rules { AllRules IsRule stretches.now }
-    requires small { length code.now.items + sum_by stretch_bound stretches.now < 2 ^ 32 }
-    ensures { IfOk result (IsSearchPut default stretches.now code.old.items code.new.items) }
+) -> Result<Position, AllocError>
+    requires some { 0 < length ranges.now }
+    requires rules { AllRules IsRule ranges.now }
+    requires small { length code.now.items + sum_by range_bound ranges.now < 2 ^ 32 }
+    ensures { IfOk result (IsSearchPut default ranges.now code.old.items code.new.items) }
 {
-    if stretches.len() > 1 {
-        let (low, high) = stretches.split_at(stretches.len() / 2);
+    if ranges.len() > 1 {
+        let (low, high) = ranges.split_at(ranges.len() / 2);
         let miss = put_search(alloc, code, low, default)?;
         let hit = put_search(alloc, code, high, default)?;
         return put_branch(code, Test::GreaterOrEqual, high[0].first, hit, miss);
     }
-    let block = rules_block(alloc, stretches[0].rules, default)?;
+    let block = rules_block(alloc, ranges[0].rules, default)?;
     put_block(code, &block)
 }

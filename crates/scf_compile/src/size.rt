@@ -1,11 +1,11 @@
-//! A count of instructions that the filter of a profile stays within.
+//! The size bound of compiled filters.
 
 ghost use Rattle.std.specs.Prelude.{◌≡◌, ◌<◌, ◌^◌, sum_by};
 ghost use Rattle.scf_compile.specs.SizeBound.{rule_bound, size_bound_of};
 
 use scf_profile::{Profile, Rule};
 
-/// For each of the rules 2, and 8 for each of its conditions.
+/// 2 for each of the rules, and 8 for each of its conditions.
 fn bound_of_rules(rules: &[Rule]) -> u64
     requires { sum_by rule_bound rules.now < 2 ^ 31 }
     ensures { result ≡ sum_by rule_bound rules.now }
@@ -16,8 +16,9 @@ fn bound_of_rules(rules: &[Rule]) -> u64
         .sum()
 }
 
-/// 8, and 4 for each distinct call number, and for each rule 2 and 8 for each of its conditions. `compile` answers
-/// `TooLarge` only where this exceeds `BPF_MAXINSNS`. It takes no memory.
+/// The size bound of a profile's filter, in instructions: 8, plus 4 for each distinct syscall number, plus 2 for each
+/// rule, plus 8 for each condition. `compile` answers `TooLarge` only if this exceeds `BPF_MAXINSNS` (4096). Never
+/// allocates.
 #[tactic(auto, using(crate::proofs::Sizes::size_small, crate::proofs::Common::count_of_numbers))]
 pub fn size_bound(profile: &Profile) -> u64
     ensures { result ≡ size_bound_of profile.now }

@@ -11,8 +11,8 @@ use Rattle.scf_profile.specs.PlainProfile.{IsPlainProfile, IsPlainRule}
 use Rattle.scf_profile.specs.Profile.{Profile}
 use Rattle.scf_profile.specs.ProfileAnswers.{ProfileAnswers}
 use Rattle.scf_profile.specs.RulesByNumber.{rules_of}
-use Rattle.scf_compile.specs.declared.placing.Place.{Place}
-use Rattle.scf_compile.specs.declared.stretches.Stretch.{Stretch}
+use Rattle.scf_compile.specs.declared.placing.Position.{Position}
+use Rattle.scf_compile.specs.declared.ranges.NrRange.{NrRange}
 use Rattle.scf_compile.specs.SearchBound.{search_bound_of}
 use Rattle.scf_compile.specs.SizeBound.{rule_bound, size_bound_of}
 use Rattle.scf_compile.specs.internal.Insns.{return_with}
@@ -20,7 +20,7 @@ use Rattle.scf_compile.specs.internal.Blocks.{condition_code}
 use Rattle.scf_compile.specs.internal.Placing.{code_from, IsNear}
 use Rattle.scf_compile.specs.internal.Runs.{EndsWithin}
 use Rattle.scf_compile.specs.internal.Sound.{AreSound}
-use Rattle.scf_compile.specs.internal.Stretches.{AllRules, AreServed, first_answer, stretch_bound}
+use Rattle.scf_compile.specs.internal.NrRanges.{AllRules, AreServed, first_answer, range_bound}
 
 -- the conditions of a rule, each of which passes what is left of them and one instruction more where it fails
 abbrev pub conditions_code : List Condition → List Insn
@@ -42,27 +42,27 @@ rules_code default [] = return_with default.0 ∷ []
 rules_code default (r ∷ rs) = rule_code r ++ behind_rule r.conditions (rules_code default rs)
 
 -- Some instructions are put before others, which stay at their places, and sound with them, and plain where this is so.
-pub record ArePut (plain : Type 0) (before after : List Insn) (place : Place) : Type 0 where
+pub record ArePut (plain : Type 0) (before after : List Insn) (place : Position) : Type 0 where
   pub longer : length before ≤ length after
-  pub stays : (p : Place) → p.0 ≤ length before → code_from p after ≡ code_from p before
+  pub stays : (p : Position) → p.0 ≤ length before → code_from p after ≡ code_from p before
   pub some : 0 < place.0
   pub near : IsNear place after
   pub sound : (asked : Bool) → (IsTrue asked → plain) → AreSound asked before → AreSound asked after
 
--- From a place on each call with a number that the stretches serve is answered by the rules wanted of it, after two
--- steps for each halving of the stretches.
-pub record IsSearchPut (default : Answer) (stretches : List Stretch) (before after : List Insn) (place : Place)
+-- From a place on each call with a number that the ranges serve is answered by the rules wanted of it, after two
+-- steps for each halving of the ranges.
+pub record IsSearchPut (default : Answer) (ranges : List NrRange) (before after : List Insn) (place : Position)
     : Type 0 where
-  pub small : length after + 2 ≤ length before + sum_by stretch_bound stretches
-  pub put : ArePut (AllRules IsPlainRule stretches) before after place
+  pub small : length after + 2 ≤ length before + sum_by range_bound ranges
+  pub put : ArePut (AllRules IsPlainRule ranges) before after place
   pub ends : (call : CallRecord) (wanted : ℕ → List Rule) (low high halvings : ℕ) → IsRecord call
-      → AreServed default wanted low stretches high → low ≤ call.nr → call.nr < high → length stretches ≤ 2 ^ halvings
+      → AreServed default wanted low ranges high → low ≤ call.nr → call.nr < high → length ranges ≤ 2 ^ halvings
       → EndsWithin (words_of call) (code_from place after) call.nr (first_answer call default (wanted call.nr))
       (2 * halvings + (1 + sum_by rule_bound (wanted call.nr)))
 
 -- From a place on each call with a number that isn't one of x32 is answered by the profile's rules of the number. Seven
 -- instructions more are within the bound on the size, and five steps more within that on the steps.
-pub record IsSearchOf (p : Profile) (code : List Insn) (place : Place) : Type 0 where
+pub record IsSearchOf (p : Profile) (code : List Insn) (place : Position) : Type 0 where
   pub some : 0 < place.0
   pub near : IsNear place code
   pub small : (length code + 7 ≤ size_bound_of p) × (size_bound_of p < 2 ^ 31)

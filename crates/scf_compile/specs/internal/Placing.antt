@@ -4,20 +4,20 @@ use Rattle.std.specs.Prelude.{take}
 use Rattle.std.specs.Prelude.{if◌then◌else◌}
 use Rattle.scf_insn.specs.declared.insn.Insn.{Insn}
 use Rattle.scf_insn.specs.declared.operation.Test.{Test}
-use Rattle.scf_compile.specs.declared.placing.Place.{Place}
+use Rattle.scf_compile.specs.declared.placing.Position.{Position}
 use Rattle.scf_compile.specs.internal.Insns.{jump_if, jump_over}
 
 -- the code from a place on
-abbrev pub code_from : Place → List Insn → List Insn
+abbrev pub code_from : Position → List Insn → List Insn
 code_from place code = drop (length code - place.0) code
 
 -- a conditional jump that stands two instructions before the code reaches the place
-pub record IsNear (place : Place) (code : List Insn) : Type 0 where
+pub record IsNear (place : Position) (code : List Insn) : Type 0 where
   pub stands : place.0 ≤ length code
   pub near : length code < place.0 + 255
 
 -- The block, of no more than two instructions, stands first, before the code that stood.
-pub record IsFirst (block before after : List Insn) (place : Place) : Type 0 where
+pub record IsFirst (block before after : List Insn) (place : Position) : Type 0 where
   pub whole : after ≡ block ++ before
   pub first : place.0 ≡ length after
   pub few : length after ≤ 2 + length before
@@ -28,7 +28,7 @@ IsOutOfReach wanted code = All (λ insn. insn ≢ wanted) (take 255 code)
 
 -- The block stands at a place of the code, which is as it was before or has the block more: if this is one instruction,
 -- only where it was out of reach.
-pub record IsPut (block before after : List Insn) (place : Place) : Type 0 where
+pub record IsPut (block before after : List Insn) (place : Position) : Type 0 where
   pub front : List Insn
   pub whole : after ≡ front ++ before
   pub put : (front ≡ []) ⊎ (front ≡ block)

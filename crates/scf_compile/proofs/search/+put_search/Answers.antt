@@ -1,17 +1,17 @@
-use Rattle.scf_compile.proofs.Common.{rules, IsRule, ◌≡◌, ◌++◌, ap, arith, IfOk-weaker, sum_by, sum_by-append, IsFirst, IsPut, IsSearchPut, rules_code, stretch_bound}
+use Rattle.scf_compile.proofs.Common.{rules, IsRule, ◌≡◌, ◌++◌, ap, arith, IfOk-weaker, sum_by, sum_by-append, IsFirst, IsPut, IsSearchPut, rules_code, range_bound}
 use Rattle.scf_compile.proofs.Searches.{all_parts, one_is, search_branch, search_one}
 use Rattle.scf_compile.proofs.search.+put_search.Goals as goal
 
 pub put_search-requires : goal.put_search-requires
 put_search-requires t c =
     let halves = c.split_at.ensures in
-    let sums = rw sum_by-append at (ap (sum_by stretch_bound) halves.by_index.0) in
+    let sums = rw sum_by-append at (ap (sum_by range_bound) halves.by_index.0) in
     (omega arith, (omega arith, ((all_parts IsRule _ _ (rw halves.by_index.0 at c.requires.rules)).0, omega arith)))
 
-pub put_search-requires-then-stretches-gt1 : goal.put_search-requires-then-stretches-gt1
-put_search-requires-then-stretches-gt1 t c =
+pub put_search-requires-then-ranges-gt1 : goal.put_search-requires-then-ranges-gt1
+put_search-requires-then-ranges-gt1 t c =
     let halves = c.split_at.ensures in
-    let sums = rw sum_by-append at (ap (sum_by stretch_bound) halves.by_index.0) in (
+    let sums = rw sum_by-append at (ap (sum_by range_bound) halves.by_index.0) in (
       omega arith,
       (
         omega arith,
@@ -24,13 +24,13 @@ put_search-requires-then-stretches-gt1 t c =
 
 pub put_branch-requires-clause-few : goal.put_branch-requires-clause-few
 put_branch-requires-clause-few t c =
-    let sums = rw sum_by-append at (ap (sum_by stretch_bound) c.split_at.ensures.by_index.0) in
+    let sums = rw sum_by-append at (ap (sum_by range_bound) c.split_at.ensures.by_index.0) in
     omega (arith, c.in_ok-miss.ensures.small, c.in_ok-hit.ensures.small)
 
-pub returns-then-stretches-gt1 : goal.returns-then-stretches-gt1
-returns-then-stretches-gt1 t c =
+pub returns-then-ranges-gt1 : goal.returns-then-ranges-gt1
+returns-then-ranges-gt1 t c =
     let s = c.index-high-0.result in
-    let more = c.if-stretches-gt1.true in
+    let more = c.if-ranges-gt1.true in
     rw c.split_at.ensures.by_index.0 (IfOk-weaker c.put_branch.result (IsFirst _ _ _)
     (IsSearchPut c.args.default (c.split_at.result.0.now ++ c.split_at.result.1.now) _ _)
     (λ place first. search_branch c.args.default _ _ s (omega arith) (omega arith, omega arith) c.index-high-0.is
@@ -38,10 +38,10 @@ returns-then-stretches-gt1 t c =
 
 pub returns : goal.returns
 returns t c =
-    let ss = c.args.stretches.now in
-    let s = c.index-stretches-0.result in
-    let one = c.if-stretches-gt1.false in
-    let is = one_is ss s c.requires.some (omega arith) c.index-stretches-0.is in
+    let ss = c.args.ranges.now in
+    let s = c.index-ranges-0.result in
+    let one = c.if-ranges-gt1.false in
+    let is = one_is ss s c.requires.some (omega arith) c.index-ranges-0.is in
     let block : c.deref.result.now ≡ rules_code c.args.default s.rules.now = search rules in
     IfOk-weaker c.put_block.result (IsPut c.deref.result.now c.args.code.now.items c.put_block.new.code.items)
     (IsSearchPut c.args.default ss _ _)

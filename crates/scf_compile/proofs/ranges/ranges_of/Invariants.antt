@@ -1,8 +1,8 @@
 use Rattle.scf_compile.proofs.Common.{List, Rule, AreNumbersOf}
 use Rattle.scf_compile.proofs.Laying.{AreLaid}
-use Rattle.scf_compile.proofs.stretches.stretches_of.Given as goal
+use Rattle.scf_compile.proofs.ranges.ranges_of.Given as goal
 
 -- the numbers so far are laid, of whatever rules they are
 abbrev pub invariant-loop-own : goal.invariant-loop-own
 invariant-loop-own l = (rules : List Rule) → AreNumbersOf l.numbers rules
-    → AreLaid l.default l.numbers rules l.stretches.items l.next l.own-index
+    → AreLaid l.default l.numbers rules l.ranges.items l.next l.own-index

@@ -7,7 +7,7 @@ use Rattle.scf_insn.specs.Kernel.{x32_syscall_bit}
 use Rattle.scf_profile.specs.declared.rule.Rule.{Rule}
 use Rattle.scf_profile.specs.Rule.{all_hold}
 use Rattle.scf_profile.specs.RulesByNumber.{numbers_of, rules_of}
-use Rattle.scf_compile.specs.declared.stretches.Stretch.{Stretch}
+use Rattle.scf_compile.specs.declared.ranges.NrRange.{NrRange}
 use Rattle.scf_compile.specs.SizeBound.{rule_bound}
 
 -- the answer of the first of the rules whose conditions hold, else the default
@@ -22,53 +22,53 @@ pub record StandsFor (default : Answer) (rules others : List Rule) : Type 0 wher
   pub small : sum_by rule_bound rules ≤ sum_by rule_bound others
 
 -- The rules of a number that tell: they stand for all of them, and are all or none.
-pub record AreTelling (default : Answer) (telling own : List Rule) : Type 0 where
+pub record AreEffective (default : Answer) (telling own : List Rule) : Type 0 where
   pub stand : StandsFor default telling own
   pub some : (telling ≡ own) ⊎ (telling ≡ [])
 
--- a count of instructions that a stretch stays within: with its share of the tests of the call number
+-- a count of instructions that a range stays within: with its share of the tests of the call number
 abbrev pub rules_bound : List Rule → ℕ
 rules_bound [] = 3
 rules_bound (r ∷ rs) = 1 + sum_by rule_bound (r ∷ rs)
 
-abbrev pub stretch_bound : Stretch → ℕ
-stretch_bound s = rules_bound s.rules.now
+abbrev pub range_bound : NrRange → ℕ
+range_bound s = rules_bound s.rules.now
 
--- what holds of each rule of some stretches
-abbrev pub AllRules : (Rule → Type 0) → List Stretch → Type 0
-AllRules P stretches = All (λ s. All P s.rules.now) stretches
+-- what holds of each rule of some ranges
+abbrev pub AllRules : (Rule → Type 0) → List NrRange → Type 0
+AllRules P ranges = All (λ s. All P s.rules.now) ranges
 
--- The stretch begins at the lower bound, and up to the other one its rules stand for those wanted of each number.
-pub record IsServed (default : Answer) (wanted : ℕ → List Rule) (s : Stretch) (low high : ℕ) : Type 0 where
+-- The range begins at the lower bound, and up to the other one its rules stand for those wanted of each number.
+pub record IsServed (default : Answer) (wanted : ℕ → List Rule) (s : NrRange) (low high : ℕ) : Type 0 where
   pub first : s.first ≡ low
   pub some : low < high
   pub stand : (nr : ℕ) → low ≤ nr → nr < high → StandsFor default s.rules.now (wanted nr)
 
--- the numbers from one bound up to another have a stretch each: every stretch goes on up to the next one
-abbrev pub AreServed : Answer → (ℕ → List Rule) → ℕ → List Stretch → ℕ → Type 0
+-- the numbers from one bound up to another have a range each: every range goes on up to the next one
+abbrev pub AreServed : Answer → (ℕ → List Rule) → ℕ → List NrRange → ℕ → Type 0
 AreServed default wanted low [] high = low ≡ high
 AreServed default wanted low (s ∷ ss) high =
     (middle : ℕ) × IsServed default wanted s low middle × AreServed default wanted middle ss high
 
--- From a number on the rules apply: a stretch of them stands behind the others, or the last one's stand for them.
-pub data IsLaid (before : List Stretch) (first : ℕ) (rules : List Rule) (after : List Stretch) : Type 0 where
-  begins : (s : Stretch) → s.first ≡ first → s.rules.now ≡ rules → after ≡ before ++ s ∷ []
+-- From a number on the rules apply: a range of them stands behind the others, or the last one's stand for them.
+pub data IsLaid (before : List NrRange) (first : ℕ) (rules : List Rule) (after : List NrRange) : Type 0 where
+  begins : (s : NrRange) → s.first ≡ first → s.rules.now ≡ rules → after ≡ before ++ s ∷ []
       → IsLaid before first rules after
-  goes_on : (earlier : List Stretch) (last : Stretch) → before ≡ earlier ++ last ∷ []
+  continues : (earlier : List NrRange) (last : NrRange) → before ≡ earlier ++ last ∷ []
       → ((default : Answer) → StandsFor default last.rules.now rules) → after ≡ before
       → IsLaid before first rules after
 
--- Each number below `end` is served by one of the stretches, which have some of the rules. They are at most so many,
+-- Each number below `end` is served by one of the ranges, which have some of the rules. They are at most so many,
 -- and so are the instructions that they stay within.
-pub record AreStretchesUpTo (end most bound : ℕ) (default : Answer) (stretches : List Stretch) (rules : List Rule)
+pub record AreRangesUpTo (end most bound : ℕ) (default : Answer) (ranges : List NrRange) (rules : List Rule)
     : Type 0 where
-  pub serve : AreServed default (λ nr. rules_of nr rules) 0 stretches end
-  pub own : AllRules (Contains rules) stretches
-  pub few : length stretches ≤ most
-  pub small : sum_by stretch_bound stretches ≤ bound
+  pub serve : AreServed default (λ nr. rules_of nr rules) 0 ranges end
+  pub own : AllRules (Contains rules) ranges
+  pub few : length ranges ≤ most
+  pub small : sum_by range_bound ranges ≤ bound
 
--- These are the stretches of the rules: each number is served by one, and they are few and small.
-abbrev pub AreStretchesOf : Answer → List Stretch → List Rule → Type 0
-AreStretchesOf default stretches rules =
+-- These are the ranges of the rules: each number is served by one, and they are few and small.
+abbrev pub AreRangesOf : Answer → List NrRange → List Rule → Type 0
+AreRangesOf default ranges rules =
     let count = length (numbers_of rules) in
-    AreStretchesUpTo x32_syscall_bit (1 + 2 * count) (3 + 4 * count + sum_by rule_bound rules) default stretches rules
+    AreRangesUpTo x32_syscall_bit (1 + 2 * count) (3 + 4 * count + sum_by rule_bound rules) default ranges rules

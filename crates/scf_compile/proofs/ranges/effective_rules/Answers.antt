@@ -1,5 +1,5 @@
 use Rattle.scf_compile.proofs.Common.{rules, ◌≡◌, List, [], ◌∷◌, refl, sym, ap, inl, inr, arith, AllByRecursion, cases_Bool, recursion_from_All, Answer, CallRecord, Rule, all_hold, first_answer}
-use Rattle.scf_compile.proofs.stretches.telling_rules.Goals as goal
+use Rattle.scf_compile.proofs.ranges.effective_rules.Goals as goal
 
 of_default : (default : Answer) (call : CallRecord) (rs : List Rule) → AllByRecursion (λ r. r.answer ≡ default) rs
     → first_answer call default rs ≡ default.0

@@ -1,5 +1,5 @@
 use Rattle.scf_compile.proofs.Common.{rules, tests, zip, YieldsList-from_slice, YieldsList-from_zip, cases_from_all, All-from_all_within, ◌≡◌, true, List, [], ◌∷◌, length, refl, arith, AllByRecursion, recursion_from_All, sum_by-cons, pointwise, pointwise_decides, Answer, Condition, eq-value, Rule, rule_bound, StandsFor}
-use Rattle.scf_compile.proofs.stretches.are_alike.Goals as goal
+use Rattle.scf_compile.proofs.ranges.are_alike.Goals as goal
 
 -- conditions that `==` takes as equal are
 same_conditions : (cs ds : List Condition) → pointwise eq-value.it cs ds ≡ true → cs ≡ ds
