@@ -1,4 +1,4 @@
-//! The checker of filters.
+//! The checker.
 
 ghost use Rattle.std.specs.Prelude.{◌≡◌, ◌≢◌, ◌<◌, ◌≤◌, ◌↔◌, ℕ, List, length, Some, if◌then◌else◌};
 ghost use Rattle.std.specs.Prelude.{IsTrue, IfOk, IfErr, OnOk};
@@ -19,7 +19,7 @@ use scf_insn::{Arithmetic, Insn, Operand, Operation};
 use std::alloc::{AllocError, Global};
 use thiserror::Error;
 
-/// Why a list of instructions is refused. `at` is the place of an instruction, from 0 on.
+/// Why a list of instructions is refused. `at` is an instruction index, from 0.
 #[derive(Clone, Copy, Debug, PartialEq, Eq, Error)]
 pub enum CheckFault {
     #[error("the filter is empty")]
@@ -57,7 +57,7 @@ impl From<AllocError> for CheckFault {
     }
 }
 
-/// Whether a constant operand is one that the computation may have.
+/// Whether the computation may have this constant: no division by 0, no shift past 31.
 fn is_fine_constant(arithmetic: Arithmetic, len: usize, at: usize, insn: Insn) -> bool
     ensures { IsTrue result ↔ IsFine len at insn (Operation.Compute arithmetic Operand.Constant) }
 {
@@ -68,7 +68,7 @@ fn is_fine_constant(arithmetic: Arithmetic, len: usize, at: usize, insn: Insn) -
     }
 }
 
-/// Whether an instruction keeps the rule of its operation.
+/// Whether an instruction keeps its operation's rule.
 fn is_fine(len: usize, at: usize, insn: Insn, operation: Operation) -> bool
     requires { at < bpf_maxinsns }
     ensures { IsTrue result ↔ IsFine len at insn operation }
@@ -87,7 +87,7 @@ fn is_fine(len: usize, at: usize, insn: Insn, operation: Operation) -> bool
     }
 }
 
-/// The fault of an instruction that breaks the rule of its operation.
+/// The fault of an instruction that breaks its operation's rule.
 fn fault_of(operation: Operation, at: usize) -> CheckFault
     ensures { (insns : List Insn) (i : Insn) → IsFineBelow insns at → Stands insns at i operation
         → (IsFine (length insns) at i operation → ⊥) → IsFirstFault insns result }
@@ -151,7 +151,7 @@ fn is_stored(mask: u16, word: u32) -> bool
     (mask >> word) & 1 == 1
 }
 
-/// The mask with the scratch word that an instruction stores.
+/// The mask, with the scratch word that the instruction stores.
 #[tactic(auto, using(crate::proofs::Masks::bit_set))]
 fn mask_after(mask: u16, insn: Insn, operation: Operation) -> u16
     requires { IsTrue (stores_word operation insn.k insn.k) → insn.k < bpf_memwords }
@@ -164,7 +164,7 @@ fn mask_after(mask: u16, insn: Insn, operation: Operation) -> u16
     }
 }
 
-/// The mask of a place loses the bits that a mask lacks.
+/// Intersects the mask of one instruction with another mask.
 fn join_at(masks: &mut [u16], target: usize, mask: u16)
     requires { target < length masks.old }
     ensures { Joins masks.old masks.new (λ p. p ≡ target) mask }
@@ -172,7 +172,7 @@ fn join_at(masks: &mut [u16], target: usize, mask: u16)
     masks[target] &= mask;
 }
 
-/// The masks of the places that an instruction leads to lose the bits that a mask lacks.
+/// Intersects the masks of an instruction's successors with its own.
 fn join(masks: &mut [u16], at: usize, insn: Insn, operation: Operation, mask: u16)
     requires inside { at < length masks.old }
     requires fine { IsFine (length masks.old) at insn operation }
@@ -192,7 +192,7 @@ fn join(masks: &mut [u16], at: usize, insn: Insn, operation: Operation, mask: u1
     }
 }
 
-/// The instruction at a place of a valid list, and its operation.
+/// The instruction at an index of a valid list, and its operation.
 fn known_at(insns: &[Insn], at: usize) -> (Insn, Operation)
     requires valid { IsValidList insns.now }
     requires inside { at < length insns.now }
@@ -206,7 +206,7 @@ fn known_at(insns: &[Insn], at: usize) -> (Insn, Operation)
     (insn, operation)
 }
 
-/// Refuses the first load of a scratch word that some path to it doesn't store.
+/// Finds the first load of a scratch word that some path to it doesn't store.
 fn find_unset(insns: &[Insn], masks: &mut [u16]) -> Result<(), CheckFault>
     requires valid { IsValidList insns.now }
     requires start { MasksAt insns.now masks.old 0 }
@@ -233,8 +233,8 @@ fn find_unset(insns: &[Insn], masks: &mut [u16]) -> Result<(), CheckFault>
     Ok(())
 }
 
-/// Looks at each load of a scratch word. The mask of a place has the words that each path to it stores; no path
-/// was seen at first but the one to place 0.
+/// Checks each load of a scratch word. The mask of an instruction has the words that every path to it stores; at first
+/// only the path to index 0 is known.
 #[tactic(auto, using(crate::proofs::Masks::masks_made))]
 fn check_scratch(alloc: Global, insns: &[Insn]) -> Result<(), CheckFault>
     requires { IsValidList insns.now }
@@ -246,7 +246,7 @@ fn check_scratch(alloc: Global, insns: &[Insn]) -> Result<(), CheckFault>
     find_unset(insns, &mut masks)
 }
 
-/// The fields of each instruction are within their widths.
+/// States that the fields of each instruction are within their widths.
 fn note_widths(insns: &[Insn])
     ensures { AllByRecursion IsInsn insns.now }
 {
@@ -271,11 +271,12 @@ fn find_fault(alloc: Global, insns: &[Insn]) -> Result<(), CheckFault>
     check_scratch(alloc, insns)
 }
 
-/// Accepts a list of instructions, or says why not and hands the list back.
+/// Accepts a list of instructions as a program, unchanged; else the first fault, and the list back.
 ///
-/// The faults come in this order: `Empty`, `TooLong`; then the lowest place with one of `Code`, `Load`, `Scratch`,
-/// `Divisor`, `Shift` and `Jump`; then `LastNotReturn`; then `Memory`, at the one growth; then `Unset` at the lowest
-/// place that some path comes to without a store of the word that is loaded there.
+/// The order of faults: `Empty`, `TooLong`; then at the lowest index one of `Code`, `Load`, `Scratch`, `Divisor`,
+/// `Shift`, `Jump`; then `LastNotReturn`; then `Memory`, at the only allocation; then `Unset` at the lowest load whose
+/// scratch word some path doesn't store. The rules are those of bpf_check_classic and check_load_and_stores
+/// (net/core/filter.c) and seccomp_check_filter (kernel/seccomp.c).
 pub fn check(alloc: Global, insns: Vec<Insn>) -> Result<Program, (CheckFault, Vec<Insn>)>
     ensures accepted { IfOk result (λ program.
         (program ≡ insns.items) × IsValidList program × KeepsScratchRule program) }

@@ -1,5 +1,5 @@
-//! Laws of chains of steps and of stacks, which crates that make, follow or stack programs stand on. Each function does
-//! nothing: what it ensures is the law, for all lists of instructions, accepted or not.
+//! Laws of chains of steps and of stacks. Each function does nothing: its contract is the law, for every list of
+//! instructions, accepted or not.
 
 ghost use Rattle.std.specs.Prelude.{◌≡◌, ◌↔◌, ◌+◌, ◌++◌, [], ◌∷◌, ℕ, All, Contains, List, length, map, reverse};
 ghost use Rattle.scf_insn.specs.declared.insn.Insn.{Insn};
@@ -10,13 +10,13 @@ ghost use Rattle.scf_machine.specs.Parts.{IsPart, moved};
 ghost use Rattle.scf_machine.specs.Precedence.{AreAnswers, IsDecision, StackAnswers, with_newest};
 ghost use Rattle.scf_machine.specs.Rules.{IsFilter};
 
-/// A list has one run over a record: two runs have one answer and one length.
+/// A list has one run over a record: two runs have the same answer and length.
 pub fn run_once()
     ensures { (insns : List Insn) (words : List ℕ) (m n k l : ℕ) → IsRun insns words m k → IsRun insns words n l
         → (m ≡ n) × (k ≡ l) }
 {}
 
-/// Two chains that meet are one chain, and a chain before a run makes a run.
+/// Two chains that meet are one chain; a chain followed by a run is a run.
 #[tactic(auto, using(crate::proofs::Chains::chains_join, crate::proofs::Chains::run_behind))]
 pub fn chains_join()
     ensures chain { (insns : List Insn) (words : List ℕ) (s t u : State) (xs ys : List State)
@@ -26,7 +26,7 @@ pub fn chains_join()
         → IsRunFrom insns words s answer (length xs + steps) }
 {}
 
-/// A chain inside a part of a list is a chain of the whole, as many places further on, and so is an answer.
+/// A chain inside a part of a list is a chain of the whole list, shifted by the part's index; so is an answer.
 pub fn chain_of_part()
     ensures chain { (whole part : List Insn) (n : ℕ) (words : List ℕ) (s t : State) (xs : List State)
         → IsPart part n whole → IsChain part words s t xs
@@ -36,8 +36,7 @@ pub fn chain_of_part()
     ensures between { (front part back : List Insn) → IsPart part (length front) (front ++ part ++ back) }
 {}
 
-/// Of answers one decides, and one answer more, the newest, changes the decision as `with_newest` says. So a decision
-/// depends on the answers alone.
+/// Exactly one of some answers takes precedence, and one more, the newest, changes that as `with_newest` says.
 #[tactic(auto, using(crate::proofs::Stacks::decision_laws))]
 pub fn answers_decide()
     ensures some { (answers : List ℕ) → (decision : ℕ) × IsDecision answers decision }
@@ -46,9 +45,8 @@ pub fn answers_decide()
         → IsDecision (newest ∷ answers) (with_newest older newest) }
 {}
 
-/// A stack of filters has one answer to each record, which depends on the answers of its filters alone. A stack of no
-/// filters allows, and one filter answers as its run does. One filter more, the newest, changes the answer as
-/// `with_newest` says.
+/// A stack has one answer to each record, which depends on its filters' answers alone. An empty stack answers ALLOW 0,
+/// one filter answers as its run does, and one more, the newest, changes the answer as `with_newest` says.
 pub fn stack_answers()
     ensures empty { (words : List ℕ) → StackAnswers [] words seccomp_ret_allow }
     ensures one { (filter : List Insn) (words : List ℕ) (answer : ℕ)

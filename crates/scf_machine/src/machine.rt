@@ -16,17 +16,17 @@ use scf_insn::kernel::{BPF_MEMWORDS, SECCOMP_DATA_LEN};
 use scf_insn::{Answer, Arithmetic, CallRecord, Insn, Memory, Operand, Operation, Register, Test};
 use std::alloc::Global;
 
-/// The answer of a run, and how many instructions it executed.
+/// The result of a run: its answer, and how many instructions it executed (1 to the program's length).
 #[derive(Clone, Copy, Debug, PartialEq, Eq)]
 pub struct Ran {
     pub answer: Answer,
     pub steps: u32,
 }
 
-/// How many bytes a record has.
+/// The length of a call record in bytes.
 const RECORD_LEN: u32 = SECCOMP_DATA_LEN as u32;
 
-/// The registers and scratch words of a running machine.
+/// The registers and scratch words of the machine.
 #[derive(Clone, Copy)]
 struct Registers {
     place: usize,
@@ -35,9 +35,10 @@ struct Registers {
     scratch: [u32; BPF_MEMWORDS],
 }
 
-/// What a computation on two numbers gives.
+/// The result of a computation on two 32-bit numbers, modulo 2^32. A division has a divisor above 0, a shift at most 31
+/// (the caller's conditions).
 ///
-/// It is inlined, so that the code of an instruction leads a run straight to its computation.
+/// Inlined, so that an instruction's code leads straight to its computation.
 #[inline(always)]
 pub fn compute(arithmetic: Arithmetic, a: u32, value: u32) -> u32
     requires divisor { arithmetic ≡ Arithmetic.Div → value ≢ 0 }
@@ -82,7 +83,7 @@ impl Registers {
         }
     }
 
-    /// Goes on to the next instruction with a register set.
+    /// Sets a register and goes to the next instruction.
     fn set(&mut self, register: Register, value: u32)
         requires { self.old.place < bpf_maxinsns }
         ensures { (s : State) (v : ℕ) → StandFor self.old s → v ≡ value → StandFor self.new (sets register s v) }
@@ -94,7 +95,7 @@ impl Registers {
         self.place += 1;
     }
 
-    /// Goes on to the next instruction with a scratch word stored.
+    /// Stores a scratch word and goes to the next instruction.
     fn store(&mut self, index: u8, value: u32)
         requires place { self.old.place < bpf_maxinsns }
         requires index { index < bpf_memwords }
@@ -104,7 +105,7 @@ impl Registers {
         self.place += 1;
     }
 
-    /// Goes on so many instructions past the next.
+    /// Skips `count` instructions behind the next.
     #[inline(always)]
     fn jump(&mut self, offset: u8)
         requires { self.old.place < bpf_maxinsns }
@@ -113,7 +114,7 @@ impl Registers {
         self.place += 1 + offset as usize;
     }
 
-    /// Goes on to the next instruction with a computation on the accumulator done.
+    /// Computes on the accumulator and goes to the next instruction.
     #[inline(always)]
     fn compute(&mut self, arithmetic: Arithmetic, value: u32)
         requires place { self.old.place < bpf_maxinsns }
@@ -126,7 +127,7 @@ impl Registers {
         self.set(Register::A, compute(arithmetic, self.a, value));
     }
 
-    /// Computes with the index register, whose low five bits a shift takes. A division by 0 answers 0.
+    /// Computes with the index register; a shift takes its low five bits. Division by 0 returns the answer 0.
     #[inline(always)]
     #[tactic(auto, using(crate::proofs::Steps::computes_by_index))]
     fn compute_by_index(&mut self, arithmetic: Arithmetic) -> Option<Answer>
@@ -148,7 +149,7 @@ impl Registers {
         None
     }
 
-    /// Goes on where a test of the accumulator leads.
+    /// Goes where a test of the accumulator leads.
     #[inline(always)]
     fn branch(&mut self, test: Test, value: u32, insn: &Insn)
         requires { self.old.place < bpf_maxinsns }
@@ -162,7 +163,7 @@ impl Registers {
         }
     }
 
-    /// Executes one instruction. Each second operand has an arm of its own, so that none is chosen while the filter
+    /// Executes one instruction. Each kind of second operand has its own arm, so that none is chosen while the filter
     /// runs.
     #[inline(always)]
     fn step(&mut self, insn: &Insn, operation: Operation, words: &[u32; 16]) -> Option<Answer>
@@ -196,7 +197,7 @@ impl Registers {
         None
     }
 
-    /// Executes the instruction at the place.
+    /// Executes the instruction at the current index.
     #[inline(always)]
     fn advance(&mut self, program: &Program, words: &[u32; 16]) -> Option<Answer>
         requires { (earlier : List State) × IsAt program.now words.now self.old earlier }
@@ -212,9 +213,9 @@ impl Registers {
     }
 }
 
-/// Runs a filter over the record of a call: the answer and the length of its one run.
+/// Runs a program on a call record: the answer and the length of its only run.
 ///
-/// It isn't inlined, so that its loop has the registers of the processor to itself.
+/// Not inlined, so that its loop has the processor's registers to itself.
 #[inline(never)]
 pub fn run(program: &Program, call: &CallRecord) -> Ran
     ensures run { IsRun program.now (words_of call.now) result.answer.0 result.steps }
@@ -233,13 +234,13 @@ pub fn run(program: &Program, call: &CallRecord) -> Ran
     }
 }
 
-/// Runs a filter over the record of a call, and keeps the places of the instructions on the way.
+/// Runs a program on a call record, and keeps the path: the indices of the executed instructions.
 ///
-/// `Err`: a growth was refused.
+/// `Err`: an allocation failed.
 pub fn trace(alloc: Global, program: &Program, call: &CallRecord) -> Result<Trace, Memory>
     ensures path { IfOk result (λ t.
         IsPathOf program.now (words_of call.now) t.answer.0 t.places.items) }
-    // There are as many places as the run has steps, and the answer is the run's.
+    // The path is as long as the run, and the answer is the run's.
     ensures run { IfOk result (λ t.
         IsRun program.now (words_of call.now) t.answer.0 (length t.places.items)) }
     ensures bound { IfOk result (λ t. length t.places.items ≤ length program.now) }

@@ -1,9 +1,9 @@
-//! The path that a run takes.
+//! The path of a run.
 
 use scf_insn::Answer;
 
-/// The answer of a run, and the places of the instructions that it executed, in order. A place is from 0 on; the
-/// first one is 0, and the last one is of the instruction that answers.
+/// The answer of a run, and the indices of the instructions that it executed, in order. The first is 0, the last is the
+/// returning instruction.
 #[derive(Debug, Drop)]
 pub struct Trace {
     pub answer: Answer,

@@ -1,4 +1,4 @@
-//! Filters that were checked.
+//! Checked programs.
 
 ghost use Rattle.std.specs.Prelude.{◌≡◌, ℕ, false, List, length};
 ghost use Rattle.std.specs.List.{AllByRecursion};
@@ -9,7 +9,7 @@ ghost use Rattle.scf_machine.specs.Rules.{IsValidList, KeepsScratchRule};
 use scf_insn::Insn;
 use std::marker::Model;
 
-/// A list of instructions that was accepted. Only `check` makes one.
+/// An accepted list of instructions, 1 to 4096. Only `check` makes one.
 #[derive(Drop)]
 pub struct Program {
     pub(crate) list: Vec<Insn>,
@@ -28,7 +28,7 @@ impl Model for Program {
 }
 
 impl Program {
-    /// The instructions. They keep the rules of filters, and each run of them ends in an answer within its length.
+    /// The instructions. They keep the checker's rules, and each run ends in an answer within their count.
     pub fn insns(&self) -> &[Insn]
         ensures same { result.now ≡ self.now }
         ensures widths { AllByRecursion IsInsn self.now }
@@ -39,21 +39,21 @@ impl Program {
         &self.list
     }
 
-    /// How many instructions there are.
+    /// The count of instructions, 1 to 4096.
     pub fn len(&self) -> usize
         ensures { result ≡ length self.now }
     {
         self.list.len()
     }
 
-    /// Whether there are no instructions: never, since an accepted list has one at least.
+    /// Always false: an accepted list has at least one instruction.
     pub fn is_empty(&self) -> bool
         ensures { result ≡ false }
     {
         self.list.is_empty()
     }
 
-    /// The list that was checked.
+    /// The list of instructions, as it was checked.
     pub fn into_insns(self) -> Vec<Insn>
         ensures { result.items ≡ self }
     {

@@ -23,10 +23,11 @@ pub enum PushFault {
     Memory,
 }
 
-/// What a filter counts beside its instructions, once a newer one is pushed.
+/// What a filter counts beside its instructions, once a newer one is attached (kernel/seccomp.c,
+/// seccomp_attach_filter).
 const FILTER_COST: usize = 4;
 
-/// Filters, the oldest first, which all run on a call.
+/// The filters of a thread, the oldest first. All run on each syscall.
 #[derive(Drop)]
 pub struct FilterStack {
     filters: Vec<Program>,
@@ -45,13 +46,13 @@ impl Model for FilterStack {
 
     ghost view = { λ s. s.filters.items };
 
-    // The 4 of the newest filter are no part of the total that a stack may have.
+    // The newest filter's own 4 aren't counted in the total.
     ghost invariant = { λ s. (s.cost ≡ cost_of s.filters.items) × (s.cost ≤ max_insns_per_path + 4)
         × All IsFilter s.filters.items };
 }
 
-/// What a stack answers with one filter more, the newest, from what it answers without it: the newest answer, unless
-/// that has the greater rank.
+/// The answer of a stack with one more filter, the newest, from the answer without it: the newest answer, unless its
+/// rank is greater.
 #[tactic(auto, using(crate::proofs::Stacks::newest_decides, crate::proofs::Stacks::older_decides))]
 pub fn with_newest(older: Answer, newest: Answer) -> Answer
     ensures by_rank { result.0 ≡ with_newest older.0 newest.0 }
@@ -64,7 +65,8 @@ pub fn with_newest(older: Answer, newest: Answer) -> Answer
     }
 }
 
-/// What filters, the oldest first, answer together: each runs, and of their answers the newest of least rank decides.
+/// The answer of filters, the oldest first, to a record: all run, and the newest answer of least rank takes precedence
+/// (seccomp(2)). ALLOW 0 for no filter.
 pub fn decide(filters: &[Program], call: &CallRecord) -> Answer
     ensures { StackAnswers filters.now (words_of call.now) result.0 }
 {
@@ -76,7 +78,7 @@ pub fn decide(filters: &[Program], call: &CallRecord) -> Answer
 }
 
 impl FilterStack {
-    /// A stack of no filters.
+    /// An empty stack.
     pub fn new(alloc: Global) -> FilterStack
         ensures { result ≡ [] }
     {
@@ -86,21 +88,21 @@ impl FilterStack {
         }
     }
 
-    /// How many filters there are.
+    /// The count of filters.
     pub fn len(&self) -> usize
         ensures { result ≡ length self.now }
     {
         self.filters.len()
     }
 
-    /// Whether there are none.
+    /// Whether there is no filter.
     pub fn is_empty(&self) -> bool
         ensures { result ≡ (length self.now == 0) }
     {
         self.filters.is_empty()
     }
 
-    /// The filter at a place, 0 being the oldest. None from the length on. Each filter keeps the rules of filters.
+    /// The filter at an index, 0 being the oldest; `None` from the length on.
     pub fn get(&self, i: usize) -> Option<&Program>
         ensures at { option_copied result ≡ slice_get self.now i }
         ensures filters { All IsFilter self.now }
@@ -108,10 +110,10 @@ impl FilterStack {
         self.filters.get(i)
     }
 
-    /// Pushes a filter at the newest end.
+    /// Pushes a filter as the newest.
     ///
-    /// `TooMany` has the total that the stack would count: the instructions of the filter, and those of the filters
-    /// there with 4 more for each. After a refusal the stack is as it was, and the filter comes back.
+    /// `TooMany` if the total would exceed 32768: the filter's instructions, and those of each older filter plus 4. An
+    /// error leaves the stack unchanged and hands the filter back.
     pub fn push(&mut self, program: Program) -> Result<(), (PushFault, Program)>
         ensures { IsPush self.old program result self.new }
     {
@@ -129,7 +131,7 @@ impl FilterStack {
         }
     }
 
-    /// The filters, the oldest first. Each keeps the rules of filters.
+    /// The filters, the oldest first.
     pub fn filters(&self) -> &[Program]
         ensures same { result.now ≡ self.now }
         ensures filters { All IsFilter self.now }
@@ -137,7 +139,7 @@ impl FilterStack {
         &self.filters
     }
 
-    /// What the filters answer together, as `decide` says.
+    /// The answer of the stack to a record, as by `decide`.
     pub fn decide(&self, call: &CallRecord) -> Answer
         ensures { StackAnswers self.now (words_of call.now) result.0 }
     {
