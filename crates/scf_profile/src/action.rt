@@ -31,7 +31,7 @@ fn action_of(name: &str) -> Option<Action>
     }
 }
 
-/// Whether an action has an errno as its data.
+/// Whether the action takes an errno as its data: ERRNO and TRACE do.
 fn takes_errno(action: Action) -> bool
     ensures { result ≡ errno_taken action }
 {
@@ -48,7 +48,7 @@ fn find_action(entry: Option<u32>, name: &str, object: &Value) -> Result<Action,
     action_of(text).ok_or(LoadFault::Action { entry })
 }
 
-/// The errno that a value is, beside an action.
+/// The errno that a JSON value gives for an action, 0 to 65535.
 #[tactic(auto, unfolding(crate::specs::StatedProfile::errno_of))]
 fn errno_of(entry: Option<u32>, action: Action, value: &Value) -> Result<u16, LoadFault>
     ensures { result ≡ errno_stated entry action (view value.now) }
@@ -66,7 +66,7 @@ fn errno_of(entry: Option<u32>, action: Action, value: &Value) -> Result<u16, Lo
     }
 }
 
-/// The answer of the action that a member of the object names, with the errno in another, EPERM where there is none.
+/// The answer of the action that a member names, with the errno of another member; EPERM if that is absent.
 #[tactic(auto, unfolding(crate::specs::StatedProfile::answer_in))]
 pub(crate) fn find_answer(
     entry: Option<u32>,

@@ -1,4 +1,4 @@
-//! Conditions from the members of `args`.
+//! Parses the `args` of an entry.
 
 ghost use Rattle.std.specs.Prelude.{◌≡◌, ◌<◌, ◌==◌, [], ok_or, IfOk, codes, false};
 ghost use Rattle.std.specs.List.{list_any};
@@ -88,7 +88,7 @@ fn has_index(index: u8, conditions: &[Condition]) -> bool
     conditions.iter().any(|c| c.index == index)
 }
 
-/// The condition that a member of `args` states, after members that state these conditions.
+/// Parses one condition of `args`, given those before it.
 #[tactic(auto, unfolding(crate::specs::StatedProfile::condition_of))]
 fn condition_of(
     entry: Option<u32>,
@@ -117,7 +117,7 @@ fn condition_of(
     })
 }
 
-/// The conditions that the members of `args` state, one after another.
+/// Parses the conditions of `args`, one after another.
 fn conditions_of(
     alloc: Global,
     entry: Option<u32>,
@@ -135,7 +135,7 @@ fn conditions_of(
     Ok(conditions)
 }
 
-/// The conditions in the `args` of an entry, none where it has none.
+/// The conditions of an entry; none without `args`.
 #[tactic(auto, unfolding(crate::specs::JsonMembers::each))]
 pub(crate) fn find_conditions(
     alloc: Global,

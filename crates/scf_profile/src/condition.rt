@@ -1,4 +1,4 @@
-//! Conditions on the arguments of a call (OCI runtime specification, config-linux.md, seccomp).
+//! Conditions on syscall arguments (OCI runtime specification, config-linux.md, seccomp).
 
 ghost use Rattle.std.specs.Prelude.{◌≡◌, ◌<◌, ◌^◌, ◌↔◌, ℕ, IsTrue, All, IfOk, IfSome};
 ghost use Rattle.scf_profile.specs.Condition.{holds};
@@ -14,7 +14,8 @@ use scf_insn::{high_half, is_simple_mask, low_half};
 use std::alloc::{AllocError, Global};
 use std::marker::Model;
 
-/// How an argument is compared with a condition's value. Each operator compares whole unsigned 64-bit numbers.
+/// The operator of a condition (`SCMP_CMP_NE`, `LT`, `LE`, `EQ`, `GE`, `GT`, `MASKED_EQ`). All compare whole unsigned
+/// 64-bit numbers.
 #[derive(Clone, Copy, Debug, PartialEq, Eq)]
 pub enum Operator {
     NotEqual,
@@ -23,12 +24,12 @@ pub enum Operator {
     Equal,
     GreaterOrEqual,
     Greater,
-    /// The argument under the mask `value` equals `value_two` under it.
+    /// `argument & value == value_two & value`.
     MaskedEqual,
 }
 
-/// A condition on the argument at `index`, which is below the count of arguments in a loaded profile. Only
-/// `MaskedEqual` looks at `value_two`.
+/// A condition on the argument with index `index`, 0 to 5 in a loaded profile. `value_two` matters to `MaskedEqual`
+/// only.
 #[derive(Clone, Copy, Debug, PartialEq, Eq)]
 pub struct Condition {
     pub index: u8,
@@ -46,14 +47,14 @@ impl Condition {
         is_simple_mask(low_half(self.value)) && is_simple_mask(high_half(self.value))
     }
 
-    /// Whether it has a simple mask, where its operator has a mask.
+    /// Whether its mask is simple, if its operator has one.
     fn is_plain(&self) -> bool
         ensures { IsTrue result ↔ IsPlainCondition self.now }
     {
         self.op != Operator::MaskedEqual || self.has_simple_mask()
     }
 
-    /// The test of its argument that decides it, and what the test comes to where it holds.
+    /// The test of the argument that decides the condition, and the test's result if the condition holds.
     pub fn test(&self) -> (NumberTest, bool)
         ensures { result ≡ test_of self.now }
     {
@@ -79,7 +80,7 @@ impl Condition {
         }
     }
 
-    /// Whether it holds of an argument.
+    /// Whether the condition holds for an argument.
     pub(crate) fn holds_of(&self, argument: u64) -> bool
         ensures { result ≡ holds self.now argument }
     {
@@ -94,7 +95,7 @@ impl Condition {
         }
     }
 
-    /// The numbers of which it holds, where there are any.
+    /// The values for which the condition holds, if there are any.
     #[tactic(auto, using(crate::proofs::Masks::masked_twice))]
     pub(crate) fn numbers(&self) -> Option<NumberSet>
         ensures same { (n : ℕ) → n < 2 ^ 64 → is_in_some result n ≡ holds self.now n }
@@ -135,14 +136,14 @@ impl Model for Conditions {
 }
 
 impl Conditions {
-    /// These conditions, in their order.
+    /// The list of these conditions, in order.
     pub fn from_vec(list: Vec<Condition>) -> Conditions
         ensures { result ≡ list.items }
     {
         Conditions { list }
     }
 
-    /// The same conditions again.
+    /// A copy of the conditions.
     pub(crate) fn try_clone(&self, alloc: Global) -> Result<Conditions, AllocError>
         ensures { IfOk result (λ c. c ≡ self.now) }
     {
@@ -158,14 +159,14 @@ impl Conditions {
         self.list.iter().all(|c| c.is_plain())
     }
 
-    /// The conditions in their order.
+    /// The conditions, in order.
     pub fn as_slice(&self) -> &[Condition]
         ensures { result.now ≡ self.now }
     {
         &self.list
     }
 
-    /// The list of the conditions. It takes no memory.
+    /// The conditions as a vector. Never allocates.
     pub fn into_vec(self) -> Vec<Condition>
         ensures { result.items ≡ self }
     {

@@ -1,4 +1,4 @@
-//! Conflicts among rules: the least one, among all pairs of one number.
+//! The first conflict among rules.
 
 ghost use Rattle.std.specs.Prelude.{◌≡◌, ◌⊎◌, IfSome, List, All, Any, Some};
 ghost use Rattle.scf_profile.specs.declared.conflict.Clash.{Clash};
@@ -11,9 +11,9 @@ ghost use Rattle.scf_profile.specs.Rule.{IsRule};
 use crate::number_rules::NumberRules;
 use crate::rule::Rule;
 
-/// Two entries that conflict, and the number of the calls on which they do.
+/// Two entries that conflict, and the syscall number on which they do.
 ///
-/// They are ordered by the second entry, then by the first, then by the number.
+/// Ordered by the second entry, then by the first, then by the number.
 #[derive(Clone, Copy, PartialEq, Eq, PartialOrd, Ord)]
 pub(crate) struct Clash {
     pub(crate) second: u32,
@@ -21,7 +21,7 @@ pub(crate) struct Clash {
     pub(crate) number: u32,
 }
 
-/// The lesser of two clashes, where there are any.
+/// The lesser of two clashes, if there are any.
 fn lesser(least: Option<Clash>, clash: Option<Clash>) -> Option<Clash>
     ensures one { (result ≡ least) ⊎ (result ≡ clash) }
     ensures bound { (c : Clash) → clash ≡ Some c → IsBoundedBy result c }
@@ -36,7 +36,7 @@ fn lesser(least: Option<Clash>, clash: Option<Clash>) -> Option<Clash>
     }
 }
 
-/// The clash of a rule and a later one, where they are of different entries and conflict.
+/// The clash of a rule and a later one, if they are of different entries and conflict.
 fn clash_of(rule: &Rule, later: &Rule) -> Option<Clash>
     requires rule { IsRule rule.now }
     requires later { IsRule later.now }

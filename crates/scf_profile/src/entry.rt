@@ -15,7 +15,7 @@ use scf_insn::Answer;
 use serde_json::Value;
 use std::alloc::Global;
 
-/// What an entry states: its names, its conditions and its answer.
+/// A parsed entry: its names, conditions and answer.
 #[derive(Drop)]
 pub(crate) struct Entry<'v> {
     pub(crate) names: BorrowedTexts<'v>,
@@ -27,7 +27,7 @@ impl<'v> Entry<'v> {
     ghost use Rattle.scf_profile.specs.internal.EntryRanges.{IsEntry};
     ghost use Rattle.scf_profile.specs.StatedProfile.{entry_of as entry_stated};
 
-    /// What the entry at a place states.
+    /// Parses the entry at an index.
     #[tactic(auto, using(std::proofs::lemmas::Grind::common_steps), unfolding(crate::specs::StatedProfile::entry_of))]
     pub(crate) fn read(alloc: Global, place: u32, object: &'v Value) -> Result<Entry<'v>, LoadFault>
         ensures value { Gives Memory result (entry_stated (Some place) (view object.now)) }

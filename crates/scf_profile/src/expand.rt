@@ -1,4 +1,4 @@
-//! From the names of entries to the numbers that the call table has for them.
+//! From the names of entries to rules with syscall numbers.
 
 ghost use Rattle.std.specs.Prelude.{◌≡◌, ◌≤◌, ◌^◌, ◌++◌, ◌∷◌, [], length, vec_len, IfOk, IfErr, OnOk, is_none, not};
 ghost use Rattle.std.specs.List.{filter};
@@ -18,7 +18,7 @@ use crate::table::CallTable;
 use crate::texts::{BorrowedTexts, Texts};
 use std::alloc::{AllocError, Global};
 
-/// What entries and a table state: the rules, and each occurrence of a name that the table lacks.
+/// The rules of entries under a table, and each occurrence of a name that the table lacks.
 #[derive(Drop)]
 pub(crate) struct Expanded {
     pub(crate) rules: Vec<Rule>,
@@ -26,7 +26,7 @@ pub(crate) struct Expanded {
 }
 
 impl Expanded {
-    /// Adds the rule that an entry at a place states for a name, or the name where the table lacks it.
+    /// Adds the rule of an entry for one name, or the name itself if the table lacks it.
     fn add_name(
         &mut self,
         alloc: Global,
@@ -61,7 +61,7 @@ impl Expanded {
         Ok(())
     }
 
-    /// Adds what an entry at a place states for its names.
+    /// Adds the rules of an entry for all its names.
     #[tactic(auto, using(std::proofs::lemmas::Grind::common_steps, crate::proofs::StatedRules::names_first))]
     fn add_entry(
         &mut self,
@@ -86,7 +86,7 @@ impl Expanded {
     }
 }
 
-/// What entries and a table state, unless the rules are more than `MAX_RULES`.
+/// The rules of entries under a table, at most `MAX_RULES`.
 pub(crate) fn expand(
     alloc: Global,
     table: &CallTable,
@@ -108,7 +108,7 @@ pub(crate) fn expand(
     Ok(expanded)
 }
 
-/// The architectures beside x86-64.
+/// The architectures other than x86-64.
 #[tactic(auto, using(std::proofs::lemmas::Grind::common_steps, crate::proofs::StatedRules::names_first))]
 pub(crate) fn other_architectures(
     alloc: Global,

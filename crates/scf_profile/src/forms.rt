@@ -1,4 +1,4 @@
-//! Texts in arrays, and forms that depend on a container engine.
+//! Arrays of texts, and members whose meaning depends on a container engine.
 
 ghost use Rattle.std.specs.Prelude.{◌≡◌, ◌==◌, ok_or, codes};
 ghost use Rattle.serde_json.specs.Data.{no_items};
@@ -31,7 +31,7 @@ fn is_empty(value: &Value) -> bool
     }
 }
 
-/// Refuses a member of the object that is there and isn't empty.
+/// Refuses a member that is present and not empty.
 #[tactic(auto, unfolding(crate::specs::StatedProfile::no_engine_form))]
 pub(crate) fn check_no_engine_form(
     entry: Option<u32>,
@@ -46,7 +46,7 @@ pub(crate) fn check_no_engine_form(
     }
 }
 
-/// The items of a member of the object that has to be an array, none where it is absent.
+/// The items of a member that must be an array; none if it is absent.
 #[tactic(auto, using(crate::proofs::Loops::items_left))]
 pub(crate) fn find_items<'v>(
     entry: Option<u32>,

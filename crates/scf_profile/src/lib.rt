@@ -1,4 +1,4 @@
-//! Call tables, and profiles: how one is read from JSON, which calls its rules meet, and what it answers.
+//! Syscall tables and OCI seccomp profiles: how one is loaded from JSON, which records its rules meet, what it answers.
 #![tactic(auto)]
 
 mod action;

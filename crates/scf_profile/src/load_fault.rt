@@ -1,4 +1,4 @@
-//! Why a text is loaded as no profile.
+//! Why a text isn't loaded as a profile.
 
 ghost use Rattle.std.specs.Prelude.{◌≡◌};
 ghost use Rattle.scf_profile.specs.declared.load_fault.LoadFault.TheVariants as faults;
@@ -9,7 +9,7 @@ use std::alloc::{AllocError, AllocFailed};
 use std::fmt;
 use thiserror::Error;
 
-/// The entry before a message, and nothing where there is none.
+/// The entry in front of a message, or nothing.
 #[derive(Clone, Copy)]
 struct InEntry(Option<u32>);
 
@@ -22,11 +22,11 @@ impl fmt::Display for InEntry {
     }
 }
 
-/// The fault of the first test that fails. `entry` is the place from 0 of the entry of `syscalls` in which it stands,
-/// None where it stands outside of them.
+/// The first test that fails. `entry` is the index of the entry of `syscalls` in which it stands, `None` outside of
+/// them.
 #[derive(Clone, Copy, Debug, PartialEq, Eq, Error)]
 pub enum LoadFault {
-    /// The text is no UTF-8, or no JSON that is nested at most `MAX_DEPTH` deep.
+    /// The text isn't UTF-8, isn't JSON, or is nested more than `MAX_DEPTH` deep.
     #[error("no JSON, or nested more than {most} deep", most = MAX_DEPTH)]
     Json,
     #[error("{place}a member is missing", place = InEntry(*.entry))]
@@ -77,7 +77,7 @@ pub enum LoadFault {
     /// More than `MAX_TEXT_LEN` bytes of text, or more than `MAX_RULES` rules.
     #[error("more than {bytes} bytes, or more than {rules} rules", bytes = MAX_TEXT_LEN, rules = MAX_RULES)]
     TooMany,
-    /// Some call of this number meets a rule of both entries, and they answer it differently.
+    /// Some syscall with this number meets rules of both entries, whose answers differ.
     #[error("entries {first} and {second} conflict on call {number}")]
     Conflict {
         number: u32,

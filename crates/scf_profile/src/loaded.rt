@@ -1,4 +1,4 @@
-//! What is loaded of a text.
+//! A loaded text.
 
 use crate::profile::Profile;
 use crate::texts::Texts;

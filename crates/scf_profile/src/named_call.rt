@@ -1,4 +1,4 @@
-//! The calls of a table by number, each with its names.
+//! The syscalls of a table by number.
 
 ghost use Rattle.std.specs.Prelude.{◌≡◌, ◌≢◌, ℕ, ◌++◌, ◌∷◌, [], is_some, map, true, IfOk, OnOk};
 ghost use Rattle.std.specs.BTreeMap.{get, IsOrdered};
@@ -10,7 +10,7 @@ ghost use Rattle.scf_profile.specs.internal.NamesByNumber.{AreByNumber, named_ca
 use std::alloc::{AllocError, Global};
 use std::collections::BTreeMap;
 
-/// A call number of a table, and the names that it has, in the order of their bytes.
+/// A syscall number of a table with its names, in byte order.
 #[derive(Debug, Drop)]
 pub struct NamedCall<'a> {
     pub number: u32,
@@ -32,7 +32,7 @@ fn add_name<'a>(
     Ok(())
 }
 
-/// The names of each number.
+/// The names, by syscall number.
 fn names_by_number(
     alloc: Global,
     numbers: &BTreeMap<String, u32>,
@@ -46,7 +46,7 @@ fn names_by_number(
     Ok(named)
 }
 
-/// The calls of a tree from numbers to names.
+/// The entries of a map from syscall numbers to names.
 fn calls_of(
     alloc: Global,
     named: BTreeMap<u32, Vec<&str>>,
@@ -60,7 +60,7 @@ fn calls_of(
         .collect(alloc)
 }
 
-/// The calls of a tree from names to numbers.
+/// The entries of a map from names to syscall numbers, by number.
 pub(crate) fn named_calls(
     alloc: Global,
     numbers: &BTreeMap<String, u32>,

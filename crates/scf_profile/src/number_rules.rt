@@ -1,4 +1,4 @@
-//! The rules of a profile by call number.
+//! The rules of a profile by syscall number.
 
 ghost use Rattle.std.specs.Prelude.{◌≡◌, ◌≢◌, ℕ, ◌++◌, ◌∷◌, [], is_some, map, true, IfOk, OnOk};
 ghost use Rattle.std.specs.BTreeMap.{get, IsOrdered};
@@ -11,8 +11,8 @@ use smallvec::SmallVec;
 use std::alloc::{AllocError, Global};
 use std::collections::BTreeMap;
 
-/// A call number that a profile has rules for, and these rules in the order of the text. A rule that is the only one of
-/// its number, as most are, takes no memory of its own.
+/// A syscall number that a profile has rules for, and these rules in the order of the text. A single rule, the usual
+/// case, needs no allocation.
 #[derive(Debug, Drop)]
 pub struct NumberRules {
     pub number: u32,
@@ -29,7 +29,7 @@ fn add_rule(under: &mut BTreeMap<u32, SmallVec<Rule, 1>>, rule: Rule) -> Result<
     Ok(())
 }
 
-/// The rules under their numbers.
+/// The rules, by syscall number.
 #[tactic(auto, using(std::proofs::lemmas::Grind::common_steps))]
 fn rules_under_numbers(
     alloc: Global,
@@ -44,7 +44,7 @@ fn rules_under_numbers(
     Ok(under)
 }
 
-/// The numbers of a tree from numbers to rules.
+/// The entries of a map from syscall numbers to rules.
 fn numbers_of_tree(
     alloc: Global,
     under: BTreeMap<u32, SmallVec<Rule, 1>>,
@@ -58,7 +58,8 @@ fn numbers_of_tree(
         .collect(alloc)
 }
 
-/// The numbers that rules have, rising, each with its rules in their order. `Err`: a growth was refused.
+/// The distinct syscall numbers of rules in rising order, each with its rules in their order. `Err`: an allocation
+/// failed.
 pub(crate) fn by_number(alloc: Global, rules: &[Rule]) -> Result<Vec<NumberRules>, AllocError>
     ensures { IfOk result (λ numbers. AreNumbersOf numbers.items rules.now) }
 {

@@ -1,21 +1,21 @@
-//! Sets of 64-bit numbers: those of which a condition holds.
+//! Sets of 64-bit values: those for which a condition holds.
 
 ghost use Rattle.std.specs.Prelude.{◌↔◌, IsTrue};
 ghost use Rattle.scf_profile.specs.declared.number_set.NumberSet.TheVariants.{AtMost, AtLeast, AllBut, Masked};
 ghost use Rattle.scf_profile.specs.internal.NumberSets.{HaveCommonNumber, IsGreatestOf, IsLeastOf, IsNumberSet};
 
-/// A set of 64-bit numbers, which isn't empty.
+/// A non-empty set of 64-bit values.
 #[derive(Clone, Copy)]
 pub(crate) enum NumberSet {
     AtMost(u64),
     AtLeast(u64),
     AllBut(u64),
-    /// The numbers that have this value under the mask. The value has no bit outside the mask.
+    /// The values `n` with `n & mask == value`. `value` has no bit outside the mask.
     Masked { mask: u64, value: u64 },
 }
 
 impl NumberSet {
-    /// Its least number.
+    /// Its least value.
     #[tactic(auto, using(crate::proofs::Masks::least_masked))]
     fn least(self) -> u64
         requires { IsNumberSet self }
@@ -29,7 +29,7 @@ impl NumberSet {
         }
     }
 
-    /// Its greatest number.
+    /// Its greatest value.
     #[tactic(auto, using(crate::proofs::Masks::greatest_masked))]
     fn greatest(self) -> u64
         requires { IsNumberSet self }
@@ -43,7 +43,7 @@ impl NumberSet {
         }
     }
 
-    /// Whether it has a number up to `last`.
+    /// Whether it has a value up to `last`.
     fn has_at_most(self, last: u64) -> bool
         requires { IsNumberSet self }
         ensures { IsTrue result ↔ HaveCommonNumber self (AtMost last) }
@@ -51,7 +51,7 @@ impl NumberSet {
         self.least() <= last
     }
 
-    /// Whether it has a number from `first` on.
+    /// Whether it has a value from `first` on.
     fn has_at_least(self, first: u64) -> bool
         requires { IsNumberSet self }
         ensures { IsTrue result ↔ HaveCommonNumber self (AtLeast first) }
@@ -59,7 +59,7 @@ impl NumberSet {
         self.greatest() >= first
     }
 
-    /// Whether it has another number than `one`.
+    /// Whether it has a value other than `one`.
     fn has_other_than(self, one: u64) -> bool
         requires { IsNumberSet self }
         ensures { IsTrue result ↔ HaveCommonNumber self (AllBut one) }
@@ -67,7 +67,7 @@ impl NumberSet {
         self.least() != one || self.greatest() != one
     }
 
-    /// Whether it has a number that has the value under the mask.
+    /// Whether it has a value `n` with `n & mask == value`.
     fn has_masked(self, mask: u64, value: u64) -> bool
         requires own { IsNumberSet self }
         requires masked { IsNumberSet (Masked mask value) }
@@ -85,7 +85,7 @@ impl NumberSet {
         }
     }
 
-    /// Whether two sets have a number in common.
+    /// Whether two sets intersect.
     pub(crate) fn has_common_with(self, other: NumberSet) -> bool
         requires own { IsNumberSet self }
         requires other { IsNumberSet other }

@@ -1,12 +1,12 @@
-//! What a condition asks of its argument, as a test of classic BPF (Linux uapi filter.h).
+//! A condition as a test of classic BPF (Linux uapi filter.h).
 
-/// A test of a whole 64-bit number. Its halves decide it, the high one first.
+/// A test of a 64-bit number. Its 32-bit halves decide it, the high one first.
 #[derive(Clone, Copy, Debug, PartialEq, Eq)]
 pub enum NumberTest {
-    /// Under the mask the number is the value, which has no bit outside the mask.
+    /// `n & mask == value`. `value` has no bit outside the mask.
     Masked { mask: u64, value: u64 },
-    /// The number is greater than this one.
+    /// `n > value`.
     Greater(u64),
-    /// It is this one, or greater.
+    /// `n >= value`.
     GreaterOrEqual(u64),
 }

@@ -1,4 +1,4 @@
-//! The seccomp object.
+//! Parses the seccomp object.
 
 ghost use Rattle.std.specs.Prelude.{◌≡◌, ◌≤◌, ◌^◌, ◌&&◌, not, nat_lt, [], IfOk, All, length, vec_len};
 ghost use Rattle.std.specs.Prelude.{Some, None, ok_or, codes};
@@ -24,7 +24,7 @@ use crate::texts::BorrowedTexts;
 use serde_json::Value;
 use std::alloc::Global;
 
-/// A value that has to be an object.
+/// A value that must be an object.
 fn object_of(value: &Value) -> Result<&Value, LoadFault>
     ensures { result_map (λ v. view v.now) result ≡ ok_or (object_stated (view value.now)) (faults.Kind None) }
 {
@@ -35,7 +35,7 @@ fn object_of(value: &Value) -> Result<&Value, LoadFault>
     }
 }
 
-/// A member that has to be there, and an object.
+/// A member that must be present, and an object.
 fn find_object<'v>(object: &'v Value, name: &str) -> Result<&'v Value, LoadFault>
     ensures { result_map (λ v. view v.now) result
         ≡ required None name.now object_stated (view object.now) }
@@ -43,7 +43,7 @@ fn find_object<'v>(object: &'v Value, name: &str) -> Result<&'v Value, LoadFault
     object_of(member_of(object, name).ok_or(LoadFault::Missing { entry: None })?)
 }
 
-/// The seccomp object: the root itself, or what stands in it as linux.seccomp.
+/// The seccomp object: the root itself, or its `linux.seccomp`.
 #[tactic(auto, unfolding(crate::specs::StatedProfile::seccomp_of))]
 pub(crate) fn find_seccomp(root: &Value) -> Result<&Value, LoadFault>
     ensures { result_map (λ v. view v.now) result ≡ seccomp_of (view root.now) }
@@ -80,7 +80,7 @@ pub(crate) fn check_architectures(architectures: &BorrowedTexts) -> Result<(), L
     Ok(())
 }
 
-/// The architectures of the object, none where it doesn't tell them.
+/// The architectures of the object; none if they are absent.
 #[tactic(auto, unfolding(crate::specs::JsonMembers::each))]
 pub(crate) fn find_architectures(
     alloc: Global,
@@ -92,7 +92,7 @@ pub(crate) fn find_architectures(
     strings_of(alloc, None, find_items(None, "architectures", object)?)
 }
 
-/// What the entries of an array state, each with its place.
+/// Parses the entries of an array, each with its index.
 fn entries_of<'v>(alloc: Global, items: &'v [Value]) -> Result<Vec<Entry<'v>>, LoadFault>
     ensures value { Gives faults.Memory (result_map (λ v. v.items) result)
         (each (λ before. entry_of (Some (length before))) [] (items_view items.now)) }
@@ -101,7 +101,7 @@ fn entries_of<'v>(alloc: Global, items: &'v [Value]) -> Result<Vec<Entry<'v>>, L
 {
     let mut entries = Vec::new(alloc);
     for item in items {
-        // A text of `MAX_TEXT_LEN` bytes has fewer entries than there are places.
+        // A text of `MAX_TEXT_LEN` bytes has fewer entries than `u32` has values.
         let Ok(place) = u32::try_from(entries.len()) else {
             return Err(LoadFault::Memory);
         };
@@ -111,7 +111,7 @@ fn entries_of<'v>(alloc: Global, items: &'v [Value]) -> Result<Vec<Entry<'v>>, L
     Ok(entries)
 }
 
-/// What the entries in the `syscalls` of the object state, none where it has none.
+/// The entries of the object's `syscalls`; none if it is absent.
 #[tactic(auto, unfolding(crate::specs::JsonMembers::each))]
 pub(crate) fn find_entries(alloc: Global, object: &Value) -> Result<Vec<Entry<'_>>, LoadFault>
     ensures value { Gives faults.Memory (result_map (λ v. v.items) result)

@@ -1,4 +1,4 @@
-//! Whether a call can meet the conditions of two rules.
+//! Whether a record can meet the conditions of two rules.
 
 ghost use Rattle.std.specs.Prelude.{◌≡◌, ◌<◌, ◌^◌, ◌↔◌, ◌==◌, ℕ, IfSome, IsTrue, option_map, true};
 ghost use Rattle.std.specs.List.{find};
@@ -17,7 +17,7 @@ fn condition_on(conditions: &[Condition], index: u8) -> Option<&Condition>
     conditions.iter().find(|condition| condition.index == index)
 }
 
-/// The numbers of which the conditions on an argument hold, where there are any.
+/// The values for which the conditions on an argument hold, if there are any.
 fn numbers_at(conditions: &[Condition], index: u8) -> Option<NumberSet>
     requires { HaveDistinctIndices conditions.now }
     ensures same { (n : ℕ) → n < 2 ^ 64
@@ -30,7 +30,7 @@ fn numbers_at(conditions: &[Condition], index: u8) -> Option<NumberSet>
     }
 }
 
-/// Whether the conditions of both lists on an argument hold of some number.
+/// Whether some value satisfies both lists' conditions on an argument.
 fn overlap_at(first: &[Condition], second: &[Condition], index: u8) -> bool
     requires first { HaveDistinctIndices first.now }
     requires second { HaveDistinctIndices second.now }
@@ -45,7 +45,7 @@ fn overlap_at(first: &[Condition], second: &[Condition], index: u8) -> bool
     numbers.has_common_with(others)
 }
 
-/// Whether the conditions of both lists hold of some six arguments.
+/// Whether some six arguments satisfy both lists.
 pub(crate) fn conditions_overlap(first: &[Condition], second: &[Condition]) -> bool
     requires first { HaveDistinctIndices first.now }
     requires second { HaveDistinctIndices second.now }

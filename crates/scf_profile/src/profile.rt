@@ -1,4 +1,4 @@
-//! A profile: a default answer, and rules that never answer one call differently.
+//! Loaded profiles.
 
 ghost use Rattle.std.specs.Prelude.{◌≡◌, ◌<◌, ◌↔◌, IsTrue, All, min, option_map};
 ghost use Rattle.std.specs.List.{find, reduce};
@@ -17,12 +17,12 @@ use scf_insn::kernel::{AUDIT_ARCH_X86_64, SECCOMP_RET_KILL_PROCESS, X32_SYSCALL_
 use scf_insn::{Answer, CallRecord};
 use std::marker::Model;
 
-/// The answer to each call that isn't native: KILL_PROCESS.
+/// The answer to records of other ABIs: KILL_PROCESS.
 pub const FOREIGN_ANSWER: Answer = Answer(SECCOMP_RET_KILL_PROCESS);
 
-/// What a profile states: a default answer, and rules in the order of the text. No call meets two rules that answer it
-/// differently; numbers are below `X32_SYSCALL_BIT`, indices below the count of arguments and none twice in a rule;
-/// there are at most `MAX_RULES` rules.
+/// A loaded profile: a default answer, and at most `MAX_RULES` rules in the order of the text. No record meets two
+/// rules with different answers. Syscall numbers are below `X32_SYSCALL_BIT`; argument indices are below 6, none twice
+/// in a rule.
 #[derive(Debug, Drop)]
 pub struct Profile {
     default_answer: Answer,
@@ -44,7 +44,7 @@ impl Model for Profile {
 }
 
 impl Profile {
-    /// The profile of a default answer, of rules that don't conflict, and of their numbers.
+    /// The profile with a default answer, rules that don't conflict, and the same rules by number.
     pub(crate) fn new(
         default_answer: Answer,
         rules: Vec<Rule>,
@@ -61,7 +61,7 @@ impl Profile {
         }
     }
 
-    /// The answer to a call of x86-64 that meets no rule.
+    /// The answer to an x86-64 syscall that meets no rule.
     pub fn default_answer(&self) -> Answer
         ensures { result ≡ self.now.default_answer }
     {
@@ -76,7 +76,7 @@ impl Profile {
         &self.rules
     }
 
-    /// The numbers that the rules have, rising, each with its rules in the order of the text.
+    /// The distinct syscall numbers of the rules in rising order, each with its rules in the order of the text.
     pub fn numbers(&self) -> &[NumberRules]
         ensures numbers { AreNumbersOf result.now self.now.rules }
         ensures profile { IsProfile self.now }
@@ -84,15 +84,14 @@ impl Profile {
         &self.numbers
     }
 
-    /// Whether both 32-bit halves of each mask are simple: no bit, one bit or all of them.
+    /// Whether both 32-bit halves of each mask are simple: no bit, one bit or all 32.
     pub fn is_plain(&self) -> bool
         ensures { IsTrue result ↔ IsPlainProfile self.now }
     {
         are_plain(self.rules())
     }
 
-    /// What the profile answers to a call: KILL_PROCESS where the call isn't one of x86-64, else the answer of any rule
-    /// that it meets, and the default answer where it meets none.
+    /// The profile's answer to a record: KILL_PROCESS for other ABIs, else that of any rule it meets, else the default.
     #[tactic(auto, using(crate::specs::ProfileAnswers::foreign))]
     pub fn answer(&self, call: &CallRecord) -> Answer
         ensures { ProfileAnswers self.now call.now result.0 }
@@ -103,8 +102,7 @@ impl Profile {
         answer_of(self.default_answer, &self.rules, call)
     }
 
-    /// Why a call is answered as it is: it isn't one of x86-64, or the first entry of which it meets a rule, or that it
-    /// meets none.
+    /// Why a record gets its answer: another ABI, the first entry of which it meets a rule, or no rule.
     #[tactic(auto, using(std::proofs::lemmas::Grind::common_steps, crate::proofs::Reasons::least_of))]
     pub fn reason(&self, call: &CallRecord) -> Reason
         ensures { IsReason self.now call.now result }
@@ -126,14 +124,14 @@ fn are_plain(rules: &[Rule]) -> bool
     rules.iter().all(|rule| rule.is_plain())
 }
 
-/// Whether a call is one of x86-64, with a number that x32 calls don't have.
+/// Whether a record is one of x86-64's own: below x32's numbers.
 fn is_native(call: &CallRecord) -> bool
     ensures { IsTrue result ↔ IsNative call.now }
 {
     call.arch == AUDIT_ARCH_X86_64 && call.nr < X32_SYSCALL_BIT
 }
 
-/// The answer of a rule that a native call meets, and the default answer where it meets none.
+/// The answer of a rule that an x86-64 record meets, else the default.
 fn answer_of(default_answer: Answer, rules: &[Rule], call: &CallRecord) -> Answer
     requires native { IsNative call.now }
     requires profile { IsProfile (record { default_answer = default_answer; rules = rules.now }) }
@@ -146,7 +144,7 @@ fn answer_of(default_answer: Answer, rules: &[Rule], call: &CallRecord) -> Answe
     }
 }
 
-/// The first rule that a call meets.
+/// The first rule that a record meets.
 fn first_met<'r>(rules: &'r [Rule], call: &CallRecord) -> Option<&'r Rule>
     requires { All (λ r. All (λ c. c.index < seccomp_data_args) r.conditions) rules.now }
     ensures { option_map (λ r. r.now) result ≡ find (λ r. meets r call.now) rules.now }
@@ -154,7 +152,7 @@ fn first_met<'r>(rules: &'r [Rule], call: &CallRecord) -> Option<&'r Rule>
     rules.iter().find(|rule| rule.is_met(call))
 }
 
-/// The least place of an entry of which a call meets a rule.
+/// The least index of an entry of which a record meets a rule.
 fn first_entry_met(rules: &[Rule], call: &CallRecord) -> Option<u32>
     requires { All (λ r. All (λ c. c.index < seccomp_data_args) r.conditions) rules.now }
     ensures { result ≡ reduce min (entries_met rules.now call.now) }

@@ -1,4 +1,4 @@
-//! From a text and a call table to a profile.
+//! From a text and a syscall table to a profile.
 
 ghost use Rattle.std.specs.Prelude.{◌≡◌, ◌<◌, ◌^◌, length, Err, IfOk, IfErr};
 ghost use Rattle.serde_json.specs.View.{view};
@@ -45,7 +45,7 @@ fn parse(alloc: Global, text: &[u8]) -> Result<Value, LoadFault>
     }
 }
 
-/// What a root and a table state, whether or not rules conflict.
+/// A profile before the test for conflicts.
 #[derive(Drop)]
 struct Stated {
     default_answer: Answer,
@@ -54,7 +54,7 @@ struct Stated {
     other_architectures: Texts,
 }
 
-/// What the root and a table state, or the first test that fails.
+/// Parses the root under a table, or the first test that fails.
 #[tactic(auto, unfolding(crate::specs::StatedProfile::profile_of))]
 fn read_root(alloc: Global, table: &CallTable, root: &Value) -> Result<Stated, LoadFault>
     ensures value { Gives Memory (result_map loaded_of result) (profile_of table.now (view root.now)) }
@@ -78,7 +78,7 @@ fn read_root(alloc: Global, table: &CallTable, root: &Value) -> Result<Stated, L
     })
 }
 
-/// The profile, unless two of its rules conflict or memory is refused.
+/// The profile, unless two of its rules conflict or an allocation fails.
 fn without_conflict(alloc: Global, stated: Stated) -> Result<Loaded, LoadFault>
     requires rules { AreStatedRules stated.rules.items }
     requires default_answer { stated.default_answer.0 < 2 ^ 32 }
@@ -100,13 +100,13 @@ fn without_conflict(alloc: Global, stated: Stated) -> Result<Loaded, LoadFault>
     }
 }
 
-/// The profile that a text states, whose names get their numbers from a call table. The first test that fails is
-/// answered; that no two rules conflict is the last. `Memory` comes where a growth was refused.
+/// Loads a profile from JSON text (at most 4194304 bytes); a syscall table gives the names their numbers. An error is
+/// the first test that fails, the last being that no two rules conflict, or `Memory` if an allocation failed.
 #[tactic(auto, using(crate::proofs::TestFaults::refuses_of_fault))]
 pub fn load(alloc: Global, text: &[u8], table: &CallTable) -> Result<Loaded, LoadFault>
     ensures ok { IfOk result (λ loaded. Loads text.now table.now loaded) }
     ensures err { IfErr result (λ fault. Refuses text.now table.now fault) }
-    // A text that is too long is refused for that before any memory is wanted.
+    // A text that is too long is refused before anything is allocated.
     ensures long { max_text_len < length text.now → result ≡ Err TooMany }
 {
     let value = parse(alloc, text)?;

@@ -1,13 +1,12 @@
 //! Why a profile answers a call as it does.
 
-/// What a profile's answer to a call rests on.
+/// Why a profile answers a record as it does.
 #[derive(Clone, Copy, Debug, PartialEq, Eq)]
 pub enum Reason {
-    /// The call is of another architecture, or has the number of an x32 call: KILL_PROCESS.
+    /// The record is of another ABI (another architecture, or x32): KILL_PROCESS.
     Foreign,
-    /// The call meets a rule of the entry of `syscalls` at this place from 0, and none of an earlier entry: the entry's
-    /// answer.
+    /// The record meets a rule of the entry with this index in `syscalls`, and none of an earlier entry.
     Entry(u32),
-    /// The call meets no rule: the default answer.
+    /// The record meets no rule: the default answer.
     Default,
 }

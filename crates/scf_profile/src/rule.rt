@@ -1,4 +1,4 @@
-//! Rules: which calls one meets, and what it answers.
+//! Rules of a profile.
 
 ghost use Rattle.std.specs.Prelude.{◌≡◌, ◌<◌, ◌↔◌, IsTrue, IfOk, All};
 ghost use Rattle.scf_insn.specs.Kernel.{seccomp_data_args};
@@ -11,18 +11,18 @@ use scf_insn::{Answer, CallRecord};
 use std::alloc::{AllocError, Global};
 use std::default::MadeWith;
 
-/// A rule gives its answer to the calls of its number of which all its conditions hold.
+/// A rule answers the records with its syscall number for which all its conditions hold.
 #[derive(Debug, Drop)]
 pub struct Rule {
     pub number: u32,
     pub conditions: Conditions,
     pub answer: Answer,
-    /// The place from 0 of the entry of `syscalls` that states it.
+    /// The index of its entry in `syscalls`.
     pub entry: u32,
 }
 
 impl Rule {
-    /// The same rule again.
+    /// A copy of the rule.
     pub(crate) fn try_clone(&self, alloc: Global) -> Result<Rule, AllocError>
         ensures { IfOk result (λ r. r ≡ self.now) }
     {
@@ -41,7 +41,7 @@ impl Rule {
         self.conditions.are_plain()
     }
 
-    /// Whether a call meets it.
+    /// Whether a record meets the rule.
     pub(crate) fn is_met(&self, call: &CallRecord) -> bool
         requires { All (λ c. c.index < seccomp_data_args) self.now.conditions }
         ensures { result ≡ meets self.now call.now }
@@ -49,7 +49,7 @@ impl Rule {
         call.nr == self.number && all_hold(self.conditions.as_slice(), call)
     }
 
-    /// Whether some call meets both rules, and they answer it differently.
+    /// Whether some record meets both rules and their answers differ.
     #[tactic(auto, using(crate::proofs::Overlaps::conflict_from, crate::proofs::Overlaps::overlap_of_conflict))]
     pub(crate) fn conflicts_with(&self, other: &Rule) -> bool
         requires own { IsRule self.now }
@@ -63,7 +63,7 @@ impl Rule {
 }
 
 impl MadeWith<Global> for Rule {
-    /// A rule without conditions, which fills the room of a list of rules where no rule is.
+    /// A rule without conditions, for the unused slots of inline storage.
     fn made_with(alloc: Global) -> Rule {
         Rule {
             number: 0,

@@ -1,12 +1,12 @@
-//! Which calls a filter and a profile are compared over.
+//! The records over which sides are compared.
 
-/// Which calls are compared.
+/// A set of call records.
 #[derive(Clone, Copy, Debug, PartialEq, Eq)]
 pub enum Scope {
     /// Every call record.
     All,
-    /// Those of x86-64 with a number that x32 calls don't have.
+    /// x86-64's own: arch is AUDIT_ARCH_X86_64, and nr is below 0x40000000, where x32's begin.
     Native,
-    /// Those of x86-64 with this number.
+    /// x86-64's own with this syscall number.
     Call(u32),
 }

@@ -1,4 +1,4 @@
-//! The call table: numbers of calls by name, read from a text.
+//! The syscall table: syscall numbers by name, parsed from a text.
 
 ghost use Rattle.std.specs.Prelude.{◌≡◌, ◌≢◌, ◌<◌, IfSome, IfOk, OnOk, IfErr, Ok, Err};
 ghost use Rattle.std.specs.FinMap.{get};
@@ -18,7 +18,7 @@ use std::alloc::Global;
 use std::collections::BTreeMap;
 use std::marker::Model;
 
-/// Numbers of calls by name. Each is the number of an x86-64 call, below those of x32 calls.
+/// Syscall numbers by name. Each is below 0x40000000, where x32's numbers begin.
 #[derive(Drop)]
 pub struct CallTable {
     numbers: BTreeMap<String, u32>,
@@ -41,9 +41,9 @@ impl Model for CallTable {
 }
 
 impl CallTable {
-    /// The table that a text states: on each line a name and a decimal number, divided by blanks; blank lines and those
-    /// that begin with `#` aside. The first fault of the first faulty line is answered, and `Memory` where a growth was
-    /// refused. Memory is wanted from the first name on.
+    /// Parses a table: on each line a name and a decimal number, separated by blanks; blank lines and lines that begin
+    /// with `#` are skipped. An error is the first fault of the first faulty line, or `Memory` if an allocation failed;
+    /// nothing is allocated before the first name.
     #[tactic(auto, unfolding(crate::specs::Table::with_lines))]
     pub fn read(alloc: Global, text: &[u8]) -> Result<CallTable, TableFault>
         ensures table { Gives faults.Memory result (table_of text.now) }
@@ -63,7 +63,7 @@ impl CallTable {
         Ok(table)
     }
 
-    /// The number of a call, where the table has its name.
+    /// The number of the syscall with this name, if the table has it.
     #[tactic(auto, using(crate::proofs::NamesOf::get_named))]
     pub fn number_of(&self, name: &str) -> Option<u32>
         ensures value { result ≡ get self.now name.now }
@@ -72,21 +72,22 @@ impl CallTable {
         self.numbers.get(name).copied()
     }
 
-    /// The calls of the table, by number: each number that it has, with its names. `Err`: a growth was refused.
+    /// The syscalls of the table in rising order of their numbers, each with all its names. `Err`: an allocation
+    /// failed.
     pub fn calls(&self, alloc: Global) -> Result<Vec<NamedCall<'_>>, Memory>
         ensures { IfOk result (λ calls. AreCallsOf self.now calls.items) }
     {
         Ok(named_calls(alloc, &self.numbers)?)
     }
 
-    /// Its numbers are call numbers: a law for proofs, which does nothing.
+    /// A law for proofs: its numbers are below 0x40000000. Does nothing.
     pub(crate) fn within_range(&self)
         ensures { AreCallNumbers self.now }
     {
         let _numbers = &self.numbers;
     }
 
-    /// Adds what a line states. After an `Err` the table is of no use.
+    /// Adds the name and number of a line. After an `Err` the table must not be used.
     #[tactic(auto, using(crate::proofs::NamesOf::found_named, crate::proofs::NamesOf::insert_named))]
     fn add_line(&mut self, alloc: Global, line: usize, text: &[u8]) -> Result<(), TableFault>
         ensures ok { OnOk result (and_then (entry_in line (fields text.now)) (with_entry line self.old) ≡ Ok self.new) }

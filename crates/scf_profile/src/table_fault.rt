@@ -1,4 +1,4 @@
-//! Why a text is no call table.
+//! Why a text isn't a syscall table.
 
 ghost use Rattle.std.specs.Prelude.{◌≡◌};
 ghost use Rattle.scf_profile.specs.declared.table_fault.TableFault.TheVariants.{Memory};

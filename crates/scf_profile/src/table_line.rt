@@ -1,4 +1,4 @@
-//! The lines of a call table, and the name and the number on one.
+//! Lines of a syscall table.
 
 ghost use Rattle.std.specs.Prelude.{◌≡◌, ◌<◌, ◌≤◌, [], ◌∷◌, length, nat_lt, if◌then◌else◌, slice_index, false};
 ghost use Rattle.std.specs.Prelude.{option_and_then, option_map, pos, ◌≢◌, IfErr, IfOk, IfSome};
@@ -45,7 +45,7 @@ fn is_blank(byte: u8) -> bool
     byte == b' ' || byte == b'\t'
 }
 
-/// The text from its first byte that isn't blank on.
+/// The text without its leading blanks.
 fn trimmed(text: &[u8]) -> &[u8]
     ensures fields { fields result.now ≡ fields text.now }
     ensures shorter { length result.now ≤ length text.now }
@@ -61,7 +61,7 @@ fn trimmed(text: &[u8]) -> &[u8]
     rest
 }
 
-/// The first field, and the text behind it. The field is empty where there is none.
+/// The first field, empty if there is none, and the text behind it.
 fn first_field(text: &[u8]) -> (&[u8], &[u8])
     ensures { fields text.now
         ≡ (if nat_lt 0 (length result.0.now) then result.0.now ∷ fields result.1.now else []) }
@@ -94,7 +94,7 @@ fn is_name(text: &[u8]) -> bool
     !text.is_empty() && !text[0].is_ascii_digit() && are_in_name(text)
 }
 
-/// The value of decimal digits, where it is a call number.
+/// The value of decimal digits, if it is below 0x40000000.
 fn call_number(digits: &[u8]) -> Option<u32>
     ensures value { result
         ≡ option_and_then (λ n. number_below x32_syscall_bit (pos n)) (numeral 10 digits.now) }
@@ -106,7 +106,7 @@ fn call_number(digits: &[u8]) -> Option<u32>
     }
 }
 
-/// The name and the number on a line, where it has them.
+/// The name and number on a line, or its first fault.
 #[tactic(auto, unfolding(crate::specs::Table::pair_of))]
 pub(crate) fn entry_on(line: usize, text: &[u8]) -> Result<Option<(&str, u32)>, TableFault>
     ensures value { result_map (option_map (λ e. (e.0.now, e.1))) result

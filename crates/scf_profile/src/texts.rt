@@ -6,7 +6,7 @@ ghost use Rattle.scf_profile.specs.References.{texts_at};
 use std::alloc::{AllocError, Global};
 use std::marker::Model;
 
-/// Texts in an order, each seen as its bytes.
+/// A list of texts, as bytes.
 #[derive(Debug, Drop)]
 pub struct Texts {
     list: Vec<String>,
@@ -21,14 +21,14 @@ impl Model for Texts {
 }
 
 impl Texts {
-    /// These texts.
+    /// The list of these texts.
     pub fn from_vec(list: Vec<String>) -> Texts
         ensures { result ≡ map string_bytes list.items }
     {
         Texts { list }
     }
 
-    /// No texts.
+    /// An empty list.
     pub(crate) fn new(alloc: Global) -> Texts
         ensures { result ≡ [] }
     {
@@ -37,7 +37,7 @@ impl Texts {
         }
     }
 
-    /// Adds a text at the end.
+    /// Appends a text.
     pub(crate) fn push(&mut self, alloc: Global, text: &str) -> Result<(), AllocError>
         ensures { OnOk result (self.new ≡ self.old ++ text.now ∷ []) }
     {
@@ -45,14 +45,14 @@ impl Texts {
         Ok(())
     }
 
-    /// The texts in their order.
+    /// The texts, in order.
     pub fn as_slice(&self) -> &[String]
         ensures { map string_bytes result.now ≡ self.now }
     {
         &self.list
     }
 
-    /// The list of the texts. It takes no memory.
+    /// The texts as a vector. Never allocates.
     pub fn into_vec(self) -> Vec<String>
         ensures { map string_bytes result.items ≡ self }
     {
@@ -61,7 +61,7 @@ impl Texts {
     }
 }
 
-/// Texts that lie elsewhere, in an order.
+/// A list of borrowed texts.
 #[derive(Drop)]
 pub(crate) struct BorrowedTexts<'v> {
     texts: Vec<&'v str>,
@@ -77,7 +77,7 @@ impl<'v> Model for BorrowedTexts<'v> {
 }
 
 impl<'v> BorrowedTexts<'v> {
-    /// No texts.
+    /// An empty list.
     pub(crate) fn new(alloc: Global) -> BorrowedTexts<'v>
         ensures { result ≡ [] }
     {
@@ -86,7 +86,7 @@ impl<'v> BorrowedTexts<'v> {
         }
     }
 
-    /// Adds a text at the end.
+    /// Appends a text.
     pub(crate) fn push(&mut self, text: &'v str) -> Result<(), AllocError>
         ensures { OnOk result (self.new ≡ self.old ++ text.now ∷ []) }
     {
@@ -94,7 +94,7 @@ impl<'v> BorrowedTexts<'v> {
         Ok(())
     }
 
-    /// The texts in their order.
+    /// The texts, in order.
     pub(crate) fn as_slice(&self) -> &[&'v str]
         ensures { texts_at result.now ≡ self.now }
     {
