@@ -5,17 +5,17 @@ use Rattle.clap.specs.Walk.{Names, Text}
 third : (a b g rest : Bool) → (a && (not b && (not g && rest))) ≡ true → g ≡ false
 third a b g rest h = grind (arith, and_parts, not-true)
 
-abbrev pub alone : Shape → App
-alone own = record { top = own; subs = [] }
+abbrev pub program_alone : Shape → App
+program_alone own = record { top = own; subs = [] }
 
 -- one more command
 pub one_more_command : (old sub new : Command) (before : App) (own : Shape) → AddsSubcommand old sub new
-    → app_of old ≡ before → app_of sub ≡ alone own → own.is_plain ≡ true → app_of new ≡ with_subcommand before own
+    → app_of old ≡ before → app_of sub ≡ program_alone own → own.is_plain ≡ true → app_of new ≡ with_subcommand before own
 one_more_command old sub new before own h1 h2 h3 h4 = grind (arith, third)
 
 -- the program without its commands
 abbrev pub bare : App
-bare = alone (record (new_app (codes "scf")).top { has_version = true; subcommand_required = true })
+bare = program_alone (record (new_app (codes "scf")).top { has_version = true; subcommand_required = true })
 
 scf_is_free : is_simple_and_free scf ≡ true
 unfolding clap_on_literals

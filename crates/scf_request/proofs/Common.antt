@@ -25,7 +25,7 @@ pub use Rattle.std.specs.Str.Parse.{AllDigits}
 pub use Rattle.scf_insn.proofs.Common.{ReadsNumber, and_from, and_parts, digits_value, drop_more, eqb-false, is_digit, list_all, ne_eqb, numeral, take-append-drop, take_all, take_more}
 pub use Rattle.scf_insn.specs.declared.number.NumeralFault.{NumeralFault}
 pub use Rattle.scf_profile.proofs.Common.{IfOk-weaker, err_from_is_err_and, false≢true, filter_map-append, map-append, option_map_or, nat_tests}
-pub use Rattle.scf_request.specs.Bundle.{HasHeader, IsBundleFault, IsBundlePart, IsFaultAt, IsHeader, SpellsBundle, SpellsFrom, held, held_by, is_of, kind_word}
+pub use Rattle.scf_request.specs.Bundle.{HasHeader, IsBundleFault, IsBundlePart, IsFaultAt, IsHeader, SpellsBundle, SpellsFrom, content_of, held_by, is_of, kind_word}
 pub use Rattle.scf_request.specs.Options.{NumberOption, choice_in, first_wrong, given_of, is_given, limit_options, number_by, number_in, one_of}
 pub use Rattle.scf_request.specs.Requests.{Command as Asked, command_word}
 pub use Rattle.scf_request.specs.Requests.Command.{Ask, Asm, Check, Compare, Compile, Decide, Dis, Run}

@@ -62,8 +62,8 @@ IsBundleFault bytes fault = (offset : ℕ) × (parts : List Part)
 -- ---- what parts hold
 
 -- what a part holds: the bytes behind its header
-abbrev pub held : List ℕ → Part → List ℕ
-held bytes part = take part.length (drop part.start bytes)
+abbrev pub content_of : List ℕ → Part → List ℕ
+content_of bytes part = take part.length (drop part.start bytes)
 
 abbrev pub is_of : PartKind → PartKind → Bool
 is_of Filter Filter = true
@@ -73,7 +73,7 @@ is_of kind other = false
 
 -- what the parts of a kind hold, in their order
 abbrev pub held_by : PartKind → List ℕ → List Part → List (List ℕ)
-held_by kind bytes parts = filter_map (λ part. if is_of kind part.kind then Some (held bytes part) else None) parts
+held_by kind bytes parts = filter_map (λ part. if is_of kind part.kind then Some (content_of bytes part) else None) parts
 
 -- Bytes are a bundle whose parts hold these filters, these profiles and these tables, those of each kind in order.
 pub record IsBundle (bytes : List ℕ) (filters profiles tables : List (List ℕ)) : Type 0 where

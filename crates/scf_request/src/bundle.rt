@@ -1,4 +1,4 @@
-//! Bundles: files one after another, each behind a header that says what it is and how many bytes it has.
+//! Bundles: files one after another, each behind a header with its kind and its length in bytes.
 
 ghost use Rattle.std.specs.Prelude.{◌≡◌, ◌≢◌, ◌+◌, ◌-◌, ◌<◌, ◌≤◌, ◌++◌, ◌∷◌, [], ℕ, List, codes, length, take, drop};
 ghost use Rattle.std.specs.Prelude.{slice_index, MatchOption, IfSome, IfNone, IfOk, IfErr};
@@ -11,7 +11,7 @@ use scf_insn::parse_numeral;
 use std::alloc::{AllocError, AllocFailed, Global};
 use thiserror::Error;
 
-/// What a part of a bundle is.
+/// The kind of a part.
 #[derive(Clone, Copy, Debug, PartialEq, Eq)]
 pub enum PartKind {
     Filter,
@@ -19,7 +19,7 @@ pub enum PartKind {
     Table,
 }
 
-/// A part of a bundle, and where its bytes stand, in bytes from the front.
+/// A part of a bundle: its kind, and the range of its contents, in bytes from the beginning.
 #[derive(Clone, Copy, Debug, PartialEq, Eq)]
 pub struct Part {
     pub kind: PartKind,
@@ -27,7 +27,7 @@ pub struct Part {
     pub length: usize,
 }
 
-/// Why bytes are no bundle.
+/// Why bytes aren't a bundle.
 #[derive(Clone, Copy, Debug, PartialEq, Eq, Error)]
 pub enum BundleFault {
     #[error("no header stands at byte {offset}")]
@@ -61,7 +61,7 @@ impl<T: Drop> From<AllocFailed<T>> for BundleFault {
 }
 
 impl PartKind {
-    /// The word that names the kind.
+    /// The kind's name in a header.
     fn word(self) -> &'static [u8]
         ensures { result.now ≡ kind_word self }
     {
@@ -73,7 +73,7 @@ impl PartKind {
     }
 }
 
-/// What a header says, and how long it is.
+/// A parsed header, and its length in bytes.
 #[derive(Clone, Copy)]
 struct Header {
     kind: PartKind,
@@ -81,7 +81,7 @@ struct Header {
     length: usize,
 }
 
-/// The count that the digits of a header write.
+/// The value of a header's digits.
 #[tactic(auto, using(std::proofs::lemmas::Grind::common_steps, crate::proofs::HeaderLemmas::no_count))]
 fn count_of(digits: &[u8]) -> Option<usize>
     ensures { MatchOption result
@@ -97,7 +97,7 @@ fn count_of(digits: &[u8]) -> Option<usize>
     }
 }
 
-/// The count in a header of this kind, given without its line end.
+/// The length in a header of this kind, without its line end.
 fn count_in(kind: PartKind, line: &[u8]) -> Option<usize>
     ensures { MatchOption result
         ((n : ℕ) → IsHeader (line.now ++ codes "\n") kind n → ⊥)
@@ -107,7 +107,7 @@ fn count_in(kind: PartKind, line: &[u8]) -> Option<usize>
     count_of(digits)
 }
 
-/// The kind and the count in a header, given without its line end.
+/// The kind and the length in a header, without its line end.
 fn said_in(line: &[u8]) -> Option<(PartKind, usize)>
     ensures { MatchOption result
         ((kind : PartKind) (n : ℕ) → IsHeader (line.now ++ codes "\n") kind n → ⊥)
@@ -125,7 +125,7 @@ fn said_in(line: &[u8]) -> Option<(PartKind, usize)>
     }
 }
 
-/// The place of the first line end.
+/// The index of the first line end.
 fn line_len(bytes: &[u8]) -> Option<usize>
     ensures found { IfSome result (λ n. n < length bytes.now × (slice_index bytes.now n ≡ 10)) }
     ensures first { IfSome result (λ n. (k : ℕ) → k < n → slice_index bytes.now k ≢ 10) }
@@ -139,7 +139,7 @@ fn line_len(bytes: &[u8]) -> Option<usize>
     None
 }
 
-/// The header that stands in front.
+/// The header at the beginning.
 fn header_of(bytes: &[u8]) -> Option<Header>
     ensures some { IfSome result (λ h. (h.length ≤ length bytes.now)
         × IsHeader (take h.length bytes.now) h.kind h.count) }
@@ -177,29 +177,28 @@ fn part_at(bytes: &[u8], offset: usize) -> Result<Part, BundleFault>
     })
 }
 
-/// What a part of a bundle holds.
-pub(crate) fn held<'a>(bytes: &'a [u8], part: Part) -> &'a [u8]
+/// The contents of a part.
+pub(crate) fn content_of<'a>(bytes: &'a [u8], part: Part) -> &'a [u8]
     requires { part.start + part.length ≤ length bytes.now }
-    ensures { result.now ≡ spec.held bytes.now part }
+    ensures { result.now ≡ spec.content_of bytes.now part }
 {
     &bytes[part.start..part.start + part.length]
 }
 
-/// The parts that the bytes spell as a bundle: parts one after another, each a header and its bytes, and nothing
-/// between or behind them.
+/// Splits a bundle into its parts: one after another, each a header and its contents, nothing between or behind them.
 ///
-/// A header is one of the words `filter`, `profile` and `table`, one space, 1 to 8 decimal digits and LF. The digits
-/// give the count of bytes that follow. `Header` has the first offset behind whole parts at which no header stands,
-/// though the bytes go on, and `Short` the first whose header says more bytes than follow.
+/// A header is `filter`, `profile` or `table`, one space, 1 to 8 decimal digits and LF. The digits are the count of
+/// bytes that follow. `Header` has the first offset behind whole parts where bytes follow that aren't a header, `Short`
+/// the first offset of a header that announces more bytes than follow.
 #[tactic(auto, using(std::proofs::lemmas::Grind::common_steps, crate::proofs::BundleLemmas::breaks, crate::proofs::BundleLemmas::next_part, crate::proofs::BundleLemmas::one_spelling, crate::proofs::BundleLemmas::first_fault, crate::proofs::BundleLemmas::broken_no_parts))]
 pub fn split(alloc: Global, bytes: &[u8]) -> Result<Vec<Part>, BundleFault>
     ensures parts { IfOk result (λ parts. SpellsBundle bytes.now parts.items) }
-    // No other list of parts is spelled.
+    // The bytes spell no other list of parts.
     ensures only { IfOk result (λ parts. (others : List Part) → SpellsBundle bytes.now others → others ≡ parts.items) }
     ensures fault { IfErr result (IsBundleFault bytes.now) }
     ensures none { IfErr result (λ fault. fault ≢ BundleFault.Memory
         → (parts : List Part) → SpellsBundle bytes.now parts → ⊥) }
-    // Where no whole part stands in front, no memory is wanted.
+    // Nothing is allocated before the first whole part.
     ensures first { (fault : BundleFault) → IsFaultAt bytes.now 0 fault → result ≡ Err fault }
 {
     let mut parts = Vec::new(alloc);

@@ -1,4 +1,4 @@
-//! The words that the program takes.
+//! The command line, defined for `clap`.
 
 ghost use Rattle.std.specs.Prelude.{◌≡◌, [], codes, false, true, map, IfOk, IfSome};
 ghost use Rattle.clap.specs.Words.{App, FailsBy, Shape, app_of, fault_of, new_app, rule_of, subcommand_of, subcommand_rows_of, with_subcommand};
@@ -17,11 +17,11 @@ use std::convert::AsStr;
 /// The version that `--version` prints.
 const VERSION: &str = "0.1.0";
 
-/// What the help says of the program.
+/// What the help says about the program.
 const ABOUT: &str =
     "Checks, runs, lists, assembles, compiles and compares seccomp filters for x86-64. Input comes on standard input.";
 
-/// An option, as the reader of the command line takes it.
+/// An option that takes a number, for `clap`.
 fn argument_of<'a>(alloc: Global, option: NumberOption) -> Arg<'a>
     ensures rule { rule_of result ≡ option_rule (option_of option) }
     ensures local { result.global ≡ false }
@@ -49,7 +49,7 @@ fn command_with<'a>(
     Ok(command)
 }
 
-/// A flag, as the reader of the command line takes it.
+/// A flag, for `clap`.
 fn flag_argument<'a>(alloc: Global, name: &'a str, help: &'a str) -> Arg<'a>
     ensures rule { rule_of result ≡ flag_rule name.now }
     ensures local { result.global ≡ false }
@@ -60,15 +60,15 @@ fn flag_argument<'a>(alloc: Global, name: &'a str, help: &'a str) -> Arg<'a>
         .help(help)
 }
 
-/// The command that checks.
-fn checking<'a>(alloc: Global) -> Result<Command<'a>, AllocError>
+/// The command `check`.
+fn define_check<'a>(alloc: Global) -> Result<Command<'a>, AllocError>
     ensures { IfOk result (λ command. app_of command ≡ definition_of Check) }
 {
     command_with(alloc, "check", "Checks a filter", &[])
 }
 
-/// The command that runs.
-fn running<'a>(alloc: Global) -> Result<Command<'a>, AllocError>
+/// The command `run`.
+fn define_run<'a>(alloc: Global) -> Result<Command<'a>, AllocError>
     ensures { IfOk result (λ command. app_of command ≡ definition_of Run) }
 {
     let path = "Also the places of the instructions on the way";
@@ -77,38 +77,38 @@ fn running<'a>(alloc: Global) -> Result<Command<'a>, AllocError>
     ))
 }
 
-/// The command that decides.
-fn deciding<'a>(alloc: Global) -> Result<Command<'a>, AllocError>
+/// The command `decide`.
+fn define_decide<'a>(alloc: Global) -> Result<Command<'a>, AllocError>
     ensures { IfOk result (λ command. app_of command ≡ definition_of Decide) }
 {
     let about = "Runs a bundle of filters on a call";
     command_with(alloc, "decide", about, &call_options())
 }
 
-/// The command that lists.
-fn listing<'a>(alloc: Global) -> Result<Command<'a>, AllocError>
+/// The command `dis`.
+fn define_dis<'a>(alloc: Global) -> Result<Command<'a>, AllocError>
     ensures { IfOk result (λ command. app_of command ≡ definition_of Dis) }
 {
     command_with(alloc, "dis", "Lists a filter, which isn't checked", &[])
 }
 
-/// The command that assembles.
-fn assembling<'a>(alloc: Global) -> Result<Command<'a>, AllocError>
+/// The command `asm`.
+fn define_asm<'a>(alloc: Global) -> Result<Command<'a>, AllocError>
     ensures { IfOk result (λ command. app_of command ≡ definition_of Asm) }
 {
     command_with(alloc, "asm", "Assembles a text, which isn't checked", &[])
 }
 
-/// The command that compiles.
-fn compiling<'a>(alloc: Global) -> Result<Command<'a>, AllocError>
+/// The command `compile`.
+fn define_compile<'a>(alloc: Global) -> Result<Command<'a>, AllocError>
     ensures { IfOk result (λ command. app_of command ≡ definition_of Compile) }
 {
     let about = "Compiles a bundle of a profile and a table";
     command_with(alloc, "compile", about, &[])
 }
 
-/// The command that compares.
-fn comparing<'a>(alloc: Global) -> Result<Command<'a>, AllocError>
+/// The command `compare`.
+fn define_compare<'a>(alloc: Global) -> Result<Command<'a>, AllocError>
     ensures { IfOk result (λ command. app_of command ≡ definition_of Compare) }
 {
     let about = "Compares a bundle of filters, a profile and a table";
@@ -124,16 +124,16 @@ fn comparing<'a>(alloc: Global) -> Result<Command<'a>, AllocError>
         .arg(flag_argument(alloc, NO_LESS_FLAG, no_less))
 }
 
-/// The command that asks a profile.
-fn asking<'a>(alloc: Global) -> Result<Command<'a>, AllocError>
+/// The command `ask`.
+fn define_ask<'a>(alloc: Global) -> Result<Command<'a>, AllocError>
     ensures { IfOk result (λ command. app_of command ≡ definition_of Ask) }
 {
     let about = "Says what a profile answers to a call, and why, of a bundle with a table";
     command_with(alloc, "ask", about, &call_options())
 }
 
-/// The program, without its commands.
-fn alone<'a>(alloc: Global) -> Command<'a>
+/// The program without commands.
+fn program_alone<'a>(alloc: Global) -> Command<'a>
     ensures { app_of result ≡ record {
       top = record (new_app (codes "scf")).top { has_version = true; subcommand_required = true };
       subs = [];
@@ -145,7 +145,7 @@ fn alone<'a>(alloc: Global) -> Command<'a>
         .subcommand_required(true)
 }
 
-/// The program with one command more, where both could be made.
+/// The program with one more command, if both could be allocated.
 fn with<'a>(
     program: Result<Command<'a>, AllocError>,
     command: Result<Command<'a>, AllocError>,
@@ -157,52 +157,51 @@ fn with<'a>(
     program?.subcommand(command?)
 }
 
-/// The program with all its commands and their options.
+/// The program with all its commands.
 fn program<'a>(alloc: Global) -> Result<Command<'a>, AllocError>
     ensures { IfOk result (λ command. app_of command ≡ scf) }
 {
-    let program = with(Ok(alone(alloc)), checking(alloc));
-    let program = with(program, running(alloc));
-    let program = with(program, deciding(alloc));
-    let program = with(program, listing(alloc));
-    let program = with(program, assembling(alloc));
-    let program = with(program, compiling(alloc));
-    let program = with(program, comparing(alloc));
-    with(program, asking(alloc))
+    let program = with(Ok(program_alone(alloc)), define_check(alloc));
+    let program = with(program, define_run(alloc));
+    let program = with(program, define_decide(alloc));
+    let program = with(program, define_dis(alloc));
+    let program = with(program, define_asm(alloc));
+    let program = with(program, define_compile(alloc));
+    let program = with(program, define_compare(alloc));
+    with(program, define_ask(alloc))
 }
 
-/// The command that the word names.
+/// The command with this name.
 fn command_named<'a>(alloc: Global, word: &str) -> Option<Result<Command<'a>, AllocError>>
     ensures { IfSome result (MakesNamed word.now) }
 {
     Some(match word {
-        "ask" => asking(alloc),
-        "asm" => assembling(alloc),
-        "check" => checking(alloc),
-        "compare" => comparing(alloc),
-        "compile" => compiling(alloc),
-        "decide" => deciding(alloc),
-        "dis" => listing(alloc),
-        "run" => running(alloc),
+        "ask" => define_ask(alloc),
+        "asm" => define_asm(alloc),
+        "check" => define_check(alloc),
+        "compare" => define_compare(alloc),
+        "compile" => define_compile(alloc),
+        "decide" => define_decide(alloc),
+        "dis" => define_dis(alloc),
+        "run" => define_run(alloc),
         _ => return None,
     })
 }
 
-/// The program with the one command that the words begin with, or else with all. To define a command costs more than
-/// to run one.
+/// The program with the command that the arguments name, or with all: defining a command costs more than running one.
 fn program_for<'a, T: AsStr>(alloc: Global, words: &[T]) -> Result<Command<'a>, AllocError>
     ensures { IfOk result (λ command. ReadsAsProgram (app_of command) (map T.text words.now)) }
 {
     if let Some(word) = words.get(1) {
         if let Some(command) = command_named(alloc, word.as_str()) {
-            return with(Ok(alone(alloc)), command);
+            return with(Ok(program_alone(alloc)), command);
         }
     }
     program(alloc)
 }
 
-/// What the words say, the first being the program's name. The error is help, the version, what is wrong with the
-/// words, or want of memory.
+/// Parses the arguments, the first being the program's name. The error is help, the version, a usage error or out of
+/// memory.
 pub fn parse<'a, T: AsStr>(alloc: Global, words: &'a [T]) -> Result<ArgMatches<'a>, Error>
     ensures matches { IfOk result (λ m. subcommand_rows_of m ≡ subcommand_of scf (map T.text words.now)) }
     ensures kinds { FailsBy (fault_of scf (map T.text words.now)) result }

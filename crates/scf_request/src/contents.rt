@@ -1,15 +1,15 @@
-//! What the parts of a bundle hold.
+//! The contents of a bundle.
 
 ghost use Rattle.std.specs.Prelude.{◌≡◌, Err, IfOk, IfErr};
 ghost use Rattle.scf_request.specs.Bundle.{IsBundleFault, IsFaultAt};
 ghost use Rattle.scf_request.specs.Contents.{IsHeldBy, rest_of};
 ghost use Rattle.scf_request.specs.internal.Contents.{AddsPart};
 
-use crate::bundle::{BundleFault, PartKind, held, split};
+use crate::bundle::{BundleFault, PartKind, content_of, split};
 use scf_insn::{Failed, Source};
 use std::alloc::Global;
 
-/// What the parts of a bundle hold, those of each kind in their order.
+/// The contents of a bundle, by kind, each kind in order.
 #[derive(Drop)]
 pub struct Contents<'a> {
     /// Readers of the filters, the oldest first.
@@ -19,7 +19,7 @@ pub struct Contents<'a> {
 }
 
 impl<'a> Contents<'a> {
-    /// Adds what a part holds.
+    /// Adds the contents of a part.
     fn add(&mut self, kind: PartKind, bytes: &'a [u8]) -> Result<(), BundleFault>
         ensures { AddsPart kind bytes.now self.old result self.new }
     {
@@ -31,7 +31,7 @@ impl<'a> Contents<'a> {
         Ok(())
     }
 
-    /// What the parts hold that these bytes spell as a bundle; the faults are those of `split`.
+    /// The contents of the bundle that the bytes spell. Errors are those of `split`.
     #[tactic(auto, using(crate::proofs::BundleLemmas::part_inside))]
     pub fn of(alloc: Global, bytes: &'a [u8]) -> Result<Contents<'a>, BundleFault>
         ensures bundle { IfOk result (IsHeldBy bytes.now) }
@@ -45,13 +45,13 @@ impl<'a> Contents<'a> {
             tables: Vec::new(alloc),
         };
         for part in &parts {
-            contents.add(part.kind, held(bytes, *part))?;
+            contents.add(part.kind, content_of(bytes, *part))?;
         }
         Ok(contents)
     }
 }
 
-/// A reader of what a part holds. It never fails.
+/// A reader of a part's contents. Never fails.
 #[derive(Drop)]
 pub struct PartReader<'a> {
     rest: &'a [u8],

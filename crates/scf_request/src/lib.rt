@@ -1,4 +1,4 @@
-//! What the program is asked for: the words of its command line, and the parts of a bundle.
+//! The program's inputs: its command line, and the parts of a bundle.
 #![tactic(auto)]
 
 mod bundle;

@@ -1,4 +1,4 @@
-//! Options of the command line, each of which takes a number.
+//! Options that take a number, and flags.
 
 ghost use Rattle.std.specs.Prelude.{◌≡◌, ◌≤◌, Some, None, IfOk, IfErr, length, map};
 ghost use Rattle.std.specs.List.{AllByRecursion};
@@ -14,7 +14,7 @@ use scf_insn::{CallRecord, parse_number};
 use scf_profile::{Relation, Scope};
 use thiserror::Error;
 
-/// An option whose text is no number in its range.
+/// An option whose text isn't a number in its range.
 #[derive(Clone, Copy, Debug, PartialEq, Eq, Error)]
 #[error("the option {name} is no number in its range")]
 pub struct NumberFault {
@@ -25,18 +25,18 @@ pub struct NumberFault {
 #[derive(Clone, Copy)]
 pub(crate) struct NumberOption {
     pub name: &'static str,
-    /// The number that it has where it has no text.
+    /// Its value if it isn't given.
     pub default: u64,
-    /// The greatest number that it may have.
+    /// Its greatest value.
     pub most: u64,
-    /// What the help says of it.
+    /// Its help.
     pub help: &'static str,
 }
 
-/// The greatest number of 32 bits.
+/// The greatest 32-bit number.
 const MAX_WORD: u64 = 0xffff_ffff;
 
-/// An option of 32 bits.
+/// A 32-bit option.
 fn word(name: &'static str, default: u64, help: &'static str) -> NumberOption
     ensures { option_of result ≡ table.word_option name.now default }
 {
@@ -48,7 +48,7 @@ fn word(name: &'static str, default: u64, help: &'static str) -> NumberOption
     }
 }
 
-/// An option of 64 bits.
+/// A 64-bit option.
 fn long(name: &'static str, default: u64, help: &'static str) -> NumberOption
     ensures { option_of result ≡ table.long_option name.now default }
 {
@@ -60,7 +60,7 @@ fn long(name: &'static str, default: u64, help: &'static str) -> NumberOption
     }
 }
 
-/// The options that say what call a filter is asked about.
+/// The options that describe a call record.
 pub(crate) fn call_options() -> [NumberOption; 9]
     ensures kept { options_kept result ≡ table.call_options }
     ensures fair { AllByRecursion (λ o. o.default ≤ o.most) result }
@@ -79,7 +79,7 @@ pub(crate) fn call_options() -> [NumberOption; 9]
     ]
 }
 
-/// The options that say how many steps comparisons may take: each, and those of single calls together.
+/// The options for the most steps of a comparison, and of all comparisons of `--calls` together.
 pub(crate) fn limit_options() -> [NumberOption; 2]
     ensures kept { options_kept result ≡ table.limit_options }
     ensures fair { AllByRecursion (λ o. o.default ≤ o.most) result }
@@ -92,28 +92,28 @@ pub(crate) fn limit_options() -> [NumberOption; 2]
     ]
 }
 
-/// The flag that leaves all but the native calls out of a comparison.
+/// The flag that limits a comparison to x86-64's own syscalls.
 pub(crate) const NATIVE_FLAG: &str = "native";
 
-/// The flag by which each named call is compared by itself.
+/// The flag that compares each syscall of the table by itself.
 pub(crate) const CALLS_FLAG: &str = "calls";
 
-/// The flag that asks whether no more is let through.
+/// The flag that asks whether the filters are no more permissive.
 pub(crate) const NO_MORE_FLAG: &str = "no-more";
 
-/// The flag that asks whether no less is let through.
+/// The flag that asks whether the filters are no less permissive.
 pub(crate) const NO_LESS_FLAG: &str = "no-less";
 
-/// The flag that has the path of a run shown.
+/// The flag that prints the path of a run.
 pub(crate) const PATH_FLAG: &str = "path";
 
-/// Over which calls a comparison goes, by its flags.
+/// Over which records a comparison goes, by flag.
 pub(crate) const SCOPE_FLAGS: [(&str, Scopes); 2] = [
     (NATIVE_FLAG, Scopes::AtOnce(Scope::Native)),
     (CALLS_FLAG, Scopes::EachCall),
 ];
 
-/// By which relation a comparison goes, by its flags.
+/// The relation of a comparison, by flag.
 pub(crate) const RELATION_FLAGS: [(&str, Relation); 2] = [
     (NO_MORE_FLAG, Relation::NoMore),
     (NO_LESS_FLAG, Relation::NoLess),
@@ -129,9 +129,9 @@ pub(crate) fn is_given(matches: &ArgMatches<'_>, name: &str) -> bool
     }
 }
 
-/// What the flag of a group stands for that is given, and `without` where none is. More than one is a fault.
+/// What the given flag of a group stands for, or `without` if none is given. Two given flags are an error.
 #[tactic(auto, using(std::proofs::lemmas::Grind::common_steps, crate::proofs::OptionLemmas::given_as_before, crate::proofs::OptionLemmas::given_first, crate::proofs::OptionLemmas::given_twice))]
-pub(crate) fn chosen<T: Copy>(
+pub(crate) fn chosen_flag<T: Copy>(
     matches: &ArgMatches<'_>,
     group: &[(&'static str, T)],
     without: T,
@@ -155,7 +155,7 @@ pub(crate) fn chosen<T: Copy>(
 }
 
 impl NumberOption {
-    /// The number that the option spells, or its default where it has no text.
+    /// The option's value, or its default if it isn't given.
     #[tactic(auto, using(std::proofs::lemmas::Grind::common_steps, crate::proofs::OptionLemmas::by_value))]
     pub(crate) fn number_in(self, matches: &ArgMatches<'_>) -> Result<u64, NumberFault>
         requires { self.default ≤ self.most }
@@ -174,7 +174,7 @@ impl NumberOption {
     }
 }
 
-/// The numbers of some options, in their order. The fault names the first that has none.
+/// The values of some options, in order. The error names the first whose text isn't a number in its range.
 fn numbers_in(
     matches: &ArgMatches<'_>,
     options: &[NumberOption],
@@ -197,10 +197,9 @@ fn numbers_in(
     numbers_in(matches, options, numbers)
 }
 
-/// The call record that the options `nr`, `arch`, `ip` and `a0` to `a5` of these matches spell. Without a text `arch`
-/// is that of x86-64, and the others are 0. The fault names the first, in this order, whose text is no number in its
-/// range: decimal digits, or `0x` or `0X` and hexadecimal digits, below 2^32 for `nr` and `arch` and below 2^64 for
-/// the others.
+/// The call record of the options `nr`, `arch`, `ip` and `a0` to `a5`. If not given, `arch` is x86-64's and the others
+/// are 0. The error names the first option, in this order, whose text isn't a number in its range: decimal digits, or
+/// `0x` or `0X` and hexadecimal digits, below 2^32 for `nr` and `arch` and below 2^64 for the others.
 pub fn record_of(matches: &ArgMatches<'_>) -> Result<CallRecord, NumberFault>
     ensures { table.SpellsCall (rows_of (found_of matches.now)) result }
 {

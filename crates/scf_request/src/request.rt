@@ -1,23 +1,23 @@
-//! What the program is asked for.
+//! Requests: a command with the values of its options.
 
 ghost use Rattle.std.specs.Prelude.{Some, codes};
 ghost use Rattle.clap.specs.Words.{found_of, rows_of, subcommand_rows_of};
 ghost use Rattle.scf_request.specs.Requests.{AsksFor};
 
 use crate::options::{
-    PATH_FLAG, RELATION_FLAGS, SCOPE_FLAGS, chosen, is_given, limits_of, record_of,
+    PATH_FLAG, RELATION_FLAGS, SCOPE_FLAGS, chosen_flag, is_given, limits_of, record_of,
 };
 use crate::request_fault::RequestFault;
 use clap::ArgMatches;
 use scf_insn::CallRecord;
 use scf_profile::{Relation, Scope};
 
-/// Over which calls a comparison goes.
+/// Over which records a comparison goes.
 #[derive(Clone, Copy)]
 pub enum Scopes {
-    /// Those of a scope, at once.
+    /// A scope, in one comparison.
     AtOnce(Scope),
-    /// Those that the table names, each by itself.
+    /// Each syscall of the table, in a comparison of its own.
     EachCall,
 }
 
@@ -30,7 +30,7 @@ pub struct Limits {
     pub total: u64,
 }
 
-/// What the program is asked for: a command, with the numbers of its options.
+/// A command with the values of its options.
 #[derive(Clone, Copy)]
 pub enum Request {
     Ask(CallRecord),
@@ -45,18 +45,18 @@ pub enum Request {
     Decide(CallRecord),
     List,
     Run(CallRecord),
-    /// To run a filter, and to show the way.
+    /// `run --path`: run a filter and print the path.
     Trace(CallRecord),
 }
 
-/// The comparison that these options ask for.
+/// The request of `compare` with these options.
 #[tactic(auto, using(std::proofs::lemmas::Grind::common_steps, crate::proofs::OptionLemmas::none_wrong))]
-fn comparison_in(options: &ArgMatches<'_>) -> Result<Request, RequestFault>
+fn compare_request(options: &ArgMatches<'_>) -> Result<Request, RequestFault>
     ensures { AsksFor (Some (codes "compare", rows_of (found_of options.now))) result }
 {
     let limits = limits_of(options)?;
-    let scopes = chosen(options, &SCOPE_FLAGS, Scopes::AtOnce(Scope::All))?;
-    let relation = chosen(options, &RELATION_FLAGS, Relation::Same)?;
+    let scopes = chosen_flag(options, &SCOPE_FLAGS, Scopes::AtOnce(Scope::All))?;
+    let relation = chosen_flag(options, &RELATION_FLAGS, Relation::Same)?;
     Ok(Request::Compare {
         limits,
         scopes,
@@ -64,8 +64,8 @@ fn comparison_in(options: &ArgMatches<'_>) -> Result<Request, RequestFault>
     })
 }
 
-/// The run that these options ask for.
-fn run_in(options: &ArgMatches<'_>) -> Result<Request, RequestFault>
+/// The request of `run` with these options.
+fn run_request(options: &ArgMatches<'_>) -> Result<Request, RequestFault>
     ensures { AsksFor (Some (codes "run", rows_of (found_of options.now))) result }
 {
     let call = record_of(options)?;
@@ -76,8 +76,8 @@ fn run_in(options: &ArgMatches<'_>) -> Result<Request, RequestFault>
     }
 }
 
-/// What the matches of the words ask for. The fault is that no command is named, or the first option of the command
-/// whose text is no number in its range, or that flags exclude each other.
+/// The request of parsed arguments. The error: no command, the first option whose text isn't a number in its range, or
+/// flags that exclude each other.
 pub fn request_of(matches: &ArgMatches<'_>) -> Result<Request, RequestFault>
     ensures { AsksFor (subcommand_rows_of matches.now) result }
 {
@@ -85,11 +85,11 @@ pub fn request_of(matches: &ArgMatches<'_>) -> Result<Request, RequestFault>
         Some(("ask", options)) => Ok(Request::Ask(record_of(options)?)),
         Some(("asm", _)) => Ok(Request::Assemble),
         Some(("check", _)) => Ok(Request::Check),
-        Some(("compare", options)) => comparison_in(options),
+        Some(("compare", options)) => compare_request(options),
         Some(("compile", _)) => Ok(Request::Compile),
         Some(("decide", options)) => Ok(Request::Decide(record_of(options)?)),
         Some(("dis", _)) => Ok(Request::List),
-        Some(("run", options)) => run_in(options),
+        Some(("run", options)) => run_request(options),
         _ => Err(RequestFault::NoCommand),
     }
 }

@@ -1,4 +1,4 @@
-//! Why words ask for nothing that can be done.
+//! Why parsed arguments aren't a request.
 
 ghost use Rattle.std.specs.Prelude.{◌≡◌};
 ghost use Rattle.scf_request.specs.declared.request_fault.RequestFault.TheVariants as faults;
@@ -6,16 +6,16 @@ ghost use Rattle.scf_request.specs.declared.request_fault.RequestFault.TheVarian
 use crate::options::NumberFault;
 use thiserror::Error;
 
-/// Why words that the command line's reader takes ask for nothing that can be done.
+/// Why arguments that `clap` accepts aren't a request.
 #[derive(Clone, Copy, Debug, PartialEq, Eq, Error)]
 pub enum RequestFault {
-    /// They name no command.
+    /// No command is named.
     #[error("no command is named")]
     NoCommand,
-    /// An option's text is no number in its range.
+    /// An option's text isn't a number in its range.
     #[error("{0}")]
     Number(NumberFault),
-    /// Flags are given that exclude each other.
+    /// Two given flags exclude each other.
     #[error("two flags exclude each other")]
     Flags,
 }

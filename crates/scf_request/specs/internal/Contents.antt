@@ -10,7 +10,7 @@ use Rattle.scf_request.specs.Contents.{of_kind}
 
 -- one more of this kind, and of the other kinds none
 abbrev pub with_one : PartKind → List ℕ → PartKind → List (List ℕ) → List (List ℕ)
-with_one added bytes kind held = if is_of kind added then held ++ bytes ∷ [] else held
+with_one added bytes kind content_of = if is_of kind added then content_of ++ bytes ∷ [] else content_of
 
 abbrev pub AddsPart : PartKind → List ℕ → Contents → Result (Unit {0}) BundleFault → Contents → Type 0
 AddsPart added bytes old (Ok done) new =

@@ -4,11 +4,11 @@ use Rattle.scf_request.proofs.command_line.program.Goals as goal
 
 pub returns : goal.returns
 returns c =
-    let first = c.with-program.ensures bare (shape_for Check) c.alone.ensures c.checking.ensures refl in
-    let second = c.with-program-2.ensures _ (shape_for Run) first c.running.ensures refl in
-    let third = c.with-program-3.ensures _ (shape_for Decide) second c.deciding.ensures refl in
-    let fourth = c.with-program-4.ensures _ (shape_for Dis) third c.listing.ensures refl in
-    let fifth = c.with-program-5.ensures _ (shape_for Asm) fourth c.assembling.ensures refl in
-    let sixth = c.with-program-6.ensures _ (shape_for Compile) fifth c.compiling.ensures refl in
-    let seventh = c.with-program-7.ensures _ (shape_for Compare) sixth c.comparing.ensures refl in
-    c.with.ensures _ (shape_for Ask) seventh c.asking.ensures refl
+    let first = c.with-program.ensures bare (shape_for Check) c.program_alone.ensures c.define_check.ensures refl in
+    let second = c.with-program-2.ensures _ (shape_for Run) first c.define_run.ensures refl in
+    let third = c.with-program-3.ensures _ (shape_for Decide) second c.define_decide.ensures refl in
+    let fourth = c.with-program-4.ensures _ (shape_for Dis) third c.define_dis.ensures refl in
+    let fifth = c.with-program-5.ensures _ (shape_for Asm) fourth c.define_asm.ensures refl in
+    let sixth = c.with-program-6.ensures _ (shape_for Compile) fifth c.define_compile.ensures refl in
+    let seventh = c.with-program-7.ensures _ (shape_for Compare) sixth c.define_compare.ensures refl in
+    c.with.ensures _ (shape_for Ask) seventh c.define_ask.ensures refl

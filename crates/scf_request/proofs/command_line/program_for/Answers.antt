@@ -16,7 +16,7 @@ returns-in-Some-command_named g c =
     subst (λ (app : App). ReadsAsProgram app words) (sym is_one)
     (subst (λ (texts : List Text). ReadsAsProgram (scf_with named.0) texts) (sym is_words)
     (reads_with named.0 parts.0 parts.1)))
-    (c.with.ensures bare (shape_for named.0) c.alone.ensures named.2 refl)
+    (c.with.ensures bare (shape_for named.0) c.program_alone.ensures named.2 refl)
 
 pub returns : goal.returns
 returns g c = IfOk-weaker c.program.result _ _

@@ -6,7 +6,7 @@ pub loop-part-preserved : goal.loop-part-preserved
 loop-part-preserved c =
     let before = c.loop-part.invariant in
     let added = c.in_ok-add.ensures in
-    let is = c.held.ensures in
+    let is = c.content_of.ensures in
     let inside = c.loop-part-test.true in
     record {
       filters = next_held Filter c.args.bytes.now _ c.deref-part-items.result.now c.loop-part.part-index _ _ _ inside

@@ -1,5 +1,5 @@
 use Rattle.scf_request.proofs.Common.{refl, err_from_is_err_and, found_of, rows_of, Compare}
-use Rattle.scf_request.proofs.request.comparison_in.Goals as goal
+use Rattle.scf_request.proofs.request.compare_request.Goals as goal
 
 pub returns-in_err-limits : goal.returns-in_err-limits
 returns-in_err-limits c =

@@ -1,5 +1,5 @@
 use Rattle.scf_request.proofs.Common.{◌≡◌, take, option_to_list, found_of, rows_of, given_of, flags_in}
-use Rattle.scf_request.proofs.options.chosen.Given as goal
+use Rattle.scf_request.proofs.options.chosen_flag.Given as goal
 
 abbrev pub invariant-loop-flag : goal.invariant-loop-flag
 invariant-loop-flag g l =

@@ -1,5 +1,5 @@
 use Rattle.scf_request.proofs.Common.{refl, err_from_is_err_and, found_of, rows_of, Run}
-use Rattle.scf_request.proofs.request.run_in.Goals as goal
+use Rattle.scf_request.proofs.request.run_request.Goals as goal
 
 pub returns-in_err-call : goal.returns-in_err-call
 returns-in_err-call c =

@@ -1,12 +1,12 @@
 use Rattle.scf_request.proofs.Common.{List, ◌∙◌, ap, ap₂, codes, IfOk-weaker, NumberOption, shape_with, with_rule}
 use Rattle.clap.specs.Words.{AddsArg}
-use Rattle.scf_request.proofs.CommandLineLemmas.{alone}
-use Rattle.scf_request.proofs.command_line.comparing.Goals as goal
+use Rattle.scf_request.proofs.CommandLineLemmas.{program_alone}
+use Rattle.scf_request.proofs.command_line.define_compare.Goals as goal
 
 pub returns : goal.returns
 returns c =
     let first = c.in_ok-command_with.ensures
-    ∙ ap (λ (options : List NumberOption). alone (shape_with (codes "compare") options)) c.limit_options.ensures.kept in
+    ∙ ap (λ (options : List NumberOption). program_alone (shape_with (codes "compare") options)) c.limit_options.ensures.kept in
     let second = c.in_ok-arg.ensures.shape c.flag_argument.ensures.local
     ∙ ap₂ with_rule first c.flag_argument.ensures.rule in
     let third = c.in_ok-arg-2.ensures.shape c.flag_argument-2.ensures.local
