@@ -38,33 +38,33 @@ pub use Rattle.scf_insn.proofs.Written.{each_fails, fails_first, writes_then}
 pub use Rattle.scf_insn.specs.declared.insn.Insn.{Insn}
 pub use Rattle.scf_insn.specs.declared.operation.Operation.{Operation}
 pub use Rattle.scf_text.specs.Characters.{is_blank, is_line_end, is_word_byte}
-pub use Rattle.scf_text.specs.Drafts.{Draft, Label, Number, Written, fill_by, has_mnemonic, is_below, is_in_range, is_name, read_by}
-unfoldable pub use Rattle.scf_text.specs.Drafts.{draft_of}
-pub use Rattle.scf_text.specs.Faults.{IsFault, ascii_fault, draft_fault, instruction_fault, label_fault, statement_fault, statements_fault, target_fault, targets_fault}
+pub use Rattle.scf_text.specs.ParsedInsns.{ParsedInsn, Label, Number, FieldValue, fill_by, has_mnemonic, is_below, is_in_range, is_name, read_by}
+unfoldable pub use Rattle.scf_text.specs.ParsedInsns.{parsed_of}
+pub use Rattle.scf_text.specs.Faults.{IsFault, ascii_fault, operands_fault, instruction_fault, label_fault, statement_fault, statements_fault, target_fault, targets_fault}
 unfoldable pub use Rattle.scf_text.specs.Faults.{fault_of}
-pub use Rattle.scf_text.specs.Forms.{field_of, forms, names, raw, names_all, tells_all}
-unfoldable pub use Rattle.scf_text.specs.Forms.{form_for, known_forms}
+pub use Rattle.scf_text.specs.Encodings.{field_of, encodings, names, raw, names_all, tells_all}
+unfoldable pub use Rattle.scf_text.specs.Encodings.{encoding_for, known_encodings}
 pub use Rattle.scf_text.specs.Listing.{line_of, number_text, operands_text, piece_text, text_of}
 pub use Rattle.scf_text.specs.Spelling.{Says, SaysEach, SaysInsn, Spells}
-pub use Rattle.scf_text.specs.Statements.{Places, Statement, drafts_by, drafts_in, drafts_of, instruction_in, label_in, labels_from, line_statements, place_of, places_in, statements_of}
+pub use Rattle.scf_text.specs.Statements.{SymbolTable, Statement, parsed_insns_by, parsed_insns_in, parsed_insns_of, instruction_in, label_in, labels_from, line_statements, index_of, symbols_in, statements_of}
 pub use Rattle.scf_text.specs.Tokens.{IsSliceOf, Lexeme, before_comment, joined, lexemes, lexemes_of_lines, lines_of, words_of_line}
 unfoldable pub use Rattle.scf_text.specs.Tokens.{lexemes_from, tokens_of}
 pub use Rattle.scf_text.specs.declared.fault.TextFault.{TextFault}
-pub use Rattle.scf_text.specs.declared.form.Field.{Field}
-pub use Rattle.scf_text.specs.declared.form.Field.TheVariants.{Code, Jf, Jt, K}
-pub use Rattle.scf_text.specs.declared.form.Form.{Form}
-pub use Rattle.scf_text.specs.declared.form.Piece.{Piece}
-pub use Rattle.scf_text.specs.declared.form.Piece.TheVariants.{Len}
-pub use Rattle.scf_text.specs.declared.form.Style.{Style}
-pub use Rattle.scf_text.specs.declared.form.Style.TheVariants.{Decimal, FourDigits, Hexadecimal}
-pub use Rattle.scf_text.specs.declared.numbered_draft.NumberedDraft.{NumberedDraft}
+pub use Rattle.scf_text.specs.declared.encoding.Field.{Field}
+pub use Rattle.scf_text.specs.declared.encoding.Field.TheVariants.{Code, Jf, Jt, K}
+pub use Rattle.scf_text.specs.declared.encoding.Encoding.{Encoding}
+pub use Rattle.scf_text.specs.declared.encoding.Piece.{Piece}
+pub use Rattle.scf_text.specs.declared.encoding.Piece.TheVariants.{Len}
+pub use Rattle.scf_text.specs.declared.encoding.Style.{Style}
+pub use Rattle.scf_text.specs.declared.encoding.Style.TheVariants.{Decimal, FourDigits, Hexadecimal}
+pub use Rattle.scf_text.specs.declared.numbered_insn.NumberedInsn.{NumberedInsn}
 pub use Rattle.scf_text.specs.declared.token.Token.{Token}
-pub use Rattle.scf_text.specs.internal.Mnemonics.{form_view}
+pub use Rattle.scf_text.specs.internal.Mnemonics.{encoding_view}
 pub use Rattle.scf_text.specs.internal.Parts.{begins_comment, begins_in_word, first_statement, is_semicolon, lines_after, statements_in, words_of_part}
 unfoldable pub use Rattle.scf_text.specs.internal.Parts.{others_in, words_in}
 pub use Rattle.scf_text.specs.internal.Labels.{IsFirstRepeat, IsRepeat, Labels, TellsRepeat, compared, is_before, labels_at, least, repeat_fault}
-pub use Rattle.scf_text.specs.internal.Places.{FollowsBehind, count_ends, IsBehind, IsLinePart, LiesBehind, line_at, place_after, name_at}
-pub use Rattle.scf_text.specs.internal.Reading.{AreKept, AreNew, HaveTokens, IsEnded, IsLeft, IsRead, Leaves, begins_of, drafts_view, label_at, part_statements, statements_from}
+pub use Rattle.scf_text.specs.internal.Symbols.{FollowsBehind, count_ends, IsBehind, IsLinePart, LiesBehind, line_at, place_after, name_at}
+pub use Rattle.scf_text.specs.internal.Reading.{AreKept, AreNew, HaveTokens, IsEnded, IsLeft, IsRead, Leaves, begins_of, parsed_insns_view, label_at, part_statements, statements_from}
 pub use Rattle.scf_text.specs.internal.Results.{AddsInstruction, AddsLabel, TellsInsns, TellsText, insn_fault, places_view}
 unfoldable pub use Rattle.scf_text.specs.internal.Results.{fault_in}
-pub use Rattle.scf_text.specs.internal.Views.{draft_view}
+pub use Rattle.scf_text.specs.internal.Views.{parsed_view}

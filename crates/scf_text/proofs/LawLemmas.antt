@@ -1,6 +1,6 @@
 -- A text spells a list exactly where it has no fault, and then only one.
-use Rattle.scf_text.proofs.Common.{◌≡◌, ◌≢◌, ℕ, suc, Bool, false, bytes_eq, map, IsDistinct, ◌+◌, ◌-◌, ◌<◌, ◌≤◌, ◌^◌, true, cond, eqb, ltb, List, [], ◌∷◌, ◌++◌, length, Option, Some, None, refl, sym, ap, subst, ◌∙◌, zero-add, arith, inl, inr, IsSome, option_or, option_map, option_to_list, AllByRecursion, list_any, flat_map, cases_Bool, lt-ltb, le-ltb, lt-leb, nat_tests, length-append, IsInsn, bpf_maxinsns, Insn, forms, Written, Number, Label, Draft, has_mnemonic, read_by, draft_of, is_below, is_in_range, number_of, Statement, Labels, Places, place_of, places_in, label_in, instruction_in, label_at, labels_from, drafts_by, drafts_in, statements_of, drafts_of, Says, SaysInsn, SaysEach, AreNew, Spells, ascii_fault, label_fault, draft_fault, instruction_fault, statement_fault, statements_fault, target_fault, targets_fault, insn_fault, fault_of}
-use Rattle.scf_text.specs.Forms.{Form}
+use Rattle.scf_text.proofs.Common.{◌≡◌, ◌≢◌, ℕ, suc, Bool, false, bytes_eq, map, IsDistinct, ◌+◌, ◌-◌, ◌<◌, ◌≤◌, ◌^◌, true, cond, eqb, ltb, List, [], ◌∷◌, ◌++◌, length, Option, Some, None, refl, sym, ap, subst, ◌∙◌, zero-add, arith, inl, inr, IsSome, option_or, option_map, option_to_list, AllByRecursion, list_any, flat_map, cases_Bool, lt-ltb, le-ltb, lt-leb, nat_tests, length-append, IsInsn, bpf_maxinsns, Insn, encodings, FieldValue, Number, Label, ParsedInsn, has_mnemonic, read_by, parsed_of, is_below, is_in_range, number_of, Statement, Labels, SymbolTable, index_of, symbols_in, label_in, instruction_in, label_at, labels_from, parsed_insns_by, parsed_insns_in, statements_of, parsed_insns_of, Says, SaysInsn, SaysEach, AreNew, Spells, ascii_fault, label_fault, operands_fault, instruction_fault, statement_fault, statements_fault, target_fault, targets_fault, insn_fault, fault_of}
+use Rattle.scf_text.specs.Encodings.{Encoding}
 use Rattle.std.proofs.lemmas.List.{append-nil}
 use Rattle.scf_text.proofs.ReadLemmas.{bytes_eq_sym, count_more, labels_more, lookup_push, is_none}
 
@@ -27,14 +27,14 @@ ascii_to (b ∷ bs) line h = rw (lt-ltb b 128 h.0) (ascii_to bs (cond (eqb b 10)
 -- the label of a statement
 
 new_from : (earlier : Labels) (at line : ℕ) (o : Option (List ℕ)) (ls : Labels)
-    → label_fault (place_of earlier) line o ≡ None → AreNew (earlier ++ label_at at o) ls
+    → label_fault (index_of earlier) line o ≡ None → AreNew (earlier ++ label_at at o) ls
     → AreNew earlier (label_at at o ++ ls)
 new_from earlier at line None ls h k = subst (λ (e : Labels). AreNew e ls) (append-nil earlier) k
 new_from earlier at line (Some name) ls h k =
-    (is_none (place_of earlier name) (grind (arith, nat_tests)), k)
+    (is_none (index_of earlier name) (grind (arith, nat_tests)), k)
 
 new_to : (earlier : Labels) (at line : ℕ) (o : Option (List ℕ)) (ls : Labels) → AreNew earlier (label_at at o ++ ls)
-    → (label_fault (place_of earlier) line o ≡ None) × AreNew (earlier ++ label_at at o) ls
+    → (label_fault (index_of earlier) line o ≡ None) × AreNew (earlier ++ label_at at o) ls
 new_to earlier at line None ls h = (refl, subst (λ (e : Labels). AreNew e ls) (sym (append-nil earlier)) h)
 new_to earlier at line (Some name) ls h = (rw h.0 refl, h.1)
 
@@ -45,7 +45,7 @@ names ls = map (λ (l : List ℕ × ℕ). l.0) ls
 
 -- labels whose names have no place among these
 abbrev AreBesides : Labels → Labels → Type 0
-AreBesides earlier ls = AllByRecursion (λ (l : List ℕ × ℕ). place_of earlier l.0 ≡ None) ls
+AreBesides earlier ls = AllByRecursion (λ (l : List ℕ × ℕ). index_of earlier l.0 ≡ None) ls
 
 abbrev AreOthers : List ℕ → Labels → Type 0
 AreOthers name ls = AllByRecursion (λ other. bytes_eq name other ≡ false) (names ls)
@@ -61,7 +61,7 @@ besides_more : (earlier : Labels) (l : List ℕ × ℕ) (ls : Labels) → AreBes
 besides_more earlier l [] h = (tt, tt)
 besides_more earlier l (m ∷ ls) h =
     let pushed = sym (lookup_push (bytes_eq m.0) earlier l) ∙ h.0 in
-    let here = other_name (bytes_eq m.0 l.0) (place_of earlier m.0) l.1 pushed in
+    let here = other_name (bytes_eq m.0 l.0) (index_of earlier m.0) l.1 pushed in
     let rest = besides_more earlier l ls h.1 in
     ((here.0, rest.0), (bytes_eq_sym l.0 m.0 ∙ here.1, rest.1))
 
@@ -91,53 +91,53 @@ besides_none (l ∷ ls) = (refl, besides_none ls)
 
 -- the instruction of a statement
 
-abbrev numbered : ℕ → Option Draft → List (ℕ × Draft)
+abbrev numbered : ℕ → Option ParsedInsn → List (ℕ × ParsedInsn)
 numbered line o = option_to_list (option_map (λ d. (line, d)) o)
 
 -- what stands there says an instruction
 abbrev IsRead : ℕ → List (List ℕ) → Type 0
-IsRead line body = drafts_by line body ≡ [] → body ≡ []
+IsRead line body = parsed_insns_by line body ≡ [] → body ≡ []
 
-draft_from : (at line : ℕ) (o : Option Draft) → draft_fault at line o ≡ None → (numbered line o ≢ [])
+draft_from : (at line : ℕ) (o : Option ParsedInsn) → operands_fault at line o ≡ None → (numbered line o ≢ [])
     × (at + length (numbered line o) ≤ bpf_maxinsns)
 draft_from at line None h = absurd cc
 draft_from at line (Some d) h =
     let few : at < bpf_maxinsns = grind (arith, nat_tests) in (λ none. absurd cc, omega arith)
 
 instruction_from : (at line : ℕ) (body : List (List ℕ)) → at ≤ bpf_maxinsns → instruction_fault at line body ≡ None
-    → IsRead line body × (at + length (drafts_by line body) ≤ bpf_maxinsns)
+    → IsRead line body × (at + length (parsed_insns_by line body) ≤ bpf_maxinsns)
 instruction_from at line [] le h = (λ none. refl, omega (arith, le))
 instruction_from at line (t ∷ ts) le h =
-    let read = draft_from at line (draft_of t ts) (grind (arith, nat_tests)) in (λ none. absurd (read.0 none), read.1)
+    let read = draft_from at line (parsed_of t ts) (grind (arith, nat_tests)) in (λ none. absurd (read.0 none), read.1)
 
 abbrev count : List Statement → ℕ
-count before = length (flat_map drafts_in before)
+count before = length (flat_map parsed_insns_in before)
 
 -- no fault of a statement: the names are new, and each instruction is read, at most 4096 in all
 statements_from_none : (ss before : List Statement) → count before ≤ bpf_maxinsns
     → statements_fault before ss ≡ None → AreNew (labels_from 0 before) (labels_from (count before) ss)
     × AllByRecursion (λ (s : Statement). IsRead s.line (instruction_in s.tokens)) ss
-    × (count before + length (flat_map drafts_in ss) ≤ bpf_maxinsns)
+    × (count before + length (flat_map parsed_insns_in ss) ≤ bpf_maxinsns)
 statements_from_none [] before le h = (tt, tt, omega arith)
 statements_from_none (s ∷ ss) before le h =
     let at = count before in
     let body = instruction_in s.tokens in
     let one = both_none (statement_fault before s) (statements_fault (before ++ s ∷ []) ss) h in
     let parts =
-    both_none (label_fault (places_in before) s.line (label_in s.tokens)) (instruction_fault at s.line body) one.0 in
+    both_none (label_fault (symbols_in before) s.line (label_in s.tokens)) (instruction_fault at s.line body) one.0 in
     let read = instruction_from at s.line body le parts.1 in
     let rest =
     rw (labels_more, zero-add, count_more) at
     (statements_from_none ss (before ++ s ∷ []) (rw count_more read.1) one.1) in (
-      new_from (labels_from 0 before) at s.line (label_in s.tokens) (labels_from (at + length (drafts_in s)) ss)
+      new_from (labels_from 0 before) at s.line (label_in s.tokens) (labels_from (at + length (parsed_insns_in s)) ss)
           parts.0 rest.0,
       (read.0, rest.1),
-      omega (arith, length-append (drafts_by s.line body) (flat_map drafts_in ss), rest.2),
+      omega (arith, length-append (parsed_insns_by s.line body) (flat_map parsed_insns_in ss), rest.2),
     )
 
 -- and back
 
-chosen_form : (fs : List Form) (t : List ℕ) (ts : List (List ℕ)) → IsSome (read_by number_of fs t ts)
+chosen_form : (fs : List Encoding) (t : List ℕ) (ts : List (List ℕ)) → IsSome (read_by number_of fs t ts)
     → list_any (has_mnemonic t) fs ≡ true
 chosen_form [] t ts h = absurd cc
 chosen_form (f ∷ fs) t ts h =
@@ -146,75 +146,75 @@ chosen_form (f ∷ fs) t ts h =
       | inr other ↦ rw other (chosen_form fs t ts (rw other at h))
     ]
 
-has_form : (t : List ℕ) (ts : List (List ℕ)) → IsSome (draft_of t ts) → list_any (has_mnemonic t) forms ≡ true
-unfolding draft_of
-has_form t ts h = chosen_form forms t ts h
+has_form : (t : List ℕ) (ts : List (List ℕ)) → IsSome (parsed_of t ts) → list_any (has_mnemonic t) encodings ≡ true
+unfolding parsed_of
+has_form t ts h = chosen_form encodings t ts h
 
-abbrev InRange : List (ℕ × Draft) → Type 0
-InRange ds = AllByRecursion (λ (d : ℕ × Draft). is_in_range d.1 ≡ true) ds
+abbrev InRange : List (ℕ × ParsedInsn) → Type 0
+InRange ds = AllByRecursion (λ (d : ℕ × ParsedInsn). is_in_range d.1 ≡ true) ds
 
-front_in_range : (ds es : List (ℕ × Draft)) → InRange (ds ++ es) → InRange ds × InRange es
+front_in_range : (ds es : List (ℕ × ParsedInsn)) → InRange (ds ++ es) → InRange ds × InRange es
 front_in_range [] es h = (tt, h)
 front_in_range (d ∷ ds) es h = let rest = front_in_range ds es h.1 in ((h.0, rest.0), rest.1)
 
-read_some : (line : ℕ) (o : Option Draft) → (numbered line o ≡ [] → ⊥) → IsSome o
+read_some : (line : ℕ) (o : Option ParsedInsn) → (numbered line o ≡ [] → ⊥) → IsSome o
 read_some line None read = absurd (read refl)
 read_some line (Some d) read = refl
 
-draft_to : (at line : ℕ) (o : Option Draft) → IsSome o → InRange (numbered line o)
-    → at + length (numbered line o) ≤ bpf_maxinsns → draft_fault at line o ≡ None
+draft_to : (at line : ℕ) (o : Option ParsedInsn) → IsSome o → InRange (numbered line o)
+    → at + length (numbered line o) ≤ bpf_maxinsns → operands_fault at line o ≡ None
 draft_to at line None read range few = absurd cc
 draft_to at line (Some d) read range few = rw (range.0, lt-leb bpf_maxinsns at (omega arith)) refl
 
-instruction_to : (at line : ℕ) (body : List (List ℕ)) → IsRead line body → InRange (drafts_by line body)
-    → at + length (drafts_by line body) ≤ bpf_maxinsns → instruction_fault at line body ≡ None
+instruction_to : (at line : ℕ) (body : List (List ℕ)) → IsRead line body → InRange (parsed_insns_by line body)
+    → at + length (parsed_insns_by line body) ≤ bpf_maxinsns → instruction_fault at line body ≡ None
 instruction_to at line [] read range few = refl
 instruction_to at line (t ∷ ts) read range few =
-    let some = read_some line (draft_of t ts) (λ none. let no_body = read none in absurd cc) in
-    rw (has_form t ts some) (draft_to at line (draft_of t ts) some range few)
+    let some = read_some line (parsed_of t ts) (λ none. let no_body = read none in absurd cc) in
+    rw (has_form t ts some) (draft_to at line (parsed_of t ts) some range few)
 
 statements_to_none : (ss before : List Statement)
     → AreNew (labels_from 0 before) (labels_from (count before) ss)
-    → AllByRecursion (λ (s : Statement). IsRead s.line (instruction_in s.tokens)) ss → InRange (flat_map drafts_in ss)
-    → count before + length (flat_map drafts_in ss) ≤ bpf_maxinsns → statements_fault before ss ≡ None
+    → AllByRecursion (λ (s : Statement). IsRead s.line (instruction_in s.tokens)) ss → InRange (flat_map parsed_insns_in ss)
+    → count before + length (flat_map parsed_insns_in ss) ≤ bpf_maxinsns → statements_fault before ss ≡ None
 statements_to_none [] before new read range few = refl
 statements_to_none (s ∷ ss) before new read range few =
     let at = count before in
     let body = instruction_in s.tokens in
-    let parts = front_in_range (drafts_by s.line body) (flat_map drafts_in ss) range in
-    let long = length-append (drafts_by s.line body) (flat_map drafts_in ss) in
+    let parts = front_in_range (parsed_insns_by s.line body) (flat_map parsed_insns_in ss) range in
+    let long = length-append (parsed_insns_by s.line body) (flat_map parsed_insns_in ss) in
     let one = instruction_to at s.line body read.0 parts.0 (omega (arith, long)) in
     let label =
-    new_to (labels_from 0 before) at s.line (label_in s.tokens) (labels_from (at + length (drafts_in s)) ss) new in
+    new_to (labels_from 0 before) at s.line (label_in s.tokens) (labels_from (at + length (parsed_insns_in s)) ss) new in
     none_both (none_both label.0 one)
     (statements_to_none ss (before ++ s ∷ []) (rw (labels_more, zero-add, count_more) label.1) read.1 parts.1
     (rw count_more (omega (arith, long))))
 
 -- what is said
 
-says_value : (places : Places) (at line limit : ℕ) (o : Written) (v : ℕ) → Says places at o v → v < limit
-    → (is_below limit o ≡ true) × (target_fault places at line limit o ≡ None)
-says_value places at line limit (Number n) v h lt = (lt-ltb n limit (omega arith), refl)
-says_value places at line limit (Label name) v h lt =
+says_value : (symbols : SymbolTable) (at line limit : ℕ) (o : FieldValue) (v : ℕ) → Says symbols at o v → v < limit
+    → (is_below limit o ≡ true) × (target_fault symbols at line limit o ≡ None)
+says_value symbols at line limit (Number n) v h lt = (lt-ltb n limit (omega arith), refl)
+says_value symbols at line limit (Label name) v h lt =
     (refl, rw (h, le-ltb (at + 1 + v) (at + 1) (omega arith), lt-leb limit (at + 1 + v - (at + 1)) (omega arith)) refl)
 
-says_insn : (places : Places) (at line : ℕ) (d : Draft) (i : Insn) → SaysInsn places at d i → IsInsn i
-    → (is_in_range d ≡ true) × (insn_fault places at line d ≡ None)
-says_insn places at line d i s fits =
-    let jt = says_value places at line (2 ^ 8) d.jt i.jt s.jt fits.jt in
-    let jf = says_value places at line (2 ^ 8) d.jf i.jf s.jf fits.jf in
-    let k = says_value places at line (2 ^ 32) d.k i.k s.k fits.k in
+says_insn : (symbols : SymbolTable) (at line : ℕ) (d : ParsedInsn) (i : Insn) → SaysInsn symbols at d i → IsInsn i
+    → (is_in_range d ≡ true) × (insn_fault symbols at line d ≡ None)
+says_insn symbols at line d i s fits =
+    let jt = says_value symbols at line (2 ^ 8) d.jt i.jt s.jt fits.jt in
+    let jf = says_value symbols at line (2 ^ 8) d.jf i.jf s.jf fits.jf in
+    let k = says_value symbols at line (2 ^ 32) d.k i.k s.k fits.k in
     let code : ltb d.code (2 ^ 16) ≡ true = lt-ltb d.code (2 ^ 16) (omega (arith, s.code, fits.code)) in
     (rw (code, jt.0, jf.0, k.0) refl, rw (jt.1, jf.1, k.1) refl)
 
-says_each : (places : Places) (at : ℕ) (ds : List (ℕ × Draft)) (is : List Insn) → SaysEach places at ds is
-    → AllByRecursion IsInsn is → InRange ds × (targets_fault places at ds ≡ None) × (length ds ≡ length is)
-says_each places at [] [] s fits = (tt, refl, refl)
-says_each places at [] (i ∷ is) s fits = absurd s
-says_each places at (d ∷ ds) [] s fits = absurd s
-says_each places at (d ∷ ds) (i ∷ is) s fits =
-    let one = says_insn places at d.0 d.1 i s.0 fits.0 in
-    let rest = says_each places (at + 1) ds is s.1 fits.1 in (
+says_each : (symbols : SymbolTable) (at : ℕ) (ds : List (ℕ × ParsedInsn)) (is : List Insn) → SaysEach symbols at ds is
+    → AllByRecursion IsInsn is → InRange ds × (targets_fault symbols at ds ≡ None) × (length ds ≡ length is)
+says_each symbols at [] [] s fits = (tt, refl, refl)
+says_each symbols at [] (i ∷ is) s fits = absurd s
+says_each symbols at (d ∷ ds) [] s fits = absurd s
+says_each symbols at (d ∷ ds) (i ∷ is) s fits =
+    let one = says_insn symbols at d.0 d.1 i s.0 fits.0 in
+    let rest = says_each symbols (at + 1) ds is s.1 fits.1 in (
       (one.0, rest.0),
       none_both one.1 rest.1,
       ap suc rest.2,
@@ -224,7 +224,7 @@ says_each places at (d ∷ ds) (i ∷ is) s fits =
 pub no_fault : (text : List ℕ) (is : List Insn) → Spells text is → fault_of text ≡ None
 unfolding fault_of
 no_fault text is s =
-    let said = says_each (places_in (statements_of text)) 0 (drafts_of text) is s.each s.fields in
+    let said = says_each (symbols_in (statements_of text)) 0 (parsed_insns_of text) is s.each s.fields in
     let labels = labels_from 0 (statements_of text) in
     let new = distinct_new [] labels (besides_none labels) s.distinct in
     let read = statements_to_none (statements_of text) [] new s.read said.0
@@ -233,19 +233,19 @@ no_fault text is s =
 
 -- a text with no fault spells what its instructions say
 pub spelled : (text : List ℕ) (is : List Insn) → fault_of text ≡ None
-    → SaysEach (places_in (statements_of text)) 0 (drafts_of text) is → AllByRecursion IsInsn is → Spells text is
+    → SaysEach (symbols_in (statements_of text)) 0 (parsed_insns_of text) is → AllByRecursion IsInsn is → Spells text is
 unfolding fault_of
 spelled text is none says fits =
     let outer =
     both_none (ascii_fault 1 text)
     (option_or (statements_fault [] (statements_of text))
-    (targets_fault (places_in (statements_of text)) 0 (drafts_of text))) none in
+    (targets_fault (symbols_in (statements_of text)) 0 (parsed_insns_of text))) none in
     let inner =
     both_none (statements_fault [] (statements_of text))
-    (targets_fault (places_in (statements_of text)) 0 (drafts_of text)) outer.1 in
+    (targets_fault (symbols_in (statements_of text)) 0 (parsed_insns_of text)) outer.1 in
     let read =
     statements_from_none (statements_of text) [] (omega arith) inner.0 in
-    let said = says_each (places_in (statements_of text)) 0 (drafts_of text) is says fits in
+    let said = says_each (symbols_in (statements_of text)) 0 (parsed_insns_of text) is says fits in
     record {
       ascii = ascii_from text 1 outer.0;
       distinct = (new_distinct [] (labels_from 0 (statements_of text)) read.0).1;
@@ -258,31 +258,31 @@ spelled text is none says fits =
 
 -- a text spells one list
 
-one_value : (places : Places) (at : ℕ) (o : Written) (v w : ℕ) → Says places at o v → Says places at o w → v ≡ w
-one_value places at (Number n) v w h k = h ∙ sym k
-one_value places at (Label name) v w h k =
+one_value : (symbols : SymbolTable) (at : ℕ) (o : FieldValue) (v w : ℕ) → Says symbols at o v → Says symbols at o w → v ≡ w
+one_value symbols at (Number n) v w h k = h ∙ sym k
+one_value symbols at (Label name) v w h k =
     let same : Some (at + 1 + v) ≡ Some (at + 1 + w) = sym h ∙ k in
-    let places : at + 1 + v ≡ at + 1 + w = cc in
+    let symbols : at + 1 + v ≡ at + 1 + w = cc in
     omega arith
 
 abbrev insn : ℕ → ℕ → ℕ → ℕ → Insn
 insn code jt jf k = record { code = code; jt = jt; jf = jf; k = k }
 
-one_insn : (places : Places) (at : ℕ) (d : Draft) (i j : Insn) → SaysInsn places at d i → SaysInsn places at d j → i ≡ j
-one_insn places at d i j s t =
+one_insn : (symbols : SymbolTable) (at : ℕ) (d : ParsedInsn) (i j : Insn) → SaysInsn symbols at d i → SaysInsn symbols at d j → i ≡ j
+one_insn symbols at d i j s t =
     let code : i.code ≡ j.code = s.code ∙ sym t.code in
-    let jt = one_value places at d.jt i.jt j.jt s.jt t.jt in
-    let jf = one_value places at d.jf i.jf j.jf s.jf t.jf in
-    let k = one_value places at d.k i.k j.k s.k t.k in
+    let jt = one_value symbols at d.jt i.jt j.jt s.jt t.jt in
+    let jf = one_value symbols at d.jf i.jf j.jf s.jf t.jf in
+    let k = one_value symbols at d.k i.k j.k s.k t.k in
     let same : insn i.code i.jt i.jf i.k ≡ insn j.code j.jt j.jf j.k = rw (code, jt, jf, k) refl in
     same
 
-pub one_said : (places : Places) (at : ℕ) (ds : List (ℕ × Draft)) (is js : List Insn) → SaysEach places at ds is
-    → SaysEach places at ds js → is ≡ js
-one_said places at [] [] [] s t = refl
-one_said places at [] [] (j ∷ js) s t = absurd t
-one_said places at [] (i ∷ is) js s t = absurd s
-one_said places at (d ∷ ds) [] js s t = absurd s
-one_said places at (d ∷ ds) (i ∷ is) [] s t = absurd t
-one_said places at (d ∷ ds) (i ∷ is) (j ∷ js) s t =
-    rw (one_insn places at d.1 i j s.0 t.0, one_said places (at + 1) ds is js s.1 t.1) refl
+pub one_said : (symbols : SymbolTable) (at : ℕ) (ds : List (ℕ × ParsedInsn)) (is js : List Insn) → SaysEach symbols at ds is
+    → SaysEach symbols at ds js → is ≡ js
+one_said symbols at [] [] [] s t = refl
+one_said symbols at [] [] (j ∷ js) s t = absurd t
+one_said symbols at [] (i ∷ is) js s t = absurd s
+one_said symbols at (d ∷ ds) [] js s t = absurd s
+one_said symbols at (d ∷ ds) (i ∷ is) [] s t = absurd t
+one_said symbols at (d ∷ ds) (i ∷ is) (j ∷ js) s t =
+    rw (one_insn symbols at d.1 i j s.0 t.0, one_said symbols (at + 1) ds is js s.1 t.1) refl

@@ -1,8 +1,8 @@
 -- The lines of a listing: their tokens, and that no byte or token of them ends a line, a statement or a label.
-use Rattle.scf_text.proofs.Common.{◌≡◌, ℕ, ◌/◌, ◌%◌, ◌<◌, ◌^◌, true, false, ◌&&◌, ◌||◌, eqb, List, [], ◌∷◌, ◌++◌, length, map, Some, refl, ap, ◌∙◌, arith, ◌≤◌, Bool, ltb, None, not, list_all, flat_map, AllByRecursion, is_digit, digit_value, decimal, digits, digit_glyph, digits_value, AllDigits, IsNumeral, eqb-true, ne_eqb, lt-ltb, agree_below_at, and_parts, and_right, ltb-true, digits_is_IsNumeral, digit_from_value, is_word_byte, begins_in_word, before_comment, number_of, numeral, has_hex_prefix, is_name, nat_tests, number_text, operands_text, piece_text, words_of_part, codes, cases_Bool, inl, inr, IsInsn, Insn, Piece, Field, Code, Jt, Jf, K, Style, Decimal, Hexadecimal, FourDigits, field_of, forms, known_forms, form_for, bytes_eq, is_semicolon, label_in, list_all-append}
+use Rattle.scf_text.proofs.Common.{◌≡◌, ℕ, ◌/◌, ◌%◌, ◌<◌, ◌^◌, true, false, ◌&&◌, ◌||◌, eqb, List, [], ◌∷◌, ◌++◌, length, map, Some, refl, ap, ◌∙◌, arith, ◌≤◌, Bool, ltb, None, not, list_all, flat_map, AllByRecursion, is_digit, digit_value, decimal, digits, digit_glyph, digits_value, AllDigits, IsNumeral, eqb-true, ne_eqb, lt-ltb, agree_below_at, and_parts, and_right, ltb-true, digits_is_IsNumeral, digit_from_value, is_word_byte, begins_in_word, before_comment, number_of, numeral, has_hex_prefix, is_name, nat_tests, number_text, operands_text, piece_text, words_of_part, codes, cases_Bool, inl, inr, IsInsn, Insn, Piece, Field, Code, Jt, Jf, K, Style, Decimal, Hexadecimal, FourDigits, field_of, encodings, known_encodings, encoding_for, bytes_eq, is_semicolon, label_in, list_all-append}
 use Rattle.scf_text.proofs.TokenLemmas.{words_nil, words_blank, words_mark, words_word, words_one, words_more, onto_word}
-use Rattle.scf_text.specs.declared.form.Piece.TheVariants as p
-use Rattle.scf_text.specs.Forms.{Form}
+use Rattle.scf_text.specs.declared.encoding.Piece.TheVariants as p
+use Rattle.scf_text.specs.Encodings.{Encoding}
 use Rattle.scf_text.proofs.FormLemmas.{listed_form}
 
 -- numbers
@@ -131,14 +131,14 @@ each_same f g (x ∷ xs) e =
     let same : f x ∷ map f xs ≡ g x ∷ map g xs = e in
     (cc, each_same f g xs cc)
 
-abbrev words_listed : Insn → Form → List (List ℕ)
+abbrev words_listed : Insn → Encoding → List (List ℕ)
 words_listed i f = words_of_part (operands_text i f.pieces)
 
-abbrev words_wanted : Insn → Form → List (List ℕ)
+abbrev words_wanted : Insn → Encoding → List (List ℕ)
 words_wanted i f = flat_map (piece_words i) f.pieces
 
-all_words : (i : Insn) → IsInsn i → map (words_listed i) forms ≡ map (words_wanted i) forms
-unfolding onto_word known_forms
+all_words : (i : Insn) → IsInsn i → map (words_listed i) encodings ≡ map (words_wanted i) encodings
+unfolding onto_word known_encodings
 all_words i h =
     simp (
       words_number i Code FourDigits,
@@ -153,10 +153,10 @@ all_words i h =
       words_nil,
     )
 
-operands_words : (i : Insn) → IsInsn i → words_listed i (form_for i) ≡ words_wanted i (form_for i)
+operands_words : (i : Insn) → IsInsn i → words_listed i (encoding_for i) ≡ words_wanted i (encoding_for i)
 operands_words i h =
     listed_form (λ f. words_listed i f ≡ words_wanted i f) i
-    (each_same (words_listed i) (words_wanted i) forms (all_words i h))
+    (each_same (words_listed i) (words_wanted i) encodings (all_words i h))
 
 -- the mnemonic
 
@@ -167,26 +167,26 @@ wordy_from : (t : List ℕ) → is_wordy t ≡ true → IsWordy t
 wordy_from t h = let both = and_parts (ltb 0 (length t)) (list_all is_word_byte t) h in
     record { some = ltb-true 0 (length t) both.0; each = both.1 }
 
-all_wordy : map (λ (f : Form). is_wordy f.mnemonic) forms ≡ map (λ f. true) forms
-unfolding known_forms
+all_wordy : map (λ (f : Encoding). is_wordy f.mnemonic) encodings ≡ map (λ f. true) encodings
+unfolding known_encodings
 all_wordy = refl
 
 -- the line of an instruction, without its end, and its tokens
 
 abbrev pub name_of : Insn → List ℕ
-name_of i = (form_for i).mnemonic
+name_of i = (encoding_for i).mnemonic
 
 abbrev pub operands : Insn → List (List ℕ)
-operands i = flat_map (piece_words i) (form_for i).pieces
+operands i = flat_map (piece_words i) (encoding_for i).pieces
 
 abbrev pub body : Insn → List ℕ
-body i = name_of i ++ operands_text i (form_for i).pieces
+body i = name_of i ++ operands_text i (encoding_for i).pieces
 
 pub mnemonic_wordy : (i : Insn) → IsWordy (name_of i)
 mnemonic_wordy i =
     wordy_from (name_of i)
     (listed_form (λ f. is_wordy f.mnemonic ≡ true) i
-    (each_same (λ (f : Form). is_wordy f.mnemonic) (λ f. true) forms all_wordy))
+    (each_same (λ (f : Encoding). is_wordy f.mnemonic) (λ f. true) encodings all_wordy))
 
 operands_apart : (i : Insn) (ps : List Piece) → begins_in_word (operands_text i ps) ≡ false
 operands_apart i [] = refl
@@ -194,8 +194,8 @@ operands_apart i (q ∷ ps) = refl
 
 pub line_words : (i : Insn) → IsInsn i → words_of_part (body i) ≡ name_of i ∷ operands i
 line_words i fits =
-    words_wordy (name_of i) (operands_text i (form_for i).pieces) (mnemonic_wordy i)
-    (operands_apart i (form_for i).pieces)
+    words_wordy (name_of i) (operands_text i (encoding_for i).pieces) (mnemonic_wordy i)
+    (operands_apart i (encoding_for i).pieces)
     ∙ ap (λ (ws : List (List ℕ)). name_of i ∷ ws) (operands_words i fits)
 
 -- a byte that neither ends a line nor begins a comment
@@ -258,14 +258,14 @@ pieces_listed i (q ∷ ps) fits h =
       rw (list_all-append is_plain (piece_words i q) (flat_map (piece_words i) ps), one.1, rest.1) refl,
     )
 
-all_apart : map (λ (f : Form). list_all is_apart f.pieces) forms ≡ map (λ f. true) forms
-unfolding known_forms
+all_apart : map (λ (f : Encoding). list_all is_apart f.pieces) encodings ≡ map (λ f. true) encodings
+unfolding known_encodings
 all_apart = refl
 
-apart : (i : Insn) → list_all is_apart (form_for i).pieces ≡ true
+apart : (i : Insn) → list_all is_apart (encoding_for i).pieces ≡ true
 apart i =
     listed_form (λ f. list_all is_apart f.pieces ≡ true) i
-    (each_same (λ (f : Form). list_all is_apart f.pieces) (λ f. true) forms all_apart)
+    (each_same (λ (f : Encoding). list_all is_apart f.pieces) (λ f. true) encodings all_apart)
 
 operands_line : (i : Insn) (ps : List Piece) → list_all is_line_byte (flat_map (piece_text i) ps) ≡ true
     → list_all is_line_byte (operands_text i ps) ≡ true
@@ -275,9 +275,9 @@ operands_line i (q ∷ ps) h = h
 pub body_line : (i : Insn) → IsInsn i → list_all is_line_byte (body i) ≡ true
 body_line i fits =
     rw (
-      list_all-append is_line_byte (name_of i) (operands_text i (form_for i).pieces),
+      list_all-append is_line_byte (name_of i) (operands_text i (encoding_for i).pieces),
       words_line (name_of i) (mnemonic_wordy i).each,
-      operands_line i (form_for i).pieces (pieces_listed i (form_for i).pieces fits (apart i)).0,
+      operands_line i (encoding_for i).pieces (pieces_listed i (encoding_for i).pieces fits (apart i)).0,
     ) refl
 
 each_byte : (P : ℕ → Type 0) → ((b : ℕ) → is_line_byte b ≡ true → P b) → (t : List ℕ) → list_all is_line_byte t ≡ true
@@ -315,4 +315,4 @@ no_label t (u ∷ ts) h =
     rw (and_right (is_name t) (bytes_eq u (58 ∷ [])) none) refl
 
 pub operands_plain : (i : Insn) → IsInsn i → list_all is_plain (operands i) ≡ true
-operands_plain i fits = (pieces_listed i (form_for i).pieces fits (apart i)).1
+operands_plain i fits = (pieces_listed i (encoding_for i).pieces fits (apart i)).1

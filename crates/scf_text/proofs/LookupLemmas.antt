@@ -1,5 +1,5 @@
 -- Looking names up among sorted labels.
-use Rattle.scf_text.proofs.Common.{◌≡◌, ℕ, ◌+◌, ◌<◌, ◌≤◌, Bool, true, false, List, [], ◌∷◌, length, map, get_or, Option, Some, None, refl, sym, ap, ◌∙◌, fun_ext, arith, inl, inr, lookup, ltb, prefix_len, cases_Bool, cases_lt, nat_tests, nat_eq, All, All-head, All-tail, Contains-get_or, Contains-permutation, IsDistinct, IsDistinct-IsPermutation, IsDistinct-from_apart, apart_from_distinct, IsPermutation, IsPermutation-map, IsPermutation-sym, IsSortedBy, length-map, bytes_eq, bytes_eq-Decides, slice_cmp, nat_cmp, is_eq, is_lt, Ordering, Less, Equal, Greater, ordering_then, is_eq-slice_cmp, nat_list_cmp_total, nat_list_eq_equiv, get_or-map, Labels, place_of, labels_at, name_at, is_before, IsRepeat, IsFirstRepeat, NumberedDraft, begins_of}
+use Rattle.scf_text.proofs.Common.{◌≡◌, ℕ, ◌+◌, ◌<◌, ◌≤◌, Bool, true, false, List, [], ◌∷◌, length, map, get_or, Option, Some, None, refl, sym, ap, ◌∙◌, fun_ext, arith, inl, inr, lookup, ltb, prefix_len, cases_Bool, cases_lt, nat_tests, nat_eq, All, All-head, All-tail, Contains-get_or, Contains-permutation, IsDistinct, IsDistinct-IsPermutation, IsDistinct-from_apart, apart_from_distinct, IsPermutation, IsPermutation-map, IsPermutation-sym, IsSortedBy, length-map, bytes_eq, bytes_eq-Decides, slice_cmp, nat_cmp, is_eq, is_lt, Ordering, Less, Equal, Greater, ordering_then, is_eq-slice_cmp, nat_list_cmp_total, nat_list_eq_equiv, get_or-map, Labels, index_of, labels_at, name_at, is_before, IsRepeat, IsFirstRepeat, NumberedInsn, begins_of}
 use Rattle.std.proofs.lemmas.List.Sorted.{searchable_from_sorted}
 use Rattle.std.proofs.lemmas.Map.Views.{Contains-from_lookup, lookup-from_Contains}
 use Rattle.std.proofs.lemmas.List.Sums.{prefix_len_is}
@@ -66,7 +66,7 @@ moved_same es fs q None (Some v) moved apart also e f =
 
 pub places_moved : (text begins xs ys : List ℕ) → IsPermutation xs ys
     → IsDistinct bytes_eq (map (name_at text) ys)
-    → place_of (labels_at text begins ys) ≡ place_of (labels_at text begins xs)
+    → index_of (labels_at text begins ys) ≡ index_of (labels_at text begins xs)
 places_moved text begins xs ys moved apart = fun_ext λ q.
     let es = labels_at text begins xs in
     let fs = labels_at text begins ys in
@@ -94,32 +94,32 @@ by_name text labels name sorted =
 
 -- the instructions before a label
 
-pub drafts_follow : (drafts : List NumberedDraft) → IsNonDecreasing (begins_of drafts)
-    → IsNonDecreasingBy (λ d. d.start) drafts
-drafts_follow drafts following i j d le lt =
-    let first = get_or-map (λ (d : NumberedDraft). d.start) drafts i d 0 (omega arith) in
-    let second = get_or-map (λ (d : NumberedDraft). d.start) drafts j d 0 lt in
-    omega (arith, first, second, following i j 0 le (omega (arith, length-map drafts (λ d. d.start))))
+pub drafts_follow : (parsed_insns : List NumberedInsn) → IsNonDecreasing (begins_of parsed_insns)
+    → IsNonDecreasingBy (λ d. d.start) parsed_insns
+drafts_follow parsed_insns following i j d le lt =
+    let first = get_or-map (λ (d : NumberedInsn). d.start) parsed_insns i d 0 (omega arith) in
+    let second = get_or-map (λ (d : NumberedInsn). d.start) parsed_insns j d 0 lt in
+    omega (arith, first, second, following i j 0 le (omega (arith, length-map parsed_insns (λ d. d.start))))
 
-pub begun_before : (drafts : List NumberedDraft) (label place : ℕ) → place ≤ length drafts
-    → IsPartitionPoint (λ d. ltb d.start label ≡ true) (λ d. ltb d.start label ≡ false) drafts place
-    → prefix_len (λ b. ltb b label) (begins_of drafts) ≡ place
+pub begun_before : (parsed_insns : List NumberedInsn) (label place : ℕ) → place ≤ length parsed_insns
+    → IsPartitionPoint (λ d. ltb d.start label ≡ true) (λ d. ltb d.start label ≡ false) parsed_insns place
+    → prefix_len (λ b. ltb b label) (begins_of parsed_insns) ≡ place
 begun_before [] label place le point = omega arith
 begun_before (d ∷ ds) label place le point =
-    let drafts = d ∷ ds in
+    let parsed_insns = d ∷ ds in
     let test : ℕ → Bool = λ b. ltb b label in
-    let len = length-map drafts (λ d. d.start) in
-    prefix_len_is test (begins_of drafts) place 0 (omega (arith, len))
-    (λ k lt. ap test (get_or-map (λ (d : NumberedDraft). d.start) drafts k d 0 (omega arith))
+    let len = length-map parsed_insns (λ d. d.start) in
+    prefix_len_is test (begins_of parsed_insns) place 0 (omega (arith, len))
+    (λ k lt. ap test (get_or-map (λ (d : NumberedInsn). d.start) parsed_insns k d 0 (omega arith))
     ∙ point.0 k d (omega arith) lt)
-    (λ lt. ap test (get_or-map (λ (d : NumberedDraft). d.start) drafts place d 0 (omega (arith, len)))
+    (λ lt. ap test (get_or-map (λ (d : NumberedInsn). d.start) parsed_insns place d 0 (omega (arith, len)))
     ∙ point.1 place d (omega arith) (omega (arith, len)))
 
 pub found_place : (text labels name begins : List ℕ) (i place : ℕ) → i < length labels
     → IsDistinct bytes_eq (map (name_at text) labels)
     → slice_cmp nat_cmp (name_at text (get_or labels i 0)) name ≡ Equal
     → prefix_len (λ b. ltb b (get_or labels i 0)) begins ≡ place
-    → Some place ≡ place_of (labels_at text begins labels) name
+    → Some place ≡ index_of (labels_at text begins labels) name
 found_place text labels name begins i place within apart equal count =
     let es = labels_at text begins labels in
     let same = same_text (name_at text (get_or labels i 0)) name
@@ -132,7 +132,7 @@ found_place text labels name begins i place within apart equal count =
 
 none_there : (text labels begins name : List ℕ)
     → All (λ l. is_eq (slice_cmp nat_cmp (name_at text l) name) ≡ false) labels
-    → place_of (labels_at text begins labels) name ≡ None
+    → index_of (labels_at text begins labels) name ≡ None
 none_there text [] begins name others = refl
 none_there text (l ∷ labels) begins name others =
     let here : bytes_eq name (name_at text l) ≡ false =
@@ -144,7 +144,7 @@ none_there text (l ∷ labels) begins name others =
 pub no_place : (text labels begins name : List ℕ) (i : ℕ)
     → IsPartitionPoint (λ l. slice_cmp nat_cmp (name_at text l) name ≡ Less)
     (λ l. slice_cmp nat_cmp (name_at text l) name ≡ Greater) labels i
-    → place_of (labels_at text begins labels) name ≡ None
+    → index_of (labels_at text begins labels) name ≡ None
 no_place text labels begins name i h =
     none_there text labels begins name λ k d lt.
     elim (cases_lt k i) [

@@ -1,5 +1,5 @@
 -- Reading one statement after another.
-use Rattle.scf_text.proofs.Common.{◌≡◌, ◌≢◌, ℕ, ◌+◌, ◌-◌, ◌<◌, ◌≤◌, Bool, List, [], ◌∷◌, ◌++◌, length, map, Option, Some, None, Result, Ok, Err, refl, sym, ap, subst, ◌∙◌, append_assoc, append-nil, arith, inl, inr, zero-add, ltb, flat_map, lookup, is_some, option_or, option_to_list, unwrap_or, IsSome, IfOk, option_map, bytes_eq, OnErr, cond, true, false, prefix_len, nat_eq, nat_eq_equiv, length-append, length-map, map-append, All, All-append, All-contains, All-head, All-map, All-nil, All-push, All-tail, all_pairs_push, Contains-append_cases, Contains-append_left, Contains-append_right, Contains-push, Contains-push_cases, IsDistinct, IsDistinct-IsPermutation, IsDistinct-from_apart, IsNonDecreasing, IsPermutation, IsPermutation-append_left, IsPermutation-refl, IsPermutation-trans, IsSomeAnd, MatchOption, cases_Bool, same_from_decides, nat_tests, bytes_eq-Decides, flat_map-append, TextFault, before_comment, lines_of, Statement, NumberedDraft, place_of, label_in, instruction_in, drafts_in, label_at, labels_from, statements_from, IsFault, label_fault, instruction_fault, statements_fault, IsFirstRepeat, Labels, labels_at, repeat_fault, IsLinePart, line_at, name_at, AreKept, IsEnded, IsLeft, Leaves, HaveTokens, begins_of, part_statements, AddsInstruction, AddsLabel}
+use Rattle.scf_text.proofs.Common.{◌≡◌, ◌≢◌, ℕ, ◌+◌, ◌-◌, ◌<◌, ◌≤◌, Bool, List, [], ◌∷◌, ◌++◌, length, map, Option, Some, None, Result, Ok, Err, refl, sym, ap, subst, ◌∙◌, append_assoc, append-nil, arith, inl, inr, zero-add, ltb, flat_map, lookup, is_some, option_or, option_to_list, unwrap_or, IsSome, IfOk, option_map, bytes_eq, OnErr, cond, true, false, prefix_len, nat_eq, nat_eq_equiv, length-append, length-map, map-append, All, All-append, All-contains, All-head, All-map, All-nil, All-push, All-tail, all_pairs_push, Contains-append_cases, Contains-append_left, Contains-append_right, Contains-push, Contains-push_cases, IsDistinct, IsDistinct-IsPermutation, IsDistinct-from_apart, IsNonDecreasing, IsPermutation, IsPermutation-append_left, IsPermutation-refl, IsPermutation-trans, IsSomeAnd, MatchOption, cases_Bool, same_from_decides, nat_tests, bytes_eq-Decides, flat_map-append, TextFault, before_comment, lines_of, Statement, NumberedInsn, index_of, label_in, instruction_in, parsed_insns_in, label_at, labels_from, statements_from, IsFault, label_fault, instruction_fault, statements_fault, IsFirstRepeat, Labels, labels_at, repeat_fault, IsLinePart, line_at, name_at, AreKept, IsEnded, IsLeft, Leaves, HaveTokens, begins_of, part_statements, AddsInstruction, AddsLabel}
 use Rattle.scf_text.specs.declared.fault.TextFault.TheVariants as fault
 use Rattle.std.proofs.lemmas.List.Sorted.{IsNonDecreasingBy-push}
 use Rattle.scf_text.proofs.PlaceLemmas.{line_of_part, name_of_part}
@@ -23,16 +23,16 @@ some_between a b c some none = some (none_in_front b c (none_in_front a (b ++ c)
 
 -- one statement behind others
 
-pub count_more : (before : List Statement) (s : Statement) → length (flat_map drafts_in (before ++ s ∷ []))
-    ≡ length (flat_map drafts_in before) + length (drafts_in s)
+pub count_more : (before : List Statement) (s : Statement) → length (flat_map parsed_insns_in (before ++ s ∷ []))
+    ≡ length (flat_map parsed_insns_in before) + length (parsed_insns_in s)
 count_more before s = rw (flat_map-append, append-nil, length-append) refl
 
 pub labels_more : (at : ℕ) (before : List Statement) (s : Statement)
     → labels_from at (before ++ s ∷ []) ≡ labels_from at before
-    ++ label_at (at + length (flat_map drafts_in before)) (label_in s.tokens)
+    ++ label_at (at + length (flat_map parsed_insns_in before)) (label_in s.tokens)
 labels_more at [] s = grind (arith, append-nil)
 labels_more at (b ∷ before) s =
-    grind (arith, labels_more (at + length (drafts_in b)) before s, append_assoc, length-append)
+    grind (arith, labels_more (at + length (parsed_insns_in b)) before s, append_assoc, length-append)
 
 pub lookup_push : (p : List ℕ → Bool) (ls : Labels) (l : List ℕ × ℕ)
     → lookup p (ls ++ l ∷ []) ≡ option_or (lookup p ls) (cond (p l.0) (Some l.1) None)
@@ -102,14 +102,14 @@ module _ (text : List ℕ) where
 
   -- a name is known where a label has it
   known : (begins labels : List ℕ) (s : ℕ)
-      → IsKnown text labels s (is_some (place_of (labels_at text begins labels) (name_at text s)))
+      → IsKnown text labels s (is_some (index_of (labels_at text begins labels) (name_at text s)))
   known begins [] s = λ a given. let none : given.0 < 0 = given.1 in absurd (omega arith)
   known begins (l ∷ labels) s =
       let decides = bytes_eq-Decides (name_at text s) (name_at text l) in
       elim (cases_Bool (bytes_eq (name_at text s) (name_at text l))) [
         | inl here ↦ rw here (l, Contains-append_left (l ∷ []) labels l (Contains-push [] l), sym (decides.0 here))
         | inr other ↦ rw other
-            (known_then labels l s (is_some (place_of (labels_at text begins labels) (name_at text s)))
+            (known_then labels l s (is_some (index_of (labels_at text begins labels) (name_at text s)))
             (λ same. let t = decides.1 same in cc) (known begins labels s))
       ]
 
@@ -124,11 +124,11 @@ module _ (text : List ℕ) where
   label_kept : {end line : ℕ} {given : Labels} {all : List Statement} {begins old new : List ℕ} (s : ℕ)
       (i later : Option TextFault)
       → AreKept text end given all
-      (option_or (option_or (label_fault (place_of given) line (Some (name_at text s))) i) later) begins old
+      (option_or (option_or (label_fault (index_of given) line (Some (name_at text s))) i) later) begins old
       → end ≤ s → line_at text s ≡ line → IsPermutation (old ++ s ∷ []) new
       → AreKept text (s + 1) (given ++ (name_at text s, length begins) ∷ []) all (option_or i later) begins new
   label_kept {end} {line} {given} {all} {begins} {old} {new} s i later k le numbered moved =
-      let is_given = is_some (place_of given (name_at text s)) in
+      let is_given = is_some (index_of given (name_at text s)) in
       let below : All (λ a. a < s) k.labels = λ j d lt. omega (arith, k.before j d lt) in
       let begun : All (λ b. b < s) begins = λ j d lt. omega (arith, k.begun j d lt) in
       record {
@@ -194,7 +194,7 @@ apart {kept = kept} k =
 
 label_step : {text bytes : List ℕ} {start line : ℕ} {name : Option (List ℕ)} {given : Labels} {all : List Statement}
     {begins old new : List ℕ} (label : Option ℕ) (i later : Option TextFault)
-    → AreKept text start given all (option_or (option_or (label_fault (place_of given) line name) i) later) begins old
+    → AreKept text start given all (option_or (option_or (label_fault (index_of given) line name) i) later) begins old
     → IsLinePart text line start bytes → option_map (name_at bytes) label ≡ name → unwrap_or label 0 ≤ length bytes
     → IsPermutation (old ++ option_to_list (option_map (λ _. start + unwrap_or label 0) label)) new
     → AreKept text (start + unwrap_or label 0 + 1) (given ++ label_at (length begins) name) all (option_or i later)
@@ -207,11 +207,11 @@ label_step {text} {bytes} {start} {line} {name} {given} {all} {begins} {old} {ne
     (option_or i later) begins new) same
     (label_kept text (start + l) i later
     (subst (λ (n : Option (List ℕ)). AreKept text start given all
-    (option_or (option_or (label_fault (place_of given) line n) i) later) begins old) (sym same) k)
+    (option_or (option_or (label_fault (index_of given) line n) i) later) begins old) (sym same) k)
     (omega arith) (line_of_part text bytes line start l part le) moved)
 
 -- a statement of a part, its label and where it begins
-module _ {text bytes : List ℕ} {start : ℕ} {all rest : List Statement} {old : List ℕ} {ds : List NumberedDraft}
+module _ {text bytes : List ℕ} {start : ℕ} {all rest : List Statement} {old : List ℕ} {ds : List NumberedInsn}
     (s : Statement) (label : Option ℕ) (new : List ℕ) (left : IsLeft text start all (s ∷ rest) old ds)
     (part : IsLinePart text s.line start bytes) (named : option_map (name_at bytes) label ≡ label_in s.tokens)
     (within : unwrap_or label 0 ≤ length bytes) where
@@ -231,10 +231,10 @@ module _ {text bytes : List ℕ} {start : ℕ} {all rest : List Statement} {old 
   statement_label : IsPermutation (old ++ option_to_list (option_map (λ _. place) label)) new
       → AreKept text (place + 1) given all (option_or own_fault later_fault) (begins_of ds) new
   statement_label moved =
-      let count : length (flat_map drafts_in left.before) ≡ length ds =
-      ap length (sym left.drafts) ∙ length-map ds _ in
-      let begun : length (begins_of ds) ≡ 0 + length (flat_map drafts_in left.before) =
-      length-map ds _ ∙ sym count ∙ sym (zero-add (length (flat_map drafts_in left.before))) in
+      let count : length (flat_map parsed_insns_in left.before) ≡ length ds =
+      ap length (sym left.parsed_insns) ∙ length-map ds _ in
+      let begun : length (begins_of ds) ≡ 0 + length (flat_map parsed_insns_in left.before) =
+      length-map ds _ ∙ sym count ∙ sym (zero-add (length (flat_map parsed_insns_in left.before))) in
       let more : labels_from 0 left.before ++ label_at (length (begins_of ds)) (label_in s.tokens) ≡ given =
       ap (λ n. labels_from 0 left.before ++ label_at n (label_in s.tokens)) begun ∙ sym (labels_more 0 left.before s) in
       let fault : ℕ → Option TextFault = λ n. instruction_fault n s.line (instruction_in s.tokens) in
@@ -242,7 +242,7 @@ module _ {text bytes : List ℕ} {start : ℕ} {all rest : List Statement} {old 
       (subst (λ n. AreKept text (place + 1)
       (labels_from 0 left.before ++ label_at (length (begins_of ds)) (label_in s.tokens)) all
       (option_or (fault n) later_fault) (begins_of ds) new) count
-      (label_step label (fault (length (flat_map drafts_in left.before))) later_fault left.labels part named within
+      (label_step label (fault (length (flat_map parsed_insns_in left.before))) later_fault left.labels part named within
       moved))
 
   have_tokens : s.tokens ≢ [] → HaveTokens all
@@ -251,22 +251,22 @@ module _ {text bytes : List ℕ} {start : ℕ} {all rest : List Statement} {old 
       (some_between (flat_map (λ (t : Statement). t.tokens) left.before) s.tokens
       (flat_map (λ (t : Statement). t.tokens) rest) some)
 
-  pub statement_leaves : {T : Type 0} (r : Result T TextFault) (end : T → ℕ) (es : List NumberedDraft)
+  pub statement_leaves : {T : Type 0} (r : Result T TextFault) (end : T → ℕ) (es : List NumberedInsn)
       → IsPermutation (old ++ option_to_list (option_map (λ _. place) label)) new
       → AddsInstruction ds place s.line (instruction_in s.tokens) r es → IfOk r (λ x. place + 1 ≤ end x)
       → OnErr r (s.tokens ≢ []) → Leaves text r all rest end new es
   statement_leaves (Ok x) end es moved h behind some = record {
     before = left.before ++ s ∷ [];
     whole = left.whole ∙ sym (append_assoc left.before (s ∷ []) rest);
-    drafts = h.1 ∙ rw (left.drafts, flat_map-append, append-nil) refl;
+    parsed_insns = h.1 ∙ rw (left.parsed_insns, flat_map-append, append-nil) refl;
     labels =
         let k = statement_label moved in
         subst (λ (bs : List ℕ). AreKept text (end x) given all later_fault bs new) (sym h.2)
-        (more_kept (end x) (map (λ _. place) (drafts_in s)) new
+        (more_kept (end x) (map (λ _. place) (parsed_insns_in s)) new
         (subst (λ (f : Option TextFault). AreKept text (place + 1) given all (option_or f later_fault) (begins_of ds)
-        new) h.0 k) (All-map (λ z. place + 1 ≤ z + 1) (λ _. place) (drafts_in s) (λ k d lt. omega arith))
-        (All-map (λ z. z < end x) (λ _. place) (drafts_in s) (λ k d lt. omega arith))
-        (more_following (begins_of ds) place (drafts_in s) k.following (λ j d lt. omega (arith, k.begun j d lt)))
+        new) h.0 k) (All-map (λ z. place + 1 ≤ z + 1) (λ _. place) (parsed_insns_in s) (λ k d lt. omega arith))
+        (All-map (λ z. z < end x) (λ _. place) (parsed_insns_in s) (λ k d lt. omega arith))
+        (more_following (begins_of ds) place (parsed_insns_in s) k.following (λ j d lt. omega (arith, k.begun j d lt)))
         behind (IsPermutation-refl new));
   }
   statement_leaves (Err e) end es moved h behind some = record {
@@ -314,13 +314,13 @@ module _ {text bytes : List ℕ} {start : ℕ} {all rest : List Statement} {old 
             }
       ]
 
-pub place_left : {text : List ℕ} {end : ℕ} {all rest : List Statement} {labels : List ℕ} {ds : List NumberedDraft}
+pub place_left : {text : List ℕ} {end : ℕ} {all rest : List Statement} {labels : List ℕ} {ds : List NumberedInsn}
     (place : ℕ) (sorted : List ℕ) → IsLeft text end all rest labels ds → end ≤ place → IsPermutation labels sorted
     → IsLeft text place all rest sorted ds
 place_left place sorted left le moved = record {
   before = left.before;
   whole = left.whole;
-  drafts = left.drafts;
+  parsed_insns = left.parsed_insns;
   labels = place_kept place sorted left.labels le moved;
 }
 

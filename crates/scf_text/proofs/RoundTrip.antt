@@ -1,15 +1,15 @@
 -- Each form is read as it is listed, and the canonical text of instructions spells them.
-use Rattle.scf_text.proofs.Common.{words_of_part, IsDistinct, place_of, ◌≡◌, ℕ, true, false, eqb, Option, None, Some, refl, sym, ◌+◌, ◌<◌, ◌≤◌, List, [], ◌∷◌, ◌++◌, length, map, ap, subst, ◌∙◌, append_assoc, arith, if◌then◌else◌, list_any, flat_map, AllByRecursion, list_all, slice_split, and_from, nat_tests, IsInsn, Insn, Code, Jt, Jf, K, names, tells_all, form_for, forms, known_forms, Number, Draft, draft_of, Places, Statement, is_semicolon, words_of_line, statements_from, label_in, instruction_in, labels_from, drafts_in, SaysInsn, SaysEach, Spells, All-from_recursion, slice_split_at, slice_split_none, bpf_maxinsns, Lexeme, lines_of, before_comment, lexemes_from, operands_text, line_of, text_of}
+use Rattle.scf_text.proofs.Common.{words_of_part, IsDistinct, index_of, ◌≡◌, ℕ, true, false, eqb, Option, None, Some, refl, sym, ◌+◌, ◌<◌, ◌≤◌, List, [], ◌∷◌, ◌++◌, length, map, ap, subst, ◌∙◌, append_assoc, arith, if◌then◌else◌, list_any, flat_map, AllByRecursion, list_all, slice_split, and_from, nat_tests, IsInsn, Insn, Code, Jt, Jf, K, names, tells_all, encoding_for, encodings, known_encodings, Number, ParsedInsn, parsed_of, SymbolTable, Statement, is_semicolon, words_of_line, statements_from, label_in, instruction_in, labels_from, parsed_insns_in, SaysInsn, SaysEach, Spells, All-from_recursion, slice_split_at, slice_split_none, bpf_maxinsns, Lexeme, lines_of, before_comment, lexemes_from, operands_text, line_of, text_of}
 use Rattle.scf_text.proofs.TokenLemmas.{words_nil, all_append}
 use Rattle.scf_text.proofs.ListingLemmas.{hexadecimal_is, decimal_is, decimal_no_name, four_digits_is, piece_words}
 use Rattle.scf_text.proofs.ListingLemmas.{each_same, name_of, field_small, mnemonic_wordy, line_words, is_plain, wordy_plain}
 use Rattle.scf_text.proofs.ListingLemmas.{operands_plain, body, operands, body_line, no_comment, no_end, small_bytes}
 use Rattle.scf_text.proofs.ListingLemmas.{no_semicolon, no_label}
 use Rattle.scf_text.proofs.FormLemmas.{listed_one, listed_form}
-use Rattle.scf_text.specs.Forms.{Form}
+use Rattle.scf_text.specs.Encodings.{Encoding}
 
 -- what the listing of an instruction in this form says
-abbrev pub draft_in : Form → Insn → Draft
+abbrev pub draft_in : Encoding → Insn → ParsedInsn
 draft_in f i = record {
   code = if list_any (names Code) f.pieces then i.code else f.code;
   jt = Number (if list_any (names Jt) f.pieces then i.jt else 0);
@@ -18,11 +18,11 @@ draft_in f i = record {
 }
 
 -- what the tokens of an instruction's listing in this form are read as
-abbrev read_back : Insn → Form → Option Draft
-read_back i f = draft_of f.mnemonic (flat_map (piece_words i) f.pieces)
+abbrev read_back : Insn → Encoding → Option ParsedInsn
+read_back i f = parsed_of f.mnemonic (flat_map (piece_words i) f.pieces)
 
-all_back : (i : Insn) → IsInsn i → map (read_back i) forms ≡ map (λ f. Some (draft_in f i)) forms
-unfolding draft_of known_forms
+all_back : (i : Insn) → IsInsn i → map (read_back i) encodings ≡ map (λ f. Some (draft_in f i)) encodings
+unfolding parsed_of known_encodings
 all_back i h =
     let jt = field_small i Jt h in
     let jf = field_small i Jf h in
@@ -37,16 +37,16 @@ all_back i h =
       four_digits_is i.code h.code,
     )
 
-abbrev pub IsReadBack : Insn → Form → Type 0
+abbrev pub IsReadBack : Insn → Encoding → Type 0
 IsReadBack i f = read_back i f ≡ Some (draft_in f i)
 
-pub reads_back : (i : Insn) → IsInsn i → IsReadBack i (form_for i)
+pub reads_back : (i : Insn) → IsInsn i → IsReadBack i (encoding_for i)
 reads_back i h =
-    listed_form (IsReadBack i) i (each_same (read_back i) (λ f. Some (draft_in f i)) forms (all_back i h))
+    listed_form (IsReadBack i) i (each_same (read_back i) (λ f. Some (draft_in f i)) encodings (all_back i h))
 
-tells_says : (places : Places) (at : ℕ) (i : Insn) (f : Form) → tells_all i f ≡ true
-    → SaysInsn places at (draft_in f i) i
-tells_says places at i f h =
+tells_says : (symbols : SymbolTable) (at : ℕ) (i : Insn) (f : Encoding) → tells_all i f ≡ true
+    → SaysInsn symbols at (draft_in f i) i
+tells_says symbols at i f h =
     record {
       code = grind (arith, nat_tests);
       jt = grind (arith, nat_tests);
@@ -54,10 +54,10 @@ tells_says places at i f h =
       k = grind (arith, nat_tests);
     }
 
-says_back : (places : Places) (at : ℕ) (i : Insn) → SaysInsn places at (draft_in (form_for i) i) i
-says_back places at i =
-    listed_one (λ f. f ≡ f) (λ f. SaysInsn places at (draft_in f i) i) i
-    (each_same (λ (f : Form). f) (λ f. f) forms refl) (λ f _ all. tells_says places at i f all)
+says_back : (symbols : SymbolTable) (at : ℕ) (i : Insn) → SaysInsn symbols at (draft_in (encoding_for i) i) i
+says_back symbols at i =
+    listed_one (λ f. f ≡ f) (λ f. SaysInsn symbols at (draft_in f i) i) i
+    (each_same (λ (f : Encoding). f) (λ f. f) encodings refl) (λ f _ all. tells_says symbols at i f all)
     (record { code = refl; jt = refl; jf = refl; k = refl })
 
 line_tokens : (i : Insn) → IsInsn i → slice_split is_semicolon (words_of_line (body i)) ≡ (name_of i ∷ operands i) ∷ []
@@ -80,7 +80,7 @@ listing n (i ∷ is) = record { line = n; tokens = name_of i ∷ operands i } �
 
 line_ended : (i : Insn) (rest : List ℕ) → line_of i ++ rest ≡ body i ++ 10 ∷ rest
 line_ended i rest =
-    let ops = operands_text i (form_for i).pieces in
+    let ops = operands_text i (encoding_for i).pieces in
     append_assoc (name_of i) (ops ++ 10 ∷ []) rest
     ∙ ap (λ (t : List ℕ). name_of i ++ t) (append_assoc ops (10 ∷ []) rest)
     ∙ sym (append_assoc (name_of i) ops (10 ∷ rest))
@@ -102,13 +102,13 @@ unlabeled : (i : Insn) → IsInsn i → label_in (name_of i ∷ operands i) ≡ 
 unlabeled i fits = no_label (name_of i) (operands i) (operands_plain i fits)
 
 -- no statement has a label, and each says its instruction
-listed : (places : Places) (at n : ℕ) (is : List Insn) → AllByRecursion IsInsn is → (labels_from at (listing n is) ≡ [])
-    × AllByRecursion (λ (s : Statement). drafts_in s ≡ [] → instruction_in s.tokens ≡ []) (listing n is)
-    × SaysEach places at (flat_map drafts_in (listing n is)) is
-listed places at n [] fits = (refl, (λ none. refl, tt), tt)
-listed places at n (i ∷ is) fits =
-    let rest = listed places (at + 1) (n + 1) is fits.1 in
-    rw (unlabeled i fits.0, reads_back i fits.0) (rest.0, (λ none. absurd cc, rest.1), (says_back places at i, rest.2))
+listed : (symbols : SymbolTable) (at n : ℕ) (is : List Insn) → AllByRecursion IsInsn is → (labels_from at (listing n is) ≡ [])
+    × AllByRecursion (λ (s : Statement). parsed_insns_in s ≡ [] → instruction_in s.tokens ≡ []) (listing n is)
+    × SaysEach symbols at (flat_map parsed_insns_in (listing n is)) is
+listed symbols at n [] fits = (refl, (λ none. refl, tt), tt)
+listed symbols at n (i ∷ is) fits =
+    let rest = listed symbols (at + 1) (n + 1) is fits.1 in
+    rw (unlabeled i fits.0, reads_back i fits.0) (rest.0, (λ none. absurd cc, rest.1), (says_back symbols at i, rest.2))
 
 ascii : (is : List Insn) → AllByRecursion IsInsn is → AllByRecursion (λ b. b < 128) (text_of is)
 ascii [] fits = tt
@@ -121,7 +121,7 @@ pub round_trip : (is : List Insn) → AllByRecursion IsInsn is → length is ≤
 unfolding IsDistinct
 round_trip is fits few =
     let statements = statements_are 1 is fits in
-    let told = listed (place_of []) 0 1 is fits in
+    let told = listed (index_of []) 0 1 is fits in
     record {
       ascii = ascii is fits;
       distinct = rw (statements, told.0) tt;

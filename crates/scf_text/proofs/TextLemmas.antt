@@ -1,7 +1,7 @@
 -- What reading a text gives.
-use Rattle.scf_text.proofs.Common.{◌≡◌, ◌≢◌, ℕ, ◌<◌, List, [], map, Option, Some, None, Result, Ok, Err, refl, sym, ap, subst, ◌∙◌, arith, append-nil, flat_map, option_or, option_map, IfOk, IfErr, Vec, nat_eq, bytes_eq, Contains, All-nil, Contains-permutation, IsDistinct, IsPermutation, IsPermutation-refl, IsPermutation-sym, IsSortedBy, is_before, Insn, TextFault, Statement, labels_from, Places, place_of, places_in, statements_of, drafts_in, drafts_of, Spells, ascii_fault, statements_fault, targets_fault, fault_of, IsFault, NumberedDraft, TellsInsns, TellsText, fault_in, Labels, labels_at, repeat_fault, IsFirstRepeat, TellsRepeat, name_at, drafts_view, begins_of, AreKept, IsEnded, IsLeft, IsRead, Leaves, HaveTokens}
+use Rattle.scf_text.proofs.Common.{◌≡◌, ◌≢◌, ℕ, ◌<◌, List, [], map, Option, Some, None, Result, Ok, Err, refl, sym, ap, subst, ◌∙◌, arith, append-nil, flat_map, option_or, option_map, IfOk, IfErr, Vec, nat_eq, bytes_eq, Contains, All-nil, Contains-permutation, IsDistinct, IsPermutation, IsPermutation-refl, IsPermutation-sym, IsSortedBy, is_before, Insn, TextFault, Statement, labels_from, SymbolTable, index_of, symbols_in, statements_of, parsed_insns_in, parsed_insns_of, Spells, ascii_fault, statements_fault, targets_fault, fault_of, IsFault, NumberedInsn, TellsInsns, TellsText, fault_in, Labels, labels_at, repeat_fault, IsFirstRepeat, TellsRepeat, name_at, parsed_insns_view, begins_of, AreKept, IsEnded, IsLeft, IsRead, Leaves, HaveTokens}
 use Rattle.scf_text.specs.declared.fault.TextFault.TheVariants as fault
-use Rattle.scf_text.specs.Drafts as drafts
+use Rattle.scf_text.specs.ParsedInsns as parsed_insns
 use Rattle.scf_text.proofs.ReadLemmas.{apart, fault_first, fault_then, is_fault, place_kept, place_left}
 use Rattle.scf_text.proofs.RepeatLemmas.{moved, one_first}
 use Rattle.scf_text.proofs.LookupLemmas.{names_apart, places_moved}
@@ -13,22 +13,22 @@ pub statements_fail : (x : TextFault) (text : List ℕ) → IsFault x (statement
 unfolding fault_in
 statements_fail x text h =
     fault_first x (statements_fault [] (statements_of text))
-    (targets_fault (places_in (statements_of text)) 0 (drafts_of text)) h
+    (targets_fault (symbols_in (statements_of text)) 0 (parsed_insns_of text)) h
 
-tells_then : (a b : Option TextFault) (places : Places) (written : List (ℕ × drafts.Draft))
-    (r : Result (Vec Insn) TextFault) → a ≡ None → TellsInsns b places written r
-    → TellsInsns (option_or a b) places written r
-tells_then a b places written (Ok v) none h = (rw none h.0, h.1, h.2)
-tells_then a b places written (Err e) none h = fault_then e a b none h
+tells_then : (a b : Option TextFault) (symbols : SymbolTable) (written : List (ℕ × parsed_insns.ParsedInsn))
+    (r : Result (Vec Insn) TextFault) → a ≡ None → TellsInsns b symbols written r
+    → TellsInsns (option_or a b) symbols written r
+tells_then a b symbols written (Ok v) none h = (rw none h.0, h.1, h.2)
+tells_then a b symbols written (Err e) none h = fault_then e a b none h
 
 -- before the first statement
-pub nothing_read : (text : List ℕ) (all : List Statement) {labels : List ℕ} {ds : List NumberedDraft} → labels ≡ []
+pub nothing_read : (text : List ℕ) (all : List Statement) {labels : List ℕ} {ds : List NumberedInsn} → labels ≡ []
     → ds ≡ [] → IsLeft text 0 all all labels ds
 nothing_read text all none empty =
     rw (none, empty) (record {
       before = [];
       whole = refl;
-      drafts = refl;
+      parsed_insns = refl;
       labels = record {
         labels = [];
         moved = IsPermutation-refl [];
@@ -45,20 +45,20 @@ nothing_read text all none empty =
 
 -- behind the last statement
 
-all_read : {text : List ℕ} {end : ℕ} {all : List Statement} {kept : List ℕ} {ds : List NumberedDraft}
+all_read : {text : List ℕ} {end : ℕ} {all : List Statement} {kept : List ℕ} {ds : List NumberedInsn}
     (left : IsLeft text end all [] kept ds) → left.before ≡ all
 all_read left = sym (left.whole ∙ append-nil left.before)
 
-pub drafts_read : {text : List ℕ} {end : ℕ} {all : List Statement} {kept : List ℕ} {ds : List NumberedDraft}
-    → IsLeft text end all [] kept ds → drafts_view ds ≡ flat_map drafts_in all
-drafts_read left = left.drafts ∙ ap (flat_map drafts_in) (all_read left)
+pub drafts_read : {text : List ℕ} {end : ℕ} {all : List Statement} {kept : List ℕ} {ds : List NumberedInsn}
+    → IsLeft text end all [] kept ds → parsed_insns_view ds ≡ flat_map parsed_insns_in all
+drafts_read left = left.parsed_insns ∙ ap (flat_map parsed_insns_in) (all_read left)
 
 none_first : (text xs ys : List ℕ) → IsPermutation xs ys → IsFirstRepeat text ys None → IsFirstRepeat text xs None
 none_first text xs ys p none = λ b repeat. none b (moved p repeat)
 
 -- the labels are sorted
 pub sorted_leaves : {T : Type 0} (r : Result T TextFault) (text : List ℕ) (end : ℕ) (all : List Statement)
-    (kept sorted : List ℕ) (ds : List NumberedDraft) → Leaves text r all [] (λ _. end) kept ds
+    (kept sorted : List ℕ) (ds : List NumberedInsn) → Leaves text r all [] (λ _. end) kept ds
     → IsPermutation kept sorted → Leaves text r all [] (λ _. end) sorted ds
 sorted_leaves (Ok x) text end all kept sorted ds left p = place_left end sorted left (omega arith) p
 sorted_leaves (Err e) text end all kept sorted ds ended p = record {
@@ -106,12 +106,12 @@ module _ {text : List ℕ} {all : List Statement} {sorted : List ℕ} where
           ended.some,
         )
 
-    pub names_told : {end : ℕ} {ds : List NumberedDraft} → IsLeft text end all [] sorted ds
+    pub names_told : {end : ℕ} {ds : List NumberedInsn} → IsLeft text end all [] sorted ds
         → IsDistinct bytes_eq (map (name_at text) sorted)
     names_told left = names_apart text sorted (apart left.labels) (tells (apart left.labels))
 
 pub label_told : {T : Type 0} (e : TextFault) (r : Result T TextFault) (text : List ℕ) (end : ℕ)
-    (all : List Statement) (sorted : List ℕ) (ds : List NumberedDraft) → Leaves text r all [] (λ _. end) sorted ds
+    (all : List Statement) (sorted : List ℕ) (ds : List NumberedInsn) → Leaves text r all [] (λ _. end) sorted ds
     → (IsDistinct nat_eq sorted → TellsRepeat {T = Unit {0}} text sorted (Err e))
     → IsFault e (statements_fault [] all) × HaveTokens all
 label_told e (Ok x) text end all sorted ds left tells =
@@ -121,7 +121,7 @@ label_told e (Ok x) text end all sorted ds left tells =
 label_told e (Err f) text end all sorted ds ended tells =
     (told_fault e ended.labels (tells (apart ended.labels)), ended.some)
 
-pub is_read : (text : List ℕ) {end : ℕ} {sorted : List ℕ} {ds : List NumberedDraft}
+pub is_read : (text : List ℕ) {end : ℕ} {sorted : List ℕ} {ds : List NumberedInsn}
     → IsLeft text end (statements_of text) [] sorted ds → IsSortedBy (is_before text) sorted
     → (IsDistinct nat_eq sorted → IsFirstRepeat text sorted None) → IsRead text sorted ds
 is_read text {sorted = sorted} {ds} left ordered tells =
@@ -133,19 +133,19 @@ is_read text {sorted = sorted} {ds} left ordered tells =
       following = k.following;
       faultless = first_fault None k (tells (apart k));
       written = drafts_read left;
-      places = places_moved text (begins_of ds) k.labels sorted k.moved distinct ∙ ap place_of k.named
-          ∙ ap places_in (all_read left);
+      symbols = places_moved text (begins_of ds) k.labels sorted k.moved distinct ∙ ap index_of k.named
+          ∙ ap symbols_in (all_read left);
     }
 
-pub read_tells : (text labels : List ℕ) (ds : List NumberedDraft) (r : Result (Vec Insn) TextFault)
+pub read_tells : (text labels : List ℕ) (ds : List NumberedInsn) (r : Result (Vec Insn) TextFault)
     → IsRead text labels ds
-    → TellsInsns (targets_fault (place_of (labels_at text (begins_of ds) labels)) 0 (drafts_view ds))
-    (place_of (labels_at text (begins_of ds) labels)) (drafts_view ds) r → TellsText (fault_in text) text r
+    → TellsInsns (targets_fault (index_of (labels_at text (begins_of ds) labels)) 0 (parsed_insns_view ds))
+    (index_of (labels_at text (begins_of ds) labels)) (parsed_insns_view ds) r → TellsText (fault_in text) text r
 unfolding fault_in
 read_tells text labels ds r read h =
-    let places = places_in (statements_of text) in
-    tells_then (statements_fault [] (statements_of text)) (targets_fault places 0 (drafts_of text)) places
-    (drafts_of text) r read.faultless (rw (read.places, read.written) at h)
+    let symbols = symbols_in (statements_of text) in
+    tells_then (statements_fault [] (statements_of text)) (targets_fault symbols 0 (parsed_insns_of text)) symbols
+    (parsed_insns_of text) r read.faultless (rw (read.symbols, read.written) at h)
 
 pub ascii_fails : (e : TextFault) (text : List ℕ) → ascii_fault 1 text ≡ Some e → IsFault e (fault_of text)
 unfolding fault_of fault_in
@@ -155,7 +155,7 @@ pub ascii_tells : (text : List ℕ) (r : Result (Vec Insn) TextFault) → ascii_
     → TellsText (fault_in text) text r → TellsText (fault_of text) text r
 unfolding fault_of fault_in
 ascii_tells text r none h =
-    tells_then (ascii_fault 1 text) (fault_in text) (places_in (statements_of text)) (drafts_of text) r none h
+    tells_then (ascii_fault 1 text) (fault_in text) (symbols_in (statements_of text)) (parsed_insns_of text) r none h
 
 pub is_spelled : (text : List ℕ) (r : Result (Vec Insn) TextFault) → TellsText (fault_of text) text r
     → IfOk r (λ insns. Spells text insns.items)

@@ -1,5 +1,5 @@
 -- Which texts have a token, so that memory may be wanted for them.
-use Rattle.scf_text.proofs.Common.{◌≡◌, ◌≢◌, ℕ, ◌+◌, ◌<◌, List, [], ◌∷◌, length, map, Result, Ok, Err, refl, sym, ap, ◌∙◌, arith, OnErr, flat_map, NumberedDraft, Lexeme, lines_of, words_of_line, tokens_of, Statement, statements_of, statements_from, drafts_in, labels_from, HaveTokens, drafts_view}
+use Rattle.scf_text.proofs.Common.{◌≡◌, ◌≢◌, ℕ, ◌+◌, ◌<◌, List, [], ◌∷◌, length, map, Result, Ok, Err, refl, sym, ap, ◌∙◌, arith, OnErr, flat_map, NumberedInsn, Lexeme, lines_of, words_of_line, tokens_of, Statement, statements_of, statements_from, parsed_insns_in, labels_from, HaveTokens, parsed_insns_view}
 use Rattle.scf_text.proofs.TokenLemmas.{words_are_tokens}
 use Rattle.scf_text.proofs.ReadLemmas.{none_in_front}
 
@@ -7,7 +7,7 @@ pub none_mapped : {A B : Type 0} (f : A → B) (xs : List A) → map f xs ≡ []
 none_mapped f [] e = refl
 none_mapped f (x ∷ xs) e = absurd cc
 
-no_drafts : (ss : List Statement) → flat_map (λ (s : Statement). s.tokens) ss ≡ [] → flat_map drafts_in ss ≡ []
+no_drafts : (ss : List Statement) → flat_map (λ (s : Statement). s.tokens) ss ≡ [] → flat_map parsed_insns_in ss ≡ []
 no_drafts [] none = refl
 no_drafts (s ∷ ss) none =
     let here : s.tokens ≡ [] = (none_in_front s.tokens (flat_map (λ (t : Statement). t.tokens) ss) none).0 in
@@ -20,8 +20,8 @@ no_labels at (s ∷ ss) none =
     rw both.0 (no_labels (at + 0) ss both.1)
 
 -- some instruction was read where one of them is refused
-pub drafts_words : {T E : Type 0} (ss : List Statement) (kept : List NumberedDraft) (r : Result T E)
-    → drafts_view kept ≡ flat_map drafts_in ss → OnErr r (0 < length kept) → OnErr r (HaveTokens ss)
+pub drafts_words : {T E : Type 0} (ss : List Statement) (kept : List NumberedInsn) (r : Result T E)
+    → parsed_insns_view kept ≡ flat_map parsed_insns_in ss → OnErr r (0 < length kept) → OnErr r (HaveTokens ss)
 drafts_words ss kept (Ok v) read some = tt
 drafts_words ss kept (Err e) read some = λ none.
     let no_lines = none_mapped _ kept (read ∙ no_drafts ss none) in

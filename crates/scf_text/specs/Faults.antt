@@ -7,9 +7,9 @@ use Rattle.scf_insn.specs.Kernel.{bpf_maxinsns}
 use Rattle.scf_text.specs.declared.fault.TextFault.{TextFault}
 use Rattle.scf_text.specs.declared.fault.TextFault.TheVariants as fault
 use Rattle.scf_text.specs.Characters.{is_line_end}
-use Rattle.scf_text.specs.Forms.{forms}
-use Rattle.scf_text.specs.Drafts.{Written, Number, Label, Draft, draft_of, has_mnemonic, is_in_range}
-use Rattle.scf_text.specs.Statements.{Statement, Places, places_in, statements_of, drafts_in, drafts_of}
+use Rattle.scf_text.specs.Encodings.{encodings}
+use Rattle.scf_text.specs.ParsedInsns.{FieldValue, Number, Label, ParsedInsn, parsed_of, has_mnemonic, is_in_range}
+use Rattle.scf_text.specs.Statements.{Statement, SymbolTable, symbols_in, statements_of, parsed_insns_in, parsed_insns_of}
 use Rattle.scf_text.specs.Statements.{label_in, instruction_in}
 
 -- The fault is the first one, or want of memory.
@@ -24,26 +24,26 @@ ascii_fault line (b ∷ bs) =
     if nat_lt b 128 then ascii_fault (if is_line_end b then line + 1 else line) bs else Some (fault.NotAscii line)
 
 -- the label has a place already
-abbrev pub label_fault : Places → ℕ → Option (List ℕ) → Option TextFault
-label_fault places line = option_and_then (λ name. if is_some (places name) then Some (fault.Label line) else None)
+abbrev pub label_fault : SymbolTable → ℕ → Option (List ℕ) → Option TextFault
+label_fault symbols line = option_and_then (λ name. if is_some (symbols name) then Some (fault.Label line) else None)
 
 -- the tokens have no form, a number doesn't fit, or the most instructions stand before this one
-abbrev pub draft_fault : ℕ → ℕ → Option Draft → Option TextFault
-draft_fault at line None = Some (fault.Operand line)
-draft_fault at line (Some d) =
+abbrev pub operands_fault : ℕ → ℕ → Option ParsedInsn → Option TextFault
+operands_fault at line None = Some (fault.Operand line)
+operands_fault at line (Some d) =
     if not (is_in_range d) then Some (fault.NumberRange line)
     else if nat_le bpf_maxinsns at then Some (fault.TooLong line) else None
 
 abbrev pub instruction_fault : ℕ → ℕ → List (List ℕ) → Option TextFault
 instruction_fault at line [] = None
 instruction_fault at line (t ∷ ts) =
-    if list_any (has_mnemonic t) forms then draft_fault at line (draft_of t ts) else Some (fault.Mnemonic line)
+    if list_any (has_mnemonic t) encodings then operands_fault at line (parsed_of t ts) else Some (fault.Mnemonic line)
 
 -- the first fault of a statement behind others
 abbrev pub statement_fault : List Statement → Statement → Option TextFault
 statement_fault before s =
-    option_or (label_fault (places_in before) s.line (label_in s.tokens))
-    (instruction_fault (length (flat_map drafts_in before)) s.line (instruction_in s.tokens))
+    option_or (label_fault (symbols_in before) s.line (label_in s.tokens))
+    (instruction_fault (length (flat_map parsed_insns_in before)) s.line (instruction_in s.tokens))
 
 -- the first fault of statements behind others
 abbrev pub statements_fault : List Statement → List Statement → Option TextFault
@@ -51,24 +51,24 @@ statements_fault before [] = None
 statements_fault before (s ∷ ss) = option_or (statement_fault before s) (statements_fault (before ++ s ∷ []) ss)
 
 -- A name with no place, or a place that the field doesn't reach. Places behind the jump alone are reached.
-abbrev pub target_fault : Places → ℕ → ℕ → ℕ → Written → Option TextFault
-target_fault places at line limit (Number n) = None
-target_fault places at line limit (Label name) =
+abbrev pub target_fault : SymbolTable → ℕ → ℕ → ℕ → FieldValue → Option TextFault
+target_fault symbols at line limit (Number n) = None
+target_fault symbols at line limit (Label name) =
     let is_far : ℕ → Bool = λ place. nat_lt place (at + 1) || nat_le limit (place - (at + 1)) in
-    option_map_or (λ place. if is_far place then Some (fault.JumpTooFar line) else None) (places name)
+    option_map_or (λ place. if is_far place then Some (fault.JumpTooFar line) else None) (symbols name)
     (Some (fault.Label line))
 
 -- The targets of instructions with their lines, the first at this place: of a conditional jump its JT and then its JF.
-abbrev pub targets_fault : Places → ℕ → List (ℕ × Draft) → Option TextFault
-targets_fault places at [] = None
-targets_fault places at (d ∷ ds) =
-    let first = target_fault places at d.0 in
+abbrev pub targets_fault : SymbolTable → ℕ → List (ℕ × ParsedInsn) → Option TextFault
+targets_fault symbols at [] = None
+targets_fault symbols at (d ∷ ds) =
+    let first = target_fault symbols at d.0 in
     option_or (option_or (first (2 ^ 8) d.1.jt) (option_or (first (2 ^ 8) d.1.jf) (first (2 ^ 32) d.1.k)))
-    (targets_fault places (at + 1) ds)
+    (targets_fault symbols (at + 1) ds)
 
 -- The first fault: first of all a byte that isn't ASCII, then the first fault of a statement, then the first wrong
 -- target.
 unfoldable pub fault_of : List ℕ → Option TextFault
 fault_of text =
     option_or (ascii_fault 1 text) (option_or (statements_fault [] (statements_of text))
-    (targets_fault (places_in (statements_of text)) 0 (drafts_of text)))
+    (targets_fault (symbols_in (statements_of text)) 0 (parsed_insns_of text)))

@@ -1,8 +1,8 @@
 pub mod Characters
 pub mod Tokens
-pub mod Forms
+pub mod Encodings
 pub mod Listing
-pub mod Drafts
+pub mod ParsedInsns
 pub mod Statements
 pub mod Spelling
 pub mod Faults

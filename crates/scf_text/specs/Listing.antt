@@ -4,11 +4,11 @@ use Rattle.std.specs.Prelude.{ℕ, ◌/◌, ◌%◌, ◌==◌, false, List, [], 
 use Rattle.std.specs.List.{flat_map}
 use Rattle.std.specs.Fmt.{decimal, digits, digit_glyph}
 use Rattle.scf_insn.specs.declared.insn.Insn.{Insn}
-use Rattle.scf_text.specs.declared.form.Piece.{Piece}
-use Rattle.scf_text.specs.declared.form.Piece.TheVariants.{Mark, Len, Memory, Accumulator, Index, Number, Target}
-use Rattle.scf_text.specs.declared.form.Style.{Style}
-use Rattle.scf_text.specs.declared.form.Style.TheVariants.{Decimal, Hexadecimal, FourDigits}
-use Rattle.scf_text.specs.Forms.{field_of, form_for}
+use Rattle.scf_text.specs.declared.encoding.Piece.{Piece}
+use Rattle.scf_text.specs.declared.encoding.Piece.TheVariants.{Mark, Len, Memory, Accumulator, Index, Number, Target}
+use Rattle.scf_text.specs.declared.encoding.Style.{Style}
+use Rattle.scf_text.specs.declared.encoding.Style.TheVariants.{Decimal, Hexadecimal, FourDigits}
+use Rattle.scf_text.specs.Encodings.{field_of, encoding_for}
 
 -- four digits are the last hexadecimal ones
 abbrev pub number_text : Style → ℕ → List ℕ
@@ -35,8 +35,8 @@ operands_text i (p ∷ ps) = code " " ∷ flat_map (piece_text i) (p ∷ ps)
 -- a line, with its end
 abbrev pub line_of : Insn → List ℕ
 line_of i =
-    let form = form_for i in
-    form.mnemonic ++ (operands_text i form.pieces ++ codes "\n")
+    let encoding = encoding_for i in
+    encoding.mnemonic ++ (operands_text i encoding.pieces ++ codes "\n")
 
 -- the canonical text
 abbrev pub text_of : List Insn → List ℕ

@@ -5,27 +5,27 @@ use Rattle.std.specs.Str.{bytes_eq}
 use Rattle.scf_insn.specs.Insn.{IsInsn}
 use Rattle.scf_insn.specs.Kernel.{bpf_maxinsns}
 use Rattle.scf_insn.specs.declared.insn.Insn.{Insn}
-use Rattle.scf_text.specs.Drafts.{Written, Number, Label, Draft}
-use Rattle.scf_text.specs.Statements.{Statement, Places, places_in, statements_of, labels_from}
-use Rattle.scf_text.specs.Statements.{instruction_in, drafts_in, drafts_of}
+use Rattle.scf_text.specs.ParsedInsns.{FieldValue, Number, Label, ParsedInsn}
+use Rattle.scf_text.specs.Statements.{Statement, SymbolTable, symbols_in, statements_of, labels_from}
+use Rattle.scf_text.specs.Statements.{instruction_in, parsed_insns_in, parsed_insns_of}
 
 -- What is written says the number. A name says how far its place is behind the next instruction.
-abbrev pub Says : Places → ℕ → Written → ℕ → Type 0
-Says places at (Number n) value = value ≡ n
-Says places at (Label name) value = places name ≡ Some (at + 1 + value)
+abbrev pub Says : SymbolTable → ℕ → FieldValue → ℕ → Type 0
+Says symbols at (Number n) value = value ≡ n
+Says symbols at (Label name) value = symbols name ≡ Some (at + 1 + value)
 
 -- what is written at this place says the instruction
-pub record SaysInsn (places : Places) (at : ℕ) (d : Draft) (i : Insn) : Type 0 where
+pub record SaysInsn (symbols : SymbolTable) (at : ℕ) (d : ParsedInsn) (i : Insn) : Type 0 where
   pub code : i.code ≡ d.code
-  pub jt : Says places at d.jt i.jt
-  pub jf : Says places at d.jf i.jf
-  pub k : Says places at d.k i.k
+  pub jt : Says symbols at d.jt i.jt
+  pub jf : Says symbols at d.jf i.jf
+  pub k : Says symbols at d.k i.k
 
 -- These say the instructions in order, the first at this place.
-abbrev pub SaysEach : Places → ℕ → List (ℕ × Draft) → List Insn → Type 0
-SaysEach places at [] [] = Unit {0}
-SaysEach places at (d ∷ ds) (i ∷ is) = SaysInsn places at d.1 i × SaysEach places (at + 1) ds is
-SaysEach places at _ _ = ⊥
+abbrev pub SaysEach : SymbolTable → ℕ → List (ℕ × ParsedInsn) → List Insn → Type 0
+SaysEach symbols at [] [] = Unit {0}
+SaysEach symbols at (d ∷ ds) (i ∷ is) = SaysInsn symbols at d.1 i × SaysEach symbols (at + 1) ds is
+SaysEach symbols at _ _ = ⊥
 
 -- The text is ASCII and no name is given twice. What stands behind the labels of its statements are forms of
 -- instructions, and they say the list, which has at most as many as a filter may have.
@@ -34,5 +34,5 @@ pub record Spells (text : List ℕ) (is : List Insn) : Type 0 where
   pub distinct : IsDistinct bytes_eq (map (λ (l : List ℕ × ℕ). l.0) (labels_from 0 (statements_of text)))
   pub few : length is ≤ bpf_maxinsns
   pub fields : AllByRecursion IsInsn is
-  pub read : AllByRecursion (λ (s : Statement). drafts_in s ≡ [] → instruction_in s.tokens ≡ []) (statements_of text)
-  pub each : SaysEach (places_in (statements_of text)) 0 (drafts_of text) is
+  pub read : AllByRecursion (λ (s : Statement). parsed_insns_in s ≡ [] → instruction_in s.tokens ≡ []) (statements_of text)
+  pub each : SaysEach (symbols_in (statements_of text)) 0 (parsed_insns_of text) is

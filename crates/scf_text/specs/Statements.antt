@@ -6,7 +6,7 @@ use Rattle.std.specs.List.{slice_split, flat_map, enumerate_from}
 use Rattle.std.specs.Map.{lookup}
 use Rattle.std.specs.Str.{bytes_eq}
 use Rattle.scf_text.specs.Tokens.{lines_of, words_of_line}
-use Rattle.scf_text.specs.Drafts.{Draft, draft_of, is_name}
+use Rattle.scf_text.specs.ParsedInsns.{ParsedInsn, parsed_of, is_name}
 
 -- the tokens of a statement, and the number of its line
 pub record Statement : Type 0 where
@@ -31,30 +31,30 @@ abbrev pub instruction_in : List (List ℕ) → List (List ℕ)
 instruction_in ts = if is_some (label_in ts) then drop 2 ts else ts
 
 -- what the instruction of a statement says, with the line
-abbrev pub drafts_by : ℕ → List (List ℕ) → List (ℕ × Draft)
-drafts_by line [] = []
-drafts_by line (t ∷ ts) = option_to_list (option_map (λ d. (line, d)) (draft_of t ts))
+abbrev pub parsed_insns_by : ℕ → List (List ℕ) → List (ℕ × ParsedInsn)
+parsed_insns_by line [] = []
+parsed_insns_by line (t ∷ ts) = option_to_list (option_map (λ d. (line, d)) (parsed_of t ts))
 
-abbrev pub drafts_in : Statement → List (ℕ × Draft)
-drafts_in s = drafts_by s.line (instruction_in s.tokens)
+abbrev pub parsed_insns_in : Statement → List (ℕ × ParsedInsn)
+parsed_insns_in s = parsed_insns_by s.line (instruction_in s.tokens)
 
 -- The labels of statements, the first of which stands at this place. Each names the place of the next instruction, or
 -- the end where none follows.
 abbrev pub labels_from : ℕ → List Statement → List (List ℕ × ℕ)
 labels_from at [] = []
 labels_from at (s ∷ ss) =
-    map (λ name. (name, at)) (option_to_list (label_in s.tokens)) ++ labels_from (at + length (drafts_in s)) ss
+    map (λ name. (name, at)) (option_to_list (label_in s.tokens)) ++ labels_from (at + length (parsed_insns_in s)) ss
 
 -- the place that each name stands for, if it stands for one
-abbrev pub Places : Type 0
-Places = List ℕ → Option ℕ
+abbrev pub SymbolTable : Type 0
+SymbolTable = List ℕ → Option ℕ
 
-abbrev pub place_of : List (List ℕ × ℕ) → Places
-place_of labels = λ name. lookup (bytes_eq name) labels
+abbrev pub index_of : List (List ℕ × ℕ) → SymbolTable
+index_of labels = λ name. lookup (bytes_eq name) labels
 
 -- the places of the names that statements give
-abbrev pub places_in : List Statement → Places
-places_in ss = place_of (labels_from 0 ss)
+abbrev pub symbols_in : List Statement → SymbolTable
+symbols_in ss = index_of (labels_from 0 ss)
 
-abbrev pub drafts_of : List ℕ → List (ℕ × Draft)
-drafts_of text = flat_map drafts_in (statements_of text)
+abbrev pub parsed_insns_of : List ℕ → List (ℕ × ParsedInsn)
+parsed_insns_of text = flat_map parsed_insns_in (statements_of text)

@@ -1,6 +1,6 @@
 pub mod Mnemonics
 pub mod Parts
-pub mod Places
+pub mod Symbols
 pub mod Labels
 pub mod Reading
 pub mod Results

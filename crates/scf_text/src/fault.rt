@@ -1,4 +1,4 @@
-//! Why a text spells no instructions.
+//! Why a text isn't assembled.
 ghost use Rattle.std.specs.Prelude.{◌≡◌};
 ghost use Rattle.scf_text.specs.declared.fault.TextFault.TheVariants.{Memory};
 
@@ -6,28 +6,28 @@ use scf_insn::kernel::BPF_MAXINSNS;
 use std::alloc::{AllocError, AllocFailed};
 use thiserror::Error;
 
-/// The first fault of a text, with its line, or want of memory. Lines count from 1.
+/// The first fault of a text, with its line counted from 1, or out of memory.
 #[derive(Clone, Copy, Debug, PartialEq, Eq, Error)]
 pub enum TextFault {
     /// A byte of 0x80 or more stands in the line.
     #[error("line {line}: a byte that is not ASCII")]
     NotAscii { line: usize },
-    /// What stands where an instruction begins is no mnemonic.
+    /// A statement doesn't begin with a mnemonic.
     #[error("line {line}: not a mnemonic")]
     Mnemonic { line: usize },
-    /// What stands behind the mnemonic has none of its forms.
+    /// The operands have none of the mnemonic's formats.
     #[error("line {line}: not the operands of this mnemonic")]
     Operand { line: usize },
     /// A number doesn't fit its field.
     #[error("line {line}: a number that does not fit its field")]
     NumberRange { line: usize },
-    /// The label was given before, or a jump names a label that no statement gives.
+    /// The label is defined twice, or a jump names an undefined label.
     #[error("line {line}: a label given twice, or not at all")]
     Label { line: usize },
-    /// The label of a jump stands at or before it, or farther than its field reaches.
+    /// The label of a jump is at or before it, or farther away than its field can say.
     #[error("line {line}: a label that this jump does not reach")]
     JumpTooFar { line: usize },
-    /// The line has the instruction behind the most that a filter may have, `BPF_MAXINSNS`.
+    /// The line has the instruction behind the 4096 (`BPF_MAXINSNS`) that a filter may have.
     #[error("line {line}: more than {most} instructions", most = BPF_MAXINSNS)]
     TooLong { line: usize },
     #[error("out of memory")]

@@ -1,24 +1,24 @@
-//! The labels of a text, kept by the places where they begin.
+//! Labels, kept by the offsets where they begin.
 ghost use Rattle.std.specs.Prelude.{◌≡◌, ◌≤◌, nat_eq, drop, length};
 ghost use Rattle.std.specs.Cmp.Lexicographic.{slice_cmp};
 ghost use Rattle.std.specs.List.{IsDistinct};
 ghost use Rattle.std.specs.List.Sorted.{IsPermutation, IsSortedBy};
 ghost use Rattle.std.specs.Ordering.{nat_cmp};
 ghost use Rattle.scf_text.specs.internal.Labels.{compared, is_before, word_order, IsFirstRepeat, TellsRepeat};
-ghost use Rattle.scf_text.specs.internal.Places.{name_at, line_at};
+ghost use Rattle.scf_text.specs.internal.Symbols.{name_at, line_at};
 
 use crate::fault::TextFault;
 use crate::token::is_of_word;
 use std::cmp::Ordering;
 
-/// What stands from this place on.
+/// The text from an offset on.
 fn text_from(text: &[u8], place: usize) -> &[u8]
     ensures { result.now ≡ drop place text.now }
 {
     text.get(place..).unwrap_or_default()
 }
 
-/// The length of a common beginning of the words in front of two texts: all of it, unless one of the texts ends.
+/// The length of the common prefix of the leading words of two texts.
 fn common_len(left: &[u8], right: &[u8]) -> usize
     ensures within { (result ≤ length left.now) × (result ≤ length right.now) }
     ensures order { word_order (drop result left.now) (drop result right.now) ≡ word_order left.now right.now }
@@ -32,7 +32,7 @@ fn common_len(left: &[u8], right: &[u8]) -> usize
     len
 }
 
-/// Compares the words in front of two texts.
+/// Compares the leading words of two texts.
 fn compare_fronts(left: &[u8], right: &[u8]) -> Ordering
     ensures { result ≡ word_order left.now right.now }
 {
@@ -41,7 +41,7 @@ fn compare_fronts(left: &[u8], right: &[u8]) -> Ordering
     left.cmp(right)
 }
 
-/// Compares the words at two places. The loop over what they have in common takes a quarter of the time of iterators.
+/// Compares the words at two offsets. The loop over their common prefix takes a quarter of the time of iterators.
 fn compare_words(text: &[u8], left: usize, right: usize) -> Ordering
     ensures { result ≡ slice_cmp nat_cmp (name_at text.now left) (name_at text.now right) }
 {
@@ -51,7 +51,7 @@ fn compare_words(text: &[u8], left: usize, right: usize) -> Ordering
     compare_fronts(&left[len..], &right[len..])
 }
 
-/// Compares the word at this place with another, no further than they are alike.
+/// Compares the word at an offset with another, up to their first difference.
 pub(crate) fn compare_with(text: &[u8], place: usize, name: &[u8]) -> Ordering
     ensures { result ≡ slice_cmp nat_cmp (name_at text.now place) name.now }
 {
@@ -61,14 +61,14 @@ pub(crate) fn compare_with(text: &[u8], place: usize, name: &[u8]) -> Ordering
     word.cmp(name.iter())
 }
 
-/// Compares labels by their names, and those of one name by where they begin.
+/// Compares labels by name, equal names by offset.
 fn compare_labels(text: &[u8], left: usize, right: usize) -> Ordering
     ensures { result ≡ compared text.now left right }
 {
     compare_words(text, left, right).then(left.cmp(&right))
 }
 
-/// The number of the line in which this place is.
+/// The line that contains an offset, counted from 1.
 fn line_at(text: &[u8], place: usize) -> usize
     ensures { result ≡ line_at text.now place }
 {
@@ -76,7 +76,7 @@ fn line_at(text: &[u8], place: usize) -> usize
     1 + before.iter().filter(|byte| **byte == b'\n').count()
 }
 
-/// The first label that has the name of an earlier one, where labels are sorted.
+/// The first label, by offset, that repeats an earlier one, given sorted labels.
 fn first_repeat(text: &[u8], labels: &[usize]) -> Option<usize>
     requires { IsSortedBy (is_before text.now) labels.now }
     // No label begins where another does.
@@ -92,7 +92,7 @@ fn first_repeat(text: &[u8], labels: &[usize]) -> Option<usize>
     first
 }
 
-/// Sorts labels by their names, and those of one name by where they begin.
+/// Sorts labels by name, equal names by offset.
 fn sort_labels(text: &[u8], labels: &mut [usize])
     ensures permutation { IsPermutation labels.old labels.new }
     ensures sorted { IsSortedBy (is_before text.now) labels.new }
@@ -100,7 +100,7 @@ fn sort_labels(text: &[u8], labels: &mut [usize])
     labels.sort_unstable_by(|left, right| compare_labels(text, *left, *right));
 }
 
-/// Sorts labels, and looks for the first that has the name of an earlier one.
+/// Sorts labels, and finds the first that repeats an earlier one.
 pub(crate) fn check_labels(text: &[u8], labels: &mut [usize]) -> Result<(), TextFault>
     ensures permutation { IsPermutation labels.old labels.new }
     ensures sorted { IsSortedBy (is_before text.now) labels.new }

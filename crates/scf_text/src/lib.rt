@@ -1,17 +1,17 @@
-//! Programs as text: an assembler and a disassembler.
+//! Filters as text: an assembler and a disassembler.
 #![tactic(auto)]
 
 mod assembler;
-mod draft;
+mod encoding;
 mod fault;
-mod form;
 mod label;
 mod laws;
 mod listing;
-mod numbered_draft;
+mod numbered_insn;
+mod parsed_insn;
 mod part;
-mod places;
 mod statement;
+mod symbols;
 mod token;
 
 pub use assembler::assemble;

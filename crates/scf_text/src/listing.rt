@@ -1,14 +1,14 @@
-//! Instructions as text.
+//! The disassembler.
 ghost use Rattle.std.specs.Prelude.{◌≡◌, ◌++◌, ◌∷◌, [], false, codes};
 ghost use Rattle.std.specs.List.{flat_map};
 ghost use Rattle.std.specs.Fmt.{digits};
 ghost use Rattle.scf_insn.specs.Streams.{Writes};
-ghost use Rattle.scf_text.specs.Forms.{field_of};
+ghost use Rattle.scf_text.specs.Encodings.{field_of};
 ghost use Rattle.scf_text.specs.Listing.{number_text, piece_text, operands_text, line_of, text_of};
-ghost use Rattle.scf_text.specs.declared.form.Style.TheVariants.{FourDigits};
+ghost use Rattle.scf_text.specs.declared.encoding.Style.TheVariants.{FourDigits};
 ghost use Rattle.scf_text.specs.internal.Mnemonics.{mnemonic_text};
 
-use crate::form::{Field, Form, Mnemonic, Piece, Style};
+use crate::encoding::{Encoding, Field, Mnemonic, Piece, Style};
 use scf_insn::{Insn, Sink, WriteFault, digit_byte, write_numeral, write_whole};
 
 /// Writes `0x` and the last four hexadecimal digits.
@@ -57,7 +57,7 @@ fn value_of(insn: &Insn, field: Field) -> u32
     }
 }
 
-/// Writes what stands at one place of a form.
+/// Writes one piece.
 fn write_piece<S: Sink>(sink: &mut S, insn: &Insn, piece: Piece) -> Result<(), WriteFault>
     ensures { Writes S.contents S.failures sink.old (piece_text insn.now piece) result sink.new }
 {
@@ -73,7 +73,7 @@ fn write_piece<S: Sink>(sink: &mut S, insn: &Insn, piece: Piece) -> Result<(), W
     }
 }
 
-/// Writes what stands behind the mnemonic.
+/// Writes the pieces of an operand format.
 #[tactic(auto, using(scf_insn::proofs::Written::takes_nothing))]
 fn write_pieces<S: Sink>(sink: &mut S, insn: &Insn, pieces: &[Piece]) -> Result<(), WriteFault>
     ensures { Writes S.contents S.failures sink.old (flat_map (piece_text insn.now) pieces.now) result sink.new }
@@ -84,7 +84,7 @@ fn write_pieces<S: Sink>(sink: &mut S, insn: &Insn, pieces: &[Piece]) -> Result<
     Ok(())
 }
 
-/// Writes the operands, behind a blank where there are any.
+/// Writes a blank and the operands, if there are any.
 fn write_operands<S: Sink>(sink: &mut S, insn: &Insn, pieces: &[Piece]) -> Result<(), WriteFault>
     ensures { Writes S.contents S.failures sink.old (operands_text insn.now pieces.now) result sink.new }
 {
@@ -95,7 +95,7 @@ fn write_operands<S: Sink>(sink: &mut S, insn: &Insn, pieces: &[Piece]) -> Resul
     write_pieces(sink, insn, pieces)
 }
 
-/// Writes the word that stands first.
+/// Writes the mnemonic.
 fn write_mnemonic<S: Sink>(sink: &mut S, mnemonic: Mnemonic) -> Result<(), WriteFault>
     ensures { Writes S.contents S.failures sink.old (mnemonic_text mnemonic) result sink.new }
 {
@@ -111,19 +111,18 @@ fn write_rest<S: Sink>(sink: &mut S, insn: &Insn, pieces: &[Piece]) -> Result<()
     write_whole(sink, &[b'\n'])
 }
 
-/// Writes the line of an instruction, with its end.
+/// Writes the line of an instruction, with its LF.
 #[tactic(auto, using(scf_insn::proofs::Written::fails_first, scf_insn::proofs::Written::writes_then))]
 fn write_line<S: Sink>(sink: &mut S, insn: &Insn) -> Result<(), WriteFault>
     ensures { Writes S.contents S.failures sink.old (line_of insn.now) result sink.new }
 {
-    let form = Form::of(insn);
-    write_mnemonic(sink, form.mnemonic)?;
-    write_rest(sink, insn, form.shape.pieces())
+    let encoding = Encoding::of(insn);
+    write_mnemonic(sink, encoding.mnemonic)?;
+    write_rest(sink, insn, encoding.operand_format.pieces())
 }
 
-/// Writes the canonical text of instructions, or fails after a beginning of it. Any instructions may be listed: one
-/// with an unknown code, or with a field that isn't 0 and that its code doesn't use, is listed as `raw`. Takes no
-/// memory.
+/// Writes the canonical text of any instructions, a line each; or a prefix of it, if writing fails. An instruction with
+/// an unknown code, or with a non-zero field that its code doesn't use, is listed as `raw`. Never allocates.
 #[tactic(auto, using(scf_insn::proofs::Written::takes_nothing))]
 pub fn disassemble<S: Sink>(insns: &[Insn], sink: &mut S) -> Result<(), WriteFault>
     ensures { Writes S.contents S.failures sink.old (text_of insns.now) result sink.new }

@@ -1,30 +1,30 @@
-//! The statements of a line, token by token.
+//! Parts of a line, token by token.
 ghost use Rattle.std.specs.Prelude.{◌≡◌};
 ghost use Rattle.scf_text.specs.internal.Parts.{words_in, others_in, words_at, others_at};
-ghost use Rattle.scf_text.specs.internal.Places.{LiesBehind, BeginsAt};
+ghost use Rattle.scf_text.specs.internal.Symbols.{LiesBehind, BeginsAt};
 
 use crate::token::{Token, first_token};
 
-/// A part of a line without its comment: from where a statement begins to the end.
+/// The rest of a line, without its comment, from where a statement begins.
 #[derive(Clone, Copy)]
 pub(crate) struct LinePart<'a> {
-    /// The number of the line.
+    /// The line, counted from 1.
     pub(crate) line: usize,
-    /// Where the part begins in the text.
+    /// Its offset in the text.
     pub(crate) start: usize,
     pub(crate) bytes: &'a [u8],
 }
 
-/// What stands in front.
+/// What a part begins with.
 #[derive(Clone, Copy)]
 pub(crate) enum Next<'a> {
-    /// A token of a statement, whose start counts from that of the part, and what follows it.
+    /// A token, with its offset in the part, and the rest behind it.
     Token(Token<'a>, &'a [u8]),
-    /// The end of a statement, and what follows its `;`.
+    /// The end of a statement, and the rest behind its `;`.
     End(Option<&'a [u8]>),
 }
 
-/// What stands in front of a part of a line.
+/// What a part of a line begins with.
 #[tactic(auto, using(crate::proofs::PlaceLemmas::token_behind))]
 pub(crate) fn front(part: &[u8]) -> Next<'_>
     ensures words { (words_in part.now ≡ words_at result) × (others_in part.now ≡ others_at result) }

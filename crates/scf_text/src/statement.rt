@@ -2,40 +2,39 @@
 ghost use Rattle.std.specs.Prelude.{◌≡◌, ◌≢◌, ◌∷◌, ◌++◌, ◌+◌, ◌≤◌, [], ℕ, List, length, IfOk, OnErr, IsSome};
 ghost use Rattle.std.specs.Option.{option_map, unwrap_or};
 ghost use Rattle.scf_text.specs.Statements.{Statement, label_in, instruction_in};
-ghost use Rattle.scf_text.specs.internal.Reading.{drafts_view, IsLeft, Leaves, part_statements};
+ghost use Rattle.scf_text.specs.internal.Reading.{parsed_insns_view, IsLeft, Leaves, part_statements};
 ghost use Rattle.scf_text.specs.internal.Parts.{words_in, others_in, words_at, others_at, statements_after};
-ghost use Rattle.scf_text.specs.internal.Places.{IsLinePart, FollowsBehind, LiesBehind, name_at, place_after};
+ghost use Rattle.scf_text.specs.internal.Symbols.{IsLinePart, FollowsBehind, LiesBehind, name_at, place_after};
 ghost use Rattle.scf_text.specs.internal.Results.{TellsDraft, AddsLabel, AddsInstruction};
-ghost use Rattle.scf_text.specs.internal.Views.{draft_view};
+ghost use Rattle.scf_text.specs.internal.Views.{parsed_view};
 
-use crate::draft::{Draft, Reading, is_token_name, read};
+use crate::encoding::Encoding;
 use crate::fault::TextFault;
-use crate::form::Form;
 use crate::label::check_labels;
-use crate::numbered_draft::NumberedDraft;
+use crate::numbered_insn::NumberedInsn;
+use crate::parsed_insn::{ParsedInsn, Reading, is_token_name, read};
 use crate::part::{LinePart, Next, front};
 use scf_insn::kernel::BPF_MAXINSNS;
 
-/// Reads the instruction that a mnemonic and what follows it are, in this line and behind as many others, and gives
-/// what follows its statement.
-#[tactic(auto, unfolding(crate::specs::Drafts::draft_of))]
+/// Parses an instruction from its mnemonic on, and returns the rest behind its statement.
+#[tactic(auto, unfolding(crate::specs::ParsedInsns::parsed_of))]
 fn read_instruction<'a>(
-    draft: &mut Draft<'a>,
+    parsed: &mut ParsedInsn<'a>,
     mnemonic: &[u8],
     part: &'a [u8],
     at: usize,
     line: usize,
 ) -> Result<Option<&'a [u8]>, TextFault>
-    ensures tells { TellsDraft at line mnemonic.now (words_in part.now) (draft_view draft.new) result }
+    ensures tells { TellsDraft at line mnemonic.now (words_in part.now) (parsed_view parsed.new) result }
     ensures stops { IfOk result (λ after. others_in part.now ≡ statements_after after) }
     ensures behind { IfOk result (λ after. FollowsBehind part.now 0 after) }
 {
-    let after = match read(draft, mnemonic, part) {
+    let after = match read(parsed, mnemonic, part) {
         Reading::Unknown => return Err(TextFault::Mnemonic { line }),
         Reading::Unfit => return Err(TextFault::Operand { line }),
         Reading::Said(after) => after,
     };
-    if !draft.is_in_range() {
+    if !parsed.is_in_range() {
         Err(TextFault::NumberRange { line })
     } else if at >= BPF_MAXINSNS {
         Err(TextFault::TooLong { line })
@@ -44,7 +43,7 @@ fn read_instruction<'a>(
     }
 }
 
-/// Where the label of the statement in front begins in the part, and what stands in front of what follows it.
+/// Splits off the label of a statement, if it has one: its offset in the part, and what follows.
 fn split_label(part: &[u8]) -> (Option<usize>, Next<'_>)
     ensures label { option_map (name_at part.now) result.0 ≡ label_in (words_in part.now) }
     ensures rest { words_at result.1 ≡ instruction_in (words_in part.now) }
@@ -62,10 +61,10 @@ fn split_label(part: &[u8]) -> (Option<usize>, Next<'_>)
     (None, first)
 }
 
-/// How many labels are kept before a repeat is looked for. It's looked for among all once the text is read.
+/// How many labels are kept before repeats are looked for once; at the end they are looked for among all.
 const CHECKED_FIRST: usize = 1 << 12;
 
-/// Keeps the label that begins at this place, if there is one.
+/// Keeps the label at this offset, if there is one.
 ///
 /// A text that repeats a few labels over and over is refused early. That isn't looked for again before the end: an input
 /// holds some five million labels at most, and to sort them at each doubling takes twice the time.
@@ -83,15 +82,15 @@ fn add_label(text: &[u8], labels: &mut Vec<usize>, label: Option<usize>) -> Resu
     Ok(())
 }
 
-/// Adds the instruction in front, if there is one, of a statement that begins at this place, and gives what follows it.
+/// Adds the instruction of a statement that begins at this offset, if it has one, and returns the rest.
 #[tactic(auto, using(crate::proofs::PlaceLemmas::follows_behind))]
 fn add_instruction<'a>(
-    drafts: &mut Vec<NumberedDraft<'a>>,
+    parsed_insns: &mut Vec<NumberedInsn<'a>>,
     first: Next<'a>,
     start: usize,
     line: usize,
 ) -> Result<Option<&'a [u8]>, TextFault>
-    ensures adds { AddsInstruction drafts.old.items start line (words_at first.entry) result drafts.new.items }
+    ensures adds { AddsInstruction parsed_insns.old.items start line (words_at first.entry) result parsed_insns.new.items }
     ensures stops { IfOk result (λ after. others_at first.entry ≡ statements_after after) }
     ensures behind { IfOk result (λ after. (part : List ℕ) (place : ℕ)
         → LiesBehind part place first.entry → FollowsBehind part place after) }
@@ -100,54 +99,64 @@ fn add_instruction<'a>(
     match first {
         Next::End(after) => Ok(after),
         Next::Token(mnemonic, operands) => {
-            let mut draft = Draft::blank(Form::raw());
-            let after = read_instruction(&mut draft, mnemonic.text, operands, drafts.len(), line)?;
-            drafts.push(NumberedDraft { line, start, draft })?;
+            let mut parsed = ParsedInsn::blank(Encoding::raw());
+            let after = read_instruction(
+                &mut parsed,
+                mnemonic.text,
+                operands,
+                parsed_insns.len(),
+                line,
+            )?;
+            parsed_insns.push(NumberedInsn {
+                line,
+                start,
+                parsed,
+            })?;
             Ok(after)
         }
     }
 }
 
-/// Adds the label and the instruction of a statement, and gives what follows it.
+/// Adds the label and the instruction of a statement, and returns the rest.
 fn add_statement<'a>(
     text: &[u8],
     labels: &mut Vec<usize>,
-    drafts: &mut Vec<NumberedDraft<'a>>,
+    parsed_insns: &mut Vec<NumberedInsn<'a>>,
     part: LinePart<'a>,
 ) -> Result<Option<&'a [u8]>, TextFault>
     requires { IsLinePart text.now part.line part.start part.bytes.now }
     ensures leaves { (all rest : List Statement)
         → IsLeft text.now part.entry.start all
         ((record { line = part.entry.line; tokens = words_in part.entry.bytes.now }) ∷ rest) labels.old.items
-        drafts.old.items
+        parsed_insns.old.items
         → Leaves text.now result all rest (λ after. place_after part.entry.start part.entry.bytes.now after)
-        labels.new.items drafts.new.items }
+        labels.new.items parsed_insns.new.items }
     ensures stops { IfOk result (λ after. others_in part.entry.bytes.now ≡ statements_after after) }
     ensures behind { IfOk result (λ after. FollowsBehind part.entry.bytes.now 0 after) }
 {
     let (label, instruction) = split_label(part.bytes);
     let start = part.start + label.unwrap_or(0);
     add_label(text, labels, label.map(|_| start))?;
-    add_instruction(drafts, instruction, start, part.line)
+    add_instruction(parsed_insns, instruction, start, part.line)
 }
 
 /// Adds the statements of a line without its comment.
 pub(crate) fn add_line<'a>(
     text: &[u8],
     labels: &mut Vec<usize>,
-    drafts: &mut Vec<NumberedDraft<'a>>,
+    parsed_insns: &mut Vec<NumberedInsn<'a>>,
     line: LinePart<'a>,
 ) -> Result<(), TextFault>
     requires { IsLinePart text.now line.line line.start line.bytes.now }
     ensures { (all rest : List Statement)
         → IsLeft text.now line.entry.start all (part_statements line.entry.line line.entry.bytes.now ++ rest)
-        labels.old.items drafts.old.items
+        labels.old.items parsed_insns.old.items
         → Leaves text.now result all rest (λ _. line.entry.start + length line.entry.bytes.now + 1) labels.new.items
-        drafts.new.items }
+        parsed_insns.new.items }
 {
     let mut part = line;
     'statements: loop {
-        match add_statement(text, labels, drafts, part)? {
+        match add_statement(text, labels, parsed_insns, part)? {
             None => return Ok(()),
             Some(rest) => {
                 part.start += part.bytes.len() - rest.len();

@@ -3,16 +3,16 @@ ghost use Rattle.std.specs.Prelude.{◌≡◌, ◌≢◌, ℕ, ◌+◌, ◌≤�
 ghost use Rattle.std.specs.Prelude.{OnOk, OnErr, IfOk, IfSome, MatchOption};
 ghost use Rattle.std.specs.List.{All, prefix_len};
 ghost use Rattle.scf_text.specs.Characters.{is_line_end, is_blank, is_word_byte};
-ghost use Rattle.scf_text.specs.Drafts.{is_name};
+ghost use Rattle.scf_text.specs.ParsedInsns.{is_name};
 ghost use Rattle.scf_text.specs.Tokens.{before_comment, lexemes_from, lines_of, tokens_of};
 ghost use Rattle.scf_text.specs.Tokens.{IsSliceOf, lexemes};
 ghost use Rattle.scf_text.specs.internal.Parts.{begins_comment, lines_after};
-ghost use Rattle.scf_text.specs.internal.Places.{count_ends, name_at};
+ghost use Rattle.scf_text.specs.internal.Symbols.{count_ends, name_at};
 
 use scf_insn::Memory;
 use std::alloc::{AllocError, Global};
 
-/// A token: the slice of the text at its start.
+/// A token: a slice of the text, and its offset.
 #[derive(Clone, Copy, Debug)]
 pub struct Token<'a> {
     pub start: usize,
@@ -31,14 +31,14 @@ pub(crate) fn is_of_word(byte: u8) -> bool
     byte.is_ascii_alphanumeric() || byte == b'_'
 }
 
-/// How many bytes are in front of the first line end.
+/// The count of bytes before the first line end.
 fn line_len(text: &[u8]) -> usize
     ensures { result ≡ prefix_len (λ b. not (is_line_end b)) text.now }
 {
     text.iter().take_while(|byte| **byte != b'\n').count()
 }
 
-/// The first line, and what follows its end.
+/// The first line, and the rest behind its end.
 #[tactic(auto, using(crate::proofs::TokenLemmas::lines_in_front))]
 pub(crate) fn first_line(text: &[u8]) -> (&[u8], Option<&[u8]>)
     ensures lines { lines_of text.now ≡ result.0.now ∷ lines_after result.1 }
@@ -55,7 +55,7 @@ pub(crate) fn first_line(text: &[u8]) -> (&[u8], Option<&[u8]>)
     }
 }
 
-/// Whether a comment stands in front.
+/// Whether the text begins with a comment.
 fn is_comment(bytes: &[u8]) -> bool
     ensures { result ≡ begins_comment bytes.now }
 {
@@ -79,7 +79,7 @@ pub(crate) fn without_comment(line: &[u8]) -> &[u8]
     line
 }
 
-/// How many blanks are in front.
+/// The count of leading blanks.
 fn blanks_len(bytes: &[u8]) -> usize
     ensures value { result ≡ prefix_len is_blank bytes.now }
     ensures within { result ≤ length bytes.now }
@@ -90,7 +90,7 @@ fn blanks_len(bytes: &[u8]) -> usize
         .count()
 }
 
-/// How many bytes of a word are in front.
+/// The count of leading bytes of a word.
 fn word_len(bytes: &[u8]) -> usize
     ensures value { result ≡ prefix_len is_word_byte bytes.now }
     ensures within { result ≤ length bytes.now }
@@ -98,7 +98,7 @@ fn word_len(bytes: &[u8]) -> usize
     bytes.iter().take_while(|byte| is_of_word(**byte)).count()
 }
 
-/// The first token of a part of a line, whose start counts from that of the part.
+/// The first token of a part of a line, with its offset in the part.
 #[tactic(auto, using(crate::proofs::TokenLemmas::token_is, crate::proofs::TokenLemmas::none_is))]
 pub(crate) fn first_token(part: &[u8]) -> Option<Token<'_>>
     ensures token { MatchOption result ((at : ℕ) → lexemes_from at part.now ≡ []) (λ t. (at : ℕ)
@@ -120,7 +120,7 @@ pub(crate) fn first_token(part: &[u8]) -> Option<Token<'_>>
     })
 }
 
-/// Adds the tokens of a part of a line, which begins at this place.
+/// Adds the tokens of a part of a line that begins at this offset.
 pub(crate) fn push_tokens<'a>(
     found: &mut Vec<Token<'a>>,
     start: usize,

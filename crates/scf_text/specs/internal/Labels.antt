@@ -7,7 +7,7 @@ use Rattle.std.specs.Ordering.{is_lt, nat_cmp, ordering_then}
 use Rattle.scf_text.specs.Characters.{is_word_byte}
 use Rattle.scf_text.specs.declared.fault.TextFault.{TextFault}
 use Rattle.scf_text.specs.declared.fault.TextFault.TheVariants as fault
-use Rattle.scf_text.specs.internal.Places.{name_at, line_at}
+use Rattle.scf_text.specs.internal.Symbols.{name_at, line_at}
 
 -- names that stand for places, each with its place
 abbrev pub Labels : Type 0

@@ -4,16 +4,16 @@ use Rattle.std.specs.Prelude.{ℕ, List, [], ◌∷◌, ◌++◌, codes}
 use Rattle.scf_insn.specs.declared.operation.Arithmetic.TheVariants as o
 use Rattle.scf_insn.specs.declared.operation.Operand.TheVariants as operands
 use Rattle.scf_insn.specs.declared.operation.Test.TheVariants.{Equal, Greater, GreaterOrEqual, CommonBit}
-use Rattle.scf_text.specs.declared.form.Mnemonic.{Mnemonic}
-use Rattle.scf_text.specs.declared.form.Mnemonic.TheVariants as m
-use Rattle.scf_text.specs.declared.form.Shape.{Shape}
-use Rattle.scf_text.specs.declared.form.Shape.TheVariants as s
-use Rattle.scf_text.specs.declared.form.Piece.{Piece}
-use Rattle.scf_text.specs.declared.form.Piece.TheVariants.{Mark, Len, Memory, Accumulator, Target}
-use Rattle.scf_text.specs.declared.form.Field.TheVariants.{Jt, Jf, K}
-use Rattle.scf_text.specs.declared.form.Form.{Form}
-use Rattle.scf_text.specs.Forms as forms
-use Rattle.scf_text.specs.Forms.{arithmetic_word, operand_pieces, place_pieces, test_word}
+use Rattle.scf_text.specs.declared.encoding.Mnemonic.{Mnemonic}
+use Rattle.scf_text.specs.declared.encoding.Mnemonic.TheVariants as m
+use Rattle.scf_text.specs.declared.encoding.OperandFormat.{OperandFormat}
+use Rattle.scf_text.specs.declared.encoding.OperandFormat.TheVariants as s
+use Rattle.scf_text.specs.declared.encoding.Piece.{Piece}
+use Rattle.scf_text.specs.declared.encoding.Piece.TheVariants.{Mark, Len, Memory, Accumulator, Target}
+use Rattle.scf_text.specs.declared.encoding.Field.TheVariants.{Jt, Jf, K}
+use Rattle.scf_text.specs.declared.encoding.Encoding.{Encoding}
+use Rattle.scf_text.specs.Encodings as encodings
+use Rattle.scf_text.specs.Encodings.{arithmetic_word, operand_pieces, place_pieces, test_word}
 
 -- the word that stands first
 abbrev pub mnemonic_text : Mnemonic → List ℕ
@@ -46,7 +46,7 @@ abbrev both_targets : List Piece
 both_targets = Mark (code ",") ∷ Target Jt ∷ Mark (code ",") ∷ Target Jf ∷ []
 
 -- what stands behind it
-abbrev pub pieces_of : Shape → List Piece
+abbrev pub pieces_of : OperandFormat → List Piece
 pieces_of s.Nothing = []
 pieces_of s.Length = Len ∷ []
 pieces_of s.Accumulator = Accumulator ∷ []
@@ -57,9 +57,9 @@ pieces_of s.Scratch = Memory ∷ place_pieces
 pieces_of s.Jump = Target K ∷ []
 pieces_of s.TestConstant = operand_pieces operands.Constant ++ both_targets
 pieces_of s.TestIndex = operand_pieces operands.Index ++ both_targets
-pieces_of s.Raw = forms.raw.pieces
+pieces_of s.Raw = encodings.raw.pieces
 
 -- what a form of the code stands for
-abbrev pub form_view : Form → forms.Form
-form_view form =
-    record { code = form.code; mnemonic = mnemonic_text form.mnemonic; pieces = pieces_of form.shape }
+abbrev pub encoding_view : Encoding → encodings.Encoding
+encoding_view encoding =
+    record { code = encoding.code; mnemonic = mnemonic_text encoding.mnemonic; pieces = pieces_of encoding.operand_format }

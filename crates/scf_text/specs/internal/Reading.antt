@@ -5,31 +5,31 @@ use Rattle.std.specs.List.Sorted.{IsNonDecreasing, IsPermutation, IsSortedBy}
 use Rattle.std.specs.Option.{option_map, option_or, option_to_list}
 use Rattle.std.specs.Str.{bytes_eq}
 use Rattle.scf_text.specs.declared.fault.TextFault.{TextFault}
-use Rattle.scf_text.specs.declared.numbered_draft.NumberedDraft.{NumberedDraft}
-use Rattle.scf_text.specs.Drafts as drafts
+use Rattle.scf_text.specs.declared.numbered_insn.NumberedInsn.{NumberedInsn}
+use Rattle.scf_text.specs.ParsedInsns as parsed_insns
 use Rattle.scf_text.specs.Faults.{IsFault, statements_fault}
-use Rattle.scf_text.specs.Statements.{Statement, place_of, places_in, labels_from, drafts_in, drafts_of}
+use Rattle.scf_text.specs.Statements.{Statement, index_of, symbols_in, labels_from, parsed_insns_in, parsed_insns_of}
 use Rattle.scf_text.specs.Statements.{line_statements, statements_of}
 use Rattle.scf_text.specs.internal.Labels.{Labels, labels_at, is_before, IsFirstRepeat, repeat_fault}
 use Rattle.scf_text.specs.internal.Parts.{words_in, others_in}
-use Rattle.scf_text.specs.internal.Places.{name_at}
-use Rattle.scf_text.specs.internal.Views.{draft_view}
+use Rattle.scf_text.specs.internal.Symbols.{name_at}
+use Rattle.scf_text.specs.internal.Views.{parsed_view}
 
 -- each of the names is new: no earlier label has it
 abbrev pub AreNew : Labels → Labels → Type 0
 AreNew earlier [] = Unit {0}
-AreNew earlier (l ∷ ls) = (place_of earlier l.0 ≡ None) × AreNew (earlier ++ l ∷ []) ls
+AreNew earlier (l ∷ ls) = (index_of earlier l.0 ≡ None) × AreNew (earlier ++ l ∷ []) ls
 
 -- the name of a label with its place
 abbrev pub label_at : ℕ → Option (List ℕ) → Labels
 label_at at label = map (λ name. (name, at)) (option_to_list label)
 
 -- where instructions begin
-abbrev pub begins_of : List NumberedDraft → List ℕ
+abbrev pub begins_of : List NumberedInsn → List ℕ
 begins_of kept = map (λ d. d.start) kept
 
-abbrev pub drafts_view : List NumberedDraft → List (ℕ × drafts.Draft)
-drafts_view kept = map (λ l. (l.line, draft_view l.draft)) kept
+abbrev pub parsed_insns_view : List NumberedInsn → List (ℕ × parsed_insns.ParsedInsn)
+parsed_insns_view kept = map (λ l. (l.line, parsed_view l.parsed)) kept
 
 -- the statements of lines, the first of which has this number
 abbrev pub statements_from : ℕ → List (List ℕ) → List Statement
@@ -61,11 +61,11 @@ pub record AreKept (text : List ℕ) (end : ℕ) (given : Labels) (all : List St
 
 -- Of all these statements those before the rest are read, up to this place, and what they give is kept.
 pub record IsLeft (text : List ℕ) (end : ℕ) (all rest : List Statement) (kept : List ℕ)
-    (kept_drafts : List NumberedDraft) : Type 0 where
+    (kept_insns : List NumberedInsn) : Type 0 where
   pub before : List Statement
   pub whole : all ≡ before ++ rest
-  pub drafts : drafts_view kept_drafts ≡ flat_map drafts_in before
-  pub labels : AreKept text end (labels_from 0 before) all (statements_fault before rest) (begins_of kept_drafts) kept
+  pub parsed_insns : parsed_insns_view kept_insns ≡ flat_map parsed_insns_in before
+  pub labels : AreKept text end (labels_from 0 before) all (statements_fault before rest) (begins_of kept_insns) kept
 
 -- The reading ended at a statement with this fault, or where memory was refused. Labels are kept up to there, and if
 -- none of them is a repeat, the fault is the first.
@@ -80,16 +80,16 @@ pub record IsEnded (text : List ℕ) (all : List Statement) (kept : List ℕ) (e
 
 -- All statements but the rest were read, up to a place, or the reading ended among them.
 abbrev pub Leaves : {T : Type 0} → List ℕ → Result T TextFault → List Statement → List Statement → (T → ℕ) → List ℕ
-    → List NumberedDraft → Type 0
-Leaves text (Ok x) all rest end kept kept_drafts = IsLeft text (end x) all rest kept kept_drafts
-Leaves text (Err e) all rest end kept kept_drafts = IsEnded text all kept e
+    → List NumberedInsn → Type 0
+Leaves text (Ok x) all rest end kept kept_insns = IsLeft text (end x) all rest kept kept_insns
+Leaves text (Err e) all rest end kept kept_insns = IsEnded text all kept e
 
 -- All statements were read, and none has a fault: the labels are sorted, no two of one name, and stand for the places
 -- that the text gives to them.
-pub record IsRead (text labels : List ℕ) (drafts : List NumberedDraft) : Type 0 where
+pub record IsRead (text labels : List ℕ) (parsed_insns : List NumberedInsn) : Type 0 where
   pub sorted : IsSortedBy (is_before text) labels
   pub distinct : IsDistinct bytes_eq (map (name_at text) labels)
-  pub following : IsNonDecreasing (begins_of drafts)
+  pub following : IsNonDecreasing (begins_of parsed_insns)
   pub faultless : statements_fault [] (statements_of text) ≡ None
-  pub written : drafts_view drafts ≡ drafts_of text
-  pub places : place_of (labels_at text (begins_of drafts) labels) ≡ places_in (statements_of text)
+  pub written : parsed_insns_view parsed_insns ≡ parsed_insns_of text
+  pub symbols : index_of (labels_at text (begins_of parsed_insns) labels) ≡ symbols_in (statements_of text)

@@ -7,62 +7,62 @@ use Rattle.std.specs.Option.{option_or, option_to_list}
 use Rattle.std.specs.Global.{Vec}
 use Rattle.scf_insn.specs.Insn.{IsInsn}
 use Rattle.scf_insn.specs.declared.insn.Insn.{Insn}
-use Rattle.scf_text.specs.declared.draft.Reading.{Reading}
-use Rattle.scf_text.specs.declared.draft.Reading.TheVariants.{Unknown, Unfit, Said}
+use Rattle.scf_text.specs.declared.parsed_insn.Reading.{Reading}
+use Rattle.scf_text.specs.declared.parsed_insn.Reading.TheVariants.{Unknown, Unfit, Said}
 use Rattle.scf_text.specs.declared.fault.TextFault.{TextFault}
 use Rattle.scf_text.specs.declared.fault.TextFault.TheVariants as fault
-use Rattle.scf_text.specs.declared.numbered_draft.NumberedDraft.{NumberedDraft}
-use Rattle.scf_text.specs.declared.places.Places.{Places as Kept}
-use Rattle.scf_text.specs.Drafts as drafts
+use Rattle.scf_text.specs.declared.numbered_insn.NumberedInsn.{NumberedInsn}
+use Rattle.scf_text.specs.declared.symbols.SymbolTable.{SymbolTable as Kept}
+use Rattle.scf_text.specs.ParsedInsns as parsed_insns
 use Rattle.scf_text.specs.Faults.{IsFault, instruction_fault, statements_fault}
 use Rattle.scf_text.specs.Faults.{target_fault, targets_fault}
 use Rattle.scf_text.specs.Spelling.{Says, SaysInsn, SaysEach}
-use Rattle.scf_text.specs.Statements.{Places, place_of, places_in, statements_of, drafts_of, drafts_by}
+use Rattle.scf_text.specs.Statements.{SymbolTable, index_of, symbols_in, statements_of, parsed_insns_of, parsed_insns_by}
 use Rattle.scf_text.specs.internal.Labels.{labels_at, TellsRepeat}
 use Rattle.scf_text.specs.internal.Parts.{others_in, statements_after}
-use Rattle.scf_text.specs.internal.Places.{FollowsBehind}
-use Rattle.scf_text.specs.internal.Reading.{drafts_view, begins_of}
+use Rattle.scf_text.specs.internal.Symbols.{FollowsBehind}
+use Rattle.scf_text.specs.internal.Reading.{parsed_insns_view, begins_of}
 
 -- the first fault of a text but for bytes that aren't ASCII
 unfoldable pub fault_in : List ℕ → Option TextFault
 fault_in text =
     option_or (statements_fault [] (statements_of text))
-    (targets_fault (places_in (statements_of text)) 0 (drafts_of text))
+    (targets_fault (symbols_in (statements_of text)) 0 (parsed_insns_of text))
 
 -- the number that is written, or the offset to the label, below the limit
-abbrev pub TellsTarget : Places → ℕ → ℕ → ℕ → drafts.Written → Result ℕ TextFault → Type 0
-TellsTarget places at line limit written (Ok value) =
-    (target_fault places at line limit written ≡ None) × Says places at written value × (value < limit)
-TellsTarget places at line limit written (Err e) = target_fault places at line limit written ≡ Some e
+abbrev pub TellsTarget : SymbolTable → ℕ → ℕ → ℕ → parsed_insns.FieldValue → Result ℕ TextFault → Type 0
+TellsTarget symbols at line limit written (Ok value) =
+    (target_fault symbols at line limit written ≡ None) × Says symbols at written value × (value < limit)
+TellsTarget symbols at line limit written (Err e) = target_fault symbols at line limit written ≡ Some e
 
 -- the targets of an instruction: of a conditional jump its JT and then its JF
-abbrev pub insn_fault : Places → ℕ → ℕ → drafts.Draft → Option TextFault
-insn_fault places at line d =
-    option_or (target_fault places at line (2 ^ 8) d.jt)
-    (option_or (target_fault places at line (2 ^ 8) d.jf) (target_fault places at line (2 ^ 32) d.k))
+abbrev pub insn_fault : SymbolTable → ℕ → ℕ → parsed_insns.ParsedInsn → Option TextFault
+insn_fault symbols at line d =
+    option_or (target_fault symbols at line (2 ^ 8) d.jt)
+    (option_or (target_fault symbols at line (2 ^ 8) d.jf) (target_fault symbols at line (2 ^ 32) d.k))
 
 -- the instruction that is written at this place
-abbrev pub TellsInsn : Places → ℕ → ℕ → drafts.Draft → Result Insn TextFault → Type 0
-TellsInsn places at line draft (Ok insn) =
-    (insn_fault places at line draft ≡ None) × SaysInsn places at draft insn × IsInsn insn
-TellsInsn places at line draft (Err e) = insn_fault places at line draft ≡ Some e
+abbrev pub TellsInsn : SymbolTable → ℕ → ℕ → parsed_insns.ParsedInsn → Result Insn TextFault → Type 0
+TellsInsn symbols at line parsed (Ok insn) =
+    (insn_fault symbols at line parsed ≡ None) × SaysInsn symbols at parsed insn × IsInsn insn
+TellsInsn symbols at line parsed (Err e) = insn_fault symbols at line parsed ≡ Some e
 
 -- the instructions that are written, the first at place 0, where this is no fault
-abbrev pub TellsInsns : Option TextFault → Places → List (ℕ × drafts.Draft) → Result (Vec Insn) TextFault → Type 0
-TellsInsns first places written (Ok insns) =
-    (first ≡ None) × SaysEach places 0 written insns.items × AllByRecursion IsInsn insns.items
-TellsInsns first places written (Err e) = IsFault e first
+abbrev pub TellsInsns : Option TextFault → SymbolTable → List (ℕ × parsed_insns.ParsedInsn) → Result (Vec Insn) TextFault → Type 0
+TellsInsns first symbols written (Ok insns) =
+    (first ≡ None) × SaysEach symbols 0 written insns.items × AllByRecursion IsInsn insns.items
+TellsInsns first symbols written (Err e) = IsFault e first
 
 -- the instructions that a text without this fault says
 abbrev pub TellsText : Option TextFault → List ℕ → Result (Vec Insn) TextFault → Type 0
-TellsText first text = TellsInsns first (places_in (statements_of text)) (drafts_of text)
+TellsText first text = TellsInsns first (symbols_in (statements_of text)) (parsed_insns_of text)
 
 -- This draft is what a mnemonic and its operands say, in a line and behind as many instructions.
-abbrev pub TellsDraft : {T : Type 0} → ℕ → ℕ → List ℕ → List (List ℕ) → drafts.Draft → Result T TextFault → Type 0
-TellsDraft at line mnemonic operands draft (Ok _) =
-    IsTrue (drafts.is_in_range draft) × (instruction_fault at line (mnemonic ∷ operands) ≡ None)
-    × (drafts.draft_of mnemonic operands ≡ Some draft)
-TellsDraft at line mnemonic operands draft (Err e) = instruction_fault at line (mnemonic ∷ operands) ≡ Some e
+abbrev pub TellsDraft : {T : Type 0} → ℕ → ℕ → List ℕ → List (List ℕ) → parsed_insns.ParsedInsn → Result T TextFault → Type 0
+TellsDraft at line mnemonic operands parsed (Ok _) =
+    IsTrue (parsed_insns.is_in_range parsed) × (instruction_fault at line (mnemonic ∷ operands) ≡ None)
+    × (parsed_insns.parsed_of mnemonic operands ≡ Some parsed)
+TellsDraft at line mnemonic operands parsed (Err e) = instruction_fault at line (mnemonic ∷ operands) ≡ Some e
 
 -- The label that begins at this place, if there is one, is kept with the others. Else memory was refused, or the first
 -- repeat among them is told.
@@ -73,20 +73,20 @@ AddsLabel {T} text old label (Err e) new =
     ⊎ (IsPermutation (old ++ option_to_list label) new × (IsDistinct nat_eq new → TellsRepeat {T = T} text new (Err e)))
 
 -- The instruction of these tokens, if there are any, stands behind the others and begins at this place.
-abbrev pub AddsInstruction : {T : Type 0} → List NumberedDraft → ℕ → ℕ → List (List ℕ) → Result T TextFault
-    → List NumberedDraft → Type 0
+abbrev pub AddsInstruction : {T : Type 0} → List NumberedInsn → ℕ → ℕ → List (List ℕ) → Result T TextFault
+    → List NumberedInsn → Type 0
 AddsInstruction old start line tokens (Ok _) new =
-    (instruction_fault (length old) line tokens ≡ None) × (drafts_view new ≡ drafts_view old ++ drafts_by line tokens)
-    × (begins_of new ≡ begins_of old ++ map (λ _. start) (drafts_by line tokens))
+    (instruction_fault (length old) line tokens ≡ None) × (parsed_insns_view new ≡ parsed_insns_view old ++ parsed_insns_by line tokens)
+    × (begins_of new ≡ begins_of old ++ map (λ _. start) (parsed_insns_by line tokens))
 AddsInstruction old start line tokens (Err e) new = IsFault e (instruction_fault (length old) line tokens)
 
 -- A mnemonic is known or not, and it says this draft with the tokens of the part behind it, or nothing.
-abbrev pub Reads : Bool → Option drafts.Draft → List ℕ → drafts.Draft → Reading → Type 0
-Reads known said part draft Unknown = known ≡ false
-Reads known said part draft Unfit = (known ≡ true) × (said ≡ None)
-Reads known said part draft (Said after) =
-    (known ≡ true) × (said ≡ Some draft) × (others_in part ≡ statements_after after) × FollowsBehind part 0 after
+abbrev pub Reads : Bool → Option parsed_insns.ParsedInsn → List ℕ → parsed_insns.ParsedInsn → Reading → Type 0
+Reads known said part parsed Unknown = known ≡ false
+Reads known said part parsed Unfit = (known ≡ true) × (said ≡ None)
+Reads known said part parsed (Said after) =
+    (known ≡ true) × (said ≡ Some parsed) × (others_in part ≡ statements_after after) × FollowsBehind part 0 after
 
 -- the places that labels stand for
-abbrev pub places_view : Kept → Places
-places_view kept = place_of (labels_at kept.text.now (begins_of kept.drafts.now) kept.labels.now)
+abbrev pub places_view : Kept → SymbolTable
+places_view kept = index_of (labels_at kept.text.now (begins_of kept.parsed_insns.now) kept.labels.now)

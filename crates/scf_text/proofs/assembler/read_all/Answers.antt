@@ -22,8 +22,8 @@ returns c =
     let read = c.in_ok-labels.ensures.read in
     let resolved = rw (c.deref.ensures.value, c.deref-2.ensures.value) at c.resolve_all.ensures in
     record {
-      tells = read_tells c.args.text.now c.in_ok-labels.labels.items c.in_ok-labels.drafts.items c.resolve_all.result
+      tells = read_tells c.args.text.now c.in_ok-labels.labels.items c.in_ok-labels.parsed_insns.items c.resolve_all.result
           read resolved.tells;
-      some = drafts_words (statements_of c.args.text.now) c.in_ok-labels.drafts.items c.resolve_all.result read.written
+      some = drafts_words (statements_of c.args.text.now) c.in_ok-labels.parsed_insns.items c.resolve_all.result read.written
           resolved.some;
     }

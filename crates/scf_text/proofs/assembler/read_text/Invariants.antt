@@ -8,9 +8,9 @@ invariant-lines l = record {
   rest : l.rest ≡ drop (length l.text - length l.rest) l.text;
   line : line_at l.text (length l.text - length l.rest) ≡ l.number;
   left : (all : List Statement)
-      → IsLeft l.text 0 all (statements_of l.text) l.fn.labels.items l.fn.drafts.items
+      → IsLeft l.text 0 all (statements_of l.text) l.fn.labels.items l.fn.parsed_insns.items
       → IsLeft l.text (length l.text - length l.rest) all (statements_from l.number (lines_of l.rest)) l.labels.items
-      l.drafts.items;
+      l.parsed_insns.items;
 }
 
 abbrev pub decreases-lines : goal.decreases-lines

@@ -7,9 +7,9 @@ invariant-statements l = record {
   end : l.part.start + length l.part.bytes.now ≡ l.line.start + length l.line.bytes.now;
   left : (all rest : List Statement)
       → IsLeft l.text l.line.start all (part_statements l.line.line l.line.bytes.now ++ rest) l.fn.labels.items
-      l.fn.drafts.items
+      l.fn.parsed_insns.items
       → IsLeft l.text l.part.start all (part_statements l.part.line l.part.bytes.now ++ rest) l.labels.items
-      l.drafts.items;
+      l.parsed_insns.items;
 }
 
 abbrev pub decreases-statements : goal.decreases-statements

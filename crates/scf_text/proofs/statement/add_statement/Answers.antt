@@ -15,7 +15,7 @@ returns-clause-leaves c = λ all rest left.
     statement_leaves (record { line = c.args.part.line; tokens = words_in bytes }) label
     c.add_label.new.labels.items left c.requires c.split_label-label.ensures.label
     (place_within bytes (unwrap_or label 0) next lies) c.add_instruction.result
-    (λ after. place_after start bytes after) c.add_instruction.new.drafts.items
+    (λ after. place_after start bytes after) c.add_instruction.new.parsed_insns.items
     (rw mapped at c.in_ok-add_label.ensures.adds)
     (rw (c.unwrap_or.ensures, c.split_label-label.ensures.rest) at c.add_instruction.ensures.adds)
     (instruction_behind c.add_instruction.result bytes start (unwrap_or label 0) next lies

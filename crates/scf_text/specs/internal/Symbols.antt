@@ -5,7 +5,7 @@ use Rattle.std.specs.List.{count_by, take_while}
 use Rattle.scf_text.specs.declared.part.Next.{Next}
 use Rattle.scf_text.specs.declared.part.Next.TheVariants.{Token, End}
 use Rattle.scf_text.specs.Characters.{is_line_end, is_word_byte}
-use Rattle.scf_text.specs.Drafts.{is_name}
+use Rattle.scf_text.specs.ParsedInsns.{is_name}
 use Rattle.scf_text.specs.internal.Parts.{begins_in_word}
 
 -- the name that begins at this place: the word there

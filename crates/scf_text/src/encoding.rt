@@ -1,13 +1,13 @@
-//! The forms of an instruction, for the assembler and the disassembler alike.
+//! Encodings: the mnemonic and operand format of each instruction code, for the assembler and the disassembler.
 ghost use Rattle.std.specs.Prelude.{◌≡◌, ◌==◌, map};
 ghost use Rattle.std.specs.List.{find, list_any};
-ghost use Rattle.scf_text.specs.Forms.{forms, known_forms, raw, names, names_all, form_for};
-ghost use Rattle.scf_text.specs.Drafts.{has_mnemonic};
-ghost use Rattle.scf_text.specs.internal.Mnemonics.{mnemonic_text, pieces_of, form_view};
+ghost use Rattle.scf_text.specs.Encodings.{encodings, known_encodings, raw, names, names_all, encoding_for};
+ghost use Rattle.scf_text.specs.ParsedInsns.{has_mnemonic};
+ghost use Rattle.scf_text.specs.internal.Mnemonics.{mnemonic_text, pieces_of, encoding_view};
 
 use scf_insn::Insn;
 
-/// The word that stands first.
+/// The first word of a statement.
 #[derive(Clone, Copy)]
 pub(crate) enum Mnemonic {
     Ld,
@@ -35,9 +35,9 @@ pub(crate) enum Mnemonic {
     Raw,
 }
 
-/// Which operands follow the mnemonic.
+/// Which operands follow a mnemonic.
 #[derive(Clone, Copy)]
-pub(crate) enum Shape {
+pub(crate) enum OperandFormat {
     Nothing,
     /// `len`
     Length,
@@ -70,7 +70,7 @@ pub(crate) enum Field {
     K,
 }
 
-/// How a number is listed.
+/// How a listing prints a number.
 #[derive(Clone, Copy)]
 pub(crate) enum Style {
     Decimal,
@@ -80,7 +80,7 @@ pub(crate) enum Style {
     FourDigits,
 }
 
-/// What stands at one place of a form.
+/// One piece of an operand format.
 #[derive(Clone, Copy)]
 pub(crate) enum Piece {
     /// This byte.
@@ -89,22 +89,22 @@ pub(crate) enum Piece {
     Memory,
     Accumulator,
     Index,
-    /// A number, which is the field.
+    /// A number: the field's value.
     Number(Field, Style),
-    /// An offset, which is the field, or the label to which it leads.
+    /// An offset, or the label to which it leads.
     Target(Field),
 }
 
-/// A form, and the code of the instructions that have it.
+/// A mnemonic with an operand format, and the code of its instructions.
 #[derive(Clone, Copy)]
-pub(crate) struct Form {
+pub(crate) struct Encoding {
     pub code: u16,
     pub mnemonic: Mnemonic,
-    pub shape: Shape,
+    pub operand_format: OperandFormat,
 }
 
 impl Mnemonic {
-    /// The word as it is written.
+    /// The mnemonic's text.
     pub(crate) fn text(self) -> &'static str
         ensures { result.now ≡ mnemonic_text self }
     {
@@ -195,7 +195,7 @@ impl Piece {
     }
 }
 
-impl Shape {
+impl OperandFormat {
     /// Whether some piece names the field.
     fn names(self, field: Field) -> bool
         ensures { result ≡ list_any (names field) (pieces_of self) }
@@ -203,36 +203,36 @@ impl Shape {
         self.pieces().iter().any(|piece| piece.names(field))
     }
 
-    /// What stands there, in order.
+    /// The pieces, in order.
     pub(crate) fn pieces(self) -> &'static [Piece]
         ensures { result.now ≡ pieces_of self }
     {
         match self {
-            Shape::Nothing => &[],
-            Shape::Length => &[Piece::Len],
-            Shape::Accumulator => &[Piece::Accumulator],
-            Shape::Index => &[Piece::Index],
-            Shape::Constant => &CONSTANT,
-            Shape::Absolute => &ABSOLUTE,
-            Shape::Scratch => &SCRATCH,
-            Shape::Jump => &[Piece::Target(Field::K)],
-            Shape::TestConstant => &TEST_CONSTANT,
-            Shape::TestIndex => &TEST_INDEX,
-            Shape::Raw => &RAW,
+            OperandFormat::Nothing => &[],
+            OperandFormat::Length => &[Piece::Len],
+            OperandFormat::Accumulator => &[Piece::Accumulator],
+            OperandFormat::Index => &[Piece::Index],
+            OperandFormat::Constant => &CONSTANT,
+            OperandFormat::Absolute => &ABSOLUTE,
+            OperandFormat::Scratch => &SCRATCH,
+            OperandFormat::Jump => &[Piece::Target(Field::K)],
+            OperandFormat::TestConstant => &TEST_CONSTANT,
+            OperandFormat::TestIndex => &TEST_INDEX,
+            OperandFormat::Raw => &RAW,
         }
     }
 }
 
-/// Forms, each by the code of its instructions, the word that stands first, and which operands follow it.
-macro_rules! forms {
-    ($($code:literal $mnemonic:ident $shape:ident;)*) => {
-        [$(Form { code: $code, mnemonic: Mnemonic::$mnemonic, shape: Shape::$shape }),*]
+/// A table of encodings: code, mnemonic, operand format.
+macro_rules! encodings {
+    ($($code:literal $mnemonic:ident $operand_format:ident;)*) => {
+        [$(Encoding { code: $code, mnemonic: Mnemonic::$mnemonic, operand_format: OperandFormat::$operand_format }),*]
     };
 }
 
-/// The form that every instruction has, and then those of the 41 codes. The code of the first stands among its
-/// operands, so the 0 here is always written over.
-static FORMS: [Form; 42] = forms! {
+/// `raw`, which fits every instruction, and then the encodings of the 41 codes. The code of `raw` is one of its
+/// operands, so the 0 here is always replaced.
+static FORMS: [Encoding; 42] = encodings! {
     0x00 Raw Raw;
     0x20 Ld Absolute; 0x80 Ld Length; 0x81 Ldx Length; 0x00 Ld Constant; 0x01 Ldx Constant;
     0x60 Ld Scratch; 0x61 Ldx Scratch; 0x02 St Scratch; 0x03 Stx Scratch;
@@ -247,68 +247,68 @@ static FORMS: [Form; 42] = forms! {
     0x06 Ret Constant; 0x16 Ret Accumulator; 0x07 Tax Nothing; 0x87 Txa Nothing;
 };
 
-impl Form {
-    /// All forms, that of every instruction first.
-    #[tactic(auto, unfolding(crate::specs::Forms::known_forms))]
-    pub(crate) fn all() -> &'static [Form]
-        ensures { map form_view result.now ≡ forms }
+impl Encoding {
+    /// All encodings, `raw` first.
+    #[tactic(auto, unfolding(crate::specs::Encodings::known_encodings))]
+    pub(crate) fn all() -> &'static [Encoding]
+        ensures { map encoding_view result.now ≡ encodings }
     {
         &FORMS
     }
 
-    /// The forms of the 41 codes.
-    #[tactic(auto, unfolding(crate::specs::Forms::known_forms))]
-    fn known() -> &'static [Form]
-        ensures { map form_view result.now ≡ known_forms }
+    /// The encodings of the 41 codes.
+    #[tactic(auto, unfolding(crate::specs::Encodings::known_encodings))]
+    fn known() -> &'static [Encoding]
+        ensures { map encoding_view result.now ≡ known_encodings }
     {
         &FORMS[1..]
     }
 
-    /// The form that every instruction has. Its code stands among its operands, so the 0 here is always written over.
-    pub(crate) fn raw() -> Form
-        ensures { form_view result ≡ raw }
+    /// The encoding that fits every instruction. Its code is one of its operands, so the 0 here is always replaced.
+    pub(crate) fn raw() -> Encoding
+        ensures { encoding_view result ≡ raw }
     {
-        Form {
+        Encoding {
             code: 0,
             mnemonic: Mnemonic::Raw,
-            shape: Shape::Raw,
+            operand_format: OperandFormat::Raw,
         }
     }
 
-    /// Whether this is its word.
+    /// Whether this is its mnemonic.
     pub(crate) fn has_mnemonic(&self, word: &[u8]) -> bool
-        ensures { result ≡ has_mnemonic word.now (form_view self.now) }
+        ensures { result ≡ has_mnemonic word.now (encoding_view self.now) }
     {
         word == self.mnemonic.text().as_bytes()
     }
 
-    /// Whether the form says all of an instruction of its code: the fields that it doesn't name are 0.
+    /// Whether the encoding shows everything of an instruction of its code: the fields that it doesn't name are 0.
     fn names_all(&self, insn: &Insn) -> bool
-        ensures { result ≡ names_all insn.now (form_view self.now) }
+        ensures { result ≡ names_all insn.now (encoding_view self.now) }
     {
-        (self.shape.names(Field::Jt) || insn.jt == 0)
-            && (self.shape.names(Field::Jf) || insn.jf == 0)
-            && (self.shape.names(Field::K) || insn.k == 0)
+        (self.operand_format.names(Field::Jt) || insn.jt == 0)
+            && (self.operand_format.names(Field::Jf) || insn.jf == 0)
+            && (self.operand_format.names(Field::K) || insn.k == 0)
     }
 
-    /// The form in which an instruction is listed.
-    pub(crate) fn of(insn: &Insn) -> Form
-        ensures { form_view result ≡ form_for insn.now }
+    /// The encoding in which an instruction is listed.
+    pub(crate) fn of(insn: &Insn) -> Encoding
+        ensures { encoding_view result ≡ encoding_for insn.now }
     {
-        match first_of_code(Form::known(), insn.code) {
-            Some(form) if form.names_all(insn) => form,
-            _ => Form::raw(),
+        match first_of_code(Encoding::known(), insn.code) {
+            Some(encoding) if encoding.names_all(insn) => encoding,
+            _ => Encoding::raw(),
         }
     }
 }
 
-/// The first of the forms with a code.
-fn first_of_code(forms: &[Form], code: u16) -> Option<Form>
-    ensures { result ≡ find (λ form. form.code == code) forms.now }
+/// The first encoding with a code.
+fn first_of_code(encodings: &[Encoding], code: u16) -> Option<Encoding>
+    ensures { result ≡ find (λ encoding. encoding.code == code) encodings.now }
 {
-    for form in forms {
-        if form.code == code {
-            return Some(*form);
+    for encoding in encodings {
+        if encoding.code == code {
+            return Some(*encoding);
         }
     }
     None

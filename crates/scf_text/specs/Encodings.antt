@@ -17,14 +17,14 @@ use Rattle.scf_insn.specs.declared.operation.Operation.TheVariants.{LoadWord, Lo
 use Rattle.scf_insn.specs.declared.operation.Operation.TheVariants.{StoreScratch, Compute, Negate, Jump, JumpIf}
 use Rattle.scf_insn.specs.declared.operation.Operation.TheVariants.{ReturnConstant, ReturnAccumulator}
 use Rattle.scf_insn.specs.declared.operation.Operation.TheVariants.{CopyToIndex, CopyToAccumulator}
-use Rattle.scf_text.specs.declared.form.Piece.{Piece}
-use Rattle.scf_text.specs.declared.form.Piece.TheVariants.{Mark, Len, Memory, Accumulator, Index, Number, Target}
-use Rattle.scf_text.specs.declared.form.Field.{Field}
-use Rattle.scf_text.specs.declared.form.Field.TheVariants.{Code, Jt, Jf, K}
-use Rattle.scf_text.specs.declared.form.Style.TheVariants.{Decimal, Hexadecimal, FourDigits}
+use Rattle.scf_text.specs.declared.encoding.Piece.{Piece}
+use Rattle.scf_text.specs.declared.encoding.Piece.TheVariants.{Mark, Len, Memory, Accumulator, Index, Number, Target}
+use Rattle.scf_text.specs.declared.encoding.Field.{Field}
+use Rattle.scf_text.specs.declared.encoding.Field.TheVariants.{Code, Jt, Jf, K}
+use Rattle.scf_text.specs.declared.encoding.Style.TheVariants.{Decimal, Hexadecimal, FourDigits}
 
 -- a form, by the code of the instructions that have it, the word that stands first, and what stands behind that word
-pub record Form : Type 0 where
+pub record Encoding : Type 0 where
   pub code : ℕ
   pub mnemonic : List ℕ
   pub pieces : List Piece
@@ -76,22 +76,22 @@ word_and_pieces ReturnAccumulator = (codes "ret", Accumulator ∷ [])
 word_and_pieces CopyToIndex = (codes "tax", [])
 word_and_pieces CopyToAccumulator = (codes "txa", [])
 
-abbrev pub form_of : Operation → Form
-form_of operation =
+abbrev pub encoding_of : Operation → Encoding
+encoding_of operation =
     let said = word_and_pieces operation in record { code = code_of operation; mnemonic = said.0; pieces = said.1 }
 
 -- the forms of the 41 codes
-unfoldable pub known_forms : List Form
-known_forms = map form_of operations
+unfoldable pub known_encodings : List Encoding
+known_encodings = map encoding_of operations
 
 -- The form that every instruction has. Its code stands among its operands, so the 0 here is always written over.
-abbrev pub raw : Form
+abbrev pub raw : Encoding
 raw =
     let rest = Number Jt Decimal ∷ Mark (code ",") ∷ Number Jf Decimal ∷ Mark (code ",") ∷ Number K Hexadecimal ∷ [] in
     record { code = 0; mnemonic = codes "raw"; pieces = Number Code FourDigits ∷ Mark (code ",") ∷ rest }
 
-abbrev pub forms : List Form
-forms = raw ∷ known_forms
+abbrev pub encodings : List Encoding
+encodings = raw ∷ known_encodings
 
 abbrev pub field_of : Insn → Field → ℕ
 field_of i Code = i.code
@@ -113,14 +113,14 @@ names field (Target f) = same_field field f
 names field _ = false
 
 -- each field that the form doesn't name is 0
-abbrev pub names_all : Insn → Form → Bool
-names_all i form =
-    list_all (λ field. list_any (names field) form.pieces || field_of i field == 0) (Jt ∷ Jf ∷ K ∷ [])
+abbrev pub names_all : Insn → Encoding → Bool
+names_all i encoding =
+    list_all (λ field. list_any (names field) encoding.pieces || field_of i field == 0) (Jt ∷ Jf ∷ K ∷ [])
 
 -- the form has the instruction's code and says all of it
-abbrev pub tells_all : Insn → Form → Bool
-tells_all i form = form.code == i.code && names_all i form
+abbrev pub tells_all : Insn → Encoding → Bool
+tells_all i encoding = encoding.code == i.code && names_all i encoding
 
 -- the form in which an instruction is listed: that of its code, unless a field that it doesn't name isn't 0
-unfoldable pub form_for : Insn → Form
-form_for i = unwrap_or (find (tells_all i) known_forms) raw
+unfoldable pub encoding_for : Insn → Encoding
+encoding_for i = unwrap_or (find (tells_all i) known_encodings) raw

@@ -1,7 +1,7 @@
 use Rattle.scf_text.proofs.Common.{◌∙◌, sym}
 use Rattle.scf_text.proofs.FormLemmas.{listed_by_code}
-use Rattle.scf_text.proofs.form.Form.of.Goals as goal
-use Rattle.scf_text.proofs.form.Form.of.Goals.{in_default-via-in-Some+else-names_all, in_default-via-in_default}
+use Rattle.scf_text.proofs.encoding.Encoding.of.Goals as goal
+use Rattle.scf_text.proofs.encoding.Encoding.of.Goals.{in_default-via-in-Some+else-names_all, in_default-via-in_default}
 
 pub returns-in-Some : goal.returns-in-Some
 returns-in-Some c =
