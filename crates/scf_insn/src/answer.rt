@@ -1,4 +1,4 @@
-//! What a filter answers (Linux uapi seccomp.h, seccomp(2)).
+//! The answers of filters (Linux uapi seccomp.h, seccomp(2)).
 
 ghost use Rattle.std.specs.Prelude.{◌≡◌, ◌↔◌, IsTrue};
 ghost use Rattle.scf_insn.specs.Answers.{action_half, data_half, rank_of, action_of, half_of, answer_of};
@@ -6,7 +6,7 @@ ghost use Rattle.scf_insn.specs.Answers.{disposition_of, IsNoMorePermissive};
 
 use crate::kernel;
 
-/// The high halves of the answers that have a name.
+/// The high halves of the actions that have a name.
 const KILL_PROCESS: u16 = (kernel::SECCOMP_RET_KILL_PROCESS >> 16) as u16;
 
 const KILL_THREAD: u16 = (kernel::SECCOMP_RET_KILL_THREAD >> 16) as u16;
@@ -23,11 +23,12 @@ const LOG: u16 = (kernel::SECCOMP_RET_LOG >> 16) as u16;
 
 const ALLOW: u16 = (kernel::SECCOMP_RET_ALLOW >> 16) as u16;
 
-/// The whole 32 bits of an answer: the action in the high half, its data in the low one.
+/// A filter's answer, 32 bits: the action in the high half (`SECCOMP_RET_ACTION_FULL`), its data in the low half
+/// (`SECCOMP_RET_DATA`).
 #[derive(Clone, Copy, Debug, PartialEq, Eq)]
 pub struct Answer(pub u32);
 
-/// What the high half of an answer asks for, in the order of precedence.
+/// The action of an answer, in the order of precedence.
 #[derive(Clone, Copy, Debug, PartialEq, Eq)]
 pub enum Action {
     KillProcess,
@@ -38,7 +39,7 @@ pub enum Action {
     Trace,
     Log,
     Allow,
-    /// A high half that has no name.
+    /// A high half without a name. The kernel kills the process.
     Other(u16),
 }
 
@@ -54,7 +55,7 @@ pub enum Disposition {
 }
 
 impl Action {
-    /// The high half that asks for this.
+    /// The high half of this action.
     fn half(self) -> u16
         ensures { result ≡ half_of self }
     {
@@ -73,7 +74,7 @@ impl Action {
 }
 
 impl Answer {
-    /// The answer of this action with this data.
+    /// The answer with this action and data.
     pub fn new(action: Action, detail: u16) -> Answer
         ensures { result.0 ≡ answer_of action detail }
     {
@@ -86,7 +87,7 @@ impl Answer {
         (self.0 >> 16) as u16
     }
 
-    /// The action that the high half names.
+    /// The action of the high half.
     pub fn action(&self) -> Action
         ensures { result ≡ action_of (action_half self.now.0) }
     {
@@ -103,14 +104,15 @@ impl Answer {
         }
     }
 
-    /// The data in the low half.
+    /// The data: the low half.
     pub fn detail(&self) -> u16
         ensures { result ≡ data_half self.now.0 }
     {
         (self.0 & 0xffff) as u16
     }
 
-    /// The high half as a signed number: of several answers the one of least rank wins.
+    /// The high half as a signed number. Among the answers of a stack the least rank takes precedence
+    /// (kernel/seccomp.c, seccomp_run_filters).
     pub fn rank(&self) -> i16
         ensures { result ≡ rank_of self.now.0 }
     {

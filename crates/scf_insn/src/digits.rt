@@ -1,4 +1,4 @@
-//! Numbers written in digits, without memory.
+//! Writes numbers without allocating.
 
 ghost use Rattle.std.specs.Prelude.{◌≡◌, ◌≤◌, ◌<◌, false, drop};
 ghost use Rattle.std.specs.Fmt.{digits, digit_glyph};
@@ -6,7 +6,7 @@ ghost use Rattle.scf_insn.specs.Streams.{Writes};
 
 use crate::stream::{Sink, WriteFault, write_whole};
 
-/// The byte of a digit below 16, in lower case.
+/// The ASCII byte of a digit below 16, in lower case.
 pub fn digit_byte(digit: u32) -> u8
     requires { digit < 16 }
     ensures { result ≡ digit_glyph false digit }
@@ -48,8 +48,8 @@ impl Digits {
     }
 }
 
-/// Writes the digits of a number in a radix of 10 to 16, the most significant first, in lower case and without leading
-/// zeros, or fails after a beginning of them. Takes no memory.
+/// Writes a number in a radix of 10 to 16, in lower case and without leading zeros; or a prefix of that, if writing
+/// fails. Never allocates.
 pub fn write_numeral<S: Sink>(sink: &mut S, number: u64, radix: u32) -> Result<(), WriteFault>
     requires low { 10 ≤ radix }
     requires high { radix ≤ 16 }

@@ -1,4 +1,4 @@
-//! Instructions in a file (Linux uapi filter.h): 8 bytes each, one after another.
+//! Filter files: instructions of 8 bytes, one after another (Linux uapi filter.h).
 
 ghost use Rattle.std.specs.Prelude.{◌≡◌, ◌≢◌, ◌+◌, ◌%◌, [], Err, length, IfOk, OnOk, OnErr, IfSome};
 ghost use Rattle.std.specs.Io.KnownBytes.{IsAtEnd};
@@ -15,7 +15,7 @@ use crate::stream::{Sink, Source, WriteFault, write_whole};
 use std::alloc::{AllocError, Global};
 use thiserror::Error;
 
-/// Why no instructions were read.
+/// Why a filter file wasn't read.
 #[derive(Clone, Copy, Debug, PartialEq, Eq, Error)]
 pub enum ReadFault {
     #[error("the input can't be read")]
@@ -54,7 +54,7 @@ impl From<InputFault> for ReadFault {
     }
 }
 
-/// The instructions whose bytes these are.
+/// The instructions with these bytes.
 fn decode(alloc: Global, bytes: &[u8]) -> Result<Vec<Insn>, AllocError>
     requires { length bytes.now % sock_filter_len ≡ 0 }
     ensures bytes { IfOk result (λ v. bytes.now ≡ program_bytes v.items) }
@@ -72,23 +72,23 @@ fn decode(alloc: Global, bytes: &[u8]) -> Result<Vec<Insn>, AllocError>
     Ok(insns)
 }
 
-/// Reads the instructions of a file to its end, however the source cuts it.
+/// Reads a filter file to its end, however the source splits it: at most 4096 instructions, unchecked.
 ///
-/// `Truncated` has the place of the first byte of an instruction that is cut. Where the source fails or memory is
-/// refused before the end, that is answered.
+/// `Truncated` has the offset of the instruction that is cut. `Read` comes if the source failed, `Memory` if an
+/// allocation failed, `TooLong` if a byte behind 32768 came.
 pub fn read_program<S: Source>(alloc: Global, source: &mut S) -> Result<Vec<Insn>, ReadFault>
     // The fields of each instruction are within their widths.
     ensures widths { IfOk result (λ insns. AllByRecursion IsInsn insns.items) }
     ensures reading { IfSome (S.remaining source.old) (λ bytes. IsReading (λ v. v.items) bytes result) }
     // The source came to its end.
     ensures whole { OnOk result (IsAtEnd (S.remaining source.new)) }
-    // A refusal in place of the instructions comes where it came first.
+    // An error comes when it happens first.
     ensures early { result ≢ Err ReadFault.TooLong
         → GivesAtMost max_filter_len (S.remaining source.old) (S.remaining source.new) }
-    // Once a byte past the limit came, no more is asked for.
+    // Once a byte behind the limit came, nothing more is read.
     ensures past { result ≡ Err ReadFault.TooLong
         → GivesAtMost (max_filter_len + read_len) (S.remaining source.old) (S.remaining source.new) }
-    // Memory is wanted only for bytes that came.
+    // Nothing is allocated before the first byte.
     ensures wanted { result ≡ Err ReadFault.Memory → GivesSome (S.remaining source.old) (S.remaining source.new) }
     ensures no_failure { result ≢ Err ReadFault.Read → S.failures source.new ≡ S.failures source.old }
     ensures failure { result ≡ Err ReadFault.Read → HasFailed (S.failures source.old) (S.failures source.new) }
@@ -102,7 +102,7 @@ pub fn read_program<S: Source>(alloc: Global, source: &mut S) -> Result<Vec<Insn
     Ok(decode(alloc, &bytes)?)
 }
 
-/// Writes the bytes of instructions, or fails after a beginning of them.
+/// Writes the bytes of instructions; or a prefix of them, if writing fails.
 pub fn write_program<S: Sink>(insns: &[Insn], sink: &mut S) -> Result<(), WriteFault>
     ensures { Writes S.contents S.failures sink.old (program_bytes insns.now) result sink.new }
 {

@@ -1,7 +1,7 @@
-//! Readers and writers for tests, which fail where they are told to and count how often they were asked and failed.
+//! Readers and writers for tests, which fail as told and count their calls and failures.
 //!
-//! Each is also a reader or a writer of std, for tests of `Counted`: where it is to fail, the reader then answers an
-//! interruption, and the writer takes no byte.
+//! Each is also a reader or writer of std, for tests of `Counted`: there a failing reader reports an interruption, and
+//! a failing writer accepts no byte.
 
 ghost use Rattle.std.specs.Prelude.{◌≡◌, ◌<◌, ◌≤◌, ◌↔◌, Some, [], length, min, max, IsErr, IfOk, OnOk, OnErr};
 ghost use Rattle.std.specs.Io.KnownBytes.{ReadConsumes, WriteAppends};
@@ -14,18 +14,18 @@ use std::alloc::Global;
 use std::io;
 use std::io::{Read, Write};
 
-/// Where a reader or a writer fails.
+/// When a reader or writer fails.
 #[derive(Clone, Copy, Debug, PartialEq, Eq)]
 pub enum Failing {
     Never,
-    /// Each time, once so many bytes were read or so many writes were taken.
+    /// Always, after this many bytes read or writes accepted.
     After(usize),
-    /// Once, when so many bytes were read or so many writes were taken. It goes on then.
+    /// Once, after this many bytes read or writes accepted; then it goes on.
     OnceAfter(usize),
 }
 
 impl Failing {
-    /// How many bytes may be read, or writes be taken, before it fails.
+    /// How many bytes may be read, or writes accepted, before it fails.
     fn room(self) -> usize
         ensures { result ≡ room self }
     {
@@ -35,7 +35,7 @@ impl Failing {
         }
     }
 
-    /// What is left of it once so much was read or taken.
+    /// What remains of it after this much was read or accepted.
     fn less(self, count: usize) -> Failing
         requires { count ≤ room self }
         ensures { result ≡ left_after self count }
@@ -47,7 +47,7 @@ impl Failing {
         }
     }
 
-    /// What is left of it once it has failed.
+    /// What remains of it after a failure.
     fn failed(self) -> Failing
         ensures { result ≡ after_failure self }
     {
@@ -69,7 +69,7 @@ pub struct Reader<'a> {
 }
 
 impl<'a> Reader<'a> {
-    /// A reader that gives at most `step` bytes at a time (one where that is 0), and fails where it is told to.
+    /// A reader that gives at most `step` bytes at a time (1 if that is 0) and fails as told.
     pub fn new(bytes: &'a [u8], step: usize, failing: Failing) -> Reader<'a>
         ensures { result ≡ record { rest = bytes.entry; step = step; failing = failing; asks = 0; failures = 0 } }
     {
@@ -82,7 +82,7 @@ impl<'a> Reader<'a> {
         }
     }
 
-    /// How many reads were asked for.
+    /// How many reads were called.
     pub fn asks(&self) -> u64
         ensures { result ≡ asked_reads self.now }
     {
@@ -105,7 +105,7 @@ impl Source for Reader<'_> {
 
     ghost failures = { λ s. failed_reads s };
 
-    /// Fails where no byte may be read any more, and gives as many as it may elsewhere.
+    /// Fails if no byte may be read any more, else gives as many as it may.
     fn read(&mut self, buffer: &mut [u8]) -> Result<usize, Failed>
         ensures bound { IfOk result (λ n. n ≤ length buffer.new) }
         ensures bytes { ReadConsumes (Some (unread self.old)) (Some (unread self.new)) result buffer.new }
@@ -149,7 +149,7 @@ impl Read for Reader<'_> {
     }
 }
 
-/// A writer that keeps what it takes.
+/// A writer that keeps what is written.
 #[derive(Drop)]
 pub struct Writer {
     taken: Vec<u8>,
@@ -160,8 +160,8 @@ pub struct Writer {
 }
 
 impl Writer {
-    /// A writer that takes at most `step` bytes at a time (one where that is 0), and fails where it is told to and
-    /// where memory is refused.
+    /// A writer that accepts at most `step` bytes at a time (1 if that is 0) and fails as told, or if an allocation
+    /// fails.
     pub fn new(alloc: Global, step: usize, failing: Failing) -> Writer
         ensures taken { written result ≡ [] }
         ensures asks { asked_writes result ≡ 0 }
@@ -178,14 +178,14 @@ impl Writer {
         }
     }
 
-    /// The bytes that it has taken.
+    /// The bytes written.
     pub fn taken(&self) -> &[u8]
         ensures { result.now ≡ written self.now }
     {
         self.taken.as_slice()
     }
 
-    /// How many writes were asked for.
+    /// How many writes were called.
     pub fn asks(&self) -> u64
         ensures { result ≡ asked_writes self.now }
     {
@@ -208,7 +208,7 @@ impl Sink for Writer {
 
     ghost failures = { λ s. failed_writes s };
 
-    /// Fails where no write may be taken any more, and where memory is refused. Elsewhere it takes as much as it may.
+    /// Fails if no write may be accepted any more, or if an allocation fails; else accepts as much as it may.
     fn write(&mut self, bytes: &[u8]) -> Result<usize, Failed>
         ensures bound { IfOk result (λ n. n ≤ length bytes.now) }
         ensures some { IfOk result (λ n. 0 < length bytes.now → 0 < n) }

@@ -9,7 +9,7 @@ use crate::stream::{Failed, Source};
 use std::alloc::{AllocError, Global};
 use thiserror::Error;
 
-/// Why an input was not read.
+/// Why an input wasn't read.
 #[derive(Clone, Copy, Debug, PartialEq, Eq, Error)]
 pub enum InputFault {
     #[error("the input can't be read")]
@@ -42,12 +42,12 @@ impl From<Failed> for InputFault {
     }
 }
 
-/// How many bytes are asked for at a time.
+/// How many bytes are read at a time.
 const CHUNK: usize = 4096;
 
-/// Reads all bytes of a source, which may have `limit` of them.
+/// Reads a source to its end: at most `limit` bytes.
 ///
-/// `Read` comes only where the source failed during the call, `TooLong` only where a byte past the limit came.
+/// `Read` comes only if the source failed during the call, `TooLong` only if a byte behind the limit came.
 pub fn read_input<S: Source>(
     alloc: Global,
     source: &mut S,
@@ -56,13 +56,13 @@ pub fn read_input<S: Source>(
     ensures input { IfSome (S.remaining source.old) (λ bytes. IsInput (λ v. v.items) limit bytes result) }
     // The source came to its end.
     ensures whole { OnOk result (IsAtEnd (S.remaining source.new)) }
-    // A refusal in place of the bytes comes where it came first.
+    // An error comes when it happens first.
     ensures early { result ≢ Err InputFault.TooLong
         → GivesAtMost limit (S.remaining source.old) (S.remaining source.new) }
-    // Once a byte past the limit came, no more is asked for.
+    // Once a byte behind the limit came, nothing more is read.
     ensures past { result ≡ Err InputFault.TooLong
         → GivesAtMost (limit + read_len) (S.remaining source.old) (S.remaining source.new) }
-    // Memory is wanted only for bytes that came.
+    // Nothing is allocated before the first byte.
     ensures wanted { result ≡ Err InputFault.Memory → GivesSome (S.remaining source.old) (S.remaining source.new) }
     ensures no_failure { result ≢ Err InputFault.Read → S.failures source.new ≡ S.failures source.old }
     ensures failure { result ≡ Err InputFault.Read → HasFailed (S.failures source.old) (S.failures source.new) }

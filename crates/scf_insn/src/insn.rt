@@ -6,7 +6,8 @@ ghost use Rattle.scf_insn.specs.Codes.{operation_of};
 
 use crate::operation::{Arithmetic, Operand, Operation, Register, Test};
 
-/// One instruction: a code, two jump offsets and a constant. Any numbers may stand in it.
+/// An instruction, checked or not: `code` (16 bits), the jump offsets `jt` and `jf` (8 bits, counted from the next
+/// instruction) and `k` (32 bits).
 #[derive(Clone, Copy, Debug, PartialEq, Eq)]
 pub struct Insn {
     pub code: u16,
@@ -23,14 +24,14 @@ fn known(_code: u16, _jt: u8, _jf: u8, _k: u32)
 {}
 
 impl Insn {
-    /// Each field is within its width: a law for proofs, which does nothing.
+    /// A law for proofs: each field is within its width. Does nothing.
     pub fn within_widths(&self)
         ensures { IsInsn self.now }
     {
         known(self.code, self.jt, self.jf, self.k);
     }
 
-    /// The instruction that these bytes are, its numbers little-endian.
+    /// Decodes 8 bytes, numbers little-endian.
     pub fn from_bytes(bytes: [u8; 8]) -> Insn
         ensures { insn_bytes result ≡ bytes }
     {
@@ -43,7 +44,7 @@ impl Insn {
         }
     }
 
-    /// Its bytes, its numbers little-endian.
+    /// Encodes it in 8 bytes, numbers little-endian.
     pub fn to_bytes(&self) -> [u8; 8]
         ensures { result ≡ insn_bytes self.now }
     {
@@ -52,9 +53,9 @@ impl Insn {
         [code_low, code_high, self.jt, self.jf, k0, k1, k2, k3]
     }
 
-    /// What its code asks for, or `None` where the code isn't one of the 41.
+    /// The operation of its code, or `None` if the code isn't one of the 41 that seccomp accepts.
     ///
-    /// It is inlined where its result is matched on, so that a code leads straight to the arm of its operation.
+    /// Inlined, so that a code leads straight to the arm of its operation.
     #[tactic(auto, unfolding(crate::specs::Codes::operation_of, crate::specs::Codes::code_table))]
     #[inline(always)]
     pub fn operation(&self) -> Option<Operation>

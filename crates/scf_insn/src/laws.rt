@@ -1,4 +1,4 @@
-//! Laws of codes, instructions and their bytes. The functions do nothing: what they ensure are the laws.
+//! Laws of codes, instructions and their bytes. Each function does nothing: its contract is the law.
 
 ghost use Rattle.std.specs.Prelude.{◌≡◌, ◌*◌, ◌<◌, ℕ, List, Some, length};
 ghost use Rattle.std.specs.List.{AllByRecursion};
@@ -31,13 +31,13 @@ pub fn one_encoding()
         → (insns : List Insn) × AllByRecursion IsInsn insns × (program_bytes insns ≡ bytes) }
 {}
 
-/// A code and its operation are one pair: the code of each operation asks for that operation, and no other code does.
+/// Codes and operations correspond: the code of each operation has that operation, and no other code does.
 pub fn one_code()
     ensures operation { (operation : Operation) → operation_of (code_of operation) ≡ Some operation }
     ensures code { (code : ℕ) (operation : Operation) → operation_of code ≡ Some operation → code_of operation ≡ code }
 {}
 
-/// The constants of the kernel that a filter is about are those of its headers.
+/// The kernel's constants have the values of its headers.
 pub fn kernel_constants()
     ensures arch { AUDIT_ARCH_X86_64 ≡ audit_arch_x86_64 }
     ensures x32 { X32_SYSCALL_BIT ≡ x32_syscall_bit }

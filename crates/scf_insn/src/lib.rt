@@ -1,5 +1,4 @@
-//! What every part of scf speaks of: instructions, call records and answers, the kernel's constants, and readers and
-//! writers.
+//! The base of every crate: instructions, call records, answers, the kernel's constants, readers and writers.
 #![tactic(auto)]
 
 mod answer;

@@ -1,10 +1,10 @@
-//! Masks of 32 bits.
+//! 32-bit masks.
 
 ghost use Rattle.std.specs.Prelude.{◌≡◌, ◌↔◌, IsTrue};
 ghost use Rattle.scf_insn.specs.Masks.{mask_kind};
 ghost use Rattle.scf_insn.specs.SimpleMask.{IsSimpleMask};
 
-/// Which of the 32 bits a mask has.
+/// How many of the 32 bits a mask has.
 #[derive(Clone, Copy, Debug, PartialEq, Eq)]
 pub enum MaskKind {
     /// None.

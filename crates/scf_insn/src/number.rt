@@ -1,4 +1,4 @@
-//! Numbers in texts.
+//! Parses numbers.
 
 ghost use Rattle.std.specs.Prelude.{◌+◌, ◌*◌, ◌≤◌, ℕ};
 ghost use Rattle.scf_insn.specs.Numbers.{numeral, number_of, ReadsNumber};
@@ -6,7 +6,7 @@ ghost use Rattle.scf_insn.specs.internal.Numbers.{IsWithinRange};
 
 use thiserror::Error;
 
-/// Why a text was not read as a number.
+/// Why a text isn't a number.
 #[derive(Clone, Copy, Debug, PartialEq, Eq, Error)]
 pub enum NumeralFault {
     #[error("not a number")]
@@ -15,7 +15,7 @@ pub enum NumeralFault {
     TooLarge,
 }
 
-/// The value with one more digit behind it, as far as it is below 2^64.
+/// The value with one more digit appended, if it is below 2^64.
 fn with_digit(value: Option<u64>, radix: u32, digit: u32) -> Option<u64>
     requires { 2 ≤ radix }
     ensures { (n : ℕ) → IsWithinRange value n → IsWithinRange result (n * radix + digit) }
@@ -25,7 +25,7 @@ fn with_digit(value: Option<u64>, radix: u32, digit: u32) -> Option<u64>
         .checked_add(u64::from(digit))
 }
 
-/// The number that digits of a radix write, the most significant first. Leading zeros are allowed, and any length.
+/// Parses digits of a radix: any length, leading zeros allowed.
 #[tactic(auto, using(std::proofs::lemmas::Grind::common_steps, crate::proofs::Numerals::digits_more, crate::proofs::Numerals::value_more))]
 pub fn parse_numeral(digits: &[u8], radix: u32) -> Result<u64, NumeralFault>
     requires low { 2 ≤ radix }
@@ -45,7 +45,7 @@ pub fn parse_numeral(digits: &[u8], radix: u32) -> Result<u64, NumeralFault>
     value.ok_or(NumeralFault::TooLarge)
 }
 
-/// The number that a text is: decimal digits, or `0x` or `0X` and hexadecimal digits.
+/// Parses a number: decimal digits, or `0x` or `0X` and hexadecimal digits.
 #[tactic(auto, unfolding(crate::specs::Numbers::number_of))]
 pub fn parse_number(text: &[u8]) -> Result<u64, NumeralFault>
     ensures { ReadsNumber (number_of text.now) result }

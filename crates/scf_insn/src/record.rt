@@ -1,4 +1,4 @@
-//! The record of a call (Linux uapi seccomp.h, struct seccomp_data).
+//! Call records (Linux uapi seccomp.h, struct seccomp_data).
 
 ghost use Rattle.std.specs.Prelude.{◌≡◌, ◌+◌, ◌<◌, ◌≤◌, ◌*◌, ◌^◌, ◌++◌, ℕ, length, take, drop, slice_index};
 ghost use Rattle.std.specs.Int.{w32, to_le_bytes};
@@ -6,7 +6,9 @@ ghost use Rattle.scf_insn.specs.Words.{low, high, words_of, record_bytes, call_o
 
 use crate::kernel::{SECCOMP_DATA_ARGS, SECCOMP_DATA_LEN};
 
-/// What a filter sees of a call: its number, the architecture, the instruction pointer and six arguments.
+/// What a filter sees of a syscall, 64 bytes: the syscall number `nr`, the audit architecture `arch`, the instruction
+/// pointer `ip`, and six 64-bit arguments `args`. The sixteen 32-bit words that a filter loads are `nr`, `arch`, and
+/// the halves of the others, low half first.
 #[derive(Clone, Copy, Debug, PartialEq, Eq)]
 pub struct CallRecord {
     pub nr: u32,
@@ -29,7 +31,7 @@ pub fn high_half(n: u64) -> u32
     (n >> 32) as u32
 }
 
-/// The four bytes at a place as a number.
+/// The little-endian number in four bytes from an index.
 fn word_at(bytes: &[u8], at: usize) -> u32
     requires { at + 4 ≤ length bytes.now }
     ensures { to_le_bytes w32 result ≡ take 4 (drop at bytes.now) }
@@ -37,14 +39,14 @@ fn word_at(bytes: &[u8], at: usize) -> u32
     u32::from_le_bytes([bytes[at], bytes[at + 1], bytes[at + 2], bytes[at + 3]])
 }
 
-/// The number with this low and this high half.
+/// The number with these halves.
 fn joined(low_word: u32, high_word: u32) -> u64
     ensures { result ≡ low_word + 2 ^ 32 * high_word }
 {
     u64::from(low_word) + 0x1_0000_0000 * u64::from(high_word)
 }
 
-/// The eight bytes at a place as a number.
+/// The little-endian number in eight bytes from an index.
 fn number_at(bytes: &[u8], at: usize) -> u64
     requires { at + 8 ≤ length bytes.now }
     ensures { to_le_bytes w32 (low result) ++ to_le_bytes w32 (high result) ≡ take 8 (drop at bytes.now) }
@@ -67,7 +69,7 @@ fn known_words(words: &[u32])
 {}
 
 impl CallRecord {
-    /// Each field is within its width: a law for proofs, which does nothing.
+    /// A law for proofs: each field is within its width. Does nothing.
     pub fn within_widths(&self)
         ensures { IsRecord self.now }
     {
@@ -75,9 +77,9 @@ impl CallRecord {
         known_arguments(&self.args);
     }
 
-    /// Its sixteen words: of a 64-bit number first the low half, then the high one.
+    /// Its sixteen words: the low half of a 64-bit number, then the high one.
     ///
-    /// It may be inlined, so that a run doesn't begin with a call.
+    /// May be inlined, so that a run doesn't begin with a call.
     #[inline]
     #[tactic(auto, using(std::proofs::lemmas::Grind::common_steps, crate::proofs::CallWords::halves_of_six))]
     pub fn words(&self) -> [u32; 16]
@@ -104,7 +106,7 @@ impl CallRecord {
         ]
     }
 
-    /// The word at byte 4 `i`.
+    /// The word with index `i`, 0 to 15: byte offset `4 * i`.
     pub fn word(&self, i: u8) -> u32
         requires { i < 16 }
         ensures { result ≡ slice_index (words_of self.now) i }
@@ -112,7 +114,7 @@ impl CallRecord {
         self.words()[i as usize]
     }
 
-    /// The record that has these words.
+    /// The record with these words.
     pub fn from_words(words: &[u32; 16]) -> CallRecord
         ensures call { result ≡ call_of words.now }
         ensures words { words_of result ≡ words.now }
@@ -133,7 +135,7 @@ impl CallRecord {
         }
     }
 
-    /// Its 64 bytes: the words in order, each little-endian.
+    /// Its 64 bytes: the words in order, little-endian.
     pub fn to_bytes(&self) -> [u8; 64]
         ensures { result ≡ record_bytes self.now }
     {
@@ -145,7 +147,7 @@ impl CallRecord {
         bytes
     }
 
-    /// The record that these bytes are.
+    /// The record with these bytes.
     pub fn from_bytes(bytes: [u8; 64]) -> CallRecord
         ensures { record_bytes result ≡ bytes }
     {

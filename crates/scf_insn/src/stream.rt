@@ -7,21 +7,20 @@ ghost use Rattle.scf_insn.specs.Streams.{count_after, Writes};
 use std::io::{Read, Write};
 use thiserror::Error;
 
-/// A read or a write failed. The count of its reader or writer has risen.
+/// A read or a write failed: the failure count of its reader or writer went up.
 #[derive(Clone, Copy, Debug, PartialEq, Eq, Error)]
 #[error("a read or a write failed")]
 pub struct Failed;
 
 /// A reader.
 pub trait Source {
-    /// The bytes still to come, where they are known.
+    /// The bytes still to come, if they are known.
     ghost remaining: { Self → Option (List ℕ) } = { λ _. None };
 
-    /// How many reads have failed, up to 2^64-1, where the count stays.
+    /// How many reads have failed; the count stays at 2^64-1.
     ghost failures: { Self → ℕ };
 
-    /// Reads bytes to the front of the buffer, and says how many. None come only at the end, or where there is
-    /// no room.
+    /// Reads bytes into the buffer and returns their count. 0 means the end, or an empty buffer.
     fn read(&mut self, buffer: &mut [u8]) -> Result<usize, Failed>
         ensures bound { IfOk result (λ n. n ≤ length buffer.new) }
         ensures bytes { ReadConsumes (remaining self.old) (remaining self.new) result buffer.new }
@@ -31,13 +30,13 @@ pub trait Source {
 
 /// A writer.
 pub trait Sink {
-    /// The bytes that were taken so far, where they are known.
+    /// The bytes written so far, if they are known.
     ghost contents: { Self → Option (List ℕ) } = { λ _. None };
 
-    /// How many writes have failed, up to 2^64-1, where the count stays.
+    /// How many writes have failed; the count stays at 2^64-1.
     ghost failures: { Self → ℕ };
 
-    /// Writes a beginning of the bytes, and says how many. Of some bytes it takes one at least.
+    /// Writes a prefix of the bytes and returns its length, at least 1 unless there are none.
     fn write(&mut self, bytes: &[u8]) -> Result<usize, Failed>
         ensures bound { IfOk result (λ n. n ≤ length bytes.now) }
         ensures some { IfOk result (λ n. 0 < length bytes.now → 0 < n) }
@@ -46,14 +45,14 @@ pub trait Sink {
         ensures err { OnErr result (failures self.new ≡ count_after (failures self.old)) };
 }
 
-/// Why bytes were not written.
+/// Why bytes weren't written.
 #[derive(Clone, Copy, Debug, PartialEq, Eq, Error)]
 pub enum WriteFault {
     #[error("the output can't be written")]
     Write,
 }
 
-/// Writes all bytes, or fails after a beginning of them.
+/// Writes all bytes; or a prefix of them, if writing fails.
 #[tactic(auto, using(std::proofs::lemmas::Grind::common_steps, crate::proofs::Written::takes_more))]
 pub fn write_whole<S: Sink>(sink: &mut S, bytes: &[u8]) -> Result<(), WriteFault>
     ensures { Writes S.contents S.failures sink.old bytes.now result sink.new }
@@ -68,10 +67,10 @@ pub fn write_whole<S: Sink>(sink: &mut S, bytes: &[u8]) -> Result<(), WriteFault
     Ok(())
 }
 
-/// A reader or a writer of std, with a count of its failures.
+/// A reader or writer of std with a count of its failures.
 ///
-/// Each error adds one to the count, an interruption too, and so does a write that takes no byte of some. A call
-/// asks the inner reader or writer once, whatever it answers.
+/// Each error adds one to the count, also an interruption, and a write that accepts no byte. A call uses the inner
+/// reader or writer once: errors aren't retried.
 #[derive(Drop)]
 pub struct Counted<T> {
     inner: T,
@@ -81,7 +80,7 @@ pub struct Counted<T> {
 impl<T> Counted<T> {
     ghost use Rattle.scf_insn.specs.Counted.{inner_of, failures_of};
 
-    /// Nothing has failed so far.
+    /// Wraps a reader or writer; the count is 0.
     pub fn new(inner: T) -> Counted<T>
         ensures inner { inner_of result ≡ inner }
         ensures failures { failures_of result ≡ 0 }
@@ -89,7 +88,7 @@ impl<T> Counted<T> {
         Counted { inner, failures: 0 }
     }
 
-    /// How many reads or writes have failed, up to 2^64-1.
+    /// How many reads or writes have failed; the count stays at 2^64-1.
     pub fn failures(&self) -> u64
         ensures { result ≡ failures_of self.now }
     {
