@@ -33,7 +33,7 @@ pub use Rattle.scf_tool.specs.VerifyingStacks.{AreComparedParties, IsRefusedStac
 pub use Rattle.scf_request.specs.declared.contents.PartReader.{PartReader}
 pub use Rattle.scf_tool.specs.declared.fault.Fault.{Fault}
 pub use Rattle.scf_tool.specs.declared.fault_line.FaultField.{FaultField}
-pub use Rattle.scf_tool.specs.declared.parties.Parties.{Parties}
+pub use Rattle.scf_tool.specs.declared.inputs.Inputs.{Inputs}
 pub use Rattle.scf_tool.specs.declared.reply.Reply.{Reply}
 pub use Rattle.scf_tool.specs.declared.reply.Reply.TheVariants.{CommandLine}
 pub use Rattle.scf_tool.specs.declared.verification.VerifyFault.{VerifyFault}
@@ -41,5 +41,5 @@ pub use Rattle.scf_tool.specs.declared.verification.VerifyFault.TheVariants.{Fil
 pub use Rattle.scf_request.specs.Contents.{rest_of}
 pub use Rattle.scf_tool.specs.internal.Fields.{field_text, numbers_of_field}
 pub use Rattle.scf_tool.specs.internal.Explaining.{Explains}
-pub use Rattle.scf_tool.specs.internal.Pieces.{line_piece_text}
-pub use Rattle.scf_tool.specs.internal.Verification.{AreParties}
+pub use Rattle.scf_tool.specs.internal.Pieces.{fragment_text}
+pub use Rattle.scf_tool.specs.internal.Verification.{AreInputs}

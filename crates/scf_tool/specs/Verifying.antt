@@ -139,8 +139,8 @@ IsNoProfile names bytes (Profile fault) =
 IsNoProfile names bytes fault = ⊥
 
 -- why a table and a profile state nothing that is compared: the first that isn't read, or want of memory behind both
-abbrev pub IsUnstated : Option (List ℕ) → Option (List ℕ) → VerifyFault → Type 0
-IsUnstated table profile fault =
+abbrev pub IsProfileFault : Option (List ℕ) → Option (List ℕ) → VerifyFault → Type 0
+IsProfileFault table profile fault =
     IsNoTable table fault ⊎ ((names : Names) × IsTable table names × (IsNoProfile names profile fault
     ⊎ ((loaded : Loaded) × IsLoaded profile names loaded × (fault ≡ Memory))))
 
@@ -148,4 +148,4 @@ IsUnstated table profile fault =
 abbrev pub Verifies : Option (List ℕ) → Option (List ℕ) → Option (List ℕ) → ℕ → Result Outcome VerifyFault → Type 0
 Verifies filter table profile limit (Ok outcome) = IsVerified filter table profile limit outcome
 Verifies filter table profile limit (Err fault) =
-    IsNoFilter filter fault ⊎ ((insns : List Insn) × IsFilter filter insns × IsUnstated table profile fault)
+    IsNoFilter filter fault ⊎ ((insns : List Insn) × IsFilter filter insns × IsProfileFault table profile fault)

@@ -18,7 +18,7 @@ use Rattle.scf_tool.specs.declared.verification.Outcome.{Outcome}
 use Rattle.scf_tool.specs.declared.verification.VerifyFault.{VerifyFault}
 use Rattle.scf_tool.specs.declared.verification.VerifyFault.TheVariants.{FilterRead, Check, Stack}
 use Rattle.scf_tool.specs.FilterStacks.{HasStack, HasNoStack, HaveEnded, HaveStopped}
-use Rattle.scf_tool.specs.Verifying.{IsTable, IsLoaded, IsUnstated}
+use Rattle.scf_tool.specs.Verifying.{IsTable, IsLoaded, IsProfileFault}
 
 -- A verdict on a relation is true of a stack and a profile over the calls of a scope, and within the limit and the
 -- effort. It decides between plain filters and a plain profile.
@@ -53,7 +53,7 @@ IsVerifiedBy relation filters table profile scope limit outcome =
 -- Why nothing is compared: the filters are no stack, or they are, and the table and the profile state nothing.
 abbrev pub IsRefusedStack : List (Option (List ℕ)) → Option (List ℕ) → Option (List ℕ) → VerifyFault → Type 0
 IsRefusedStack filters table profile fault =
-    HasNoStack filters fault ⊎ ((stack : List (List Insn)) × HasStack filters stack × IsUnstated table profile fault)
+    HasNoStack filters fault ⊎ ((stack : List (List Insn)) × HasStack filters stack × IsProfileFault table profile fault)
 
 -- What the comparison of a stack with a profile by a relation, from the bytes of their readers, answers.
 abbrev pub VerifiesBy : Relation → List (Option (List ℕ)) → Option (List ℕ) → Option (List ℕ) → Scope → ℕ

@@ -1,4 +1,4 @@
-//! What the program prints of a comparison call by call.
+//! The report of a comparison syscall by syscall.
 #![tactic(auto, using(crate::proofs::WritingLemmas::one_after_another))]
 
 ghost use Rattle.std.specs.Prelude.{◌≡◌, ◌++◌, codes, find, map, not, string_bytes, IfOk};
@@ -17,11 +17,11 @@ ghost use Rattle.scf_tool.specs.CallReports.{
   named_line,
 };
 
+use crate::buffer::Buffer;
 use crate::call_verification::{CallVerdict, CallsOutcome};
-use crate::gathered::Gathered;
+use crate::fragments::Fragment::{Decimal, Text};
+use crate::fragments::write_fragments;
 use crate::lines::write_answer;
-use crate::pieces::LinePiece::{Decimal, Text};
-use crate::pieces::write_pieces;
 use crate::reporting::{
     failing, holding, write_answer_line, write_arguments, write_left_out, write_verdict, write_word,
 };
@@ -50,7 +50,7 @@ fn first_difference(calls: &[CallVerdict]) -> Option<Verdict>
     verdicts.find(|verdict| differs(verdict))
 }
 
-/// The first verdict that isn't that the relation holds of all answers.
+/// The first verdict other than Same.
 fn first_other(calls: &[CallVerdict]) -> Option<Verdict>
     ensures { result ≡ find (λ verdict. not (is_same verdict)) (map (λ call. call.verdict) calls.now) }
 {
@@ -58,8 +58,7 @@ fn first_other(calls: &[CallVerdict]) -> Option<Verdict>
     verdicts.find(|verdict| !agrees(verdict))
 }
 
-/// The verdict that speaks for all calls: the first that differs, else the first that isn't Same. None where all
-/// are.
+/// The joint verdict: the first that differs, else the first that isn't Same; `None` if all are Same.
 pub(crate) fn joint_verdict(calls: &[CallVerdict]) -> Option<Verdict>
     ensures { result ≡ joint_of calls.now }
 {
@@ -86,12 +85,12 @@ fn write_others<S: Sink>(sink: &mut S, texts: &[String]) -> Result<(), WriteFaul
         (flat_map (λ text. codes "," ++ string_bytes text) texts.now) result sink.new }
 {
     for text in texts {
-        write_pieces(sink, &[Text(","), Text(text.as_str())])?;
+        write_fragments(sink, &[Text(","), Text(text.as_str())])?;
     }
     Ok(())
 }
 
-/// Writes the names of a call with commas between.
+/// Writes the names of a syscall, with commas between.
 fn write_call_names<S: Sink>(sink: &mut S, names: &Texts) -> Result<(), WriteFault>
     ensures { Writes S.contents S.failures sink.old
         (join_by (λ name. name) (codes ",") names.now) result sink.new }
@@ -105,18 +104,18 @@ fn write_call_names<S: Sink>(sink: &mut S, names: &Texts) -> Result<(), WriteFau
     }
 }
 
-/// Writes the number and the names of a call.
+/// Writes the number and the names of a syscall.
 fn write_front<S: Sink>(sink: &mut S, call: &CallVerdict) -> Result<(), WriteFault>
     ensures { Writes S.contents S.failures sink.old
         ((decimal call.now.number ++ codes " ")
         ++ (join_by (λ name. name) (codes ",") call.now.names ++ codes " ")) result sink.new }
 {
-    write_pieces(sink, &[Decimal(u64::from(call.number)), Text(" ")])?;
+    write_fragments(sink, &[Decimal(u64::from(call.number)), Text(" ")])?;
     write_call_names(sink, &call.names)?;
     write_whole(sink, b" ")
 }
 
-/// Writes the rest of the line of a call of whose answers a relation doesn't hold.
+/// Writes the rest of the line of a syscall for which the relation doesn't hold.
 fn write_difference_found<S: Sink>(
     sink: &mut S,
     relation: Relation,
@@ -127,7 +126,7 @@ fn write_difference_found<S: Sink>(
     ensures { Writes S.contents S.failures sink.old
         (found_text relation (Verdict.Differs call.now filter profile)) result sink.new }
 {
-    write_pieces(sink, &[Text(failing(relation)), Text(" args")])?;
+    write_fragments(sink, &[Text(failing(relation)), Text(" args")])?;
     write_arguments(sink, &call.args)?;
     write_whole(sink, b" filter ")?;
     write_answer(sink, filter)?;
@@ -151,7 +150,7 @@ fn write_found<S: Sink>(
     }
 }
 
-/// Writes the line of a call of which the relation doesn't hold, and nothing of one of which it does.
+/// Writes the line of a syscall for which the relation doesn't hold; nothing if it holds.
 fn write_named<S: Sink>(
     sink: &mut S,
     relation: Relation,
@@ -191,19 +190,19 @@ fn write_calls_outcome<S: Sink>(
     write_left_out(sink, &outcome.skipped, &outcome.other_architectures)
 }
 
-/// What the program prints of an outcome call by call: the joint verdict, then a line for each call that isn't the
-/// same, one for each skipped name and one for each other architecture, in their order.
+/// The report of an outcome: the joint verdict, then a line for each syscall that isn't the same, one for each skipped
+/// name and one for each other architecture, in order.
 ///
-/// The joint verdict is `same` where every call is the same, and `differs` where one differs; else it is that of the
-/// first call that isn't the same.
+/// The joint verdict is `same` if every syscall is the same, `differs` if one differs, else that of the first one that
+/// isn't the same.
 pub fn report_calls(alloc: Global, outcome: &CallsOutcome) -> Result<Vec<u8>, Memory>
     ensures { IfOk result (λ text. text.items ≡ calls_text Relation.Same outcome.now) }
 {
     report_calls_by(alloc, Relation::Same, outcome)
 }
 
-/// What the program prints of an outcome call by call and by a relation, which `report_calls` does of the same answers.
-/// In place of `same` it says `no more` or `no less`, and in place of `differs` `more` or `less`.
+/// The report of an outcome by a relation: `no more` or `no less` in place of `same`, `more` or `less` in place of
+/// `differs`. `report_calls` is the case of equal answers.
 pub fn report_calls_by(
     alloc: Global,
     relation: Relation,
@@ -211,7 +210,7 @@ pub fn report_calls_by(
 ) -> Result<Vec<u8>, Memory>
     ensures { IfOk result (λ text. text.items ≡ calls_text relation outcome.now) }
 {
-    let mut text = Gathered::new(alloc);
+    let mut text = Buffer::new(alloc);
     match write_calls_outcome(&mut text, relation, outcome) {
         Ok(()) => Ok(text.into_bytes()),
         Err(_) => Err(Memory),

@@ -11,9 +11,9 @@ ghost use Rattle.scf_tool.specs.VerifyingCalls.{
   VerifiesCallsBy,
 };
 ghost use Rattle.scf_tool.specs.VerifyingStacks.{LeavesFilterReaders};
-ghost use Rattle.scf_tool.specs.internal.Verification.{AreParties};
+ghost use Rattle.scf_tool.specs.internal.Verification.{AreInputs};
 
-use crate::parties::{Parties, read_parties};
+use crate::inputs::{Inputs, read_inputs};
 use crate::verification::VerifyFault;
 use scf_compare::{Verdict, compare_within};
 use scf_facts::WordSets;
@@ -59,17 +59,17 @@ fn kept(alloc: Global, words: &[&str]) -> Result<Texts, AllocError>
 /// that it takes are subtracted from `left`.
 fn compare_call(
     alloc: Global,
-    parties: &Parties,
+    inputs: &Inputs,
     call: &NamedCall<'_>,
     relation: Relation,
     limit: u64,
     left: &mut u64,
 ) -> Result<CallVerdict, Memory>
-    ensures { IfOk result (λ own. IsVerdictOnCall relation parties.now.stack parties.now.loaded.profile
+    ensures { IfOk result (λ own. IsVerdictOnCall relation inputs.now.stack inputs.now.loaded.profile
         limit left.old call.now own left.new) }
 {
-    let stack = &parties.stack;
-    let profile = &parties.loaded.profile;
+    let stack = &inputs.stack;
+    let profile = &inputs.loaded.profile;
     let scope = Scope::Call(call.number);
     let verdict = compare_within::<WordSets>(alloc, stack, profile, scope, relation, limit, left)?;
     Ok(CallVerdict {
@@ -82,19 +82,19 @@ fn compare_call(
 /// Compares parties over the records of each call of their table by a relation.
 fn compare_calls(
     alloc: Global,
-    parties: &Parties,
+    inputs: &Inputs,
     relation: Relation,
     limits: Limits,
 ) -> Result<Vec<CallVerdict>, Memory>
-    ensures { IfOk result (λ calls. (of_table : List NamedCall) × AreCallsOf parties.now.names of_table
-        × (after : ℕ) × HaveVerdicts relation parties.now.stack parties.now.loaded.profile
+    ensures { IfOk result (λ calls. (of_table : List NamedCall) × AreCallsOf inputs.now.names of_table
+        × (after : ℕ) × HaveVerdicts relation inputs.now.stack inputs.now.loaded.profile
         limits.each limits.total of_table calls.items after) }
 {
-    let calls = parties.names.calls(alloc)?;
+    let calls = inputs.names.calls(alloc)?;
     let mut verdicts = Vec::new(alloc);
     let mut left = limits.total;
     for call in &calls {
-        let verdict = compare_call(alloc, parties, call, relation, limits.each, &mut left)?;
+        let verdict = compare_call(alloc, inputs, call, relation, limits.each, &mut left)?;
         verdicts.push(verdict)?;
     }
     Ok(verdicts)
@@ -103,16 +103,16 @@ fn compare_calls(
 /// Compares a stack of filters with a profile, call by call of the table and by a relation.
 pub(crate) fn compare_named_calls(
     alloc: Global,
-    parties: Parties,
+    inputs: Inputs,
     relation: Relation,
     limits: Limits,
 ) -> Result<CallsOutcome, Memory>
     ensures { IfOk result (λ outcome. (filters : List (Option (List ℕ))) (table profile : Option (List ℕ))
-        → AreParties filters table profile parties
+        → AreInputs filters table profile inputs
         → AreVerifiedCalls relation filters table profile limits outcome) }
 {
-    let calls = compare_calls(alloc, &parties, relation, limits)?;
-    let loaded = parties.loaded;
+    let calls = compare_calls(alloc, &inputs, relation, limits)?;
+    let loaded = inputs.loaded;
     Ok(CallsOutcome {
         calls,
         skipped: loaded.skipped,
@@ -168,6 +168,6 @@ pub fn verify_calls_by<F: Source, P: Source, T: Source>(
     ensures table_reader { LeavesTableReader T.remaining T.failures table_reader.old result table_reader.new }
     ensures profile_reader { LeavesProfileReader P.remaining P.failures profile_reader.old result profile_reader.new }
 {
-    let parties = read_parties(alloc, filter_readers, profile_reader, table_reader)?;
-    Ok(compare_named_calls(alloc, parties, relation, limits)?)
+    let inputs = read_inputs(alloc, filter_readers, profile_reader, table_reader)?;
+    Ok(compare_named_calls(alloc, inputs, relation, limits)?)
 }

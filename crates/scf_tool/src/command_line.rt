@@ -1,4 +1,4 @@
-//! What is said of words that aren't taken.
+//! Replies to arguments that name no command to run.
 
 ghost use Rattle.std.specs.Prelude.{◌≡◌, ◌≢◌};
 ghost use Rattle.std.specs.IoError.{error_kind};
@@ -18,13 +18,13 @@ use std::alloc::Global;
 use std::io;
 use std::io::ErrorKind as IoErrorKind;
 
-/// What is printed where a word isn't UTF-8.
+/// What is printed if an argument isn't UTF-8.
 const NOT_UTF8: &[u8] = b"error: invalid UTF-8 was detected in one or more arguments\n";
 
-/// What is printed where memory is refused before any input is read.
+/// What is printed if memory runs out before any input is read.
 const NO_MEMORY: &[u8] = b"fault command Memory\n";
 
-/// The reply to words that name no command to be run: help, the version, or what is wrong with them.
+/// The reply to arguments that name no command to run: help, the version, or a usage error.
 pub(crate) fn explain(alloc: Global, error: &Error) -> Result<Reply, Fault>
     ensures { Explains (kind_of error.now) result }
 {
@@ -42,7 +42,7 @@ pub(crate) fn explain(alloc: Global, error: &Error) -> Result<Reply, Fault>
     }
 }
 
-/// Says that memory is refused before any input is read. The answer is the exit status.
+/// Prints that memory ran out before any input was read. Returns the exit status.
 pub(crate) fn refuse_memory<W: Sink>(out: &mut W) -> u8
     ensures { Prints W.contents W.failures out.old (printed_fault faults.CommandLine) result out.new }
 {
@@ -50,8 +50,8 @@ pub(crate) fn refuse_memory<W: Sink>(out: &mut W) -> u8
     Status::Failed.code()
 }
 
-/// Says why the program's words can't be had: one isn't UTF-8, or memory was refused. The answer is the exit status: 2
-/// for the first, and 3 for the second and where the output fails.
+/// Prints why the program's arguments can't be collected. Returns the exit status: 2 if one isn't UTF-8, 3 if memory
+/// ran out or writing failed.
 pub fn refuse_words<W: Sink>(error: &io::Error, out: &mut W) -> u8
     ensures not_utf8 { error_kind error.now ≡ IoErrorKind.InvalidData
         → Prints W.contents W.failures out.old printed_of_no_utf8 result out.new }

@@ -13,9 +13,9 @@ mod profile;
 mod stack;
 mod text;
 
+use crate::buffer::Buffer;
 use crate::command_line::{explain, refuse_memory};
 use crate::fault::Fault;
-use crate::gathered::Gathered;
 use crate::reply::{LINE_ROOM, Reply, print_ending, status_of};
 use crate::status::Status;
 use compare::compare_bundle;
@@ -28,10 +28,10 @@ use std::alloc::Global;
 use std::convert::AsStr;
 use text::assemble_text;
 
-/// The most bytes of standard input, where it isn't one filter.
+/// The most bytes of standard input, unless it is one filter.
 const MAX_INPUT: usize = 16_777_216;
 
-/// All of standard input, where it isn't one filter.
+/// Reads all of standard input, unless it is one filter.
 fn whole_input<R: Source>(alloc: Global, input: &mut R) -> Result<Vec<u8>, InputFault>
     ensures read { IfOk result (λ bytes. ReadsInput (R.remaining input.old) (Ok bytes.items)) }
     ensures ended { OnOk result (HasEnded R.remaining R.failures input.old input.new) }
@@ -42,7 +42,7 @@ fn whole_input<R: Source>(alloc: Global, input: &mut R) -> Result<Vec<u8>, Input
     read_input(alloc, input, MAX_INPUT)
 }
 
-/// The one of a list, where it has no more.
+/// The only element of `list`, if it has exactly one.
 fn only<'a>(list: &[&'a [u8]]) -> Option<&'a [u8]>
     ensures { MatchOption result (length list.now ≢ 1) (λ one. texts_at list.now ≡ one.now ∷ []) }
 {
@@ -52,7 +52,7 @@ fn only<'a>(list: &[&'a [u8]]) -> Option<&'a [u8]>
     }
 }
 
-/// What a request ends with.
+/// Runs a request.
 fn answer<R: Source>(alloc: Global, request: &Request, input: &mut R) -> Result<Reply, Fault>
     ensures answer { IsTrueReply request.now (R.remaining input.old) result }
     ensures left { LeavesInput request.now R.remaining R.failures input.old result input.new }
@@ -74,7 +74,7 @@ fn answer<R: Source>(alloc: Global, request: &Request, input: &mut R) -> Result<
     }
 }
 
-/// What a run on these words ends with. All that takes memory is done once it is there.
+/// Parses the arguments and runs their request. Everything that allocates is done when it returns.
 fn ending_of<T: AsStr, R: Source>(alloc: Global, words: &[T], input: &mut R) -> Result<Reply, Fault>
     ensures { Ends (map T.text words.now) R.remaining R.failures input.old result input.new }
 {
@@ -101,7 +101,7 @@ pub fn run_command<T: AsStr, R: Source, W: Sink>(
         W.contents W.failures out.old out.new
         result }
 {
-    let Ok(room) = Gathered::with_room(alloc, LINE_ROOM) else {
+    let Ok(room) = Buffer::with_room(alloc, LINE_ROOM) else {
         return refuse_memory(out);
     };
     let ending = ending_of(alloc, words, input);

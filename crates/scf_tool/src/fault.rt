@@ -1,4 +1,4 @@
-//! Why a command ends early.
+//! Why a command has no result.
 
 ghost use Rattle.std.specs.Prelude.{◌≡◌};
 ghost use Rattle.scf_tool.specs.declared.fault.Fault.TheVariants as faults;
@@ -9,21 +9,21 @@ use scf_insn::{InputFault, ReadFault};
 use scf_request::{BundleFault, RequestFault};
 use scf_text::TextFault;
 
-/// Why a command ends early: what is wrong, and how.
+/// Why a command has no result.
 #[derive(Clone, Copy)]
 pub(crate) enum Fault {
-    /// Memory was refused while the command line was read.
+    /// Out of memory while the command line was parsed.
     CommandLine,
-    /// The words ask for nothing that can be done.
+    /// The arguments aren't a request.
     Request(RequestFault),
-    /// Standard input isn't read.
+    /// Standard input can't be read.
     Input(InputFault),
     Bundle(BundleFault),
     /// The parts of a bundle aren't those that the command takes.
     Parts,
     Text(TextFault),
     Compile(CompileFault),
-    /// A filter, a stack, a table or a profile is refused, or memory for their comparison.
+    /// A filter, a stack, a table or a profile is refused, or memory ran out during their comparison.
     Verify(VerifyFault),
 }
 

@@ -1,4 +1,4 @@
-//! The line that is printed of a fault.
+//! The printed line of a fault.
 
 ghost use Rattle.std.specs.Prelude.{◌≡◌, ◌∷◌, []};
 ghost use Rattle.std.specs.List.{flat_map};
@@ -7,8 +7,8 @@ ghost use Rattle.scf_tool.specs.Faults as table;
 ghost use Rattle.scf_tool.specs.internal.Fields.{field_text, numbers_of_field, kind_of, fault_line_of};
 
 use crate::fault::Fault;
-use crate::pieces::LinePiece::{Decimal, Text};
-use crate::pieces::write_pieces;
+use crate::fragments::Fragment::{Decimal, Text};
+use crate::fragments::write_fragments;
 use crate::status::Status;
 use crate::status::Status::{CommandLine, Failed, Refused};
 use crate::verification::VerifyFault;
@@ -19,7 +19,7 @@ use scf_profile::{LoadFault, TableFault};
 use scf_request::{BundleFault, RequestFault};
 use scf_text::TextFault;
 
-/// A number that a fault names.
+/// A number of a fault, with its name.
 #[derive(Clone, Copy)]
 pub(crate) struct FaultField {
     pub name: &'static str,
@@ -34,7 +34,7 @@ pub(crate) struct FaultKind {
     pub fields: [Option<FaultField>; 3],
 }
 
-/// What a fault is of, and its kind.
+/// The source of a fault, and its kind.
 #[derive(Clone, Copy)]
 pub(crate) struct FaultLine {
     pub source: &'static str,
@@ -73,7 +73,7 @@ fn placed(status: Status, name: &'static str, place: &'static str, number: usize
     kind(status, name, [named(place, number), None, None])
 }
 
-/// A kind that is a refusal, in an entry of a profile or outside of them.
+/// A kind with status 1, in an entry of a profile or outside of them.
 fn refused_in(name: &'static str, entry: Option<u32>) -> FaultKind
     ensures { kind_of result ≡ (Status.Refused, name.now, table.in_entry entry) }
 {
@@ -213,7 +213,7 @@ fn push_kind(fault: PushFault) -> FaultKind
     }
 }
 
-/// A kind, behind the word for what is wrong.
+/// A kind, behind its source.
 fn line(source: &'static str, kind: FaultKind) -> FaultLine
     ensures { fault_line_of result ≡ (source.now, kind_of kind) }
 {
@@ -235,7 +235,7 @@ fn verify_line(fault: VerifyFault) -> FaultLine
     }
 }
 
-/// What a fault of a request is of, and its kind.
+/// The source and kind of a request's fault.
 fn request_line(fault: RequestFault) -> FaultLine
     ensures { fault_line_of result ≡ table.request_kind fault }
 {
@@ -247,7 +247,7 @@ fn request_line(fault: RequestFault) -> FaultLine
 }
 
 impl Fault {
-    /// What the fault is of, its kind, its numbers and its exit status.
+    /// The fault's source, kind, numbers and exit status.
     fn line(self) -> FaultLine
         ensures { fault_line_of result ≡ table.kind_of_fault self }
     {
@@ -263,7 +263,7 @@ impl Fault {
         }
     }
 
-    /// The exit status that goes with it.
+    /// The fault's exit status.
     pub(crate) fn status(self) -> Status
         ensures { result ≡ (table.printed_fault self).0 }
     {
@@ -282,7 +282,7 @@ fn write_field<S: Sink>(sink: &mut S, field: Option<FaultField>) -> Result<(), W
                 Text(" "),
                 Decimal(field.number),
             ];
-            write_pieces(sink, &words)
+            write_fragments(sink, &words)
         }
         None => Ok(()),
     }
@@ -298,7 +298,7 @@ fn write_fields<S: Sink>(sink: &mut S, fields: &[Option<FaultField>]) -> Result<
     Ok(())
 }
 
-/// Writes the line of a fault, without memory.
+/// Writes the line of a fault without allocating.
 pub(crate) fn write_fault<S: Sink>(sink: &mut S, fault: Fault) -> Result<(), WriteFault>
     ensures { Writes S.contents S.failures sink.old (table.printed_fault fault).1 result sink.new }
 {
@@ -309,7 +309,7 @@ pub(crate) fn write_fault<S: Sink>(sink: &mut S, fault: Fault) -> Result<(), Wri
         Text(" "),
         Text(line.kind.name),
     ];
-    write_pieces(sink, &front)?;
+    write_fragments(sink, &front)?;
     write_fields(sink, &line.kind.fields)?;
     write_whole(sink, b"\n")
 }

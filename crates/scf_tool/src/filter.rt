@@ -1,4 +1,4 @@
-//! Filters that a reader has.
+//! Reads filters.
 
 ghost use Rattle.std.specs.Prelude.{IfOk, IfErr};
 ghost use Rattle.scf_tool.specs.Verifying.{IsFilter, IsNoFilter, LeavesFilterReader};
@@ -8,7 +8,7 @@ use scf_insn::{Source, read_program};
 use scf_machine::{Program, check};
 use std::alloc::Global;
 
-/// The accepted filter whose bytes a reader has.
+/// Reads and checks a filter.
 pub(crate) fn read_filter<R: Source>(alloc: Global, input: &mut R) -> Result<Program, VerifyFault>
     ensures filter { IfOk result (IsFilter (R.remaining input.old)) }
     ensures refused { IfErr result (IsNoFilter (R.remaining input.old)) }

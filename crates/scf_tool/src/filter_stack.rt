@@ -1,4 +1,4 @@
-//! Stacks of filters that readers have.
+//! Reads stacks of filters.
 
 ghost use Rattle.std.specs.Prelude.{List, Ok, map, Some, IfOk, IfErr, OnOk};
 ghost use Rattle.scf_insn.specs.declared.insn.Insn.{Insn};
@@ -15,7 +15,7 @@ use scf_machine::FilterStack;
 use scf_request::PartReader;
 use std::alloc::Global;
 
-/// Pushes the filter that a reader has.
+/// Reads a filter and pushes it.
 fn push_filter<R: Source>(
     alloc: Global,
     stack: &mut FilterStack,
@@ -34,7 +34,7 @@ fn push_filter<R: Source>(
     }
 }
 
-/// The stack of the filters that readers have, the oldest first. Each is read, checked and pushed before the next.
+/// Reads a stack of filters, the oldest first. Each is read, checked and pushed before the next.
 pub(crate) fn read_stack<R: Source>(
     alloc: Global,
     readers: &mut [R],

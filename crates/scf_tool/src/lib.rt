@@ -1,6 +1,7 @@
-//! The program `scf`: its command line, what it reads and what it prints.
+//! The program `scf`: its commands, what they read and what they print.
 #![tactic(auto)]
 
+mod buffer;
 mod call_reporting;
 mod call_verification;
 mod command_line;
@@ -9,14 +10,13 @@ mod fault;
 mod fault_line;
 mod filter;
 mod filter_stack;
-mod gathered;
+mod fragments;
+mod inputs;
 mod lines;
-mod parties;
-mod pieces;
+mod profile_inputs;
 mod reply;
 mod reporting;
 mod stack_verification;
-mod stated;
 mod status;
 mod verification;
 

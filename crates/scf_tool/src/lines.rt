@@ -1,4 +1,4 @@
-//! Lines that say what a filter does.
+//! Lines about the answers of filters and profiles.
 #![tactic(auto, using(crate::proofs::WritingLemmas::one_after_another))]
 
 ghost use Rattle.std.specs.Prelude.{◌≡◌, ◌++◌, ℕ, codes, IfSome, IfNone};
@@ -9,13 +9,13 @@ ghost use Rattle.scf_insn.specs.Streams.{Writes};
 ghost use Rattle.scf_tool.specs.Lines.{answer_text, path_text, reason_text, steps_text, text_by, traced_text};
 ghost use Rattle.scf_tool.specs.Numerals.{eight_digits};
 
-use crate::pieces::LinePiece::{Decimal, EightDigits, Text};
-use crate::pieces::write_pieces;
+use crate::fragments::Fragment::{Decimal, EightDigits, Text};
+use crate::fragments::write_fragments;
 use scf_insn::{Action, Answer, Sink, WriteFault, write_whole};
 use scf_machine::Trace;
 use scf_profile::Reason;
 
-/// The name of an action that has one.
+/// The name of an action, if it has one.
 fn name_of(action: Action) -> Option<&'static str>
     ensures named { IfSome result (λ name. (answer : ℕ)
         → text_by action answer ≡ name.now ++ codes " " ++ decimal (data_half answer)) }
@@ -35,20 +35,20 @@ fn name_of(action: Action) -> Option<&'static str>
     }
 }
 
-/// Writes an answer: its action and its data, and of an action without a name the whole answer.
+/// Writes an answer: its action and data; for an action without a name the whole number.
 pub(crate) fn write_answer<S: Sink>(sink: &mut S, answer: Answer) -> Result<(), WriteFault>
     ensures { Writes S.contents S.failures sink.old (answer_text answer.0) result sink.new }
 {
     match name_of(answer.action()) {
         Some(name) => {
             let words = [Text(name), Text(" "), Decimal(u64::from(answer.detail()))];
-            write_pieces(sink, &words)
+            write_fragments(sink, &words)
         }
-        None => write_pieces(sink, &[Text("UNNAMED 0x"), EightDigits(answer.0)]),
+        None => write_fragments(sink, &[Text("UNNAMED 0x"), EightDigits(answer.0)]),
     }
 }
 
-/// Writes an answer, and ends the line.
+/// Writes an answer and a line end.
 pub(crate) fn write_last_answer<S: Sink>(sink: &mut S, answer: Answer) -> Result<(), WriteFault>
     ensures { Writes S.contents S.failures sink.old (answer_text answer.0 ++ codes "\n") result sink.new }
 {
@@ -56,11 +56,11 @@ pub(crate) fn write_last_answer<S: Sink>(sink: &mut S, answer: Answer) -> Result
     write_whole(sink, b"\n")
 }
 
-/// Writes the count of steps behind an answer, and ends the line.
+/// Writes the count of steps behind an answer, and a line end.
 pub(crate) fn write_steps<S: Sink>(sink: &mut S, steps: u64) -> Result<(), WriteFault>
     ensures { Writes S.contents S.failures sink.old (steps_text steps) result sink.new }
 {
-    write_pieces(sink, &[Text(" steps "), Decimal(steps), Text("\n")])
+    write_fragments(sink, &[Text(" steps "), Decimal(steps), Text("\n")])
 }
 
 fn write_places<S: Sink>(sink: &mut S, places: &[usize]) -> Result<(), WriteFault>
@@ -68,12 +68,12 @@ fn write_places<S: Sink>(sink: &mut S, places: &[usize]) -> Result<(), WriteFaul
         (flat_map (λ place. codes " " ++ decimal place) places.now) result sink.new }
 {
     for place in places {
-        write_pieces(sink, &[Text(" "), Decimal(*place as u64)])?;
+        write_fragments(sink, &[Text(" "), Decimal(*place as u64)])?;
     }
     Ok(())
 }
 
-/// Writes the line of the places on a run's way.
+/// Writes the line of a run's path.
 fn write_path<S: Sink>(sink: &mut S, places: &[usize]) -> Result<(), WriteFault>
     ensures { Writes S.contents S.failures sink.old (path_text places.now) result sink.new }
 {
@@ -82,7 +82,7 @@ fn write_path<S: Sink>(sink: &mut S, places: &[usize]) -> Result<(), WriteFault>
     write_whole(sink, b"\n")
 }
 
-/// Writes the answer of a run, the count of its steps and their places.
+/// Writes the answer of a run, its steps and its path.
 pub(crate) fn write_trace<S: Sink>(sink: &mut S, trace: &Trace) -> Result<(), WriteFault>
     ensures { Writes S.contents S.failures sink.old
         (traced_text trace.now.answer.0 trace.now.places.items) result sink.new }
@@ -93,7 +93,7 @@ pub(crate) fn write_trace<S: Sink>(sink: &mut S, trace: &Trace) -> Result<(), Wr
     write_path(sink, places)
 }
 
-/// Writes why a profile answers so, and ends the line.
+/// Writes the reason of a profile's answer, and a line end.
 pub(crate) fn write_reason<S: Sink>(sink: &mut S, reason: Reason) -> Result<(), WriteFault>
     ensures { Writes S.contents S.failures sink.old (reason_text reason) result sink.new }
 {
@@ -101,7 +101,7 @@ pub(crate) fn write_reason<S: Sink>(sink: &mut S, reason: Reason) -> Result<(), 
         Reason::Foreign => write_whole(sink, b" foreign\n"),
         Reason::Entry(place) => {
             let line = [Text(" entry "), Decimal(u64::from(place)), Text("\n")];
-            write_pieces(sink, &line)
+            write_fragments(sink, &line)
         }
         Reason::Default => write_whole(sink, b" default\n"),
     }

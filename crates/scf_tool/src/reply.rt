@@ -1,43 +1,43 @@
-//! What the program prints, and its exit status.
+//! Replies of commands: what is printed, and the exit status.
 #![tactic(auto, using(crate::proofs::WritingLemmas::one_after_another))]
 
 ghost use Rattle.std.specs.Prelude.{◌≡◌, ◌++◌, []};
 ghost use Rattle.scf_insn.specs.Streams.{Writes};
 ghost use Rattle.scf_tool.specs.Lines.{answer_text, reason_text, steps_text};
 ghost use Rattle.scf_tool.specs.Replies.{printed};
-ghost use Rattle.scf_tool.specs.internal.Gathering.{gathered};
+ghost use Rattle.scf_tool.specs.internal.Gathering.{buffered};
 
+use crate::buffer::Buffer;
 use crate::fault::Fault;
 use crate::fault_line::write_fault;
-use crate::gathered::Gathered;
+use crate::fragments::Fragment::{Decimal, Text};
+use crate::fragments::write_fragments;
 use crate::lines::{write_answer, write_last_answer, write_reason, write_steps};
-use crate::pieces::LinePiece::{Decimal, Text};
-use crate::pieces::write_pieces;
 use crate::status::Status;
 use scf_insn::{Answer, Sink, WriteFault, write_whole};
 use scf_machine::Ran;
 use scf_profile::Reason;
 
-/// What a command found, ready to be printed: printing it takes no memory but a line's room.
+/// The result of a command. Printing it allocates nothing beyond one line's buffer.
 #[derive(Drop)]
 pub(crate) enum Reply {
-    /// The text of the command line's reader: help, the version, or what is wrong with the words.
+    /// `clap`'s text: help, the version or a usage error.
     CommandLine { text: String, status: Status },
-    /// A filter of this many instructions is accepted.
+    /// The filter, with this many instructions, is accepted.
     Accepted(usize),
-    /// A filter was run.
+    /// The result of a run.
     Ran(Ran),
-    /// A stack of filters was asked.
+    /// The answer of a stack.
     Decided(Answer),
-    /// A profile was asked.
+    /// The answer of a profile.
     Asked { answer: Answer, reason: Reason },
     /// These bytes.
     Bytes(Vec<u8>),
-    /// A comparison came to what this text reports.
+    /// The report of a comparison.
     Compared { text: Vec<u8>, status: Status },
 }
 
-/// The exit status that goes with how a command ended.
+/// The exit status of a result or a fault.
 pub(crate) fn status_of(ending: &Result<Reply, Fault>) -> Status
     ensures { result ≡ (printed ending.now).0 }
 {
@@ -48,7 +48,7 @@ pub(crate) fn status_of(ending: &Result<Reply, Fault>) -> Status
     }
 }
 
-/// Writes the answer of a run and the count of its steps.
+/// Writes the answer of a run and its steps.
 fn write_ran<S: Sink>(sink: &mut S, ran: &Ran) -> Result<(), WriteFault>
     ensures { Writes S.contents S.failures sink.old
         (answer_text ran.now.answer.0 ++ steps_text ran.now.steps) result sink.new }
@@ -57,7 +57,7 @@ fn write_ran<S: Sink>(sink: &mut S, ran: &Ran) -> Result<(), WriteFault>
     write_steps(sink, u64::from(ran.steps))
 }
 
-/// Writes the answer of a profile, and why.
+/// Writes the answer of a profile and its reason.
 fn write_asked<S: Sink>(sink: &mut S, answer: Answer, reason: Reason) -> Result<(), WriteFault>
     ensures { Writes S.contents S.failures sink.old (answer_text answer.0 ++ reason_text reason) result sink.new }
 {
@@ -65,7 +65,7 @@ fn write_asked<S: Sink>(sink: &mut S, answer: Answer, reason: Reason) -> Result<
     write_reason(sink, reason)
 }
 
-/// Writes what a command ended with, piece by piece.
+/// Writes a result or a fault, fragment by fragment.
 fn write_ending<S: Sink>(sink: &mut S, ending: &Result<Reply, Fault>) -> Result<(), WriteFault>
     ensures { Writes S.contents S.failures sink.old (printed ending.now).1 result sink.new }
 {
@@ -73,7 +73,7 @@ fn write_ending<S: Sink>(sink: &mut S, ending: &Result<Reply, Fault>) -> Result<
         Ok(Reply::CommandLine { text, .. }) => write_whole(sink, text.as_bytes()),
         Ok(Reply::Accepted(count)) => {
             let line = [Text("accepted "), Decimal(*count as u64), Text("\n")];
-            write_pieces(sink, &line)
+            write_fragments(sink, &line)
         }
         Ok(Reply::Ran(ran)) => write_ran(sink, ran),
         Ok(Reply::Decided(answer)) => write_last_answer(sink, *answer),
@@ -84,18 +84,17 @@ fn write_ending<S: Sink>(sink: &mut S, ending: &Result<Reply, Fault>) -> Result<
     }
 }
 
-/// The room that is kept for a line before a command reads its input. Each line of a fault, a check and an answer is
-/// shorter.
+/// The size of the line buffer that is allocated before a command reads its input. Each line of a fault, a check and an
+/// answer is shorter.
 pub(crate) const LINE_ROOM: usize = 256;
 
-/// Writes what a command ended with, at once, or fails after a beginning of its text. A line is put together in its
-/// room.
+/// Writes a result or a fault in one call; or a prefix of it, if writing fails. A line is assembled in the buffer.
 pub(crate) fn print_ending<S: Sink>(
     sink: &mut S,
     ending: &Result<Reply, Fault>,
-    room: Gathered,
+    room: Buffer,
 ) -> Result<(), WriteFault>
-    requires { gathered room ≡ [] }
+    requires { buffered room ≡ [] }
     ensures { Writes S.contents S.failures sink.old (printed ending.now).1 result sink.new }
 {
     match ending {

@@ -1,4 +1,4 @@
-//! What the program prints of a comparison.
+//! The report of a comparison.
 #![tactic(auto, using(crate::proofs::WritingLemmas::one_after_another))]
 
 ghost use Rattle.std.specs.Prelude.{◌≡◌, ◌++◌, codes, string_bytes, IfOk};
@@ -17,10 +17,10 @@ ghost use Rattle.scf_tool.specs.Reports.{
   verdict_text,
 };
 
-use crate::gathered::Gathered;
+use crate::buffer::Buffer;
+use crate::fragments::Fragment::{Decimal, Hexadecimal, Text};
+use crate::fragments::write_fragments;
 use crate::lines::write_last_answer;
-use crate::pieces::LinePiece::{Decimal, Hexadecimal, Text};
-use crate::pieces::write_pieces;
 use crate::verification::Outcome;
 use scf_compare::Verdict;
 use scf_insn::{Answer, CallRecord, Memory, Sink, WriteFault, write_whole};
@@ -31,7 +31,7 @@ pub(crate) fn write_arguments<S: Sink>(sink: &mut S, arguments: &[u64]) -> Resul
     ensures { Writes S.contents S.failures sink.old (flat_map argument_text arguments.now) result sink.new }
 {
     for argument in arguments {
-        write_pieces(sink, &[Text(" 0x"), Hexadecimal(*argument)])?;
+        write_fragments(sink, &[Text(" 0x"), Hexadecimal(*argument)])?;
     }
     Ok(())
 }
@@ -52,7 +52,7 @@ fn write_call_front<S: Sink>(sink: &mut S, call: &CallRecord) -> Result<(), Writ
         Hexadecimal(call.ip),
         Text(" args"),
     ];
-    write_pieces(sink, &front)
+    write_fragments(sink, &front)
 }
 
 fn write_call<S: Sink>(sink: &mut S, call: &CallRecord) -> Result<(), WriteFault>
@@ -70,11 +70,11 @@ pub(crate) fn write_answer_line<S: Sink>(
 ) -> Result<(), WriteFault>
     ensures { Writes S.contents S.failures sink.old (answer_line who.now answer.0) result sink.new }
 {
-    write_pieces(sink, &[Text(who), Text(" ")])?;
+    write_fragments(sink, &[Text(who), Text(" ")])?;
     write_last_answer(sink, answer)
 }
 
-/// What is said where a relation holds of all answers.
+/// The word for a relation that holds.
 pub(crate) fn holding(relation: Relation) -> &'static str
     ensures { result.now ≡ (said_of relation).0 }
 {
@@ -85,7 +85,7 @@ pub(crate) fn holding(relation: Relation) -> &'static str
     }
 }
 
-/// What is said where a relation doesn't hold of two answers.
+/// The word for a relation that doesn't hold.
 pub(crate) fn failing(relation: Relation) -> &'static str
     ensures { result.now ≡ (said_of relation).1 }
 {
@@ -100,10 +100,10 @@ pub(crate) fn failing(relation: Relation) -> &'static str
 pub(crate) fn write_word<S: Sink>(sink: &mut S, word: &str) -> Result<(), WriteFault>
     ensures { Writes S.contents S.failures sink.old (word.now ++ codes "\n") result sink.new }
 {
-    write_pieces(sink, &[Text(word), Text("\n")])
+    write_fragments(sink, &[Text(word), Text("\n")])
 }
 
-/// Writes the lines of a call of whose answers a relation doesn't hold.
+/// Writes the lines of a call for which the relation doesn't hold.
 fn write_difference<S: Sink>(
     sink: &mut S,
     relation: Relation,
@@ -136,7 +136,7 @@ pub(crate) fn write_verdict<S: Sink>(
         } => write_difference(sink, relation, call, *filter, *profile),
         Verdict::Undecided { at } => {
             let line = [Text("undecided at "), Decimal(*at as u64), Text("\n")];
-            write_pieces(sink, &line)
+            write_fragments(sink, &line)
         }
         Verdict::Unfinished => write_whole(sink, b"unfinished\n"),
     }
@@ -146,7 +146,7 @@ fn write_name<'a, S: Sink>(sink: &mut S, word: &'a str, name: &'a String) -> Res
     ensures { Writes S.contents S.failures sink.old (name_line word.now (string_bytes name.now)) result sink.new }
 {
     let line = [Text(word), Text(" "), Text(name.as_str()), Text("\n")];
-    write_pieces(sink, &line)
+    write_fragments(sink, &line)
 }
 
 /// Writes a line for each name, behind a word.
@@ -182,20 +182,20 @@ fn write_outcome<S: Sink>(
     write_left_out(sink, &outcome.skipped, &outcome.other_architectures)
 }
 
-/// What the program prints of an outcome: the verdict, then a line for each skipped name and one for each other
-/// architecture, in their order.
+/// The report of an outcome: the verdict, then a line for each skipped name and one for each other architecture, in
+/// order.
 pub fn report(alloc: Global, outcome: &Outcome) -> Result<Vec<u8>, Memory>
     ensures { IfOk result (λ text. text.items ≡ report_text Relation.Same outcome.now) }
 {
     report_by(alloc, Relation::Same, outcome)
 }
 
-/// What the program prints of an outcome by a relation, which `report` does of the same answers. In place of `same` it
-/// says `no more` or `no less`, and in place of `differs` `more` or `less`.
+/// The report of an outcome by a relation: `no more` or `no less` in place of `same`, `more` or `less` in place of
+/// `differs`. `report` is the case of equal answers.
 pub fn report_by(alloc: Global, relation: Relation, outcome: &Outcome) -> Result<Vec<u8>, Memory>
     ensures { IfOk result (λ text. text.items ≡ report_text relation outcome.now) }
 {
-    let mut text = Gathered::new(alloc);
+    let mut text = Buffer::new(alloc);
     match write_outcome(&mut text, relation, outcome) {
         Ok(()) => Ok(text.into_bytes()),
         Err(_) => Err(Memory),

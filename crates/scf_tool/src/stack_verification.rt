@@ -1,11 +1,11 @@
-//! The comparison of a stack of filters with a profile, from their bytes.
+//! Compares a stack of filters with a profile, from their bytes.
 
 ghost use Rattle.std.specs.Prelude.{List, Option, ℕ, IfOk, map};
 ghost use Rattle.scf_tool.specs.Verifying.{LeavesProfileReader, LeavesTableReader};
 ghost use Rattle.scf_tool.specs.VerifyingStacks.{IsVerifiedBy, LeavesFilterReaders, VerifiesBy};
-ghost use Rattle.scf_tool.specs.internal.Verification.{AreParties};
+ghost use Rattle.scf_tool.specs.internal.Verification.{AreInputs};
 
-use crate::parties::{Parties, read_parties};
+use crate::inputs::{Inputs, read_inputs};
 use crate::verification::{Outcome, VerifyFault};
 use scf_compare::compare_by;
 use scf_facts::WordSets;
@@ -13,20 +13,20 @@ use scf_insn::{Memory, Source};
 use scf_profile::{Relation, Scope};
 use std::alloc::Global;
 
-/// Compares a stack of filters with a profile over the calls of a scope and by a relation.
-pub(crate) fn compare_parties(
+/// Compares the stack and the profile over the records of a scope by a relation.
+pub(crate) fn compare_inputs(
     alloc: Global,
-    parties: Parties,
+    inputs: Inputs,
     scope: Scope,
     relation: Relation,
     limit: u64,
 ) -> Result<Outcome, Memory>
     ensures { IfOk result (λ outcome. (filters : List (Option (List ℕ))) (table profile : Option (List ℕ))
-        → AreParties filters table profile parties
+        → AreInputs filters table profile inputs
         → IsVerifiedBy relation filters table profile scope limit outcome) }
 {
-    let loaded = parties.loaded;
-    let stack = &parties.stack;
+    let loaded = inputs.loaded;
+    let stack = &inputs.stack;
     let profile = &loaded.profile;
     let verdict = compare_by::<WordSets>(alloc, stack, profile, scope, relation, limit)?;
     Ok(Outcome {
@@ -36,14 +36,14 @@ pub(crate) fn compare_parties(
     })
 }
 
-/// Compares the stack of filters with the profile that readers have, over the calls of a scope, in at most `limit`
-/// steps. The profile's names get their numbers from the call table.
+/// Reads a stack of filters, a syscall table and a profile, and compares the stack with the profile over the records of
+/// a scope, in at most `limit` steps. The table gives the profile's names their numbers.
 ///
-/// The filters' readers stand in the order of the stack, the oldest first. Each filter is read, checked and pushed
-/// before the next; then the table is read, then the profile; the first fault is answered. Tables and profiles have at
-/// most 4194304 bytes each.
+/// The filters' readers are in the order of the stack, the oldest first. Each filter is read, checked and pushed before
+/// the next; then the table is read, then the profile; the error is the first fault. Tables and profiles have at most
+/// 4194304 bytes each.
 ///
-/// `Same` is true of every call record of the scope, and `Differs` shows one of it that is answered differently: see
+/// `Same` is true of every record of the scope, and `Differs` shows one that is answered differently: see
 /// `compare_stack`. Plain filters and a plain profile are never left undecided.
 pub fn verify_stack<F: Source, P: Source, T: Source>(
     alloc: Global,
@@ -70,12 +70,10 @@ pub fn verify_stack<F: Source, P: Source, T: Source>(
     )
 }
 
-/// Compares the stack of filters with the profile that readers have, over the calls of a scope and by a relation, in at
-/// most `limit` steps.
+/// Reads and compares as `verify_stack` does, by a relation.
 ///
-/// `Same` says that the relation holds of the answers to every call record of the scope, and `Differs` shows one of it
-/// of which it doesn't: see `compare_by`. All else is as `verify_stack` has it, whose relation is that of the same
-/// answers.
+/// `Same` says that the relation holds of the answers to every record of the scope, and `Differs` shows one of which it
+/// doesn't: see `compare_by`. `verify_stack` is the case of equal answers.
 pub fn verify_by<F: Source, P: Source, T: Source>(
     alloc: Global,
     filter_readers: &mut [F],
@@ -91,6 +89,6 @@ pub fn verify_by<F: Source, P: Source, T: Source>(
     ensures table_reader { LeavesTableReader T.remaining T.failures table_reader.old result table_reader.new }
     ensures profile_reader { LeavesProfileReader P.remaining P.failures profile_reader.old result profile_reader.new }
 {
-    let parties = read_parties(alloc, filter_readers, profile_reader, table_reader)?;
-    Ok(compare_parties(alloc, parties, scope, relation, limit)?)
+    let inputs = read_inputs(alloc, filter_readers, profile_reader, table_reader)?;
+    Ok(compare_inputs(alloc, inputs, scope, relation, limit)?)
 }

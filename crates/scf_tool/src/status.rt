@@ -3,18 +3,18 @@
 ghost use Rattle.std.specs.Prelude.{◌≡◌};
 ghost use Rattle.scf_tool.specs.Statuses.{status_code};
 
-/// What the exit status of the program says.
+/// The exit status of the program.
 #[derive(Clone, Copy)]
 pub(crate) enum Status {
     /// All is well.
     Well,
     /// A filter, text, table, profile or stack is refused, a compiled filter would be too large, or two answers differ.
     Refused,
-    /// The command line is refused.
+    /// A usage error.
     CommandLine,
-    /// The input can't be read, the output can't be written, or memory is refused.
+    /// The input can't be read, the output can't be written, or memory ran out.
     Failed,
-    /// Whether the answers differ is left open.
+    /// It isn't known whether the answers differ.
     Open,
 }
 

@@ -1,4 +1,4 @@
-//! The comparison of a filter with a profile, from their bytes.
+//! Compares a filter with a profile, from their bytes.
 
 ghost use Rattle.std.specs.Prelude.{IfOk, IfErr};
 ghost use Rattle.scf_tool.specs.Verifying.{
@@ -21,24 +21,24 @@ use scf_profile::{CallTable, LoadFault, Loaded, MAX_TEXT_LEN, TableFault, Texts,
 use std::alloc::Global;
 use thiserror::Error;
 
-/// What a comparison comes to, and what the profile's text states beside the profile.
+/// The verdict of a comparison, and what was left out of the profile.
 #[derive(Debug, Drop)]
 pub struct Outcome {
     pub verdict: Verdict,
-    /// The names that the call table lacks, each occurrence, in the order of the text.
+    /// The names that the table lacks, each occurrence, in the order of the text.
     pub skipped: Texts,
     /// The architectures beside SCMP_ARCH_X86_64, each occurrence, in the order of the text.
     pub other_architectures: Texts,
 }
 
-/// Why a filter and a profile weren't compared.
+/// Why inputs weren't compared.
 #[derive(Clone, Copy, Debug, PartialEq, Eq, Error)]
 pub enum VerifyFault {
     #[error("filter: {0}")]
     FilterRead(ReadFault),
     #[error("filter: {0}")]
     Check(CheckFault),
-    /// A filter isn't pushed on those before. `verify` never answers this.
+    /// A filter isn't pushed onto the stack. `verify` never returns this.
     #[error("stack: {0}")]
     Stack(PushFault),
     #[error("table: {0}")]
@@ -97,7 +97,7 @@ impl From<Memory> for VerifyFault {
     }
 }
 
-/// The call table that a reader has.
+/// Reads a syscall table.
 pub(crate) fn read_table<R: Source>(alloc: Global, reader: &mut R) -> Result<CallTable, VerifyFault>
     ensures table { IfOk result (IsTable (R.remaining reader.old)) }
     ensures refused { IfErr result (IsNoTable (R.remaining reader.old)) }
@@ -109,7 +109,7 @@ pub(crate) fn read_table<R: Source>(alloc: Global, reader: &mut R) -> Result<Cal
     }
 }
 
-/// What the text that a reader has states with a call table.
+/// Reads a profile under a syscall table.
 pub(crate) fn read_profile<R: Source>(
     alloc: Global,
     reader: &mut R,
@@ -125,10 +125,10 @@ pub(crate) fn read_profile<R: Source>(
     }
 }
 
-/// Compares the filter with the profile that readers have, over every call record, in at most `limit` steps. The
-/// profile's names get their numbers from the call table.
+/// Reads a filter, a syscall table and a profile, and compares the filter with the profile over every call record, in
+/// at most `limit` steps. The table gives the profile's names their numbers.
 ///
-/// The filter is read and checked, then the table is read, then the profile; the first fault is answered. Tables and
+/// The filter is read and checked, then the table is read, then the profile; the error is the first fault. Tables and
 /// profiles have at most 4194304 bytes each.
 ///
 /// `Same` is true of every call record, and `Differs` shows one that is answered differently: see `compare`. A plain

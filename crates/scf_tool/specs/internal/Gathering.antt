@@ -1,7 +1,7 @@
 -- Bytes that are gathered in memory.
 use Rattle.std.specs.Prelude.{ℕ, List}
-use Rattle.scf_tool.specs.declared.gathered.Gathered.{Gathered}
+use Rattle.scf_tool.specs.declared.buffer.Buffer.{Buffer}
 
 -- what was taken so far
-abbrev pub gathered : Gathered → List ℕ
-gathered g = g.bytes.items
+abbrev pub buffered : Buffer → List ℕ
+buffered g = g.bytes.items

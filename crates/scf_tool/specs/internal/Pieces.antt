@@ -1,12 +1,12 @@
 -- The pieces that printed lines are made of.
 use Rattle.std.specs.Prelude.{ℕ, false, List}
 use Rattle.std.specs.Fmt.{decimal, digits}
-use Rattle.scf_tool.specs.declared.pieces.LinePiece.{LinePiece}
-use Rattle.scf_tool.specs.declared.pieces.LinePiece.TheVariants.{Text, Decimal, Hexadecimal, EightDigits}
+use Rattle.scf_tool.specs.declared.fragments.Fragment.{Fragment}
+use Rattle.scf_tool.specs.declared.fragments.Fragment.TheVariants.{Text, Decimal, Hexadecimal, EightDigits}
 use Rattle.scf_tool.specs.Numerals.{eight_digits}
 
-abbrev pub line_piece_text : LinePiece → List ℕ
-line_piece_text (Text text) = text.now
-line_piece_text (Decimal n) = decimal n
-line_piece_text (Hexadecimal n) = digits 16 false n
-line_piece_text (EightDigits n) = eight_digits n
+abbrev pub fragment_text : Fragment → List ℕ
+fragment_text (Text text) = text.now
+fragment_text (Decimal n) = decimal n
+fragment_text (Hexadecimal n) = digits 16 false n
+fragment_text (EightDigits n) = eight_digits n

@@ -27,10 +27,10 @@ use crate::call_reporting::{joint_verdict, report_calls_by};
 use crate::call_verification::compare_named_calls;
 use crate::commands::{only, whole_input};
 use crate::fault::Fault;
-use crate::parties::{Parties, parties_in};
+use crate::inputs::{Inputs, inputs_in};
 use crate::reply::Reply;
 use crate::reporting::report_by;
-use crate::stack_verification::compare_parties;
+use crate::stack_verification::compare_inputs;
 use crate::status::Status;
 use crate::verification::VerifyFault;
 use scf_compare::Verdict;
@@ -62,20 +62,20 @@ fn report_on(
     alloc: Global,
     scopes: Scopes,
     relation: Relation,
-    parties: Parties,
+    inputs: Inputs,
     limits: Limits,
 ) -> Result<Reply, Memory>
-    ensures { IfOk result (IsReportOn scopes relation limits parties) }
+    ensures { IfOk result (IsReportOn scopes relation limits inputs) }
 {
     match scopes {
         Scopes::AtOnce(scope) => {
-            let outcome = compare_parties(alloc, parties, scope, relation, limits.each)?;
+            let outcome = compare_inputs(alloc, inputs, scope, relation, limits.each)?;
             let status = status_of_verdict(&outcome.verdict);
             let text = report_by(alloc, relation, &outcome)?;
             Ok(Reply::Compared { text, status })
         }
         Scopes::EachCall => {
-            let outcome = compare_named_calls(alloc, parties, relation, limits)?;
+            let outcome = compare_named_calls(alloc, inputs, relation, limits)?;
             let status = status_of_joint(joint_verdict(&outcome.calls));
             let text = report_calls_by(alloc, relation, &outcome)?;
             Ok(Reply::Compared { text, status })
@@ -99,8 +99,8 @@ fn compare_parts(
         ComparesParts scopes relation limits (map rest_of filters.old) profile.now table.now
         (Err (Fault.Verify fault))) }
 {
-    let parties = parties_in(alloc, filters, profile, table)?;
-    Ok(report_on(alloc, scopes, relation, parties, limits)?)
+    let inputs = inputs_in(alloc, filters, profile, table)?;
+    Ok(report_on(alloc, scopes, relation, inputs, limits)?)
 }
 
 /// The filters, the profile and the table of a bundle, where it holds one filter or more and one of each other kind.
@@ -140,6 +140,14 @@ pub(super) fn compare_bundle<R: Source>(
     let Some((mut filters, profile, table)) = compared_parts(alloc, &bytes)? else {
         return Err(Fault::Parts);
     };
-    let reply = compare_parts(alloc, &mut filters, profile, table, scopes, relation, limits)?;
+    let reply = compare_parts(
+        alloc,
+        &mut filters,
+        profile,
+        table,
+        scopes,
+        relation,
+        limits,
+    )?;
     Ok(reply)
 }

@@ -9,9 +9,9 @@ ghost use Rattle.scf_request.specs.declared.request.Request.TheVariants as reque
 ghost use Rattle.scf_tool.specs.Lines.{traced_text};
 ghost use Rattle.scf_tool.specs.Statuses.{LeavesFilter};
 
+use crate::buffer::Buffer;
 use crate::fault::Fault;
 use crate::filter::read_filter;
-use crate::gathered::Gathered;
 use crate::lines::write_trace;
 use crate::reply::Reply;
 use scf_insn::{CallRecord, Insn, Memory, ReadFault, Source, read_program};
@@ -45,7 +45,7 @@ pub(super) fn run_filter<R: Source>(
 fn lines_of(alloc: Global, trace: &Trace) -> Result<Vec<u8>, Memory>
     ensures { IfOk result (λ text. text.items ≡ traced_text trace.now.answer.0 trace.now.places.items) }
 {
-    let mut text = Gathered::new(alloc);
+    let mut text = Buffer::new(alloc);
     match write_trace(&mut text, trace) {
         Ok(()) => Ok(text.into_bytes()),
         Err(_) => Err(Memory),
@@ -81,7 +81,7 @@ pub(super) fn trace_filter<R: Source>(
 fn listing_of(alloc: Global, insns: &[Insn]) -> Result<Vec<u8>, Memory>
     ensures { IfOk result (λ text. text.items ≡ text_of insns.now) }
 {
-    let mut text = Gathered::new(alloc);
+    let mut text = Buffer::new(alloc);
     match disassemble(insns, &mut text) {
         Ok(()) => Ok(text.into_bytes()),
         Err(_) => Err(Memory),

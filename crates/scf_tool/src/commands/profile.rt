@@ -15,11 +15,11 @@ ghost use Rattle.scf_tool.specs.Commands.{
 };
 ghost use Rattle.scf_tool.specs.Statuses.{LeavesWhole};
 
+use crate::buffer::encoding_of;
 use crate::commands::{only, whole_input};
 use crate::fault::Fault;
-use crate::gathered::encoding_of;
+use crate::profile_inputs::profile_inputs;
 use crate::reply::Reply;
-use crate::stated::stated_by;
 use crate::verification::VerifyFault;
 use scf_compile::{CompileFault, compile};
 use scf_insn::{CallRecord, Source};
@@ -34,7 +34,7 @@ fn loaded(alloc: Global, profile: &[u8], table: &[u8]) -> Result<Loaded, VerifyF
     ensures fault { IfErr result (CantLoad profile.now table.now) }
 {
     let most = profile.len().max(table.len());
-    let said = stated_by(alloc, profile, table, most)?;
+    let said = profile_inputs(alloc, profile, table, most)?;
     Ok(said.loaded)
 }
 

@@ -3,9 +3,9 @@
 ghost use Rattle.scf_tool.specs.Commands.{Assembles};
 ghost use Rattle.scf_tool.specs.Statuses.{LeavesWhole};
 
+use crate::buffer::encoding_of;
 use crate::commands::whole_input;
 use crate::fault::Fault;
-use crate::gathered::encoding_of;
 use crate::reply::Reply;
 use scf_insn::Source;
 use scf_text::{TextFault, assemble};

@@ -5,7 +5,7 @@ use Rattle.scf_tool.proofs.call_verification.compare_calls.Goals as goal
 pub loop-call-preserved : goal.loop-call-preserved
 loop-call-preserved c =
     rw (take_more _ _ c.call-item.result c.loop-call-test.true, c.in_ok-push.ensures.items)
-    (one_verdict_more c.args.relation c.args.parties.now.stack c.args.parties.now.loaded.profile c.args.limits.each _ _
+    (one_verdict_more c.args.relation c.args.inputs.now.stack c.args.inputs.now.loaded.profile c.args.limits.each _ _
     _ _ _ _ _ c.loop-call.invariant (rw c.call-item.is at c.in_ok-verdict.ensures))
 
 pub returns : goal.returns

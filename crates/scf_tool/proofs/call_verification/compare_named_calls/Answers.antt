@@ -3,4 +3,4 @@ use Rattle.scf_tool.proofs.call_verification.compare_named_calls.Goals as goal
 
 pub returns : goal.returns
 returns c = λ filters table profile read.
-    parties_are_compared filters table profile c.args.parties _ read c.in_ok-calls.ensures
+    parties_are_compared filters table profile c.args.inputs _ read c.in_ok-calls.ensures

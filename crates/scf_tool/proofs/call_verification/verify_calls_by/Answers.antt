@@ -6,7 +6,7 @@ pub returns-in_err-compare_named_calls-clause-answer : goal.returns-in_err-compa
 returns-in_err-compare_named_calls-clause-answer g c =
     let p = err_from_is_err_and c.from_residual-in_err-compare_named_calls.result
     c.from_residual-in_err-compare_named_calls.ensures.1 in
-    rw (p.1, p.2) (parties_are_read _ _ _ _ c.in_ok-parties.ensures.parties)
+    rw (p.1, p.2) (parties_are_read _ _ _ _ c.in_ok-inputs.ensures.inputs)
 
 pub returns-clause-answer : goal.returns-clause-answer
-returns-clause-answer g c = c.in_ok-compare_named_calls.ensures _ _ _ c.in_ok-parties.ensures.parties
+returns-clause-answer g c = c.in_ok-compare_named_calls.ensures _ _ _ c.in_ok-inputs.ensures.inputs

@@ -6,10 +6,10 @@ use Rattle.scf_tool.proofs.lines.write_places.Goals as goal
 pub loop-place-preserved : goal.loop-place-preserved
 loop-place-preserved g c =
     each_takes (λ (place : ℕ). codes " " ++ decimal place) c.args.places.now c.loop-place.place-index _
-    c.loop-place-test.true c.loop-place.invariant (rw append-nil at c.in_ok-write_pieces.ensures)
+    c.loop-place-test.true c.loop-place.invariant (rw append-nil at c.in_ok-write_fragments.ensures)
 
-pub returns-in_err-write_pieces : goal.returns-in_err-write_pieces
-returns-in_err-write_pieces g c =
+pub returns-in_err-write_fragments : goal.returns-in_err-write_fragments
+returns-in_err-write_fragments g c =
     rw (err_from_is_err_and c.from_residual.result c.from_residual.ensures.1).1
     (each_fails (λ (place : ℕ). codes " " ++ decimal place) c.args.places.now c.loop-place.place-index _
-    c.loop-place-test.true c.loop-place.invariant (rw append-nil at c.in_err-write_pieces.ensures))
+    c.loop-place-test.true c.loop-place.invariant (rw append-nil at c.in_err-write_fragments.ensures))

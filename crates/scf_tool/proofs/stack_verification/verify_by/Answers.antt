@@ -2,11 +2,11 @@ use Rattle.scf_tool.proofs.Common.{err_from_is_err_and}
 use Rattle.scf_tool.proofs.PartyLemmas.{parties_are_read}
 use Rattle.scf_tool.proofs.stack_verification.verify_by.Goals as goal
 
-pub returns-in_err-compare_parties-clause-answer : goal.returns-in_err-compare_parties-clause-answer
-returns-in_err-compare_parties-clause-answer g c =
-    let p = err_from_is_err_and c.from_residual-in_err-compare_parties.result
-    c.from_residual-in_err-compare_parties.ensures.1 in
-    rw (p.1, p.2) (parties_are_read _ _ _ _ c.in_ok-parties.ensures.parties)
+pub returns-in_err-compare_inputs-clause-answer : goal.returns-in_err-compare_inputs-clause-answer
+returns-in_err-compare_inputs-clause-answer g c =
+    let p = err_from_is_err_and c.from_residual-in_err-compare_inputs.result
+    c.from_residual-in_err-compare_inputs.ensures.1 in
+    rw (p.1, p.2) (parties_are_read _ _ _ _ c.in_ok-inputs.ensures.inputs)
 
 pub returns-clause-answer : goal.returns-clause-answer
-returns-clause-answer g c = c.in_ok-compare_parties.ensures _ _ _ c.in_ok-parties.ensures.parties
+returns-clause-answer g c = c.in_ok-compare_inputs.ensures _ _ _ c.in_ok-inputs.ensures.inputs

@@ -1,59 +1,59 @@
-//! Bytes that are gathered in memory.
+//! A writer into memory.
 
 ghost use Rattle.std.specs.Prelude.{◌≡◌, [], IfOk};
 ghost use Rattle.scf_insn.specs.Insn.{program_bytes};
-ghost use Rattle.scf_tool.specs.internal.Gathering.{gathered};
+ghost use Rattle.scf_tool.specs.internal.Gathering.{buffered};
 
 use scf_insn::{Failed, Insn, Memory, Sink, write_program};
 use std::alloc::{AllocError, Global};
 
-/// A writer that keeps what it takes. A write fails where memory is refused.
+/// A writer that keeps what is written. A write fails if an allocation fails.
 #[derive(Drop)]
-pub(crate) struct Gathered {
+pub(crate) struct Buffer {
     bytes: Vec<u8>,
     failures: u64,
 }
 
-impl Gathered {
-    /// Nothing was taken so far.
-    pub(crate) fn new(alloc: Global) -> Gathered
-        ensures { gathered result ≡ [] }
+impl Buffer {
+    /// An empty buffer.
+    pub(crate) fn new(alloc: Global) -> Buffer
+        ensures { buffered result ≡ [] }
     {
-        Gathered {
+        Buffer {
             bytes: Vec::new(alloc),
             failures: 0,
         }
     }
 
-    /// Nothing was taken so far, and so many bytes can be without memory.
-    pub(crate) fn with_room(alloc: Global, room: usize) -> Result<Gathered, AllocError>
-        ensures { IfOk result (λ g. gathered g ≡ []) }
+    /// An empty buffer with room for this many bytes.
+    pub(crate) fn with_room(alloc: Global, room: usize) -> Result<Buffer, AllocError>
+        ensures { IfOk result (λ g. buffered g ≡ []) }
     {
-        Ok(Gathered {
+        Ok(Buffer {
             bytes: Vec::with_capacity(alloc, room)?,
             failures: 0,
         })
     }
 
-    /// What was taken.
+    /// The bytes written.
     pub(crate) fn as_bytes(&self) -> &[u8]
-        ensures { result.now ≡ gathered self.now }
+        ensures { result.now ≡ buffered self.now }
     {
         &self.bytes
     }
 
-    /// What was taken.
+    /// The bytes written.
     pub(crate) fn into_bytes(self) -> Vec<u8>
-        ensures { result.items ≡ gathered self }
+        ensures { result.items ≡ buffered self }
     {
         self.bytes
     }
 }
 
-impl Sink for Gathered {
+impl Sink for Buffer {
     ghost use Rattle.std.specs.Prelude.{Some};
 
-    ghost contents = { λ s. Some (gathered s) };
+    ghost contents = { λ s. Some (buffered s) };
 
     ghost failures = { λ s. s.failures };
 
@@ -72,7 +72,7 @@ impl Sink for Gathered {
 pub(crate) fn encoding_of(alloc: Global, insns: &[Insn]) -> Result<Vec<u8>, Memory>
     ensures { IfOk result (λ bytes. bytes.items ≡ program_bytes insns.now) }
 {
-    let mut bytes = Gathered::new(alloc);
+    let mut bytes = Buffer::new(alloc);
     match write_program(insns, &mut bytes) {
         Ok(()) => Ok(bytes.into_bytes()),
         Err(_) => Err(Memory),

@@ -1,5 +1,5 @@
 use Rattle.scf_tool.proofs.Common.{arith, inl, inr, err_from_is_err_and}
-use Rattle.scf_tool.proofs.stated.stated_by.Goals as goal
+use Rattle.scf_tool.proofs.profile_inputs.profile_inputs.Goals as goal
 
 pub returns-then-table-most-clause-refused : goal.returns-then-table-most-clause-refused
 returns-then-table-most-clause-refused c = λ is. inl (omega (arith, is, c.if-table-most.true))

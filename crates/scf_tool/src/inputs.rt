@@ -1,14 +1,14 @@
-//! The parties of a comparison, from their bytes.
+//! The inputs of a comparison, from their bytes.
 
 ghost use Rattle.std.specs.Prelude.{map, Some, IfOk, IfErr};
 ghost use Rattle.scf_tool.specs.Commands.{NoReadFailed};
 ghost use Rattle.scf_tool.specs.Verifying.{LeavesProfileReader, LeavesTableReader};
 ghost use Rattle.scf_tool.specs.VerifyingStacks.{IsRefusedStack, LeavesFilterReaders};
 ghost use Rattle.scf_request.specs.Contents.{rest_of};
-ghost use Rattle.scf_tool.specs.internal.Verification.{AreParties};
+ghost use Rattle.scf_tool.specs.internal.Verification.{AreInputs};
 
 use crate::filter_stack::{read_stack, stack_of};
-use crate::stated::stated_by;
+use crate::profile_inputs::profile_inputs;
 use crate::verification::{VerifyFault, read_profile, read_table};
 use scf_insn::Source;
 use scf_machine::FilterStack;
@@ -16,22 +16,22 @@ use scf_profile::{CallTable, Loaded, MAX_TEXT_LEN};
 use scf_request::PartReader;
 use std::alloc::Global;
 
-/// What is compared: a stack of filters and a profile, with the table that names the calls.
+/// The inputs of a comparison: a stack of filters, a syscall table and a profile loaded with it.
 #[derive(Drop)]
-pub(crate) struct Parties {
+pub(crate) struct Inputs {
     pub stack: FilterStack,
     pub names: CallTable,
     pub loaded: Loaded,
 }
 
-/// The stack, the call table and the profile that readers have, read in this order.
-pub(crate) fn read_parties<F: Source, P: Source, T: Source>(
+/// Reads the stack, the table and the profile, in this order.
+pub(crate) fn read_inputs<F: Source, P: Source, T: Source>(
     alloc: Global,
     filter_readers: &mut [F],
     profile_reader: &mut P,
     table_reader: &mut T,
-) -> Result<Parties, VerifyFault>
-    ensures parties { IfOk result (AreParties (map F.remaining filter_readers.old)
+) -> Result<Inputs, VerifyFault>
+    ensures inputs { IfOk result (AreInputs (map F.remaining filter_readers.old)
         (T.remaining table_reader.old) (P.remaining profile_reader.old)) }
     ensures refused { IfErr result (IsRefusedStack (map F.remaining filter_readers.old)
         (T.remaining table_reader.old) (P.remaining profile_reader.old)) }
@@ -42,29 +42,29 @@ pub(crate) fn read_parties<F: Source, P: Source, T: Source>(
     let stack = read_stack(alloc, filter_readers)?;
     let names = read_table(alloc, table_reader)?;
     let loaded = read_profile(alloc, profile_reader, &names)?;
-    Ok(Parties {
+    Ok(Inputs {
         stack,
         names,
         loaded,
     })
 }
 
-/// The stack, the call table and the profile that the parts of a bundle hold, each no longer than a reader may have it.
-pub(crate) fn parties_in(
+/// The stack, the table and the profile of a bundle's parts, within the limits of readers.
+pub(crate) fn inputs_in(
     alloc: Global,
     filters: &mut [PartReader<'_>],
     profile: &[u8],
     table: &[u8],
-) -> Result<Parties, VerifyFault>
-    ensures parties { IfOk result (AreParties (map Some (map rest_of filters.old))
+) -> Result<Inputs, VerifyFault>
+    ensures inputs { IfOk result (AreInputs (map Some (map rest_of filters.old))
         (Some table.now) (Some profile.now)) }
     ensures refused { IfErr result (IsRefusedStack (map Some (map rest_of filters.old))
         (Some table.now) (Some profile.now)) }
     ensures read { IfErr result NoReadFailed }
 {
     let stack = stack_of(alloc, filters)?;
-    let said = stated_by(alloc, profile, table, MAX_TEXT_LEN)?;
-    Ok(Parties {
+    let said = profile_inputs(alloc, profile, table, MAX_TEXT_LEN)?;
+    Ok(Inputs {
         stack,
         names: said.names,
         loaded: said.loaded,

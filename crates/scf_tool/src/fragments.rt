@@ -1,17 +1,17 @@
-//! Lines, written piece by piece without memory.
+//! Fragments of lines, written without allocating.
 
 ghost use Rattle.std.specs.Prelude.{◌≡◌};
 ghost use Rattle.std.specs.List.{flat_map};
 ghost use Rattle.scf_insn.specs.Streams.{Writes};
 ghost use Rattle.scf_tool.specs.Numerals.{eight_digits};
-ghost use Rattle.scf_tool.specs.internal.Pieces.{line_piece_text};
+ghost use Rattle.scf_tool.specs.internal.Pieces.{fragment_text};
 
-use LinePiece::{Decimal, EightDigits, Hexadecimal, Text};
+use Fragment::{Decimal, EightDigits, Hexadecimal, Text};
 use scf_insn::{Sink, WriteFault, digit_byte, write_numeral, write_whole};
 
-/// A piece of a line.
+/// A fragment of a line.
 #[derive(Clone, Copy)]
-pub(crate) enum LinePiece<'a> {
+pub(crate) enum Fragment<'a> {
     Text(&'a str),
     /// A number in decimal, without leading zeros.
     Decimal(u64),
@@ -36,8 +36,8 @@ fn eight_digits_of(number: u32) -> [u8; 8]
     ]
 }
 
-fn write_piece<S: Sink>(sink: &mut S, piece: LinePiece<'_>) -> Result<(), WriteFault>
-    ensures { Writes S.contents S.failures sink.old (line_piece_text piece.entry) result sink.new }
+fn write_fragment<S: Sink>(sink: &mut S, piece: Fragment<'_>) -> Result<(), WriteFault>
+    ensures { Writes S.contents S.failures sink.old (fragment_text piece.entry) result sink.new }
 {
     match piece {
         Text(text) => write_whole(sink, text.as_bytes()),
@@ -47,15 +47,15 @@ fn write_piece<S: Sink>(sink: &mut S, piece: LinePiece<'_>) -> Result<(), WriteF
     }
 }
 
-/// Writes the pieces one after another, or fails after a beginning of their text.
-pub(crate) fn write_pieces<S: Sink>(
+/// Writes fragments one after another; or a prefix of their text, if writing fails.
+pub(crate) fn write_fragments<S: Sink>(
     sink: &mut S,
-    pieces: &[LinePiece<'_>],
+    pieces: &[Fragment<'_>],
 ) -> Result<(), WriteFault>
-    ensures { Writes S.contents S.failures sink.old (flat_map line_piece_text pieces.now) result sink.new }
+    ensures { Writes S.contents S.failures sink.old (flat_map fragment_text pieces.now) result sink.new }
 {
     for piece in pieces {
-        write_piece(sink, *piece)?;
+        write_fragment(sink, *piece)?;
     }
     Ok(())
 }

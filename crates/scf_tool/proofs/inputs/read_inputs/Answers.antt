@@ -1,5 +1,5 @@
 use Rattle.scf_tool.proofs.Common.{inl, inr, err_from_is_err_and}
-use Rattle.scf_tool.proofs.parties.read_parties.Goals as goal
+use Rattle.scf_tool.proofs.inputs.read_inputs.Goals as goal
 
 pub returns-in_err-stack-clause-refused : goal.returns-in_err-stack-clause-refused
 returns-in_err-stack-clause-refused g c =
