@@ -13,7 +13,7 @@ if TYPE_CHECKING:
     from typing import NoReturn
 
 TOP = os.path.dirname(os.path.dirname(os.path.dirname(os.path.realpath(__file__))))
-# The launcher, in the sources; where scf is installed, the program itself.
+# Where scf is installed, the program itself; in the sources the launcher, which builds it, and what was built.
 SCF = os.path.join(TOP, "scf")
 BUILT = os.path.join(TOP, "crates", "scf", "out", "scf")
 TABLE = os.path.join(TOP, "tables", "x86_64.table")
@@ -97,12 +97,9 @@ class Done:
         return lines_of(self.text)
 
 
-_is_current = False
-
-
 def _program() -> str:
-    """scf: the first time by its launcher, which makes it current; then the built program itself."""
-    return BUILT if _is_current and os.access(BUILT, os.X_OK) else SCF
+    """scf as it was built, or its launcher where it wasn't yet."""
+    return BUILT if os.access(BUILT, os.X_OK) else SCF
 
 
 def _holding(data: bytes) -> int:
@@ -132,7 +129,6 @@ def _all_of(file: int) -> bytes:
 
 def scf(words: Sequence[str], given: bytes | None = b"") -> Done:
     """Runs scf on these bytes; where they are None, on this process's standard input."""
-    global _is_current  # pylint: disable=global-statement
     ends = os.pipe()
     actions: list[tuple] = [(os.POSIX_SPAWN_DUP2, ends[1], 1)]
     source = None if given is None else _holding(given)
@@ -154,7 +150,6 @@ def scf(words: Sequence[str], given: bytes | None = b"") -> Done:
     if status == NO_PROGRAM:
         # its launcher has said why
         finish(status)
-    _is_current = True
     return Done(status, out)
 
 
