@@ -193,9 +193,8 @@ class Statuses(Case):
             self.assertEqual(self.run_words([SCF, "check"], ret(ALLOW), stdout=full)[0], 3)
 
     def test_no_kit_and_no_program(self):
-        os.makedirs(f"{self.folder}/tools")
         shutil.copy2(SCF, self.folder)
-        shutil.copy2(os.path.join(TOP, "tools", "built"), f"{self.folder}/tools")
+        shutil.copy2(os.path.join(TOP, "build"), self.folder)
         os.makedirs(f"{self.folder}/crates/scf")
         self.assertEqual(self.run_words([f"{self.folder}/scf", "check"], ret(ALLOW),
                                         env={"PATH": "/usr/bin:/bin"})[0], 125)
