@@ -46,14 +46,6 @@ packages is imported. So it adds its own folder to the path of imports, by its r
     changes     two profiles beside each other, call by call
     change_lines  how changes from one profile to another are told
 
-And those of `tools/kernel`:
-
-    kernel_programs   programs that a kernel is asked about
-    kernel_profiles   profiles that it is asked about, and a small reading of their JSON
-    kernel_child      a child process that asks the running kernel, by machine code alone
-    kernel_asking     what the kernel did, held against what scf says
-    kernel_otherwise  the rows of docs/KERNEL.md: what the kernel does otherwise on purpose
-
 One word for one thing. A *plain* filter or profile is what the theorem calls so (docs/HEADLINE.md). A
 *resolved* profile is what an engine makes of its own profile for one container, without `includes`, `excludes` and the
 like. *Native* calls are those of x86-64 with numbers below 0x40000000, the others are *foreign*. A call *differs* where

@@ -14,6 +14,8 @@ import time
 import unittest
 
 TOP = os.path.dirname(os.path.dirname(os.path.dirname(os.path.abspath(__file__))))
+# (some tests read profiles a second way, as those of the kernel do)
+sys.path[:0] = [os.path.join(TOP, "tools"), os.path.join(TOP, "conformance")]
 SCF = os.path.join(TOP, "scf")
 TABLE = os.path.join(TOP, "tables", "x86_64.table")
 X86_64, I386 = 0xC000003E, 0x40000003
@@ -25,6 +27,11 @@ PATIENCE = 3600
 
 def tool(name):
     return os.path.join(TOP, "tools", name)
+
+
+def for_developers(name):
+    """A program for those who change scf."""
+    return os.path.join(TOP, "dev", name)
 
 
 def module(name):
@@ -170,7 +177,7 @@ class Case(unittest.TestCase):
     def made_tree(self, scf):
         """A tree with the tools, the table and the page of faults, and a program that stands in for scf."""
         tree = tempfile.mkdtemp(dir=self.folder)
-        for name in ("tools", "tables", "docs"):
+        for name in ("tools", "conformance", "tables", "docs"):
             shutil.copytree(os.path.join(TOP, name), os.path.join(tree, name),
                             ignore=shutil.ignore_patterns("tests", "__pycache__"))
         with open(os.path.join(tree, "scf"), "w", encoding="utf-8") as file:

@@ -10,9 +10,10 @@ from test_why import reading
 
 sys.path.append(os.path.join(TOP, "tools"))
 
-from scftools import changes, kernel_profiles, tables  # noqa: E402
+import kernel_profiles  # noqa: E402
+from kernel_profiles import answer_of  # noqa: E402
+from scftools import changes, tables  # noqa: E402
 from scftools.calls import Call  # noqa: E402
-from scftools.kernel_profiles import answer_of  # noqa: E402
 
 ALLOW, ERRNO = "SCMP_ACT_ALLOW", "SCMP_ACT_ERRNO"
 NOT_40 = [{"index": 0, "value": 40, "op": "SCMP_CMP_NE"}]

@@ -9,7 +9,8 @@ from test_output import HOSTILE
 
 sys.path.append(os.path.join(TOP, "tools"))
 
-from scftools import kernel_profiles, linting, program, tables  # noqa: E402
+import kernel_profiles  # noqa: E402
+from scftools import linting, program, tables  # noqa: E402
 
 ALLOW, ERRNO, TOP_OF = "SCMP_ACT_ALLOW", "SCMP_ACT_ERRNO", (1 << 64) - 1
 ACTIONS = ("ALLOW", "LOG", "ERRNO", "TRACE", "TRAP", "NOTIFY", "KILL", "KILL_THREAD", "KILL_PROCESS")

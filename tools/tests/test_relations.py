@@ -13,7 +13,8 @@ from stand_in import StandIn
 
 sys.path.append(os.path.join(TOP, "tools"))
 
-from scftools import answers, calls, foreign, kernel_profiles, tables  # noqa: E402
+import kernel_profiles  # noqa: E402
+from scftools import answers, calls, foreign, tables  # noqa: E402
 
 READ, WRITE, SOCKET, GETPID, EXIT_GROUP = 0, 1, 41, 39, 231
 ENOSYS, TRAP, USER_NOTIF, TRACE, LOG = 0x00050026, 0x00030000, 0x7FC00000, 0x7FF00000, 0x7FFC0000

@@ -12,7 +12,8 @@ from stand_in import StandIn
 
 sys.path.append(os.path.join(TOP, "tools"))
 
-from scftools import kernel_profiles, paths, reasons, tables  # noqa: E402
+import kernel_profiles  # noqa: E402
+from scftools import paths, reasons, tables  # noqa: E402
 from scftools.calls import Call  # noqa: E402
 
 X32, WORD = 0x40000000, (1 << 32) - 1

@@ -6,10 +6,10 @@ import random
 from collections.abc import Sequence
 from typing import Any
 
-from .answers import X32, X86_64, Answer
-from .calls import Call
-from .kernel_child import SITE, call_at
-from .kernel_programs import Calls
+from kernel_child import SITE, call_at
+from kernel_programs import Calls
+from scftools.answers import X32, X86_64, Answer
+from scftools.calls import Call
 
 # Numbers that no kernel has, and calls that do nothing.
 TABLE = {**{f"t{number}": number for number in (*range(400000, 400012), 500000, 0x10000, X32 - 1, 1000)},

@@ -7,9 +7,9 @@ from collections.abc import Iterator, Sequence
 from dataclasses import replace
 from typing import NamedTuple
 
-from .answers import I386, X86_64
-from .calls import Call
-from .kernel_child import NR_SECCOMP, SITE, SITES, call_at, is_gate
+from kernel_child import NR_SECCOMP, SITE, SITES, call_at, is_gate
+from scftools.answers import I386, X86_64
+from scftools.calls import Call
 
 WORD = 1 << 32
 MOST, MOST_OF_HEADER = 4096, 65535

@@ -1,4 +1,4 @@
-"""tools/kernel: the running kernel does what scf says; a change that is planted in what scf says is seen; what differs
+"""conformance/kernel: the running kernel does what scf says; a change that is planted in what scf says is seen; what differs
 is kept and can be repeated; where nothing can be asked, that is said."""
 import ctypes
 import json
@@ -9,16 +9,22 @@ import struct
 import sys
 import unittest
 
-from common import ALLOW, TOP, Case, insn, jeq, load, ret, taken
-from stand_in import OF_ANSWERS, OF_CHECKER, StandIn
+HERE = os.path.dirname(os.path.abspath(__file__))
+TOOLS = os.path.join(os.path.dirname(HERE), "tools")
+sys.path[:0] = [os.path.join(TOOLS, "tests"), TOOLS]
 
-sys.path.append(os.path.join(TOP, "tools"))
-from scftools import kernel_asking, kernel_child, kernel_otherwise, kernel_profiles  # noqa: E402
-from scftools import kernel_programs as programs  # noqa: E402
+import kernel_cases  # noqa: E402
+import kernel_child  # noqa: E402
+import kernel_exceptions  # noqa: E402
+import kernel_profiles  # noqa: E402
+import kernel_programs as programs  # noqa: E402
+from common import ALLOW, TOP, Case, insn, jeq, load, ret, taken  # noqa: E402
+from kernel_child import Setting  # noqa: E402
 from scftools.answers import REFUSED, Answer  # noqa: E402
 from scftools.calls import Call  # noqa: E402
-from scftools.kernel_child import Setting  # noqa: E402
+from stand_in import OF_ANSWERS, OF_CHECKER, StandIn  # noqa: E402
 
+PROGRAM = os.path.join(HERE, "kernel")
 # linux/prctl.h, linux/seccomp.h
 PR_SET_NO_NEW_PRIVS, PR_SET_SECCOMP, SECCOMP_MODE_FILTER = 38, 22, 2
 NR_SECCOMP, NR_PTRACE = 317, 101
@@ -60,10 +66,10 @@ class Remembering(kernel_child.Kernel):
 
 
 class Asked(Case):
-    """Asks the kernel as tools/kernel does."""
+    """Asks the kernel as conformance/kernel does."""
 
     def asked(self, *words, **settings):
-        status, out, err = self.run_tool("kernel", *words, **settings)
+        status, out, err = self.run_words([PROGRAM, *words], **settings)
         self.assertEqual(err, "")
         if status == 4 and "preexec_fn" not in settings:
             self.skipTest(out.split("\n")[0])
@@ -86,7 +92,7 @@ class Gate(Asked):
         if not any(line.startswith("skipped: calls:") for line in lines):
             self.assertGreater(counts["filters and stacks"], 200)
             self.assertEqual(counts["profiles"], 50)
-        self.assertEqual(sum(line.startswith("otherwise: ") for line in lines), len(kernel_otherwise.ROWS))
+        self.assertEqual(sum(line.startswith("otherwise: ") for line in lines), len(kernel_exceptions.ROWS))
         self.assertLess(seconds, MOST_SECONDS)
         self.assertEqual(os.listdir(self.folder), [])
 
@@ -94,7 +100,7 @@ class Gate(Asked):
         with open(os.path.join(TOP, "docs", "KERNEL.md"), encoding="utf-8") as file:
             text = file.read().split("## Where the kernel does otherwise")[1]
         rows = re.findall(r"^\| ([^|]+?) \|", text.split("\n## ")[0], re.M)
-        self.assertEqual(rows[1:], list(kernel_otherwise.ROWS))
+        self.assertEqual(rows[1:], list(kernel_exceptions.ROWS))
 
 
 # Actions without a name, on both sides of each that linux/seccomp.h names.
@@ -126,27 +132,27 @@ class Planted(unittest.TestCase):
     def setUpClass(cls):
         try:
             cls.kernel = Remembering()
-            cls.abilities = kernel_asking.abilities(cls.kernel)
+            cls.abilities = kernel_cases.abilities(cls.kernel)
         except kernel_child.Unavailable as why:
             raise unittest.SkipTest(str(why)) from why
         if cls.abilities.filtered:
             raise unittest.SkipTest("this process has filters already")
         calls = programs.Calls(cls.abilities.i386, cls.abilities.x32)
         packed = programs.packed
-        cls.filters = [kernel_asking.Case("filter", [packed(one)], calls.of_corners(random.Random(f"{place}"), 12))
+        cls.filters = [kernel_cases.Case("filter", [packed(one)], calls.of_corners(random.Random(f"{place}"), 12))
                        for place, one in enumerate(programs.chosen_filters())]
-        cls.stacks = [kernel_asking.Case("stack", [*map(packed, one)], calls.many(random.Random(f"{place}"), one, 1))
+        cls.stacks = [kernel_cases.Case("stack", [*map(packed, one)], calls.many(random.Random(f"{place}"), one, 1))
                       for place, one in enumerate(programs.chosen_stacks())]
-        cls.programs = [kernel_asking.Case("program", [packed(one)]) for one in programs.chosen_programs()][::-1]
+        cls.programs = [kernel_cases.Case("program", [packed(one)]) for one in programs.chosen_programs()][::-1]
 
     def programs_differ(self, plant):
         """Whether any of the chosen programs is seen to differ."""
-        asking = kernel_asking.Asking(self.kernel, StandIn(plant))
+        asking = kernel_cases.Asking(self.kernel, StandIn(plant))
         return any(asking.programs(self.programs[at:at + 100]) for at in range(0, len(self.programs), 100))
 
     def calls_differ(self, plant):
         """Whether any call under the chosen filters and stacks is."""
-        asking = kernel_asking.Asking(self.kernel, StandIn(plant))
+        asking = kernel_cases.Asking(self.kernel, StandIn(plant))
         return any(asking.calls(case) for case in (*self.filters, *self.stacks))
 
     def test_what_is_planted_is_seen(self):
@@ -163,7 +169,7 @@ class Planted(unittest.TestCase):
         notify, trace = ret(0x7FC00000), ret(0x7FF00007)
         calls = [kernel_child.call_at(site, number, (1 << 63, 2, 3, 4, 5, 6))
                  for site, number in ((kernel_child.SITE, 39), (kernel_child.SITE, 400000), (kernel_child.SITE, 110))]
-        asking = kernel_asking.Asking(self.kernel, StandIn())
+        asking = kernel_cases.Asking(self.kernel, StandIn())
         for filters, setting in (([notify], Setting(listener=0)), ([trace], Setting(traced=True))):
             with self.subTest(setting):
                 if not (self.abilities.listener if setting.listener == 0 else self.abilities.tracer):
@@ -173,7 +179,7 @@ class Planted(unittest.TestCase):
                 for text in texts:
                     self.assertRegex(text, r"^the (listener is told nr 0x[0-9a-f]+ arch 0xc000003e ip 0x5c0f1e00402 "
                                            r"args 0x8000000000000000 0x2 0x3 0x4 0x5 0x6|tracer is told 7), returns ")
-                case = kernel_asking.Case("it", filters, calls, setting)
+                case = kernel_cases.Case("it", filters, calls, setting)
                 self.assertEqual(asking.calls(case), [])
                 # another setting isn't taken for this one
                 case.setting = Setting()
@@ -231,7 +237,7 @@ class Kept(Asked):
     def kept(self, place="case", **parts):
         folder = os.path.join(self.folder, place)
         case = {"name": "it", "filters": [ret(0x00050007)], "calls": [kernel_child.call_at(kernel_child.SITE, 39, ())]}
-        kernel_asking.Case(**{**case, **parts}).keep(folder, ["a line"])
+        kernel_cases.Case(**{**case, **parts}).keep(folder, ["a line"])
         return folder
 
     def test_a_case_is_repeated(self):
@@ -247,12 +253,12 @@ class Kept(Asked):
         folder = self.kept()
         os.remove(os.path.join(folder, "0.bpf"))
         for name in (folder, self.folder, os.path.join(self.folder, "none")):
-            status, out, err = self.run_tool("kernel", "--repeat", name)
+            status, out, err = self.run_words([PROGRAM, "--repeat", name])
             self.assertEqual(status, 3, out)
             self.assertIn("holds no case", err)
 
     def test_members_that_no_case_has(self):
-        line = kernel_asking.line_of(kernel_child.call_at(kernel_child.SITE, 39, ()))
+        line = kernel_cases.line_of(kernel_child.call_at(kernel_child.SITE, 39, ()))
         rows = [{"name": value} for value in ("\ud800", "a\nb", 1)]
         rows += [{"filters": value} for value in (0, -1, 9, 1 << 70, True, 1.0, "1", None)]
         rows += [{"calls": value} for value in ("", {}, [1], ["call"], [line] * 25)]
@@ -269,9 +275,9 @@ class Kept(Asked):
         for text in (*texts, "[" * 100000, "[]", "1", "{", b"\xff"):
             with self.subTest(text[:200]):
                 self.file("case/case.json", text)
-                self.assertRaises((ValueError, LookupError, TypeError, RecursionError), kernel_asking.Case.kept, folder)
+                self.assertRaises((ValueError, LookupError, TypeError, RecursionError), kernel_cases.Case.kept, folder)
         self.file("case/case.json", json.dumps(case))
-        self.assertEqual(kernel_asking.Case.kept(folder).filters, [ret(0x00050007)])
+        self.assertEqual(kernel_cases.Case.kept(folder).filters, [ret(0x00050007)])
 
     def test_such_members_are_no_traceback(self):
         for place, (parts, name, data) in enumerate((
@@ -281,14 +287,14 @@ class Kept(Asked):
                 ({"filters": [], "profile": b'{"defaultAction": "SCMP_ACT_ALLOW"}'}, "said", b""))):
             folder = self.kept(f"{place}", **parts)
             self.file(f"{place}/{name}", data)
-            status, out, err = self.run_tool("kernel", "--repeat", folder)
+            status, out, err = self.run_words([PROGRAM, "--repeat", folder])
             self.assertEqual(status, 3, (place, out, err))
             self.assertRegex(err, r"^kernel: '.*' holds no case: .*\n$", place)
 
     def test_what_differs_is_printed_and_kept(self):
         """A program that says the same of each filter stands in for scf."""
         tree = self.made_tree('#!/bin/sh\ncase $1 in check) echo "accepted 1" ;; *) echo "ERRNO 8" ;; esac\n')
-        words = [os.path.join(tree, "tools", "kernel"), "--repeat"]
+        words = [os.path.join(tree, "conformance", "kernel"), "--repeat"]
         status, out, err = self.run_words([*words, self.kept()])
         self.assertEqual((status, err), (1, ""), out)
         self.assertEqual(out.split("\n")[1:-1], [
@@ -305,7 +311,7 @@ class Kept(Asked):
         name = sorted(os.listdir(kept))[0]
         self.assertEqual(sorted(os.listdir(os.path.join(kept, name))), ["0.bpf", "case.json", "said"])
         with open(os.path.join(kept, name, "said"), encoding="utf-8") as file:
-            self.assertIn(f"repeat it by: tools/kernel --repeat kernel-failures-x/{name}\n", file.read())
+            self.assertIn(f"repeat it by: conformance/kernel --repeat kernel-failures-x/{name}\n", file.read())
         self.assertIn(f"    kept in kernel-failures-x/{name}", out.split("\n"))
         status, out, err = self.run_words([words[0], *few, "--failures", b"\xff"])
         self.assertEqual((status, err), (1, ""), out)
@@ -338,21 +344,22 @@ class LeftOut(Asked):
 
 class Words(Case):
     def test_usage(self):
-        status, out, err = self.run_tool("kernel", "--help")
+        status, out, err = self.run_words([PROGRAM, "--help"])
         self.assertEqual((status, err), (0, ""))
         self.assertIn("usage: kernel", out)
         os.mkdir(os.path.join(self.folder, "full"))
         self.file("full/x", b"")
         for words in (["--no-such-option"], ["--programs=x"], ["--programs=-1"], ["--calls=25"], ["--seed=a/b"],
                       ["--failures=full"], ["word"]):
-            status, out, err = self.run_tool("kernel", *words)
+            status, out, err = self.run_words([PROGRAM, *words])
             self.assertEqual((status, out), (2, ""), words)
             self.assertIn("kernel", err)
 
     def test_any_word_is_a_seed(self):
         for seed in (b"\xff", b"\xed\xa0\x80", "\u2115\n", ""):
-            status, out, err = self.run_tool("kernel", "--seed", seed, "--programs=1", "--filters=0", "--profiles=0")
+            status, out, err = self.run_words([PROGRAM, "--seed", seed, "--programs=1", "--filters=0",
+                                                "--profiles=0"])
             self.assertIn((status, err), ((0, ""), (4, "")), out)
 
     def test_closed_output(self):
-        self.assertEqual(self.closed_output("kernel", "--programs=0", "--filters=0", "--profiles=0")[0], 3)
+        self.assertEqual(self.closed_output("../conformance/kernel", "--programs=0", "--filters=0", "--profiles=0")[0], 3)

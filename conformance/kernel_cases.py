@@ -9,11 +9,13 @@ from dataclasses import dataclass, field
 from errno import EINVAL, ENOSYS
 from typing import Any
 
-from . import bundles, kernel_child, kernel_profiles, program
-from .answers import I386, MAX_ERRNO, X86_64, Answer
-from .calls import Call
-from .kernel_child import Kernel, Setting
-from .kernel_programs import HARMLESS, Calls
+import kernel_child
+import kernel_profiles
+from kernel_child import Kernel, Setting
+from kernel_programs import HARMLESS, Calls
+from scftools import bundles, program
+from scftools.answers import I386, MAX_ERRNO, X86_64, Answer
+from scftools.calls import Call
 
 # So many programs that scf refuses are handed to one child: none of them leaves anything behind.
 TOGETHER = 32
