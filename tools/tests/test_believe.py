@@ -1,10 +1,10 @@
-"""tools/believe, on a made tree of two crates, and the lists of docs/HEADLINE.md against the sources."""
+"""dev/believe, on a made tree of two crates, and the lists of docs/HEADLINE.md against the sources."""
 import os
 import re
 import shutil
 import signal
 
-from common import TOP, Case, tool
+from common import TOP, Case, for_developers
 
 FILES = {
     "crates.txt": "low: thiserror\ntop: low\n",
@@ -121,7 +121,7 @@ class Believe(Case):
         return os.path.join(self.folder, "tree")
 
     def believe(self, *words, **changed):
-        return self.run_words([tool("believe"), "--repository", self.tree(**changed), *words])
+        return self.run_words([for_developers("believe"), "--repository", self.tree(**changed), *words])
 
     def prints(self, words, *lines):
         status, out, err = self.believe(*words)
@@ -161,13 +161,46 @@ class Believe(Case):
         for words, said in ((["none"], "there is no public call 'none'"),
                             (["made"], "'made' is one of low::made, top::made"),
                             (["low::made", "none"], "low::made has no clause 'none'"),
-                            ([], "either a CALL or a --page"), (["a", "b", "c"], "unrecognized"),
+                            ([], "either a CALL, a --page or --all"), (["a", "b", "c"], "unrecognized"),
                             (["a", "--page", "b"], "either a CALL"), (["a", "--write"], "either a CALL"),
                             (["--page", "none"], "No such file"), (["\udcff"], r"no public call '\udcff'")):
             status, out, err = self.believe(*words)
             self.assertEqual((status, out), (2, ""), words)
             self.assertIn(said, err)
             self.assertNotIn("Traceback", err)
+
+    def test_a_public_clause_stands_on_no_internal_definition(self):
+        """Neither by its own names nor by those of a definition, an operator or a whole path."""
+        inner = {"crates/low/specs/internal/States.antt": "-- Private.\nabbrev pub IsState : ℕ → Type 0\n"
+                 "abbrev pub ◌~~◌ : ℕ → ℕ → Type 0\n"}
+        self.assertEqual(self.believe("--all", **inner), (0, "", ""))
+        calls, fine = "crates/low/src/calls.rt", FILES["crates/low/specs/Fine.antt"]
+        imports = "ghost use Rattle.low.specs.internal.States.{IsState, ◌~~◌};\n" + FILES[calls]
+        private = imports + "\nfn own() -> u32\n    ensures { IsState 1 }\n{\n    1\n}\n"
+        self.assertEqual(self.believe("--all", **inner, **{calls: private}), (0, "", ""))
+        said = "stands on {} of crates/low/specs/internal/States.antt, which is internal"
+        named = "names an internal definition"
+        for name, text, *wanted in (
+                (calls, imports.replace("IsFine result", "IsState result"), "low::made", said.format("IsState")),
+                (calls, imports.replace("n < 7", "n ~~ 7"), "low::made", said.format("◌~~◌")),
+                (calls, imports.replace("{ Outcome }", "{ IsState 1 }"), "low::Made::get", said.format("IsState")),
+                (calls, FILES[calls].replace("n < 7", "Rattle.low.specs.internal.States.IsState n"), "low::made", named),
+                ("crates/low/specs/Fine.antt", fine.replace("words.by_kinds n ≡", "states.IsState n ×").replace(
+                    "as words", "as words\nuse Rattle.low.specs.internal.States as states"), "low::made",
+                 said.format("IsState"))):
+            with self.subTest(name + wanted[1]):
+                status, out, err = self.believe("--all", **inner, **{name: text})
+                self.assertEqual((status, err), (1, ""))
+                self.assertIn(" ".join(wanted) + "\n", out)
+                self.assertEqual(self.believe(wanted[0], **inner, **{name: text})[:2], (1, ""))
+
+    def test_an_operator_is_a_definition_too(self):
+        fine = FILES["crates/low/specs/Fine.antt"].replace("half n ≡ n", "half n ~~ n").replace("-- A number", """
+abbrev pub ◌~~◌ : ℕ → ℕ → Type 0
+a ~~ b = a ≡ b
+
+-- A number""")
+        self.assertIn("Fine.antt:7-8 ◌~~◌\n", self.believe("low::made", "fine", **{FINE: fine})[1])
 
     PAGE = "# A page\n\n<!-- believe low::made fine -->\n{}<!-- end -->\n\nMore.\n"
     LISTS = ("\n- low/specs/Words.antt: `low`, `by_kinds` (6 lines)\n- low/specs/Fine.antt: `IsFine` (4 lines)\n\n"
@@ -209,7 +242,7 @@ class Believe(Case):
 
     def test_the_output_fails(self):
         page = self.file("page.md", self.PAGE.format(""))
-        begin = [tool("believe"), "--repository", self.tree()]
+        begin = [for_developers("believe"), "--repository", self.tree()]
         for words in (["low::made"], ["--page", page], ["--help"]):
             with open("/dev/full", "wb") as full:
                 self.assertEqual(self.run_words([*begin, *words], stdout=full),
@@ -232,6 +265,11 @@ class Believe(Case):
             self.assertIn("More.", file.read())
 
 
+class Layers(Case):
+    def test_no_public_contract_of_this_repository_stands_on_an_internal_definition(self):
+        self.assertEqual(self.run_words([for_developers("believe"), "--all"]), (0, "", ""))
+
+
 class Headline(Case):
     """docs/HEADLINE.md."""
 
@@ -240,8 +278,8 @@ class Headline(Case):
             return file.read()
 
     def test_its_lists_are_what_the_sources_have(self):
-        """Where this fails, `tools/believe --page docs/HEADLINE.md --write` writes the lists anew."""
-        status, out, err = self.run_words([tool("believe"), "--page", os.path.join(TOP, "docs", "HEADLINE.md")])
+        """Where this fails, `dev/believe --page docs/HEADLINE.md --write` writes the lists anew."""
+        status, out, err = self.run_words([for_developers("believe"), "--page", os.path.join(TOP, "docs", "HEADLINE.md")])
         self.assertEqual((status, out, err), (0, "", ""))
 
     def test_it_has_a_list_for_each_part_of_the_headline(self):
@@ -266,10 +304,10 @@ class Headline(Case):
             shutil.copytree(os.path.join(TOP, name), os.path.join(tree, name), ignore=shutil.ignore_patterns("out"))
         shutil.copy2(os.path.join(TOP, "crates.txt"), tree)
         page = os.path.join(tree, "docs", "HEADLINE.md")
-        self.assertEqual(self.run_words([tool("believe"), "--repository", tree, "--page", page]), (0, "", ""))
+        self.assertEqual(self.run_words([for_developers("believe"), "--repository", tree, "--page", page]), (0, "", ""))
         path = os.path.join(tree, "crates", "scf_profile", "specs", "SameAnswers.antt")
         with open(path, encoding="utf-8") as file:
             text = file.read()
         with open(path, "w", encoding="utf-8") as file:
             file.write(text.replace("  pub filter : ℕ\n", "  pub filter : ℕ\n  pub more : ℕ\n"))
-        self.assertEqual(self.run_words([tool("believe"), "--repository", tree, "--page", page])[0], 1)
+        self.assertEqual(self.run_words([for_developers("believe"), "--repository", tree, "--page", page])[0], 1)

@@ -1,4 +1,4 @@
-"""The must-fail edits: each can be applied, and each public function is turned by one; and what tools/edits makes of
+"""The must-fail edits: each can be applied, and each public function is turned by one; and what dev/edits makes of
 what the prover says of them, and the kit, both made."""
 import collections
 import os
@@ -7,10 +7,10 @@ import sys
 
 from common import TOP, Case, module
 
-sys.path.insert(0, os.path.join(TOP, "tools"))
+sys.path.insert(0, os.path.join(TOP, "dev"))
 import sources  # noqa: E402
 
-EDITS = module("edits")
+EDITS = module("../dev/edits")
 
 
 class Edits(Case):
@@ -117,7 +117,7 @@ KIND = """pub struct Kind<'a, T> {
 
 
 class Functions(Case):
-    """What tools/sources.py has of the functions of a crate: the names are the prover's."""
+    """What dev/sources.py has of the functions of a crate: the names are the prover's."""
 
     TEXTS = {"src/lib.rt": LOW, "src/more.rt": MORE, "src/kind.rt": KIND}
 
@@ -187,14 +187,14 @@ LEAST = "note: src/lib.rt:17:1: it is not proved that what the function ensures 
 
 
 class Trials(Case):
-    """tools/edits, in a made tree of two crates."""
+    """dev/edits, in a made tree of two crates."""
 
     def setUp(self):
         super().setUp()
         self.tree = os.path.join(self.folder, "tree")
-        os.makedirs(os.path.join(self.tree, "tools"))
+        os.makedirs(os.path.join(self.tree, "dev"))
         for name in ("edits", "sources.py"):
-            shutil.copy2(os.path.join(TOP, "tools", name), os.path.join(self.tree, "tools"))
+            shutil.copy2(os.path.join(TOP, "dev", name), os.path.join(self.tree, "dev"))
         for name, text in (("crates.txt", "# crates\nlow: thiserror\ntop: low\nplain:\n"), ("HANDLES", ""),
                            ("crates/low/src/lib.rt", LOW), ("crates/low/src/more.rt", MORE),
                            ("crates/low/src/kind.rt", KIND), ("crates/low/specs/Lib.antt", "-- Low.\n"),
@@ -207,7 +207,7 @@ class Trials(Case):
             self.file(f"tree/{name}", text)
         for name, text in (("kit/bin/rattle", PROVER), ("bin/rt", KIT)):
             os.chmod(self.file(name, text), 0o755)
-        self.words = [os.path.join(self.tree, "tools", "edits")]
+        self.words = [os.path.join(self.tree, "dev", "edits")]
         self.env = {**os.environ, "PATH": f"{self.folder}/bin:{os.environ['PATH']}", "KIT": f"{self.folder}/kit",
                     "SAID": os.path.join(self.folder, "said"), "ASKED": os.path.join(self.folder, "asked")}
 
@@ -347,7 +347,7 @@ class Trials(Case):
     def test_words(self):
         status, out, err = self.tried(words=("--help",))
         self.assertEqual((status, err), (0, ""))
-        self.assertIn("tools/edits [--all | --unchanged | --alone] [CRATE ..]", "\n".join(out))
+        self.assertIn("dev/edits [--all | --unchanged | --alone] [CRATE ..]", "\n".join(out))
         for words, why in ((("--beside",), "--beside takes a command"), (("low", "--beside", "x"), "and all crates"),
                            (("none",), "'none' has no edits"), (("plain",), "'plain' has no edits"),
                            (("--all", "--alone"), "not allowed with argument"),

@@ -40,23 +40,22 @@ class Gate(Case):
         for name in ("test", "build"):
             shutil.copy2(os.path.join(TOP, name), self.tree)
         # (it only runs the kit)
-        self.file("tree/tools/edits", "import subprocess, sys\nsys.exit(subprocess.run(sys.argv[2:]).returncode)\n")
+        self.file("tree/dev/edits", "import subprocess, sys\nsys.exit(subprocess.run(sys.argv[2:]).returncode)\n")
         os.chmod(self.file("bin/rt", RT), 0o755)
 
-    def gate(self, *modules, ci="7 passed, 0 failed", injection="print('4 passed, 0 failed')\n", **more):
+    def gate(self, first=WELL, second=WELL, ci="7 passed, 0 failed", injection="print('4 passed, 0 failed')\n", **more):
         """The status and the lines of ./test, with these modules of tests."""
-        shutil.rmtree(os.path.join(self.tree, "tools", "tests"), ignore_errors=True)
-        for at, text in enumerate(modules or (WELL,)):
-            self.file(f"tree/tools/tests/test_{at}.py", text)
-        self.file("tree/tools/refusals", injection)
+        self.file("tree/conformance/test_first.py", first)
+        self.file("tree/tools/tests/test_second.py", second)
+        self.file("tree/dev/refusals", injection)
         env = {**os.environ, "PATH": f"{self.folder}/bin:{os.environ['PATH']}", "CI": ci, **more}
         status, out, _ = self.run_words([os.path.join(self.tree, "test")], env=env)
         return status, out.splitlines()
 
     def test_all_are_counted(self):
         self.assertEqual(self.gate(ci="proved\n7 passed, 0 failed"),
-                         (0, ["proved", "7 passed, 0 failed", "1 passed, 0 failed", "4 passed, 0 failed",
-                              "12 passed, 0 failed"]))
+                         (0, ["proved", "7 passed, 0 failed", "2 passed, 0 failed", "4 passed, 0 failed",
+                              "13 passed, 0 failed"]))
 
     def test_modules_are_counted_together_and_a_failed_one_is_shown(self):
         status, lines = self.gate(WELL, WELL + MIXED)
@@ -79,22 +78,22 @@ class Gate(Case):
         status, lines = self.gate(ci="5 passed, 2 failed", CI_STATUS="1")
         self.assertEqual((status, lines[-1]), (1, "5 passed, 3 failed"))
         status, lines = self.gate(injection="import sys\nprint('1 passed, 2 failed')\nsys.exit(1)\n")
-        self.assertEqual((status, lines[-1]), (1, "9 passed, 2 failed"))
+        self.assertEqual((status, lines[-1]), (1, "10 passed, 2 failed"))
 
     def test_a_status_without_a_count_is_a_failure(self):
         for ci, ended, last in (("7 passed, 0 failed", "3", "7 passed, 2 failed"),
-                                ("nothing", "0", "8 passed, 1 failed"), ("", "2", "0 passed, 2 failed")):
+                                ("nothing", "0", "7 passed, 1 failed"), ("", "2", "0 passed, 2 failed")):
             status, lines = self.gate(ci=ci, CI_STATUS=ended)
             self.assertEqual(status, 1, ci)
             self.assertRegex(lines[-1], last if ended != "0" else r"^\d+ passed, 1 failed$")
-        self.assertEqual(self.gate(injection="import sys\nsys.exit(1)\n")[1][-1], "8 passed, 1 failed")
+        self.assertEqual(self.gate(injection="import sys\nsys.exit(1)\n")[1][-1], "9 passed, 1 failed")
 
     def test_a_folder_for_temporary_files_with_another_name(self):
         for name in (b"a\xff", b"a\nb", b"a b:c"):
             room = os.path.join(os.fsencode(self.folder), name)
             os.mkdir(room)
             status, lines = self.gate(TMPDIR=os.fsdecode(room))
-            self.assertEqual((status, lines[-1]), (0, "12 passed, 0 failed"))
+            self.assertEqual((status, lines[-1]), (0, "13 passed, 0 failed"))
             self.assertEqual(os.listdir(room), [])
 
     def test_output_comes_as_it_is_printed(self):

@@ -1,0 +1,433 @@
+"""What dev/believe reads of the sources: which functions a crate exports, their clauses, and the definitions on which a
+clause stands.
+
+Nothing is known here of types; names are followed as the imports of a file tell them.
+"""
+from __future__ import annotations
+
+import functools
+import os
+import re
+from collections.abc import Iterator
+from dataclasses import dataclass
+
+TOP = os.path.dirname(os.path.dirname(os.path.realpath(__file__)))
+ITEM = re.compile(r"^(?P<indent> *)(?P<public>pub )?(?:const )?fn (?P<name>\w+)", re.M)
+HEAD = re.compile(r"^(?P<indent> *)(?P<public>pub(?:\(\w+\))? )?(?:const )?fn (?P<name>\w+)", re.M)
+VALUE = re.compile(r"^(?:pub(?:\(\w+\))? )?(?:const|static) (?P<name>\w+)", re.M)
+BLOCK = re.compile(r"^(?P<kind>impl|(?:pub )?trait)\b(?P<head>[^{;]*)\{", re.M)
+CLAUSE = re.compile(r"\b(?:requires|ensures)(?:[ \t]+(?P<name>\w+))?\s*(?=\{)")
+NAME = r"[^\s(){}\[\],.;:]+"
+QUALIFIED = re.compile(rf"{NAME}(?:\.{NAME})*")
+# An import of a definition, or of a module by another name, in a file of definitions or of code.
+USE = re.compile(r"^[ \t]*(?:ghost |pub )?use Rattle\.(?P<path>[\w.]+?)(?:\.\{(?P<names>[^}]*)\})?"
+                 r"(?: as (?P<as>\w+))?;?[ \t]*$", re.M)
+# A definition, also one below the line `module _ (..) where`, by which several have the same parameters.
+DEFINITION = re.compile(r"^(?:  (?=\w+ pub |pub (?:record|data) ))?(?:(?:abbrev|unfoldable|opaque) )?"
+                        r"pub (?:record |data )?(?!mod\b)(?P<name>[^\s(:]+)", re.M)
+PARAMETERS = re.compile(r"^module _ ", re.M)
+CONSTRUCTOR = re.compile(r"^  (?:pub )?(?P<name>[^\s:]+) :", re.M)
+TYPE = re.compile(r"^(?:pub(?:\([^)]*\))? )?(?:struct|enum|trait|type) (?P<name>\w+)", re.M)
+RUST_USE = re.compile(r"^(?:pub )?use (?P<path>[\w:]+?)(?:::\{(?P<names>[^}]*)\}|::(?P<one>\w+))?(?: as \w+)?;", re.M)
+HANDED_ON = re.compile(r"^pub use (?:crate::|self::)?([\w:]+?)(?:::\{([^}]*)\}|::(\w+|\*))(?: as \w+)?;", re.M)
+
+
+def text_of(path: str) -> str:
+    with open(path, encoding="utf-8") as file:
+        return file.read()
+
+
+def without_comments(text: str, mark: str) -> str:
+    """The text with its comments blanked, each line in its place."""
+    return re.sub(re.escape(mark) + r"[^\n]*", lambda found: " " * len(found[0]), text)
+
+
+def line_of(text: str, at: int) -> int:
+    return text.count("\n", 0, at) + 1
+
+
+def closing(text: str, at: int) -> int:
+    """Behind the brace that closes the one at this place."""
+    depth = 0
+    for place in range(at, len(text)):
+        depth += {"{": 1, "}": -1}.get(text[place], 0)
+        if depth == 0:
+            return place + 1
+    return len(text)
+
+
+def named(listed: str) -> dict[str, str]:
+    """The names of a list in braces: what each is called here, and where it comes from."""
+    found = {}
+    for one in listed.split(","):
+        if one.strip():
+            name, _, here = one.strip().partition(" as ")
+            found[(here or name).strip()] = name.strip()
+    return found
+
+
+def crates_of(repository: str) -> list[str]:
+    return sorted(os.listdir(os.path.join(repository, "crates")))
+
+
+def exports_of(folder: str, path: str, wanted: set[str] | None = None) -> list[tuple[str, set[str] | None]]:
+    """What a file hands on: pairs of a file and the names in it that are exported, None for all."""
+    text = without_comments(text_of(path), "//")
+    found: list[tuple[str, set[str] | None]] = []
+    for use in HANDED_ON.finditer(text):
+        names = {"*"} if use[3] == "*" else set(named(use[2] or use[3]).values())
+        if wanted is None or "*" in names or names & wanted:
+            found.append((use[1], None if "*" in names else names if wanted is None else names & wanted))
+    for module in re.finditer(r"^pub mod (\w+);", text, re.M):
+        if wanted is None:
+            found.append((module[1], None))
+    pairs = []
+    for module, names in found:
+        target = os.path.join(folder, *module.split("::")) + ".rt"
+        if os.path.isfile(target):
+            pairs.append((target, names))
+            pairs += exports_of(target[:-3], target, names)
+    return pairs
+
+
+def exported_by(crate: str) -> dict[str, set[str] | None]:
+    """The files of a crate's folder whose names are exported: which ones, None for all."""
+    library = os.path.join(crate, "src", "lib.rt")
+    exported: dict[str, set[str] | None] = {}
+    for path, names in exports_of(os.path.join(crate, "src"), library) if os.path.isfile(library) else ():
+        before = exported.get(path, set())
+        exported[path] = None if names is None or before is None else before | names
+    return exported
+
+
+def calls_of(text: str, names: set[str] | None) -> Iterator[tuple[str, int]]:
+    """The exported functions of a file, where these names of it are (None for all): their names, those of methods
+    behind the name of a type or trait as in `Program::insns`, and their places."""
+    blocks = [(found.start(), closing(text, found.end() - 1), found["kind"], found["head"])
+              for found in BLOCK.finditer(text)]
+    for found in ITEM.finditer(text):
+        around = [block for block in blocks if block[0] <= found.start() < block[1]]
+        behind = ""
+        if not around:
+            is_exported = found["public"] and (names is None or found["name"] in names)
+        else:
+            _, _, kind, head = around[-1]
+            head = re.sub(r"^\s*<[^{]*?>\s+", " ", head)
+            owner = re.search(r"\w+", head.split(" for ")[-1] if kind == "impl" else head)
+            behind = f"{owner[0]}::" if owner else ""
+            is_of_export = names is None or (owner and owner[0] in names)
+            is_exported = is_of_export and (found["public"] if kind == "impl" else kind == "pub trait")
+        if is_exported:
+            yield behind + found["name"], found.end()
+
+
+def functions_of(text: str, names: set[str] | None) -> Iterator[tuple[str, int]]:
+    """The same, the methods by their own names alone."""
+    for name, at in calls_of(text, names):
+        yield name.split("::")[-1], at
+
+
+@dataclass(frozen=True)
+class Function:
+    """A function with a body: the module, and the name below it, by which the prover knows it in its crate; its file
+    below the crate's folder; there the first line, attributes and comments before it counted, that where its body
+    begins, and the last; and whether other crates may call it."""
+
+    module: str
+    within: str
+    file: str
+    first: int
+    body: int
+    last: int
+    is_public: bool
+
+    @property
+    def name(self) -> str:
+        return f"{self.module}::{self.within}" if self.module else self.within
+
+    def names(self) -> tuple[str, str]:
+        """Its name, and that behind which its closures have theirs."""
+        return self.name, f"{self.module}::fn::{self.within}" if self.module else f"fn::{self.within}"
+
+    def proofs(self) -> tuple[str, ...]:
+        """The folders in which its proof stands, that of a function that calls itself, and those of its closures."""
+        above, _, last = self.name.rpartition("::")
+        paths = (*self.names(), f"{above}::+{last}" if above else f"+{last}")
+        return tuple(f"proofs/{it.replace('::', '/')}/" for it in paths)
+
+
+def module_of(file: str) -> str:
+    """The module, below its crate, that a file of src/ holds: nothing for the crate's root."""
+    parts = file.removeprefix("src/").removesuffix(".rt").split("/")
+    return "::".join(it for it in parts if it not in ("lib", "main", "mod"))
+
+
+def without_generics(text: str) -> str:
+    inner = re.sub(r"<[^<>]*>", "", text)
+    return inner if inner == text else without_generics(inner)
+
+
+def last_name(path: str) -> str:
+    found = re.search(r"(?:\w+::)*(\w+)", re.sub(r"&|'\w+", "", without_generics(path)))
+    return found[1] if found else ""
+
+
+def block_of(head: str) -> tuple[str, str]:
+    """What the prover calls an impl by what stands between `impl` and its brace: the name of the type, then that of the
+    trait and of what that is given, as in `FaultFromFailed`. And where it is of no trait, the type, in whose module the
+    prover has it."""
+    bare = re.sub(r"^\s*<(?:[^<>]|<[^<>]*>)*>(?=\s)", "", head)
+    trait, is_of_trait, owner = bare.rpartition(" for ")
+    given = re.search(r"<(.*)>", trait)
+    names = [last_name(owner), last_name(trait), *map(last_name, given[1].split(",") if given else ())]
+    return "".join(names), "" if is_of_trait else names[0]
+
+
+def functions_in(texts: dict[str, str]) -> list[Function]:
+    """The functions with a body of a crate, of which the files of src/ are given, each laid out as by rt fmt."""
+    homes = {it["name"]: module_of(file) for file, text in texts.items() for it in TYPE.finditer(text)}
+    found = []
+    for file, text in texts.items():
+        blocks = [(it.start(), closing(text, it.end() - 1), it["head"]) for it in BLOCK.finditer(text)]
+        heads = list(HEAD.finditer(text))
+        for head in heads:
+            around = [it for it in blocks if it[0] <= head.start() < it[1]][-1:]
+            end = re.compile(f"^{head['indent']}(?:{{}}|}})$", re.M).search(text, head.end())
+            beyond = [it.start() for it in heads if it.start() > head.start() and it["indent"] == head["indent"]]
+            # (a declaration in a trait has no body: the next brace at its place is another's)
+            if not end or end.start() > min([len(text), *beyond[:1], *(it[1] for it in around)]):
+                continue
+            module, within = module_of(file), head["name"]
+            for _, _, it in around:
+                block, owner = block_of(it)
+                within = f"{block}::{within}"
+                module = homes.get(owner, module)
+            before = re.search(r"(?:^[ ]*(?:#\[|//)[^\n]*\n)*\Z", text[:head.start()], re.M)
+            first = line_of(text, before.start()) if before else line_of(text, head.start())
+            opened = re.compile(f"^{head['indent']}{{$", re.M).search(text, head.end(), end.start())
+            opened = opened or re.compile(r"{$", re.M).search(text, head.end(), end.start())
+            last = line_of(text, end.start())
+            body = line_of(text, opened.start()) if opened else last
+            found.append(Function(module, within, file, first, body, last, head["public"] == "pub "))
+    return found
+
+
+def without_bodies(text: str, functions: list[Function]) -> str:
+    """A file with a loop that has no end in place of the body of some of its functions, each line in its place."""
+    lines = text.split("\n")
+    for it in functions:
+        if it.last - it.body > 1:
+            lines[it.body:it.last - 1] = ["loop {}", *[""] * (it.last - it.body - 2)]
+    return "\n".join(lines)
+
+
+def readers_of(texts: dict[str, str], functions: list[Function], file: str, at: int) -> set[Function]:
+    """The functions that name the constant or table in which a place of a file stands, or one made of it."""
+    items = {}
+    for path, text in texts.items():
+        for it in VALUE.finditer(text):
+            end = re.compile(r"^\S[^\n]*;$", re.M).search(text, it.start())
+            items[it["name"]] = path, it.start(), end.end() if end else len(text)
+    names = {it for it, (path, begin, end) in items.items() if path == file and begin <= at < end}
+    while True:
+        word = re.compile(rf"\b(?:{'|'.join(names)})\b")
+        more = {it for it, (path, begin, end) in items.items() if word.search(texts[path][begin:end])} - names
+        if not names or not more:
+            break
+        names |= more
+    return {it for it in functions
+            if names and word.search("\n".join(texts[it.file].split("\n")[it.first - 1:it.last]))}
+
+
+@dataclass(frozen=True)
+class Clause:
+    """A clause of a function: its name, its place and its text with the braces."""
+
+    name: str
+    place: int
+    text: str
+
+
+def clauses_of(text: str, at: int) -> Iterator[Clause]:
+    """The clauses of the function whose name ends here."""
+    depth = 0
+    while at < len(text):
+        clause = CLAUSE.match(text, at) if depth == 0 else None
+        if clause:
+            end = closing(text, clause.end())
+            yield Clause(clause["name"] or "", clause.end(), text[clause.end():end])
+            at = end
+            continue
+        if depth == 0 and text[at] in "{;":
+            return
+        depth += {"(": 1, "[": 1, ")": -1, "]": -1}.get(text[at], 0)
+        at += 1
+
+
+@dataclass(frozen=True)
+class Definition:
+    """A definition of specs/, or a type of the code that definitions speak of: where it stands and its text."""
+
+    crate: str
+    name: str
+    path: str
+    first: int
+    last: int
+    text: str
+
+    @property
+    def lines(self) -> int:
+        return self.last - self.first + 1
+
+
+class File:
+    """A file of definitions or of code: what it defines, and what its names are imported from."""
+
+    def __init__(self, crate: str, path: str):
+        self.crate, self.path = crate, path
+        self.is_spec = path.endswith(".antt")
+        whole = text_of(path)
+        self.lines = whole.split("\n")
+        self.text = without_comments(whole, "--" if self.is_spec else "//")
+        self.imports = dict(self._imports())
+        self.definitions = dict(self._definitions() if self.is_spec else self._types())
+
+    def _imports(self) -> Iterator[tuple[str, tuple[str, str | None]]]:
+        for use in USE.finditer(self.text):
+            if use["names"] is None:
+                yield use["as"] or use["path"].split(".")[-1], (use["path"], None)
+            for here, name in named(use["names"] or "").items():
+                yield here, (use["path"], name)
+
+    def _made(self, name: str, start: int, end: int) -> Definition:
+        """A definition with the lines of its comment, which stands right above it."""
+        text = self.text[start:end].rstrip()
+        first = line_of(self.text, start)
+        last = first + text.count("\n")
+        while first > 1 and re.match(r" *(?:--|///|#\[)", self.lines[first - 2]):
+            first -= 1
+        return Definition(self.crate, name, self.path, first, last, text)
+
+    def _definitions(self) -> Iterator[tuple[str, Definition]]:
+        starts = [found for found in DEFINITION.finditer(self.text)]
+        for found, after in zip(starts, [*starts[1:], None]):
+            end = after.start() if after else len(self.text)
+            parameters = PARAMETERS.search(self.text, found.end(), end)
+            made = self._made(found["name"], found.start(), parameters.start() if parameters else end)
+            yield made.name, made
+            if re.match(r"pub data\b", made.text):
+                for constructor in CONSTRUCTOR.finditer(made.text):
+                    yield constructor["name"], made
+
+    def _types(self) -> Iterator[tuple[str, Definition]]:
+        for found in TYPE.finditer(self.text):
+            end = re.compile(r"[;{]").search(self.text, found.end())
+            stop = closing(self.text, end.start()) if end and end[0] == "{" else end.end() if end else len(self.text)
+            yield found["name"], self._made(found["name"], found.start(), stop)
+
+
+class Repository:
+    """The crates of a repository, and what their names stand for."""
+
+    def __init__(self, top: str = TOP):
+        self.top = top
+        self.crates = crates_of(top)
+        self.file = functools.lru_cache(None)(self._file)
+
+    def _file(self, crate: str, path: str) -> File | None:
+        whole = os.path.join(self.top, "crates", crate, path)
+        return File(crate, whole) if os.path.isfile(whole) else None
+
+    def rank(self, crate: str) -> int:
+        """The place of a crate in crates.txt, where each stands behind those that it stands on."""
+        path = os.path.join(self.top, "crates.txt")
+        listed = re.findall(r"^(\w+):", text_of(path), re.M) if os.path.isfile(path) else []
+        return listed.index(crate) if crate in listed else len(listed)
+
+    def shown(self, path: str) -> str:
+        return os.path.relpath(path, self.top)
+
+    @functools.lru_cache(None)
+    def types(self, crate: str) -> dict[str, Definition]:
+        """The types of a crate's code by name."""
+        found: dict[str, Definition] = {}
+        source = os.path.join(self.top, "crates", crate, "src")
+        for folder, _, names in sorted(os.walk(source)):
+            for name in sorted(names):
+                if name.endswith(".rt"):
+                    file = self.file(crate, os.path.relpath(os.path.join(folder, name), os.path.join(source, "..")))
+                    for known, made in file.definitions.items() if file else ():
+                        found.setdefault(known, made)
+        return found
+
+    def imported(self, path: str, name: str | None) -> Definition | File | None:
+        """What an import stands for: a definition, a type of the code, or a file of definitions."""
+        crate, *steps = path.split(".")
+        if crate not in self.crates or steps[:1] != ["specs"]:
+            return None
+        steps = steps[1:]
+        if steps[:1] == ["declared"]:
+            steps = [step for step in steps[1:] if step not in ("TheVariants", "Ghosts")]
+            file = self.file(crate, os.path.join("src", *steps[:-1]) + ".rt") if len(steps) > 1 else None
+            return file.definitions.get(steps[-1]) if file else None
+        file = self.file(crate, os.path.join("specs", *steps) + ".antt")
+        return file if file is None or name is None else file.definitions.get(name)
+
+    def meant(self, file: File, name: str) -> Definition | None:
+        """What a name of a file stands for, which may stand behind the name of a module."""
+        first, *rest = name.split(".")
+        found: Definition | File | None = file.definitions.get(first)
+        if found is None and first in file.imports:
+            found = self.imported(*file.imports[first])
+        if isinstance(found, File):
+            return found.definitions.get(rest[0]) if rest else None
+        return found
+
+    def type_meant(self, file: File, name: str) -> Definition | None:
+        """What the name of a type in a file of the code stands for."""
+        if name in file.definitions:
+            return file.definitions[name]
+        for use in RUST_USE.finditer(file.text):
+            known = named(use["names"] or use["one"] or "")
+            if name in known:
+                crate = use["path"].split("::")[0]
+                crate = file.crate if crate in ("crate", "super", "self") else crate
+                return self.types(crate).get(known[name]) if crate in self.crates else None
+        return None
+
+    def cited(self, file: File, text: str) -> dict[str, Definition]:
+        """The definitions that a text of a file cites, by where they stand. A variable with the name of a definition
+        counts as that one, so that none is missing."""
+        found = {}
+        words = set(QUALIFIED.findall(text))
+        # an operator's marks stand between its operands
+        operators = {it for it in (*file.definitions, *file.imports) if words.issuperset(it.strip("◌").split("◌"))}
+        for name in words | operators:
+            made = self.meant(file, name)
+            if made:
+                found[f"{made.path}:{made.first}"] = made
+        return found
+
+    def stands_on(self, made: Definition) -> dict[str, Definition]:
+        """The definitions that a definition cites."""
+        file = self.file(made.crate, os.path.relpath(made.path, os.path.join(self.top, "crates", made.crate)))
+        if file.is_spec:
+            # a field of a record isn't cited by its own name
+            return self.cited(file, re.sub(r"(?m)^  (?:pub )?[^\s:]+ :", " ", made.text))
+        found = {}
+        for name in set(re.findall(r"\b[A-Z]\w*", made.text)):
+            other = self.type_meant(file, name)
+            if other:
+                found[f"{other.path}:{other.first}"] = other
+        return found
+
+    def closure(self, found: dict[str, Definition]) -> dict[str, Definition]:
+        """These definitions and all on which they stand."""
+        left = list(found.values())
+        found = dict(found)
+        while left:
+            for key, made in self.stands_on(left.pop()).items():
+                if key not in found:
+                    found[key] = made
+                    left.append(made)
+        return found
