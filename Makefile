@@ -1,0 +1,46 @@
+# make                              builds scf, which takes the Rattle kit
+# make install [PREFIX=/usr/local]  puts it, its tools and manual pages below PREFIX; with DESTDIR below that folder
+# make uninstall                    takes them away
+# make check                        runs the whole gate
+
+PREFIX = /usr/local
+DESTDIR =
+
+TOOLS := $(filter-out scftools tests __pycache__,$(notdir $(wildcard tools/*)))
+PROGRAM = crates/scf/out/scf
+TO = $(DESTDIR)$(PREFIX)
+BIN = $(TO)/bin
+LIB = $(TO)/lib/scf
+MAN = $(TO)/share/man/man1
+DOC = $(TO)/share/doc/scf
+
+.PHONY: all check install uninstall
+
+all:
+	./build
+
+$(PROGRAM):
+	./build
+
+check:
+	./test
+
+install: $(PROGRAM) uninstall
+	install -d "$(BIN)" "$(LIB)/tools/scftools" "$(LIB)/tables" "$(LIB)/docs" "$(MAN)" "$(DOC)"
+	install $(PROGRAM) "$(LIB)/scf"
+	install $(TOOLS:%=tools/%) "$(LIB)/tools"
+	install -m 644 tools/scftools/*.py "$(LIB)/tools/scftools"
+	install -m 644 tables/* "$(LIB)/tables"
+	install -m 644 docs/FAULTS.md "$(LIB)/docs"
+	install -m 644 docs/*.1 "$(MAN)"
+	install -m 644 LICENSE "$(DOC)"
+	umask 022; python3 -m compileall -q --invalidation-mode checked-hash $(if $(DESTDIR),-s "$(DESTDIR)") \
+	    "$(LIB)/tools/scftools"
+	ln -s ../lib/scf/scf "$(BIN)/scf"
+	for it in $(TOOLS); do ln -s "../lib/scf/tools/$$it" "$(BIN)/scf-$$it" || exit 1; \
+	    [ -e "docs/scf-$$it.1" ] || ln -s scf.1 "$(MAN)/scf-$$it.1" || exit 1; done
+
+uninstall:
+	for it in "$(LIB)"/tools/*; do rm -f "$(BIN)/scf-$${it##*/}" "$(MAN)/scf-$${it##*/}.1"; done
+	rm -f "$(BIN)/scf" "$(MAN)/scf.1"
+	rm -rf "$(LIB)" "$(DOC)"
