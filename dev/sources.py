@@ -13,8 +13,6 @@ from dataclasses import dataclass
 
 TOP = os.path.dirname(os.path.dirname(os.path.realpath(__file__)))
 ITEM = re.compile(r"^(?P<indent> *)(?P<public>pub )?(?:const )?fn (?P<name>\w+)", re.M)
-HEAD = re.compile(r"^(?P<indent> *)(?P<public>pub(?:\(\w+\))? )?(?:const )?fn (?P<name>\w+)", re.M)
-VALUE = re.compile(r"^(?:pub(?:\(\w+\))? )?(?:const|static) (?P<name>\w+)", re.M)
 BLOCK = re.compile(r"^(?P<kind>impl|(?:pub )?trait)\b(?P<head>[^{;]*)\{", re.M)
 CLAUSE = re.compile(r"\b(?:requires|ensures)(?:[ \t]+(?P<name>\w+))?\s*(?=\{)")
 NAME = r"[^\s(){}\[\],.;:]+"
@@ -119,124 +117,6 @@ def calls_of(text: str, names: set[str] | None) -> Iterator[tuple[str, int]]:
             is_exported = is_of_export and (found["public"] if kind == "impl" else kind == "pub trait")
         if is_exported:
             yield behind + found["name"], found.end()
-
-
-def functions_of(text: str, names: set[str] | None) -> Iterator[tuple[str, int]]:
-    """The same, the methods by their own names alone."""
-    for name, at in calls_of(text, names):
-        yield name.split("::")[-1], at
-
-
-@dataclass(frozen=True)
-class Function:
-    """A function with a body: the module, and the name below it, by which the prover knows it in its crate; its file
-    below the crate's folder; there the first line, attributes and comments before it counted, that where its body
-    begins, and the last; and whether other crates may call it."""
-
-    module: str
-    within: str
-    file: str
-    first: int
-    body: int
-    last: int
-    is_public: bool
-
-    @property
-    def name(self) -> str:
-        return f"{self.module}::{self.within}" if self.module else self.within
-
-    def names(self) -> tuple[str, str]:
-        """Its name, and that behind which its closures have theirs."""
-        return self.name, f"{self.module}::fn::{self.within}" if self.module else f"fn::{self.within}"
-
-    def proofs(self) -> tuple[str, ...]:
-        """The folders in which its proof stands, that of a function that calls itself, and those of its closures."""
-        above, _, last = self.name.rpartition("::")
-        paths = (*self.names(), f"{above}::+{last}" if above else f"+{last}")
-        return tuple(f"proofs/{it.replace('::', '/')}/" for it in paths)
-
-
-def module_of(file: str) -> str:
-    """The module, below its crate, that a file of src/ holds: nothing for the crate's root."""
-    parts = file.removeprefix("src/").removesuffix(".rt").split("/")
-    return "::".join(it for it in parts if it not in ("lib", "main", "mod"))
-
-
-def without_generics(text: str) -> str:
-    inner = re.sub(r"<[^<>]*>", "", text)
-    return inner if inner == text else without_generics(inner)
-
-
-def last_name(path: str) -> str:
-    found = re.search(r"(?:\w+::)*(\w+)", re.sub(r"&|'\w+", "", without_generics(path)))
-    return found[1] if found else ""
-
-
-def block_of(head: str) -> tuple[str, str]:
-    """What the prover calls an impl by what stands between `impl` and its brace: the name of the type, then that of the
-    trait and of what that is given, as in `FaultFromFailed`. And where it is of no trait, the type, in whose module the
-    prover has it."""
-    bare = re.sub(r"^\s*<(?:[^<>]|<[^<>]*>)*>(?=\s)", "", head)
-    trait, is_of_trait, owner = bare.rpartition(" for ")
-    given = re.search(r"<(.*)>", trait)
-    names = [last_name(owner), last_name(trait), *map(last_name, given[1].split(",") if given else ())]
-    return "".join(names), "" if is_of_trait else names[0]
-
-
-def functions_in(texts: dict[str, str]) -> list[Function]:
-    """The functions with a body of a crate, of which the files of src/ are given, each laid out as by rt fmt."""
-    homes = {it["name"]: module_of(file) for file, text in texts.items() for it in TYPE.finditer(text)}
-    found = []
-    for file, text in texts.items():
-        blocks = [(it.start(), closing(text, it.end() - 1), it["head"]) for it in BLOCK.finditer(text)]
-        heads = list(HEAD.finditer(text))
-        for head in heads:
-            around = [it for it in blocks if it[0] <= head.start() < it[1]][-1:]
-            end = re.compile(f"^{head['indent']}(?:{{}}|}})$", re.M).search(text, head.end())
-            beyond = [it.start() for it in heads if it.start() > head.start() and it["indent"] == head["indent"]]
-            # (a declaration in a trait has no body: the next brace at its place is another's)
-            if not end or end.start() > min([len(text), *beyond[:1], *(it[1] for it in around)]):
-                continue
-            module, within = module_of(file), head["name"]
-            for _, _, it in around:
-                block, owner = block_of(it)
-                within = f"{block}::{within}"
-                module = homes.get(owner, module)
-            before = re.search(r"(?:^[ ]*(?:#\[|//)[^\n]*\n)*\Z", text[:head.start()], re.M)
-            first = line_of(text, before.start()) if before else line_of(text, head.start())
-            opened = re.compile(f"^{head['indent']}{{$", re.M).search(text, head.end(), end.start())
-            opened = opened or re.compile(r"{$", re.M).search(text, head.end(), end.start())
-            last = line_of(text, end.start())
-            body = line_of(text, opened.start()) if opened else last
-            found.append(Function(module, within, file, first, body, last, head["public"] == "pub "))
-    return found
-
-
-def without_bodies(text: str, functions: list[Function]) -> str:
-    """A file with a loop that has no end in place of the body of some of its functions, each line in its place."""
-    lines = text.split("\n")
-    for it in functions:
-        if it.last - it.body > 1:
-            lines[it.body:it.last - 1] = ["loop {}", *[""] * (it.last - it.body - 2)]
-    return "\n".join(lines)
-
-
-def readers_of(texts: dict[str, str], functions: list[Function], file: str, at: int) -> set[Function]:
-    """The functions that name the constant or table in which a place of a file stands, or one made of it."""
-    items = {}
-    for path, text in texts.items():
-        for it in VALUE.finditer(text):
-            end = re.compile(r"^\S[^\n]*;$", re.M).search(text, it.start())
-            items[it["name"]] = path, it.start(), end.end() if end else len(text)
-    names = {it for it, (path, begin, end) in items.items() if path == file and begin <= at < end}
-    while True:
-        word = re.compile(rf"\b(?:{'|'.join(names)})\b")
-        more = {it for it, (path, begin, end) in items.items() if word.search(texts[path][begin:end])} - names
-        if not names or not more:
-            break
-        names |= more
-    return {it for it in functions
-            if names and word.search("\n".join(texts[it.file].split("\n")[it.first - 1:it.last]))}
 
 
 @dataclass(frozen=True)

@@ -279,7 +279,8 @@ class Headline(Case):
 
     def test_its_lists_are_what_the_sources_have(self):
         """Where this fails, `dev/believe --page docs/HEADLINE.md --write` writes the lists anew."""
-        status, out, err = self.run_words([for_developers("believe"), "--page", os.path.join(TOP, "docs", "HEADLINE.md")])
+        page = os.path.join(TOP, "docs", "HEADLINE.md")
+        status, out, err = self.run_words([for_developers("believe"), "--page", page])
         self.assertEqual((status, out, err), (0, "", ""))
 
     def test_it_has_a_list_for_each_part_of_the_headline(self):

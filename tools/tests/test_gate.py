@@ -39,8 +39,6 @@ class Gate(Case):
         self.file("tree/crates.txt", b"scf:\n")
         for name in ("test", "build"):
             shutil.copy2(os.path.join(TOP, name), self.tree)
-        # (it only runs the kit)
-        self.file("tree/dev/edits", "import subprocess, sys\nsys.exit(subprocess.run(sys.argv[2:]).returncode)\n")
         os.chmod(self.file("bin/rt", RT), 0o755)
 
     def gate(self, first=WELL, second=WELL, ci="7 passed, 0 failed", injection="print('4 passed, 0 failed')\n", **more):

@@ -1,4 +1,4 @@
-"""The program of scf_trials on an input: a filter or a command, run many times. tools/refusals tries it without one."""
+"""The program of scf_trials on an input: a filter or a command, run many times. dev/fault-injection tries it without one."""
 import os
 
 from common import ALLOW, TOP, X86_64, Case, insn, jeq, load, ret
