@@ -36,9 +36,9 @@ install: $(PROGRAM) uninstall
 	install -m 644 LICENSE "$(DOC)"
 	umask 022; python3 -m compileall -q --invalidation-mode checked-hash $(if $(DESTDIR),-s "$(DESTDIR)") \
 	    "$(LIB)/tools/scftools"
-	ln -s ../lib/scf/scf "$(BIN)/scf"
-	for it in $(TOOLS); do ln -s "../lib/scf/tools/$$it" "$(BIN)/scf-$$it" || exit 1; \
-	    [ -e "docs/scf-$$it.1" ] || ln -s scf.1 "$(MAN)/scf-$$it.1" || exit 1; done
+	ln -sf ../lib/scf/scf "$(BIN)/scf"
+	for it in $(TOOLS); do ln -sf "../lib/scf/tools/$$it" "$(BIN)/scf-$$it" || exit 1; \
+	    [ -e "docs/scf-$$it.1" ] || ln -sf scf.1 "$(MAN)/scf-$$it.1" || exit 1; done
 
 uninstall:
 	for it in "$(LIB)"/tools/*; do rm -f "$(BIN)/scf-$${it##*/}" "$(MAN)/scf-$${it##*/}.1"; done
