@@ -6,13 +6,11 @@ import sys
 
 from common import TOP, Case
 
-# Prints what it is told for `rt ci`, which makes the folders of programs; builds none.
+# Prints what it is told.
 RT = """#!/bin/sh
-case $1 in
-ci) printf '%s\\n' "$CI"
-    mkdir -p crates/scf/out/scf crates/scf_trials/out/scf_trials
-    exit "${CI_STATUS-0}" ;;
-esac
+[ "$1" = ci ] || exit 1
+printf '%s\\n' "$CI"
+exit "${CI_STATUS-0}"
 """
 FIRST = "import unittest\n\n\nclass Some(unittest.TestCase):\n"
 WELL = FIRST + "    def test_well(self):\n        pass\n"
@@ -36,16 +34,15 @@ class Gate(Case):
     def setUp(self):
         super().setUp()
         self.tree = os.path.join(self.folder, "tree")
-        self.file("tree/crates.txt", b"scf:\n")
-        for name in ("test", "build"):
-            shutil.copy2(os.path.join(TOP, name), self.tree)
+        os.makedirs(self.tree)
+        shutil.copy2(os.path.join(TOP, "test"), self.tree)
         os.chmod(self.file("bin/rt", RT), 0o755)
 
     def gate(self, first=WELL, second=WELL, ci="7 passed, 0 failed", injection="print('4 passed, 0 failed')\n", **more):
         """The status and the lines of ./test, with these modules of tests."""
         self.file("tree/conformance/test_first.py", first)
         self.file("tree/tools/tests/test_second.py", second)
-        self.file("tree/dev/refusals", injection)
+        os.chmod(self.file("tree/dev/fault-injection", f"#!/usr/bin/env python3\n{injection}"), 0o755)
         env = {**os.environ, "PATH": f"{self.folder}/bin:{os.environ['PATH']}", "CI": ci, **more}
         status, out, _ = self.run_words([os.path.join(self.tree, "test")], env=env)
         return status, out.splitlines()

@@ -1,20 +1,12 @@
-//! What tools/refusals and bench/run try: where standard input is empty, each call of the libraries that takes memory
+//! What dev/fault-injection and bench/run try: where standard input is empty, each call of the libraries that takes memory
 //! is made; otherwise a filter or a command runs on it many times.
 #![tactic(auto)]
 
 mod calls;
-mod comparer;
-mod compiler;
 mod facts;
 mod lines;
-mod machine;
 mod many_times;
-mod profiles;
-mod readers;
 mod rows;
-mod shown;
-mod texts;
-mod tool;
 
 use scf_insn::{Counted, read_input};
 use std::io;

@@ -71,3 +71,8 @@ pub(crate) fn extremes() -> &'static [u8] {
 pub(crate) fn bundle() -> &'static [u8] {
     b"filter 8\n\x06\0\0\0\0\0\xff\x7fprofile 34\n{\"defaultAction\":\"SCMP_ACT_ALLOW\"}table 7\nread 0\n"
 }
+
+/// A command line.
+pub(crate) fn words() -> &'static [&'static str] {
+    &["scf", "run", "--nr", "41", "--a0", "0x10"]
+}
