@@ -1,11 +1,12 @@
-"""What the tools look at in a profile beside scf, which alone judges it: its default, its names, an entry by its place,
-and where a text stops being JSON. Everything here may fail to be known; then it isn't said.
+"""What the tools look at in a profile beside scf, which alone judges it: its default, its names, an entry by its index,
+the members that a runtime reads otherwise than they are spelled, and where a text stops being JSON. Everything here may
+fail to be known; then it isn't said.
 """
 from __future__ import annotations
 
 import json
 import re
-from collections.abc import Callable
+from collections.abc import Callable, Iterator
 from dataclasses import dataclass
 
 TYPE_CHECKING = False
@@ -17,6 +18,23 @@ DEEPEST = 127
 LONGEST_NUMBER = 40
 # What lets a call through that no rule names.
 LETS_THROUGH = ("SCMP_ACT_ALLOW", "SCMP_ACT_LOG")
+
+# The members of a profile, in the form of the OCI runtime specification (config-linux.md: Seccomp) and in those of the
+# engines (profiles/seccomp of moby, pkg/seccomp of containers-common), each with what its value is: a text, a whole
+# number from 0 to 2^64-1, a version of a kernel, a list of what stands in it, or an object of such members.
+TEXT, NUMBER, VERSION = "text", "number", "version"
+FILTER = {"caps": [TEXT], "arches": [TEXT], "minKernel": VERSION}
+ARGUMENT = {"index": NUMBER, "value": NUMBER, "valueTwo": NUMBER, "op": TEXT}
+ENTRY = {"names": [TEXT], "name": TEXT, "action": TEXT, "errnoRet": NUMBER, "errno": TEXT, "args": [ARGUMENT],
+         "comment": TEXT, "includes": FILTER, "excludes": FILTER}
+ARCH_MAP = {"architecture": TEXT, "subArchitectures": [TEXT]}
+SECCOMP = {"defaultAction": TEXT, "defaultErrnoRet": NUMBER, "defaultErrno": TEXT, "architectures": [TEXT],
+           "archMap": [ARCH_MAP], "syscalls": [ENTRY], "flags": [TEXT], "listenerPath": TEXT, "listenerMetadata": TEXT}
+CONFIG = {**SECCOMP, "linux": {"seccomp": SECCOMP}}
+
+# Letters that encoding/json of Go takes for others in the name of a member (equalFoldRight in fold.go): of ASCII those
+# of the other case, and U+017F and U+212A.
+_FOLD = {**{upper: upper + 32 for upper in range(ord("A"), ord("Z") + 1)}, 0x17F: ord("s"), 0x212A: ord("k")}
 
 
 @dataclass(frozen=True)
@@ -70,6 +88,72 @@ def read(data: bytes) -> Profile | None:
         return None
     errno = top.get("defaultErrnoRet")
     return Profile(default, errno if isinstance(errno, str) else None, names)
+
+
+def folded(name: str) -> str:
+    """A member's name as a program in Go compares it; two names that are one by this are one member to it."""
+    return name.translate(_FOLD)
+
+
+@dataclass(frozen=True)
+class Misread:
+    """A member that a runtime or engine in Go reads as another one: one that is spelled otherwise, or stands twice in
+    one object, of which the last counts."""
+
+    # the object that it stands in, as "entry 3: args 0"; "the profile" at the top
+    where: str
+    # as it is spelled, and the member that it is read as
+    name: str
+    read_as: str
+
+    def told(self) -> str:
+        if self.name == self.read_as:
+            return f"{self.where} has the member '{self.name}' more than once"
+        spelled = self.name.encode("ascii", "backslashreplace").decode()
+        return f"{self.where} has a member '{spelled}', which programs in Go read as '{self.read_as}'"
+
+
+class Pairs(list):
+    """The members of an object in their order, as pairs of a name and a value, those that stand twice among them."""
+
+
+def where_in(where: str, name: str, index: int | None = None) -> str:
+    """How a value is called that stands in another one, as "entry 3: args 0"."""
+    if name == "syscalls":
+        return "syscalls" if index is None else f"entry {index}"
+    told = name if index is None else f"{name} {index}"
+    return told if where == "the profile" else f"{where}: {told}"
+
+
+def _misread_in(value: object, members: object, where: str) -> Iterator[Misread]:
+    """The misread members of an object, and of those that stand in it."""
+    if not isinstance(value, Pairs) or not isinstance(members, dict):
+        return
+    known, seen = {folded(name): name for name in members}, set()
+    for name, inner in value:
+        read_as = known.get(folded(name))
+        if read_as is None:
+            continue
+        if name != read_as or name in seen:
+            yield Misread(where, name, read_as)
+        seen.add(name)
+        kind = members[read_as]
+        if isinstance(kind, dict):
+            yield from _misread_in(inner, kind, where_in(where, read_as))
+        elif isinstance(kind[0], dict) and isinstance(inner, list) and not isinstance(inner, Pairs):
+            for index, one in enumerate(inner):
+                yield from _misread_in(one, kind[0], where_in(where, read_as, index))
+
+
+def misread_members(data: bytes) -> list[Misread]:
+    """The members of a profile, or of a whole config.json, that a program in Go reads otherwise than scf does: those
+    that are spelled otherwise than they are called, by letters of another case, U+017F or U+212A, and those that stand
+    more than once in an object. None are found where the profile can't be read."""
+    try:
+        top = json.loads(data.decode("utf-8"), object_pairs_hook=Pairs, parse_int=str, parse_float=str)
+        return list(_misread_in(top, CONFIG, "the profile"))
+    except (ValueError, RecursionError):
+        return []
 
 
 def _place(text: str, at: int) -> str:
