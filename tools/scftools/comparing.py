@@ -12,6 +12,7 @@ from .verdicts import DIFFERS, LESS, MORE, NO_LESS, NO_MORE, SAME, UNDECIDED, Na
 
 TYPE_CHECKING = False
 if TYPE_CHECKING:
+    from .engines import Origin
     from .profiles import Profile
 
 ALL, NATIVE, CALLS = "all", "native", "calls"
@@ -25,13 +26,15 @@ FAILED = {DIFFERS: "that aren't answered as the profile says", MORE: "that are l
 
 @dataclass
 class Comparison:
-    """Filters, oldest first, a profile and a table; the most steps, as a text, where they aren't scf's; a relation."""
+    """Filters, oldest first, a profile and a table; the most steps, as a text, where they aren't scf's; a relation; and
+    of a resolved profile where each entry stands in the user's."""
 
     filters: Sequence[Filter]
     profile: bytes
     table: Table
     limit: str | None = None
     relation: str = SAME
+    origins: Sequence[Origin] | None = None
     _facts: list[Profile | None] = field(default_factory=list)
 
     @property

@@ -1,15 +1,18 @@
 """Engines' profiles: what a container engine makes of its own profile for one container, the resolved profile.
 
-The rules are those of moby (profiles/seccomp) and of containers-common (pkg/seccomp), which agree but for this: only
-moby knows `minKernel`, and only containers-common `errno` and `defaultErrno`, which it takes before the numbers.
+The rules are those of moby (profiles/seccomp) and of containers-common (pkg/seccomp), which agree but for the members
+that only one of them reads (`ENGINES`) and for the errnos by name, which are containers-common's alone.
 """
 from __future__ import annotations
 
 import errno
 import json
 import re
-from collections.abc import Callable, Sequence
+from collections.abc import Callable, Iterator, Sequence
 from dataclasses import dataclass
+
+from . import profiles
+from .profiles import NUMBER, SECCOMP, TEXT, VERSION, where_in
 
 TYPE_CHECKING = False
 if TYPE_CHECKING:
@@ -33,11 +36,23 @@ CAPABILITIES = (
 ENGINE_ARCH = "amd64"
 OCI_ARCH = "SCMP_ARCH_X86_64"
 
-TOP = ("defaultAction", "defaultErrnoRet", "defaultErrno", "architectures", "archMap", "syscalls", "flags",
-       "listenerPath", "listenerMetadata")
-ENTRY = ("names", "name", "action", "errnoRet", "errno", "args", "comment", "includes", "excludes")
-FILTER = ("caps", "arches", "minKernel")
-ARGUMENT = ("index", "value", "valueTwo", "op")
+# The members that an engine doesn't read of those that another one does: moby since version 23, moby 20.10, and
+# containers-common. Without an engine all are read.
+ENGINES = {
+    "docker": ("errno", "defaultErrno"),
+    "docker-20.10": ("errno", "defaultErrno", "defaultErrnoRet", "flags", "listenerPath", "listenerMetadata"),
+    "podman": ("minKernel",),
+}
+# The names of errnos that containers-common takes (pkg/seccomp/errno_list.go).
+ERRNOS = (
+    "EPERM ENOENT ESRCH EIO ENXIO E2BIG ENOEXEC EBADF ECHILD EDEADLK ENOMEM EACCES EFAULT ENOTBLK EBUSY EEXIST EXDEV "
+    "ENODEV ENOTDIR EISDIR EINVAL ENFILE EMFILE ENOTTY ETXTBSY EFBIG ENOSPC ESPIPE EROFS EMLINK EPIPE EDOM ERANGE "
+    "EAGAIN EINPROGRESS EALREADY ENOTSOCK EDESTADDRREQ EMSGSIZE EPROTOTYPE ENOPROTOOPT EPROTONOSUPPORT "
+    "ESOCKTNOSUPPORT EOPNOTSUPP EPFNOSUPPORT EAFNOSUPPORT EADDRINUSE EADDRNOTAVAIL ENETDOWN ENETUNREACH ENETRESET "
+    "ECONNABORTED ECONNRESET ENOBUFS EISCONN ENOTCONN ESHUTDOWN ETOOMANYREFS ETIMEDOUT ECONNREFUSED ELOOP "
+    "ENAMETOOLONG EHOSTDOWN EHOSTUNREACH ENOTEMPTY EUSERS EDQUOT ESTALE EREMOTE ENOLCK ENOSYS EILSEQ ENOMEDIUM "
+    "EMEDIUMTYPE EOVERFLOW ECANCELED EIDRM ENOMSG ENOTSUP EBADMSG ENOTRECOVERABLE EOWNERDEAD"
+).split()
 # The most digits of a number that any member may have; the most letters of a stranger's text and the most texts of a
 # list that a note repeats; the most notes.
 MAX_DIGITS, MAX_TOLD, MAX_LISTED, MAX_NOTES = 20, 64, 3, 1000
@@ -54,7 +69,15 @@ class Setting:
     capabilities: Sequence[str]
     kernel: tuple[int, int]
     # Whether only x86-64 is handed on of the architectures that the engine names.
-    is_native: bool
+    is_native: bool = False
+    # One of ENGINES; without one the members of all are read.
+    engine: str | None = None
+    # Unknown members that are no conditions; None where all are.
+    ignored: Sequence[str] | None = ()
+
+    @property
+    def unread(self) -> Sequence[str]:
+        return ENGINES[self.engine] if self.engine is not None else ()
 
 
 def told(value: Any) -> str:
@@ -85,10 +108,11 @@ def fraction(text: str) -> Any:
     raise Refused(f"the number {told(text)} isn't a whole one")
 
 
-def whole(text: str) -> int:
+def whole(text: str) -> int | float:
     if len(text.lstrip("-")) > MAX_DIGITS:
         raise Refused(f"the number {told(text)} has more than 64 bits")
-    return int(text)
+    # Go takes -0 for no number without a sign
+    return int(text) if text != "-0" else -0.0
 
 
 def read(data: bytes) -> Any:
@@ -111,55 +135,107 @@ def printed(profile: dict[str, Any]) -> str:
         raise Refused("the profile is nested too deep") from error
 
 
-def object_of(value: Any, known: Sequence[str], where: str) -> dict[str, Any]:
-    """The members of an object that aren't null. The engines read names in any case of letters; scf doesn't."""
+def _check_one(value: Any, kind: str, where: str) -> None:
+    """Refuses a value in which the engines don't read a text, a number or a version of a kernel."""
+    if kind == NUMBER:
+        if type(value) is not int or not 0 <= value < 1 << 64:
+            raise Refused(f"{where} isn't a whole number from 0 to 2^64-1")
+    elif not isinstance(value, str):
+        raise Refused(f"{where} isn't a text" if kind == TEXT else f"{where} is no version of a kernel as 4.8")
+    elif kind == VERSION:
+        version_of(value, where)
+
+
+def _check_list(value: Any, kind: Any, where: str, setting: Setting) -> None:
+    if not isinstance(value, list) or (kind == TEXT and not all(isinstance(it, str) for it in value)):
+        raise Refused(f"{where} isn't a list" + " of texts" * (kind == TEXT))
+    if kind != TEXT:
+        parent, _, name = where.rpartition(": ")
+        for index, one in enumerate(value):
+            check(one, kind, where_in(parent or "the profile", name, index), setting)
+
+
+def check(value: Any, members: dict[str, Any], where: str, setting: Setting) -> None:
+    """Refuses an object that the engines refuse for what stands in its members, or that they read otherwise than it is
+    spelled. A member that is null is absent."""
     if not isinstance(value, dict):
         raise Refused(f"{where} isn't an object")
-    lower = [name.lower() for name in known]
-    for name in value:
-        if name not in known and name.lower() in lower:
-            raise Refused(f"{where} has a member '{name}', which the engines read in spite of its case: write it as "
-                          f"it should be")
-    return {name: it for name, it in value.items() if it is not None}
+    known = {profiles.folded(name): name for name in members}
+    for name, one in value.items():
+        read_as = known.get(profiles.folded(name))
+        if read_as not in (None, name):
+            raise Refused(profiles.Misread(where, name, read_as).told() + ": write it so")
+        if read_as is None or one is None or name in setting.unread:
+            continue
+        kind, inner = members[name], where_in(where, name)
+        if isinstance(kind, dict):
+            check(one, kind, inner, setting)
+        elif isinstance(kind, list):
+            _check_list(one, kind[0], inner, setting)
+        else:
+            _check_one(one, kind, inner)
 
 
-def texts_of(value: Any, where: str) -> list[str]:
-    if value is None:
-        return []
-    if not isinstance(value, list) or not all(isinstance(it, str) for it in value):
-        raise Refused(f"{where} isn't a list of texts")
-    return value
+def unknown_members(value: Any, members: dict[str, Any], where: str) -> Iterator[tuple[str, str]]:
+    """The members of an object and of those in it that no engine reads, each with where it stands."""
+    for name, one in value.items():
+        kind = members.get(name)
+        if kind is None:
+            yield where, name
+        elif one is not None and isinstance(kind, dict):
+            yield from unknown_members(one, kind, where_in(where, name))
+        elif one is not None and isinstance(kind, list) and isinstance(kind[0], dict):
+            for index, inner in enumerate(one):
+                yield from unknown_members(inner, kind[0], where_in(where, name, index))
 
 
-def version_of(text: Any, where: str) -> tuple[int, int]:
-    parts = re.fullmatch(r"([0-9]{1,3})\.([0-9]{1,3})", text) if isinstance(text, str) else None
-    if not parts or text == "0.0":
+def members_of(value: dict[str, Any] | None, setting: Setting) -> dict[str, Any]:
+    """The members of an object that aren't null and that the engine reads."""
+    return {name: it for name, it in (value or {}).items() if it is not None and name not in setting.unread}
+
+
+def version_of(text: str, where: str) -> tuple[int, int]:
+    """The version of a kernel that moby reads (KernelVersion.UnmarshalJSON); of an empty one all kernels are."""
+    if not text:
+        return 0, 0
+    parts = re.fullmatch(r"([0-9]+)\.([0-9]+)", text) if len(text) <= MAX_TOLD else None
+    found = (int(parts[1]), int(parts[2])) if parts else (0, 0)
+    if found == (0, 0) or max(found) > 255:
         raise Refused(f"{where} is no version of a kernel as 4.8")
-    return int(parts[1]), int(parts[2])
+    return found
 
 
 def why_left_out(entry: dict[str, Any], setting: Setting, where: str) -> str | None:
     """Why the engines leave an entry out, or None where they keep it."""
-    excludes = object_of(entry.get("excludes", {}), FILTER, f"{where}: excludes")
-    includes = object_of(entry.get("includes", {}), FILTER, f"{where}: includes")
+    excludes, includes = (members_of(entry.get(name), setting) for name in ("excludes", "includes"))
     held = setting.capabilities
-    without = [it for it in texts_of(excludes.get("caps"), f"{where}: excludes: caps") if it in held]
-    lacking = [it for it in texts_of(includes.get("caps"), f"{where}: includes: caps") if it not in held]
-    arches = texts_of(includes.get("arches"), f"{where}: includes: arches")
-    if ENGINE_ARCH in texts_of(excludes.get("arches"), f"{where}: excludes: arches"):
+    without = [it for it in excludes.get("caps", ()) if it in held]
+    lacking = [it for it in includes.get("caps", ()) if it not in held]
+    arches, most, least = includes.get("arches"), excludes.get("minKernel"), includes.get("minKernel")
+    if ENGINE_ARCH in excludes.get("arches", ()):
         return f"not on {ENGINE_ARCH}"
     if without:
         return f"only without {without[0]}"
-    most, least = excludes.get("minKernel"), includes.get("minKernel")
-    if most and setting.kernel >= version_of(most, f"{where}: excludes: minKernel"):
-        return f"only below kernel {most}"
+    if most is not None and setting.kernel >= version_of(most, f"{where}: excludes: minKernel"):
+        return f"only below kernel {most}" if most else "for no kernel, since excludes: minKernel is empty"
     if arches and ENGINE_ARCH not in arches:
         return f"only on {listed(arches)}"
     if lacking:
-        return f"only with {told(lacking[0])}"
-    if least and setting.kernel < version_of(least, f"{where}: includes: minKernel"):
+        return f"only with {listed(lacking)}"
+    if least is not None and setting.kernel < version_of(least, f"{where}: includes: minKernel"):
         return f"only from kernel {least} on"
     return None
+
+
+@dataclass(frozen=True)
+class Origin:
+    """Where an entry of a resolved profile comes from: its index in the user's profile, and its first names there."""
+
+    index: int
+    names: str
+
+    def told(self) -> str:
+        return f"entry {self.index}" + (f" ({self.names})" if self.names else "")
 
 
 class Resolver:
@@ -169,6 +245,8 @@ class Resolver:
         self.setting = setting
         self.tell = tell
         self.notes = 0
+        # of each entry of the resolved profile
+        self.origins: list[Origin] = []
 
     def note(self, text: str) -> None:
         self.notes += 1
@@ -181,31 +259,26 @@ class Resolver:
             self.tell(f"{self.notes - MAX_NOTES} more such lines")
 
     def errno_of(self, holder: dict[str, Any], name: str, number: str, where: str) -> Any:
-        """An errno: by its name or as a text where that stands, else the number."""
+        """An errno: by its name or as a text where that stands, else the number (getErrno of containers-common)."""
         text = holder.get(name)
-        if text in (None, ""):
+        if not text:
             return holder.get(number)
-        if not isinstance(text, str):
-            raise Refused(f"{where}: {name} isn't a text")
-        known = {key: getattr(errno, key) for key in dir(errno) if key.startswith("E")}
-        if not re.fullmatch("[0-9]{1,10}", text) and text not in known:
-            raise Refused(f"{where}: {name} '{told(text)}' is no errno")
-        value = known[text] if text in known else int(text)
+        is_number = len(text) <= MAX_TOLD and re.fullmatch("[0-9]+", text) and int(text) < 1 << 32
+        if not is_number and text not in ERRNOS:
+            raise Refused(f"{where}: {name} '{told(text)}' is no errno that podman knows")
+        value = int(text) if is_number else getattr(errno, text)
         if holder.get(number) not in (None, value):
             self.note(f"{where}: {name} '{text}' is taken, and not {number} {told(holder[number])}")
         return value
 
     def architectures_of(self, top: dict[str, Any]) -> list[str]:
         """The architectures that the engine hands on."""
-        names, mapped = texts_of(top.get("architectures"), "architectures"), top.get("archMap") or []
-        if not isinstance(mapped, list):
-            raise Refused("archMap isn't a list")
+        names, mapped = top.get("architectures", []), top.get("archMap", [])
         if names and mapped:
             raise Refused("both architectures and archMap stand there, and the engines take one")
-        for at, one in enumerate(mapped):
-            one = object_of(one, ("architecture", "subArchitectures"), f"archMap {at}")
+        for one in mapped:
             if one.get("architecture") == OCI_ARCH:
-                names = [OCI_ARCH, *texts_of(one.get("subArchitectures"), f"archMap {at}: subArchitectures")]
+                names = [OCI_ARCH, *(one.get("subArchitectures") or [])]
                 break
         others = [it for it in names if it != OCI_ARCH]
         if self.setting.is_native and others:
@@ -220,28 +293,56 @@ class Resolver:
         if entry.get("name") and entry.get("names"):
             raise Refused(f"{where}: both name and names stand there, and the engines take one")
         names = [entry["name"]] if entry.get("name") else entry.get("names", [])
-        found = {"names": texts_of(names, f"{where}: names"), "action": entry.get("action")}
+        found = {"names": names, "action": entry.get("action", "")}
         number = self.errno_of(entry, "errno", "errnoRet", where)
         if number is not None:
             found["errnoRet"] = number
-        arguments = entry.get("args", [])
-        if not isinstance(arguments, list):
-            raise Refused(f"{where}: args isn't a list")
-        if arguments:
-            found["args"] = [object_of(it, ARGUMENT, f"{where}: args {at}") for at, it in enumerate(arguments)]
-        return found if found["names"] else None
+        if entry.get("args"):
+            found["args"] = [members_of(it, self.setting) for it in entry["args"]]
+        return found if names else None
+
+    def seccomp_of(self, value: Any) -> Any:
+        """The seccomp object of a profile, or of a whole config.json."""
+        if isinstance(value, dict) and value.get("defaultAction") is None and value.get("linux") is not None:
+            check(value, {"linux": {}}, "the profile", self.setting)
+            check(value["linux"], {"seccomp": {}}, "linux", self.setting)
+            return value["linux"].get("seccomp")
+        return value
+
+    def tell_unread(self, top: dict[str, Any]) -> None:
+        """Tells the members that nothing reads, and refuses those that may be conditions."""
+        for where, name in unknown_members(top, SECCOMP, "the profile"):
+            is_ignored = self.setting.ignored is None or name in self.setting.ignored
+            if where.startswith("entry ") and not is_ignored:
+                raise Refused(f"{where} has a member '{told(name)}', which no engine reads, and which may be a "
+                              f"condition: to leave it out of account, say --ignore {told(name)}")
+            self.note(f"{where}: nothing reads '{told(name)}'")
+        if self.setting.unread:
+            for where, name in self._of_other_engines(top):
+                self.note(f"{where}: {self.setting.engine} doesn't read '{name}'")
+
+    def _of_other_engines(self, top: dict[str, Any]) -> Iterator[tuple[str, str]]:
+        """The members that only other engines read, each once, and where it stands first."""
+        seen = set()
+        for index, entry in [(None, top), *enumerate(top.get("syscalls") or [])]:
+            where = "the profile" if index is None else f"entry {index}"
+            holders = [(where, entry), *((f"{where}: {it}", entry.get(it) or {}) for it in ("includes", "excludes"))]
+            for inner, holder in holders[:1] if index is None else holders:
+                for name in self.setting.unread:
+                    if holder.get(name) is not None and name not in seen:
+                        seen.add(name)
+                        yield inner, name
 
     def resolved(self, value: Any) -> dict[str, Any]:
         """The profile that the engine makes in this setting."""
-        top = object_of(value, (*TOP, "linux"), "the profile")
-        if "defaultAction" not in top and "linux" in top:
-            linux = object_of(top["linux"], ("seccomp",), "linux")
-            top = object_of(linux.get("seccomp"), TOP, "linux.seccomp")
-        entries = top.get("syscalls", [])
-        if not isinstance(entries, list):
-            raise Refused("syscalls isn't a list")
+        value = self.seccomp_of(value)
+        is_whole = value is not None and not isinstance(value, dict)
+        check(value, SECCOMP, "the profile" if is_whole else "linux.seccomp" if value is None else "the profile",
+              self.setting)
+        top = members_of(value, self.setting)
         if not top.get("defaultAction"):
             raise Refused("there is no defaultAction")
+        self.tell_unread(value)
         found = {"defaultAction": top["defaultAction"]}
         number = self.errno_of(top, "defaultErrno", "defaultErrnoRet", "the profile")
         if number is not None:
@@ -250,23 +351,26 @@ class Resolver:
         if architectures:
             found["architectures"] = architectures
         found.update((name, top[name]) for name in ("flags", "listenerPath", "listenerMetadata") if name in top)
-        found["syscalls"] = [made for at, one in enumerate(entries) for made in self.kept(at, one)]
+        found["syscalls"] = [made for at, one in enumerate(top.get("syscalls", [])) for made in self.kept(at, one)]
         return found
 
-    def kept(self, at: int, one: Any) -> list[dict[str, Any]]:
-        """The entry at this place, where the engine keeps it."""
-        entry = object_of(one, ENTRY, f"entry {at}")
+    def kept(self, at: int, one: dict[str, Any]) -> list[dict[str, Any]]:
+        """The entry at this index, where the engine keeps it."""
+        entry = members_of(one, self.setting)
         why = why_left_out(entry, self.setting, f"entry {at}")
         made = None if why else self.entry_of(entry, f"entry {at}")
+        origin = Origin(at, names_of(entry))
         if made is None:
-            self.note(f"{label(at, entry)} left out: {why or 'it names no call'}")
-        return [] if made is None else [made]
+            self.note(f"{origin.told()} left out: {why or 'it names no call'}")
+            return []
+        self.origins.append(origin)
+        return [made]
 
     def keep_first(self, profile: dict[str, Any]) -> None:
         """Leaves names out of an entry without conditions that an earlier such entry answers otherwise."""
         first: dict[str, tuple[Any, Any]] = {}
         kept = []
-        for entry in profile["syscalls"]:
+        for entry, origin in zip(profile["syscalls"], self.origins):
             answer = (entry["action"], entry.get("errnoRet"))
             if not entry.get("args"):
                 for name in entry["names"]:
@@ -275,15 +379,14 @@ class Resolver:
                                   f"has it with {told(first[name][0])}")
                 entry["names"] = [name for name in entry["names"] if first[name] == answer]
             if entry["names"]:
-                kept.append(entry)
-        profile["syscalls"] = kept
+                kept.append((entry, origin))
+        profile["syscalls"] = [entry for entry, _ in kept]
+        self.origins = [origin for _, origin in kept]
 
 
-def label(at: int, entry: dict[str, Any]) -> str:
-    """How an entry is called: its place, and its first names."""
-    names = [entry["name"]] if isinstance(entry.get("name"), str) else entry.get("names", [])
-    shown = listed(names) if isinstance(names, list) else ""
-    return f"entry {at}" + (f" ({shown})" if shown else "")
+def names_of(entry: dict[str, Any]) -> str:
+    """The first names of an entry."""
+    return listed([entry["name"]] if entry.get("name") else entry.get("names", []))
 
 
 def capabilities_of(text: str) -> list[str]:

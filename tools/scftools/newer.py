@@ -7,18 +7,44 @@ with a few instructions before each that answer the calls on one side of a numbe
 from __future__ import annotations
 
 from collections.abc import Iterator, Sequence
-from dataclasses import dataclass
+from dataclasses import dataclass, replace
 
 from . import bundles, program, verdicts
 from .answers import Answer
 from .calls import Call
-from .filters import answering_below, answering_from
+from .filters import Filter, answering_below, answering_from
 from .tables import Table
-from .verdicts import DIFFERS, SAME, NamedCall, Verdict
+from .verdicts import DIFFERS, SAME, NamedCall, Report, Verdict
 
 TYPE_CHECKING = False
 if TYPE_CHECKING:
     from .comparing import Comparison
+
+
+# What runc's stub answers, as the profile of one that answers nothing else, and as the kernel's word: ENOSYS.
+ENOSYS_PROFILE, ENOSYS = b'{"defaultAction": "SCMP_ACT_ERRNO", "defaultErrnoRet": 38}', 0x00050000 | 38
+
+
+def compared_with_stub(comparison: Comparison, scope: str, first: int | None) -> tuple[int, Report, bool]:
+    """What scf says of filters beside a profile, before which runc may have put its stub: from this number on each call
+    gets ENOSYS. Whether the stub is there comes with it.
+
+    Where the filters aren't the same without a stub, they are the same with one where scf says it twice: of the calls
+    below the number beside the profile, and of those from there on beside one that answers ENOSYS alone.
+    """
+    status, report = comparison.run(scope)
+    default = default_of(comparison) if first is not None and comparison.relation == SAME else None
+    if first is None or default is None or report.verdict is None or not report.verdict.fails:
+        return status, report, False
+    below = [Filter(one.name, answering_from(one.data, first, default[1].word)) for one in comparison.filters]
+    above = [Filter(one.name, answering_below(one.data, first, ENOSYS)) for one in comparison.filters]
+    status, report = replace(comparison, filters=below).run(scope)
+    if report.verdict is None or not report.verdict.holds:
+        return status, report, False
+    _, beyond = replace(comparison, filters=above, profile=ENOSYS_PROFILE, _facts=[]).run(scope)
+    if beyond.verdict is None or not beyond.verdict.holds:
+        return (program.REFUSED if beyond.verdict and beyond.verdict.fails else program.UNKNOWN), beyond, False
+    return status, report, True
 
 
 def _told(calls: str, are_all: bool, first: int, table: Table) -> str:
@@ -49,7 +75,7 @@ class Newer:
                 f"by {self.profile.named()}")
 
 
-def _default_of(comparison: Comparison) -> tuple[bytes, Answer] | None:
+def default_of(comparison: Comparison) -> tuple[bytes, Answer] | None:
     """The profile without its entries, and the answer that it gives to each native call."""
     if comparison.facts is None:
         return None
@@ -61,7 +87,7 @@ def _default_of(comparison: Comparison) -> tuple[bytes, Answer] | None:
 
 def calls_of(comparison: Comparison) -> Newer | None:
     """The calls above all that the profile names, from the first on that differs, where both sides refuse them all."""
-    greatest, default = greatest_named(comparison), _default_of(comparison)
+    greatest, default = greatest_named(comparison), default_of(comparison)
     if greatest is None or default is None or not default[1].refuses:
         return None
     alone, refused = default

@@ -15,6 +15,10 @@ from .deciding import Asked, Told
 from .tables import Table
 from .verdicts import Fault, Verdict
 
+TYPE_CHECKING = False
+if TYPE_CHECKING:
+    from .engines import Origin
+
 PRINTED = re.compile(r"(\w+ \w+) (?:entry ([0-9]+)|(default)|(foreign))")
 # So many characters of an entry are shown.
 LONGEST = 400
@@ -90,7 +94,12 @@ def _held(condition: dict[str, object], call: Call) -> str | None:
     return f"argument {index} is {argument} ({argument:#x}): {op} {value} ({value:#x}){second} holds"
 
 
-def told(reason: Reason, profile: bytes, call: Call | None) -> Iterator[str]:
+def index_of(reason: Reason, origins: Sequence[Origin] | None) -> int | None:
+    """The index of the entry in the user's profile."""
+    return reason.entry if reason.entry is None or origins is None else origins[reason.entry].index
+
+
+def told(reason: Reason, profile: bytes, call: Call | None, origins: Sequence[Origin] | None = None) -> Iterator[str]:
     """What gives the answer; of an entry also which conditions hold."""
     if reason.answer is None:
         return
@@ -100,7 +109,7 @@ def told(reason: Reason, profile: bytes, call: Call | None) -> Iterator[str]:
         yield "by the default"
     else:
         entry = profiles.entry_at(profile, reason.entry)
-        yield f"by entry {reason.entry} of syscalls" + (f": {_shown(entry)}" if entry is not None else "")
+        yield f"by entry {index_of(reason, origins)} of syscalls" + (f": {_shown(entry)}" if entry is not None else "")
         for condition in _conditions(entry) if call else ():
             held = _held(condition, call)
             if held:
@@ -118,7 +127,8 @@ def _added(reason: Reason, profile: bytes, call: Call | None, table: Table) -> I
         yield from told(reason, profile, call)
 
 
-def as_json(reason: Reason, profile: bytes, call: Call | None) -> dict[str, object]:
+def as_json(reason: Reason, profile: bytes, call: Call | None,
+            origins: Sequence[Origin] | None = None) -> dict[str, object]:
     """What gives the answer, as members of an object."""
     if reason.answer is None:
         return {}
@@ -127,7 +137,7 @@ def as_json(reason: Reason, profile: bytes, call: Call | None) -> dict[str, obje
     if reason.entry is not None:
         entry = profiles.entry_at(profile, reason.entry)
         held = [_held(it, call) for it in _conditions(entry)] if call else []
-        found.update(place=reason.entry, entry=entry, held=[it for it in held if it])
+        found.update(place=index_of(reason, origins), entry=entry, held=[it for it in held if it])
     return found
 
 
@@ -155,7 +165,8 @@ def of_difference(comparison: Comparison, verdict: Verdict) -> Iterator[str]:
     if verdict.call is None or verdict.filters is None:
         return
     words = verdict.call.words()
-    yield from told(of(comparison.profile, comparison.table, words), comparison.profile, verdict.call)
+    reason = of(comparison.profile, comparison.table, words)
+    yield from told(reason, comparison.profile, verdict.call, comparison.origins)
     for giver in paths.givers(comparison.filters, words, verdict.filters)[-1:]:
         before, lines = paths.last_tests(giver.filter.data, giver.path, verdict.call, comparison.table)
         yield f"the last tests on the way in {giver.told()}" + (f", behind {before} others:" if before else ":")
@@ -167,7 +178,8 @@ def difference_as_json(comparison: Comparison, verdict: Verdict) -> dict[str, ob
     if verdict.call is None or verdict.filters is None:
         return {}
     words = verdict.call.words()
-    found = as_json(of(comparison.profile, comparison.table, words), comparison.profile, verdict.call)
+    reason = of(comparison.profile, comparison.table, words)
+    found = as_json(reason, comparison.profile, verdict.call, comparison.origins)
     for giver in paths.givers(comparison.filters, words, verdict.filters)[-1:]:
         found["path"] = giver.as_json()
     return found

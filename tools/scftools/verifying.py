@@ -4,10 +4,11 @@ from __future__ import annotations
 from collections.abc import Iterator, Sequence
 from dataclasses import dataclass, replace
 
-from . import comparing, foreign, output, program, verdicts
+from . import comparing, foreign, newer, output, program, runtimes, verdicts
 from .comparing import Comparison
 from .filters import Filter
 from .processes import Found, Stack, threads_told
+from .runtimes import Applied
 from .tables import Table
 from .verdicts import Report
 
@@ -30,6 +31,8 @@ class Block:
     status: int
     comparison: Comparison | None = None
     report: Report | None = None
+    # the least number of those that runc answers by ENOSYS, where it does so here
+    stub: int | None = None
 
     @property
     def is_of_all(self) -> bool:
@@ -39,13 +42,19 @@ class Block:
 
 @dataclass(frozen=True)
 class Asked:
-    """What is asked of each stack."""
+    """What is asked of each stack; of a profile that a runtime applies, also what that makes of it."""
 
     profile: bytes
     table: Table
     limit: str | None
     scope: str
     relation: str = verdicts.SAME
+    applied: Applied | None = None
+
+    @classmethod
+    def of_runtime(cls, applied: Applied, table: Table, limit: str | None, scope: str, relation: str) -> Asked:
+        """What is asked beside a profile as a runtime applies it."""
+        return cls(applied.data, table, limit, scope, relation, applied)
 
 
 def judged(stack: Stack, asked: Asked) -> Block:
@@ -54,8 +63,12 @@ def judged(stack: Stack, asked: Asked) -> Block:
         return Block(stack, program.UNKNOWN if stack.is_strict else program.REFUSED)
     filters = [Filter(f"filter {at}", data) for at, data in enumerate(stack.filters)]
     comparison = Comparison(filters, asked.profile, asked.table, asked.limit, asked.relation)
-    status, report = comparison.run(asked.scope)
-    return Block(stack, status, comparison, report)
+    if asked.applied is None:
+        status, report = comparison.run(asked.scope)
+        return Block(stack, status, comparison, report)
+    comparison = replace(comparison, origins=asked.applied.origins)
+    status, report, has_stub = newer.compared_with_stub(comparison, asked.scope, asked.applied.stub)
+    return Block(stack, status, comparison, report, asked.applied.stub if has_stub else None)
 
 
 def blocks(found: Found, asked: Asked) -> list[Block]:
@@ -117,6 +130,8 @@ def lines(made: Sequence[Block], found: Found, scope: str) -> Iterator[str]:
             is_told = is_told or report.verdict is not None
             yield from report.printed
             yield from (f"# {line}" for line in comparing.added(comparison, report, scope))
+            if block.stub is not None:
+                yield f"# {runtimes.stub_told(block.stub)}"
             yield from (f"# {line}" for line in of_foreign(block, scope))
         yield from (f"# {line}" for line in of_threads(block.stack, found))
     for process, why in found.passed_over.items():
@@ -132,6 +147,8 @@ def _block_json(block: Block, found: Found, scope: str) -> dict[str, object]:
     own: dict[str, object] = {"status": block.status}
     if block.comparison is not None and block.report is not None:
         own = comparing.as_json(block.comparison, block.report, scope, block.status)
+        if block.stub is not None:
+            own["stub"] = block.stub
         if block.report.verdict is not None:
             own["foreign"] = [one.as_json()
                               for one in foreign.let_through(block.stack.filters, block.comparison.limit)]

@@ -1,4 +1,4 @@
-"""tools/plain-profile on inputs made to hurt: bytes of a stranger, endless ones, profiles that take long to read."""
+"""tools/resolve-profile on inputs made to hurt: bytes of a stranger, endless ones, profiles that take long to read."""
 import json
 import os
 import subprocess
@@ -36,7 +36,7 @@ class Hostile(Case):
         """
         out = os.path.join(self.folder, "out")
         with open(path, "rb") as given, open(out, "wb") as printed, open(f"{out}.said", "w+b") as said:
-            done = subprocess.run([tool("plain-profile"), "--keep-first", "-"], stdin=given, stdout=printed,
+            done = subprocess.run([tool("resolve-profile"), "--keep-first", "-"], stdin=given, stdout=printed,
                                   stderr=said, timeout=PATIENCE, check=False, preexec_fn=limited(SECONDS, MEMORY))
             said.seek(max(said.seek(0, os.SEEK_END) - 20000, 0))
             text = said.read().decode()
@@ -88,19 +88,19 @@ class Hostile(Case):
         between = b'"b"],"action":"SCMP_ACT_ALLOW"},{"names":['
         given = self.pieces((b'{"defaultAction":"SCMP_ACT_ERRNO","syscalls":[{"names":[', 1), (b'"a",', count),
                             (between, 1), (b'"a",', count), (b'"b"],"action":"SCMP_ACT_LOG"}]}', 1))
-        out = self.ends(given, 0, f"plain-profile: {count + 1 - 1000} more such lines\n")
+        out = self.ends(given, 0, f"resolve-profile: {count + 1 - 1000} more such lines\n")
         with open(f"{out}.said", "rb") as file:
             self.assertEqual(sum(1 for _ in file), 1001)
         with open(out, "rb") as file:
             self.assertEqual(sum(line.strip() == b'"a",' for line in file), count)
 
     def test_names_of_a_stranger(self):
-        bad = "\x1b[2J\r\nplain-profile: all is well\n\x9b\u202e" + "x" * 10000
+        bad = "\x1b[2J\r\nresolve-profile: all is well\n\x9b\u202e" + "x" * 10000
         given = engine({"names": [bad], "action": ALLOW, "includes": {"caps": [bad]}},
                        {"names": ["b"], "action": ALLOW, "includes": {"arches": [bad] * 1000}},
                        {"names": [bad, "\ud800"], "action": ALLOW}, {"names": [bad], "action": bad})
         out = self.ends(self.file("given", given), 0,
-                        "left out: only with \\x1b[2J\\x0d\\x0aplain-profile: all is well\\x0a")
+                        "left out: only with \\x1b[2J\\x0d\\x0aresolve-profile: all is well\\x0a")
         with open(out, "rb") as file:
             data = file.read()
         self.assertEqual(json.loads(data)["syscalls"], [{"names": [bad, "\ud800"], "action": ALLOW}])
@@ -115,7 +115,7 @@ class Hostile(Case):
         read, write = os.pipe()
         os.close(read)
         path = self.file("p", engine({"names": ["read"], "action": ALLOW}))
-        self.assertEqual(self.run_tool("plain-profile", path, stdout=write)[::2], (-13, ""))
+        self.assertEqual(self.run_tool("resolve-profile", path, stdout=write)[::2], (-13, ""))
         os.close(write)
 
 

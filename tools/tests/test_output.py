@@ -244,7 +244,7 @@ class Failing(Case):
 
     def test_what_is_said_stays_out_of_the_output_where_standard_error_is_closed(self):
         odd = self.file("odd.json", profile_of("read", "raed"))
-        for words in (("compile", odd), ("plain-profile", odd), ("compile", "none"), ("lint", "--no-such"), ("run",)):
+        for words in (("compile", odd), ("resolve-profile", odd), ("compile", "none"), ("lint", "--no-such"), ("run",)):
             ways = [subprocess.run(["sh", "-c", f'exec "$@" {closing}', *PYTHON, tool(words[0]), *words[1:]],
                                    stdout=subprocess.PIPE, stderr=subprocess.DEVNULL, check=False)
                     for closing in ("", "2>&-")]

@@ -1,4 +1,4 @@
-"""tools/plain-profile: the rules of the engines, on profiles that use each form."""
+"""tools/resolve-profile: the rules of the engines, on profiles that use each form."""
 import json
 import os
 
@@ -21,28 +21,28 @@ def engine(*entries, **members):
     return {"defaultAction": ERRNO, **members, "syscalls": list(entries)}
 
 
-class PlainProfile(Case):
-    def plain(self, profile, *words):
-        status, out, err = self.run_tool("plain-profile", *words, "-", given=json.dumps(profile).encode())
+class ResolveProfile(Case):
+    def resolved(self, profile, *words):
+        status, out, err = self.run_tool("resolve-profile", *words, "-", given=json.dumps(profile).encode())
         self.assertEqual(status, 0, err)
         return json.loads(out), err
 
     def names(self, profile, *words):
-        return [name for it in self.plain(profile, *words)[0]["syscalls"] for name in it["names"]]
+        return [name for it in self.resolved(profile, *words)[0]["syscalls"] for name in it["names"]]
 
     def refused(self, profile, says, *words):
         given = profile if isinstance(profile, bytes) else json.dumps(profile).encode()
-        status, out, err = self.run_tool("plain-profile", *words, "-", given=given)
+        status, out, err = self.run_tool("resolve-profile", *words, "-", given=given)
         self.assertEqual((status, out), (1, ""))
-        self.assertTrue(err.endswith("\n") and err.count("plain-profile: ") >= 1 and says in err, err)
+        self.assertTrue(err.endswith("\n") and err.count("resolve-profile: ") >= 1 and says in err, err)
         self.assertNotIn("Traceback", err)
 
     def test_usage(self):
-        self.says_usage("plain-profile")
+        self.says_usage("resolve-profile")
         for words in (("--caps", "NO_SUCH", "-"), ("--kernel", "six", "-"), ("--arch", "arm", "-")):
-            status, out, err = self.run_tool("plain-profile", *words)
+            status, out, err = self.run_tool("resolve-profile", *words)
             self.assertEqual((status, out), (2, ""))
-            self.assertIn("plain-profile: ", err)
+            self.assertIn("resolve-profile: ", err)
 
     def test_a_plain_profile_stays(self):
         given = engine(entry("read", args=[{"index": 0, "value": 2**64 - 1, "valueTwo": 0, "op": "SCMP_CMP_EQ"}]),
@@ -50,12 +50,12 @@ class PlainProfile(Case):
                        defaultErrnoRet=38, architectures=["SCMP_ARCH_X86_64"], flags=["SECCOMP_FILTER_FLAG_LOG"],
                        listenerPath="/run/x",
                        listenerMetadata="m")
-        self.assertEqual(self.plain(given), (given, ""))
+        self.assertEqual(self.resolved(given), (given, ""))
 
     def test_what_says_nothing_goes(self):
         given = engine(entry("read", comment="why", includes={}, excludes={"caps": [], "arches": None}, args=None,
                              errnoRet=None), archMap=[], architectures=[])
-        self.assertEqual(self.plain(given), (engine(entry("read")), ""))
+        self.assertEqual(self.resolved(given), (engine(entry("read")), ""))
 
     def test_includes_of_capabilities_want_all(self):
         given = engine(entry("a", includes={"caps": ["CAP_SYS_ADMIN"]}),
@@ -63,19 +63,19 @@ class PlainProfile(Case):
         for caps, names in (("none", []), ("SYS_ADMIN", ["a"]), ("cap_sys_admin,SYSLOG", ["a", "b"]),
                             ("docker,CAP_SYSLOG", []), ("CAP_SYSLOG", [])):
             self.assertEqual(self.names(given, "--caps", caps), names, caps)
-        self.assertIn("entry 1 (b) left out: only with CAP_SYSLOG\n", self.plain(given, "--caps", "SYS_ADMIN")[1])
+        self.assertIn("entry 1 (b) left out: only with CAP_SYSLOG\n", self.resolved(given, "--caps", "SYS_ADMIN")[1])
 
     def test_names_with_half_a_pair_of_surrogates(self):
         given = engine(entry("mount", "\ud800x", includes={"caps": ["CAP_SYS_ADMIN"]}))
-        self.assertEqual(self.plain(given, "--caps", "none")[1].split(" left out: ")[0],
-                         "plain-profile: entry 0 (mount, \\xed\\xa0\\x80x)")
+        self.assertEqual(self.resolved(given, "--caps", "none")[1].split(" left out: ")[0],
+                         "resolve-profile: entry 0 (mount, \\xed\\xa0\\x80x)")
         self.refused(b'{"\\ud800":1,"\\ud800":2}', "the member '\\xed\\xa0\\x80' stands twice")
 
     def test_excludes_of_capabilities_want_none(self):
         given = engine(entry("a", excludes={"caps": ["CAP_SYS_ADMIN", "CAP_SYSLOG"]}))
         for caps, names in (("none", ["a"]), ("SYS_ADMIN", []), ("SYSLOG", []), ("KILL", ["a"])):
             self.assertEqual(self.names(given, "--caps", caps), names, caps)
-        self.assertIn("entry 0 (a) left out: only without CAP_SYSLOG\n", self.plain(given, "--caps", "SYSLOG")[1])
+        self.assertIn("entry 0 (a) left out: only without CAP_SYSLOG\n", self.resolved(given, "--caps", "SYSLOG")[1])
 
     def test_the_sets_of_capabilities(self):
         every = sorted(DOCKER | {"SYS_ADMIN", "SYS_PTRACE", "BPF", "DAC_READ_SEARCH"})
@@ -90,7 +90,7 @@ class PlainProfile(Case):
                        entry("c", excludes={"arches": ["amd64"]}), entry("d", excludes={"arches": ["s390", "x86"]}),
                        entry("e", includes={"arches": []}))
         self.assertEqual(self.names(given), ["a", "d", "e"])
-        said = self.plain(given)[1]
+        said = self.resolved(given)[1]
         self.assertIn("entry 1 (b) left out: only on x32, x86\n", said)
         self.assertIn("entry 2 (c) left out: not on amd64\n", said)
 
@@ -101,8 +101,8 @@ class PlainProfile(Case):
             self.assertEqual(self.names(given, "--kernel", kernel), names, kernel)
         release = [int(it) for it in os.uname().release.split("-")[0].split(".")[:2]]
         self.assertEqual(self.names(given), ["a"] if release >= [4, 8] else ["b"])
-        self.assertIn("entry 0 (a) left out: only from kernel 4.8 on\n", self.plain(given, "--kernel", "4.7")[1])
-        self.assertIn("entry 1 (b) left out: only below kernel 4.8\n", self.plain(given, "--kernel", "4.8")[1])
+        self.assertIn("entry 0 (a) left out: only from kernel 4.8 on\n", self.resolved(given, "--kernel", "4.7")[1])
+        self.assertIn("entry 1 (b) left out: only below kernel 4.8\n", self.resolved(given, "--kernel", "4.8")[1])
         for version in ("4", "4.8.1", "x.y", "0.0", 4.8, "4.-1"):
             self.refused(engine(entry("a", includes={"minKernel": version})),
                          "whole one" if version == 4.8 else "no version of a kernel")
@@ -118,61 +118,62 @@ class PlainProfile(Case):
 
     def test_the_map_of_architectures(self):
         given = engine(archMap=MAP)
-        self.assertEqual(self.plain(given)[0]["architectures"], ["SCMP_ARCH_X86_64", "SCMP_ARCH_X86", "SCMP_ARCH_X32"])
-        self.assertEqual(self.plain(given, "--arch", "all"), self.plain(given))
-        plain, said = self.plain(given, "--arch", "native")
+        self.assertEqual(self.resolved(given)[0]["architectures"], ["SCMP_ARCH_X86_64", "SCMP_ARCH_X86", "SCMP_ARCH_X32"])
+        self.assertEqual(self.resolved(given, "--arch", "all"), self.resolved(given))
+        plain, said = self.resolved(given, "--arch", "native")
         self.assertEqual((plain["architectures"], said), (["SCMP_ARCH_X86_64"],
-            "plain-profile: architectures left out: SCMP_ARCH_X86, SCMP_ARCH_X32\n"))
-        self.assertNotIn("architectures", self.plain(engine(archMap=MAP[:1]))[0])
+            "resolve-profile: architectures left out: SCMP_ARCH_X86, SCMP_ARCH_X32\n"))
+        self.assertNotIn("architectures", self.resolved(engine(archMap=MAP[:1]))[0])
         twice = [*MAP, {"architecture": "SCMP_ARCH_X86_64", "subArchitectures": []}]
-        self.assertEqual(self.plain(engine(archMap=twice))[0]["architectures"],
+        self.assertEqual(self.resolved(engine(archMap=twice))[0]["architectures"],
                          ["SCMP_ARCH_X86_64", "SCMP_ARCH_X86", "SCMP_ARCH_X32"])
         self.refused(engine(archMap=MAP, architectures=["SCMP_ARCH_X86_64"]), "both architectures and archMap")
         self.refused(engine(architectures=["SCMP_ARCH_ARM"]), "isn't for SCMP_ARCH_X86_64", "--arch", "native")
-        self.assertEqual(self.plain(engine(architectures=["SCMP_ARCH_ARM"]))[0]["architectures"], ["SCMP_ARCH_ARM"])
+        self.assertEqual(self.resolved(engine(architectures=["SCMP_ARCH_ARM"]))[0]["architectures"], ["SCMP_ARCH_ARM"])
 
     def test_a_single_name(self):
-        self.assertEqual(self.plain(engine({"name": "read", "action": ALLOW}))[0], engine(entry("read")))
-        self.assertEqual(self.plain(engine({"name": "read", "names": [], "action": ALLOW}))[0], engine(entry("read")))
+        self.assertEqual(self.resolved(engine({"name": "read", "action": ALLOW}))[0], engine(entry("read")))
+        self.assertEqual(self.resolved(engine({"name": "read", "names": [], "action": ALLOW}))[0], engine(entry("read")))
         self.refused(engine({"name": "read", "names": ["write"], "action": ALLOW}), "both name and names")
 
     def test_an_entry_that_names_nothing(self):
         for nothing in ({"action": ALLOW}, {"names": [], "action": ALLOW},
                         {"names": None, "name": "", "action": ALLOW}):
-            plain, said = self.plain(engine(entry("read"), nothing))
+            plain, said = self.resolved(engine(entry("read"), nothing))
             self.assertEqual((plain, said), (engine(entry("read")),
-                                             "plain-profile: entry 1 left out: it names no call\n"))
+                                             "resolve-profile: entry 1 left out: it names no call\n"))
 
     def test_errnos_by_name(self):
         given = engine(entry("a", action=ERRNO, errno="ENOSYS"), entry("b", action=ERRNO, errno="EPERM", errnoRet=1),
                        entry("c", action=ERRNO, errno="", errnoRet=22),
                        entry("d", action=ERRNO, errno="95"), defaultErrno="ENOSYS", defaultErrnoRet=38)
-        plain, said = self.plain(given)
+        plain, said = self.resolved(given)
         self.assertEqual([it["errnoRet"] for it in plain["syscalls"]], [38, 1, 22, 95])
         self.assertEqual((plain["defaultErrnoRet"], said), (38, ""))
-        plain, said = self.plain(engine(entry("a", action=ERRNO, errno="EPERM", errnoRet=22)))
+        plain, said = self.resolved(engine(entry("a", action=ERRNO, errno="EPERM", errnoRet=22)))
         self.assertEqual((plain["syscalls"][0]["errnoRet"], said),
-                         (1, "plain-profile: entry 0: errno 'EPERM' is taken, and not errnoRet 22\n"))
-        plain, _ = self.plain(engine(*(entry("a", action=ERRNO, errno=name) for name in
-                                       ("EAGAIN", "EWOULDBLOCK", "EDEADLK", "EDEADLOCK", "EOPNOTSUPP", "ENOTSUP"))))
-        self.assertEqual([it["errnoRet"] for it in plain["syscalls"]], [11, 11, 35, 35, 95, 95])
-        self.refused(engine(entry("a", action=ERRNO, errno="ENOTHING")), "'ENOTHING' is no errno")
+                         (1, "resolve-profile: entry 0: errno 'EPERM' is taken, and not errnoRet 22\n"))
+        plain, _ = self.resolved(engine(*(entry("a", action=ERRNO, errno=name) for name in
+                                       ("EAGAIN", "EDEADLK", "EOPNOTSUPP", "ENOTSUP", "0038"))))
+        self.assertEqual([it["errnoRet"] for it in plain["syscalls"]], [11, 35, 95, 95, 38])
+        for name in ("ENOTHING", "EWOULDBLOCK", "EHWPOISON", "4294967296", "+1", "1_0", " 1"):
+            self.refused(engine(entry("a", action=ERRNO, errno=name)), f"'{name}' is no errno that podman knows")
         self.refused(engine(defaultErrno="-1"), "'-1' is no errno")
 
     def test_a_whole_config(self):
-        self.assertEqual(self.plain({"ociVersion": "1.0.2", "linux": {"seccomp": engine(entry("read"))}})[0],
+        self.assertEqual(self.resolved({"ociVersion": "1.0.2", "linux": {"seccomp": engine(entry("read"))}})[0],
                          engine(entry("read")))
 
     def test_the_first_of_two_answers(self):
         condition = [{"index": 0, "value": 1, "op": "SCMP_CMP_EQ"}]
         given = engine(entry("a", "b"), entry("a", "c", action=ERRNO, errnoRet=1), entry("b"),
                        entry("c", action=ERRNO, errnoRet=2), entry("a", action=ERRNO, args=condition))
-        self.assertEqual(self.plain(given)[0], given)
-        plain, said = self.plain(given, "--keep-first")
+        self.assertEqual(self.resolved(given)[0], given)
+        plain, said = self.resolved(given, "--keep-first")
         self.assertEqual(plain, engine(entry("a", "b"), entry("c", action=ERRNO, errnoRet=1), entry("b"),
                                        entry("a", action=ERRNO, args=condition)))
         self.assertEqual(said.count("left out of an entry"), 2)
-        self.assertIn("plain-profile: a left out of an entry with SCMP_ACT_ERRNO: an earlier entry has it with "
+        self.assertIn("resolve-profile: a left out of an entry with SCMP_ACT_ERRNO: an earlier entry has it with "
                       "SCMP_ACT_ALLOW\n", said)
 
     def test_what_the_engines_refuse(self):
@@ -199,18 +200,28 @@ class PlainProfile(Case):
     def test_scf_loads_what_it_prints(self):
         given = engine(entry("read", includes={"caps": ["CAP_KILL"]}), entry("write", excludes={"arches": ["amd64"]}),
                        {"name": "close", "action": ALLOW}, archMap=MAP)
-        _, out, _ = self.run_tool("plain-profile", "-", given=json.dumps(given).encode())
+        _, out, _ = self.run_tool("resolve-profile", "-", given=json.dumps(given).encode())
         with open(TABLE, "rb") as file:
             bundle = part("profile", out.encode()) + part("table", file.read())
         self.assertEqual(self.run_words([SCF, "compile"], bundle, stdout=-3)[0], 0)
 
     def test_files(self):
         path = self.file("p.json", json.dumps(engine(entry("read"))).encode())
-        self.assertEqual(self.run_tool("plain-profile", path)[0], 0)
+        self.assertEqual(self.run_tool("resolve-profile", path)[0], 0)
         for name, says in (("none", "there is no file 'none'"), (self.folder, "is a folder")):
-            status, out, err = self.run_tool("plain-profile", name)
+            status, out, err = self.run_tool("resolve-profile", name)
             self.assertEqual((status, out), (2, ""))
             self.assertIn(says, err)
-        status, _, err = self.closed_output("plain-profile", path)
+        status, _, err = self.closed_output("resolve-profile", path)
         self.assertEqual(status, 3)
         self.assertIn("the output failed", err)
+
+
+class OldName(Case):
+    def test_the_old_name(self):
+        """plain-profile says once what it is called now, and does the same."""
+        for given, words in ((json.dumps(engine(entry("read"))).encode(), ("--caps", "none", "-")), (b"{", ("-",)),
+                             (b"", ("--caps", "NO_SUCH", "-"))):
+            status, out, err = self.run_tool("resolve-profile", *words, given=given)
+            self.assertEqual(self.run_tool("plain-profile", *words, given=given),
+                             (status, out, "plain-profile: this is called resolve-profile now\n" + err))

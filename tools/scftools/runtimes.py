@@ -1,0 +1,338 @@
+"""Container runtimes: what runc and crun make of a profile, as a profile that says just that.
+
+Both hand the entries of a profile to libseccomp, which answers a syscall otherwise than a reader of the profile thinks
+where two entries have it. The rules stand in runc's libcontainer (SetupSeccomp of specconv, matchCall of seccomp and
+generatePatch of seccomp/patchbpf), and were found by filters that crun 1.8.1 and libseccomp 2.5.4 load:
+
+- an entry whose answer is the default's isn't handed over;
+- two conditions on one argument make each condition of the entry an entry of its own; crun takes the first six;
+- a name that libseccomp doesn't know is left out;
+- an entry without conditions has all calls of its syscall, wherever it stands; of two such entries it is the first;
+- the calls of x86-64 are confined whether or not `architectures` has it;
+- where it has it and the default denies, runc alone answers each number above all that the profile names by ENOSYS.
+"""
+from __future__ import annotations
+
+import argparse
+import os
+from collections.abc import Iterator, Sequence
+from dataclasses import dataclass, field, replace
+
+from . import engines
+from .engines import OCI_ARCH, Origin, Refused, Setting, listed, told
+
+TYPE_CHECKING = False
+if TYPE_CHECKING:
+    from typing import Any
+
+RUNC, CRUN = "runc", "crun"
+# The actions that the runtimes know, under one name each where they have two; and those that take a number, which is
+# EPERM where none is given.
+ACTIONS = {f"SCMP_ACT_{it}": f"SCMP_ACT_{it}" for it in
+           ("KILL_PROCESS", "KILL_THREAD", "TRAP", "ERRNO", "NOTIFY", "TRACE", "LOG", "ALLOW")}
+ACTIONS["SCMP_ACT_KILL"] = "SCMP_ACT_KILL_THREAD"
+ERRNO, NOTIFY = "SCMP_ACT_ERRNO", "SCMP_ACT_NOTIFY"
+WITH_NUMBER = (ERRNO, "SCMP_ACT_TRACE")
+# Defaults beside which runc's stub isn't put before the filter (isAllowAction of patchbpf).
+ALLOWS = ("SCMP_ACT_ALLOW", "SCMP_ACT_LOG", "SCMP_ACT_TRACE")
+# The greatest errno that libseccomp takes, and the most conditions of an entry that crun looks at.
+MAX_ERRNO, CRUN_CONDITIONS = 4095, 6
+PREFIX = "SCMP_ARCH_"
+
+
+@dataclass(frozen=True)
+class Runtime:
+    """A runtime by the name that a user gives it: the program, and the engine whose default it is, which resolves a
+    profile before."""
+
+    name: str
+    program: str
+    engine: str | None = None
+
+
+RUNTIMES = {it.name: it for it in (Runtime(RUNC, RUNC), Runtime(CRUN, CRUN), Runtime("docker", RUNC, "docker"),
+                                   Runtime("podman", CRUN, "podman"))}
+HELP = ("read profiles as it does: runc and crun take resolved ones; docker is Docker's engine, which resolves an "
+        "engine's profile, with runc behind it, and podman is podman's with crun. So an entry whose answer is the "
+        "default's counts for nothing, of two entries without conditions the first does, and names that this machine's "
+        "libseccomp doesn't know are left out")
+
+
+def add_option(parser: argparse.ArgumentParser) -> None:
+    """Adds `--runtime`."""
+    parser.add_argument("--runtime", choices=tuple(RUNTIMES), help=HELP)
+
+
+class Library:
+    """What names of x86-64 syscalls libseccomp knows, as the one of this machine says; without one, the call table."""
+
+    def __init__(self) -> None:
+        import ctypes  # pylint: disable=import-outside-toplevel
+
+        class Version(ctypes.Structure):
+            """struct scmp_version (seccomp.h)."""
+
+            _fields_ = [(name, ctypes.c_uint) for name in ("major", "minor", "micro")]
+
+        self.told = "libseccomp"
+        try:
+            library = ctypes.CDLL("libseccomp.so.2")
+            self._resolve = library.seccomp_syscall_resolve_name_arch
+            library.seccomp_version.restype = ctypes.POINTER(Version)
+            found = library.seccomp_version().contents
+            self.told = f"this machine's libseccomp {found.major}.{found.minor}.{found.micro}"
+            self._resolve.argtypes = [ctypes.c_uint32, ctypes.c_char_p]
+            self.is_there = True
+        except (OSError, AttributeError, ValueError):
+            from . import tables  # pylint: disable=import-outside-toplevel
+
+            self._table, self.is_there = tables.read(None), False
+
+    def number_of(self, name: str) -> int | None:
+        """The number of a name, below 0 where x86-64 has no such syscall and others do; None where it isn't known."""
+        if not self.is_there:
+            return self._table.number_of(name)
+        data = name.encode("utf-8", "surrogatepass")
+        # AUDIT_ARCH_X86_64, and __NR_SCMP_ERROR where there is no such name
+        number = self._resolve(0xC000003E, data) if b"\0" not in data else -1
+        return None if number == -1 else number
+
+
+@dataclass(frozen=True)
+class Applied:
+    """A profile as a runtime applies it, in a form of which scf says the same."""
+
+    runtime: Runtime
+    profile: dict[str, Any]
+    # of each entry of the profile, where it stands in the user's
+    origins: Sequence[Origin]
+    # what is to be known of the whole, and what was left out of it, entry by entry
+    remarks: Sequence[str]
+    notes: Sequence[str]
+    # the least number that runc answers by ENOSYS, where it does
+    stub: int | None = None
+
+    @property
+    def data(self) -> bytes:
+        """The profile's text."""
+        return engines.printed(self.profile).encode()
+
+
+def stub_told(first: int) -> str:
+    """What is said of a filter with runc's stub before it."""
+    return f"numbers from {first} on, which are above all that the profile names, get ENOSYS, as runc has it"
+
+
+# An action and its number.
+Answer = tuple[str, int]
+
+
+@dataclass
+class _Rule:
+    """An entry that is handed to libseccomp: names and conditions that are all to hold."""
+
+    names: list[str]
+    answer: Answer
+    args: list[dict[str, Any]]
+    origin: Origin
+
+    def as_entry(self) -> dict[str, Any]:
+        return {"names": self.names, **_members_of(self.answer, "action", "errnoRet"),
+                **({"args": self.args} if self.args else {})}
+
+
+def _members_of(answer: Answer, action: str, number: str) -> dict[str, Any]:
+    return {action: answer[0], **({number: answer[1]} if answer[0] in WITH_NUMBER else {})}
+
+
+@dataclass
+class _Application:
+    """The making of what a runtime applies out of a resolved profile."""
+
+    runtime: Runtime
+    library: Library
+    remarks: list[str] = field(default_factory=list)
+    notes: list[str] = field(default_factory=list)
+    unknown: dict[str, None] = field(default_factory=dict)
+    greatest: int = 0
+
+    def refuse(self, why: str) -> None:
+        raise Refused(f"{self.runtime.program} refuses the profile: {why}")
+
+    def remark(self, text: str) -> None:
+        if text not in self.remarks:
+            self.remarks.append(text)
+
+    def answer_of(self, action: str, number: int | None, where: str) -> Answer:
+        """What libseccomp is given for an action and its number."""
+        if action not in ACTIONS:
+            self.refuse(f"{where} has no action that it knows: '{told(action)}'")
+        action = ACTIONS[action]
+        if action in WITH_NUMBER:
+            if self.runtime.program == CRUN and number is not None and number >= 1 << 32:
+                self.refuse(f"the errno {number} of {where}")
+            return action, 1 if number is None else number & 0xFFFF
+        if number is not None and self.runtime.program == CRUN:
+            self.refuse(f"{where} has an errno beside {action}")
+        if number is not None:
+            self.remark(f"an errno beside an action that takes none is ignored: the first is that of {where}")
+        return action, 0
+
+    def check(self, answer: Answer, where: str) -> None:
+        """Refuses an errno that libseccomp refuses."""
+        if answer[0] == ERRNO and answer[1] > MAX_ERRNO:
+            self.refuse(f"libseccomp takes no errno above {MAX_ERRNO}, and {where} has {answer[1]}")
+
+    def default_of(self, profile: dict[str, Any]) -> Answer:
+        answer = self.answer_of(profile["defaultAction"], profile.get("defaultErrnoRet"), "the default")
+        self.check(answer, "the default")
+        if answer[0] == NOTIFY and self.runtime.program == RUNC:
+            self.refuse(f"{NOTIFY} is no default action")
+        return answer
+
+    def known(self, names: Sequence[str], where: str) -> list[str]:
+        """Those names of an entry that libseccomp knows."""
+        found = []
+        for name in dict.fromkeys(names):
+            if not name and self.runtime.program == RUNC:
+                self.refuse(f"a name of {where} is empty")
+            number = self.library.number_of(name)
+            if number is None:
+                self.unknown[name] = None
+            else:
+                self.greatest = max(self.greatest, number)
+                found.append(name)
+        return found
+
+    def rules_of(self, entry: dict[str, Any], origin: Origin, default: Answer) -> Iterator[_Rule]:
+        """What is handed over of an entry."""
+        where = f"entry {origin.index}"
+        answer = self.answer_of(entry["action"], entry.get("errnoRet"), where)
+        names = self.known(entry["names"], where)
+        if answer[0] == NOTIFY and self.runtime.program == RUNC and "write" in entry["names"]:
+            self.refuse(f"{where} has write with {NOTIFY}")
+        if answer == default:
+            self.notes.append(f"{origin.told()} left out: its answer is the default's")
+            return
+        self.check(answer, where)
+        args = entry.get("args", [])
+        if self.runtime.program == CRUN and len(args) > CRUN_CONDITIONS:
+            self.remark(f"{where} has {len(args)} conditions, of which crun takes the first {CRUN_CONDITIONS}")
+            args = args[:CRUN_CONDITIONS]
+        indices = [it.get("index", 0) for it in args]
+        if len(set(indices)) == len(indices):
+            yield _Rule(names, answer, args, origin)
+            return
+        self.notes.append(f"{origin.told()} has two conditions on one argument: its conditions are alternatives")
+        yield from (_Rule(list(names), answer, [one], origin) for one in args)
+
+    def keep_counting(self, rules: Sequence[_Rule]) -> None:
+        """Leaves those names out of entries whose syscalls another entry answers: the first without conditions."""
+        first: dict[str, _Rule] = {}
+        for rule in rules:
+            if not rule.args:
+                for name in rule.names:
+                    first.setdefault(name, rule)
+        for rule in rules:
+            gone: dict[Origin, list[str]] = {}
+            for name in rule.names:
+                counts = first.get(name)
+                if counts is not None and counts is not rule and counts.answer != rule.answer:
+                    gone.setdefault(counts.origin, []).append(name)
+            left_out = {name for names in gone.values() for name in names}
+            rule.names = [name for name in rule.names if name not in left_out]
+            self.notes += [f"{listed(names)} left out of entry {rule.origin.index}: entry {origin.index}, which has no "
+                           f"conditions, has all such calls" for origin, names in gone.items()]
+
+    def architectures_of(self, names: Sequence[str]) -> list[str]:
+        """The architectures, x86-64 among them."""
+        if self.runtime.program == CRUN:
+            names = [PREFIX + it.removeprefix(PREFIX).upper() for it in names]
+        if not names or OCI_ARCH in names:
+            return list(names)
+        self.remark(f"the calls of x86-64 are confined, too, though architectures hasn't {OCI_ARCH}")
+        return [OCI_ARCH, *names]
+
+    def stub_of(self, profile: dict[str, Any], default: Answer) -> int | None:
+        """The least number that runc's stub answers (findLastSyscalls of patchbpf), where there is one."""
+        is_put = self.runtime.program == RUNC and OCI_ARCH in profile.get("architectures", ())
+        return self.greatest + 1 if is_put and self.greatest and default[0] not in ALLOWS else None
+
+    def tell_unknown(self) -> None:
+        if not self.library.is_there:
+            self.remark("there is no libseccomp.so.2 here, so it can't be told which names the runtime's doesn't know")
+        elif self.unknown:
+            self.remark(f"left out, since {self.library.told} doesn't know such names: {listed(list(self.unknown))}")
+
+    def run(self, profile: dict[str, Any], origins: Sequence[Origin]) -> Applied:
+        default = self.default_of(profile)
+        rules = [rule for entry, origin in zip(profile["syscalls"], origins)
+                 for rule in self.rules_of(entry, origin, default)]
+        if self.runtime.program == RUNC and "listenerPath" not in profile:
+            if any(it["action"] == NOTIFY for it in profile["syscalls"]):
+                self.refuse(f"it has {NOTIFY} and no listenerPath")
+        self.keep_counting(rules)
+        rules = [rule for rule in rules if rule.names]
+        found = {**profile, **_members_of(default, "defaultAction", "defaultErrnoRet")}
+        if default[0] not in WITH_NUMBER:
+            found.pop("defaultErrnoRet", None)
+        architectures = self.architectures_of(profile.get("architectures", []))
+        if architectures:
+            found["architectures"] = architectures
+        found["syscalls"] = [rule.as_entry() for rule in rules]
+        self.tell_unknown()
+        return Applied(self.runtime, found, [rule.origin for rule in rules], self.remarks, self.notes,
+                       self.stub_of(profile, default))
+
+
+def _is_config(value: Any) -> bool:
+    """Whether it is a whole config.json, which holds what the engine has resolved already."""
+    return isinstance(value, dict) and value.get("linux") is not None
+
+
+def _seccomp_of(value: Any) -> Any:
+    """The seccomp object of a config.json, where runtimes look for it and nowhere else."""
+    if value.get("defaultAction") is not None:
+        raise Refused("both defaultAction and linux stand at the top: it is a profile, or a config.json")
+    return value
+
+
+def _refuse_engines(value: Any, program: str) -> None:
+    """Refuses what only engines read, where there is none."""
+    value = value if isinstance(value, dict) else {}
+    entries = [it for it in value.get("syscalls") or [] if isinstance(it, dict)]
+    found = [name for name in ("archMap", "defaultErrno") if value.get(name)]
+    found += [name for name in ("includes", "excludes", "name", "errno") if any(it.get(name) for it in entries)]
+    if found:
+        raise Refused(f"{program} doesn't read {found[0]}: it is an engine's profile, which --runtime docker and "
+                      f"--runtime podman resolve")
+
+
+def setting_of(runtime: Runtime, capabilities: str | None = None, kernel: str | None = None,
+               ignored: Sequence[str] | None = ()) -> Setting:
+    """The container that a runtime's engine resolves a profile for: by default with the engine's capabilities, on this
+    kernel. A ValueError where a text is none of these."""
+    engine = runtime.engine or "none"
+    return Setting(engines.capabilities_of(engine if capabilities is None else capabilities),
+                   engines.kernel_of(kernel or os.uname().release), False, runtime.engine, ignored)
+
+
+def applied(value: Any, name: str, setting: Setting | None = None) -> Applied:
+    """What the runtime of a name makes of a profile, or of a whole config.json, that `engines.read` read. Refused where
+    the runtime, or the engine before it, refuses it or reads it otherwise than it is spelled."""
+    runtime = RUNTIMES[name]
+    setting = setting or setting_of(runtime)
+    notes: list[str] = []
+    if _is_config(value):
+        # the engine has done its part, and what else stands there isn't read
+        value, setting = _seccomp_of(value), replace(setting, engine=None, ignored=None)
+        seccomp = (value["linux"] or {}).get("seccomp") if isinstance(value["linux"], dict) else None
+        _refuse_engines(seccomp, runtime.program)
+    elif runtime.engine is None:
+        _refuse_engines(value, runtime.program)
+        setting = replace(setting, engine=None, ignored=None)
+    resolver = engines.Resolver(setting, notes.append)
+    resolved = resolver.resolved(value)
+    resolver.tell_more()
+    found = _Application(runtime, Library()).run(resolved, resolver.origins)
+    return replace(found, notes=[*notes, *found.notes])

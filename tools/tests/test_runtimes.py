@@ -1,0 +1,287 @@
+"""What runc and crun make of a profile: their own filters, taken from containers, beside what the tools say of it."""
+import contextlib
+import json
+import os
+import random
+import shutil
+import subprocess
+import sys
+import tempfile
+import unittest
+
+from common import TABLE, TOP, Case, part
+
+sys.path.append(os.path.join(TOP, "tools"))
+
+# pylint: disable=wrong-import-position
+from scftools import engines, inputs, newer, processes, program, runtimes, tables  # noqa: E402
+from scftools.comparing import NATIVE, Comparison  # noqa: E402
+from scftools.filters import Filter, answering_from  # noqa: E402
+
+ALLOW, ERRNO, LOG, TRAP = "SCMP_ACT_ALLOW", "SCMP_ACT_ERRNO", "SCMP_ACT_LOG", "SCMP_ACT_TRAP"
+X86_64, X86, X32 = "SCMP_ARCH_X86_64", "SCMP_ARCH_X86", "SCMP_ARCH_X32"
+NAMES = sorted(tables.read(None).names())
+BUSYBOX = shutil.which("busybox")
+MOBY = "/usr/share/gocode/src/github.com/docker/docker/profiles/seccomp/default.json"
+PODMAN = "/usr/share/containers/seccomp.json"
+CAPABILITIES = [f"CAP_{it}" for it in engines.DOCKER.split()]
+
+
+def condition(index, op, value, two=0):
+    return {"index": index, "op": f"SCMP_CMP_{op}", "value": value, "valueTwo": two}
+
+
+def entry(*names, action=ALLOW, errno=None, args=()):
+    return {"names": list(names), "action": action, **({} if errno is None else {"errnoRet": errno}),
+            **({"args": list(args)} if args else {})}
+
+
+# What a container's program does, whatever else a profile says.
+OTHERS = entry(*(it for it in NAMES if it not in ("mkdir", "rmdir", "chroot")))
+
+
+def profile(*entries, default=ERRNO, **members):
+    return {"defaultAction": default, "architectures": [X86_64], "syscalls": [OTHERS, *entries], **members}
+
+
+def config(seccomp):
+    mounts = [{"destination": "/proc", "type": "proc", "source": "proc"},
+              {"destination": "/dev", "type": "tmpfs", "source": "tmpfs"}]
+    capabilities = {it: CAPABILITIES for it in ("bounding", "effective", "permitted")}
+    return {"ociVersion": "1.0.2",
+            "process": {"user": {"uid": 0, "gid": 0}, "args": ["/busybox", "sleep", "300"], "env": ["PATH=/"],
+                        "cwd": "/", "capabilities": capabilities},
+            "root": {"path": "rootfs", "readonly": True}, "mounts": mounts,
+            "linux": {"namespaces": [{"type": it} for it in ("pid", "ipc", "uts", "mount")], "seccomp": seccomp}}
+
+
+# crun takes no mix of both versions of control groups; in a mount namespace of its own it sees the second alone.
+ALONE = ["unshare", "-m", "sh", "-c", 'mount -t cgroup2 cgroup2 /sys/fs/cgroup && exec "$@"', "sh"]
+
+
+@contextlib.contextmanager
+def container(runtime, seccomp):
+    """A container with a profile: its process, or why the runtime refuses it."""
+    if os.geteuid() or not BUSYBOX or not shutil.which(runtime):
+        raise unittest.SkipTest(f"needs root, busybox and {runtime}")
+    folder = tempfile.mkdtemp(prefix="scf-runtimes-")
+    words = [*ALONE, "crun", "--cgroup-manager", "disabled"] if runtime == "crun" else [runtime]
+    words += ["--root", os.path.join(folder, "root")]
+    name = os.path.basename(folder)
+    try:
+        for inner in ("proc", "dev"):
+            os.makedirs(os.path.join(folder, "rootfs", inner))
+        shutil.copy(BUSYBOX, os.path.join(folder, "rootfs", "busybox"))
+        with open(os.path.join(folder, "config.json"), "w", encoding="utf-8") as file:
+            json.dump(config(seccomp), file)
+        said = os.path.join(folder, "said")
+        with open(said, "wb") as err:
+            done = subprocess.run([*words, "run", "--detach", "--bundle", folder, "--pid-file", f"{folder}/pid", name],
+                                  stdin=subprocess.DEVNULL, stdout=subprocess.DEVNULL, stderr=err, check=False)
+        if done.returncode:
+            with open(said, encoding="utf-8") as file:
+                yield None, file.read()
+        else:
+            with open(f"{folder}/pid", encoding="utf-8") as file:
+                yield int(file.read()), ""
+    finally:
+        subprocess.run([*words, "delete", "--force", name], stdin=subprocess.DEVNULL, stdout=subprocess.DEVNULL,
+                       stderr=subprocess.DEVNULL, check=False)
+        shutil.rmtree(folder, ignore_errors=True)
+
+
+def filters_of(runtime, seccomp):
+    """The filters of a container with a profile, oldest first, or why the runtime refuses it."""
+    with container(runtime, seccomp) as (process, why):
+        if process is None:
+            return None, why
+        stacks = processes.look_at_process(processes.Kernel(), process).stacks
+        return stacks[0].filters, ""
+
+
+class Runtimes(Case):
+    def compared(self, runtime, seccomp, applied=None, filters=None):
+        """The verdict of a container's own filter beside what the tools say that the runtime makes of the profile, and
+        what they say."""
+        found = applied or runtimes.applied(seccomp, runtime)
+        if filters is None:
+            filters, why = filters_of(found.runtime.program, seccomp)
+            self.assertIsNotNone(filters, why)
+        comparison = Comparison([Filter("it", it) for it in filters], found.data, tables.read(None))
+        _, report, has_stub = newer.compared_with_stub(comparison, NATIVE, found.stub)
+        return report.printed[0], has_stub, found
+
+    def same(self, runtime, *entries, **members):
+        given = profile(*entries, **members)
+        verdict, _, found = self.compared(runtime, given)
+        self.assertEqual(verdict, "same", (runtime, given["syscalls"][1:]))
+        return found
+
+    def test_an_entry_with_the_answer_of_the_default(self):
+        for runtime in ("runc", "crun"):
+            for errno, members in ((1, {}), (None, {}), (65537, {}), (None, {"defaultErrnoRet": 1})):
+                found = self.same(runtime, entry("mkdir", action=ERRNO, errno=errno), entry("mkdir"), **members)
+                self.assertEqual([it.index for it in found.origins], [0, 2])
+                self.assertIn("entry 1 (mkdir) left out: its answer is the default's", found.notes)
+            self.same(runtime, entry("mkdir", action=ERRNO), entry("mkdir"), default=LOG)
+            self.same(runtime, entry("mkdir", action="SCMP_ACT_KILL_THREAD"), entry("mkdir"), default="SCMP_ACT_KILL")
+            self.same(runtime, entry("mkdir", action=ERRNO), defaultErrnoRet=2)
+
+    def test_which_of_two_entries_counts(self):
+        only = [condition(0, "EQ", 7)]
+        for runtime in ("runc", "crun"):
+            found = self.same(runtime, entry("mkdir", action=ERRNO, errno=2), entry("rmdir", "mkdir"))
+            self.assertIn("mkdir left out of entry 2: entry 1, which has no conditions, has all such calls",
+                          found.notes)
+            self.same(runtime, entry("mkdir"), entry("mkdir", action=ERRNO, errno=2))
+            # an entry without conditions has all calls, wherever it stands
+            self.same(runtime, entry("mkdir", args=only), entry("mkdir", action=ERRNO, errno=2))
+            self.same(runtime, entry("mkdir", action=ERRNO, errno=2), entry("mkdir", args=only))
+            self.same(runtime, entry("mkdir", args=only), entry("mkdir", action=ERRNO, errno=2, args=[
+                condition(0, "EQ", 8)]), entry("mkdir", action=ERRNO, errno=1))
+            self.same(runtime, entry("mkdir", args=only), entry("mkdir", action=ERRNO, args=only))
+
+    def test_two_conditions_on_one_argument(self):
+        two, many = [condition(0, "EQ", 1), condition(0, "EQ", 2)], [condition(0, "EQ", it) for it in range(9)]
+        for runtime in ("runc", "crun"):
+            found = self.same(runtime, entry("mkdir", args=two))
+            self.assertEqual([it.index for it in found.origins], [0, 1, 1])
+            self.same(runtime, entry("mkdir", args=[*two, condition(1, "EQ", 3)]))
+            found = self.same(runtime, entry("mkdir", args=many))
+            self.assertEqual(len(found.origins), 7 if runtime == "crun" else 10)
+            self.same(runtime, entry("mkdir", args=[*(condition(it, "EQ", it) for it in range(6)), many[5]]))
+
+    def test_an_errno_beside_an_action_without_one(self):
+        for given in (profile(entry("mkdir", errno=5)), profile(default=LOG, defaultErrnoRet=5)):
+            verdict, _, found = self.compared("runc", given)
+            self.assertEqual(verdict, "same")
+            self.assertIn("an errno beside an action that takes none is ignored", found.remarks[0])
+            self.assertIn("errno value specified", filters_of("crun", given)[1])
+            with self.assertRaisesRegex(engines.Refused, "crun refuses the profile: .* has an errno beside"):
+                runtimes.applied(given, "crun")
+
+    def test_the_architectures(self):
+        for runtime in ("runc", "crun"):
+            found = self.same(runtime, entry("mkdir"), architectures=[X86])
+            self.assertEqual((found.profile["architectures"], found.stub), ([X86_64, X86], None))
+            self.assertIn(f"hasn't {X86_64}", found.remarks[0])
+            found = self.same(runtime, entry("mkdir"), architectures=[])
+            self.assertNotIn("architectures", " ".join(found.remarks))
+        self.assertEqual(self.same("crun", architectures=["x86_64"]).profile["architectures"], [X86_64])
+
+    def test_the_stub_of_runc(self):
+        """Its first number is that behind the greatest that the profile names and libseccomp knows."""
+        for names, first in ((["read"], 1), (["write", "lchown", "no_such"], 95), (["pread64", "mkdir"], 84)):
+            given = {"defaultAction": TRAP, "architectures": [X86_64], "syscalls": [entry(*names)]}
+            self.assertEqual(runtimes.applied(given, "runc").stub, first if names != ["read"] else None)
+        numbers = {tables.read(None).number_of(it): it for it in NAMES}
+        greatest = max(it for it in numbers if it <= 440)
+        below = [name for number, name in numbers.items() if number <= greatest]
+        for default, architectures, stub in ((ERRNO, [X86_64], greatest + 1), (ERRNO, [X86_64, X86, X32], greatest + 1),
+                                             ("SCMP_ACT_KILL", [X86_64], greatest + 1), (TRAP, [X86], None),
+                                             (ERRNO, [], None), (LOG, [X86_64], None), (ALLOW, [X86_64], None)):
+            given = {"defaultAction": default, "architectures": architectures,
+                     "syscalls": [entry(*below), entry("mkdir", action=ERRNO, errno=7)]}
+            verdict, has_stub, found = self.compared("runc", given)
+            self.assertEqual((verdict, has_stub, found.stub), ("same", stub is not None, stub), (default, architectures))
+            verdict, has_stub, found = self.compared("crun", given)
+            self.assertEqual((verdict, has_stub, found.stub), ("same", False, None), (default, architectures))
+
+    def test_a_stub_at_another_number_is_none(self):
+        given = {"defaultAction": ERRNO, "architectures": [X86_64], "syscalls": [entry("read", "lchown")]}
+        for first in (94, 96):
+            found = runtimes.applied(given, "runc")
+            self.assertEqual(found.stub, 95)
+            data = answering_from(compiled(found.data), first, 0x00050026)
+            comparison = Comparison([Filter("it", data)], found.data, tables.read(None))
+            status, report, has_stub = newer.compared_with_stub(comparison, NATIVE, found.stub)
+            self.assertEqual((status, report.printed[0], has_stub, report.verdict.call.number),
+                             (1, "differs", False, min(first, 95)))
+
+    def test_what_the_runtimes_refuse(self):
+        for runtime, given, says in (
+                ("runc", profile(entry("mkdir", action=ERRNO, errno=5000)), "no errno above 4095, and entry 1 has 5000"),
+                ("crun", profile(entry("mkdir", action=ERRNO, errno=70000)), "no errno above 4095, and entry 1 has 4464"),
+                ("runc", profile(defaultErrnoRet=5000), "and the default has 5000"),
+                ("crun", profile(defaultErrnoRet=5000), "and the default has 5000"),
+                ("crun", profile(entry("mkdir", action=ERRNO, errno=2**32 + 1)), "the errno 4294967297 of entry 1"),
+                ("runc", profile(entry("mkdir", action="SCMP_ACT_X")), "entry 1 has no action that it knows"),
+                ("crun", profile(entry("mkdir", action="SCMP_ACT_X")), "entry 1 has no action that it knows"),
+                ("runc", profile(entry("")), "a name of entry 1 is empty"),
+                ("runc", profile(entry("write", action="SCMP_ACT_NOTIFY"), listenerPath="/x"), "entry 1 has write"),
+                ("runc", profile(entry("mkdir", action="SCMP_ACT_NOTIFY")), "no listenerPath"),
+                ("runc", profile(default="SCMP_ACT_NOTIFY", listenerPath="/x"), "no default action")):
+            with self.assertRaisesRegex(engines.Refused, f"{runtime} refuses the profile: .*{says}"):
+                runtimes.applied(given, runtime)
+            self.assertIsNone(filters_of(runtime, given)[0], given)
+        self.same("runc", entry("mkdir", action=ERRNO, errno=2**32 + 1), entry("mkdir"))
+
+    def test_the_engines_default_profiles(self):
+        for name, path in (("docker", MOBY), ("podman", PODMAN)):
+            if not os.path.exists(path):
+                continue
+            found = runtimes.applied(engines.read(inputs.read(path, "engine's profile")), name)
+            # as the engine itself hands it on, its entries without effect among them
+            with open(path, encoding="utf-8") as file:
+                resolver = engines.Resolver(runtimes.setting_of(found.runtime), lambda _: None)
+                handed_on = resolver.resolved(json.load(file))
+            verdict, has_stub, _ = self.compared(name, handed_on, found)
+            self.assertEqual((verdict, has_stub), ("same", name == "docker"), name)
+
+    def test_drawn_profiles(self):
+        """Entries drawn at random: the runtime refuses them, or its filter is what the tools say; where entries with
+        conditions answer one call otherwise, scf says so."""
+        drawn = random.Random(int.from_bytes(b"scf", "big"))
+        actions = [(ALLOW, None), (ERRNO, None), (ERRNO, 1), (ERRNO, 2), (TRAP, None), (LOG, None)]
+        verdicts = []
+        for _ in range(12):
+            made = []
+            for _ in range(drawn.randrange(1, 6)):
+                action, errno = drawn.choice(actions)
+                args = [condition(drawn.randrange(2), "EQ", drawn.randrange(3)) for _ in range(drawn.choice((0, 0, 1, 2)))]
+                made.append(entry(*drawn.sample(["mkdir", "rmdir", "chroot", "no_such"], 2), action=action, errno=errno,
+                                  args=args))
+            given = profile(*made, default=drawn.choice((ERRNO, ERRNO, TRAP)))
+            for runtime in ("runc", "crun"):
+                filters, why = filters_of(runtime, given)
+                if filters is None:
+                    self.assertRegex(why, "(?i)file exists")
+                    continue
+                verdict = self.compared(runtime, given, filters=filters)[0]
+                self.assertRegex(verdict, "^(same|fault profile Conflict .*)$", (runtime, made))
+                verdicts.append(verdict)
+        self.assertGreater(verdicts.count("same"), 8)
+
+    def test_without_the_library(self):
+        library = runtimes.Library()
+        self.assertEqual((library.number_of("mkdir"), library.number_of("no_such"), library.number_of("a\0b")),
+                         (83, None, None))
+        if library.is_there:
+            self.assertLess(library.number_of("socketcall"), 0)
+
+    def test_what_only_engines_read(self):
+        for member, value in (("archMap", [{"architecture": X86_64}]), ("defaultErrno", "EPERM")):
+            with self.assertRaisesRegex(engines.Refused, f"runc doesn't read {member}: .* --runtime docker"):
+                runtimes.applied({"defaultAction": ERRNO, member: value}, "runc")
+        for member, value in (("includes", {"caps": ["CAP_X"]}), ("name", "mkdir"), ("errno", "EPERM")):
+            with self.assertRaisesRegex(engines.Refused, f"crun doesn't read {member}: .* --runtime docker"):
+                runtimes.applied({"defaultAction": ERRNO, "syscalls": [{**entry("mkdir"), member: value}]}, "crun")
+        with self.assertRaisesRegex(engines.Refused, "both defaultAction and linux"):
+            runtimes.applied({"defaultAction": ERRNO, "linux": {"seccomp": profile()}}, "runc")
+
+    def test_a_whole_config(self):
+        """The engine has done its part: what it wouldn't read counts."""
+        given = config(profile(entry("mkdir"), defaultErrnoRet=38))
+        for runtime in ("runc", "docker"):
+            self.assertEqual(runtimes.applied(given, runtime).profile["defaultErrnoRet"], 38)
+
+
+def compiled(data):
+    with open(TABLE, "rb") as file:
+        done = program.scf(["compile"], part("profile", data) + part("table", file.read()))
+    assert done.status == 0, done.text
+    return done.out
+
+
+if __name__ == "__main__":
+    unittest.main()
