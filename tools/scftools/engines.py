@@ -43,6 +43,8 @@ ENGINES = {
     "docker-20.10": ("errno", "defaultErrno", "defaultErrnoRet", "flags", "listenerPath", "listenerMetadata"),
     "podman": ("minKernel",),
 }
+# The members of the top that stay as they are.
+KEPT = ("flags", "listenerPath", "listenerMetadata")
 # The names of errnos that containers-common takes (pkg/seccomp/errno_list.go).
 ERRNOS = (
     "EPERM ENOENT ESRCH EIO ENXIO E2BIG ENOEXEC EBADF ECHILD EDEADLK ENOMEM EACCES EFAULT ENOTBLK EBUSY EEXIST EXDEV "
@@ -227,6 +229,13 @@ def why_left_out(entry: dict[str, Any], setting: Setting, where: str) -> str | N
     return None
 
 
+def at_most(notes: Sequence[str]) -> Iterator[str]:
+    """Notes, of which there may be too many to tell."""
+    yield from notes[:MAX_NOTES]
+    if len(notes) > MAX_NOTES:
+        yield f"{len(notes) - MAX_NOTES} more such lines"
+
+
 @dataclass(frozen=True)
 class Origin:
     """Where an entry of a resolved profile comes from: its index in the user's profile, and its first names there."""
@@ -350,7 +359,7 @@ class Resolver:
         architectures = self.architectures_of(top)
         if architectures:
             found["architectures"] = architectures
-        found.update((name, top[name]) for name in ("flags", "listenerPath", "listenerMetadata") if name in top)
+        found.update((name, top[name]) for name in KEPT if name in top)
         found["syscalls"] = [made for at, one in enumerate(top.get("syscalls", [])) for made in self.kept(at, one)]
         return found
 

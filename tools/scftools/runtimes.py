@@ -63,6 +63,41 @@ def add_option(parser: argparse.ArgumentParser) -> None:
     parser.add_argument("--runtime", choices=tuple(RUNTIMES), help=HELP)
 
 
+def add_options(parser: argparse.ArgumentParser) -> None:
+    """Adds `--runtime`, and what says how an engine resolves a profile."""
+    add_option(parser)
+    parser.add_argument("--engine", choices=tuple(engines.ENGINES),
+                        help="whose rules resolve an engine's profile: Docker's since 23.0, Docker's 20.10 or podman's "
+                             "[default: that of --runtime, or the members that one of them reads]")
+    parser.add_argument("--caps", metavar="LIST",
+                        help="the container's capabilities, as CAP_KILL,SYS_ADMIN; docker, podman and none are sets, "
+                             "and docker,SYS_ADMIN is one with another [default: podman for podman, or docker]")
+    parser.add_argument("--kernel", metavar="X.Y", help="the kernel that the engine runs on [default: this one]")
+    parser.add_argument("--arch", choices=("native", "all"),
+                        help="whether only x86-64 or all architectures are handed on [default: all, as the engine "
+                             "does]")
+    parser.add_argument("--ignore", metavar="MEMBER", action="append",
+                        help="an unknown member of entries is no condition")
+
+
+def is_engines(given: argparse.Namespace) -> bool:
+    """Whether some word says that a profile is an engine's."""
+    return any(getattr(given, it) is not None for it in ("engine", "caps", "kernel", "arch", "ignore"))
+
+
+def setting_of_words(given: argparse.Namespace, parser: argparse.ArgumentParser) -> Setting:
+    """The container that an engine resolves profiles for."""
+    engine = given.engine or (RUNTIMES[given.runtime].engine if given.runtime else None)
+    is_podman = engine == "podman"
+    try:
+        return Setting(engines.capabilities_of(given.caps if given.caps is not None else
+                                               "podman" if is_podman else "docker"),
+                       engines.kernel_of(given.kernel or os.uname().release), given.arch == "native", engine,
+                       given.ignore or ())
+    except ValueError as why:
+        parser.error(str(why))
+
+
 class Library:
     """What names of x86-64 syscalls libseccomp knows, as the one of this machine says; without one, the call table."""
 
@@ -117,10 +152,17 @@ class Applied:
         """The profile's text."""
         return engines.printed(self.profile).encode()
 
+    def told(self) -> Iterator[str]:
+        """What is to be known of it, and all that was left out."""
+        yield from engines.at_most(self.notes)
+        yield from self.remarks
+        if self.stub is not None:
+            yield f"not in the profile: {stub_told(self.stub)}"
+
 
 def stub_told(first: int) -> str:
     """What is said of a filter with runc's stub before it."""
-    return f"numbers from {first} on, which are above all that the profile names, get ENOSYS, as runc has it"
+    return f"runc answers the numbers from {first} on, which are above all that the profile names, by ENOSYS"
 
 
 # An action and its number.
@@ -273,12 +315,11 @@ class _Application:
                 self.refuse(f"it has {NOTIFY} and no listenerPath")
         self.keep_counting(rules)
         rules = [rule for rule in rules if rule.names]
-        found = {**profile, **_members_of(default, "defaultAction", "defaultErrnoRet")}
-        if default[0] not in WITH_NUMBER:
-            found.pop("defaultErrnoRet", None)
+        found = _members_of(default, "defaultAction", "defaultErrnoRet")
         architectures = self.architectures_of(profile.get("architectures", []))
         if architectures:
             found["architectures"] = architectures
+        found.update((name, profile[name]) for name in engines.KEPT if name in profile)
         found["syscalls"] = [rule.as_entry() for rule in rules]
         self.tell_unknown()
         return Applied(self.runtime, found, [rule.origin for rule in rules], self.remarks, self.notes,
@@ -308,13 +349,10 @@ def _refuse_engines(value: Any, program: str) -> None:
                       f"--runtime podman resolve")
 
 
-def setting_of(runtime: Runtime, capabilities: str | None = None, kernel: str | None = None,
-               ignored: Sequence[str] | None = ()) -> Setting:
-    """The container that a runtime's engine resolves a profile for: by default with the engine's capabilities, on this
-    kernel. A ValueError where a text is none of these."""
-    engine = runtime.engine or "none"
-    return Setting(engines.capabilities_of(engine if capabilities is None else capabilities),
-                   engines.kernel_of(kernel or os.uname().release), False, runtime.engine, ignored)
+def setting_of(runtime: Runtime) -> Setting:
+    """The container that a runtime's engine resolves a profile for: with the engine's capabilities, on this kernel."""
+    return Setting(engines.capabilities_of(runtime.engine or "none"), engines.kernel_of(os.uname().release), False,
+                   runtime.engine)
 
 
 def applied(value: Any, name: str, setting: Setting | None = None) -> Applied:
@@ -328,11 +366,10 @@ def applied(value: Any, name: str, setting: Setting | None = None) -> Applied:
         value, setting = _seccomp_of(value), replace(setting, engine=None, ignored=None)
         seccomp = (value["linux"] or {}).get("seccomp") if isinstance(value["linux"], dict) else None
         _refuse_engines(seccomp, runtime.program)
-    elif runtime.engine is None:
+    elif setting.engine is None:
         _refuse_engines(value, runtime.program)
-        setting = replace(setting, engine=None, ignored=None)
+        setting = replace(setting, ignored=None)
     resolver = engines.Resolver(setting, notes.append)
     resolved = resolver.resolved(value)
-    resolver.tell_more()
     found = _Application(runtime, Library()).run(resolved, resolver.origins)
     return replace(found, notes=[*notes, *found.notes])

@@ -10,7 +10,7 @@ from common import TOP, Case
 
 sys.path.append(os.path.join(TOP, "tools"))
 
-from scftools import profiles  # noqa: E402  pylint: disable=wrong-import-position
+from scftools import engines, profiles  # noqa: E402  pylint: disable=wrong-import-position
 
 ALLOW, ERRNO = "SCMP_ACT_ALLOW", "SCMP_ACT_ERRNO"
 # Each member of a profile by a text in which a mark stands for its name, and what is found by the path of the right
@@ -98,6 +98,125 @@ class Members(Case):
         for text in ('{"annotations":{"a":1,"A":2},"process":{"Names":1},"x":1,"X":2}', "[", "\ud800", "[1]",
                      '{"syscalls":{"Names":1}}', '{"syscalls":[[1],2,null]}', "[" * 100000):
             self.assertEqual(profiles.misread_members(text.encode("utf-8", "surrogatepass")), [], text[:50])
+
+
+# Values of a member that the engines may read or refuse, by what its value should be.
+ODD = (None, True, -1, 1.5, "", "x", [], {}, [None], ["x"], [1], [{}], [[]], {"x": 1}, 2**64, 10**30)
+KERNELS = ("", "4.8", "255.255", "256.1", "1.256", "0.0", "0.1", "4", "4.8.1", "4.", ".8", "+4.8", "04.008", "4_0.1", " 4.8",
+           "4.8 ", "\u0664.8", "7.0", "6.18", "6.17", "6.19")
+NUMBERS = (0, 1, 38, 4095, 5000, 65536, 2**32, 2**63, 2**64 - 1)
+ERRNOS = (*sorted(engines.ERRNOS), "", "EINTR", "EHWPOISON", "EWOULDBLOCK", "eperm", "0", "07", "4294967295", "4294967296",
+          "-1", "+1", "1_0", " 1", "0x1", "\u0661", "1" * 40)
+CAPABILITIES = ("CAP_KILL", "CAP_SYS_ADMIN", "CAP_CHOWN")
+
+
+class Draw:
+    """Profiles drawn at random, most of them such as engines take, with odd values here and there."""
+
+    def __init__(self, seed):
+        self.random = random.Random(seed)
+
+    def one(self, *values):
+        return self.random.choice(values)
+
+    def some(self, *values):
+        return [self.one(*values) for _ in range(self.random.randrange(3))]
+
+    def members(self, **makers):
+        """Some of these members, each made by itself, or an odd value in its place."""
+        names = [name for name in makers if self.random.random() < 0.5]
+        return {name: self.one(*ODD) if self.random.random() < 0.01 else makers[name]() for name in names}
+
+    def condition(self):
+        return self.members(caps=lambda: self.some(*CAPABILITIES), minKernel=lambda: self.one(*KERNELS),
+                            arches=lambda: self.some("amd64", "arm", "x86_64", "x32"))
+
+    def argument(self):
+        return self.members(index=lambda: self.one(*NUMBERS), value=lambda: self.one(*NUMBERS),
+                            valueTwo=lambda: self.one(*NUMBERS), op=lambda: self.one("SCMP_CMP_EQ", "x", ""))
+
+    def entry(self):
+        made = self.members(errnoRet=lambda: self.one(*NUMBERS), errno=lambda: self.one(*ERRNOS),
+                            args=lambda: [self.argument() for _ in range(self.random.randrange(3))],
+                            comment=lambda: self.one("x", None), includes=self.condition, excludes=self.condition)
+        names = {self.one("names", "names", "names", "name"): None}
+        names = {it: "read" if it == "name" else self.some("read", "write") for it in names}
+        if self.random.random() < 0.05:
+            names = {"names": ["read"], "name": self.one("", "write", None)}
+        return {**names, "action": self.one(ALLOW, ERRNO, "x"), **made}
+
+    def profile(self):
+        made = self.members(defaultErrnoRet=lambda: self.one(*NUMBERS), defaultErrno=lambda: self.one(*ERRNOS),
+                            flags=lambda: self.some("SECCOMP_FILTER_FLAG_LOG"), listenerPath=lambda: "/x",
+                            listenerMetadata=lambda: "m")
+        if self.random.random() < 0.5:
+            made["architectures"] = self.some("SCMP_ARCH_X86_64", "SCMP_ARCH_ARM", "x")
+        if self.random.random() < 0.5:
+            made["archMap"] = [{"architecture": self.one("SCMP_ARCH_X86_64", "SCMP_ARCH_ARM"),
+                                "subArchitectures": self.some("SCMP_ARCH_X86", "x")} for _ in range(2)]
+        return {"defaultAction": ERRNO, **made, "syscalls": [self.entry() for _ in range(self.random.randrange(3))]}
+
+
+def as_go_prints(profile):
+    """A resolved profile with all members of conditions, and without entries that name nothing."""
+    entries = [{**it, "args": [{"index": 0, "value": 0, "op": "", **one} for one in it.get("args") or []]}
+               for it in profile.get("syscalls") or [] if it["names"]]
+    for one in (arg for it in entries for arg in it["args"]):
+        one.setdefault("valueTwo", 0)
+    return {**{name: it for name, it in profile.items() if it not in ("", [])}, "syscalls": entries}
+
+
+class Drawn(Case):
+    """moby 20.10 and containers-common as Debian has them."""
+
+    def beside(self, engine, given):
+        """What the tools and an engine make of profiles: pairs of a resolved profile, or None where it is refused."""
+        setting = engines.Setting(CAPABILITIES[:1], engines.kernel_of(os.uname().release), False, engine)
+        texts = [json.dumps(it) for it in given]
+        answers = engine_code.resolved([("podman" if engine == "podman" else "docker", CAPABILITIES[:1], it)
+                                        for it in texts])
+        for text, (made, refused) in zip(texts, answers):
+            try:
+                found = as_go_prints(engines.Resolver(setting, lambda _: None).resolved(engines.read(text.encode())))
+            except engines.Refused as why:
+                found = str(why)
+            yield text, found, f"refused: {refused}" if refused else as_go_prints(made)
+
+    def is_ours(self, why, text):
+        """Whether we refuse on purpose what the engines take: a null in a list, which is an empty text to Go, or which
+        they look at in no entry that is left out; numbers that no member has, where nothing reads them; and members
+        that may be conditions."""
+        is_null = "list of texts" in why or "isn't an object" in why
+        return (is_null and "null" in text) or why.startswith("the number ") or "may be a condition" in why
+
+    def alike(self, engine, given):
+        seen = {}
+        for text, found, made in self.beside(engine, given):
+            if isinstance(made, str):
+                self.assertIsInstance(found, str, (text, made))
+            elif not isinstance(found, str) or not self.is_ours(found, text):
+                self.assertEqual(found, made, text)
+            seen[isinstance(made, str)] = seen.get(isinstance(made, str), 0) + 1
+        self.assertGreater(min(seen.get(True, 0), seen.get(False, 0)), len(given) // 20, seen)
+
+    def test_drawn_profiles(self):
+        for engine in ("docker-20.10", "podman"):
+            draw = Draw(engine)
+            self.alike(engine, [draw.profile() for _ in range(4000)])
+
+    def test_each_kernel_errno_and_odd_value(self):
+        for engine in ("docker-20.10", "podman"):
+            entries = [{"includes": {"minKernel": it}} for it in (*KERNELS, *ODD)]
+            entries += [{"excludes": {"minKernel": it}} for it in (*KERNELS, *ODD)]
+            entries += [{"errno": it} for it in (*ERRNOS, *ODD)]
+            entries += [{name: it} for name in profiles.ENTRY for it in ODD]
+            entries += [{"args": [{name: it}]} for name in profiles.ARGUMENT for it in ODD]
+            entries += [{"includes": {name: it}} for name in profiles.FILTER for it in ODD]
+            given = [{"defaultAction": ERRNO, "syscalls": [{"names": ["a"], "action": ALLOW, **it}]} for it in entries]
+            given += [{"defaultAction": ERRNO, **{name: it}} for name in profiles.SECCOMP for it in ODD
+                      if name != "defaultAction"]
+            given += [{"defaultAction": ERRNO, "defaultErrno": it} for it in ERRNOS]
+            self.alike(engine, given)
 
 
 if __name__ == "__main__":

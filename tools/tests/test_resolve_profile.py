@@ -216,6 +216,58 @@ class ResolveProfile(Case):
         self.assertEqual(status, 3)
         self.assertIn("the output failed", err)
 
+    def test_the_engine_says_which_members_count(self):
+        given = engine(entry("a", includes={"minKernel": "255.0"}), entry("b", action=ERRNO, errno="ENOSYS"),
+                       entry("c", excludes={"minKernel": ""}), defaultErrno="ENOENT", defaultErrnoRet=7,
+                       flags=["SECCOMP_FILTER_FLAG_LOG"])
+        for name, default, names, errno, flags in (("docker", 7, ["b"], None, True), ("podman", 2, ["a", "b", "c"], 38, True),
+                                                   ("docker-20.10", None, ["b"], None, False)):
+            found, said = self.resolved(given, "--engine", name)
+            self.assertEqual((found.get("defaultErrnoRet"), "flags" in found), (default, flags), name)
+            self.assertEqual([it["names"][0] for it in found["syscalls"]], names)
+            self.assertEqual(found["syscalls"][names.index("b")].get("errnoRet"), errno)
+            unread = "entry 0: includes: podman doesn't read 'minKernel'" if name == "podman" else \
+                f"entry 1: {name} doesn't read 'errno'"
+            self.assertEqual(said.count(unread), 1, said)
+        self.assertIn("for no kernel, since excludes: minKernel is empty", self.resolved(given)[1])
+        self.assertEqual(self.names(engine(entry("a", includes={"minKernel": ""}))), ["a"])
+        self.assertEqual(set(self.names(engine(entry("MKNOD", includes={"caps": ["CAP_MKNOD"]})), "--engine", "podman")),
+                         set())
+
+    def test_members_that_nothing_reads(self):
+        given = engine(entry("a"), {**entry("b"), "requires": {"caps": ["CAP_SYS_ADMIN"]}}, version=2)
+        self.refused(given, "entry 1 has a member 'requires', which no engine reads, and which may be a condition: to "
+                            "leave it out of account, say --ignore requires")
+        found, said = self.resolved(given, "--ignore", "requires")
+        self.assertEqual(found, engine(entry("a"), entry("b")))
+        self.assertEqual(said.splitlines(), ["resolve-profile: the profile: nothing reads 'version'",
+                                             "resolve-profile: entry 1: nothing reads 'requires'"])
+        for inner in (entry("a", includes={"maxKernel": "5.0"}), entry("a", args=[{"index": 0, "not": True}])):
+            self.refused(engine(inner), "which may be a condition")
+        self.assertEqual(self.resolved(engine(archMap=[{"architecture": "SCMP_ARCH_X86_64", "x": 1}]))[1],
+                         "resolve-profile: archMap 0: nothing reads 'x'\n")
+        self.refused({"defaultAction": "A", "\u017fyscalls": []}, "a member '\\u017fyscalls', which programs in Go read")
+
+    def test_a_profile_as_a_runtime_applies_it(self):
+        given = engine(entry("mkdir", action=ERRNO, errnoRet=1), entry("mkdir", "read"),
+                       entry("rmdir", includes={"caps": ["CAP_SYS_ADMIN"]}), archMap=MAP)
+        found, said = self.resolved(given, "--runtime", "docker")
+        self.assertEqual(found, {"defaultAction": ERRNO, "defaultErrnoRet": 1,
+                                 "architectures": ["SCMP_ARCH_X86_64", "SCMP_ARCH_X86", "SCMP_ARCH_X32"],
+                                 "syscalls": [entry("mkdir", "read")]})
+        self.assertEqual(said.splitlines(), [
+            "resolve-profile: entry 2 (rmdir) left out: only with CAP_SYS_ADMIN",
+            "resolve-profile: entry 0 (mkdir) left out: its answer is the default's",
+            "resolve-profile: not in the profile: runc answers the numbers from 84 on, which are above all that the "
+            "profile names, by ENOSYS"])
+        self.assertEqual(self.resolved(given, "--runtime", "podman", "--caps", "SYS_ADMIN")[0]["syscalls"],
+                         [entry("mkdir", "read"), entry("rmdir")])
+        self.refused(given, "runc doesn't read archMap", "--runtime", "runc")
+        self.assertEqual(self.resolved(given, "--runtime", "runc", "--engine", "docker")[0], found)
+        self.refused(engine(entry("mkdir", errnoRet=1)), "crun refuses the profile: entry 0 has an errno beside",
+                     "--runtime", "crun")
+        self.assertEqual(self.run_tool("resolve-profile", "--runtime", "lxc", "-")[0], 2)
+
 
 class OldName(Case):
     def test_the_old_name(self):
