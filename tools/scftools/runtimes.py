@@ -18,7 +18,7 @@ import os
 from collections.abc import Iterator, Sequence
 from dataclasses import dataclass, field, replace
 
-from . import engines
+from . import engines, inputs, program
 from .engines import OCI_ARCH, Origin, Refused, Setting, listed, told
 
 TYPE_CHECKING = False
@@ -373,3 +373,11 @@ def applied(value: Any, name: str, setting: Setting | None = None) -> Applied:
     resolved = resolver.resolved(value)
     found = _Application(runtime, Library()).run(resolved, resolver.origins)
     return replace(found, notes=[*notes, *found.notes])
+
+
+def read(path: str, name: str, setting: Setting) -> Applied:
+    """What a runtime makes of the profile in a file; ends the tool where it refuses it."""
+    try:
+        return applied(engines.read(inputs.read_whole(path, "engine's profile")), name, setting)
+    except Refused as why:
+        raise program.Refused(f"{path}: {why}", program.REFUSED) from why

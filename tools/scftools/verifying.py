@@ -56,6 +56,11 @@ class Asked:
         """What is asked beside a profile as a runtime applies it."""
         return cls(applied.data, table, limit, scope, relation, applied)
 
+    @property
+    def remarks(self) -> list[str]:
+        """What is to be known of the profile as its runtime applies it."""
+        return list(self.applied.remarks) if self.applied is not None else []
+
 
 def judged(stack: Stack, asked: Asked) -> Block:
     if not stack.filters:

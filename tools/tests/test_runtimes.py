@@ -276,6 +276,68 @@ class Runtimes(Case):
             self.assertEqual(runtimes.applied(given, runtime).profile["defaultErrnoRet"], 38)
 
 
+class VerifyProcess(Case):
+    """tools/verify-process --runtime on containers."""
+
+    def verify(self, process, given, *words):
+        path = given if isinstance(given, str) else self.file("p.json", json.dumps(given))
+        status, out, err = self.run_tool("verify-process", *words, str(process), path)
+        self.assertNotIn("Traceback", err)
+        return status, out, err
+
+    def test_the_default_profile_of_docker(self):
+        if not os.path.exists(MOBY):
+            raise unittest.SkipTest("no profile of Docker's")
+        with open(MOBY, encoding="utf-8") as file:
+            engine = engines.Resolver(runtimes.setting_of(runtimes.RUNTIMES["docker"]), lambda _: None)
+            handed_on = engine.resolved(json.load(file))
+        with container("runc", handed_on) as (process, why):
+            self.assertIsNotNone(process, why)
+            for words in ((), ("--calls",), ("--no-more",), ("--no-less",)):
+                status, out, err = self.verify(process, MOBY, "--runtime", "docker", *words)
+                first = {"--no-more": "no more", "--no-less": "no less"}.get("".join(words), "same")
+                self.assertEqual((status, out.splitlines()[0], err), (0, first, ""))
+                stub = "# runc answers the numbers from 450 on, which are above all that the profile names, by ENOSYS\n"
+                self.assertEqual(out.count(stub), 1 if first == "same" else 0, out)
+            found = json.loads(self.verify(process, MOBY, "--runtime", "docker", "--json")[1])
+            self.assertEqual((found["status"], found["verdict"], found["stacks"][0]["stub"], found["remarks"]),
+                             (0, "same", 450, []))
+            # a whole config.json is resolved already; of another runtime there is no stub
+            for given, words, status in ((config(handed_on), ("--runtime", "runc"), 0),
+                                         (config(handed_on), ("--runtime", "docker"), 0), (handed_on, (), 1),
+                                         (config(handed_on), ("--runtime", "crun"), 1)):
+                self.assertEqual(self.verify(process, given, *words)[0], status, words)
+            status, out, _ = self.verify(process, MOBY, "--runtime", "docker", "--caps", "docker,SYS_ADMIN")
+            self.assertEqual((status, out.splitlines()[0]), (1, "differs"))
+            # what an entry is called is what it is called in the file: 13, which is the first with CAP_SYS_ADMIN
+            self.assertRegex(out, "\n# by entry 13 of syscalls: ")
+            found = json.loads(self.verify(process, MOBY, "--runtime", "docker", "--caps", "docker,SYS_ADMIN", "--json")[1])
+            self.assertEqual(found["stacks"][0]["place"], 13)
+
+    def test_an_entry_that_is_never_handed_over(self):
+        given = profile(entry("mkdir", action=ERRNO, errno=1), entry("mkdir"))
+        for runtime in ("runc", "crun"):
+            with container(runtime, given) as (process, why):
+                self.assertIsNotNone(process, why)
+                self.assertEqual(self.verify(process, given, "--runtime", runtime)[1].splitlines()[0], "same")
+                # scf alone takes no profile with two answers, and the first of them isn't what the container has
+                self.assertEqual(self.verify(process, given)[0], 1)
+
+    def test_usage(self):
+        own = str(os.getpid())
+        for words in (("--caps", "none", own, "p"), ("--engine", "podman", own, "p"), ("--runtime", "lxc", own, "p"),
+                      ("--runtime", "runc", "--caps", "X", own, "p"), ("--runtime", "runc", own, "no_such_file")):
+            status, out, err = self.run_tool("verify-process", *words)
+            self.assertEqual((status, out), (2, ""))
+            self.assertIn("verify-process: ", err)
+        for given, says in ((b'{"defaultAction":"SCMP_ACT_ERRNO","archMap":[{}]}', "runc doesn't read archMap"),
+                            (b'{"defaultAction":"A"}', "no action that it knows"), (b"{", "isn't JSON"),
+                            (b'{"DefaultAction":"SCMP_ACT_ALLOW"}', "which programs in Go read as 'defaultAction'")):
+            status, out, err = self.run_tool("verify-process", "--runtime", "runc", own, self.file("p.json", given))
+            self.assertEqual((status, out), (1, ""))
+            self.assertIn(says, err)
+
+
 def compiled(data):
     with open(TABLE, "rb") as file:
         done = program.scf(["compile"], part("profile", data) + part("table", file.read()))
