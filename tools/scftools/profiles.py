@@ -4,6 +4,7 @@ fail to be known; then it isn't said.
 """
 from __future__ import annotations
 
+import functools
 import json
 import re
 from collections.abc import Callable, Iterator
@@ -64,15 +65,23 @@ def _top(data: bytes, parse_int: Callable[[str], object]) -> dict[str, Any]:
     return top
 
 
+@functools.lru_cache(2)
+def _entries(data: bytes) -> list[object] | None:
+    """The entries of a profile, read once for both that may be beside each other."""
+    try:
+        found = _top(data, lambda text: int(text) if len(text) <= LONGEST_NUMBER else text)["syscalls"]
+    except (ValueError, LookupError, TypeError, AttributeError, RecursionError):
+        return None
+    return found if isinstance(found, list) else None
+
+
 def entry_at(data: bytes, place: int) -> object:
     """The entry at a place of `syscalls`, from 0 on, or None where it can't be told.
 
     A number past all that scf takes stays a text, as a fraction does.
     """
-    try:
-        return _top(data, lambda text: int(text) if len(text) <= LONGEST_NUMBER else text)["syscalls"][place]
-    except (ValueError, LookupError, TypeError, AttributeError, RecursionError):
-        return None
+    entries = _entries(data)
+    return entries[place] if entries is not None and place < len(entries) else None
 
 
 def read(data: bytes) -> Profile | None:
@@ -154,6 +163,20 @@ def misread_members(data: bytes) -> list[Misread]:
         return list(_misread_in(top, CONFIG, "the profile"))
     except (ValueError, RecursionError):
         return []
+
+
+def errno_by_name(data: bytes) -> str | None:
+    """Where a profile has an errno by its name, which podman alone reads and scf doesn't, or None where it has none."""
+    if not any(it in data for it in (b'errno"', b'defaultErrno"', b"\\u")):
+        return None
+    try:
+        top = _top(data, str)
+        holders = [("the profile", "defaultErrno", top)]
+        holders += [(f"entry {at}", "errno", entry) for at, entry in enumerate(top.get("syscalls") or [])]
+        found = ((where, name, holder.get(name)) for where, name, holder in holders if isinstance(holder, dict))
+        return next((f"{where} has {name} {json.dumps(value)}" for where, name, value in found if value), None)
+    except (ValueError, LookupError, TypeError, AttributeError, RecursionError):
+        return None
 
 
 def _place(text: str, at: int) -> str:

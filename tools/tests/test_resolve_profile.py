@@ -269,6 +269,40 @@ class ResolveProfile(Case):
         self.assertEqual(self.run_tool("resolve-profile", "--runtime", "lxc", "-")[0], 2)
 
 
+class ErrnoByName(Case):
+    """What podman alone reads is refused by every tool that takes a profile, with a hint, as `includes` is."""
+
+    def test_every_tool_refuses_it(self):
+        self.file("f.bpf", b"\x06\0\0\0\0\0\xff\x7f")
+        self.file("log", b"")
+        for given, says in ((engine(entry("read"), entry("mkdir", action=ERRNO, errno="EACCES")),
+                             'entry 1 has errno "EACCES"'),
+                            ({"linux": {"seccomp": engine(defaultErrno="ENOSYS", defaultErrnoRet=38)}},
+                             'the profile has defaultErrno "ENOSYS"')):
+            text = json.dumps(given)
+            for data in (text, text.replace('"errno"', '"\\u0065rrno"').replace('"defaultErrno"', '"default\\u0045rrno"')):
+                self.file("p.json", data)
+                for name, words in (("ask", ("--nr=mkdir", "p.json")), ("compare", ("f.bpf", "p.json")),
+                                    ("compare-profiles", ("p.json", "p.json")), ("compile", ("p.json",)),
+                                    ("lint", ("p.json",)), ("needs", ("log", "p.json")),
+                                    ("verify-process", (str(os.getpid()), "p.json"))):
+                    status, out, err = self.run_tool(name, *words)
+                    self.assertEqual((status, out, err), (1, "", f"{name}: {says}, which podman alone reads: "
+                                                                 f"tools/resolve-profile resolves it\n"))
+                found, _ = self.resolved("p.json")
+                self.assertEqual(self.run_tool("ask", "--nr=mkdir", self.file("r.json", found))[0], 0)
+
+    def resolved(self, path):
+        status, out, err = self.run_tool("resolve-profile", path)
+        self.assertEqual(status, 0, err)
+        return out, err
+
+    def test_where_no_errno_is_named(self):
+        for members in ({"errno": ""}, {"errno": None}, {"comment": "errno"}):
+            given = json.dumps(engine(entry("mkdir", action=ERRNO, **members), defaultErrno=None))
+            self.assertEqual(self.run_tool("ask", "--nr=mkdir", self.file("p.json", given))[0], 0)
+
+
 class OldName(Case):
     def test_the_old_name(self):
         """plain-profile says once what it is called now, and does the same."""
