@@ -4,7 +4,7 @@ from __future__ import annotations
 from collections.abc import Iterator
 
 from . import reasons
-from .changes import KINDS, NEW, OLD, OTHERWISE, Change, Changes
+from .changes import KINDS, NEW, OLD, OTHERWISE, STUB, Change, Changes, Source
 from .reasons import Reason
 from .tables import Table
 from .verdicts import LESS, MORE, UNDECIDED, UNFINISHED
@@ -19,23 +19,28 @@ HEADINGS = {MORE: "what the new profile lets through further than the old one",
 TOLD = 20
 
 
-def _by(reason: Reason) -> str:
-    return "foreign" if reason.is_foreign else "default" if reason.entry is None else f"entry {reason.entry}"
+def _by(reason: Reason, source: Source) -> str:
+    """What gives an answer: an entry by its index in the user's profile, or what else."""
+    index = reasons.index_of(reason, source.origins)
+    if index == STUB.index:
+        return "stub"
+    return "foreign" if reason.is_foreign else "default" if index is None else f"entry {index}"
 
 
-def line_of(change: Change) -> str:
+def line_of(change: Change, sources: dict[str, Source]) -> str:
     """A number, its names and what changes; a call of it, and what both profiles answer to it, and by what."""
     words = [str(change.number), *([",".join(change.names)] if change.names else []), change.kind]
     if change.call is not None:
         words += ["args", *map(hex, change.call.arguments)]
-        words += [f"{side} {reason.answer} {_by(reason)}" for side, reason in change.reasons.items()]
+        words += [f"{side} {reason.answer} {_by(reason, sources[side])}" for side, reason in change.reasons.items()]
     return " ".join(words)
 
 
 def _conditions(changes: Changes, change: Change) -> Iterator[str]:
     """The conditions by which the entries of both profiles answer the call."""
     for side, reason in change.reasons.items():
-        for line in list(reasons.told(reason, changes.profiles[side], change.call))[1:]:
+        source = changes.sources[side]
+        for line in list(reasons.told(reason, source.data, change.call, source.origins))[1:]:
             yield f"{side}: {line}"
 
 
@@ -44,8 +49,9 @@ def _entries(changes: Changes) -> Iterator[str]:
     for side in (OLD, NEW):
         found = {change.reasons[side].entry: change.reasons[side] for change in (*changes.calls, changes.unnamed)
                  if change is not None and change.reasons}
+        source = changes.sources[side]
         for place in sorted((it for it in found if it is not None)):
-            told = next(iter(reasons.told(found[place], changes.profiles[side], None)), "")
+            told = next(iter(reasons.told(found[place], source.data, None, source.origins)), "")
             yield f"{side}: {told.partition(' ')[2]}"
         if None in found:
             answer = found[None].answer
@@ -59,7 +65,8 @@ def _apart(what: str, of_sides: dict[str, tuple[str, ...]]) -> Iterator[str]:
         return
     yield f"{what}: {counts[OLD]} in the old profile, {counts[NEW]} in the new one"
     for side, other in ((OLD, NEW), (NEW, OLD)):
-        names = [name for name in dict.fromkeys(of_sides[side]) if name not in of_sides[other]]
+        others = set(of_sides[other])
+        names = [name for name in dict.fromkeys(of_sides[side]) if name not in others]
         more = f" and {len(names) - TOLD} more" if len(names) > TOLD else ""
         if names:
             yield f"of these only in the {side} one: {', '.join(names[:TOLD])}{more}"
@@ -75,11 +82,11 @@ def lines(changes: Changes) -> Iterator[str]:
         if those:
             yield f"# {HEADINGS[kind]}: {len(those)}"
         for change in those:
-            yield line_of(change)
+            yield line_of(change, changes.sources)
             yield from (f"# {line}" for line in _conditions(changes, change))
     if changes.unnamed is not None and changes.unnamed.call is not None:
         yield "# numbers that the table doesn't name are answered by the defaults; one of them:"
-        yield line_of(changes.unnamed)
+        yield line_of(changes.unnamed, changes.sources)
     elif changes.unnamed is not None:
         yield f"# whether numbers that the table doesn't name are answered alike: {changes.unnamed.kind}"
     yield from (f"# {line}" for line in _entries(changes))
@@ -94,7 +101,8 @@ def _change_json(changes: Changes, change: Change, table: Table) -> dict[str, ob
         found["call"] = change.call.as_json(table)
     for side, reason in change.reasons.items():
         answer = {"answer": {**reason.answer.as_json(), "does": reason.answer.does()}} if reason.answer else {}
-        found[side] = {**answer, **reasons.as_json(reason, changes.profiles[side], change.call)}
+        source = changes.sources[side]
+        found[side] = {**answer, **reasons.as_json(reason, source.data, change.call, source.origins)}
     return found
 
 

@@ -1,14 +1,16 @@
 """Changes: two profiles beside each other, call by call, by verdicts of scf on the filter of one and the other."""
 from __future__ import annotations
 
+import json
 from collections.abc import Iterator, Sequence
 from dataclasses import dataclass, field, replace
 
-from . import bundles, program, reasons, unnamed
+from . import bundles, entries, newer, program, reasons, unnamed
 from .answers import FATES, Answer
 from .calls import Call
 from .comparing import CALLS, NATIVE, Comparison
-from .filters import Filter
+from .engines import Origin
+from .filters import Filter, answering_from
 from .questions import checked
 from .reasons import Reason
 from .tables import Table
@@ -19,6 +21,8 @@ OLD, NEW = "old", "new"
 # By the new profile more of a call is let through, less, or as much by another answer; or scf couldn't tell.
 OTHERWISE = "otherwise"
 KINDS = (MORE, LESS, OTHERWISE, UNDECIDED, UNFINISHED)
+# What gives an answer that runc puts before a filter: no entry of the profile.
+STUB = Origin(-1, "")
 # The word of each relation where it doesn't hold.
 FAILED = {SAME: DIFFERS, NO_MORE: MORE, NO_LESS: LESS}
 
@@ -29,6 +33,54 @@ class Faulty(Exception):
     def __init__(self, status: int, fault: Fault, word: str, data: bytes):
         super().__init__(status)
         self.status, self.fault, self.word, self.data = status, fault, word, data
+
+
+@dataclass(frozen=True)
+class Source:
+    """A profile; and of one as a runtime applies it, where its entries stand in the user's, and the least number that
+    runc answers by ENOSYS."""
+
+    data: bytes
+    origins: Sequence[Origin] | None = None
+    stub: int | None = None
+
+    def with_stub(self, table: Table, end: int | None) -> Source:
+        """The profile with an entry for what runc answers by ENOSYS, as far as the table names it, below a number."""
+        if self.stub is None:
+            return self
+        names = [name for name in table.names() if self.stub <= (table.number_of(name) or 0)
+                 and (end is None or (table.number_of(name) or 0) < end)]
+        top = json.loads(self.data)
+        if names:
+            top["syscalls"].append({"names": names, "action": "SCMP_ACT_ERRNO", "errnoRet": 38})
+        return replace(self, data=json.dumps(top).encode(), origins=[*(self.origins or ()), STUB])
+
+
+def _some(holder: dict[str, object], *names: str) -> dict[str, object]:
+    return {name: holder[name] for name in names if name in holder}
+
+
+class Part:
+    """A profile by its syscalls, so that what it answers to one can be asked without its other entries."""
+
+    def __init__(self, data: bytes, table: Table) -> None:
+        self.data, self.table = data, table
+        self.top = entries.read(data)
+        self.indices: dict[int | None, dict[int, str]] = {}
+        for index, entry in enumerate(self.top.get("syscalls", []) if self.top is not None else []):
+            for name in entry["names"]:
+                self.indices.setdefault(table.number_of(name), {}).setdefault(index, name)
+
+    def reason(self, call: Call) -> Reason:
+        """What the profile answers to a call and why, by scf on the entries that have its number."""
+        if self.top is None:
+            return reasons.of(self.data, self.table, call.words())
+        own = self.indices.get(call.number, {})
+        kept = [{"names": [name], **_some(self.top["syscalls"][index], "action", "errnoRet", "args")}
+                for index, name in own.items()]
+        members = _some(self.top, "defaultAction", "defaultErrnoRet")
+        found = reasons.of(json.dumps({**members, "syscalls": kept}).encode(), self.table, call.words())
+        return found if found.entry is None else replace(found, entry=list(own)[found.entry])
 
 
 @dataclass(frozen=True)
@@ -50,23 +102,33 @@ def side_of(word: str, data: bytes, table: Table) -> Side:
 
 @dataclass(frozen=True)
 class Given:
-    """Both profiles, the table, and the most steps, as a text, where they aren't scf's."""
+    """Both profiles, the table, and the most steps, as a text, where they aren't scf's; and the least number from which
+    on runc answers both alike, whatever they say."""
 
     old: Side
     new: Side
     table: Table
     limit: str | None
+    end: int | None = None
+    parts: dict[str, Part] = field(default_factory=dict)
 
     def compared(self, one: Side, other: Side, scope: str, relation: str) -> Report:
         """What scf says of the filter of one side beside the profile of the other."""
-        status, report = Comparison([one.filter], other.data, self.table, self.limit, relation).run(scope)
+        comparison = Comparison([one.filter], other.data, self.table, self.limit, relation)
+        default = newer.default_of(comparison) if self.end is not None else None
+        if self.end is not None and default is not None:
+            alike = answering_from(one.filter.data, self.end, default[1].word)
+            comparison = replace(comparison, filters=[Filter(one.word, alike)])
+        status, report = comparison.run(scope)
         if report.fault is not None:
             raise Faulty(status, report.fault, other.word, other.data)
         return checked(status, report, scope)
 
     def asked(self, call: Call) -> dict[str, Reason]:
         """What each profile answers to a call, and why."""
-        return {side.word: reasons.of(side.data, self.table, call.words()) for side in (self.old, self.new)}
+        if not self.parts:
+            self.parts.update({side.word: Part(side.data, self.table) for side in (self.old, self.new)})
+        return {side.word: self.parts[side.word].reason(call) for side in (self.old, self.new)}
 
 
 @dataclass
@@ -94,7 +156,7 @@ class Changes:
     # the least number without a name, where the defaults differ, which answer all such numbers
     unnamed: Change | None
     # of each side
-    profiles: dict[str, bytes]
+    sources: dict[str, Source]
     skipped: dict[str, tuple[str, ...]]
     architectures: dict[str, tuple[str, ...]]
 
@@ -149,11 +211,11 @@ def _kind_of(before: Answer | None, after: Answer | None) -> str:
     return MORE if one < other else LESS if one > other else OTHERWISE
 
 
-def _of_unnamed(given: Given) -> Change | None:
+def _of_unnamed(given: Given, end: int) -> Change | None:
     """Whether the defaults differ, by a table that names nothing, so that both profiles have nothing else."""
-    number = next((first for first, _ in unnamed.gaps(given.table)), None)
+    number = next((first for first, _ in unnamed.gaps(given.table) if first < end), None)
     nothing = Table(b"")
-    alone = replace(given, old=side_of(OLD, given.old.data, nothing), table=nothing)
+    alone = replace(given, old=side_of(OLD, given.old.data, nothing), table=nothing, end=None)
     verdict = alone.compared(alone.old, alone.new, NATIVE, SAME).verdict
     if number is None or verdict is None or verdict.holds:
         return None
@@ -163,12 +225,15 @@ def _of_unnamed(given: Given) -> Change | None:
     return Change(number, (), _kind_of(asked[OLD].answer, asked[NEW].answer), Call(number), asked)
 
 
-def of_profiles(old: bytes, new: bytes, table: Table, limit: str | None, relation: str) -> Changes:
+def of_profiles(old: Source, new: Source, table: Table, limit: str | None, relation: str) -> Changes:
     """What changes from one profile to another."""
-    given = Given(side_of(OLD, old, table), side_of(NEW, new, table), table, limit)
+    stubs = [it.stub for it in (old, new) if it.stub is not None]
+    end = max(stubs) if len(stubs) == 2 else None
+    old, new = old.with_stub(table, end), new.with_stub(table, end)
+    given = Given(side_of(OLD, old.data, table), side_of(NEW, new.data, table), table, limit, end)
     beside_new = given.compared(given.old, given.new, NATIVE, SAME)
     beside_old = given.compared(given.new, given.old, NATIVE, relation)
     assert beside_old.verdict is not None
-    return Changes(relation, beside_old.verdict, _of_calls(given), _of_unnamed(given), {OLD: old, NEW: new},
-                   {OLD: beside_old.skipped, NEW: beside_new.skipped},
+    return Changes(relation, beside_old.verdict, _of_calls(given), _of_unnamed(given, min(stubs, default=unnamed.X32)),
+                   {OLD: old, NEW: new}, {OLD: beside_old.skipped, NEW: beside_new.skipped},
                    {OLD: beside_old.architectures, NEW: beside_new.architectures})

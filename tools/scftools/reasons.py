@@ -108,8 +108,11 @@ def told(reason: Reason, profile: bytes, call: Call | None, origins: Sequence[Or
     elif reason.entry is None:
         yield "by the default"
     else:
-        entry = profiles.entry_at(profile, reason.entry)
-        yield f"by entry {index_of(reason, origins)} of syscalls" + (f": {_shown(entry)}" if entry is not None else "")
+        entry, index = profiles.entry_at(profile, reason.entry), index_of(reason, origins)
+        if index is not None and index < 0:
+            yield "by the ENOSYS that runc puts before the filter"
+            return
+        yield f"by entry {index} of syscalls" + (f": {_shown(entry)}" if entry is not None else "")
         for condition in _conditions(entry) if call else ():
             held = _held(condition, call)
             if held:
@@ -132,12 +135,13 @@ def as_json(reason: Reason, profile: bytes, call: Call | None,
     """What gives the answer, as members of an object."""
     if reason.answer is None:
         return {}
-    word = "foreign" if reason.is_foreign else "default" if reason.entry is None else "entry"
+    index = index_of(reason, origins)
+    word = "foreign" if reason.is_foreign else "default" if index is None else "stub" if index < 0 else "entry"
     found: dict[str, object] = {"reason": word}
-    if reason.entry is not None:
+    if reason.entry is not None and word == "entry":
         entry = profiles.entry_at(profile, reason.entry)
         held = [_held(it, call) for it in _conditions(entry)] if call else []
-        found.update(place=index_of(reason, origins), entry=entry, held=[it for it in held if it])
+        found.update(place=index, entry=entry, held=[it for it in held if it])
     return found
 
 

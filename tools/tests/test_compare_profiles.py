@@ -5,7 +5,7 @@ import random
 import sys
 import unittest
 
-from common import TABLE, TOP, Case
+from common import TABLE, TOP, Case, tool
 from test_why import reading
 
 sys.path.append(os.path.join(TOP, "tools"))
@@ -286,6 +286,77 @@ class Engines(Case):
         self.assertRegex(err, r"\Acompare-profiles: [^\n]*new\.json: [^\n]+\n\Z")
 
 
+class Runtimes(Case):
+    """Profiles as a runtime applies them, and entries by their index in the user's files."""
+
+    def lines(self, old, new, *words):
+        names = [self.file(f"{name}.json", json.dumps(it)) for name, it in (("old", old), ("new", new))]
+        status, out, err = self.run_tool("compare-profiles", *words, *names)
+        self.assertNotIn("Traceback", err)
+        return status, out.splitlines(), err.splitlines()
+
+    def test_entries_are_called_as_in_the_file(self):
+        old = {"defaultAction": ERRNO, "syscalls": [
+            {"names": ["mount"], "action": ALLOW, "includes": {"caps": ["CAP_SYS_ADMIN"]}},
+            {"names": ["read", "write"], "action": ALLOW}]}
+        new = {**old, "syscalls": [*old["syscalls"][:1], {"names": ["read"], "action": ALLOW}]}
+        for words in (("--caps", "none"), ("--runtime", "docker"), ("--engine", "podman"), ("--keep-first", "--caps=none")):
+            status, lines, _ = self.lines(old, new, *words)
+            self.assertIn(f"1 write less {NO_ARGUMENTS} old ALLOW entry 1 new ERRNO 1 default", lines)
+            self.assertIn('# old: entry 1 of syscalls: {"names": ["read", "write"], "action": "SCMP_ACT_ALLOW"}', lines)
+            found = json.loads(self.lines(old, new, "--json", *words)[1][0])
+            self.assertEqual((status, found["changes"][0]["old"]["place"]), (1, 1))
+
+    def test_entries_that_count_for_nothing(self):
+        one = {"defaultAction": ERRNO, "syscalls": [{"names": ["mkdir"], "action": ALLOW}]}
+        two = {**one, "syscalls": [{"names": ["mkdir"], "action": ERRNO, "errnoRet": 1}, *one["syscalls"]]}
+        for runtime in ("runc", "crun"):
+            status, lines, err = self.lines(one, two, "--runtime", runtime)
+            self.assertEqual((status, lines[0]), (0, "same"))
+            self.assertEqual(err, ["compare-profiles: new: entry 0 (mkdir) left out: its answer is the default's"])
+        self.assertEqual(self.lines(one, two)[1][0], "fault profile Conflict number 83 first 0 second 1")
+        self.assertEqual(self.lines(one, {**one, "archMap": Engines.MAP}, "--runtime", "crun")[0], 1)
+
+    def test_what_runc_answers_by_enosys(self):
+        """From behind the greatest that a profile names on; a profile that names a greater one has more defaults."""
+        table = self.file("t", b"read 0\nmkdir 83\nlchown 94\nutime 132\nmseal 462\nclone3 435\nfutex_waitv 449\n")
+        x86_64 = {"defaultAction": ERRNO, "architectures": ["SCMP_ARCH_X86_64"]}
+        old = {**x86_64, "syscalls": [{"names": ["read", "lchown"], "action": ALLOW}]}
+        new = {**x86_64, "syscalls": [{"names": ["read", "lchown", "clone3"], "action": ALLOW}]}
+        status, lines, _ = self.lines(old, new, "--runtime", "runc", "--table", table)
+        self.assertEqual((status, lines[:6]), (1, [
+            "differs", "more 1, less 0, otherwise 1",
+            "# what the new profile lets through further than the old one: 1",
+            f"435 clone3 more {NO_ARGUMENTS} old ERRNO 38 stub new ALLOW entry 0",
+            "# what is answered otherwise, and let through as far as before: 1",
+            f"132 utime otherwise {NO_ARGUMENTS} old ERRNO 38 stub new ERRNO 1 default"]))
+        self.assertIn("# old: the ENOSYS that runc puts before the filter", lines)
+        found = json.loads(self.lines(old, new, "--runtime", "runc", "--table", table, "--json")[1][0])
+        self.assertEqual(found["changes"][0]["old"], {"answer": {"action": "ERRNO", "data": 38, "does":
+                         "the call isn't made, and fails with ENOSYS"}, "reason": "stub"})
+        status, lines, _ = self.lines(old, new, "--runtime", "crun", "--table", table)
+        self.assertEqual(lines[:2], ["differs", "more 1, less 0, otherwise 0"])
+        # above both stubs the defaults are no difference, and below them they are
+        trap = {**old, "defaultAction": "SCMP_ACT_TRAP"}
+        changed = [line.split()[1] for line in self.lines(old, trap, "--runtime", "runc", "--table", table)[1]
+                   if line[:1].isdigit()]
+        self.assertEqual(changed, ["mkdir", "otherwise"])
+        whole = self.file("whole", b"".join(b"n%d %d\n" % (it, it) for it in range(1, 94)) + b"read 0\nlchown 94\n")
+        every = {**x86_64, "syscalls": [{"names": ["read", "lchown", *(f"n{it}" for it in range(1, 94))], "action": ALLOW}]}
+        self.assertEqual(self.lines(every, every, "--runtime", "runc", "--table", whole)[:2][1][0], "same")
+
+    def test_many_skipped_names_and_many_changes(self):
+        """What grew with the square of the names, or read both profiles for each change, takes seconds."""
+        with open(TABLE, "rb") as file:
+            names = list(tables.Table(file.read()).names())
+        skipped = [profile((" ".join(["read", *(f"{it}{at}" for at in range(20000))]), "ALLOW", {})) for it in "ab"]
+        comment = "x" * ((4 << 20) - 60000)
+        changed = [profile(*((it, action, {}) for it in names), comment=comment) for action in ("ALLOW", "LOG")]
+        for (old, new), status in ((skipped, 0), (changed, 1)):
+            words = [tool("compare-profiles"), self.file("a", old), self.file("b", new)]
+            self.assertEqual(self.run_words(words, seconds=10)[0], status)
+
+
 class RandomProfiles(unittest.TestCase):
     """Two profiles beside a small reading of their JSON."""
 
@@ -297,7 +368,7 @@ class RandomProfiles(unittest.TestCase):
             new = self.changed(random_of, old)
             if random_of.random() < 0.2:
                 new = kernel_profiles.random_profile(random_of)
-            found = changes.of_profiles(old, new, table, None, "same")
+            found = changes.of_profiles(changes.Source(old), changes.Source(new), table, None, "same")
             kinds = {}
             for change in found.calls:
                 kinds.setdefault(change.number, set()).add(change.kind)
