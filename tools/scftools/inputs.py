@@ -48,19 +48,19 @@ def read(name: str, kind: str, status: int = program.WRONG_WORDS) -> bytes:
     except UnicodeEncodeError as error:
         # half a pair of surrogates, which no name of a file has
         raise program.Refused(f"there is no file '{output.escaped(name)}'", status) from error
-    data = b"".join(found)
-    if kind == "profile":
-        _refuse_engines(data)
-    return data
+    return b"".join(found)
 
 
-def _refuse_engines(data: bytes) -> None:
-    """Refuses a profile with what podman reads otherwise than scf, which refuses the other members of engines itself."""
+def read_profile(name: str) -> bytes:
+    """The bytes of a profile that scf takes; refused where it has what podman reads otherwise than scf. What else only
+    engines read scf refuses itself."""
     from . import profiles  # pylint: disable=import-outside-toplevel
 
+    data = read(name, "profile")
     found = profiles.errno_by_name(data)
     if found is not None:
         raise program.Refused(f"{found}, which podman alone reads: tools/resolve-profile resolves it", program.REFUSED)
+    return data
 
 
 def is_too_long(data: bytes, kind: str) -> bool:

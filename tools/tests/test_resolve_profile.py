@@ -284,7 +284,7 @@ class ErrnoByName(Case):
                 self.file("p.json", data)
                 for name, words in (("ask", ("--nr=mkdir", "p.json")), ("compare", ("f.bpf", "p.json")),
                                     ("compare-profiles", ("p.json", "p.json")), ("compile", ("p.json",)),
-                                    ("lint", ("p.json",)), ("needs", ("log", "p.json")),
+                                    ("needs", ("log", "p.json")),
                                     ("verify-process", (str(os.getpid()), "p.json"))):
                     status, out, err = self.run_tool(name, *words)
                     self.assertEqual((status, out, err), (1, "", f"{name}: {says}, which podman alone reads: "
