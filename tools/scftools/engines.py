@@ -129,23 +129,36 @@ def read(data: bytes) -> Any:
         raise Refused(f"the profile isn't JSON: {error}") from error
 
 
-def printed(profile: dict[str, Any]) -> str:
-    """The text of a resolved profile."""
+def compact(profile: dict[str, Any]) -> bytes:
+    """The bytes of a resolved profile for scf."""
     try:
-        return json.dumps(profile, indent=4) + "\n"
+        return json.dumps(profile).encode()
     except RecursionError as error:
         raise Refused("the profile is nested too deep") from error
 
 
-def _check_one(value: Any, kind: str, where: str) -> None:
-    """Refuses a value in which the engines don't read a text, a number or a version of a kernel."""
+def printed(profile: dict[str, Any]) -> str:
+    """The text of a resolved profile, made entry by entry, of which there may be many."""
+    try:
+        entries = [json.dumps(entry, indent=4).replace("\n", "\n        ") for entry in profile["syscalls"]]
+        text = json.dumps({**profile, "syscalls": []}, indent=4)
+    except RecursionError as error:
+        raise Refused("the profile is nested too deep") from error
+    if entries:
+        text = text.removesuffix("[]\n}") + "[\n        " + ",\n        ".join(entries) + "\n    ]\n}"
+    return text + "\n"
+
+
+def _check_one(value: Any, kind: str, where: str, name: str) -> None:
+    """Refuses a member in which the engines don't read a text, a number or a version of a kernel."""
     if kind == NUMBER:
         if type(value) is not int or not 0 <= value < 1 << 64:
-            raise Refused(f"{where} isn't a whole number from 0 to 2^64-1")
+            raise Refused(f"{where_in(where, name)} isn't a whole number from 0 to 2^64-1")
     elif not isinstance(value, str):
-        raise Refused(f"{where} isn't a text" if kind == TEXT else f"{where} is no version of a kernel as 4.8")
+        what = "isn't a text" if kind == TEXT else "is no version of a kernel as 4.8"
+        raise Refused(f"{where_in(where, name)} {what}")
     elif kind == VERSION:
-        version_of(value, where)
+        version_of(value, where_in(where, name))
 
 
 def _check_list(value: Any, kind: Any, where: str, setting: Setting) -> None:
@@ -162,20 +175,20 @@ def check(value: Any, members: dict[str, Any], where: str, setting: Setting) -> 
     spelled. A member that is null is absent."""
     if not isinstance(value, dict):
         raise Refused(f"{where} isn't an object")
-    known = {profiles.folded(name): name for name in members}
     for name, one in value.items():
-        read_as = known.get(profiles.folded(name))
-        if read_as not in (None, name):
-            raise Refused(profiles.Misread(where, name, read_as).told() + ": write it so")
-        if read_as is None or one is None or name in setting.unread:
-            continue
-        kind, inner = members[name], where_in(where, name)
-        if isinstance(kind, dict):
-            check(one, kind, inner, setting)
+        kind = members.get(name)
+        if kind is None:
+            read_as = next((it for it in members if profiles.folded(it) == profiles.folded(name)), None)
+            if read_as is not None:
+                raise Refused(profiles.Misread(where, name, read_as).told() + ": write it so")
+        elif one is None or name in setting.unread:
+            pass
+        elif isinstance(kind, dict):
+            check(one, kind, where_in(where, name), setting)
         elif isinstance(kind, list):
-            _check_list(one, kind[0], inner, setting)
+            _check_list(one, kind[0], where_in(where, name), setting)
         else:
-            _check_one(one, kind, inner)
+            _check_one(one, kind, where, name)
 
 
 def unknown_members(value: Any, members: dict[str, Any], where: str) -> Iterator[tuple[str, str]]:

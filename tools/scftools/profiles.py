@@ -99,6 +99,7 @@ def read(data: bytes) -> Profile | None:
     return Profile(default, errno if isinstance(errno, str) else None, names)
 
 
+@functools.lru_cache(1024)
 def folded(name: str) -> str:
     """A member's name as a program in Go compares it; two names that are one by this are one member to it."""
     return name.translate(_FOLD)

@@ -38,6 +38,9 @@ ALLOWS = ("SCMP_ACT_ALLOW", "SCMP_ACT_LOG", "SCMP_ACT_TRACE")
 # The greatest errno that libseccomp takes, and the most conditions of an entry that crun looks at.
 MAX_ERRNO, CRUN_CONDITIONS = 4095, 6
 PREFIX = "SCMP_ARCH_"
+# The most names of all entries together that are handed on, each once for each of its alternatives: the kernel takes no
+# filter that is a sixteenth so long.
+MAX_RULES = 1 << 16
 
 
 @dataclass(frozen=True)
@@ -150,7 +153,7 @@ class Applied:
     @property
     def data(self) -> bytes:
         """The profile's text."""
-        return engines.printed(self.profile).encode()
+        return engines.compact(self.profile)
 
     def told(self) -> Iterator[str]:
         """What is to be known of it, and all that was left out."""
@@ -197,13 +200,16 @@ class _Application:
     notes: list[str] = field(default_factory=list)
     unknown: dict[str, None] = field(default_factory=dict)
     greatest: int = 0
+    count: int = 0
+    has_ignored: bool = False
 
     def refuse(self, why: str) -> None:
         raise Refused(f"{self.runtime.program} refuses the profile: {why}")
 
-    def remark(self, text: str) -> None:
-        if text not in self.remarks:
-            self.remarks.append(text)
+    def count_rules(self, more: int) -> None:
+        self.count += more
+        if self.count > MAX_RULES:
+            raise Refused(f"the profile has more than {MAX_RULES} rules, of which each is one name of an entry")
 
     def answer_of(self, action: str, number: int | None, where: str) -> Answer:
         """What libseccomp is given for an action and its number."""
@@ -216,8 +222,9 @@ class _Application:
             return action, 1 if number is None else number & 0xFFFF
         if number is not None and self.runtime.program == CRUN:
             self.refuse(f"{where} has an errno beside {action}")
-        if number is not None:
-            self.remark(f"an errno beside an action that takes none is ignored: the first is that of {where}")
+        if number is not None and not self.has_ignored:
+            self.has_ignored = True
+            self.remarks.append(f"an errno beside an action that takes none is ignored: the first is that of {where}")
         return action, 0
 
     def check(self, answer: Answer, where: str) -> None:
@@ -259,10 +266,12 @@ class _Application:
         self.check(answer, where)
         args = entry.get("args", [])
         if self.runtime.program == CRUN and len(args) > CRUN_CONDITIONS:
-            self.remark(f"{where} has {len(args)} conditions, of which crun takes the first {CRUN_CONDITIONS}")
+            self.remarks.append(f"{where} has {len(args)} conditions, of which crun takes the first {CRUN_CONDITIONS}")
             args = args[:CRUN_CONDITIONS]
         indices = [it.get("index", 0) for it in args]
-        if len(set(indices)) == len(indices):
+        is_all = len(set(indices)) == len(indices)
+        self.count_rules(len(names) * (1 if is_all else len(args)))
+        if is_all:
             yield _Rule(names, answer, args, origin)
             return
         self.notes.append(f"{origin.told()} has two conditions on one argument: its conditions are alternatives")
@@ -292,7 +301,7 @@ class _Application:
             names = [PREFIX + it.removeprefix(PREFIX).upper() for it in names]
         if not names or OCI_ARCH in names:
             return list(names)
-        self.remark(f"the calls of x86-64 are confined, too, though architectures hasn't {OCI_ARCH}")
+        self.remarks.append(f"the calls of x86-64 are confined, too, though architectures hasn't {OCI_ARCH}")
         return [OCI_ARCH, *names]
 
     def stub_of(self, profile: dict[str, Any], default: Answer) -> int | None:
@@ -302,9 +311,9 @@ class _Application:
 
     def tell_unknown(self) -> None:
         if not self.library.is_there:
-            self.remark("there is no libseccomp.so.2 here, so it can't be told which names the runtime's doesn't know")
+            self.remarks.append("there is no libseccomp.so.2 here, so it can't be told which names the runtime's doesn't know")
         elif self.unknown:
-            self.remark(f"left out, since {self.library.told} doesn't know such names: {listed(list(self.unknown))}")
+            self.remarks.append(f"left out, since {self.library.told} doesn't know such names: {listed(list(self.unknown))}")
 
     def run(self, profile: dict[str, Any], origins: Sequence[Origin]) -> Applied:
         default = self.default_of(profile)
@@ -372,7 +381,7 @@ def applied(value: Any, name: str, setting: Setting | None = None) -> Applied:
     resolver = engines.Resolver(setting, notes.append)
     resolved = resolver.resolved(value)
     found = _Application(runtime, Library()).run(resolved, resolver.origins)
-    return replace(found, notes=[*notes, *found.notes])
+    return replace(found, notes=list(dict.fromkeys([*notes, *found.notes])))
 
 
 def read(path: str, name: str, setting: Setting) -> Applied:

@@ -29,14 +29,14 @@ class Hostile(Case):
                 file.write(data * (count if count < 10000 else count % 10000))
         return path
 
-    def ends(self, path, status, says):
+    def ends(self, path, status, says, words=("--keep-first",)):
         """Ends so within the time, in bounded memory, without a traceback, and says no control character.
 
         What is said last is looked at; what is printed stands in the file that is answered.
         """
         out = os.path.join(self.folder, "out")
         with open(path, "rb") as given, open(out, "wb") as printed, open(f"{out}.said", "w+b") as said:
-            done = subprocess.run([tool("resolve-profile"), "--keep-first", "-"], stdin=given, stdout=printed,
+            done = subprocess.run([tool("resolve-profile"), *words, "-"], stdin=given, stdout=printed,
                                   stderr=said, timeout=PATIENCE, check=False, preexec_fn=limited(SECONDS, MEMORY))
             said.seek(max(said.seek(0, os.SEEK_END) - 20000, 0))
             text = said.read().decode()
@@ -63,11 +63,12 @@ class Hostile(Case):
             for given in (b'{"defaultAction":"A","flags":%s}', b'{"defaultAction":"A","listenerMetadata":%s}',
                           b'{"defaultAction":"A","syscalls":[{"names":["a"],"action":%s},'
                           b'{"names":["a"],"action":"A"}]}',
-                          b'{"defaultAction":"A","defaultErrno":"1","defaultErrnoRet":%s}'):
+                          b'{"defaultAction":"A","defaultErrno":"1","defaultErrnoRet":%s}',
+                          b'{"defaultAction":"A","x":%s}'):
                 path = self.file("given", given % (b"[" * depth + b"]" * depth))
                 # how deep the reader goes is the interpreter's
                 if depth == 100:
-                    self.ends(path, 0, "")
+                    self.ends(path, 0 if b'"x"' in given else 1, "nothing reads 'x'" if b'"x"' in given else " isn't a ")
                 elif depth == 100000:
                     self.ends(path, 1, "nested too deep")
                 else:
@@ -94,6 +95,23 @@ class Hostile(Case):
         with open(out, "rb") as file:
             self.assertEqual(sum(line.strip() == b'"a",' for line in file), count)
 
+    def test_many_rules_of_a_runtime(self):
+        """Alternatives of many names are as many as both together, and are refused from some number on; notes that are
+        alike are one."""
+        condition = b'{"index":0,"op":"SCMP_CMP_EQ","value":1},'
+        begin = b'{"defaultAction":"SCMP_ACT_ERRNO","syscalls":[{"names":["read","write"],"action":"SCMP_ACT_LOG","args":['
+        end = b'{"index":0,"op":"SCMP_CMP_EQ","value":1}]},{"names":["read"],"action":"SCMP_ACT_ALLOW"}]}'
+        runc, crun = ("--runtime", "runc"), ("--runtime", "crun")
+        self.ends(self.pieces((begin, 1), (condition, 1000), (end, 1)), 0,
+                  "read left out of entry 0: entry 1, which has no conditions, has all such calls\n", runc)
+        many = self.pieces((begin, 1), (condition, 300000), (end, 1))
+        self.ends(many, 1, "the profile has more than 65536 rules", runc)
+        out = self.ends(many, 0, "entry 0 has 300001 conditions, of which crun takes the first 6", crun)
+        with open(out, "rb") as file:
+            self.assertEqual(len(json.load(file)["syscalls"]), 7)
+        with open(f"{out}.said", "rb") as file:
+            self.assertEqual(sum(b"read left out" in line for line in file), 1)
+
     def test_names_of_a_stranger(self):
         bad = "\x1b[2J\r\nresolve-profile: all is well\n\x9b\u202e" + "x" * 10000
         given = engine({"names": [bad], "action": ALLOW, "includes": {"caps": [bad]}},
@@ -105,7 +123,7 @@ class Hostile(Case):
             data = file.read()
         self.assertEqual(json.loads(data)["syscalls"], [{"names": [bad, "\ud800"], "action": ALLOW}])
         self.assertNotIn(b"\x1b", data)
-        for given, says in ((engine(**{bad: 0, "Syscalls": 0}), "the engines read in spite of its case"),
+        for given, says in ((engine(**{bad: 0, "Syscalls": 0}), "which programs in Go read as 'syscalls'"),
                             (engine({"names": ["a"], "action": ALLOW, "errno": bad}), "is no errno"),
                             (b'{"\\u001b":1,"\\u001b":2}', "the member '\\x1b' stands twice"),
                             (b'{"\x1b', "isn't JSON"), (b'{"a":"\xff"}', "isn't UTF-8")):
