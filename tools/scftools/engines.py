@@ -180,7 +180,7 @@ def check(value: Any, members: dict[str, Any], where: str, setting: Setting) -> 
         if kind is None:
             read_as = next((it for it in members if profiles.folded(it) == profiles.folded(name)), None)
             if read_as is not None:
-                raise Refused(profiles.Misread(where, name, read_as).told() + ": write it so")
+                raise Refused(profiles.Misread(where, name, read_as).told())
         elif one is None or name in setting.unread:
             pass
         elif isinstance(kind, dict):

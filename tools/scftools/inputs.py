@@ -51,15 +51,18 @@ def read(name: str, kind: str, status: int = program.WRONG_WORDS) -> bytes:
     return b"".join(found)
 
 
-def read_profile(name: str) -> bytes:
-    """The bytes of a profile that scf takes; refused where it has what podman reads otherwise than scf. What else only
-    engines read scf refuses itself."""
+def read_profile(name: str, is_runtimes: bool = False) -> bytes:
+    """The bytes of a profile that scf takes; refused where it has what podman reads otherwise than scf, or, of one that
+    a runtime is said to apply, what any program in Go does. What else only engines read scf refuses itself."""
     from . import profiles  # pylint: disable=import-outside-toplevel
 
     data = read(name, "profile")
     found = profiles.errno_by_name(data)
     if found is not None:
         raise program.Refused(f"{found}, which podman alone reads: tools/resolve-profile resolves it", program.REFUSED)
+    misread = profiles.misread_members(data) if is_runtimes else []
+    if misread:
+        raise program.Refused(f"{misread[0].told()}", program.REFUSED)
     return data
 
 

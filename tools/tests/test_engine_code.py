@@ -77,7 +77,23 @@ class Members(Case):
         self.assertEqual(engine_code.resolved([("docker", (), twice)])[0][0]["syscalls"],
                          [{"names": ["ptrace"], "action": "C"}])
         self.assertEqual([it.told() for it in profiles.misread_members(twice.encode())],
-                         ["the profile has the member 'syscalls' more than once"])
+                         ["the profile has the member 'syscalls' more than once, of which programs in Go take the "
+                          "last"])
+
+    def test_tools_that_speak_of_a_runtime_refuse_them(self):
+        """With and without --runtime: what scf reads isn't what the runtime read."""
+        for text, says in (('{"defaultAction":"SCMP_ACT_ERRNO","syscalls":[],"\u017fyscalls":[{"names":["ptrace"],'
+                            '"action":"SCMP_ACT_ALLOW"}]}', "a member '\\u017fyscalls', which programs in Go read"),
+                           ('{"defaultAction":"SCMP_ACT_ERRNO","syscalls":[{"names":["ptrace"],"action":"SCMP_ACT_LOG",'
+                            '"Action":"SCMP_ACT_ALLOW"}]}', "entry 0 has a member 'Action', which programs in Go read"),
+                           ('{"defaultAction":"SCMP_ACT_ERRNO","defaultAction":"SCMP_ACT_ALLOW"}', "defaultAction'")):
+            given = self.file("p.json", text)
+            for name, words in (("verify-process", (str(os.getpid()), given)), ("compare-profiles", (given, given)),
+                                ("resolve-profile", (given,))):
+                for more in ((), ("--runtime", "runc")):
+                    status, out, err = self.run_tool(name, *more, *words)
+                    self.assertEqual((status, out), (1, ""), (name, more))
+                    self.assertIn(says, err)
 
     def test_where_a_misread_member_stands(self):
         for text, says in (
