@@ -358,9 +358,7 @@ class Resolver:
     def resolved(self, value: Any) -> dict[str, Any]:
         """The profile that the engine makes in this setting."""
         value = self.seccomp_of(value)
-        is_whole = value is not None and not isinstance(value, dict)
-        check(value, SECCOMP, "the profile" if is_whole else "linux.seccomp" if value is None else "the profile",
-              self.setting)
+        check(value, SECCOMP, "linux.seccomp" if value is None else "the profile", self.setting)
         top = members_of(value, self.setting)
         if not top.get("defaultAction"):
             raise Refused("there is no defaultAction")

@@ -59,7 +59,8 @@ def read_profile(name: str, is_runtimes: bool = False) -> bytes:
     data = read(name, "profile")
     found = profiles.errno_by_name(data)
     if found is not None:
-        raise program.Refused(f"{found}, which podman alone reads: tools/resolve-profile resolves it", program.REFUSED)
+        hint = "--runtime podman takes it" if is_runtimes else "tools/resolve-profile resolves it"
+        raise program.Refused(f"{found}, which podman alone reads: {hint}", program.REFUSED)
     misread = profiles.misread_members(data) if is_runtimes else []
     if misread:
         raise program.Refused(f"{misread[0].told()}", program.REFUSED)

@@ -55,10 +55,10 @@ class Runtime:
 
 RUNTIMES = {it.name: it for it in (Runtime(RUNC, RUNC), Runtime(CRUN, CRUN), Runtime("docker", RUNC, "docker"),
                                    Runtime("podman", CRUN, "podman"))}
-HELP = ("read profiles as it does: runc and crun take resolved ones; docker is Docker's engine, which resolves an "
-        "engine's profile, with runc behind it, and podman is podman's with crun. So an entry whose answer is the "
-        "default's counts for nothing, of two entries without conditions the first does, and names that this machine's "
-        "libseccomp doesn't know are left out")
+HELP = ("read a profile as this container runtime does. runc and crun take a resolved profile; docker is Docker's "
+        "engine (moby), which resolves an engine's profile first, with runc; podman is podman's engine with crun. "
+        "Entries whose answer is the default's are skipped, of two entries without conditions the first counts, and names "
+        "that this machine's libseccomp doesn't know are left out")
 
 
 def add_option(parser: argparse.ArgumentParser) -> None:
@@ -80,7 +80,7 @@ def add_options(parser: argparse.ArgumentParser) -> None:
                         help="whether only x86-64 or all architectures are handed on [default: all, as the engine "
                              "does]")
     parser.add_argument("--ignore", metavar="MEMBER", action="append",
-                        help="an unknown member of entries is no condition")
+                        help="ignore a member of entries that no engine reads, which may be a condition")
 
 
 def is_engines(given: argparse.Namespace) -> bool:
@@ -311,9 +311,10 @@ class _Application:
 
     def tell_unknown(self) -> None:
         if not self.library.is_there:
-            self.remarks.append("there is no libseccomp.so.2 here, so it can't be told which names the runtime's doesn't know")
+            self.remarks.append("there is no libseccomp.so.2 here to ask which names the runtime's doesn't know")
         elif self.unknown:
-            self.remarks.append(f"left out, since {self.library.told} doesn't know such names: {listed(list(self.unknown))}")
+            names = listed(list(self.unknown))
+            self.remarks.append(f"left out, since {self.library.told} doesn't know such names: {names}")
 
     def run(self, profile: dict[str, Any], origins: Sequence[Origin]) -> Applied:
         default = self.default_of(profile)

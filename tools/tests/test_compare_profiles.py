@@ -300,7 +300,8 @@ class Runtimes(Case):
             {"names": ["mount"], "action": ALLOW, "includes": {"caps": ["CAP_SYS_ADMIN"]}},
             {"names": ["read", "write"], "action": ALLOW}]}
         new = {**old, "syscalls": [*old["syscalls"][:1], {"names": ["read"], "action": ALLOW}]}
-        for words in (("--caps", "none"), ("--runtime", "docker"), ("--engine", "podman"), ("--keep-first", "--caps=none")):
+        for words in (("--caps", "none"), ("--runtime", "docker"), ("--engine", "podman"),
+                      ("--keep-first", "--caps=none")):
             status, lines, _ = self.lines(old, new, *words)
             self.assertIn(f"1 write less {NO_ARGUMENTS} old ALLOW entry 1 new ERRNO 1 default", lines)
             self.assertIn('# old: entry 1 of syscalls: {"names": ["read", "write"], "action": "SCMP_ACT_ALLOW"}', lines)
@@ -342,7 +343,8 @@ class Runtimes(Case):
                    if line[:1].isdigit()]
         self.assertEqual(changed, ["mkdir", "otherwise"])
         whole = self.file("whole", b"".join(b"n%d %d\n" % (it, it) for it in range(1, 94)) + b"read 0\nlchown 94\n")
-        every = {**x86_64, "syscalls": [{"names": ["read", "lchown", *(f"n{it}" for it in range(1, 94))], "action": ALLOW}]}
+        names = ["read", "lchown", *(f"n{it}" for it in range(1, 94))]
+        every = {**x86_64, "syscalls": [{"names": names, "action": ALLOW}]}
         self.assertEqual(self.lines(every, every, "--runtime", "runc", "--table", whole)[:2][1][0], "same")
 
     def test_many_skipped_names_and_many_changes(self):

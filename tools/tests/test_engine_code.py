@@ -99,8 +99,8 @@ class Members(Case):
         for text, says in (
                 ('{"\u017fyscalls":[]}', "the profile has a member '\\u017fyscalls', which programs in Go read as "
                                          "'syscalls'"),
-                ('{"syscalls":[{},{"Action":1,"action":1}]}', "entry 1 has a member 'Action', which programs in Go read "
-                                                              "as 'action'"),
+                ('{"syscalls":[{},{"Action":1,"action":1}]}',
+                 "entry 1 has a member 'Action', which programs in Go read as 'action'"),
                 ('{"syscalls":[{"args":[{},{"Op":1}]}]}', "entry 0: args 1 has a member 'Op', which programs in Go "
                                                           "read as 'op'"),
                 ('{"syscalls":[{"includes":{"min\u212aernel":1}}]}',
@@ -118,11 +118,11 @@ class Members(Case):
 
 # Values of a member that the engines may read or refuse, by what its value should be.
 ODD = (None, True, -1, 1.5, "", "x", [], {}, [None], ["x"], [1], [{}], [[]], {"x": 1}, 2**64, 10**30)
-KERNELS = ("", "4.8", "255.255", "256.1", "1.256", "0.0", "0.1", "4", "4.8.1", "4.", ".8", "+4.8", "04.008", "4_0.1", " 4.8",
-           "4.8 ", "\u0664.8", "7.0", "6.18", "6.17", "6.19")
+KERNELS = ("", "4.8", "255.255", "256.1", "1.256", "0.0", "0.1", "4", "4.8.1", "4.", ".8", "+4.8", "04.008", "4_0.1",
+           " 4.8", "4.8 ", "\u0664.8", "7.0", "6.18", "6.17", "6.19")
 NUMBERS = (0, 1, 38, 4095, 5000, 65536, 2**32, 2**63, 2**64 - 1)
-ERRNOS = (*sorted(engines.ERRNOS), "", "EINTR", "EHWPOISON", "EWOULDBLOCK", "eperm", "0", "07", "4294967295", "4294967296",
-          "-1", "+1", "1_0", " 1", "0x1", "\u0661", "1" * 40)
+ERRNOS = (*sorted(engines.ERRNOS), "", "EINTR", "EHWPOISON", "EWOULDBLOCK", "eperm", "0", "07", "4294967295",
+          "4294967296", "-1", "+1", "1_0", " 1", "0x1", "\u0661", "1" * 40)
 CAPABILITIES = ("CAP_KILL", "CAP_SYS_ADMIN", "CAP_CHOWN")
 
 

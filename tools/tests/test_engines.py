@@ -67,8 +67,10 @@ class Hostile(Case):
                           b'{"defaultAction":"A","x":%s}'):
                 path = self.file("given", given % (b"[" * depth + b"]" * depth))
                 # how deep the reader goes is the interpreter's
-                if depth == 100:
-                    self.ends(path, 0 if b'"x"' in given else 1, "nothing reads 'x'" if b'"x"' in given else " isn't a ")
+                if depth == 100 and b'"x"' in given:
+                    self.ends(path, 0, "nothing reads 'x'")
+                elif depth == 100:
+                    self.ends(path, 1, " isn't a ")
                 elif depth == 100000:
                     self.ends(path, 1, "nested too deep")
                 else:
@@ -99,7 +101,8 @@ class Hostile(Case):
         """Alternatives of many names are as many as both together, and are refused from some number on; notes that are
         alike are one."""
         condition = b'{"index":0,"op":"SCMP_CMP_EQ","value":1},'
-        begin = b'{"defaultAction":"SCMP_ACT_ERRNO","syscalls":[{"names":["read","write"],"action":"SCMP_ACT_LOG","args":['
+        begin = b'{"defaultAction":"SCMP_ACT_ERRNO","syscalls":[{"names":["read","write"],"action":"SCMP_ACT_LOG",' \
+                b'"args":['
         end = b'{"index":0,"op":"SCMP_CMP_EQ","value":1}]},{"names":["read"],"action":"SCMP_ACT_ALLOW"}]}'
         runc, crun = ("--runtime", "runc"), ("--runtime", "crun")
         self.ends(self.pieces((begin, 1), (condition, 1000), (end, 1)), 0,

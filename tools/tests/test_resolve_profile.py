@@ -118,7 +118,8 @@ class ResolveProfile(Case):
 
     def test_the_map_of_architectures(self):
         given = engine(archMap=MAP)
-        self.assertEqual(self.resolved(given)[0]["architectures"], ["SCMP_ARCH_X86_64", "SCMP_ARCH_X86", "SCMP_ARCH_X32"])
+        self.assertEqual(self.resolved(given)[0]["architectures"],
+                         ["SCMP_ARCH_X86_64", "SCMP_ARCH_X86", "SCMP_ARCH_X32"])
         self.assertEqual(self.resolved(given, "--arch", "all"), self.resolved(given))
         plain, said = self.resolved(given, "--arch", "native")
         self.assertEqual((plain["architectures"], said), (["SCMP_ARCH_X86_64"],
@@ -133,7 +134,8 @@ class ResolveProfile(Case):
 
     def test_a_single_name(self):
         self.assertEqual(self.resolved(engine({"name": "read", "action": ALLOW}))[0], engine(entry("read")))
-        self.assertEqual(self.resolved(engine({"name": "read", "names": [], "action": ALLOW}))[0], engine(entry("read")))
+        self.assertEqual(self.resolved(engine({"name": "read", "names": [], "action": ALLOW}))[0],
+                         engine(entry("read")))
         self.refused(engine({"name": "read", "names": ["write"], "action": ALLOW}), "both name and names")
 
     def test_an_entry_that_names_nothing(self):
@@ -220,7 +222,8 @@ class ResolveProfile(Case):
         given = engine(entry("a", includes={"minKernel": "255.0"}), entry("b", action=ERRNO, errno="ENOSYS"),
                        entry("c", excludes={"minKernel": ""}), defaultErrno="ENOENT", defaultErrnoRet=7,
                        flags=["SECCOMP_FILTER_FLAG_LOG"])
-        for name, default, names, errno, flags in (("docker", 7, ["b"], None, True), ("podman", 2, ["a", "b", "c"], 38, True),
+        for name, default, names, errno, flags in (("docker", 7, ["b"], None, True),
+                                                   ("podman", 2, ["a", "b", "c"], 38, True),
                                                    ("docker-20.10", None, ["b"], None, False)):
             found, said = self.resolved(given, "--engine", name)
             self.assertEqual((found.get("defaultErrnoRet"), "flags" in found), (default, flags), name)
@@ -231,8 +234,7 @@ class ResolveProfile(Case):
             self.assertEqual(said.count(unread), 1, said)
         self.assertIn("for no kernel, since excludes: minKernel is empty", self.resolved(given)[1])
         self.assertEqual(self.names(engine(entry("a", includes={"minKernel": ""}))), ["a"])
-        self.assertEqual(set(self.names(engine(entry("MKNOD", includes={"caps": ["CAP_MKNOD"]})), "--engine", "podman")),
-                         set())
+        self.assertEqual(self.names(engine(entry("a", includes={"caps": ["CAP_MKNOD"]})), "--engine", "podman"), [])
 
     def test_members_that_nothing_reads(self):
         given = engine(entry("a"), {**entry("b"), "requires": {"caps": ["CAP_SYS_ADMIN"]}}, version=2)
@@ -246,7 +248,8 @@ class ResolveProfile(Case):
             self.refused(engine(inner), "which may be a condition")
         self.assertEqual(self.resolved(engine(archMap=[{"architecture": "SCMP_ARCH_X86_64", "x": 1}]))[1],
                          "resolve-profile: archMap 0: nothing reads 'x'\n")
-        self.refused({"defaultAction": "A", "\u017fyscalls": []}, "a member '\\u017fyscalls', which programs in Go read")
+        self.refused({"defaultAction": "A", "\u017fyscalls": []},
+                     "a member '\\u017fyscalls', which programs in Go read as 'syscalls'")
 
     def test_a_profile_as_a_runtime_applies_it(self):
         given = engine(entry("mkdir", action=ERRNO, errnoRet=1), entry("mkdir", "read"),
@@ -280,15 +283,17 @@ class ErrnoByName(Case):
                             ({"linux": {"seccomp": engine(defaultErrno="ENOSYS", defaultErrnoRet=38)}},
                              'the profile has defaultErrno "ENOSYS"')):
             text = json.dumps(given)
-            for data in (text, text.replace('"errno"', '"\\u0065rrno"').replace('"defaultErrno"', '"default\\u0045rrno"')):
+            escaped = text.replace('"errno"', '"\\u0065rrno"').replace('"defaultErrno"', '"default\\u0045rrno"')
+            for data in (text, escaped):
                 self.file("p.json", data)
                 for name, words in (("ask", ("--nr=mkdir", "p.json")), ("compare", ("f.bpf", "p.json")),
                                     ("compare-profiles", ("p.json", "p.json")), ("compile", ("p.json",)),
                                     ("needs", ("log", "p.json")),
                                     ("verify-process", (str(os.getpid()), "p.json"))):
                     status, out, err = self.run_tool(name, *words)
-                    self.assertEqual((status, out, err), (1, "", f"{name}: {says}, which podman alone reads: "
-                                                                 f"tools/resolve-profile resolves it\n"))
+                    is_runtimes = name in ("compare-profiles", "verify-process")
+                    hint = "--runtime podman takes it" if is_runtimes else "tools/resolve-profile resolves it"
+                    self.assertEqual((status, out, err), (1, "", f"{name}: {says}, which podman alone reads: {hint}\n"))
                 found, _ = self.resolved("p.json")
                 self.assertEqual(self.run_tool("ask", "--nr=mkdir", self.file("r.json", found))[0], 0)
 

@@ -183,9 +183,9 @@ class Runtimes(Case):
             given = {"defaultAction": default, "architectures": architectures,
                      "syscalls": [entry(*below), entry("mkdir", action=ERRNO, errno=7)]}
             verdict, has_stub, found = self.compared("runc", given)
-            self.assertEqual((verdict, has_stub, found.stub), ("same", stub is not None, stub), (default, architectures))
+            self.assertEqual((verdict, has_stub, found.stub), ("same", stub is not None, stub), given["defaultAction"])
             verdict, has_stub, found = self.compared("crun", given)
-            self.assertEqual((verdict, has_stub, found.stub), ("same", False, None), (default, architectures))
+            self.assertEqual((verdict, has_stub, found.stub), ("same", False, None), given["defaultAction"])
 
     def test_a_stub_at_another_number_is_none(self):
         given = {"defaultAction": ERRNO, "architectures": [X86_64], "syscalls": [entry("read", "lchown")]}
@@ -200,8 +200,8 @@ class Runtimes(Case):
 
     def test_what_the_runtimes_refuse(self):
         for runtime, given, says in (
-                ("runc", profile(entry("mkdir", action=ERRNO, errno=5000)), "no errno above 4095, and entry 1 has 5000"),
-                ("crun", profile(entry("mkdir", action=ERRNO, errno=70000)), "no errno above 4095, and entry 1 has 4464"),
+                ("runc", profile(entry("mkdir", action=ERRNO, errno=5000)), "above 4095, and entry 1 has 5000"),
+                ("crun", profile(entry("mkdir", action=ERRNO, errno=70000)), "above 4095, and entry 1 has 4464"),
                 ("runc", profile(defaultErrnoRet=5000), "and the default has 5000"),
                 ("crun", profile(defaultErrnoRet=5000), "and the default has 5000"),
                 ("crun", profile(entry("mkdir", action=ERRNO, errno=2**32 + 1)), "the errno 4294967297 of entry 1"),
@@ -238,7 +238,8 @@ class Runtimes(Case):
             made = []
             for _ in range(drawn.randrange(1, 6)):
                 action, errno = drawn.choice(actions)
-                args = [condition(drawn.randrange(2), "EQ", drawn.randrange(3)) for _ in range(drawn.choice((0, 0, 1, 2)))]
+                args = [condition(drawn.randrange(2), "EQ", drawn.randrange(3))
+                        for _ in range(drawn.choice((0, 0, 1, 2)))]
                 made.append(entry(*drawn.sample(["mkdir", "rmdir", "chroot", "no_such"], 2), action=action, errno=errno,
                                   args=args))
             given = profile(*made, default=drawn.choice((ERRNO, ERRNO, TRAP)))
@@ -311,7 +312,8 @@ class VerifyProcess(Case):
             self.assertEqual((status, out.splitlines()[0]), (1, "differs"))
             # what an entry is called is what it is called in the file: 13, which is the first with CAP_SYS_ADMIN
             self.assertRegex(out, "\n# by entry 13 of syscalls: ")
-            found = json.loads(self.verify(process, MOBY, "--runtime", "docker", "--caps", "docker,SYS_ADMIN", "--json")[1])
+            found = json.loads(self.verify(process, MOBY, "--runtime", "docker", "--caps", "docker,SYS_ADMIN",
+                                           "--json")[1])
             self.assertEqual(found["stacks"][0]["place"], 13)
 
     def test_an_entry_that_is_never_handed_over(self):
