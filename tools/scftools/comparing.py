@@ -195,6 +195,15 @@ def of_fault(fault: verdicts.Fault, profile: bytes, table: Table) -> Iterator[st
         yield profiles.where_json_ends(profile)
 
 
+def sentences_of(comparison: Comparison, fault: verdicts.Fault) -> Iterator[str]:
+    """What is said of a fault of a comparison."""
+    yield from of_fault(fault, comparison.profile, comparison.table)
+    if comparison.origins is not None and fault.source == "profile":
+        from . import engines  # pylint: disable=import-outside-toplevel
+
+        yield from engines.as_given(fault.numbers, comparison.origins)
+
+
 def of_left_out(comparison: Comparison, report: Report) -> Iterator[str]:
     """What of the profile was left out: skipped names, and other architectures."""
     if report.skipped:
@@ -207,7 +216,7 @@ def added(comparison: Comparison, report: Report, scope: str) -> Iterator[str]:
     """What is said behind scf's lines."""
     table, count = comparison.table, len(comparison.filters)
     if report.fault:
-        yield from of_fault(report.fault, comparison.profile, table)
+        yield from sentences_of(comparison, report.fault)
     before: list[str] = []
     behind: list[str] = []
     if report.verdict and report.verdict.word == DIFFERS:
@@ -262,8 +271,7 @@ def as_json(comparison: Comparison, report: Report, scope: str, status: int) -> 
     if comparison.relation != SAME:
         found["relation"] = comparison.relation
     if report.fault:
-        sentences = list(of_fault(report.fault, comparison.profile, table))
-        found["fault"] = {**report.fault.as_json(), "sentences": sentences}
+        found["fault"] = {**report.fault.as_json(), "sentences": list(sentences_of(comparison, report.fault))}
     if report.verdict:
         found.update(_side_json(report.verdict, table))
         if report.verdict.call:

@@ -260,6 +260,14 @@ class Origin:
         return f"entry {self.index}" + (f" ({self.names})" if self.names else "")
 
 
+def as_given(numbers: dict[str, int], origins: Sequence[Origin]) -> Iterator[str]:
+    """Which entries of the user's profile a fault names that scf found in the resolved one."""
+    named = [numbers[it] for it in ("entry", "first", "second") if it in numbers]
+    found = [origins[index].told() for index in named if index < len(origins)]
+    if found:
+        yield f"in the file as it was given that is {' and '.join(dict.fromkeys(found))}"
+
+
 class Resolver:
     """Makes a resolved profile, and tells what is left out and why."""
 

@@ -5,7 +5,8 @@ import random
 import sys
 import unittest
 
-from common import TABLE, TOP, Case, tool
+from common import TABLE, TOP, Case, ret, tool
+from confined import ended, started
 from test_why import reading
 
 sys.path.append(os.path.join(TOP, "tools"))
@@ -317,6 +318,25 @@ class Runtimes(Case):
             self.assertEqual(err, ["compare-profiles: new: entry 0 (mkdir) left out: its answer is the default's"])
         self.assertEqual(self.lines(one, two)[1][0], "fault profile Conflict number 83 first 0 second 1")
         self.assertEqual(self.lines(one, {**one, "archMap": Engines.MAP}, "--runtime", "crun")[0], 1)
+
+    def test_entries_that_conflict_are_called_as_in_the_file(self):
+        """What libseccomp makes of two answers by conditions isn't said."""
+        old = {"defaultAction": ERRNO, "syscalls": [
+            {"names": ["mkdir"], "action": ERRNO}, {"names": ["rmdir"], "action": ALLOW},
+            {"names": ["mkdir"], "action": ALLOW, "args": NOT_40}, {"names": ["mkdir"], "action": ERRNO, "errnoRet": 2,
+                                                                    "args": IS_41}]}
+        good = {**old, "syscalls": old["syscalls"][:2]}
+        for one, other, side in ((old, good, "old"), (good, old, "new")):
+            status, lines, _ = self.lines(one, other, "--runtime", "runc")
+            self.assertEqual((status, lines[0], lines[-2:]), (1, "fault profile Conflict number 83 first 1 second 2", [
+                "# in the file as it was given that is entry 2 (mkdir) and entry 3 (mkdir)",
+                f"# it is the {side} profile"]))
+        if os.geteuid():
+            return
+        child, _ = started([[self.file("f.bpf", ret(0x7FFF0000))]])
+        self.addCleanup(ended, child)
+        out = self.run_tool("verify-process", "--runtime", "crun", str(child.pid), self.file("p", json.dumps(old)))[1]
+        self.assertIn("\n# in the file as it was given that is entry 2 (mkdir) and entry 3 (mkdir)\n", out)
 
     def test_what_runc_answers_by_enosys(self):
         """From behind the greatest that a profile names on; a profile that names a greater one has more defaults."""
