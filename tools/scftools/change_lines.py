@@ -4,7 +4,8 @@ from __future__ import annotations
 from collections.abc import Iterator
 
 from . import reasons
-from .changes import KINDS, NEW, OLD, OTHERWISE, STUB, Change, Changes, Source
+from .changes import KINDS, NEW, OLD, OTHERWISE, Change, Changes, Source
+from .engines import STUB
 from .reasons import Reason
 from .tables import Table
 from .verdicts import LESS, MORE, UNDECIDED, UNFINISHED

@@ -9,7 +9,7 @@ from . import bundles, entries, newer, program, reasons, unnamed
 from .answers import FATES, Answer
 from .calls import Call
 from .comparing import CALLS, NATIVE, Comparison
-from .engines import Origin
+from .engines import STUB, Origin
 from .filters import Filter, answering_from
 from .questions import checked
 from .reasons import Reason
@@ -21,8 +21,6 @@ OLD, NEW = "old", "new"
 # By the new profile more of a call is let through, less, or as much by another answer; or scf couldn't tell.
 OTHERWISE = "otherwise"
 KINDS = (MORE, LESS, OTHERWISE, UNDECIDED, UNFINISHED)
-# What gives an answer that runc puts before a filter: no entry of the profile.
-STUB = Origin(-1, "")
 # The word of each relation where it doesn't hold.
 FAILED = {SAME: DIFFERS, NO_MORE: MORE, NO_LESS: LESS}
 
@@ -48,12 +46,8 @@ class Source:
         """The profile with an entry for what runc answers by ENOSYS, as far as the table names it, below a number."""
         if self.stub is None:
             return self
-        names = [name for name in table.names() if self.stub <= (table.number_of(name) or 0)
-                 and (end is None or (table.number_of(name) or 0) < end)]
-        top = json.loads(self.data)
-        if names:
-            top["syscalls"].append({"names": names, "action": "SCMP_ACT_ERRNO", "errnoRet": 38})
-        return replace(self, data=json.dumps(top).encode(), origins=[*(self.origins or ()), STUB])
+        return replace(self, data=newer.with_stub(self.data, table, self.stub, end),
+                       origins=[*(self.origins or ()), STUB])
 
 
 def _some(holder: dict[str, object], *names: str) -> dict[str, object]:

@@ -26,8 +26,8 @@ FAILED = {DIFFERS: "that aren't answered as the profile says", MORE: "that are l
 
 @dataclass
 class Comparison:
-    """Filters, oldest first, a profile and a table; the most steps, as a text, where they aren't scf's; a relation; and
-    of a resolved profile where each entry stands in the user's."""
+    """Filters, oldest first, a profile and a table; the most steps, as a text, where they aren't scf's; a relation; of a
+    resolved profile where each entry stands in the user's, and the least number that runc answers by ENOSYS."""
 
     filters: Sequence[Filter]
     profile: bytes
@@ -35,6 +35,7 @@ class Comparison:
     limit: str | None = None
     relation: str = SAME
     origins: Sequence[Origin] | None = None
+    stub: int | None = None
     _facts: list[Profile | None] = field(default_factory=list)
 
     @property
@@ -149,7 +150,7 @@ def of_native_calls(comparison: Comparison, report: Report) -> tuple[list[str], 
     all_named = [f"no calls that the table names are among those {FAILED[report.verdict.word]}"]
     if comparison.relation == SAME:
         all_named = ["each call that the table names is answered as the profile says"]
-    found = newer.calls_of(comparison) if comparison.relation == SAME else None
+    found = newer.calls_of(comparison) if comparison.relation == SAME and comparison.stub is None else None
     if found is None:
         return [], all_named if by_name.verdict.holds else list(_counted(by_name.calls))
     others = [call for call in by_name.calls if not found.has(call)]
@@ -286,7 +287,7 @@ def as_json(comparison: Comparison, report: Report, scope: str, status: int) -> 
         from . import newer  # pylint: disable=import-outside-toplevel
 
         calls = comparison.run(CALLS)[1].calls
-        apart = newer.calls_of(comparison) if comparison.relation == SAME else None
+        apart = newer.calls_of(comparison) if comparison.relation == SAME and comparison.stub is None else None
         if apart:
             found["newer"] = {"first": apart.first, "are_all": newer.another_call(comparison, apart) is None,
                               "filter": apart.filters.as_json(), "profile": apart.profile.as_json()}

@@ -260,6 +260,10 @@ class Origin:
         return f"entry {self.index}" + (f" ({self.names})" if self.names else "")
 
 
+# Where an answer comes from that runc puts before the filter: no entry of the user's profile.
+STUB = Origin(-1, "")
+
+
 def as_given(numbers: dict[str, int], origins: Sequence[Origin]) -> Iterator[str]:
     """Which entries of the user's profile a fault names that scf found in the resolved one."""
     named = [numbers[it] for it in ("entry", "first", "second") if it in numbers]

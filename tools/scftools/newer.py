@@ -6,12 +6,14 @@ with a few instructions before each that answer the calls on one side of a numbe
 """
 from __future__ import annotations
 
+import json
 from collections.abc import Iterator, Sequence
 from dataclasses import dataclass, replace
 
 from . import bundles, program, verdicts
 from .answers import Answer
 from .calls import Call
+from .engines import STUB
 from .filters import Filter, answering_below, answering_from
 from .tables import Table
 from .verdicts import DIFFERS, SAME, NamedCall, Report, Verdict
@@ -23,6 +25,25 @@ if TYPE_CHECKING:
 
 # What runc's stub answers, as the profile of one that answers nothing else, and as the kernel's word: ENOSYS.
 ENOSYS_PROFILE, ENOSYS = b'{"defaultAction": "SCMP_ACT_ERRNO", "defaultErrnoRet": 38}', 0x00050000 | 38
+
+
+def with_stub(profile: bytes, table: Table, first: int, end: int | None = None) -> bytes:
+    """A profile as runc resolves it, with one entry more for the numbers from one on, and below another one, that its
+    stub answers, as far as a table names them."""
+    numbers = [number for number in table.numbers() if first <= number and (end is None or number < end)]
+    top = json.loads(profile)
+    if numbers:
+        names = [table.names_of(number)[0] for number in numbers]
+        top["syscalls"].append({"names": names, "action": "SCMP_ACT_ERRNO", "errnoRet": 38})
+    return json.dumps(top).encode()
+
+
+def expecting_stub(comparison: Comparison, first: int | None) -> Comparison:
+    """The comparison by which it is explained what differs where a stub is to answer the numbers from one on."""
+    if first is None:
+        return comparison
+    return replace(comparison, profile=with_stub(comparison.profile, comparison.table, first), stub=first, _facts=[],
+                   origins=[*(comparison.origins or ()), STUB])
 
 
 def compared_with_stub(comparison: Comparison, scope: str, first: int | None) -> tuple[int, Report, bool]:

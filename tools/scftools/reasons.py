@@ -20,6 +20,7 @@ if TYPE_CHECKING:
     from .engines import Origin
 
 PRINTED = re.compile(r"(\w+ \w+) (?:entry ([0-9]+)|(default)|(foreign))")
+BY_STUB = "by the ENOSYS that runc puts before the filter"
 # So many characters of an entry are shown.
 LONGEST = 400
 # What a condition says of an argument and its value; of masks, the value is the mask.
@@ -110,7 +111,7 @@ def told(reason: Reason, profile: bytes, call: Call | None, origins: Sequence[Or
     else:
         entry, index = profiles.entry_at(profile, reason.entry), index_of(reason, origins)
         if index is not None and index < 0:
-            yield "by the ENOSYS that runc puts before the filter"
+            yield BY_STUB
             return
         yield f"by entry {index} of syscalls" + (f": {_shown(entry)}" if entry is not None else "")
         for condition in _conditions(entry) if call else ():
@@ -169,8 +170,11 @@ def of_difference(comparison: Comparison, verdict: Verdict) -> Iterator[str]:
     if verdict.call is None or verdict.filters is None:
         return
     words = verdict.call.words()
-    reason = of(comparison.profile, comparison.table, words)
-    yield from told(reason, comparison.profile, verdict.call, comparison.origins)
+    if comparison.stub is not None and comparison.stub <= verdict.call.number:
+        yield BY_STUB
+    else:
+        reason = of(comparison.profile, comparison.table, words)
+        yield from told(reason, comparison.profile, verdict.call, comparison.origins)
     for giver in paths.givers(comparison.filters, words, verdict.filters)[-1:]:
         before, lines = paths.last_tests(giver.filter.data, giver.path, verdict.call, comparison.table)
         yield f"the last tests on the way in {giver.told()}" + (f", behind {before} others:" if before else ":")
@@ -182,8 +186,11 @@ def difference_as_json(comparison: Comparison, verdict: Verdict) -> dict[str, ob
     if verdict.call is None or verdict.filters is None:
         return {}
     words = verdict.call.words()
-    reason = of(comparison.profile, comparison.table, words)
-    found = as_json(reason, comparison.profile, verdict.call, comparison.origins)
+    if comparison.stub is not None and comparison.stub <= verdict.call.number:
+        found: dict[str, object] = {"reason": "stub"}
+    else:
+        reason = of(comparison.profile, comparison.table, words)
+        found = as_json(reason, comparison.profile, verdict.call, comparison.origins)
     for giver in paths.givers(comparison.filters, words, verdict.filters)[-1:]:
         found["path"] = giver.as_json()
     return found

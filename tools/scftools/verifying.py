@@ -72,8 +72,9 @@ def judged(stack: Stack, asked: Asked) -> Block:
         status, report = comparison.run(asked.scope)
         return Block(stack, status, comparison, report)
     comparison = replace(comparison, origins=asked.applied.origins)
-    status, report, has_stub = newer.compared_with_stub(comparison, asked.scope, asked.applied.stub)
-    return Block(stack, status, comparison, report, asked.applied.stub if has_stub else None)
+    stub = asked.applied.stub
+    status, report, has_stub = newer.compared_with_stub(comparison, asked.scope, stub)
+    return Block(stack, status, newer.expecting_stub(comparison, stub), report, stub if has_stub else None)
 
 
 def blocks(found: Found, asked: Asked) -> list[Block]:

@@ -8,8 +8,11 @@ import subprocess
 import sys
 import tempfile
 import unittest
+from unittest import mock
 
-from common import TABLE, TOP, Case, part
+from common import ALLOW as ALLOWED
+from common import TABLE, TOP, Case, insn, jeq, load, part, ret
+from confined import ended, started
 
 sys.path.append(os.path.join(TOP, "tools"))
 
@@ -253,12 +256,30 @@ class Runtimes(Case):
                 verdicts.append(verdict)
         self.assertGreater(verdicts.count("same"), 8)
 
+    def test_a_call_above_the_stub_that_is_allowed(self):
+        """It is the call that is shown, and not one of those that runc answers by ENOSYS."""
+        found = runtimes.applied({"defaultAction": ERRNO, "architectures": [X86_64],
+                                  "syscalls": [entry("read", "lchown")]}, "runc")
+        stub = answering_from(compiled(found.data), found.stub, 0x00050026)
+        for number in (95, 460, 0x3FFFFFFF):
+            hole = load(0) + jeq(number, 0, 1) + ret(ALLOWED) + insn(0, 0) + stub
+            comparison = Comparison([Filter("it", hole)], found.data, tables.read(None))
+            status, report, has_stub = newer.compared_with_stub(comparison, NATIVE, found.stub)
+            self.assertEqual((status, report.printed[0], has_stub, report.verdict.call.number),
+                             (1, "differs", False, number))
+            self.assertEqual((report.printed[2:4]), ["filter ALLOW 0", "profile ERRNO 38"])
+
     def test_without_the_library(self):
         library = runtimes.Library()
         self.assertEqual((library.number_of("mkdir"), library.number_of("no_such"), library.number_of("a\0b")),
                          (83, None, None))
         if library.is_there:
             self.assertLess(library.number_of("socketcall"), 0)
+        with mock.patch("ctypes.CDLL", side_effect=OSError("none")):
+            found = runtimes.applied(profile(entry("mkdir", "no_such")), "runc")
+        self.assertEqual((found.stub, found.remarks), (max(tables.read(None).numbers()) + 1, [
+            "there is no libseccomp.so.2 here to ask which names the runtime's doesn't know"]))
+        self.assertEqual(found.profile["syscalls"][1]["names"], ["mkdir"])
 
     def test_what_only_engines_read(self):
         for member, value in (("archMap", [{"architecture": X86_64}]), ("defaultErrno", "EPERM")):
@@ -315,6 +336,28 @@ class VerifyProcess(Case):
             found = json.loads(self.verify(process, MOBY, "--runtime", "docker", "--caps", "docker,SYS_ADMIN",
                                            "--json")[1])
             self.assertEqual(found["stacks"][0]["place"], 13)
+
+    def test_a_call_above_the_stub_that_is_allowed(self):
+        """Beside it, what runc answers by ENOSYS isn't told as what differs."""
+        if os.geteuid():
+            raise unittest.SkipTest("needs root")
+        table, given = tables.read(None), {"defaultAction": ERRNO, "architectures": [X86_64]}
+        given["syscalls"] = [entry(*(it for it in NAMES if table.number_of(it) <= 449))]
+        found = runtimes.applied(given, "runc")
+        stub = answering_from(compiled(found.data), 450, 0x00050026)
+        for number, name in ((460, "lsm_set_self_attr"), (0x3FFFFFFF, None)):
+            hole = load(0) + jeq(number, 0, 1) + ret(ALLOWED) + insn(0, 0) + stub
+            child, _ = started([[self.file("f.bpf", hole)]])
+            self.addCleanup(ended, child)
+            status, out, _ = self.verify(child.pid, given, "--runtime", "runc")
+            self.assertEqual((status, out.splitlines()[0]), (1, "differs"))
+            self.assertIn("# by the ENOSYS that runc puts before the filter\n", out)
+            self.assertEqual([line.split()[2] for line in out.splitlines() if " differs " in line], [name] if name else [])
+            found = json.loads(self.verify(child.pid, given, "--runtime", "runc", "--json")[1])["stacks"][0]
+            self.assertEqual((found["reason"], len(found["calls"]), "newer" in found), ("stub", 1 if name else 0, False))
+            child, _ = started([[self.file("f.bpf", stub)]])
+            self.addCleanup(ended, child)
+            self.assertEqual(self.verify(child.pid, given, "--runtime", "runc")[0], 0)
 
     def test_an_entry_that_is_never_handed_over(self):
         given = profile(entry("mkdir", action=ERRNO, errno=1), entry("mkdir"))
