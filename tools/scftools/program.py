@@ -44,6 +44,8 @@ def start(main: Callable[[], int]) -> NoReturn:
     # A reader that goes away ends the tool as it ends any other, and so does the user.
     signal.signal(signal.SIGPIPE, signal.SIG_DFL)
     signal.signal(signal.SIGINT, signal.SIG_DFL)
+    # Where it is ignored, which a program inherits, the kernel tells nobody how a child ended.
+    signal.signal(signal.SIGCHLD, signal.SIG_DFL)
     try:
         status = main()
     except SystemExit as ended:
@@ -102,6 +104,17 @@ def _program() -> str:
     return BUILT if os.access(BUILT, os.X_OK) else SCF
 
 
+def built() -> str | None:
+    """The program, where it is there without a build."""
+    if os.access(BUILT, os.X_OK):
+        return BUILT
+    try:
+        with open(SCF, "rb") as file:
+            return SCF if file.read(4) == b"\x7fELF" else None
+    except OSError:
+        return None
+
+
 def _holding(data: bytes) -> int:
     """A descriptor from which these bytes are read."""
     try:
@@ -129,15 +142,24 @@ def _all_of(file: int) -> bytes:
 
 def scf(words: Sequence[str], given: bytes | None = b"") -> Done:
     """Runs scf on these bytes; where they are None, on this process's standard input."""
+    done = run(_program(), words, given)
+    if done.status == NO_PROGRAM:
+        # its launcher has said why
+        finish(done.status)
+    return done
+
+
+def run(path: str, words: Sequence[str], given: bytes | None = b"") -> Done:
+    """Runs this program as scf."""
     ends = os.pipe()
     actions: list[tuple] = [(os.POSIX_SPAWN_DUP2, ends[1], 1)]
     source = None if given is None else _holding(given)
     if source is not None:
         actions.append((os.POSIX_SPAWN_DUP2, source, 0))
     try:
-        child = os.posix_spawn(_program(), ["scf", *words], os.environ, file_actions=actions)
+        child = os.posix_spawn(path, ["scf", *words], os.environ, file_actions=actions)
     except OSError as error:
-        raise Refused(f"scf can't be run: {_program()}: {error.strerror}", NO_PROGRAM) from error
+        raise Refused(f"scf can't be run: {path}: {error.strerror}", NO_PROGRAM) from error
     os.close(ends[1])
     if source is not None:
         os.close(source)
@@ -146,11 +168,7 @@ def scf(words: Sequence[str], given: bytes | None = b"") -> Done:
     state = os.waitpid(child, 0)[1]
     if os.WIFSIGNALED(state):
         raise Refused(f"scf was ended by signal {os.WTERMSIG(state)}", 128 + os.WTERMSIG(state))
-    status = os.WEXITSTATUS(state)
-    if status == NO_PROGRAM:
-        # its launcher has said why
-        finish(status)
-    return Done(status, out)
+    return Done(os.WEXITSTATUS(state), out)
 
 
 def print_version() -> int:

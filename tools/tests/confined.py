@@ -11,7 +11,7 @@ import unittest
 from common import ALLOW, EPERM, TOP, Case, comes, jeq, load, ret
 
 sys.path.insert(0, os.path.join(TOP, "tools"))
-from scftools import processes  # noqa: E402 pylint: disable=wrong-import-position
+from scftools import processes, ptrace  # noqa: E402 pylint: disable=wrong-import-position
 
 # Its words: a JSON list, for each thread the names of its filters' files, oldest first; the main thread's is the first.
 # Each thread is put under its own filters, the main one last, since threads that are begun later inherit them. It
@@ -62,10 +62,10 @@ def ended(child):
     """Ends a child, also where threads of it are still traced by this process, which must wait for each then."""
     child.kill()
     while child.poll() is None:
-        for thread in processes.numbers_in(f"/proc/{child.pid}/task"):
+        for thread in ptrace.numbers_in(f"/proc/{child.pid}/task"):
             try:
                 if thread != child.pid:
-                    os.waitpid(thread, processes.WALL | os.WNOHANG)
+                    os.waitpid(thread, ptrace.WALL | os.WNOHANG)
             except OSError:
                 pass
         time.sleep(0.001)
@@ -170,6 +170,7 @@ class FakeKernel:
     def __init__(self, filters=(), fails=None, states=(0x80057F,), status=None, listings=((7,),)):
         self.filters = filters
         self.fails = fails or {}
+        self.tool = os.getpid()
         self.states = list(states)
         self.listings = list(listings)
         self.status = {"Seccomp": "2", "State": "S (sleeping)", "Tgid": "7", **(status or {})}
@@ -179,14 +180,14 @@ class FakeKernel:
         self.held = set()
 
     def ptrace(self, request, thread, place, data):
-        self.asked.append((request, thread, data if request == processes.PTRACE_DETACH else place))
+        self.asked.append((request, thread, data if request == ptrace.PTRACE_DETACH else place))
         if request in self.fails:
             raise OSError(self.fails[request], os.strerror(self.fails[request]))
-        if request == processes.PTRACE_SEIZE:
+        if request == ptrace.PTRACE_SEIZE:
             self.held.add(thread)
-        elif request == processes.PTRACE_DETACH:
+        elif request == ptrace.PTRACE_DETACH:
             self.held.discard(thread)
-        if request != processes.PTRACE_SECCOMP_GET_FILTER:
+        if request != ptrace.PTRACE_SECCOMP_GET_FILTER:
             return 0
         return self.filter(thread, place, data)
 
@@ -202,6 +203,13 @@ class FakeKernel:
         if isinstance(state, Exception):
             raise state
         return state
+
+    def registers(self, _):
+        """Those of a thread that is in no system call."""
+        return {name: 2**64 - 1 if name == "orig_rax" else 0 for name in ptrace.REGISTERS}
+
+    def waits_for_supervisor(self, _):
+        return False
 
     def is_proc_ours(self):
         return True
@@ -226,6 +234,6 @@ class FakeKernel:
 
     def let_go(self):
         """The signals that threads were let go with."""
-        return [data for request, _, data in self.asked if request == processes.PTRACE_DETACH]
+        return [data for request, _, data in self.asked if request == ptrace.PTRACE_DETACH]
 
 

@@ -12,7 +12,8 @@ import unittest
 
 from common import (ALLOW, EPERM, I386, KILL_PROCESS, PATIENCE, SCF, TOP, X86_64, comes, jeq, jge, load, module,
                     profile_of, ret, tool)
-from confined import CHILD, NEWEST, OLDEST, OTHER, Confined, ended, here, processes, status_of
+from confined import CHILD, NEWEST, OLDEST, OTHER, Confined, ended, here, processes, ptrace, status_of
+from scftools import containers
 
 filters_of = module("filters-of")
 ALLOWS_ALL = b'{"defaultAction":"SCMP_ACT_ALLOW"}'
@@ -405,7 +406,7 @@ class Containers(Confined):
 
     def skip_in_a_group(self, pid):
         kernel = processes.Kernel()
-        if any(kernel.groups_of(pid).get(name, b"/") != b"/" for name in processes.HIERARCHIES):
+        if any(kernel.groups_of(pid).get(name, b"/") != b"/" for name in containers.HIERARCHIES):
             self.skipTest("the tests run in a control group of their own")
         if not kernel.is_root_the_first():
             self.skipTest("the tests run in a cgroup namespace of their own")
@@ -429,7 +430,7 @@ class Containers(Confined):
         self.addCleanup(ended, child)
         if child.stdout.readline() != "1\n":
             self.skipTest("no PID namespace can be made here")
-        first = processes.numbers_in(f"/proc/{child.pid}/task") and self.children(child.pid)[0]
+        first = ptrace.numbers_in(f"/proc/{child.pid}/task") and self.children(child.pid)[0]
         self.skip_in_a_group(first)
         self.do(child, f"(os.fork() or (confine([{lax!r}]), time.sleep(1000))); confine([{kept!r}]); "
                        f"print(2, flush=True)")

@@ -12,18 +12,23 @@ import unittest
 from unittest import mock
 
 from common import ALLOW, PATIENCE, Case, ret
-from confined import NEWEST, OLDEST, OTHER, Confined, FakeKernel, here, processes
+from confined import NEWEST, OLDEST, OTHER, Confined, FakeKernel, here, processes, ptrace
+from scftools import child as children
+from scftools import containers, hold
 
-SEIZE, INTERRUPT, DETACH, GET = (processes.PTRACE_SEIZE, processes.PTRACE_INTERRUPT, processes.PTRACE_DETACH,
-                                 processes.PTRACE_SECCOMP_GET_FILTER)
+SEIZE, INTERRUPT, DETACH, GET = (ptrace.PTRACE_SEIZE, ptrace.PTRACE_INTERRUPT, ptrace.PTRACE_DETACH,
+                                 ptrace.PTRACE_SECCOMP_GET_FILTER)
 STOPPED = 0x80057F
+# A look in the process of the test, where it sees what is asked.
+here_and_now = mock.patch.object(children, "run", lambda work, _: work())
 
 
 class Asked(Case):
     """What is asked of a kernel, and what is said where it refuses."""
 
-    def look(self, kernel, **settings):
-        return processes.look_at_process(kernel, 7, **settings)
+    def look(self, kernel, process=7, **settings):
+        with here_and_now:
+            return processes.look_at_process(kernel, process, **settings)
 
     def refused(self, kernel, says, **settings):
         with self.assertRaises(processes.Unreadable) as caught:
@@ -67,7 +72,7 @@ class Asked(Case):
     def test_threads_that_never_stop_coming(self):
         kernel, count = FakeKernel([OLDEST]), itertools.count(8)
         kernel.threads_of = lambda _: range(7, next(count))
-        self.refused(kernel, "threads came and went for 0.05 seconds", patience=0.05)
+        self.refused(kernel, "threads came and went for 0.045 seconds", patience=0.05)
 
     def test_equal_filters_are_one_stack_and_others_are_not(self):
         kernel = FakeKernel(listings=[(7, 8, 9, 10)])
@@ -126,10 +131,10 @@ class Asked(Case):
             self.refused(kernel, says)
             self.assertEqual(kernel.let_go(), [])
         kernel = FakeKernel([OLDEST], {SEIZE: errno.EPERM})
-        kernel.flags = processes.PF_KTHREAD
+        kernel.flags = hold.PF_KTHREAD
         self.refused(kernel, "process 7 is a thread of the kernel")
         kernel = FakeKernel([OLDEST], {SEIZE: errno.EPERM})
-        kernel.own["CapEff"] = f"{1 << processes.CAP_SYS_ADMIN:x}"
+        kernel.own["CapEff"] = f"{1 << hold.CAP_SYS_ADMIN:x}"
         self.refused(kernel, "without CAP_SYS_PTRACE: run this as root")
         self.refused(FakeKernel([OLDEST], {SEIZE: errno.ESRCH}, listings=[(7,), ()]), "process 7 ended meanwhile")
 
@@ -195,14 +200,14 @@ class Asked(Case):
         with self.assertRaises(processes.Unreadable) as caught:
             self.look(kernel, patience=0.01)
         self.assertEqual(str(caught.exception),
-                         "process 7 didn't stop within 0.01 seconds: its state is D (disk sleep)")
+                         "process 7 didn't stop within 0.009 seconds: its state is D (disk sleep)")
 
     def test_one_that_does_not_stop_does_not_hold_the_others(self):
         """The others are let go while it is waited for, and stopped again."""
         kernel = FakeKernel([OLDEST], listings=[(7, 8)])
         states = {7: iter([STOPPED] * 9), 8: iter([None] * 2 + [STOPPED] * 9)}
         kernel.wait = lambda thread: next(states[thread])
-        with mock.patch.object(processes, "HELD_FOR_ONE", 0):
+        with mock.patch.object(hold, "HELD_FOR_ONE", 0):
             found = self.look(kernel)
         self.assertEqual(found.stacks[0].threads, {7: [7, 8]})
         asked = [(request, thread) for request, thread, _ in kernel.asked if request in (SEIZE, DETACH)]
@@ -217,31 +222,6 @@ class Asked(Case):
                 self.look(kernel)
             self.assertEqual((kernel.held, kernel.let_go()), (set(), [0, 0, 0]))
             self.assertEqual(signal.pthread_sigmask(signal.SIG_BLOCK, ()), set())
-
-    def test_signals_wait_until_all_are_let_go(self):
-        for number in (signal.SIGTERM, signal.SIGINT, signal.SIGHUP):
-            came = []
-            old = signal.signal(number, lambda it, _: came.append(it))
-            self.addCleanup(signal.signal, number, old)
-            kernel = FakeKernel([OLDEST])
-
-            def signalled(_, number=number):
-                os.kill(os.getpid(), number)
-                return b"fake"
-
-            kernel.name_of = signalled
-            with self.assertRaises(processes.Interrupted) as caught:
-                self.look(kernel)
-            self.assertEqual((caught.exception.args, kernel.held, came), ((number,), set(), []))
-
-    def test_other_signals_come_once_all_are_let_go(self):
-        kernel = FakeKernel([OLDEST])
-        held = []
-        old = signal.signal(signal.SIGUSR1, lambda *_: held.append(set(kernel.held)))
-        self.addCleanup(signal.signal, signal.SIGUSR1, old)
-        kernel.name_of = lambda _: os.kill(os.getpid(), signal.SIGUSR1) or b"fake"
-        self.look(kernel)
-        self.assertEqual(held, [set()])
 
     def test_threads_are_waited_for_whatever_they_are(self):
         with mock.patch("os.waitpid", return_value=(0, 0)) as wait:
@@ -295,7 +275,7 @@ class Asked(Case):
     def test_the_name_of_a_group_is_a_stranger_s(self):
         group = b"/\x1b[2J\xff/box"
         self.assertEqual(processes.Container(group, list).told, "the control group /\\x1b[2J\\xff/box")
-        with mock.patch.object(processes, "contents", return_value=b"0::/a:b\n3:cpu,cpuacct:" + group + b"\nx\n"):
+        with mock.patch.object(ptrace, "contents", return_value=b"0::/a:b\n3:cpu,cpuacct:" + group + b"\nx\n"):
             self.assertEqual(processes.Kernel().groups_of(7), {"": b"/a:b", "cpu": group, "cpuacct": group})
 
     def test_numbers_told(self):
@@ -345,7 +325,8 @@ class Real(Confined):
         # five times, and until some are begun
         while (len(held) < 5 or len(held[-1]) == 1) and time.monotonic() < until:
             time.sleep(0.005)
-            found = processes.look_at_process(kernel, child.pid, patience=PATIENCE)
+            with here_and_now:
+                found = processes.look_at_process(kernel, child.pid, patience=PATIENCE)
             self.assertEqual([stack.threads for stack in found.stacks], [{child.pid: held[-1]}])
         self.assertGreater(len(held[-1]), 1)
 
@@ -367,7 +348,7 @@ class Real(Confined):
 
     def test_a_thread_of_the_kernel(self):
         kernel = processes.Kernel()
-        number = next((it for it in kernel.processes() if kernel.flags_of(it) & processes.PF_KTHREAD), None)
+        number = next((it for it in kernel.processes() if kernel.flags_of(it) & hold.PF_KTHREAD), None)
         if number is None:
             self.skipTest("no thread of the kernel is seen here")
         with self.assertRaises(processes.Unreadable) as caught:
@@ -383,7 +364,7 @@ class Real(Confined):
                                str(child.pid)], stdout=subprocess.PIPE, text=True, check=True).stdout
         self.assertIn(f"process {child.pid} is traced by process {os.getpid()} already", said)
         kernel.ptrace(INTERRUPT, child.pid, None, None)
-        os.waitpid(child.pid, processes.WALL)
+        os.waitpid(child.pid, ptrace.WALL)
         kernel.ptrace(DETACH, child.pid, None, None)
         self.runs_on(child)
 
@@ -438,7 +419,7 @@ class Real(Confined):
         child, fifo = self.stuck([OLDEST])
         said = subprocess.run([sys.executable, "-c", TRY, os.path.dirname(os.path.dirname(processes.__file__)),
                                str(child.pid), "0.5"], stdout=subprocess.PIPE, text=True, check=True).stdout
-        self.assertEqual(said, f"process {child.pid} didn't stop within 0.5 seconds: its state is D (disk sleep)\n")
+        self.assertEqual(said, f"process {child.pid} didn't stop within 0.45 seconds: its state is D (disk sleep)\n")
         with open(fifo, "wb"):
             self.wait_for(child.pid, "S")
             self.runs_on(child)

@@ -1,0 +1,131 @@
+"""A function that runs in a child process, and ends in time whatever system call it waits in.
+
+The child has what a tool that traces others needs: the tool's signals are handed on to it, so that it ends in order,
+and so it does where the tool itself is killed. A tool that is stopped (SIGSTOP) doesn't stop its child. Where the time
+is up, the tool kills it, and where the tool can't, a timer of the child's own does: the kernel then lets go of all that
+it traced.
+"""
+from __future__ import annotations
+
+import ctypes
+import os
+import pickle
+import select
+import signal
+import time
+from collections.abc import Callable
+
+TYPE_CHECKING = False
+if TYPE_CHECKING:
+    from typing import NoReturn, TypeVar
+
+    Result = TypeVar("Result")
+
+# linux/prctl.h
+PR_SET_PDEATHSIG = 1
+# The signals that end a tool where they aren't ignored.
+ENDING = (signal.SIGHUP, signal.SIGINT, signal.SIGQUIT, signal.SIGTERM)
+# How often the tool looks for signals while it waits for the child, how much later than the tool the child's own timer
+# ends it, and how long a child that was killed is waited for, in seconds.
+PAUSE, TIMER_DELAY, LAST_WAIT = 0.05, 0.5, 0.2
+
+
+class Interrupted(Exception):
+    """This signal, which ends the tool, came meanwhile; it was taken."""
+
+
+class Late(Exception):
+    """The child didn't end in time, and was killed."""
+
+
+class Died(Exception):
+    """The child ended without a result."""
+
+
+def look_for_signals() -> None:
+    """Where the child is to end early, an exception in it."""
+    came = signal.sigtimedwait(ENDING, 0)
+    if came:
+        raise Interrupted(came.si_signo)
+
+
+def run(work: Callable[[], Result], seconds: float) -> Result:
+    """What a function returns or raises in a child process. The function calls `look_for_signals` now and then."""
+    until = time.monotonic() + seconds
+    heeded = {it for it in ENDING if signal.getsignal(it) != signal.SIG_IGN}
+    parent = os.getpid()
+    mask = set(signal.pthread_sigmask(signal.SIG_BLOCK, signal.valid_signals()))
+    try:
+        ends = os.pipe()
+        child = os.fork()
+        if not child:
+            os.close(ends[0])
+            _be_child(work, ends[1], seconds, parent)
+        os.close(ends[1])
+        signal.pthread_sigmask(signal.SIG_SETMASK, mask | heeded)
+        try:
+            data = _output_of(child, ends[0], heeded - mask, until)
+        except BaseException:
+            os.kill(child, signal.SIGKILL)
+            raise
+        finally:
+            os.close(ends[0])
+            _wait_for(child)
+    finally:
+        signal.pthread_sigmask(signal.SIG_SETMASK, mask)
+    if not data:
+        raise Died("the process that looked ended without a result")
+    is_well, result = pickle.loads(data)
+    if not is_well:
+        raise result
+    return result
+
+
+def _output_of(child: int, file: int, heeded: set[int], until: float) -> bytes:
+    """All that the child writes; it is told of the signals that end this process."""
+    pieces: list[bytes] = []
+    while True:
+        left = until - time.monotonic()
+        if left <= 0:
+            raise Late()
+        if select.select([file], [], [], min(left, PAUSE))[0]:
+            pieces.append(os.read(file, 1 << 16))
+            if not pieces[-1]:
+                return b"".join(pieces)
+        came = signal.sigtimedwait(heeded, 0) if heeded else None
+        if came:
+            os.kill(child, came.si_signo)
+
+
+def _wait_for(child: int) -> None:
+    """Waits for a child that has ended or was killed, unless a system call keeps it even then."""
+    until = time.monotonic() + LAST_WAIT
+    try:
+        while not os.waitpid(child, os.WNOHANG)[0] and time.monotonic() < until:
+            time.sleep(0.001)
+    except ChildProcessError:
+        # SIGCHLD is ignored
+        pass
+
+
+def _be_child(work: Callable[[], Result], file: int, seconds: float, parent: int) -> NoReturn:
+    """Runs the function, with all signals blocked but that of the timer."""
+    try:
+        os.setpgid(0, 0)
+        for number in (*ENDING, signal.SIGALRM):
+            signal.signal(number, signal.SIG_DFL)
+        signal.setitimer(signal.ITIMER_REAL, seconds + TIMER_DELAY)
+        signal.pthread_sigmask(signal.SIG_UNBLOCK, (signal.SIGALRM,))
+        ctypes.CDLL(None).prctl(PR_SET_PDEATHSIG, signal.SIGTERM, 0, 0, 0)
+        if os.getppid() != parent:
+            os.kill(os.getpid(), signal.SIGTERM)
+        result: tuple[bool, object] = True, work()
+    except BaseException as error:  # pylint: disable=broad-exception-caught
+        result = False, error
+    try:
+        rest = memoryview(pickle.dumps(result))
+        while rest:
+            rest = rest[os.write(file, rest):]
+    finally:
+        # without the interpreter's end, which would print what the tool is about to print
+        os._exit(0)

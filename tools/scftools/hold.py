@@ -1,0 +1,378 @@
+"""Threads that are held still by ptrace(2) while their filters are read.
+
+Threads are stopped one by one (PTRACE_SEIZE, PTRACE_INTERRUPT) and listed again and again until all that are listed are
+stopped, so that none comes unseen. All run on (PTRACE_DETACH), whatever happens meanwhile.
+"""
+from __future__ import annotations
+
+import ctypes
+import errno
+import os
+import struct
+import threading
+import time
+from collections.abc import Callable
+
+from . import child, restart
+from .ptrace import (PTRACE_DETACH, PTRACE_EVENT_STOP, PTRACE_INTERRUPT, PTRACE_SECCOMP_GET_FILTER, PTRACE_SEIZE,
+                     Kernel, contents)
+
+# linux/bpf_common.h and linux/filter.h: the most instructions of a filter, and the bytes of one.
+MAX_INSTRUCTIONS = 4096
+INSTRUCTION = 8
+# linux/capability.h
+CAP_SYS_PTRACE = 19
+CAP_SYS_ADMIN = 21
+# linux/sched.h: threads of the kernel, and those that it adds to a process to work for it.
+PF_KTHREAD = 0x00200000
+PF_IO_WORKER = 0x00000010
+PF_USER_WORKER = 0x00004000
+# How long the others are held for one that doesn't stop, in seconds: it may wait for one of them, as a thread in
+# vfork(2) does.
+HELD_FOR_ONE = 0.2
+# How long the kernel may refuse to stop a thread before that is believed, and how often it is asked, in seconds.
+REFUSED_FOR, PAUSE = 0.1, 0.005
+# The state of a stopped thread, as waitpid(2) gives it.
+STOPPED = 0x7F
+
+
+class Unreadable(Exception):
+    """The filters can't be had, and why."""
+
+
+class Waiting(Unreadable):
+    """A thread isn't stopped since it waits for a supervisor."""
+
+
+class Ended(Exception):
+    """This thread isn't there any more."""
+
+
+def called(thread: int, process: int) -> str:
+    return f"process {process}" if thread == process else f"thread {thread} of process {process}"
+
+
+def require_rights(kernel: Kernel) -> None:
+    """Says why no filters can be had by this tool, before any process is stopped."""
+    if os.uname().machine != "x86_64" or struct.calcsize("P") != 8:
+        raise Unreadable("only on x86-64, and with a Python of 64 bits, are processes looked at")
+    if not kernel.is_proc_ours():
+        raise Unreadable("/proc isn't mounted, or isn't that of this tool's PID namespace")
+    own = kernel.status_of(os.getpid())
+    if own.get("Seccomp", "0") != "0":
+        raise Unreadable("this tool runs under a filter itself, and to such a one the kernel shows none: run it "
+                         "outside of containers")
+    held = int(own.get("CapEff", "0"), 16)
+    if not held >> CAP_SYS_ADMIN & 1:
+        raise Unreadable("the kernel shows filters only to a process with CAP_SYS_ADMIN: run this as root, outside of "
+                         "containers")
+
+
+def why_it_makes_no_calls(kernel: Kernel, thread: int, process: int) -> str | None:
+    """Why a thread that can't be stopped needs not be, or None where it may make calls."""
+    if process in (kernel.tool, os.getpid()):
+        return "is this tool itself"
+    if kernel.status_of(thread).get("State", "Z")[:1] in "ZX":
+        return "has ended, and only waits for its parent to ask how (it is a zombie)"
+    if kernel.flags_of(thread) & (PF_KTHREAD | PF_IO_WORKER | PF_USER_WORKER):
+        return "is a thread of the kernel, which makes no system calls"
+    return None
+
+
+def why_not_stopped(kernel: Kernel, thread: int, process: int, error: OSError) -> str:
+    who = called(thread, process)
+    if error.errno not in (errno.EPERM, errno.EACCES):
+        return f"{who} can't be stopped: {error.strerror}"
+    tracer = kernel.status_of(thread).get("TracerPid", "0")
+    if tracer != "0":
+        return f"{who} is traced by process {tracer} already, and the kernel lets no second one trace it"
+    if not int(kernel.status_of(os.getpid()).get("CapEff", "0"), 16) >> CAP_SYS_PTRACE & 1:
+        return f"{who} can't be stopped without CAP_SYS_PTRACE: run this as root, outside of containers"
+    if contents("/proc/sys/kernel/yama/ptrace_scope").strip() == b"3":
+        return f"{who} can't be stopped: on this kernel nobody may trace (kernel.yama.ptrace_scope is 3)"
+    return f"{who} can't be stopped ({error.strerror}): run this as root, outside of containers"
+
+
+def signal_of(state: int) -> int:
+    """The signal that a thread was stopped at and is to get when it runs on, 0 for none."""
+    return 0 if state >> 16 == PTRACE_EVENT_STOP else os.WSTOPSIG(state)
+
+
+class Hold:
+    """Threads that are stopped, and that run on where the block that holds them ends, whatever ends it."""
+
+    def __init__(self, kernel: Kernel, listed: Callable[[], dict[int, int]], patience: float,
+                 is_forced: bool = False) -> None:
+        self.kernel = kernel
+        self.listed = listed
+        self.patience = patience
+        self.until = time.monotonic() + patience
+        # Whether threads are stopped that wait for a supervisor, too.
+        self.is_forced = is_forced
+        self.process_of: dict[int, int] = {}
+        # The threads that are traced and run, those of them that were told to stop and haven't yet, and the stopped
+        # ones, each with the signal that it gets when it runs on.
+        self.seized: set[int] = set()
+        self.stopping: set[int] = set()
+        self.stopped: dict[int, int] = {}
+        self.restarts = restart.Restarts(kernel)
+        self.passed_over: dict[int, str] = {}
+        # Since when the kernel has refused to stop a thread.
+        self.refused: dict[int, float] = {}
+        # Held by this thread, but for the time in which it waits in PTRACE_SEIZE; then the other one waits for threads,
+        # and puts down here what became of them.
+        self.lock = threading.Lock()
+        self.states: dict[int, int] = {}
+        self.is_over = False
+
+    def __enter__(self) -> Hold:
+        self.lock.acquire()
+        threading.Thread(target=self.reap, daemon=True).start()
+        return self
+
+    def __exit__(self, *_: object) -> None:
+        try:
+            self.until = max(self.until, time.monotonic() + HELD_FOR_ONE)
+            while any(map(self.wakes, self.stopping)) and time.monotonic() < self.until:
+                self.settle(PAUSE)
+            self.let_stopped_go()
+        finally:
+            self.is_over = True
+            self.lock.release()
+
+    def wakes(self, thread: int) -> bool:
+        """Whether a thread that was told to stop may yet: one that sleeps uninterruptibly doesn't."""
+        return self.kernel.status_of(thread).get("State", "D")[:1] != "D"
+
+    def reap(self) -> None:
+        """Waits for threads while the tracing one waits in PTRACE_SEIZE.
+
+        That waits for a thread which executes a program, and this one in turn for the others of its process to end, of
+        which the traced ones do only once they are waited for.
+        """
+        while not self.is_over:
+            time.sleep(PAUSE)
+            with self.lock:
+                for thread in {*self.seized, *self.stopping, *self.stopped}:
+                    if os.WIFSTOPPED(self.states.get(thread, STOPPED)):
+                        self.states.update({thread: state for state in self.state_of(thread)})
+
+    def seize(self, thread: int) -> None:
+        self.lock.release()
+        try:
+            self.kernel.ptrace(PTRACE_SEIZE, thread, None, None)
+        finally:
+            self.lock.acquire()
+            states, self.states = self.states, {}
+            for other, state in states.items():
+                self.note(other, state)
+
+    def stop_all(self) -> None:
+        """Stops threads until all that are listed are stopped."""
+        while self.seize_listed() or self.seized or self.stopping:
+            if self.waiting():
+                self.let_stopped_go()
+                time.sleep(PAUSE)
+                self.look_at_traced()
+            else:
+                self.interrupt_seized()
+                self.settle(HELD_FOR_ONE)
+                if self.stopping:
+                    self.let_stopped_go()
+                    self.settle(HELD_FOR_ONE)
+            child.look_for_signals()
+            if time.monotonic() > self.until:
+                raise self.why_impatient()
+
+    def waiting(self) -> list[int]:
+        """The threads that aren't to be stopped, since their calls would go to their supervisors again."""
+        return [] if self.is_forced else [it for it in sorted(self.seized) if self.kernel.waits_for_supervisor(it)]
+
+    def seize_listed(self) -> bool:
+        """Traces each thread that is listed, and says whether the list was another one than what is held."""
+        listed = self.listed()
+        held = {*self.seized, *self.stopping, *self.stopped}
+        others = held - set(listed)
+        for thread in sorted(others):
+            self.drop(thread)
+        self.process_of.update(listed)
+        told = [self.trace(thread, process) for thread, process in listed.items() if thread not in held]
+        return bool(others) or any(told)
+
+    def trace(self, thread: int, process: int) -> bool:
+        """Whether there was a change: the thread is traced, or has ended since it was listed, or may yet be traced."""
+        try:
+            if process in (self.kernel.tool, os.getpid()):
+                raise OSError(errno.EPERM, os.strerror(errno.EPERM))
+            self.seize(thread)
+        except OSError as error:
+            return self.is_change(thread, process, error)
+        self.refused.pop(thread, None)
+        self.seized.add(thread)
+        return True
+
+    def is_change(self, thread: int, process: int, error: OSError) -> bool:
+        """Whether a thread that wasn't traced is to be listed again."""
+        if error.errno == errno.ESRCH:
+            return True
+        if self.kernel.status_of(thread).get("TracerPid") == str(os.getpid()):
+            # it had another number before it executed a program
+            self.seized.add(thread)
+            return True
+        why = why_it_makes_no_calls(self.kernel, thread, process)
+        if why is not None:
+            self.passed_over[process] = why
+            return False
+        # one that ends, or executes a program, is refused for a moment
+        if time.monotonic() - self.refused.setdefault(thread, time.monotonic()) < REFUSED_FOR:
+            time.sleep(PAUSE)
+            return True
+        raise Unreadable(why_not_stopped(self.kernel, thread, process, error)) from error
+
+    def interrupt_seized(self) -> None:
+        """Tells those that run to stop."""
+        for thread in sorted(self.seized):
+            try:
+                self.kernel.ptrace(PTRACE_INTERRUPT, thread, None, None)
+            except OSError:
+                # it has ended
+                pass
+            self.stopping.add(thread)
+        self.seized.clear()
+
+    def settle(self, seconds: float) -> None:
+        """Waits for those that were told to stop, no longer than this."""
+        until = min(time.monotonic() + seconds, self.until)
+        while True:
+            self.look_at_traced()
+            if not self.stopping or time.monotonic() > until:
+                return
+            time.sleep(0.0005)
+
+    def look_at_traced(self) -> None:
+        for thread in (*self.seized, *self.stopping):
+            for state in self.state_of(thread):
+                self.note(thread, state)
+
+    def state_of(self, thread: int) -> tuple[int, ...]:
+        """The state that a thread stopped or ended in, if it did; 0 of one that isn't there."""
+        try:
+            state = self.kernel.wait(thread)
+        except OSError:
+            return (0,)
+        return () if state is None else (state,)
+
+    def note(self, thread: int, state: int) -> None:
+        """A thread has stopped or ended."""
+        self.forget(thread)
+        if not os.WIFSTOPPED(state):
+            return
+        self.stopped[thread] = signal_of(state)
+        try:
+            self.restarts.at_stop(thread)
+        except OSError as error:
+            # else it was ended
+            if error.errno != errno.ESRCH:
+                raise Unreadable(f"the registers of {called(thread, self.process_of[thread])} can't be read and set: "
+                                 f"{error.strerror}") from error
+
+    def forget(self, thread: int) -> None:
+        self.seized.discard(thread)
+        self.stopping.discard(thread)
+        self.stopped.pop(thread, None)
+
+    def drop(self, thread: int) -> None:
+        """Lets a thread go that isn't to be held any more, whether it is there or has ended."""
+        given = self.stopped.get(thread, 0)
+        if thread in self.restarts.changed:
+            self.choose_restart(thread)
+        self.restarts.forget(thread)
+        self.forget(thread)
+        try:
+            self.kernel.ptrace(PTRACE_DETACH, thread, None, given)
+        except OSError:
+            # It ended, which its parent is told only when its tracer has asked for it; or it never stopped, and then
+            # the kernel lets it go when this process ends.
+            self.state_of(thread)
+
+    def choose_restart(self, thread: int) -> None:
+        """Chooses how a stopped thread's call goes on; where that can't be, it begins anew."""
+        try:
+            filters, _ = stack_of(self.kernel, thread, self.process_of[thread])
+            self.restarts.before_it_runs_on(thread, filters)
+        except (OSError, Ended, Unreadable):
+            pass
+
+    def let_stopped_go(self) -> None:
+        for thread in list(self.stopped):
+            self.drop(thread)
+
+    def why_impatient(self) -> Unreadable:
+        for thread in self.waiting():
+            return Waiting(f"{called(thread, self.process_of[thread])} has waited for {self.patience:g} seconds for the "
+                           f"answer of a seccomp supervisor; if it were stopped, its system call would be made twice")
+        for thread in sorted(self.stopping):
+            state = self.kernel.status_of(thread).get("State", "none")
+            return Unreadable(f"{called(thread, self.process_of[thread])} didn't stop within {self.patience:g} seconds: "
+                              f"its state is {state}")
+        return Unreadable(f"threads came and went for {self.patience:g} seconds, faster than all of them can be stopped")
+
+
+def why_no_filter(kernel: Kernel, thread: int, process: int, place: int, error: OSError) -> str:
+    if error.errno == errno.EACCES:
+        return ("the kernel shows filters only to a process with CAP_SYS_ADMIN that has no filter of its own: run this "
+                "as root, outside of containers")
+    if error.errno == errno.EINVAL:
+        return "this kernel doesn't show filters: it was built without CONFIG_CHECKPOINT_RESTORE"
+    if error.errno in (errno.EIO, errno.ENOSYS):
+        return f"this kernel doesn't show filters: {error.strerror}"
+    if error.errno == errno.EMEDIUMTYPE:
+        return (f"filter {place} of {called(thread, process)} isn't kept as classic BPF, so that the kernel can't show "
+                f"it")
+    return f"filter {place} of {called(thread, process)} can't be read: {error.strerror}"
+
+
+def filter_at(kernel: Kernel, thread: int, process: int, place: int) -> bytes | None:
+    """The bytes of the filter at this place, 0 being the oldest, or None behind the newest.
+
+    ptrace(2) says that 0 is the newest; the kernel counts from the oldest (get_nth_filter in kernel/seccomp.c). The
+    length is asked before the copy and told by it, and the room is that of the longest filter.
+    """
+    room = ctypes.create_string_buffer(MAX_INSTRUCTIONS * INSTRUCTION)
+    try:
+        count = kernel.ptrace(PTRACE_SECCOMP_GET_FILTER, thread, place, None)
+        if count <= MAX_INSTRUCTIONS:
+            again = kernel.ptrace(PTRACE_SECCOMP_GET_FILTER, thread, place, ctypes.cast(room, ctypes.c_void_p))
+    except OSError as error:
+        if error.errno == errno.ENOENT:
+            return None
+        if error.errno == errno.ESRCH:
+            raise Ended(thread) from error
+        mode = kernel.status_of(thread).get("Seccomp")
+        if error.errno == errno.EINVAL and place == 0 and mode in ("0", "1"):
+            return None
+        raise Unreadable(why_no_filter(kernel, thread, process, place, error)) from error
+    if count > MAX_INSTRUCTIONS:
+        raise Unreadable(f"filter {place} of {called(thread, process)} has {count} instructions, more than a filter "
+                         f"may have")
+    if again != count:
+        raise Unreadable(f"filter {place} of {called(thread, process)} changed its length from {count} to {again} "
+                         f"while it was read")
+    return room.raw[: count * INSTRUCTION]
+
+
+def stack_of(kernel: Kernel, thread: int, process: int) -> tuple[tuple[bytes, ...], bool]:
+    """The filters of a stopped thread, oldest first, and whether it is in the strict mode in place of any."""
+    filters: list[bytes] = []
+    while True:
+        data = filter_at(kernel, thread, process, len(filters))
+        if data is None:
+            break
+        filters.append(data)
+    status = kernel.status_of(thread)
+    if not status:
+        raise Ended(thread)
+    counted = status.get("Seccomp_filters")
+    if counted is not None and counted != str(len(filters)):
+        raise Unreadable(f"the kernel counts {counted} filters of {called(thread, process)} and shows {len(filters)}")
+    return tuple(filters), status.get("Seccomp") == "1"

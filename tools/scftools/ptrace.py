@@ -1,0 +1,161 @@
+"""What is asked of the kernel of processes: by ptrace(2), and by the files of /proc (proc(5))."""
+from __future__ import annotations
+
+import ctypes
+import errno
+import fcntl
+import os
+import struct
+
+# sys/ptrace.h
+PTRACE_POKEUSER = 6
+PTRACE_GETREGS = 12
+PTRACE_DETACH = 17
+PTRACE_SEIZE = 0x4206
+PTRACE_INTERRUPT = 0x4207
+PTRACE_SECCOMP_GET_FILTER = 0x420C
+PTRACE_GET_SYSCALL_INFO = 0x420E
+PTRACE_EVENT_STOP = 128
+# sys/user.h: struct user_regs_struct, which the kernel shows to a 64-bit tracer whatever the thread runs.
+REGISTERS = ("r15", "r14", "r13", "r12", "rbp", "rbx", "r11", "r10", "r9", "r8", "rax", "rcx", "rdx", "rsi", "rdi",
+             "orig_rax", "rip", "cs", "eflags", "rsp", "ss", "fs_base", "gs_base", "ds", "es", "fs", "gs")
+WORD = 8
+# linux/ptrace.h: the beginning of struct ptrace_syscall_info, which holds the architecture of the system call.
+SYSCALL_INFO = struct.Struct("<B3xI")
+# linux/wait.h: wait for threads too. Since Linux 4.7 the kernel takes it for granted of what is traced; before, a
+# thread that isn't the main one of its process is waited for by this alone.
+WALL = 0x40000000
+# linux/nsfs.h
+NS_GET_PARENT = 0xB702
+# linux/proc_ns.h: the number of the initial cgroup namespace.
+PROC_CGROUP_INIT_INO = 0xEFFFFFFB
+# The most bytes of a file of /proc that are read.
+MAX_CONTENTS = 1 << 20
+
+
+def numbers_in(folder: str) -> list[int]:
+    try:
+        return sorted(int(name) for name in os.listdir(folder) if name.isascii() and name.isdigit())
+    except OSError:
+        return []
+
+
+def contents(path: str) -> bytes:
+    """What a file of /proc holds; nothing where it isn't there."""
+    try:
+        with open(path, "rb") as file:
+            return file.read(MAX_CONTENTS)
+    except OSError:
+        return b""
+
+
+class Kernel:
+    """What is asked of the kernel; an OSError where a call of it fails."""
+
+    def __init__(self) -> None:
+        self.library = ctypes.CDLL(None, use_errno=True)
+        self.library.ptrace.restype = ctypes.c_long
+        self.library.ptrace.argtypes = [ctypes.c_long, ctypes.c_long, ctypes.c_void_p, ctypes.c_void_p]
+        # The tool that looks, which may do that in a child.
+        self.tool = os.getpid()
+
+    def ptrace(self, request: int, thread: int, place: int | None, data: object) -> int:
+        answer: int = self.library.ptrace(request, thread, place, data)
+        if answer < 0:
+            number = ctypes.get_errno()
+            raise OSError(number, os.strerror(number))
+        return answer
+
+    def registers(self, thread: int) -> dict[str, int]:
+        """The registers of a stopped thread."""
+        room = (ctypes.c_uint64 * len(REGISTERS))()
+        self.ptrace(PTRACE_GETREGS, thread, None, ctypes.cast(room, ctypes.c_void_p))
+        return dict(zip(REGISTERS, room))
+
+    def set_result(self, thread: int, result: int) -> None:
+        """Sets what the system call returns in which a thread is stopped."""
+        self.ptrace(PTRACE_POKEUSER, thread, REGISTERS.index("rax") * WORD, result & 0xFFFFFFFFFFFFFFFF)
+
+    def architecture_of_call(self, thread: int) -> int | None:
+        """The architecture of the system call in which a thread is stopped; None before Linux 5.3."""
+        room = ctypes.create_string_buffer(SYSCALL_INFO.size)
+        try:
+            self.ptrace(PTRACE_GET_SYSCALL_INFO, thread, SYSCALL_INFO.size, ctypes.cast(room, ctypes.c_void_p))
+        except OSError:
+            return None
+        return SYSCALL_INFO.unpack(room.raw)[1]
+
+    def waits_for_supervisor(self, thread: int) -> bool:
+        """Whether a thread waits for a supervisor's answer to its system call (seccomp_unotify(2)): then it is in
+        seccomp_do_user_notification of kernel/seccomp.c."""
+        return b"seccomp" in contents(f"/proc/{thread}/wchan")
+
+    def wait(self, thread: int) -> int | None:
+        """The state that the thread stopped or ended in, or None where it is in none yet."""
+        found, state = os.waitpid(thread, WALL | os.WNOHANG)
+        return state if found else None
+
+    def is_proc_ours(self) -> bool:
+        """Whether /proc is mounted, and is that of this tool's PID namespace."""
+        try:
+            return os.readlink("/proc/self") == str(os.getpid())
+        except OSError:
+            return False
+
+    def processes(self) -> list[int]:
+        return numbers_in("/proc")
+
+    def threads_of(self, process: int) -> list[int]:
+        """The threads of a process; none where there is no such process."""
+        return numbers_in(f"/proc/{process}/task")
+
+    def status_of(self, thread: int) -> dict[str, str]:
+        """The lines of /proc/THREAD/status, by name; none where there is no such thread. The kernel escapes names."""
+        lines = contents(f"/proc/{thread}/status").decode("utf-8", "replace").split("\n")
+        return {name: value.strip() for name, colon, value in (line.partition(":") for line in lines) if colon}
+
+    def flags_of(self, thread: int) -> int:
+        """The flags of a thread, as linux/sched.h has them: the ninth field of /proc/THREAD/stat."""
+        fields = contents(f"/proc/{thread}/stat").rpartition(b")")[2].split()
+        return int(fields[6]) if len(fields) > 6 else 0
+
+    def name_of(self, process: int) -> bytes:
+        """What a process is called: bytes of its own choice."""
+        name = contents(f"/proc/{process}/comm")
+        return name[:-1] if name.endswith(b"\n") else name
+
+    def groups_of(self, process: int) -> dict[str, bytes]:
+        """The control groups of a process, by the controllers of their hierarchies."""
+        found: dict[str, bytes] = {}
+        for line in contents(f"/proc/{process}/cgroup").split(b"\n"):
+            _, _, rest = line.partition(b":")
+            controllers, _, path = rest.partition(b":")
+            if path:
+                found.update((name, path) for name in controllers.decode("utf-8", "replace").split(","))
+        return found
+
+    def is_root_the_first(self) -> bool:
+        """Whether the control group `/` is the root of its hierarchy, and not that of a cgroup namespace alone."""
+        try:
+            return os.stat("/proc/self/ns/cgroup").st_ino == PROC_CGROUP_INIT_INO
+        except OSError as error:
+            # a kernel without such namespaces
+            return error.errno == errno.ENOENT
+
+    def namespaces_of(self, process: int) -> list[tuple[int, int]]:
+        """The PID namespace of a process and those around it that this tool may see, the innermost first."""
+        found = []
+        try:
+            place = os.open(f"/proc/{process}/ns/pid", os.O_RDONLY | os.O_CLOEXEC)
+        except OSError:
+            return found
+        while True:
+            status = os.fstat(place)
+            found.append((status.st_dev, status.st_ino))
+            try:
+                around = fcntl.ioctl(place, NS_GET_PARENT)
+            except OSError:
+                return found
+            finally:
+                os.close(place)
+            place = around

@@ -1,0 +1,151 @@
+"""System calls that a stop interrupts, and how they go on when the thread runs on.
+
+A call that waits returns one of the numbers below when its thread is stopped, and the kernel makes the call again
+behind the stop (handle_signal and arch_do_signal_or_restart in arch/x86/kernel/signal.c). Where it waits for so long and
+no longer, as in nanosleep and in poll, it makes restart_syscall(2) in its place, which goes on with the time that is
+left. A filter answers that as any other system call: where it doesn't allow it, it ends the process or fails the call.
+So a thread in such a call is given another number while it is stopped, if its filters don't allow restart_syscall.
+"""
+from __future__ import annotations
+
+import errno
+from collections.abc import Sequence
+from dataclasses import dataclass
+
+from . import bundles, program, verdicts
+from .answers import I386, X86_64, X32, Answer
+from .filters import INSTRUCTION, RETURN_CONSTANT
+from .ptrace import Kernel
+
+# linux/errno.h. What a handler of a signal doesn't interrupt begins anew by each of them but the last, by which it goes
+# on by restart_syscall; a handler interrupts by NOHAND and by RESTARTBLOCK alike.
+ERESTARTSYS, ERESTARTNOINTR, ERESTARTNOHAND, ERESTART_RESTARTBLOCK = 512, 513, 514, 516
+BEGIN_ANEW = (ERESTARTSYS, ERESTARTNOINTR, ERESTARTNOHAND)
+# The number of restart_syscall: asm/unistd_64.h, asm/unistd_32.h.
+RESTART = {X86_64: 219, I386: 0}
+# The registers of the six arguments, in their order.
+ARGUMENTS = {X86_64: ("rdi", "rsi", "rdx", "r10", "r8", "r9"), I386: ("rbx", "rcx", "rdx", "rsi", "rdi", "rbp")}
+# linux/filter.h: BPF_RET | BPF_A, whose answer is computed; linux/seccomp.h: SECCOMP_RET_USER_NOTIF's high half.
+RETURN_COMPUTED, USER_NOTIF = 0x16, 0x7FC0
+
+
+@dataclass(frozen=True)
+class Call:
+    """A system call as a filter sees it."""
+
+    architecture: int
+    number: int
+    pointer: int
+    arguments: tuple[int, ...]
+
+    @property
+    def restart(self) -> Call:
+        """The restart_syscall by which it goes on: the registers stay as they are."""
+        return Call(self.architecture, RESTART[self.architecture] | self.number & X32 * (self.architecture == X86_64),
+                    self.pointer, self.arguments)
+
+    def words(self) -> list[str]:
+        """The options of scf."""
+        return [f"--nr={self.number}", f"--arch={self.architecture}", f"--ip={self.pointer}",
+                *(f"--a{at}={value}" for at, value in enumerate(self.arguments))]
+
+
+def call_of(architecture: int, registers: dict[str, int]) -> Call:
+    mask = 0xFFFFFFFF if architecture == I386 else 0xFFFFFFFFFFFFFFFF
+    return Call(architecture, registers["orig_rax"] & 0xFFFFFFFF, registers["rip"] & mask,
+                tuple(registers[name] & mask for name in ARGUMENTS[architecture]))
+
+
+def restart_number(registers: dict[str, int]) -> int:
+    """The number by which an interrupted call goes on, 0 where none was interrupted."""
+    result = -registers["rax"] & 0xFFFFFFFFFFFFFFFF
+    is_in_call = registers["orig_rax"] & 0xFFFFFFFF < 0x80000000
+    return result if is_in_call and result in (*BEGIN_ANEW, ERESTART_RESTARTBLOCK) else 0
+
+
+def notifies(filters: Sequence[bytes]) -> bool:
+    """Whether a filter has an instruction by which it may answer USER_NOTIF."""
+    return any(code == RETURN_COMPUTED or code == RETURN_CONSTANT and k >> 16 == USER_NOTIF
+               for data in filters for code, _, _, k in INSTRUCTION.iter_unpack(data))
+
+
+class Restarts:
+    """The interrupted calls of stopped threads."""
+
+    def __init__(self, kernel: Kernel) -> None:
+        self.kernel = kernel
+        # What a thread may be in: where the kernel doesn't tell the architecture, a call of either.
+        self.calls: dict[int, list[Call]] = {}
+        # Those of them that would go on by restart_syscall.
+        self.changed: set[int] = set()
+        self.answers: dict[tuple[tuple[bytes, ...], Call], Answer | None] = {}
+
+    def at_stop(self, thread: int) -> None:
+        """A thread has stopped. Until it is known what its filters allow, its call begins anew, so that it does even if
+        this process is killed."""
+        self.forget(thread)
+        registers = self.kernel.registers(thread)
+        number = restart_number(registers)
+        if not number:
+            return
+        architecture = self.kernel.architecture_of_call(thread)
+        known = (architecture,) if architecture in RESTART else tuple(RESTART)
+        self.calls[thread] = [call_of(it, registers) for it in known]
+        if number == ERESTART_RESTARTBLOCK:
+            self.kernel.set_result(thread, -ERESTARTNOHAND)
+            self.changed.add(thread)
+
+    def before_it_runs_on(self, thread: int, filters: tuple[bytes, ...]) -> None:
+        """Chooses how the call of a thread goes on that has these filters."""
+        if thread in self.changed:
+            result = self.result(thread, filters)
+            if result != -ERESTARTNOHAND:
+                self.kernel.set_result(thread, result)
+        self.forget(thread)
+
+    def forget(self, thread: int) -> None:
+        self.calls.pop(thread, None)
+        self.changed.discard(thread)
+
+    def result(self, thread: int, filters: tuple[bytes, ...]) -> int:
+        """By restart_syscall where that is allowed; else anew; where not even that is, by EINTR."""
+        calls = self.calls[thread]
+        if all(self.is_allowed(filters, call.restart) for call in calls):
+            return -ERESTART_RESTARTBLOCK
+        return -errno.EINTR if any(self.is_allowed(filters, call) is False for call in calls) else -ERESTARTNOHAND
+
+    def goes_to_supervisor_again(self, thread: int, filters: tuple[bytes, ...]) -> bool:
+        """Whether a stopped thread's call begins anew, and is one that a supervisor answers."""
+        calls = self.calls.get(thread, [])
+        if not calls or not notifies(filters):
+            return False
+        if thread in self.changed and self.result(thread, filters) != -ERESTARTNOHAND:
+            return False
+        answers = [self.answer(filters, call) for call in calls]
+        return any(answer is not None and answer.action == "USER_NOTIF" for answer in answers)
+
+    def is_allowed(self, filters: tuple[bytes, ...], call: Call) -> bool | None:
+        """Whether filters let a call through, or None where that isn't known."""
+        if not filters:
+            return True
+        answer = self.answer(filters, call)
+        return None if answer is None else answer.lets_through
+
+    def answer(self, filters: tuple[bytes, ...], call: Call) -> Answer | None:
+        """What filters answer to a call; each is asked of scf once."""
+        key = filters, call
+        if key not in self.answers:
+            self.answers[key] = answer_of(filters, call)
+        return self.answers[key]
+
+
+def answer_of(filters: tuple[bytes, ...], call: Call) -> Answer | None:
+    """What filters answer to a call, or None where scf can't tell. It isn't built for that, which takes long."""
+    path = program.built()
+    if path is None:
+        return None
+    try:
+        done = program.run(path, ["decide", *call.words()], bundles.of_stack(filters))
+    except (program.Refused, OSError):
+        return None
+    return verdicts.decision(done.text).answer
