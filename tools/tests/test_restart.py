@@ -1,0 +1,290 @@
+"""System calls that a look interrupts: what the kernel makes of them behind it, under filters that allow restart_syscall
+and under others, on real processes."""
+import errno
+import os
+import signal
+import subprocess
+import time
+import unittest
+from unittest import mock
+
+from common import (ALLOW, EPERM, I386, KILL_PROCESS, KILL_THREAD, PATIENCE, X86_64, Case, comes, jeq, load,
+                    profile_of, ret)
+from confined import Confined, here, processes, ptrace
+from scftools import hold, restart
+
+TRAP, USER_NOTIF, TRACE, LOG = 0x00030000, 0x7FC00000, 0x7FF00000, 0x7FFC0000
+DENIALS = (KILL_PROCESS, KILL_THREAD, EPERM, TRAP, USER_NOTIF, TRACE)
+# asm/unistd_64.h, asm/unistd_32.h
+NANOSLEEP, POLL, FUTEX, RESTART = 35, 7, 202, 219
+NANOSLEEP_32, POLL_32, FUTEX_32, CLOCK_NANOSLEEP_32, RESTART_32 = 162, 168, 240, 267, 0
+WAIT = 0.9
+# What a child waits with for 0.9 seconds: a timespec, a timeval, a word that is 0; and i386 calls, made by int 0x80:
+# (number, arguments ..) -> result, with a timespec of 32 bits, and the word behind it, below 4 GiB.
+MADE = """
+import mmap, struct, time
+ts, tv, word = struct.pack('qq', 0, 900000000), struct.pack('qq', 0, 900000), ctypes.create_string_buffer(4)
+page = mmap.mmap(-1, 4096, mmap.MAP_PRIVATE | mmap.MAP_ANONYMOUS | 0x40, 7)
+page[:24] = bytes.fromhex('5355 89f8 89f3 4489c6 4489cf 87d1 31ed cd80 5d5b c3').ljust(24, b'\\\\0')
+place = ctypes.addressof(ctypes.c_char.from_buffer(page))
+page[2048:2060] = struct.pack('iii', 0, 900000000, 0)
+made = ctypes.CFUNCTYPE(ctypes.c_int, *[ctypes.c_long] * 6)(place)
+i386 = lambda number, *words: made(number, *words, *[0] * (5 - len(words)))
+wait = library.syscall
+""".strip().replace("\n", "\\n")
+# The calls that go on by restart_syscall, with what each returns and its errno when its time is over.
+RESTARTED = {
+    "nanosleep": (NANOSLEEP, f"wait({NANOSLEEP}, ts, None)", 0, 0),
+    "clock_nanosleep": (230, "wait(230, 1, 0, ts, None)", 0, 0),
+    "poll": (POLL, f"wait({POLL}, None, 0, 900)", 0, 0),
+    "futex": (FUTEX, f"wait({FUTEX}, word, 128, 0, ts, None, 0)", -1, errno.ETIMEDOUT),
+    "nanosleep of i386": (NANOSLEEP_32, f"i386({NANOSLEEP_32}, place + 2048)", 0, 0),
+    "clock_nanosleep of i386": (CLOCK_NANOSLEEP_32, f"i386({CLOCK_NANOSLEEP_32}, 1, 0, place + 2048)", 0, 0),
+    "poll of i386": (POLL_32, f"i386({POLL_32}, 0, 0, 900)", 0, 0),
+    "futex of i386": (FUTEX_32, f"i386({FUTEX_32}, place + 2056, 128, 0, place + 2048)", -errno.ETIMEDOUT, 0),
+}
+# Those that begin anew, with the time that is left, whatever filters say; and those that end with EINTR.
+BEGIN_ANEW = {
+    "ppoll": (271, "wait(271, None, 0, ctypes.create_string_buffer(ts), None, 8)", 0, 0),
+    "select": (23, "wait(23, 0, None, None, None, ctypes.create_string_buffer(tv))", 0, 0),
+}
+END = {
+    "epoll_wait": (232, "wait(232, library.epoll_create(1), ctypes.create_string_buffer(12), 1, 500)", -1, errno.EINTR),
+    "semtimedop": (220, "wait(220, library.semget(0, 1, 0o600), struct.pack('hhh', 0, -1, 0), 1, ts)", -1, errno.EINTR),
+}
+CALLS = {**RESTARTED, **BEGIN_ANEW, **END}
+
+# A program of 32 bits: under the filter of a file it sleeps, and prints how that ended.
+PROGRAM_32 = """
+#include <errno.h>
+#include <fcntl.h>
+#include <linux/filter.h>
+#include <stdio.h>
+#include <sys/prctl.h>
+#include <time.h>
+#include <unistd.h>
+int main(int argc, char **argv)
+{
+    static struct sock_filter insns[4096];
+    struct timespec wanted = {0, 900000000};
+    if (argc < 2)
+        return 0;
+    struct sock_fprog program = {read(open(argv[1], O_RDONLY), insns, sizeof insns) / 8, insns};
+    if (prctl(PR_SET_NO_NEW_PRIVS, 1, 0, 0, 0) || prctl(PR_SET_SECCOMP, 2, &program))
+        return 1;
+    puts("begins");
+    fflush(stdout);
+    int found = nanosleep(&wanted, 0);
+    printf("%d %d\\n", found, found ? errno : 0);
+    return 0;
+}
+"""
+
+
+def denying(answer, *numbers, numbers_32=(RESTART_32,)):
+    """Answers these system calls so, and those of i386; others are allowed."""
+    def tests(those):
+        return (load(0) + b"".join(jeq(number, len(those) - at, 0) for at, number in enumerate(those)) + ret(ALLOW)
+                + ret(answer))
+    native = tests(numbers or (RESTART,))
+    return load(4) + jeq(X86_64, 0, len(native) // 8) + native + tests(numbers_32)
+
+
+@here
+class Restarts(Confined):
+    """What a thread that is looked at does next."""
+
+    def waits(self, child, call, number):
+        """Lets the main thread of a child make a call, and waits until it waits in it."""
+        text = (f"ctypes.set_errno(0); began = time.monotonic(); found = {call}; "
+                f"print(found, ctypes.get_errno(), time.monotonic() - began, flush=True)")
+        self.do(child, f'exec("""{MADE}\\n{text}""")')
+        self.assertTrue(comes(lambda: self.call_of(child.pid) == number), call)
+
+    def call_of(self, thread):
+        """The number of the call in which a thread waits."""
+        try:
+            with open(f"/proc/{thread}/syscall", encoding="ascii") as file:
+                word = file.read().split()[0]
+        except OSError:
+            return None
+        return int(word) if word.isdigit() else None
+
+    def next_call_of(self, child):
+        """The number of the call in which the main thread of a child waits next, None where it ends."""
+        self.assertTrue(comes(lambda: child.poll() is not None or self.call_of(child.pid) is not None))
+        return self.call_of(child.pid)
+
+    def ends(self, child, name):
+        """The call returns as it should, and no sooner; the process is as it was."""
+        _, _, result, error = CALLS[name]
+        said = child.stdout.readline().split()
+        self.assertEqual(said[:2], [str(result), str(error)])
+        if error != errno.EINTR:
+            self.assertGreaterEqual(float(said[2]), WAIT)
+        self.runs_on(child)
+
+    def go_on(self, cases, goes_on_as):
+        """Each goes on as it should, and ends when it should."""
+        children, numbers = [self.child([denying(answer)]) for answer, _ in cases], []
+        for child, (_, name) in zip(children, cases):
+            self.waits(child, *CALLS[name][1::-1])
+            found = processes.look_at_process(processes.Kernel(), child.pid)
+            self.assertEqual([stack.threads for stack in found.stacks], [{child.pid: [child.pid]}])
+            numbers.append(self.next_call_of(child))
+        for child, number, (answer, name) in zip(children, numbers, cases):
+            with self.subTest(f"{name} {answer:#x}"):
+                self.assertEqual(number, goes_on_as(name))
+                self.ends(child, name)
+
+    def test_filters_that_deny_restart_syscall(self):
+        """The call begins anew."""
+        cases = [(KILL_PROCESS, name) for name in RESTARTED]
+        cases += [(answer, name) for answer in DENIALS[1:] for name in ("nanosleep", "nanosleep of i386")]
+        self.go_on(cases, lambda name: CALLS[name][0])
+
+    def test_filters_that_allow_restart_syscall(self):
+        """It goes on with the time that is left, as it does where nobody looks."""
+        cases = [(ALLOW, name) for name in RESTARTED] + [(LOG, "nanosleep")]
+        self.go_on(cases, lambda name: RESTART_32 if "i386" in name else RESTART)
+
+    def test_calls_that_do_without_it(self):
+        self.go_on([(KILL_PROCESS, name) for name in BEGIN_ANEW], lambda name: CALLS[name][0])
+        self.go_on([(KILL_PROCESS, name) for name in END], lambda name: 0)
+
+
+    def waiting(self, answer=KILL_PROCESS, name="nanosleep", before=""):
+        """A child that waits in a call under a filter that answers restart_syscall so."""
+        child = self.child([denying(answer)])
+        if before:
+            self.do(child, before)
+        self.waits(child, *CALLS[name][1::-1])
+        return child
+
+    def test_the_tools(self):
+        """Each of those that look leaves the process as it was."""
+        profile = self.file("p", profile_of())
+        words = (("filters-of", "{}", "out"), ("verify-process", "{}", profile), ("surface", "--pid", "{}"))
+        children = [self.waiting() for _ in words]
+        for child, (name, *rest) in zip(children, words):
+            status, out, err = self.run_tool(name, *(it.format(child.pid) for it in rest))
+            self.assertEqual((status, err), (1 if name == "verify-process" else 0, ""), out)
+            self.ends(child, "nanosleep")
+
+    def test_another_thread_than_the_main_one(self):
+        for answer in (KILL_PROCESS, KILL_THREAD):
+            child = self.child([denying(answer)])
+            self.do(child, "threading.Thread(target=lambda: print(threading.get_native_id(), library.usleep(900000), "
+                           "flush=True)).start()")
+            self.assertTrue(comes(lambda child=child: len(os.listdir(f"/proc/{child.pid}/task")) == 2))
+            other = next(int(it) for it in os.listdir(f"/proc/{child.pid}/task") if int(it) != child.pid)
+            self.assertTrue(comes(lambda other=other: self.call_of(other) in (NANOSLEEP, 230)))
+            processes.look_at_process(processes.Kernel(), child.pid)
+            self.assertEqual(child.stdout.readline(), f"{other} 0\n")
+            self.runs_on(child)
+
+    def test_a_program_of_i386(self):
+        source = self.file("sleep.c", PROGRAM_32)
+        program, given = os.path.join(self.folder, "sleep"), self.file("f", denying(KILL_PROCESS))
+        if subprocess.run(["cc", "-m32", "-o", program, source], check=False, stderr=subprocess.DEVNULL,
+                          stdout=subprocess.DEVNULL).returncode or subprocess.run([program], check=False).returncode:
+            self.skipTest("no program of i386 can be made and run here")
+        with subprocess.Popen([program, given], stdout=subprocess.PIPE, text=True) as child:
+            self.assertEqual(child.stdout.readline(), "begins\n")
+            self.assertTrue(comes(lambda: self.call_of(child.pid) in (NANOSLEEP_32, CLOCK_NANOSLEEP_32, 407)))
+            found = processes.look_at_process(processes.Kernel(), child.pid)
+            self.assertEqual(found.stacks[0].filters, (denying(KILL_PROCESS),))
+            self.assertEqual((child.stdout.readline(), child.wait()), ("0 0\n", 0))
+
+    def test_a_filter_that_denies_the_call_itself(self):
+        """Another thread has put the waiting one under it (SECCOMP_FILTER_FLAG_TSYNC): its call can't begin anew."""
+        given = self.file("later", denying(KILL_PROCESS, RESTART, NANOSLEEP, 230))
+        child = self.child([])
+        self.do(child, "slept = lambda: (library.nanosleep(ctypes.create_string_buffer(b'\\x09' + bytes(15)), None), "
+                       "ctypes.get_errno())")
+        self.do(child, "threading.Thread(target=lambda: print(*slept(), flush=True)).start()")
+        self.assertTrue(comes(lambda: len(os.listdir(f"/proc/{child.pid}/task")) == 2))
+        other = next(int(it) for it in os.listdir(f"/proc/{child.pid}/task") if int(it) != child.pid)
+        self.assertTrue(comes(lambda: self.call_of(other) in (NANOSLEEP, 230)))
+        self.do(child, f"data = open({given!r}, 'rb').read(); "
+                       f"print(library.syscall(317, 1, 1, ctypes.byref(Program(len(data) // 8, data))), flush=True)")
+        self.assertEqual(child.stdout.readline(), "0\n")
+        found = processes.look_at_process(processes.Kernel(), child.pid)
+        self.assertEqual(len(found.stacks[0].threads[child.pid]), 2)
+        self.assertEqual(child.stdout.readline(), f"-1 {errno.EINTR}\n")
+        self.runs_on(child)
+
+    def test_a_stopped_process(self):
+        """It stays stopped, and then goes on, though it would end without a look."""
+        child = self.waiting()
+        os.kill(child.pid, signal.SIGSTOP)
+        self.wait_for(child.pid, "T")
+        processes.look_at_process(processes.Kernel(), child.pid)
+        self.wait_for(child.pid, "T")
+        os.kill(child.pid, signal.SIGCONT)
+        self.ends(child, "nanosleep")
+
+    def test_a_handler_interrupts_it_as_ever(self):
+        """Also where the signal comes while the thread is held."""
+        child = self.waiting(before="import signal; signal.signal(signal.SIGUSR1, lambda *_: None)")
+        kernel = processes.Kernel()
+        with hold.Hold(kernel, lambda: {child.pid: child.pid}, PATIENCE) as held:
+            held.stop_all()
+            os.kill(child.pid, signal.SIGUSR1)
+        self.assertEqual(child.stdout.readline().split()[:2], ["-1", str(errno.EINTR)])
+        self.runs_on(child)
+
+    def test_without_a_program_that_tells(self):
+        """The call begins anew, whatever the filters say; nothing is built meanwhile."""
+        child = self.waiting(ALLOW)
+        with mock.patch.object(restart.program, "SCF", __file__), mock.patch.object(restart.program, "BUILT", ""):
+            processes.look_at_process(processes.Kernel(), child.pid)
+        self.assertEqual(self.next_call_of(child), NANOSLEEP)
+        self.ends(child, "nanosleep")
+
+    def test_a_look_that_is_killed(self):
+        """While threads are held: their calls begin anew."""
+        child = self.waiting()
+        kernel, ends = processes.Kernel(), os.pipe()
+        pid = os.fork()
+        if not pid:
+            try:
+                with hold.Hold(kernel, lambda: {child.pid: child.pid}, PATIENCE) as held:
+                    held.stop_all()
+                    os.write(ends[1], b"1")
+                    time.sleep(PATIENCE)
+            finally:
+                os._exit(1)
+        os.read(ends[0], 1)
+        os.kill(pid, signal.SIGKILL)
+        os.waitpid(pid, 0)
+        for end in ends:
+            os.close(end)
+        self.ends(child, "nanosleep")
+
+
+class Numbers(Case):
+    """What is told of registers, without a process."""
+
+    def test_what_is_an_interrupted_call(self):
+        """A call that has returned isn't one, whatever it returned; nor is what is no call."""
+        for number, result, expected in ((35, -516, 516), (0, -512, 512), (35, -4, 0), (35, 0, 0), (-1, -516, 0),
+                                         (8, 2**32 - 516, 0), (8, 516, 0), (35, -514, 514), (35, -513, 513)):
+            registers = {"orig_rax": number % 2**64, "rax": result % 2**64}
+            self.assertEqual(restart.restart_number(registers), expected, (number, result))
+
+    def test_the_call_as_a_filter_sees_it(self):
+        registers = {name: 2**63 + at for at, name in enumerate(ptrace.REGISTERS)}
+        registers["orig_rax"] = NANOSLEEP
+        order = {X86_64: "rdi rsi rdx r10 r8 r9", I386: "rbx rcx rdx rsi rdi rbp"}
+        for architecture, mask, number in ((X86_64, 2**64 - 1, RESTART), (I386, 2**32 - 1, RESTART_32)):
+            call = restart.call_of(architecture, registers)
+            arguments = tuple(registers[name] & mask for name in order[architecture].split())
+            self.assertEqual(call, restart.Call(architecture, NANOSLEEP, registers["rip"] & mask, arguments))
+            self.assertEqual(call.restart, restart.Call(architecture, number, registers["rip"] & mask, arguments))
+        x32 = restart.Call(X86_64, 0x40000000 | NANOSLEEP, 0, (0,) * 6)
+        self.assertEqual(x32.restart.number, 0x40000000 | RESTART)
+
+
+if __name__ == "__main__":
+    unittest.main()
