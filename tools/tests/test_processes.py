@@ -3,6 +3,7 @@ import ctypes
 import errno
 import itertools
 import os
+import shutil
 import signal
 import subprocess
 import sys
@@ -11,8 +12,8 @@ import time
 import unittest
 from unittest import mock
 
-from common import ALLOW, PATIENCE, Case, ret
-from confined import NEWEST, OLDEST, OTHER, Confined, FakeKernel, here, processes, ptrace
+from common import ALLOW, PATIENCE, Case, comes, ret
+from confined import NEWEST, OLDEST, OTHER, Confined, FakeKernel, here, processes, ptrace, status_of
 from scftools import child as children
 from scftools import containers, hold
 
@@ -137,6 +138,31 @@ class Asked(Case):
         kernel.own["CapEff"] = f"{1 << hold.CAP_SYS_ADMIN:x}"
         self.refused(kernel, "without CAP_SYS_PTRACE: run this as root")
         self.refused(FakeKernel([OLDEST], {SEIZE: errno.ESRCH}, listings=[(7,), ()]), "process 7 ended meanwhile")
+
+    def test_a_thread_that_executes_a_program(self):
+        """The kernel refuses to trace one that ends or executes a program, for a moment: it is listed again. Under its
+        new number the tool may trace it already."""
+        for status, count in (({}, 3), ({"TracerPid": str(os.getpid())}, 1)):
+            kernel = FakeKernel([OLDEST], {SEIZE: errno.EPERM}, status=status)
+            ptrace_of, asked = kernel.ptrace, []
+
+            def seizing(request, *rest, kernel=kernel, ptrace_of=ptrace_of, asked=asked, count=count):
+                asked.append(request)
+                if request == SEIZE and asked.count(SEIZE) == count:
+                    kernel.fails = {}
+                return ptrace_of(request, *rest)
+
+            kernel.ptrace = seizing
+            self.assertEqual([stack.threads for stack in self.look(kernel).stacks], [{7: [7]}])
+            self.assertEqual(asked, [SEIZE] * count + [INTERRUPT, GET, GET, GET, DETACH])
+        self.refused(FakeKernel([OLDEST], {SEIZE: errno.EPERM}), "run this as root")
+
+    def test_none_is_stopped_before_all_are_traced(self):
+        """PTRACE_SEIZE may take long, and where it does nothing is held."""
+        kernel = FakeKernel([OLDEST], listings=[(7, 8, 9)])
+        self.look(kernel)
+        asked = [request for request, _, _ in kernel.asked if request in (SEIZE, INTERRUPT)]
+        self.assertEqual(asked, [SEIZE] * 3 + [INTERRUPT] * 3)
 
     def test_a_main_thread_that_has_ended(self):
         """Its process's other threads are looked at."""
@@ -424,6 +450,73 @@ class Real(Confined):
             self.wait_for(child.pid, "S")
             self.runs_on(child)
 
+    def test_one_that_executes_programs_meanwhile(self):
+        """Again and again, from a thread that isn't the main one, which the kernel lets it do once all others have
+        ended, and those that are traced have been waited for."""
+        program, source = os.path.join(self.folder, "execute"), self.file("execute.c", EXECUTE)
+        if not shutil.which("cc") or subprocess.run(["cc", "-pthread", "-o", program, source], check=False).returncode:
+            self.skipTest("there is no C compiler here")
+        for words in (["60", "1000"], ["3", "0"]):
+            with subprocess.Popen([program, *words]) as child:
+                self.addCleanup(child.kill)
+                for _ in range(15):
+                    found = processes.look_at_process(processes.Kernel(), child.pid, patience=PATIENCE)
+                    self.assertEqual([stack.filters for stack in found.stacks], [()])
+                self.assertIsNone(child.poll())
+                child.kill()
+
+    def test_a_program_that_is_executed_for_ever(self):
+        """PTRACE_SEIZE doesn't return before it is: the look ends in time, and the process runs on."""
+        child = self.child([OLDEST], [OLDEST])
+        other, kernel = child.threads[1], processes.Kernel()
+        kernel.ptrace(SEIZE, other, None, None)
+        self.do(child, "threading.Thread(target=os.execv, args=('/bin/sleep', ['sleep', '1000'])).start()")
+        # the thread has ended, and isn't waited for
+        self.wait_for(other, "Z")
+        begun = time.monotonic()
+        with self.assertRaises(processes.Unreadable) as caught:
+            processes.look_at_process(kernel, child.pid, patience=0.5)
+        self.assertLess(time.monotonic() - begun, PATIENCE)
+        self.assertIn("wait for more than 0.5 seconds to trace a thread", str(caught.exception))
+        os.waitpid(other, ptrace.WALL)
+        self.assertTrue(comes(lambda: kernel.name_of(child.pid) == b"sleep"))
+        self.assertEqual(status_of(child.pid)["TracerPid"], "0")
+
+    def held(self, *words):
+        """A process that looks at a child which doesn't stop, with a thread of it held, and that thread."""
+        child, _ = self.stuck([OLDEST], [OLDEST])
+        looks = subprocess.Popen([sys.executable, "-c", TRY, os.path.dirname(os.path.dirname(processes.__file__)),
+                                  str(child.pid), *words], stdout=subprocess.PIPE, text=True)
+        self.addCleanup(looks.stdout.close)
+        self.addCleanup(looks.wait)
+        self.addCleanup(looks.kill)
+        self.assertTrue(comes(lambda: status_of(child.threads[1])["TracerPid"] != "0"))
+        return child, looks
+
+    def let_go(self, child):
+        self.assertTrue(comes(lambda: {status_of(it)["TracerPid"] for it in child.threads} == {"0"}))
+        self.wait_for(child.threads[1], "S")
+
+    def test_a_tool_that_is_stopped(self):
+        """What it held runs on."""
+        child, looks = self.held("2")
+        looks.send_signal(signal.SIGSTOP)
+        self.wait_for(looks.pid, "T")
+        self.let_go(child)
+        looks.send_signal(signal.SIGCONT)
+        self.assertIn("didn't stop within 1.8 seconds", looks.communicate()[0])
+
+    def test_a_tool_that_is_killed(self):
+        child, looks = self.held(str(PATIENCE))
+        looks.kill()
+        self.let_go(child)
+
+    def test_a_tool_whose_child_is_stopped(self):
+        child, looks = self.held("2")
+        os.kill(int(status_of(child.threads[1])["TracerPid"]), signal.SIGSTOP)
+        self.assertIn("wait for more than 2 seconds", looks.communicate()[0])
+        self.let_go(child)
+
     def test_what_calls_end_early(self):
         """What is said of calls that a stop ends with EINTR, and of one that goes on."""
         for call, end in (("library.epoll_wait(library.epoll_create(1), ctypes.create_string_buffer(12), 1, -1)", "4"),
@@ -441,6 +534,24 @@ class Real(Confined):
             self.assertEqual(child.stdout.readline(), f"{end}\n", call)
 
 
+# Begins threads, and executes itself from one of them; its words are their count and microseconds.
+EXECUTE = """
+#include <pthread.h>
+#include <stdlib.h>
+#include <unistd.h>
+static char **words;
+static void *waits(void *none) { pause(); return none; }
+static void *executes(void *none) { usleep(atoi(words[2])); execv(words[0], words); return none; }
+int main(int argc, char **argv)
+{
+    pthread_t thread;
+    words = argv;
+    for (int left = atoi(argv[1]); left > 0; left--)
+        pthread_create(&thread, 0, waits, 0);
+    pthread_create(&thread, 0, executes, 0);
+    pause();
+}
+"""
 # Tries to look at a process, and prints what is said.
 TRY = """
 import sys

@@ -1,0 +1,113 @@
+"""scftools.child: what a function in a child process returns and raises, and that it ends in time."""
+import fcntl
+import os
+import signal
+import sys
+import time
+import unittest
+
+from common import TOP, Case, comes
+
+sys.path.insert(0, os.path.join(TOP, "tools"))
+from scftools import child, program  # noqa: E402 pylint: disable=wrong-import-position
+
+
+class Child(Case):
+    def test_results(self):
+        for result in (None, 0, b"\0" * (1 << 20), {"a": [1, "\n"]}):
+            self.assertEqual(child.run(lambda result=result: result, 60), result)
+        self.assertNotEqual(child.run(os.getpid, 60), os.getpid())
+
+    def test_exceptions(self):
+        for error in (OSError(2, "none"), program.Refused("no", 3), MemoryError(), KeyError("x")):
+            with self.assertRaises(type(error)) as caught:
+                child.run(lambda error=error: self.fails(error), 60)
+            self.assertEqual(caught.exception.args, error.args)
+            self.assertEqual(getattr(caught.exception, "status", None), getattr(error, "status", None))
+        with self.assertRaises(child.Died):
+            child.run(lambda: os._exit(0), 60)
+        with self.assertRaises(child.Died):
+            child.run(lambda: os.kill(os.getpid(), signal.SIGKILL), 60)
+
+    def fails(self, error):
+        raise error
+
+    def test_it_ends_in_time(self):
+        """Also in a call of the kernel in which only a signal that kills ends it, and where it is stopped."""
+        with open(self.file("lock", b""), "rb") as held:
+            fcntl.flock(held, fcntl.LOCK_EX)
+
+            def waits():
+                with open(held.name, "rb") as file:
+                    fcntl.flock(file, fcntl.LOCK_EX)
+
+            for work in (waits, lambda: time.sleep(600), lambda: os.kill(os.getpid(), signal.SIGSTOP)):
+                begun = time.monotonic()
+                with self.assertRaises(child.Late):
+                    child.run(work, 0.2)
+                self.assertLess(time.monotonic() - begun, 60)
+
+    def test_its_own_timer_ends_it(self):
+        """Where the process that waits for it is stopped, and so can't."""
+        ends = os.pipe()
+
+        def waits():
+            os.write(ends[1], b"%d" % os.getpid())
+            time.sleep(600)
+
+        pid = os.fork()
+        if not pid:
+            try:
+                child.run(waits, 0.2)
+            finally:
+                os._exit(0)
+        number = int(os.read(ends[0], 10))
+        os.kill(pid, signal.SIGSTOP)
+        # a zombie, since its parent is stopped
+        self.assertTrue(comes(lambda: b"\nState:\tZ" in self.status_of(number)))
+        os.kill(pid, signal.SIGCONT)
+        os.waitpid(pid, 0)
+        for end in ends:
+            os.close(end)
+
+    def status_of(self, process):
+        with open(f"/proc/{process}/status", "rb") as file:
+            return file.read()
+
+    def test_signals_that_end_the_tool_are_handed_on(self):
+        """They end the child in order; nothing else is told of them, and those that are ignored are left alone."""
+
+        def waits():
+            os.kill(os.getppid(), signal.SIGTERM)
+            while True:
+                child.look_for_signals()
+                time.sleep(0.01)
+
+        came = []
+        old = signal.signal(signal.SIGTERM, lambda *_: came.append(1))
+        self.addCleanup(signal.signal, signal.SIGTERM, old)
+        with self.assertRaises(child.Interrupted) as caught:
+            child.run(waits, 60)
+        self.assertEqual((caught.exception.args, came), ((signal.SIGTERM,), []))
+        self.assertEqual(signal.pthread_sigmask(signal.SIG_BLOCK, ()), set())
+        signal.signal(signal.SIGTERM, signal.SIG_IGN)
+        with self.assertRaises(child.Late):
+            child.run(waits, 0.3)
+
+    def test_where_ended_children_are_not_told(self):
+        """SIGCHLD is ignored, which a program inherits."""
+        old = signal.signal(signal.SIGCHLD, signal.SIG_IGN)
+        self.addCleanup(signal.signal, signal.SIGCHLD, old)
+        self.assertEqual(child.run(lambda: 7, 60), 7)
+
+
+class Ignored(Case):
+    def test_a_tool_that_inherits_ignored_signals(self):
+        """How its children end is told to it all the same."""
+        for words in (("verify-process", "--version"), ("check", self.file("f", bytes.fromhex("06000000 0000ff7f")))):
+            status, out, err = self.run_tool(*words, preexec_fn=lambda: signal.signal(signal.SIGCHLD, signal.SIG_IGN))
+            self.assertEqual((status, err), (0, ""), out)
+
+
+if __name__ == "__main__":
+    unittest.main()
