@@ -31,10 +31,14 @@ __all__ = ("Container", "Found", "Interrupted", "Kernel", "Stack", "Unreadable",
 # How long a look may last, in seconds, and the part of it in which all threads are to stop.
 PATIENCE, TO_STOP = 10.0, 0.9
 # What is said of it by --help.
-NEEDS = ("It needs CAP_SYS_ADMIN and CAP_SYS_PTRACE, which root has outside of containers, and a kernel with "
-         "CONFIG_CHECKPOINT_RESTORE. The threads are stopped for a moment by ptrace(2), and run on whatever happens. A "
-         "few calls in which they wait end early by that, with EINTR, as they do by SIGSTOP and SIGCONT (signal(7)): "
-         "epoll_wait, semop, sigtimedwait, and recv, send and the like with a timeout.")
+NEEDS = (f"It needs CAP_SYS_ADMIN and CAP_SYS_PTRACE, which root has outside of containers, and a kernel with "
+         f"CONFIG_CHECKPOINT_RESTORE. The threads are stopped for a moment by ptrace(2), and run on whatever happens, "
+         f"within {PATIENCE:g} seconds. A few system calls in which they wait end early by that, with EINTR, as they do "
+         f"by SIGSTOP and SIGCONT (signal(7)): epoll_wait, semop, sigtimedwait, and recv, send and the like with a "
+         f"timeout. nanosleep, clock_nanosleep, poll and futex go on by restart_syscall(2) for the time that is left; "
+         f"where the thread's filters don't allow that, they begin anew, with their whole time, or end with EINTR where "
+         f"the filters don't allow the call itself any more. A thread that waits for the answer of a seccomp supervisor "
+         f"isn't stopped before it has it, since its call would be made twice.")
 
 
 @dataclass
@@ -68,6 +72,15 @@ class Found:
     names: dict[int, bytes]
     # The processes of which no thread makes a call, by number, and why.
     passed_over: dict[int, str]
+    # The processes and threads whose system calls a supervisor answers and was asked again for, since they were stopped.
+    asked_again: list[tuple[int, int]] = field(default_factory=list)
+
+    @property
+    def notes(self) -> list[str]:
+        """What is said of the look itself."""
+        return [*(f"process {process} isn't looked at: it {why}" for process, why in self.passed_over.items()),
+                *(f"the system call of {called(thread, process)} is made anew, and its seccomp supervisor gets it a "
+                  f"second time" for process, thread in self.asked_again)]
 
 
 def threads_told(threads: Sequence[int]) -> str:
@@ -86,15 +99,18 @@ def found_in(kernel: Kernel, hold: Hold) -> Found:
     """What the stopped threads have. An equal filter of another thread is kept once."""
     stacks: dict[tuple[tuple[bytes, ...], bool], Stack] = {}
     names: dict[int, bytes] = {}
+    asked_again = []
     for thread in sorted(hold.stopped, key=lambda it: (hold.process_of[it], it)):
         process = hold.process_of[thread]
         key = stack_of(kernel, thread, process)
         stack = stacks.setdefault(key, Stack(*key))
         stack.threads.setdefault(process, []).append(thread)
+        if hold.restarts.goes_to_supervisor_again(thread, stack.filters):
+            asked_again.append((process, thread))
         if process not in names:
             names[process] = kernel.name_of(process)
     passed_over = {process: why for process, why in hold.passed_over.items() if process not in names}
-    return Found(list(stacks.values()), names, passed_over)
+    return Found(list(stacks.values()), names, passed_over, asked_again)
 
 
 def read_threads(kernel: Kernel, listed: Callable[[], dict[int, int]], patience: float,
@@ -166,12 +182,23 @@ def number_in(text: str, parser: Parser) -> int:
     return int(text)
 
 
-def read_or_end(read: Callable[[], Read]) -> Read:
-    """What is read; ends the tool where that can't be, or where a signal came that ends it."""
+def add_force(parser: Parser) -> None:
+    """Adds `--force`."""
+    parser.add_argument("--force", action="store_true",
+                        help="stop threads that wait for the answer of a seccomp supervisor, too: it gets their system "
+                             "calls a second time")
+
+
+def read_or_end(read: Callable[[], Read], has_force: bool = False, is_json: bool = False) -> Read:
+    """What is read; ends the tool where that can't be, with an object that says so where one is wanted, or where a
+    signal came that ends it."""
     try:
         return read()
-    except Unreadable as why:
-        raise program.Refused(str(why), program.FAILED) from why
+    except Unreadable as error:
+        why = f"{error} (--force stops it)" if has_force and isinstance(error, Waiting) else str(error)
+        if is_json:
+            output.put_json({"status": program.FAILED, "verdict": None, "stacks": [], "why": output.escaped(why)})
+        raise program.Refused(why, program.FAILED) from error
     except Interrupted as came:
         number = came.args[0]
         output.say(program.name(), f"ended by {signal.Signals(number).name}; what was held runs on")

@@ -105,6 +105,8 @@ def lines(blocks: Sequence[Block], found: Found | None, width: int | None) -> It
             yield from showing.lines(block.surface, groups, width)
         if block.threads is not None and found is not None and not block.is_of_all:
             yield from (f"# {line}" for line in verifying.of_threads(block.threads, found))
+    if found is not None:
+        yield from (f"# {note}" for note in found.notes)
 
 
 def _json_of(block: Block, found: Found | None, groups: Groups) -> dict[str, object]:
@@ -130,4 +132,5 @@ def as_json(blocks: Sequence[Block], found: Found | None) -> dict[str, object]:
     groups = Groups()
     if found is None:
         return _json_of(blocks[0], None, groups)
-    return {"status": worst(blocks), "stacks": [_json_of(block, found, groups) for block in blocks]}
+    return {"status": worst(blocks), "stacks": [_json_of(block, found, groups) for block in blocks],
+            "asked_again": [{"process": process, "thread": thread} for process, thread in found.asked_again]}

@@ -140,8 +140,7 @@ def lines(made: Sequence[Block], found: Found, scope: str) -> Iterator[str]:
                 yield f"# {runtimes.stub_told(block.stub)}"
             yield from (f"# {line}" for line in of_foreign(block, scope))
         yield from (f"# {line}" for line in of_threads(block.stack, found))
-    for process, why in found.passed_over.items():
-        yield f"# process {process} isn't looked at: it {why}"
+    yield from (f"# {note}" for note in found.notes)
 
 
 def _threads_json(stack: Stack, found: Found) -> list[dict[str, object]]:
@@ -169,4 +168,5 @@ def as_json(made: Sequence[Block], found: Found, scope: str, container: str | No
     stacks = [_block_json(block, found, scope) for block in made]
     return {"status": worst(made), "scope": scope, "verdict": stacks[0].get("verdict"), "container": container,
             "stacks": stacks,
-            "passed_over": [{"process": process, "why": why} for process, why in found.passed_over.items()]}
+            "passed_over": [{"process": process, "why": why} for process, why in found.passed_over.items()],
+            "asked_again": [{"process": process, "thread": thread} for process, thread in found.asked_again]}

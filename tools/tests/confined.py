@@ -1,17 +1,22 @@
 """Processes for tests: their threads are put under raw filters by ctypes, and then wait."""
 import ctypes
 import errno
+import fcntl
 import json
 import os
+import select
+import struct
 import subprocess
 import sys
 import time
 import unittest
 
-from common import ALLOW, EPERM, TOP, Case, comes, jeq, load, ret
+from common import ALLOW, EPERM, PATIENCE, TOP, Case, comes, jeq, load, ret
 
 sys.path.insert(0, os.path.join(TOP, "tools"))
 from scftools import processes, ptrace  # noqa: E402 pylint: disable=wrong-import-position
+from scftools.kernel_child import (SECCOMP_IOCTL_NOTIF_RECV,  # noqa: E402 pylint: disable=wrong-import-position
+                                   SECCOMP_IOCTL_NOTIF_SEND)
 
 # Its words: a JSON list, for each thread the names of its filters' files, oldest first; the main thread's is the first.
 # Each thread is put under its own filters, the main one last, since threads that are begun later inherit them. It
@@ -44,6 +49,7 @@ print(*numbers, flush=True)
 for line in sys.stdin:
     exec(line)
 """
+USER_NOTIF = 0x7FC00000
 OLDEST = ret(ALLOW)
 NEWEST = load(0) + jeq(0x0FFFFFFF, 0, 1) + ret(EPERM) + ret(ALLOW)
 # As long as NEWEST, and another one.
@@ -131,6 +137,17 @@ class Confined(Case):
         if not comes(lambda: status_of(thread)["State"][0] in states):
             self.fail(f"{thread} is in state {status_of(thread)['State']}, and not in {states}")
 
+    def supervised(self, number):
+        """A child whose calls of this number wait for the answer of a supervisor, and that supervisor."""
+        child = self.child([])
+        given = self.file("supervised", load(0) + jeq(number, 0, 1) + ret(USER_NOTIF) + ret(ALLOW))
+        # seccomp(2): SECCOMP_SET_MODE_FILTER, SECCOMP_FILTER_FLAG_NEW_LISTENER
+        self.do(child, f"data = open({given!r}, 'rb').read(); "
+                       f"print(library.syscall(317, 1, 8, ctypes.byref(Program(len(data) // 8, data))), flush=True)")
+        supervisor = Supervisor(child.pid, int(child.stdout.readline()))
+        self.addCleanup(supervisor.close)
+        return child, supervisor
+
     def stuck(self, *threads):
         """A child that waits in vfork(2) and doesn't stop before the pipe that is answered, too, has a writer."""
         child = self.child(*threads)
@@ -159,6 +176,41 @@ class Confined(Case):
             self.assertIn(status["State"][0], "SRD")
         self.do(child, "print('here', flush=True)")
         self.assertEqual(child.stdout.readline(), "here\n")
+
+
+class Supervisor:
+    """Answers the system calls of a child, and counts them (seccomp_unotify(2))."""
+
+    def __init__(self, pid, file):
+        process = os.pidfd_open(pid)
+        # pidfd_getfd(2)
+        self.file = ctypes.CDLL(None).syscall(438, process, file, 0)
+        os.close(process)
+        self.names = []
+
+    def close(self):
+        os.close(self.file)
+
+    def receives(self, seconds=PATIENCE):
+        """The next system call, which is counted; None where none comes in so many seconds."""
+        if not select.select([self.file], [], [], seconds)[0]:
+            return None
+        asked = bytearray(80)
+        try:
+            fcntl.ioctl(self.file, SECCOMP_IOCTL_NOTIF_RECV, asked)
+        except FileNotFoundError:
+            # it was taken back
+            return None
+        self.names.append(struct.unpack_from("<QIIi", asked)[3])
+        return struct.unpack_from("<Q", asked)[0]
+
+    def answers(self, call, result):
+        """Whether an answer came in time."""
+        try:
+            fcntl.ioctl(self.file, SECCOMP_IOCTL_NOTIF_SEND, struct.pack("<QqiI", call, result, 0, 0))
+        except FileNotFoundError:
+            return False
+        return True
 
 
 class FakeKernel:

@@ -45,7 +45,7 @@ class Programs(Confined):
         for name in ("filters-of", "verify-process"):
             self.says_usage(name, "1")
             out = self.run_tool(name, "--help")[1]
-            for word in ("EINTR", "epoll_wait", "CAP_SYS_ADMIN"):
+            for word in ("EINTR", "epoll_wait", "CAP_SYS_ADMIN", "restart_syscall(2)", "--force"):
                 self.assertIn(word, out)
         for name in ("filters-of", "verify-process"):
             for pid in ("0", "-1", "x", "1.5", "4294967296", "²", "9" * 5000, "\x1b[2J\n"):
@@ -65,6 +65,23 @@ class Programs(Confined):
         for words in ((), ("--all",)):
             self.assertEqual(self.run_tool("verify-process", *words, str(child.pid), profile),
                              (3, "", f"verify-process: there is no process {child.pid}\n"))
+
+    @here
+    def test_json_of_a_process_that_has_ended(self):
+        """It is an object that says so, and the line on standard error is as ever."""
+        ended_child = subprocess.Popen(["true"])
+        ended_child.wait()
+        zombie = self.child([OLDEST])
+        zombie.kill()
+        self.wait_for(zombie.pid, "Z")
+        profile = self.file("p", ALLOWS_ALL)
+        for pid, why in ((ended_child.pid, f"there is no process {ended_child.pid}"),
+                         (zombie.pid, f"process {zombie.pid} has ended, and only waits for its parent to ask how (it "
+                                      f"is a zombie)")):
+            for name, words in (("verify-process", (str(pid), profile)), ("surface", ("--pid", str(pid)))):
+                status, out, err = self.run_tool(name, "--json", *words)
+                self.assertEqual((status, err), (3, f"{name}: {why}\n"))
+                self.assertEqual(json.loads(out), {"status": 3, "verdict": None, "stacks": [], "why": why})
 
     @here
     def test_a_zombie(self):

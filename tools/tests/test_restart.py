@@ -1,22 +1,24 @@
 """System calls that a look interrupts: what the kernel makes of them behind it, under filters that allow restart_syscall
 and under others, on real processes."""
 import errno
+import json
 import os
 import signal
 import subprocess
+import threading
 import time
 import unittest
 from unittest import mock
 
 from common import (ALLOW, EPERM, I386, KILL_PROCESS, KILL_THREAD, PATIENCE, X86_64, Case, comes, jeq, load,
                     profile_of, ret)
-from confined import Confined, here, processes, ptrace
-from scftools import hold, restart
+from confined import USER_NOTIF, Confined, here, processes, ptrace
+from scftools import hold, program, restart
 
-TRAP, USER_NOTIF, TRACE, LOG = 0x00030000, 0x7FC00000, 0x7FF00000, 0x7FFC0000
+TRAP, TRACE, LOG = 0x00030000, 0x7FF00000, 0x7FFC0000
 DENIALS = (KILL_PROCESS, KILL_THREAD, EPERM, TRAP, USER_NOTIF, TRACE)
 # asm/unistd_64.h, asm/unistd_32.h
-NANOSLEEP, POLL, FUTEX, RESTART = 35, 7, 202, 219
+NANOSLEEP, POLL, MKDIR, FUTEX, RESTART = 35, 7, 83, 202, 219
 NANOSLEEP_32, POLL_32, FUTEX_32, CLOCK_NANOSLEEP_32, RESTART_32 = 162, 168, 240, 267, 0
 WAIT = 0.9
 # What a child waits with for 0.9 seconds: a timespec, a timeval, a word that is 0; and i386 calls, made by int 0x80:
@@ -261,6 +263,79 @@ class Restarts(Confined):
         for end in ends:
             os.close(end)
         self.ends(child, "nanosleep")
+
+
+@here
+class Supervised(Confined):
+    """Threads that wait for a supervisor: the kernel takes their calls back when they are stopped, and makes them anew."""
+
+    def waiting(self, number=MKDIR):
+        """A child whose call was received by its supervisor, and wasn't answered yet."""
+        child, supervisor = self.supervised(number)
+        self.do(child, f"print(library.syscall({number}, b'nowhere', 0o700), flush=True)")
+        call = supervisor.receives()
+        self.assertIsNotNone(call)
+        self.wait_for(child.pid, "S")
+        return child, supervisor, call
+
+    def is_made_once(self, child, supervisor, call):
+        self.assertTrue(supervisor.answers(call, 77))
+        self.assertEqual(child.stdout.readline(), "77\n")
+        self.runs_on(child)
+        self.assertEqual(supervisor.names, [MKDIR])
+
+    def test_a_thread_that_waits_is_not_stopped(self):
+        child, supervisor, call = self.waiting()
+        with self.assertRaises(processes.Unreadable) as caught:
+            processes.look_at_process(processes.Kernel(), child.pid, patience=0.3)
+        self.assertIn(f"process {child.pid} has waited for 0.27 seconds for the answer of a seccomp supervisor",
+                      str(caught.exception))
+        self.is_made_once(child, supervisor, call)
+
+    def test_it_is_looked_at_once_it_has_its_answer(self):
+        child, supervisor, call = self.waiting()
+        answered = []
+        answer = threading.Timer(0.3, lambda: answered.append(supervisor.answers(call, 77)))
+        answer.start()
+        found = processes.look_at_process(processes.Kernel(), child.pid, patience=PATIENCE)
+        answer.join()
+        self.assertEqual(answered, [True])
+        self.assertEqual([len(stack.filters) for stack in found.stacks], [1])
+        self.assertEqual(child.stdout.readline(), "77\n")
+        self.assertEqual((found.asked_again, supervisor.names, supervisor.receives(0)), ([], [MKDIR], None))
+        self.runs_on(child)
+
+    def test_the_tools(self):
+        """They stop it only where they are forced, and say what comes of it."""
+        profile = self.file("p", profile_of())
+        for name, words in (("filters-of", ("out",)), ("verify-process", (profile,)), ("surface", ())):
+            child, supervisor, _ = self.waiting()
+            pid = ("--pid", str(child.pid)) if name == "surface" else (str(child.pid),)
+            _, out, err = self.run_tool(name, "--force", *pid, *words)
+            self.assertIn(f"the system call of process {child.pid} is made anew, and its seccomp supervisor gets it a "
+                          f"second time\n", err if name == "filters-of" else out)
+            again = supervisor.receives()
+            self.assertTrue(supervisor.answers(again, 78))
+            self.assertEqual((child.stdout.readline(), supervisor.names), ("78\n", [MKDIR, MKDIR]))
+            self.runs_on(child)
+
+    def test_without_force(self):
+        """The tools say it after some seconds, and what forces them; --json is an object all the same."""
+        child, supervisor, call = self.waiting()
+        profile = self.file("p", profile_of())
+        status, out, err = self.run_tool("verify-process", "--json", str(child.pid), profile)
+        self.assertEqual(status, program.FAILED)
+        self.assertTrue(err.endswith(" (--force stops it)\n"), err)
+        self.assertEqual(json.loads(out), {"status": 3, "verdict": None, "stacks": [],
+                                           "why": err.partition(": ")[2].rstrip("\n")})
+        self.is_made_once(child, supervisor, call)
+
+    def test_a_filter_that_notifies_of_other_calls(self):
+        """Nothing is made anew that a supervisor answers."""
+        child, supervisor = self.supervised(MKDIR)
+        found = processes.look_at_process(processes.Kernel(), child.pid)
+        self.assertEqual((found.asked_again, supervisor.receives(0)), ([], None))
+        self.runs_on(child)
 
 
 class Numbers(Case):
