@@ -1,8 +1,15 @@
-"""Containers: which processes are taken for those of one, told by control groups (cgroups(7)) and namespaces."""
+"""Containers: which processes are taken for those of one, told by control groups (cgroups(7)) and namespaces.
+
+A process may be in a group below its container's: systemd puts itself into init.scope, and its services beside that.
+The container's own group is the highest one that something tells: the root of a mount of control groups that the
+process sees (a runtime mounts the container's own group, and no other), a name that a runtime gives, or systemd's names
+for groups beside one another. Where nothing does, it is the process's.
+"""
 from __future__ import annotations
 
 import os
-from collections.abc import Callable
+import re
+from collections.abc import Callable, Iterator
 from dataclasses import dataclass
 
 from . import output
@@ -12,6 +19,30 @@ from .ptrace import Kernel
 # The hierarchies of control groups in which a container is sought, in this order: the one of version 2, which names no
 # controllers, and of version 1 that of systemd and the one that counts processes.
 HIERARCHIES = ("", "name=systemd", "pids")
+# How runtimes name the group of a container: by its identifier of 64 hexadecimal digits, alone or as in libpod-ID,
+# docker-ID.scope, cri-containerd-ID.scope and crio-ID.scope; podman's has the container in a group below. runc and crun
+# by themselves make NAME.scope of a name; LXC and systemd-nspawn name what is the container's beside what is their own.
+NAMED = re.compile(rb".*/(?:(?:[a-z-]+-)?[0-9a-f]{64}(?:\.scope)?(?:/container)?|(?:runc|crun)-[^/]+\.scope(?:/container)?|"
+                   rb"lxc\.payload[./][^/]+|(?:machine-[^/]+\.scope|systemd-nspawn@[^/]+\.service)/payload)(?=/|\Z)")
+# systemd's groups (systemd.special(7)) where they aren't at the top, and aren't those of a user's service manager.
+OF_SYSTEMD = re.compile(rb"(/.*?[^/]+)/(?:init\.scope|system\.slice)(?:/|\Z)")
+OF_A_USER = re.compile(rb".*/user@[^/]*\.service")
+# How many processes are told that weren't looked at.
+MOST_SHOWN = 5
+
+
+@dataclass(frozen=True)
+class Group:
+    """A control group that is taken for a container's own."""
+
+    hierarchy: str
+    path: bytes
+    # Whether something tells that it is a container's.
+    is_told: bool
+
+    def has(self, kernel: Kernel, process: int) -> bool:
+        """Whether a process is in it or in a group below."""
+        return (kernel.groups_of(process).get(self.hierarchy, b"") + b"/").startswith(self.path + b"/")
 
 
 @dataclass
@@ -21,6 +52,8 @@ class Container:
     # What they have in common: the path of a control group; None where it is a PID namespace.
     group: bytes | None
     processes: Callable[[], list[int]]
+    # Those of the PID namespace in other groups, of which nothing tells whether they are the container's.
+    others: Callable[[], list[int]] = list
 
     @property
     def told(self) -> str:
@@ -32,9 +65,21 @@ def why_no_group(process: int, path: bytes) -> str:
             f"shows the control group of the process as {output.escaped(path)}: run it in the initial one")
 
 
-def container_of(kernel: Kernel, process: int) -> Container:
-    """The processes of the control group of a process, and of those below it; where that is the root, those of its PID
-    namespace, and of those within it.
+def told_groups(kernel: Kernel, process: int, path: bytes) -> Iterator[bytes]:
+    """The groups at or above that of a process which something tells to be a container's."""
+    for root in kernel.mounted_groups(process):
+        if root != b"/" and (path + b"/").startswith(root + b"/"):
+            yield root
+    named = NAMED.match(path)
+    if named:
+        yield named[0]
+    below = OF_SYSTEMD.match(path)
+    if below and not OF_A_USER.fullmatch(below[1]):
+        yield below[1]
+
+
+def group_of(kernel: Kernel, process: int) -> Group | None:
+    """The container's own group of a process, or None where it is in the root group.
 
     In a cgroup namespace the kernel shows its root as `/`, whichever group that is, and what is outside as `/..` and
     what follows, so that what is in such a group isn't known.
@@ -46,15 +91,47 @@ def container_of(kernel: Kernel, process: int) -> Container:
             continue
         if path.startswith(b"/../") or path == b"/..":
             raise Unreadable(why_no_group(process, path))
-
-        def is_member(other: int, name: str = name, path: bytes = path) -> bool:
-            return (kernel.groups_of(other).get(name, b"") + b"/").startswith(path + b"/")
-
-        return Container(path, lambda: [it for it in kernel.processes() if is_member(it)])
+        told = list(told_groups(kernel, process, path))
+        return Group(name, min(told, key=len, default=path), bool(told))
     if any(name in groups for name in HIERARCHIES) and not kernel.is_root_the_first():
         raise Unreadable(why_no_group(process, b"/"))
-    space = kernel.namespaces_of(process)[:1]
-    if not space or space == kernel.namespaces_of(os.getpid())[:1]:
+    return None
+
+
+def container_of(kernel: Kernel, process: int) -> Container:
+    """The processes of the container's own group of a process, and of those below it; where that is the root, those of
+    its PID namespace, and of those within it."""
+    group = group_of(kernel, process)
+    space, own = kernel.namespaces_of(process)[:1], kernel.namespaces_of(os.getpid())[:1]
+    has_space = bool(space) and space != own
+
+    def in_space() -> list[int]:
+        return [it for it in kernel.processes() if has_space and space[0] in kernel.namespaces_of(it)]
+
+    if group is not None:
+        return Container(group.path, lambda: [it for it in kernel.processes() if group.has(kernel, it)],
+                         lambda: [it for it in in_space() if not group.has(kernel, it) and is_unknown(kernel, it)])
+    if not has_space:
         raise Unreadable(f"process {process} is in no container: its control group is the root, and its PID namespace "
                          f"that of this tool")
-    return Container(None, lambda: [it for it in kernel.processes() if space[0] in kernel.namespaces_of(it)])
+    return Container(None, in_space)
+
+
+def is_unknown(kernel: Kernel, process: int) -> bool:
+    """Whether nothing tells which container a process is in."""
+    try:
+        group = group_of(kernel, process)
+    except Unreadable:
+        return True
+    return group is None or not group.is_told
+
+
+def others_told(kernel: Kernel, container: Container) -> str | None:
+    """What is said of processes that may be the container's, too, and aren't looked at."""
+    others = container.others()
+    if not others:
+        return None
+    shown = ", ".join(f"{it} ({output.escaped(kernel.name_of(it))})" for it in others[:MOST_SHOWN])
+    rest = f" and {len(others) - MOST_SHOWN} more" if len(others) > MOST_SHOWN else ""
+    return (f"in its PID namespace, and in other control groups, are processes that weren't looked at: {shown}{rest}; "
+            f"whether they are the container's can't be known")

@@ -5,6 +5,7 @@ import ctypes
 import errno
 import fcntl
 import os
+import re
 import struct
 
 # sys/ptrace.h
@@ -31,6 +32,8 @@ NS_GET_PARENT = 0xB702
 PROC_CGROUP_INIT_INO = 0xEFFFFFFB
 # The most bytes of a file of /proc that are read.
 MAX_CONTENTS = 1 << 20
+# A byte of a path in a file of /proc that separates its fields.
+OCTAL = re.compile(rb"\\([0-3][0-7]{2})")
 
 
 def numbers_in(folder: str) -> list[int]:
@@ -132,6 +135,15 @@ class Kernel:
             controllers, _, path = rest.partition(b":")
             if path:
                 found.update((name, path) for name in controllers.decode("utf-8", "replace").split(","))
+        return found
+
+    def mounted_groups(self, process: int) -> list[bytes]:
+        """The control groups that are the roots of what a process sees mounted of them (proc_pid_mountinfo(5))."""
+        found = []
+        for line in contents(f"/proc/{process}/mountinfo").split(b"\n"):
+            fields, _, source = line.partition(b" - ")
+            if source.startswith((b"cgroup ", b"cgroup2 ")) and fields.count(b" ") > 3:
+                found.append(OCTAL.sub(lambda it: bytes([int(it[1], 8)]), fields.split(b" ")[3]))
         return found
 
     def is_root_the_first(self) -> bool:

@@ -272,6 +272,12 @@ class FakeKernel:
     def processes(self):
         return [7]
 
+    def namespaces_of(self, _):
+        return [(1, 1)]
+
+    def mounted_groups(self, _):
+        return [b"/"]
+
     def threads_of(self, _):
         return list(self.listings.pop(0) if len(self.listings) > 1 else self.listings[0])
 

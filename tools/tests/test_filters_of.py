@@ -470,22 +470,74 @@ class Containers(Confined):
         with open(f"/proc/{pid}/task/{pid}/children", encoding="ascii") as file:
             return [int(it) for it in file.read().split()]
 
-    @here
-    @ROOT
-    def test_a_control_group(self):
+    def grouped(self, *places):
+        """Puts processes into a control group of the test's own and into groups below it; gives its path.
+
+        Each place is a child, the name of its group below, and the number of the process."""
         tops = ("/sys/fs/cgroup", "/sys/fs/cgroup/unified")
         top = next((it for it in tops if os.path.exists(f"{it}/cgroup.procs")), None)
         group = f"{top}/scf-test-{os.getpid()}"
-        children = [self.child([refusing(MOUNT)]), self.child([refusing(UMOUNT2)])]
+        self.addCleanup(self.without, [child for child, _, _ in places], group)
         try:
-            os.makedirs(f"{group}/inner")
-            for child, name in zip(children, (group, f"{group}/inner")):
-                with open(f"{name}/cgroup.procs", "w", encoding="ascii") as file:
-                    file.write(str(child.pid))
+            for _, name, number in places:
+                os.makedirs(f"{group}/{name}", exist_ok=True)
+                with open(f"{group}/{name}/cgroup.procs", "w", encoding="ascii") as file:
+                    file.write(str(number))
         except (OSError, TypeError) as error:
             self.skipTest(f"no control group can be made here: {error}")
-        finally:
-            self.addCleanup(self.without, children, group)
+        return f"/scf-test-{os.getpid()}"
+
+    @here
+    @ROOT
+    def test_systemd_in_a_container(self):
+        """It is in a group of its own, beside those of its services: these are looked at, too."""
+        children = [self.child([refusing(MOUNT)]), self.child([refusing(UMOUNT2)])]
+        names = ("init.scope", "system.slice/x.service")
+        group = self.grouped(*((child, name, child.pid) for child, name in zip(children, names)))
+        for child in children:
+            status, out, err = self.verify(child.pid, refuses("mount"), "--all")
+            self.assertEqual((status, err, [block.split("\n")[0] for block in out.split("\n\n")]),
+                             (1, "", ["differs", "same"]))
+            self.assertEqual(comments(out)[-1], f"the container is the control group {group}; processes of it that were "
+                                                f"looked at: 2")
+
+    @here
+    @ROOT
+    def test_processes_of_its_namespace_in_other_groups(self):
+        """Nothing tells whether they are the container's: it isn't said that it is confined."""
+        if not shutil.which("unshare"):
+            self.skipTest("there is no unshare here")
+        name = self.file("kept", refusing(MOUNT))
+        child = subprocess.Popen(["unshare", "--pid", "--fork", "--kill-child", sys.executable, "-c", CHILD, "[[]]"],
+                                 stdin=subprocess.PIPE, stdout=subprocess.PIPE, text=True)
+        self.addCleanup(ended, child)
+        if child.stdout.readline() != "1\n":
+            self.skipTest("no PID namespace can be made here")
+        self.do(child, f"confine([{name!r}]); os.fork() or time.sleep(1000); print(2, flush=True)")
+        self.assertEqual(child.stdout.readline(), "2\n")
+        first = self.children(child.pid)[0]
+        second = self.children(first)[0]
+        self.skip_in_a_group(first)
+        group = self.grouped((child, "inner", first))
+        status, out, err = self.verify(first, refuses("mount"), "--all")
+        with open(f"/proc/{second}/comm", encoding="utf-8") as file:
+            called = file.read().strip()
+        told = (f"in its PID namespace, and in other control groups, are processes that weren't looked at: {second} "
+                f"({called}); whether they are the container's can't be known")
+        self.assertEqual((status, err, comments(out)[-2:]),
+                         (4, "", [told, f"the container is the control group {group}/inner; processes of it that were "
+                                        f"looked at: 1"]))
+        found = json.loads(self.verify(first, refuses("mount"), "--all", "--json")[1])
+        self.assertEqual((found["status"], found["verdict"], found["others"]), (4, None, told))
+        # where both are, all is known
+        self.grouped((child, "inner", second))
+        self.assertEqual(self.verify(first, refuses("mount"), "--all")[0], 0)
+
+    @here
+    @ROOT
+    def test_a_control_group(self):
+        children = [self.child([refusing(MOUNT)]), self.child([refusing(UMOUNT2)])]
+        self.grouped((children[0], "", children[0].pid), (children[1], "inner", children[1].pid))
         status, out, err = self.verify(children[0].pid, refuses("mount"), "--all")
         self.assertEqual((status, err, [block.split("\n")[0] for block in out.split("\n\n")]),
                          (1, "", ["differs", "same"]))
@@ -499,15 +551,14 @@ class Containers(Confined):
         for child in children:
             child.kill()
             child.wait()
-        for name in (f"{group}/inner", group):
-            for _ in range(100):
+        for _ in range(100):
+            for name, _, _ in os.walk(group, topdown=False):
                 try:
                     os.rmdir(name)
-                    break
-                except FileNotFoundError:
-                    break
                 except OSError:
                     time.sleep(0.02)
+            if not os.path.exists(group):
+                break
 
     def started(self, runtime, profile):
         """Why a runtime starts no container with this profile, or None where it runs."""
@@ -578,6 +629,32 @@ class Containers(Confined):
         status, out, err = self.verify(pid, json.dumps(profile), "--all")
         self.assertEqual((status, err), (1, ""))
         self.assertIn("processes of it that were looked at: 1", out)
+
+    @here
+    @ROOT
+    def test_a_container_whose_processes_are_in_groups_of_their_own(self):
+        """The container's own group is the one that its runtime mounted."""
+        pid = self.container({"defaultAction": "SCMP_ACT_ALLOW", "architectures": ["SCMP_ARCH_X86_64"],
+                              "syscalls": [{"names": ["mount", "ptrace"], "action": "SCMP_ACT_ERRNO", "errnoRet": 1}]},
+                             "runc")
+        name = f"scf-test-{os.getpid()}"
+        subprocess.run(["runc", "exec", "--detach", name, "busybox", "sleep", "1000"], check=True,
+                       stdin=subprocess.DEVNULL, stdout=subprocess.DEVNULL, stderr=subprocess.DEVNULL)
+        kernel = processes.Kernel()
+        hierarchy = next((it for it in containers.HIERARCHIES if kernel.groups_of(pid).get(it, b"/") != b"/"), None)
+        folder = {"": "unified", "name=systemd": "systemd"}.get(hierarchy, str(hierarchy))
+        top = next((it for it in (f"/sys/fs/cgroup/{folder}", "/sys/fs/cgroup") if os.path.exists(f"{it}/cgroup.procs")),
+                   None)
+        group = kernel.groups_of(pid)[hierarchy].decode()
+        if top is None or not os.path.isdir(f"{top}{group}"):
+            self.skipTest("the container has no control group of its own here")
+        os.mkdir(f"{top}{group}/first")
+        with open(f"{top}{group}/first/cgroup.procs", "w", encoding="ascii") as file:
+            file.write(str(pid))
+        config = os.path.join(self.folder, "box/config.json")
+        status, out, err = self.run_tool("verify-process", "--all", str(pid), config)
+        self.assertEqual((status, err, comments(out)[-1]),
+                         (0, "", f"the container is the control group {group}; processes of it that were looked at: 2"))
 
     @here
     @ROOT

@@ -1,0 +1,88 @@
+"""scftools.containers: the container's own control group, as runtimes and systemd name and mount it."""
+import sys
+import unittest
+import unittest.mock
+
+from common import Case
+from confined import FakeKernel, processes, ptrace
+from scftools import containers
+
+IDENTIFIER = "0123456789abcdef" * 4
+# The group of a process, and the container's: as the documents of the runtimes show them (podman-run(1) --cgroups,
+# Kubernetes' cgroup drivers, systemd-nspawn(1), lxc.container.conf(5)); None where no name tells it.
+NAMES = {
+    "/machine.slice/libpod-ID.scope/container": "/machine.slice/libpod-ID.scope/container",
+    "/machine.slice/libpod-ID.scope/container/init.scope": "/machine.slice/libpod-ID.scope/container",
+    "/user.slice/user-1000.slice/user@1000.service/user.slice/libpod-ID.scope/container/system.slice/x.service":
+        "/user.slice/user-1000.slice/user@1000.service/user.slice/libpod-ID.scope/container",
+    "/libpod_parent/libpod-ID": "/libpod_parent/libpod-ID",
+    "/system.slice/docker-ID.scope": "/system.slice/docker-ID.scope",
+    "/system.slice/docker-ID.scope/system.slice/x.service": "/system.slice/docker-ID.scope",
+    "/docker/ID/init.scope": "/docker/ID",
+    "/kubepods.slice/kubepods-pod12.slice/cri-containerd-ID.scope/a/b":
+        "/kubepods.slice/kubepods-pod12.slice/cri-containerd-ID.scope",
+    "/kubepods.slice/kubepods-pod12.slice/crio-ID.scope": "/kubepods.slice/kubepods-pod12.slice/crio-ID.scope",
+    "/kubepods/burstable/pod12/ID": "/kubepods/burstable/pod12/ID",
+    "/system.slice/runc-box.scope/first": "/system.slice/runc-box.scope",
+    "/machine.slice/machine-box.scope/payload/init.scope": "/machine.slice/machine-box.scope/payload",
+    "/machine.slice/systemd-nspawn@box.service/payload/system.slice/x.service":
+        "/machine.slice/systemd-nspawn@box.service/payload",
+    "/lxc.payload.box/init.scope": "/lxc.payload.box",
+    # a container in a container
+    "/docker/ID/docker/ID/init.scope": "/docker/ID/docker/ID",
+    "/box/init.scope": "/box",
+    # no containers: systemd's own groups, and one that says nothing
+    "/init.scope": None,
+    "/system.slice/x.service": None,
+    "/user.slice/user-1000.slice/user@1000.service/init.scope": None,
+    "/user.slice/user-1000.slice/session-1.scope": None,
+    "/box/inner": None,
+}
+
+
+class Groups(Case):
+    def group_of(self, path, roots=(b"/",)):
+        kernel = FakeKernel()
+        kernel.groups_of, kernel.mounted_groups = lambda _: {"": path.encode()}, lambda _: list(roots)
+        return containers.group_of(kernel, 7)
+
+    def test_names(self):
+        for path, expected in NAMES.items():
+            path, expected = path.replace("ID", IDENTIFIER), (expected or path).replace("ID", IDENTIFIER)
+            with self.subTest(path):
+                found = self.group_of(path)
+                self.assertEqual((found.path.decode(), found.is_told), (expected, NAMES[path.replace(IDENTIFIER, "ID")]
+                                                                        is not None))
+
+    def test_mounts(self):
+        """A runtime mounts the container's own group; what isn't above the process says nothing."""
+        for path, roots, expected in (("/box/inner/most", ["/box"], "/box"), ("/box/inner", ["/box/inner", "/box"], "/box"),
+                                      ("/box", ["/box"], "/box"), ("/box/inner", ["/bo", "/", "/../x"], None),
+                                      (f"/box/docker/{IDENTIFIER}/a", ["/box"], "/box")):
+            found = self.group_of(path, [root.encode() for root in roots])
+            self.assertEqual((found.path.decode(), found.is_told), (expected or path, expected is not None))
+
+    def test_mounts_of_a_process(self):
+        text = (b"78 77 0:45 / /sys/fs/cgroup rw - tmpfs tmpfs rw\n79 78 0:29 /a\\040b\\134 /sys/fs/cgroup/cpu ro shared:1 "
+                b"master:2 - cgroup cgroup rw,cpu\n80 78 0:30 /c /sys/fs/cgroup ro - cgroup2 cgroup rw\nx - cgroup \n")
+        with unittest.mock.patch.object(ptrace, "contents", return_value=text):
+            self.assertEqual(processes.Kernel().mounted_groups(7), [b"/a b\\", b"/c"])
+
+    def test_other_processes_of_its_namespace(self):
+        """Those of which nothing tells whose they are, but not those of another container."""
+        own, other = f"/docker/{IDENTIFIER}", f"/docker/{IDENTIFIER[::-1]}"
+        groups = {7: own, 8: f"{own}/a", 9: other, 10: "/", 11: "/user.slice/x", 12: "/user.slice/x", 13: "/../y"}
+        kernel = FakeKernel()
+        kernel.processes, kernel.groups_of = lambda: list(groups), lambda it: {"": groups[it].encode()}
+        kernel.namespaces_of = lambda it: [(1, 1)] if it in (12, containers.os.getpid()) else [(1, 7), (1, 1)]
+        container = containers.container_of(kernel, 7)
+        self.assertEqual((container.processes(), container.others()), ([7, 8], [10, 11, 13]))
+        self.assertIn("10 (fake), 11 (fake), 13 (fake); whether", containers.others_told(kernel, container))
+        # it shares the tool's namespace
+        kernel.namespaces_of = lambda _: [(1, 1)]
+        container = containers.container_of(kernel, 7)
+        self.assertEqual((container.processes(), containers.others_told(kernel, container)), ([7, 8], None))
+
+
+if __name__ == "__main__":
+    sys.exit(unittest.main())
