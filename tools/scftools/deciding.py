@@ -150,8 +150,9 @@ def added(filters: Sequence[Filter], one: Asked, decision: Decision, table: Tabl
     if decision.answer:
         givers = paths.givers(filters, one.words(), decision.answer)
         yield from of_givers(filters, givers)
-        if givers:
-            yield f"the path in {givers[-1].told()}: {givers[-1].path.told()}"
+        giver = paths.shown(givers)
+        if giver is not None:
+            yield f"the path in {giver.told()}: {giver.path.told()}"
 
 
 def decide(filters: Sequence[Filter], one: Asked) -> tuple[int, Decision]:
@@ -198,10 +199,11 @@ def of_stack(filters: Sequence[Filter], one: Asked, table: Table) -> Told:
     def as_json() -> dict[str, object]:
         found = _json_of(filters, one, decision, table)
         givers = paths.givers(filters, one.words(), decision.answer) if decision.answer else []
-        if givers:
+        giver = paths.shown(givers)
+        if giver is not None:
             if len(filters) > 1:
                 found["filters"] = [it.filter.name for it in givers]
-            found["path"] = givers[-1].as_json()
+            found["path"] = giver.as_json()
         return found
 
     return Told(status, [decision.line] if decision.line else [], lambda: added(filters, one, decision, table), as_json)

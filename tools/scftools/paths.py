@@ -77,6 +77,18 @@ def givers(filters: Sequence[Filter], words: Sequence[str], answer: Answer) -> l
     return [it for it in runs if it.path.decision.answer == answer and it.path.places]
 
 
+def shown(found: Sequence[Giver]) -> Giver | None:
+    """The one of the filters that give an answer whose path is shown: the last, from which the kernel takes it.
+
+    ALLOW it takes from none, since that is what it begins with: then the one that runs the most instructions, where
+    others may not even look at the call.
+    """
+    if not found:
+        return None
+    is_allowed = found[-1].path.decision.answer == Answer("ALLOW", 0)
+    return max(reversed(found), key=lambda it: len(it.path.places)) if is_allowed else found[-1]
+
+
 def _words_of(call: Call) -> list[int]:
     """The words of a call record, in their order (struct seccomp_data in linux/seccomp.h)."""
     halves = (half for it in (call.pointer or 0, *call.arguments) for half in (it & 0xFFFFFFFF, it >> 32))

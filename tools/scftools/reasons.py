@@ -175,7 +175,8 @@ def of_difference(comparison: Comparison, verdict: Verdict) -> Iterator[str]:
     else:
         reason = of(comparison.profile, comparison.table, words)
         yield from told(reason, comparison.profile, verdict.call, comparison.origins)
-    for giver in paths.givers(comparison.filters, words, verdict.filters)[-1:]:
+    giver = paths.shown(paths.givers(comparison.filters, words, verdict.filters))
+    if giver is not None:
         before, lines = paths.last_tests(giver.filter.data, giver.path, verdict.call, comparison.table)
         yield f"the last tests on the way in {giver.told()}" + (f", behind {before} others:" if before else ":")
         yield from lines
@@ -191,6 +192,7 @@ def difference_as_json(comparison: Comparison, verdict: Verdict) -> dict[str, ob
     else:
         reason = of(comparison.profile, comparison.table, words)
         found = as_json(reason, comparison.profile, verdict.call, comparison.origins)
-    for giver in paths.givers(comparison.filters, words, verdict.filters)[-1:]:
+    giver = paths.shown(paths.givers(comparison.filters, words, verdict.filters))
+    if giver is not None:
         found["path"] = giver.as_json()
     return found
