@@ -31,7 +31,12 @@ packages is imported. So it adds its own folder to the path of imports, by its r
     straces     logs of strace
     needing     what a program needs of a profile, by a log of strace
     engines     what a container engine makes of its own profile for one container
-    processes   processes: all of their threads held still, and the filters that the kernel keeps of each
+    child       a function in a child process, which ends in time whatever it waits in
+    ptrace      what is asked of the kernel of processes, by ptrace(2) and by /proc
+    restart     system calls that a stop interrupts, and how they go on
+    hold        threads that are held still while their filters are read
+    containers  which processes are taken for those of one container
+    processes   processes, and the filters that the kernel keeps of their threads
     foreign     calls that aren't native: whether any is let through
     questions   whether filters refuse or make each call of a number, by profiles of a single answer
     unnamed     native calls whose numbers a table doesn't name: of how many numbers some are let through

@@ -15,7 +15,8 @@ from dataclasses import dataclass, field
 from . import child, output, program
 from .child import Interrupted
 from .containers import Container, container_of
-from .hold import INSTRUCTION, Ended, Hold, Unreadable, Waiting, called, require_rights, stack_of
+from .filters import Filter
+from .hold import Ended, Hold, Unreadable, Waiting, called, require_rights, stack_of
 from .ptrace import Kernel
 
 TYPE_CHECKING = False
@@ -52,13 +53,19 @@ class Stack:
     threads: dict[int, list[int]] = field(default_factory=dict)
 
     @property
+    def named(self) -> list[Filter]:
+        """The filters, by the names that `tools/filters-of` gives their files."""
+        width = len(str(len(self.filters) - 1))
+        return [Filter(f"{at:0{width}}.bpf", data) for at, data in enumerate(self.filters)]
+
+    @property
     def told(self) -> str:
         """How many filters there are, and how long."""
         if self.is_strict:
             return "no filter, but the strict mode of seccomp(2)"
         if not self.filters:
             return "no filter"
-        sizes = ", ".join(str(len(data) // INSTRUCTION) for data in self.filters)
+        sizes = ", ".join(str(one.count) for one in self.named)
         return f"{len(self.filters)} filter{'s' * (len(self.filters) > 1)}, of {sizes} instructions"
 
 

@@ -66,8 +66,7 @@ def of_process(found: Found, asked: Asked) -> list[Block]:
     blocks = []
     for stack in found.stacks:
         if stack.filters:
-            names = [Filter(f"filter {at}", data) for at, data in enumerate(stack.filters)]
-            blocks.append(of_stack(names, asked, stack))
+            blocks.append(of_stack(stack.named, asked, stack))
             if blocks[-1].is_of_all:
                 break
         else:

@@ -6,7 +6,6 @@ from dataclasses import dataclass, replace
 
 from . import comparing, foreign, newer, output, program, runtimes, verdicts
 from .comparing import Comparison
-from .filters import Filter
 from .processes import Found, Stack, threads_told
 from .runtimes import Applied
 from .tables import Table
@@ -66,8 +65,7 @@ def judged(stack: Stack, asked: Asked) -> Block:
     if not stack.filters:
         # the strict mode allows four calls, which no profile says
         return Block(stack, program.UNKNOWN if stack.is_strict else program.REFUSED)
-    filters = [Filter(f"filter {at}", data) for at, data in enumerate(stack.filters)]
-    comparison = Comparison(filters, asked.profile, asked.table, asked.limit, asked.relation)
+    comparison = Comparison(stack.named, asked.profile, asked.table, asked.limit, asked.relation)
     if asked.applied is None:
         status, report = comparison.run(asked.scope)
         return Block(stack, status, comparison, report)

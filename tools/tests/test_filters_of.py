@@ -252,7 +252,7 @@ class FiltersOf(Confined):
         """Also where one comes behind the look at the folder; then none of the filters is left there."""
         self.file("out/1.bpf", b"old")
         with self.assertRaises(FileExistsError):
-            filters_of.write([OLDEST, NEWEST], os.path.join(self.folder, "out"))
+            filters_of.write(processes.Stack((OLDEST, NEWEST), False).named, os.path.join(self.folder, "out"))
         self.assertEqual(glob.glob(os.path.join(self.folder, "out/*")), [os.path.join(self.folder, "out/1.bpf")])
         self.assertEqual(self.read("out/1.bpf"), b"old")
 
@@ -278,6 +278,22 @@ class VerifyProcess(Confined):
         self.assertTrue(out.startswith("differs\ncall nr "), out)
         self.assertIn("the filters answer ALLOW: the call is made", comments(out))
         self.runs_on(child)
+
+    @here
+    def test_which_filter_is_shown(self):
+        """It is called as `filters-of` calls its file. The kernel takes an answer from the newest filter that gives it,
+        and ALLOW from none: then the one is shown that looks at the call."""
+        child = self.child([refusing(MOUNT), OLDEST])
+        status, out = self.verify(child, ALLOWS_ALL)
+        self.assertEqual(status, 1)
+        self.assertIn("\n# the last tests on the way in 0.bpf, filter 1 of 2:\n", out)
+        status, out = self.verify(child, refuses("umount2"), "--no-more")
+        self.assertEqual((status, out.split("\n")[0]), (1, "more"))
+        self.assertIn("\n# the last tests on the way in 0.bpf, filter 1 of 2:\n", out)
+        self.assertEqual(self.run_tool("filters-of", str(child.pid), "out")[1], "out/0.bpf\nout/1.bpf\n")
+        child = self.child([refusing(MOUNT), refusing(MOUNT)])
+        out = self.verify(child, ALLOWS_ALL)[1]
+        self.assertIn("\n# the last tests on the way in 1.bpf, filter 2 of 2:\n", out)
 
     @here
     def test_threads_that_differ(self):
