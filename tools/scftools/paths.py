@@ -85,7 +85,8 @@ def shown(found: Sequence[Giver]) -> Giver | None:
     """
     if not found:
         return None
-    is_allowed = found[-1].path.decision.answer == Answer("ALLOW", 0)
+    answer = found[-1].path.decision.answer
+    is_allowed = answer is not None and answer.action == "ALLOW"
     return max(reversed(found), key=lambda it: len(it.path.places)) if is_allowed else found[-1]
 
 

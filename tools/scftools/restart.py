@@ -12,9 +12,9 @@ import errno
 from collections.abc import Sequence
 from dataclasses import dataclass
 
-from . import bundles, program, verdicts
+from . import bundles, paths, program, verdicts
 from .answers import I386, X86_64, X32, Answer
-from .filters import INSTRUCTION, RETURN_CONSTANT
+from .filters import INSTRUCTION, LOAD_WORD, POINTER, RETURN_CONSTANT
 from .ptrace import Kernel
 
 # linux/errno.h. What a handler of a signal doesn't interrupt begins anew by each of them but the last, by which it goes
@@ -78,6 +78,7 @@ class Restarts:
         self.calls: dict[int, list[Call]] = {}
         # Those of them that would go on by restart_syscall.
         self.changed: set[int] = set()
+        self.are_by_number: dict[tuple[tuple[bytes, ...], Call], bool] = {}
         self.answers: dict[tuple[tuple[bytes, ...], Call], Answer | None] = {}
 
     def at_stop(self, thread: int) -> None:
@@ -132,20 +133,36 @@ class Restarts:
         return None if answer is None else answer.lets_through
 
     def answer(self, filters: tuple[bytes, ...], call: Call) -> Answer | None:
-        """What filters answer to a call; each is asked of scf once."""
-        key = filters, call
+        """What filters answer to a call; where they look at its number alone, that is asked of scf once."""
+        general = Call(call.architecture, call.number, 0, (0,) * len(call.arguments))
+        if (filters, general) not in self.are_by_number:
+            self.are_by_number[filters, general] = all(is_by_number(data, general) for data in filters)
+        key = filters, general if self.are_by_number[filters, general] else call
         if key not in self.answers:
-            self.answers[key] = answer_of(filters, call)
+            self.answers[key] = answer_of(filters, key[1])
         return self.answers[key]
 
 
-def answer_of(filters: tuple[bytes, ...], call: Call) -> Answer | None:
-    """What filters answer to a call, or None where scf can't tell. It isn't built for that, which takes long."""
+def run(words: Sequence[str], given: bytes) -> str:
+    """What scf prints; nothing where it isn't there. It isn't built for that, which takes long."""
     path = program.built()
     if path is None:
-        return None
+        return ""
     try:
-        done = program.run(path, ["decide", *call.words()], bundles.of_stack(filters))
+        return program.run(path, words, given).text
     except (program.Refused, OSError):
-        return None
-    return verdicts.decision(done.text).answer
+        return ""
+
+
+def answer_of(filters: tuple[bytes, ...], call: Call) -> Answer | None:
+    """What filters answer to a call, or None where scf can't tell."""
+    return verdicts.decision(run(["decide", *call.words()], bundles.of_stack(filters))).answer
+
+
+def is_by_number(data: bytes, call: Call) -> bool:
+    """Whether a filter answers a call without a look at its arguments and its instruction pointer: then each call of
+    that number and architecture takes the same path."""
+    found = paths.PRINTED.fullmatch("".join(program.lines_of(run(["run", "--path", *call.words()], data))[1:2]))
+    insns = list(INSTRUCTION.iter_unpack(data))
+    return found is not None and not any(insns[int(place)][0] == LOAD_WORD and insns[int(place)][3] >= POINTER[0]
+                                         for place in found[1].split())

@@ -185,6 +185,21 @@ class Restarts(Confined):
             self.assertEqual(child.stdout.readline(), f"{other} 0\n")
             self.runs_on(child)
 
+    def test_a_filter_that_looks_at_arguments(self):
+        """It allows restart_syscall behind one call, and not behind another: each thread goes on by its own."""
+        # (the third argument's low half: linux/seccomp.h)
+        child = self.child([load(0) + jeq(RESTART, 1, 0) + ret(ALLOW) + load(32) + jeq(900, 0, 1) + ret(ALLOW)
+                            + ret(KILL_PROCESS)])
+        self.do(child, "threading.Thread(target=lambda: print(library.syscall(7, None, 0, 901), flush=True)).start()")
+        self.assertTrue(comes(lambda child=child: len(os.listdir(f"/proc/{child.pid}/task")) == 2))
+        other = next(int(it) for it in os.listdir(f"/proc/{child.pid}/task") if int(it) != child.pid)
+        self.waits(child, *CALLS["poll"][1::-1])
+        self.assertEqual(self.call_of(other), POLL)
+        processes.look_at_process(processes.Kernel(), child.pid)
+        self.assertEqual((self.next_call_of(child), self.call_of(other)), (RESTART, POLL))
+        self.assertEqual(sorted(child.stdout.readline().split()[0] for _ in range(2)), ["0", "0"])
+        self.runs_on(child)
+
     def test_a_program_of_i386(self):
         source = self.file("sleep.c", PROGRAM_32)
         program, given = os.path.join(self.folder, "sleep"), self.file("f", denying(KILL_PROCESS))
