@@ -25,9 +25,9 @@ if TYPE_CHECKING:
 PR_SET_PDEATHSIG = 1
 # The signals that end a tool where they aren't ignored.
 ENDING = (signal.SIGHUP, signal.SIGINT, signal.SIGQUIT, signal.SIGTERM)
-# How often the tool looks for signals while it waits for the child, how much later than the tool the child's own timer
-# ends it, and how long a child that was killed is waited for, in seconds.
-PAUSE, TIMER_DELAY, LAST_WAIT = 0.05, 0.5, 0.2
+# How often the tool looks for signals while it waits for the child, and how long a child may take to end by one; how
+# much later than the tool the child's own timer ends it, and how long a child that was killed is waited for, in seconds.
+PAUSE, TO_END, TIMER_DELAY, LAST_WAIT = 0.05, 1.0, 0.5, 0.2
 
 
 class Interrupted(Exception):
@@ -82,12 +82,13 @@ def run(work: Callable[[], Result], seconds: float) -> Result:
 
 
 def _output_of(child: int, file: int, heeded: set[int], until: float) -> bytes:
-    """All that the child writes; it is told of the signals that end this process."""
+    """All that the child writes; it is told of the signals that end this process, and ends soon then."""
     pieces: list[bytes] = []
+    late: Exception = Late()
     while True:
         left = until - time.monotonic()
         if left <= 0:
-            raise Late()
+            raise late
         if select.select([file], [], [], min(left, PAUSE))[0]:
             pieces.append(os.read(file, 1 << 16))
             if not pieces[-1]:
@@ -95,6 +96,7 @@ def _output_of(child: int, file: int, heeded: set[int], until: float) -> bytes:
         came = signal.sigtimedwait(heeded, 0) if heeded else None
         if came:
             os.kill(child, came.si_signo)
+            late, until = Interrupted(came.si_signo), min(until, time.monotonic() + TO_END)
 
 
 def _wait_for(child: int) -> None:

@@ -5,6 +5,7 @@ import signal
 import sys
 import time
 import unittest
+from unittest import mock
 
 from common import TOP, Case, comes
 
@@ -90,6 +91,9 @@ class Child(Case):
             child.run(waits, 60)
         self.assertEqual((caught.exception.args, came), ((signal.SIGTERM,), []))
         self.assertEqual(signal.pthread_sigmask(signal.SIG_BLOCK, ()), set())
+        # a child that waits for something else than signals is killed
+        with mock.patch.object(child, "TO_END", 0.1), self.assertRaises(child.Interrupted):
+            child.run(lambda: os.kill(os.getppid(), signal.SIGTERM) or time.sleep(600), 60)
         signal.signal(signal.SIGTERM, signal.SIG_IGN)
         with self.assertRaises(child.Late):
             child.run(waits, 0.3)

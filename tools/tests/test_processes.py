@@ -157,6 +157,26 @@ class Asked(Case):
             self.assertEqual(asked, [SEIZE] * count + [INTERRUPT, GET, GET, GET, DETACH])
         self.refused(FakeKernel([OLDEST], {SEIZE: errno.EPERM}), "run this as root")
 
+    def test_registers_that_can_not_be_set(self):
+        """Of a thread in a call that would go on by restart_syscall: it is let go, and that is said."""
+        registers = {**FakeKernel().registers(7), "orig_rax": 35, "rax": 2**64 - 516}
+        for name, number in (("registers", errno.EIO), ("set_result", errno.EIO)):
+            kernel = FakeKernel([OLDEST])
+            kernel.registers, kernel.architecture_of_call = lambda _: registers, lambda _: None
+            kernel.set_result = lambda *_: None
+            setattr(kernel, name, mock.Mock(side_effect=OSError(number, "no")))
+            self.refused(kernel, "the registers of process 7 can't be read and set: no")
+            self.assertEqual(kernel.let_go(), [0])
+
+    def test_another_machine(self):
+        """Nothing is stopped where the registers are others."""
+        for patch in (mock.patch("os.uname", return_value=mock.Mock(machine="aarch64")),
+                      mock.patch("struct.calcsize", return_value=4)):
+            kernel = FakeKernel([OLDEST])
+            with patch:
+                self.refused(kernel, "only on x86-64")
+            self.assertEqual(kernel.asked, [])
+
     def test_none_is_stopped_before_all_are_traced(self):
         """PTRACE_SEIZE may take long, and where it does nothing is held."""
         kernel = FakeKernel([OLDEST], listings=[(7, 8, 9)])
