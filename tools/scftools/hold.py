@@ -30,8 +30,9 @@ PF_USER_WORKER = 0x00004000
 # How long the others are held for one that doesn't stop, in seconds: it may wait for one of them, as a thread in
 # vfork(2) does.
 HELD_FOR_ONE = 0.2
-# How long the kernel may refuse to stop a thread before that is believed, and how often it is asked, in seconds.
-REFUSED_FOR, PAUSE = 0.1, 0.005
+# How long the kernel may refuse to trace a thread before that is believed, how often it is asked, and how often it is
+# looked whether a supervisor has answered, in seconds.
+REFUSED_FOR, PAUSE, PAUSE_FOR_ANSWER = 0.1, 0.005, 0.02
 # The state of a stopped thread, as waitpid(2) gives it.
 STOPPED = 0x7F
 
@@ -70,7 +71,7 @@ def require_rights(kernel: Kernel) -> None:
 
 def why_it_makes_no_calls(kernel: Kernel, thread: int, process: int) -> str | None:
     """Why a thread that can't be stopped needs not be, or None where it may make calls."""
-    if process in (kernel.tool, os.getpid()):
+    if process == kernel.tool:
         return "is this tool itself"
     if kernel.status_of(thread).get("State", "Z")[:1] in "ZX":
         return "has ended, and only waits for its parent to ask how (it is a zombie)"
@@ -172,7 +173,7 @@ class Hold:
         while self.seize_listed() or self.seized or self.stopping:
             if self.waiting():
                 self.let_stopped_go()
-                time.sleep(PAUSE)
+                time.sleep(PAUSE_FOR_ANSWER)
                 self.look_at_traced()
             else:
                 self.interrupt_seized()
@@ -190,7 +191,8 @@ class Hold:
 
     def seize_listed(self) -> bool:
         """Traces each thread that is listed, and says whether the list was another one than what is held."""
-        listed = self.listed()
+        own = {os.getpid()} - {self.kernel.tool}
+        listed = {thread: process for thread, process in self.listed().items() if process not in own}
         held = {*self.seized, *self.stopping, *self.stopped}
         others = held - set(listed)
         for thread in sorted(others):
@@ -202,7 +204,7 @@ class Hold:
     def trace(self, thread: int, process: int) -> bool:
         """Whether there was a change: the thread is traced, or has ended since it was listed, or may yet be traced."""
         try:
-            if process in (self.kernel.tool, os.getpid()):
+            if process == self.kernel.tool:
                 raise OSError(errno.EPERM, os.strerror(errno.EPERM))
             self.seize(thread)
         except OSError as error:
