@@ -16,7 +16,7 @@ DOES = {
     "TRAP": "the call isn't made, and the thread gets SIGSYS",
     "KILL_THREAD": "the thread ends",
     "KILL_PROCESS": "the process ends",
-    "USER_NOTIF": "a supervisor answers the call",
+    "USER_NOTIF": "a supervisor answers the call; without one it fails with ENOSYS",
     "TRACE": "a tracer is told of the call; without one it fails with ENOSYS",
     "UNNAMED": "the process ends, since seccomp(2) names no such action",
 }

@@ -358,7 +358,8 @@ class Explain(Case):
     def test_what_each_answer_does(self):
         for answer, line, means in ((0x7FFC0000, "LOG 0", "LOG: the call is made, and logged"),
                                     (0x00030007, "TRAP 7", "TRAP 7: the call isn't made, and the thread gets SIGSYS"),
-                                    (0x7FC00000, "USER_NOTIF 0", "USER_NOTIF: a supervisor answers the call"),
+                                    (0x7FC00000, "USER_NOTIF 0", "USER_NOTIF: a supervisor answers the call; without "
+                                                                 "one it fails with ENOSYS"),
                                     (0x7FF00000, "TRACE 0",
                                      "TRACE 0: a tracer is told of the call; without one it fails with ENOSYS"),
                                     (0, "KILL_THREAD 0", "KILL_THREAD: the thread ends"),
