@@ -10,6 +10,8 @@ from . import inputs, program
 LINE = re.compile(rb"[ \t]*([A-Za-z_][A-Za-z0-9_]*)[ \t]+0*([0-9]{1,10})[ \t]*\r?")
 # So many names that no call has are told one by one, and so long ones have no nearest name.
 TOLD, LONGEST = 20, 64
+# How alike a nearest name is at least (difflib's ratio): two letters that are exchanged in a name of four.
+NEAR = 0.75
 
 
 class Table:
@@ -85,7 +87,7 @@ def nearest(name: str, table: Table) -> str | None:
         return None
     from difflib import get_close_matches  # pylint: disable=import-outside-toplevel
 
-    return next(iter(get_close_matches(name, list(table.names()), n=1)), None)
+    return next(iter(get_close_matches(name, list(table.names()), n=1, cutoff=NEAR)), None)
 
 
 def told_apart(names: Sequence[str], table: Table) -> Skipped:

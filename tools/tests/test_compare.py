@@ -169,7 +169,7 @@ class Compare(Case):
         self.assertEqual(self.run_tool("compare", self.same, self.file("p", profile)),
                          (0, "same\nskipped gone\nother SCMP_ARCH_X86\n# names of the profile that were skipped, "
                              "since the table doesn't name such calls: 1\n"
-                             "# no call that is known here is called gone; the nearest name of the table is clone\n"
+                             "# no call that is known here is called gone\n"
                              "# the other architectures of the profile aren't looked at\n", ""))
 
     def test_a_name_that_looks_like_a_verdict(self):

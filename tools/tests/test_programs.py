@@ -237,10 +237,12 @@ class Names(Case):
                           "of them calls of other architectures"])
 
     def test_names_that_no_call_has(self):
-        self.assertEqual(self.added(["read", "umont2", "waitpid", "zzqqzz"]),
-                         ["# names of the profile that were skipped, since the table doesn't name such calls: 3",
+        self.assertEqual(self.added(["read", "umont2", "waitpid", "raed", "gone", "frobnicate"]),
+                         ["# names of the profile that were skipped, since the table doesn't name such calls: 5",
                           "# no call that is known here is called umont2; the nearest name of the table is umount2",
-                          "# no call that is known here is called zzqqzz"])
+                          "# no call that is known here is called raed; the nearest name of the table is read",
+                          "# no call that is known here is called gone",
+                          "# no call that is known here is called frobnicate"])
 
     def test_many_of_them(self):
         added = self.added(["read", *(f"x{at}_y" for at in range(30))])
