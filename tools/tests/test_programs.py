@@ -182,10 +182,10 @@ class WhichFilter(Case):
         status, out, _ = self.run_tool("decide", self.allow, self.one, self.two)
         self.assertEqual((status, out.split("\n")[0]), (0, "ERRNO 2"))
         self.assertTrue(out.endswith(f"# the filter that answers so is {self.two}\n"
-                                     f"# the path in {self.two}, filter 3 of 3: 0\n"), out)
+                                     f"# the path in {self.two}: 0\n"), out)
         out = self.run_tool("decide", self.one, self.allow, self.one)[1]
         self.assertTrue(out.endswith(f"# the filters that answer so are {self.one} and {self.one}\n"
-                                     f"# the path in {self.one}, filter 3 of 3: 0\n"), out)
+                                     f"# the path in {self.one}: 0\n"), out)
         self.assertIn("\n# both filters answer so\n", self.run_tool("decide", self.one, self.one)[1])
         self.assertIn("\n# all 3 filters answer so\n", self.run_tool("decide", *[self.allow] * 3)[1])
         self.assertTrue(self.run_tool("decide", self.one)[1].endswith("\n# the path in the filter: 0\n"))

@@ -353,13 +353,28 @@ class Behind(Case):
     def test_the_filter_that_gave_the_answer(self):
         allow, other = self.file("a.bpf", ret(ALLOW)), self.file("b\x1b.bpf", filter_of([0], foreign=KILL_PROCESS))
         profile = self.file("p.json", profile_of("read", "write"))
-        for filters, which in (([allow, other, allow], "2 of 3"), ([other, allow], "1 of 2"),
-                               ([other, other], "2 of 2")):
+        for filters in ([allow, other, allow], [other, allow], [other, other]):
             header, tests = self.way(self.added("--native", *filters, profile))
-            self.assertTrue(header.endswith(f"/b\\x1b.bpf, filter {which}:"), header)
+            self.assertTrue(header.endswith("/b\\x1b.bpf:"), header)
             self.assertTrue(tests[-1].endswith("// ERRNO 1"), tests)
             out = self.run_tool("decide", "--nr=write", *filters)[1]
-            self.assertIn(f"/b\\x1b.bpf, filter {which}: 0 1 3 4 6 7\n", out)
+            self.assertIn("/b\\x1b.bpf: 0 1 3 4 6 7\n", out)
+
+    def test_a_filter_that_looks_at_the_architecture_alone_is_not_shown(self):
+        """As firejail's newest, which is for i386."""
+        of_i386 = self.file("i386.bpf", load(4) + jeq(I386, 1, 0) + ret(ALLOW) + load(0) + jeq(5, 0, 1) + ret(EPERM)
+                            + ret(ALLOW))
+        other, profile = self.file("b.bpf", filter_of([0])), self.file("p.json", profile_of("write"))
+        header, tests = self.way(self.added("--native", other, of_i386, profile))
+        self.assertTrue(header.endswith("/b.bpf:"), header)
+        self.assertTrue(tests[-1].endswith("// ALLOW"), tests)
+        out = self.run_tool("decide", "--nr=read", other, of_i386)[1]
+        self.assertIn("# both filters answer so\n", out)
+        self.assertIn("/b.bpf: 0 1 3 4 6 8\n", out)
+        path = json.loads(self.run_tool("decide", "--json", "--nr=read", other, of_i386)[1])["calls"][0]["path"]
+        self.assertEqual((path["filter"], path["places"]), (other, [0, 1, 3, 4, 6, 8]))
+        # where all look at the architecture alone, it is the newest
+        self.assertIn("/i386.bpf: 0-2\n", self.run_tool("decide", "--nr=read", of_i386, of_i386)[1])
 
     def test_the_entry(self):
         conditions = [{"index": 2, "value": 7, "op": "SCMP_CMP_GE"}]
