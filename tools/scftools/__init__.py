@@ -12,6 +12,7 @@ packages is imported. So it adds its own folder to the path of imports, by its r
     tables      call tables; names of calls, and names that no call has
     numbering   what numbers calls: headers of the kernel, its source's table, libseccomp
     answers     actions, errnos, architectures, and what an answer does
+    architectures  architectures by their names and numbers
     calls       calls: how one is given, and how one is told
     filters     instructions of filters, as far as the tools look at them
     profiles    what the tools look at in a profile beside scf: its default, names and entries, where it ends as JSON

@@ -4,12 +4,25 @@ from __future__ import annotations
 import re
 from dataclasses import dataclass
 
+from . import architectures
 from .answers import ARCHITECTURES, X32, X86_64
 from .tables import Table
 
 # The numbers of a call, by the names of scf's options, in scf's order.
 OPTIONS = ("nr", "arch", "ip", "a0", "a1", "a2", "a3", "a4", "a5")
+# Bit 31, which no kernel's numbers have; and -1, by which a tracer has a call skipped while filters run with it all the
+# same (Documentation/userspace-api/seccomp_filter.rst of Linux; do_syscall_64 of x86 makes no such call).
+NO_CALL, SKIPPED = 0x80000000, 0xFFFFFFFF
 PRINTED = re.compile(r"call nr ([0-9]+) arch (0x[0-9a-f]+) ip (0x[0-9a-f]+) args((?: 0x[0-9a-f]+){6})")
+
+
+def number_told(number: int, architecture: int = X86_64) -> str:
+    """A number of a call that no table names."""
+    if number == SKIPPED:
+        return "number -1, as a tracer sets it to skip a call"
+    if architecture == X86_64 and X32 <= number < NO_CALL:
+        return f"number 0x40000000 + {number - X32}"
+    return f"number {number}"
 
 
 @dataclass(frozen=True)
@@ -33,6 +46,15 @@ class Call:
     def is_native(self) -> bool:
         return self.architecture == X86_64 and self.number < X32
 
+    @property
+    def other_abi(self) -> str | None:
+        """The name by which a profile names the architecture of a call that isn't native; None where no call is so."""
+        if self.is_native or self.number >= NO_CALL:
+            return None
+        if self.architecture == X86_64:
+            return architectures.X32
+        return architectures.profile_name(self.architecture)
+
     def words(self) -> list[str]:
         """The options of scf that give this call."""
         numbers = (self.number, self.architecture, self.pointer, *self.arguments)
@@ -40,10 +62,12 @@ class Call:
 
     def told(self, table: Table) -> str:
         """What the call is called."""
+        if self.number == SKIPPED:
+            return number_told(self.number)
         if self.architecture != X86_64:
             shown = ARCHITECTURES.get(self.architecture, hex(self.architecture))
             return f"number {self.number} of the architecture {shown}"
-        if self.number >= 2 * X32:
+        if self.number >= NO_CALL:
             return f"number {self.number}, which is {hex(self.number)}, as no call has"
         if self.number >= X32:
             return f"number {self.number}, which is 0x40000000 + {self.number - X32}, as x32 calls have"

@@ -5,9 +5,9 @@ import re
 from collections.abc import Callable, Iterable, Iterator, Sequence
 from dataclasses import dataclass
 
-from . import bundles, explaining, inputs, output, paths, program, verdicts
-from .answers import X86_64
-from .calls import OPTIONS, Call, number_in
+from . import architectures, bundles, explaining, inputs, output, paths, program, verdicts
+from .answers import X32, X86_64
+from .calls import OPTIONS, SKIPPED, Call, number_in
 from .comparing import fault_of_one, named
 from .filters import Filter
 from .tables import Table
@@ -53,9 +53,10 @@ def of_words(words: Sequence[str]) -> Asked:
 
 def _add_numbers(parser: Parser) -> None:
     """Adds the options that give what a call has beside its number."""
-    for name in OPTIONS[1:]:
-        default = "0xc000003e, x86-64" if name == "arch" else "0"
-        parser.add_argument(f"--{name}", metavar="N", help=f"[default: {default}]")
+    parser.add_argument("--arch", metavar="ARCH", help="by name (i386, x32, aarch64, SCMP_ARCH_..) or by number, also "
+                                                       "as audit's log has it (c000003e) [default: x86_64]")
+    for name in OPTIONS[2:]:
+        parser.add_argument(f"--{name}", metavar="N", help="[default: 0]")
 
 
 def add_one_call(parser: Parser, what: str) -> None:
@@ -76,17 +77,45 @@ def add_options(parser: Parser) -> None:
     parser.add_argument("--json", action="store_true", help="print one JSON object in place of lines")
 
 
-def _number_of(text: str, table: Table) -> str:
-    """The number of a call that is given by its name or its number."""
-    if not re.match("[A-Za-z_]", text):
-        return text
-    number = table.number_of(text)
-    if number is None:
-        from . import tables  # pylint: disable=import-outside-toplevel
+@dataclass(frozen=True)
+class Numbering:
+    """How the number of a call is given: by names of a table, which has those of x86-64 alone, or as it is."""
 
-        near = tables.nearest(text, table)
-        raise program.Refused(f"the table names no call '{text}'" + (f"; the nearest name is '{near}'" if near else ""))
-    return str(number)
+    table: Table
+    # --arch as it was given, or None
+    architecture: str | None
+
+    @property
+    def is_x32(self) -> bool:
+        return self.architecture is not None and architectures.name_in(self.architecture) == architectures.X32
+
+    @property
+    def is_native(self) -> bool:
+        return self.architecture is None or not self.is_x32 and (
+            number_in(architectures.number_in(self.architecture)) == X86_64)
+
+    def number_of(self, text: str) -> str:
+        """The number of a call that is given by its name or its number, as scf takes it."""
+        if re.match("[A-Za-z_]", text):
+            return str(self._named(text))
+        if text == "-1":
+            return hex(SKIPPED)
+        number = number_in(text)
+        # an x32 call has bit 30, whether or not it is given with it
+        return hex(number | X32) if self.is_x32 and number is not None and number < X32 else text
+
+    def _named(self, name: str) -> int:
+        if not self.is_native:
+            raise program.Refused(f"the table numbers '{name}' for x86-64, and not for --arch {self.architecture}: "
+                                  f"give the call's number there")
+        number = self.table.number_of(name)
+        if number is None:
+            from . import tables  # pylint: disable=import-outside-toplevel
+
+            near = tables.nearest(name, self.table)
+            raise program.Refused(f"the table names no call '{name}'"
+                                  + (f"; the nearest name is '{near}'" if near else ""))
+        return number
 
 
 def _lines_of(name: str) -> Iterator[list[str]]:
@@ -99,29 +128,34 @@ def _lines_of(name: str) -> Iterator[list[str]]:
             yield given
 
 
-def _numbers_in(given: object) -> tuple[tuple[str, str], ...]:
-    return tuple((name, getattr(given, name)) for name in OPTIONS[1:] if getattr(given, name) is not None)
+def _rest_of(given: object) -> tuple[tuple[str, str], ...]:
+    """The options that give what a call has beside its number."""
+    texts = {name: getattr(given, name) for name in OPTIONS[1:] if getattr(given, name) is not None}
+    if "arch" in texts:
+        texts["arch"] = architectures.number_in(texts["arch"])
+    return tuple(texts.items())
 
 
 def one_asked(given: object, table: Table) -> Asked | None:
     """The call that the options of a command line ask for, which may give one; None where they give none."""
-    number, rest = getattr(given, "nr"), _numbers_in(given)
-    if number is None:
-        return Asked(rest) if rest else None
-    return Asked((("nr", _number_of(number, table)), *rest))
+    number, rest = getattr(given, "nr"), _rest_of(given)
+    if number is None and not rest:
+        return None
+    numbering = Numbering(table, getattr(given, "arch"))
+    return Asked((("nr", numbering.number_of("0" if number is None else number)), *rest))
 
 
 def asked(given: object, table: Table) -> list[Asked]:
     """The calls that the options of a command line ask for, in their order."""
-    rest = _numbers_in(given)
-    found = [Asked((("nr", _number_of(text, table)), *rest)) for text in getattr(given, "nr")]
+    rest, numbering = _rest_of(given), Numbering(table, getattr(given, "arch"))
+    found = [Asked((("nr", numbering.number_of(text)), *rest)) for text in getattr(given, "nr")]
     if getattr(given, "calls_from") is not None:
         for number, *arguments in _lines_of(getattr(given, "calls_from")):
             own = tuple(zip(OPTIONS[3:], arguments))
             left = tuple(pair for pair in rest if pair[0] not in dict(own))
-            found.append(Asked((("nr", _number_of(number, table)), *left, *own)))
+            found.append(Asked((("nr", numbering.number_of(number)), *left, *own)))
         return found
-    return found or [Asked(rest)]
+    return found or [Asked((("nr", numbering.number_of("0")), *rest))]
 
 
 def of_fault(filters: Sequence[Filter], decision: Decision) -> Iterator[str]:

@@ -5,6 +5,7 @@ from collections.abc import Iterable, Iterator, Sequence
 from typing import NamedTuple
 
 from .answers import ACTIONS, ARCHITECTURES, X32, X86_64
+from .calls import number_told
 from .filters import BY_X, INSTRUCTION, JEQ, JGE, JGT, JSET, JUMP, LOAD_WORD, RETURN_CONSTANT
 from .tables import Table
 
@@ -93,9 +94,7 @@ def _name_of(k: int, architecture: int | None, table: Table) -> str:
     """How a call's number is called where a filter tests it."""
     if architecture not in (None, X86_64):
         return f"number {k} of {ARCHITECTURES.get(architecture, hex(architecture))}"
-    if X32 <= k < 2 * X32:
-        return f"number 0x40000000 + {k - X32}"
-    return " or ".join(table.names_of(k)) or f"number {k}"
+    return " or ".join(table.names_of(k)) or number_told(k)
 
 
 def _tested(insn: Instruction, known: Known, table: Table) -> str | None:

@@ -189,7 +189,7 @@ class Ask(Case):
             self.assertEqual((status, lines[0], lines[-1]), (0, "ERRNO 1 default", "# by the default"), words)
 
     def test_foreign_calls(self):
-        for words in (("--nr=0x40000000",), ("--nr=0xffffffff",), ("--arch=0x40000003",), ("--nr=read", "--arch=0")):
+        for words in (("--nr=0x40000000",), ("--nr=0xffffffff",), ("--arch=0x40000003",), ("--nr=0", "--arch=0")):
             status, lines = self.asked(*words)
             self.assertEqual((status, lines[0], lines[-1]),
                              (0, "KILL_PROCESS 0 foreign", "# by no entry: the call is foreign"), words)

@@ -1,0 +1,119 @@
+"""Architectures on the command line: by which names and numbers `--arch` takes them, and what a call is there."""
+import json
+import os
+import re
+import sys
+import unittest
+
+from common import ALLOW, EPERM, I386, TOP, X86_64, Case, jeq, load, ret
+
+sys.path.append(os.path.join(TOP, "tools"))
+
+from scftools import architectures, program  # noqa: E402
+
+AUDIT, MACHINES = "/usr/include/linux/audit.h", "/usr/include/linux/elf-em.h"
+X32 = 0x40000000
+# Each answers ERRNO 1 to one architecture, and allows all else.
+I386_ALONE, AARCH64_ALONE = (load(4) + jeq(number, 0, 1) + ret(EPERM) + ret(ALLOW) for number in (I386, 0xC00000B7))
+NUMBER_41_OF_X32 = load(0) + jeq(X32 + 41, 0, 1) + ret(EPERM) + ret(ALLOW)
+# libseccomp's names of what the kernel's header calls otherwise; its x32 is x86-64's in a call's record.
+NAMED = {"X86": "I386", "X32": "X86_64", "SHEB": "SH", "SH": "SHEL"}
+
+
+def numbers_of_headers():
+    """AUDIT_ARCH_.. as linux/audit.h defines it."""
+    with open(AUDIT, encoding="ascii") as audit, open(MACHINES, encoding="ascii") as machines:
+        text, values = audit.read().replace("\\\n", " "), dict(re.findall(r"#define\s+(EM_\w+)\s+(\d+)", machines.read()))
+    values.update(re.findall(r"#define\s+(__AUDIT_ARCH_\w+)\s+(0x[0-9a-f]+)", text))
+    found = {}
+    for name, parts in re.findall(r"#define\s+AUDIT_ARCH_(\w+)\s+\(([^)]*)\)", text):
+        parts = [part.strip() for part in parts.split("|")]
+        if all(part in values for part in parts):
+            found[name] = sum(int(values[part], 0) for part in parts)
+    return found
+
+
+class Numbers(unittest.TestCase):
+    @unittest.skipUnless(os.path.exists(AUDIT) and os.path.exists(MACHINES), "there are no kernel headers here")
+    def test_they_are_those_of_the_kernels_header(self):
+        header = numbers_of_headers()
+        self.assertEqual(header["X86_64"], X86_64)
+        for name, number in architectures.NUMBERS.items():
+            name = name.replace("SCMP_ARCH_", "")
+            if NAMED.get(name, name) in header:
+                self.assertEqual(number, header[NAMED.get(name, name)], name)
+        self.assertGreater(len(set(header.values()) & set(architectures.NUMBERS.values())), 15)
+
+    def test_the_forms(self):
+        for text, number in (("i386", I386), ("I386", I386), ("x86", I386), ("SCMP_ARCH_X86", I386),
+                             ("AUDIT_ARCH_I386", I386), ("0x40000003", I386), ("1073741827", I386),
+                             ("x86_64", X86_64), ("x86-64", X86_64), ("c000003e", X86_64), ("C000003E", X86_64),
+                             ("x32", X86_64), ("SCMP_ARCH_X32", X86_64), ("aarch64", 0xC00000B7),
+                             ("arm64", 0xC00000B7), ("c00000b7", 0xC00000B7), ("f", 15), ("0", 0), ("20", 20)):
+            self.assertEqual(int(architectures.number_in(text), 0), number, text)
+
+    def test_what_is_ambiguous_or_unknown(self):
+        for text, says in (("40000003", "write 0x40000003 for SCMP_ARCH_X86, as audit's log has it, or 0x2625a03 for "
+                                        "the decimal number"),
+                           ("40000028", "0x40000028 for SCMP_ARCH_ARM"), ("80000016", "0x80000016 for SCMP_ARCH_S390X"),
+                           ("i387", "no architecture 'i387' is known"), ("SCMP_ARCH_", "no architecture")):
+            with self.assertRaises(program.Refused) as caught:
+                architectures.number_in(text)
+            self.assertIn(says, str(caught.exception))
+            self.assertEqual(caught.exception.status, 2)
+
+
+class Words(Case):
+    """decide, run, ask and list."""
+
+    def setUp(self):
+        super().setUp()
+        self.i386, self.aarch64, self.x32 = (self.file(f"{at}.bpf", data) for at, data in enumerate(
+            (I386_ALONE, AARCH64_ALONE, NUMBER_41_OF_X32)))
+        self.profile = self.file("p.json", b'{"defaultAction":"SCMP_ACT_ALLOW"}')
+
+    def answer(self, *words):
+        status, out, err = self.run_tool("decide", *words)
+        self.assertEqual((status, err), (0, ""), words)
+        return out.split("\n")[0]
+
+    def test_names_and_audits_hexadecimal(self):
+        for word in ("i386", "SCMP_ARCH_X86", "0x40000003", "x86"):
+            self.assertEqual(self.answer("--arch", word, "--nr=41", self.i386), "ERRNO 1", word)
+            self.assertEqual(self.answer(f"--arch={word}", self.aarch64), "ALLOW 0", word)
+        for word in ("aarch64", "c00000b7", "SCMP_ARCH_AARCH64"):
+            self.assertEqual(self.answer("--arch", word, "--nr=41", self.aarch64), "ERRNO 1", word)
+        self.assertEqual(self.answer("--arch=c000003e", "--nr=socket", self.i386), "ALLOW 0")
+        status, out, err = self.run_tool("decide", "--arch=40000003", "--nr=41", self.i386)
+        self.assertEqual((status, out), (2, ""))
+        self.assertIn("--arch 40000003 is ambiguous: write 0x40000003 for SCMP_ARCH_X86", err)
+        self.assertEqual(self.run_tool("decide", "--arch", "0x1ffffffff", self.i386)[:2][1].split("\n")[0],
+                         "fault number arch")
+
+    def test_an_x32_number_has_its_bit(self):
+        for number in ("41", "0x40000029"):
+            self.assertEqual(self.answer("--arch=x32", "--nr", number, self.x32), "ERRNO 1")
+        self.assertEqual(self.answer("--nr", "41", self.x32), "ALLOW 0")
+        found = json.loads(self.run_tool("decide", "--json", "--arch=x32", self.x32)[1])
+        self.assertEqual(found["calls"][0]["call"]["number"], X32)
+
+    def test_a_name_is_that_of_x86_64(self):
+        """41 is dup on i386, and so is what a name of x86-64's table would ask for there."""
+        calls = self.file("calls", b"socket 2\n")
+        for word in ("i386", "0x40000003", "x32", "aarch64", "0"):
+            for words in (("decide", "--nr=socket", self.i386), ("run", "--nr=socket", self.i386),
+                          ("list", "--nr=socket", self.i386), ("ask", "--nr=socket", self.profile),
+                          ("decide", "--calls-from", calls, self.i386)):
+                status, out, err = self.run_tool(words[0], "--arch", word, *words[1:])
+                self.assertEqual((status, out), (2, ""), words)
+                self.assertIn(f"the table numbers 'socket' for x86-64, and not for --arch {word}", err)
+        for word in ("x86_64", "SCMP_ARCH_X86_64", "0xc000003e", "3221225534", "c000003e"):
+            self.assertEqual(self.answer("--nr=socket", "--arch", word, self.i386), "ALLOW 0", word)
+
+    def test_number_minus_one(self):
+        status, out, _ = self.run_tool("decide", "--nr", "-1", self.x32)
+        self.assertEqual((status, out.split("\n")[:2]), (0, [
+            "ALLOW 0", "# the call is number -1, as a tracer sets it to skip a call"]))
+        self.assertIn("# the call is number -1, as a tracer", self.run_tool("decide", "--nr=0xffffffff", self.x32)[1])
+        self.assertIn("# the call is number 4294967294, which is 0xfffffffe, as no call has",
+                      self.run_tool("decide", "--nr=0xfffffffe", self.x32)[1])
