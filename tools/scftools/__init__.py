@@ -25,6 +25,7 @@ packages is imported. So it adds its own folder to the path of imports, by its r
     paths       which instructions of a filter run on a call, and the last tests on the way
     reasons     why a profile answers a call so: the entry that says it, and its conditions
     listing     a filter with the targets of its jumps and the names of its calls
+    effort      the limits of comparisons: of each, and of all of a tool together
     trials      many runs of scf for one answer
     entries     the entries of a profile as scf reads them, and records that meet conditions
     needless    entries without effect, entries that conflict

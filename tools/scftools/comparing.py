@@ -4,7 +4,7 @@ from __future__ import annotations
 from collections.abc import Iterator, Sequence
 from dataclasses import dataclass, field
 
-from . import bundles, explaining, program, verdicts
+from . import bundles, effort, explaining, foreign, program, verdicts
 from .answers import REFUSED
 from .filters import LONGEST_STACK, MORE_OF_OLDER, Filter, looks_at_pointer
 from .tables import Table
@@ -49,10 +49,8 @@ class Comparison:
 
     def _run(self, scope: str, filters: Sequence[bytes], profile: bytes | None = None,
              relation: str = SAME) -> tuple[int, Report]:
-        words = ["compare", *SCOPES[scope], *RELATIONS[relation],
-                 *(["--limit", self.limit] if self.limit is not None else [])]
         given = bundles.of_comparison(filters, self.profile if profile is None else profile, self.table.data)
-        done = program.scf(words, given)
+        done = effort.comparison([*SCOPES[scope], *RELATIONS[relation]], given, self.limit)
         known = self.facts if b"\nskipped " in done.out else None
         pointer = None if scope == CALLS and any(map(looks_at_pointer, filters)) else 0
         return done.status, verdicts.report(done.text, known.names if known else None, self.table, pointer)

@@ -11,7 +11,7 @@ from __future__ import annotations
 from collections.abc import Iterator, Sequence
 from dataclasses import dataclass
 
-from . import bundles, program, verdicts
+from . import architectures, bundles, effort, program, verdicts
 from .answers import I386, MADE, X32, X86_64, Answer
 from .calls import Call
 from .filters import JEQ, JGE, JUMP, LOAD_WORD, RETURN_CONSTANT, instruction
@@ -116,8 +116,8 @@ class Tried:
 
 def _proved(filters: Sequence[bytes], kind: Kind, limit: str | None) -> Proved | None:
     """What scf says of all calls of a kind, or None where it can't tell."""
-    words = ["compare", "--no-more", *(["--limit", limit] if limit is not None else [])]
-    done = program.scf(words, bundles.of_comparison([kind.alone, *filters], ALLOWS_NATIVE, b""))
+    given = bundles.of_comparison([kind.alone, *filters], ALLOWS_NATIVE, b"")
+    done = effort.comparison(["--no-more"], given, limit)
     verdict = verdicts.report(done.text).verdict
     if verdict is None:
         return None

@@ -22,6 +22,8 @@ FAULTS = os.path.join(TOP, "docs", "FAULTS.md")
 
 # The statuses of scf and of its tools.
 WELL, REFUSED, WRONG_WORDS, FAILED, UNKNOWN, NO_PROGRAM = 0, 1, 2, 3, 4, 125
+# SIGKILL (signal(7)), by which a process ends that takes more of a processor than it may.
+KILLED = 9
 
 
 def name() -> str:
@@ -37,10 +39,16 @@ class Refused(Exception):
         self.status = status
 
 
+# Whether this process is a tool, and not a program that imports these modules.
+is_tool = False
+
+
 def start(main: Callable[[], int]) -> NoReturn:
     """Runs a tool to its end, whose status is the process's."""
+    global is_tool  # pylint: disable=global-statement
     import signal  # pylint: disable=import-outside-toplevel
 
+    is_tool = True
     # A reader that goes away ends the tool as it ends any other, and so does the user.
     signal.signal(signal.SIGPIPE, signal.SIG_DFL)
     signal.signal(signal.SIGINT, signal.SIG_DFL)
@@ -84,7 +92,7 @@ def lines_of(text: str) -> list[str]:
 
 @dataclass(frozen=True)
 class Done:
-    """How a run of scf ended, and what it printed."""
+    """How a run of scf ended, and what it printed; nothing where it took more time than it may."""
 
     status: int
     out: bytes
@@ -140,17 +148,31 @@ def _all_of(file: int) -> bytes:
         found.append(piece)
 
 
-def scf(words: Sequence[str], given: bytes | None = b"") -> Done:
-    """Runs scf on these bytes; where they are None, on this process's standard input."""
-    done = run(_program(), words, given)
+def _limit_seconds(child: int, seconds: float) -> None:
+    """Has a child killed, and so without a core, once it took so many seconds of a processor."""
+    import resource  # pylint: disable=import-outside-toplevel
+
+    most = resource.getrlimit(resource.RLIMIT_CPU)[1]
+    whole = max(1, round(seconds)) if most == resource.RLIM_INFINITY else min(max(1, round(seconds)), most)
+    try:
+        resource.prlimit(child, resource.RLIMIT_CPU, (whole, whole))
+    except ProcessLookupError:
+        # it has ended
+        pass
+
+
+def scf(words: Sequence[str], given: bytes | None = b"", seconds: float | None = None) -> Done:
+    """Runs scf on these bytes; where they are None, on this process's standard input. With seconds it may take so many
+    of a processor."""
+    done = run(_program(), words, given, seconds)
     if done.status == NO_PROGRAM:
         # its launcher has said why
         finish(done.status)
     return done
 
 
-def run(path: str, words: Sequence[str], given: bytes | None = b"") -> Done:
-    """Runs this program as scf."""
+def run(path: str, words: Sequence[str], given: bytes | None = b"", seconds: float | None = None) -> Done:
+    """Runs this program as scf. It is killed once it took so many seconds of a processor, and then nothing is known."""
     ends = os.pipe()
     actions: list[tuple] = [(os.POSIX_SPAWN_DUP2, ends[1], 1)]
     source = None if given is None else _holding(given)
@@ -163,9 +185,13 @@ def run(path: str, words: Sequence[str], given: bytes | None = b"") -> Done:
     os.close(ends[1])
     if source is not None:
         os.close(source)
+    if seconds is not None:
+        _limit_seconds(child, seconds)
     out = _all_of(ends[0])
     os.close(ends[0])
     state = os.waitpid(child, 0)[1]
+    if os.WIFSIGNALED(state) and seconds is not None and os.WTERMSIG(state) == KILLED:
+        return Done(UNKNOWN, b"")
     if os.WIFSIGNALED(state):
         raise Refused(f"scf was ended by signal {os.WTERMSIG(state)}", 128 + os.WTERMSIG(state))
     return Done(os.WEXITSTATUS(state), out)

@@ -12,7 +12,7 @@ import json
 from collections.abc import Sequence
 from dataclasses import dataclass
 
-from . import bundles, program, verdicts
+from . import bundles, effort, program, verdicts
 from .answers import Answer
 from .calls import Call
 from .comparing import CALLS, NATIVE, RELATIONS, SCOPES
@@ -76,9 +76,8 @@ class Asker:
 
     def _compared(self, scope: str, question: Question, profile: bytes, table: bytes,
                   filters: Sequence[bytes] | None = None) -> Report:
-        words = ["compare", *SCOPES[scope], *RELATIONS[question.relation],
-                 *(["--limit", self.limit] if self.limit is not None else [])]
-        done = program.scf(words, bundles.of_comparison(filters or self.filters, profile, table))
+        done = effort.comparison([*SCOPES[scope], *RELATIONS[question.relation]],
+                                 bundles.of_comparison(filters or self.filters, profile, table), self.limit)
         report = verdicts.report(done.text)
         if report.fault is not None:
             raise Faulty(done.status, report)

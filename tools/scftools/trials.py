@@ -4,7 +4,7 @@ from __future__ import annotations
 from collections.abc import Sequence
 from dataclasses import dataclass
 
-from . import bundles, program, verdicts
+from . import bundles, effort, program, verdicts
 from .tables import Table
 from .verdicts import UNFINISHED, Report, Verdict
 
@@ -35,8 +35,7 @@ class Trial:
     def report(self, filters: Sequence[bytes], profile: bytes, table: bytes, *words: str) -> Report:
         """What scf says of filters beside a profile, by a table."""
         self.count += 1
-        limit = [] if self.limit is None else ["--limit", self.limit]
-        done = program.scf(["compare", *words, *limit], bundles.of_comparison(filters, profile, table))
+        done = effort.comparison(words, bundles.of_comparison(filters, profile, table), self.limit)
         report = verdicts.report(done.text)
         if report.verdict is None:
             raise Unanswered(report.lines[0] if report.lines else "", done.status)

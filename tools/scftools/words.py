@@ -5,7 +5,7 @@ import argparse
 import sys
 from collections.abc import Iterable
 
-from . import output, program, verdicts
+from . import effort, output, program, verdicts
 
 TYPE_CHECKING = False
 if TYPE_CHECKING:
@@ -57,7 +57,12 @@ class Parser(argparse.ArgumentParser):
 
     def limit(self) -> None:
         """Adds `--limit`."""
-        self.add_argument("--limit", metavar="N", help="the most steps [default: scf's, 1000000]")
+        self.add_argument("--limit", metavar="N", help=effort.HELP)
+
+    def verbose(self) -> None:
+        """Adds `--verbose`."""
+        self.add_argument("--verbose", action="store_true",
+                          help="print scf's line for each name of the profile that was skipped, and not only their count")
 
     def relation(self) -> None:
         """Adds `--no-more` and `--no-less`, of which one may be given."""

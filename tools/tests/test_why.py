@@ -403,7 +403,7 @@ class Behind(Case):
                                self.file("p.json", profile_of("read"))], env={**os.environ, "KEPT": kept})
         self.assertEqual(done, (0, "same\n", ""))
         with open(kept, encoding="ascii") as file:
-            self.assertEqual(file.read(), "compare\n")
+            self.assertEqual(file.read(), "--version\ncompare\n")
 
     def test_run_with_its_path(self):
         name = self.file("f.bpf", filter_of([0]))

@@ -1,0 +1,88 @@
+"""The limits of comparisons: a tool ends soon, however long its filters may be explored, and says what it left out."""
+import json
+import os
+import sys
+
+from common import (ALLOW, EPERM, KILL_PROCESS, TABLE, TOP, X86_64, Case, filter_of, insn, jeq, jge, limited, load, part,
+                    profile_of, ret, taken)
+
+sys.path.append(os.path.join(TOP, "tools"))
+
+from scftools import effort, program  # noqa: E402
+
+# Seconds of a processor, and bytes of address space, that a tool and all that it runs may take.
+SECONDS, MEMORY = 10, 500 << 20
+GATE = load(4) + jeq(X86_64, 0, 2) + load(0) + jge(0x40000000, 0, 1) + ret(KILL_PROCESS)
+# Of about 4000 instructions: each bit of an argument again and again, on ways that part and don't meet soon; and orders
+# of all arguments.
+BITS = GATE + load(16) + b"".join(insn(0x45, 1 << at % 32, 0, 1) for at in range(4080)) + ret(ALLOW) * 2
+ORDERS = GATE + b"".join(load(16 + 4 * (at % 12)) + jge(at // 12 * 1000 + 500, 0, 1) + load(16)
+                         for at in range(1300)) + ret(ALLOW)
+TOLD = ("all comparisons together took 6 s of a processor, the most without --limit: what 1000 steps don't tell is "
+        "unfinished")
+
+
+class Slow(Case):
+    def ends(self, *words):
+        """The status, what was printed and what was said."""
+        before = taken()
+        found = self.run_tool(*words, preexec_fn=limited(SECONDS + 1, MEMORY))
+        self.assertLess(taken() - before, SECONDS, words[:3])
+        return found
+
+    def test_compare(self):
+        allows, fails = self.file("a.json", b'{"defaultAction":"SCMP_ACT_ALLOW"}'), self.file("e.json", profile_of())
+        status, out, err = self.ends("compare", "--calls", self.file("f.bpf", BITS), allows)
+        self.assertEqual((status, out.split("\n")[0], err), (4, "unfinished", f"compare: {TOLD}\n"))
+        # the verdict over all of them is known soon
+        for data in (BITS, ORDERS):
+            name = self.file("f.bpf", data)
+            for profile, expected in ((allows, (4, "unfinished")), (fails, (1, "differs"))):
+                status, out, err = self.ends("compare", name, profile)
+                self.assertEqual((status, out.split("\n")[0], err), (*expected, ""))
+
+    def test_surface(self):
+        """What few steps tell is told, of calls whose comparison takes long that it is unfinished."""
+        name = self.file("f.bpf", GATE + jge(100, 4, 0) + jeq(0, 0, 1) + ret(ALLOW) + ret(EPERM) + ret(EPERM)
+                         + ORDERS[len(GATE):])
+        status, out, err = self.ends("surface", "--json", name)
+        found = {row["number"]: row["said"] for row in json.loads(out)["calls"]}
+        self.assertEqual((status, found[0], found[1], found[99]), (4, "made", "refused", "refused"))
+        self.assertEqual({said for number, said in found.items() if number >= 100}, {"unfinished"})
+        self.assertEqual(err, f"surface: {TOLD}\n")
+
+    def test_a_limit_that_is_given_is_the_only_one(self):
+        status, out, err = self.run_tool("compare", "--calls", "--limit", "20000", self.file("f.bpf", BITS),
+                                         self.file("a.json", b'{"defaultAction":"SCMP_ACT_ALLOW"}'))
+        self.assertEqual((status, out.split("\n")[0], err), (4, "unfinished", ""))
+
+
+class Limits(Case):
+    def setUp(self):
+        super().setUp()
+        with open(TABLE, "rb") as file:
+            self.given = part("filter", filter_of([0])) + part("profile", profile_of("read")) + part("table", file.read())
+
+    def compared(self, seconds, most, *words):
+        """What a tool whose time is over is told."""
+        kept = program.is_tool, effort.SECONDS, effort.ALL_SECONDS, effort._is_told
+        program.is_tool, effort.SECONDS, effort.ALL_SECONDS, effort._is_told = True, seconds, most, True
+        try:
+            return effort.comparison(words, self.given, None)
+        finally:
+            program.is_tool, effort.SECONDS, effort.ALL_SECONDS, effort._is_told = kept
+
+    def test_no_time(self):
+        """Few steps, and then none: each is as with a limit of so many."""
+        for most, limit in ((1 << 30, effort.FEW_STEPS), (0, "0")):
+            for words in ((), ("--native",), ("--calls",), ("--calls", "--no-more")):
+                self.assertEqual(self.compared(0, most, *words),
+                                 program.scf(["compare", *words, "--limit", limit], self.given))
+        self.assertEqual(self.compared(0, 0, "--calls").status, program.UNKNOWN)
+        self.assertEqual(self.compared(0, 1 << 30, "--calls").out, b"same\n")
+
+    def test_a_process_that_has_less(self):
+        """A limit of the tool's own process is never raised, and no limit of others is needed."""
+        status, out, _ = self.run_tool("compare", self.file("f.bpf", filter_of([0])),
+                                       self.file("p.json", profile_of("read")), preexec_fn=limited(2))
+        self.assertEqual((status, out), (0, "same\n"))
