@@ -17,6 +17,11 @@ if TYPE_CHECKING:
 
 ALL, NATIVE, CALLS = "all", "native", "calls"
 SCOPES = {ALL: [], NATIVE: ["--native"], CALLS: ["--calls"]}
+# What is said of a scope that leaves foreign calls out.
+LOOKED_AT = {NATIVE: "looked at: native calls, those of x86-64 with numbers below 0x40000000; of the others, whether "
+                     "any is let through:",
+             CALLS: "looked at: the native calls that the table names, each by itself; of foreign ones, whether any is "
+                    "let through:"}
 # The relations of two answers that scf looks for, by the verdict where one holds; and what isn't as it should be of the
 # named calls that fail it.
 RELATIONS = {SAME: [], NO_MORE: ["--no-more"], NO_LESS: ["--no-less"]}
@@ -209,6 +214,16 @@ def of_left_out(comparison: Comparison, report: Report) -> Iterator[str]:
         facts = comparison.facts
         yield from explaining.of_skipped(report, comparison.table, bool(facts and facts.lets_through_by_default))
     yield from explaining.of_architectures(report)
+
+
+def of_foreign(comparison: Comparison, report: Report, scope: str, is_quiet: bool = False) -> Iterator[str]:
+    """What a scope doesn't cover, and whether calls outside of it are let through; if quiet only where some may be."""
+    if scope not in LOOKED_AT or report.verdict is None:
+        return
+    found = foreign.let_through([one.data for one in comparison.filters], comparison.limit)
+    if found and not (is_quiet and foreign.are_none(found)):
+        yield LOOKED_AT[scope]
+        yield from foreign.told(found, report.architectures)
 
 
 def added(comparison: Comparison, report: Report, scope: str) -> Iterator[str]:

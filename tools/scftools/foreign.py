@@ -1,28 +1,28 @@
 """Foreign calls beside a comparison of native ones, which says nothing of them: whether filters let any through.
 
 A filter without a test of the architecture reads the number of an i386 call as if it were a native one; and x32 calls
-are of the native architecture, with numbers from 0x40000000 on. By each profile a foreign call is refused. So scf is
-asked whether the filters let through no more than a profile that allows every native call, behind an older filter that
-refuses all calls but those of one kind: what is said of a kind is said of all its calls. Where scf can't tell, some
-calls are tried by `scf decide`, and `none` is said of those alone.
+are of the native architecture, with numbers from 0x40000000 on. An x86-64 kernel makes no others. By each profile a
+foreign call is refused. So scf is asked whether the filters let through no more than a profile that allows every native
+call, behind an older filter that refuses all calls but those of one kind: what is said of a kind is said of all its
+calls. Where scf can't tell, some calls are tried by `scf decide`, and `none` is said of those alone.
 """
 from __future__ import annotations
 
-from collections.abc import Iterator, Sequence
+from collections.abc import Iterable, Sequence
 from dataclasses import dataclass
 
 from . import architectures, bundles, effort, program, verdicts
 from .answers import I386, MADE, X32, X86_64, Answer
-from .calls import Call
-from .filters import JEQ, JGE, JUMP, LOAD_WORD, RETURN_CONSTANT, instruction
+from .calls import NO_CALL, Call, number_told
+from .filters import JEQ, JGE, JSET, JUMP, LOAD_WORD, RETURN_CONSTANT, instruction
 from .verdicts import MORE, NO_MORE
 
-AARCH64 = 0xC00000B7
 ALLOWS_NATIVE = b'{"defaultAction": "SCMP_ACT_ALLOW"}'
 ALLOWED, REFUSED = (instruction(RETURN_CONSTANT, Answer(action, 0).word) for action in ("ALLOW", "KILL_PROCESS"))
 # struct seccomp_data in linux/seccomp.h
 NUMBER, ARCHITECTURE = instruction(LOAD_WORD, 0), instruction(LOAD_WORD, 4)
-NONE = "no call of another architecture and no x32 call is let through"
+OTHERS = "other architectures' calls: none that this kernel makes"
+NONE = "i386 and x32 calls: none is let through; others: none that this kernel makes"
 
 
 def jump(test: int, k: int, if_true: int, if_false: int) -> bytes:
@@ -31,38 +31,51 @@ def jump(test: int, k: int, if_true: int, if_false: int) -> bytes:
 
 @dataclass(frozen=True)
 class Kind:
-    """Foreign calls of one kind: what they are, an architecture of theirs, its OCI name, some of them by name, and the
-    filter that allows them alone."""
+    """Foreign calls of one kind: what they are, their architecture, its OCI name, some of them by name, and the tests
+    of a filter that go on behind them for these calls alone, and else skip one instruction more."""
 
     name: str
     architecture: int
-    profile_name: str | None
+    profile_name: str
     calls: tuple[tuple[str, int], ...]
-    alone: bytes
+    tests: bytes
+
+    @property
+    def alone(self) -> bytes:
+        """The filter that allows these calls alone."""
+        return self.tests + ALLOWED + REFUSED
 
     def told(self, number: int) -> str:
         """What a call is called."""
         name = next((name for name, one in self.calls if one == number), None)
-        shown = f"0x40000000 + {number - X32}" if self.architecture == X86_64 else str(number)
-        return f"{name} ({shown})" if name else f"number {shown}"
+        shown = number_told(number, self.architecture)
+        return f"{name} ({shown.partition(' ')[2]})" if name else shown
 
 
-# arch/x86/entry/syscalls/syscall_32.tbl, the x32 rows of syscall_64.tbl, and include/uapi/asm-generic/unistd.h.
+# arch/x86/entry/syscalls/syscall_32.tbl, and the x32 rows of syscall_64.tbl.
 KINDS = (
     Kind("i386", I386, "SCMP_ARCH_X86",
          (("read", 3), ("write", 4), ("open", 5), ("execve", 11), ("ptrace", 26), ("mount", 21), ("socketcall", 102),
           ("clone", 120), ("mmap2", 192), ("openat", 295), ("socket", 359), ("clone3", 435)),
-         ARCHITECTURE + jump(JEQ, I386, 0, 1) + ALLOWED + REFUSED),
+         ARCHITECTURE + jump(JEQ, I386, 0, 3) + NUMBER + jump(JSET, NO_CALL, 1, 0)),
     Kind("x32", X86_64, "SCMP_ARCH_X32",
          tuple((name, X32 + number) for name, number in (
              ("read", 0), ("write", 1), ("open", 2), ("mmap", 9), ("socket", 41), ("clone", 56), ("mount", 165),
              ("openat", 257), ("clone3", 435), ("execve", 520), ("ptrace", 521))),
-         ARCHITECTURE + jump(JEQ, X86_64, 0, 2) + NUMBER + jump(JGE, X32, 1, 0) + REFUSED + ALLOWED),
-    Kind("other architectures'", AARCH64, None,
-         (("mount", 40), ("openat", 56), ("read", 63), ("write", 64), ("ptrace", 117), ("socket", 198), ("clone", 220),
-          ("execve", 221), ("clone3", 435)),
-         ARCHITECTURE + jump(JEQ, X86_64, 1, 0) + jump(JEQ, I386, 0, 1) + REFUSED + ALLOWED),
+         ARCHITECTURE + jump(JEQ, X86_64, 0, 4) + NUMBER + jump(JSET, NO_CALL, 2, 0) + jump(JGE, X32, 0, 1)),
 )
+
+
+def denying(profile_names: Iterable[str]) -> list[bytes]:
+    """Filters that deny, as a profile does, each call of other architectures by their OCI names, and each number that
+    no call has; and allow all else."""
+    tests = [NUMBER + jump(JSET, NO_CALL, 0, 1)]
+    for name in dict.fromkeys(profile_names):
+        if name == architectures.X32:
+            tests += [kind.tests for kind in KINDS if kind.profile_name == name]
+        elif name in architectures.NUMBERS:
+            tests.append(ARCHITECTURE + jump(JEQ, architectures.NUMBERS[name], 0, 1))
+    return [one + REFUSED + ALLOWED for one in tests]
 
 
 @dataclass(frozen=True)
@@ -81,10 +94,7 @@ class Proved:
         if self.call is None or self.answer is None:
             return f"{self.kind.name} calls: none is let through"
         which = "some are let through" if self.answer.fate == MADE else "not all are refused"
-        called = self.kind.told(self.call.number)
-        if self.kind.architecture == AARCH64 != self.call.architecture:
-            called = f"number {self.call.number} of {self.call.architecture:#x}"
-        return f"{self.kind.name} calls: {which}, as {called}: {self.answer}"
+        return f"{self.kind.name} calls: {which}, as {self.kind.told(self.call.number)}: {self.answer}"
 
     def as_json(self) -> dict[str, object]:
         shown = [] if self.call is None or self.answer is None else [
@@ -138,6 +148,19 @@ def _tried(filters: Sequence[bytes], kind: Kind) -> Tried | None:
         if answer.lets_through:
             found.append((name, number, answer))
     return Tried(kind, tuple(found))
+
+
+def are_none(found: Sequence[Proved | Tried]) -> bool:
+    """Whether it is proved that no foreign call is let through."""
+    return all(isinstance(one, Proved) and one.lets_none_through for one in found)
+
+
+def told(found: Sequence[Proved | Tried], profile_names: Sequence[str] = ()) -> list[str]:
+    """What is said of each kind, beside a profile that names these other architectures."""
+    if are_none(found):
+        return [NONE]
+    return [*(one.told() + f"; the profile names {one.kind.profile_name}, too" * (one.kind.profile_name in profile_names)
+              for one in found), OTHERS]
 
 
 def let_through(filters: Sequence[bytes], limit: str | None = None) -> list[Proved | Tried]:

@@ -44,9 +44,7 @@ def _summary(surface: Surface) -> str:
 
 
 def _foreign(surface: Surface) -> str:
-    if all(isinstance(one, foreign.Proved) and one.lets_none_through for one in surface.foreign):
-        return foreign.NONE
-    return "; ".join(one.told() for one in surface.foreign)
+    return "; ".join(foreign.told(surface.foreign))
 
 
 def of_whole(surface: Surface) -> list[str]:

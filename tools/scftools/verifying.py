@@ -16,10 +16,6 @@ from .verdicts import Report
 WORST_FIRST = (program.REFUSED, program.WRONG_WORDS, program.FAILED, program.UNKNOWN, program.WELL)
 # What faults are of that no stack is the cause of.
 OF_ALL = ("profile", "table", "number", "command", "input")
-SCOPES = {comparing.NATIVE: "looked at: native calls, those of x86-64 with numbers below 0x40000000; of the others, "
-                            "whether any is let through:",
-          comparing.CALLS: "looked at: the native calls that the table names, each by itself; of foreign ones, "
-                           "whether any is let through:"}
 
 
 @dataclass
@@ -107,22 +103,9 @@ def of_threads(stack: Stack, found: Found) -> Iterator[str]:
         yield line
 
 
-def of_foreign(block: Block, scope: str) -> Iterator[str]:
-    """What the scope doesn't cover, and whether calls outside of it are let through."""
-    if block.comparison is None or block.report is None or block.report.verdict is None:
-        return
-    others, found = block.report.architectures, foreign.let_through(block.stack.filters, block.comparison.limit)
-    if found:
-        yield SCOPES[scope]
-    if found and all(isinstance(one, foreign.Proved) and one.lets_none_through for one in found):
-        yield foreign.NONE
-        return
-    for one in found:
-        yield one.told() + f"; the profile names {one.kind.profile_name}, too" * (one.kind.profile_name in others)
-
-
-def lines(made: Sequence[Block], found: Found, scope: str) -> Iterator[str]:
-    """What is printed: scf's lines of each block, and behind them what is added, marked by `# `."""
+def lines(made: Sequence[Block], found: Found, scope: str, is_verbose: bool = False) -> Iterator[str]:
+    """What is printed: scf's lines of each block, if verbose also of skipped names; and behind them what is added,
+    marked by `# `."""
     is_told = False
     for at, block in enumerate(made):
         if at:
@@ -136,7 +119,7 @@ def lines(made: Sequence[Block], found: Found, scope: str) -> Iterator[str]:
             yield from (f"# {line}" for line in comparing.added(comparison, report, scope))
             if block.stub is not None:
                 yield f"# {runtimes.stub_told(block.stub)}"
-            yield from (f"# {line}" for line in of_foreign(block, scope))
+            yield from (f"# {line}" for line in comparing.of_foreign(comparison, report, scope))
         yield from (f"# {line}" for line in of_threads(block.stack, found))
     yield from (f"# {note}" for note in found.notes)
 

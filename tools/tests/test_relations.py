@@ -334,14 +334,13 @@ class Foreign(Case):
 
     def is_of(self, kind, call):
         if call.architecture == X86_64:
-            return kind.name == "x32" and call.number >= X32
-        return kind.name == ("i386" if call.architecture == I386 else "other architectures'")
+            return kind.name == "x32" and X32 <= call.number < 2 * X32
+        return kind.name == "i386" and call.architecture == I386 and call.number < 2 * X32
 
     def test_told(self):
         told = [one.told() for one in foreign.let_through([ret(TRACE)])]
         self.assertEqual(told, ["i386 calls: not all are refused, as number 0: TRACE 0",
-                                "x32 calls: not all are refused, as read (0x40000000 + 0): TRACE 0",
-                                "other architectures' calls: not all are refused, as number 0 of 0x0: TRACE 0"])
+                                "x32 calls: not all are refused, as read (0x40000000 + 0): TRACE 0"])
 
     def test_undecided_and_unfinished(self):
         """Some calls are tried, and it is said that it wasn't decided."""
@@ -355,7 +354,7 @@ class Foreign(Case):
             "let_through": [{"name": "read", "number": 3, "answer": {"action": "LOG", "data": 0}}]})
         self.assertEqual([one.told() for one in foreign.let_through([filter_of([READ])], "0")], [
             f"{kind} calls: it wasn't decided whether any is let through; none of {count} that were tried is"
-            for kind, count in (("i386", 12), ("x32", 11), ("other architectures'", 9))])
+            for kind, count in (("i386", 12), ("x32", 11))])
 
     def test_refused_filters(self):
         self.assertEqual(foreign.let_through([b""]), [])
@@ -373,7 +372,7 @@ class VerifyProcess(Confined):
         status, out, _ = self.run_tool("verify-process", "--no-more", str(child.pid), given)
         self.assertEqual((status, out.split("\n")[:3]), (0, [
             "no more", "# looked at: native calls, those of x86-64 with numbers below 0x40000000; of the others, "
-            "whether any is let through:", "# no call of another architecture and no x32 call is let through"]))
+            "whether any is let through:", f"# {foreign.NONE}"]))
         status, out, _ = self.run_tool("verify-process", "--no-less", str(child.pid), given)
         self.assertEqual((status, out.split("\n")[0]), (1, "less"))
         self.assertIn("\n# by the filter the call is refused, by the profile it is made\n", out)

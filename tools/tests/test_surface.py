@@ -94,6 +94,7 @@ KNOWN = {
     "an action without a name, between LOG and ALLOW": ([ret(NEARLY)], [R] * 5),
     "an action without a name, and one before it": ([ret(NEARLY), ret(LOG)], [M] * 5),
 }
+NO_FOREIGN = "i386 and x32 calls: none is let through; others: none that this kernel makes"
 ARGUMENTS = (0, 1, 2, 3, 4, 5, 8, 39, 40, 41, 42, 40 * HIGH, 40 * HIGH + 40, 41 * HIGH, (1 << 64) - 1)
 POINTERS = (0, 0x1234, 0x1235)
 
@@ -322,7 +323,7 @@ class Program(Case):
         filters = KNOWN["by an argument"][0]
         status, lines = self.said(filters)
         self.assertEqual((status, lines), (0, [
-            "made 0, depends 1, refused 4", "no call of another architecture and no x32 call is let through",
+            "made 0, depends 1, refused 4", NO_FOREIGN,
             f"numbers without a name: none of {OTHERS} is let through", "files refused 0 read,too ERRNO 1",
             "files refused 1 write ERRNO 1", lines[5], "processes refused 39 getpid ERRNO 1",
             "processes refused 231 exit_group ERRNO 1"]))
@@ -338,13 +339,34 @@ class Program(Case):
     def test_foreign_calls(self):
         for name, says in (("all is made", "i386 calls: some are let through, as number 0: ALLOW; x32 calls: some are "
                                            "let through, as read (0x40000000 + 0): ALLOW; other architectures' calls: "
-                                           "some are let through, as number 0 of 0x0: ALLOW"),
-                           ("some are made", "no call of another architecture and no x32 call is let through")):
+                                           "none that this kernel makes"),
+                           ("some are made", NO_FOREIGN)):
             self.assertEqual(self.said(KNOWN[name][0])[1][1], says)
         gone = load(4) + jeq(I386, 0, 1) + ret(ALLOW) + ret(KILL_PROCESS)
         self.assertEqual(self.said([gone])[1][1], "i386 calls: some are let through, as number 0: ALLOW; x32 calls: "
-                                                  "none is let through; other architectures' calls: none is let "
-                                                  "through")
+                                                  "none is let through; other architectures' calls: none that "
+                                                  "this kernel makes")
+
+    def test_calls_that_no_kernel_makes(self):
+        """-1, other numbers with bit 31 and other architectures are no hole, by an argument of libseccomp's, or by
+        none."""
+        lets = (load(0) + jge(0x80000000, 0, 1) + ret(ALLOW) + load(4) + jeq(X86_64, 3, 0) + jeq(I386, 2, 0)
+                + ret(ALLOW) + ret(ALLOW) + load(0) + jeq(READ, 0, 1) + ret(EPERM) + ret(KILL_PROCESS))
+        calls = [Call(number, architecture) for number in (0x80000000, 0xFFFFFFFE, 0xFFFFFFFF)
+                 for architecture in (X86_64, I386)] + [Call(READ, 0xC00000B7), Call(READ, 0)]
+        self.assertEqual({StandIn().decide([lets], call) for call in calls}, {"ALLOW 0"})
+        self.assertEqual(self.said([lets])[1][1], NO_FOREIGN)
+
+    def test_the_filter_of_libseccomp(self):
+        """It lets -1 through on purpose, and no x32 call."""
+        script = ("import seccomp, sys; made = seccomp.SyscallFilter(seccomp.ALLOW); "
+                  "made.add_rule(seccomp.ERRNO(1), 'mount'); made.export_bpf(sys.stdout)")
+        done = subprocess.run(["/usr/bin/python3", "-c", script], capture_output=True, check=False)
+        if done.returncode:
+            self.skipTest("libseccomp's module of Python isn't here")
+        self.assertEqual([StandIn().decide([done.stdout], Call(number)) for number in (0xFFFFFFFF, 0x40000000)],
+                         ["ALLOW 0", "KILL_THREAD 0"])
+        self.assertEqual(self.said([done.stdout])[1][1], NO_FOREIGN)
 
     def test_the_table_that_comes_with_scf(self):
         """Each name of it once, in a group of its own; what a filter allows, and nothing else, is made."""
@@ -382,7 +404,7 @@ class Program(Case):
         self.assertEqual(found["unnamed"], {"count": OTHERS, "let_through": OTHERS, "untold": 0, "are_made": True,
                                             "shown": {"number": 2, "answer": {"action": "ALLOW", "data": 0}}})
         self.assertEqual([(one["kind"], one["let_through"]) for one in found["foreign"]],
-                         [(kind, []) for kind in ("i386", "x32", "other architectures'")])
+                         [(kind, []) for kind in ("i386", "x32")])
 
     def test_statuses(self):
         good = filter_of([READ])
@@ -552,7 +574,7 @@ class Beside(Case):
         words = ("--table", self.file("t", OWN), one, "--beside", other)
         self.assertEqual(self.run_tool("surface", *words), (1, (
             "made 1, depends 0, refused 4\nbeside: made 1, depends 0, refused 4\n"
-            "no call of another architecture and no x32 call is let through\n"
+            f"{NO_FOREIGN}\n"
             f"numbers without a name: calls of 1 of {OTHERS} are let through, as 400: ALLOW\n"
             f"beside: numbers without a name: none of {OTHERS} is let through\n"
             "calls of which the same isn't said: 2\n"
