@@ -2,13 +2,14 @@
 from __future__ import annotations
 
 from collections.abc import Iterator, Sequence
-from dataclasses import dataclass, field
+from dataclasses import dataclass, field, replace
 
 from . import bundles, effort, explaining, foreign, program, verdicts
 from .answers import REFUSED
 from .filters import LONGEST_STACK, MORE_OF_OLDER, Filter, looks_at_pointer
 from .tables import Table
-from .verdicts import DIFFERS, LESS, MORE, NO_LESS, NO_MORE, SAME, UNDECIDED, NamedCall, Report, Verdict
+from .verdicts import (DIFFERS, FOR_OTHER_ABI, LESS, MORE, NO_LESS, NO_MORE, SAME, UNDECIDED, UNDETERMINED, NamedCall,
+                       Report, Verdict)
 
 TYPE_CHECKING = False
 if TYPE_CHECKING:
@@ -61,8 +62,23 @@ class Comparison:
         return done.status, verdicts.report(done.text, known.names if known else None, self.table, pointer)
 
     def run(self, scope: str = ALL, relation: str | None = None) -> tuple[int, Report]:
-        """The status of scf, and what it printed, by the relation that was asked for or by this one."""
-        return self._run(scope, [one.data for one in self.filters], None, relation or self.relation)
+        """The status of scf, and what it printed, by the relation that was asked for or by this one. Where a call of
+        an architecture decides that the profile names, too, nothing is determined."""
+        relation, filters = relation or self.relation, [one.data for one in self.filters]
+        status, report = self._run(scope, filters, None, relation)
+        call = report.verdict.call if report.verdict is not None else None
+        if scope != ALL or call is None or not report.architectures or call.is_native:
+            return status, report
+        if call.other_abi is not None and call.other_abi not in report.architectures:
+            return status, report
+        # whether anything else decides, and if nothing does, whether a call does or only numbers that no call has
+        for names in (report.architectures, ()):
+            ended, others = self._run(scope, [*foreign.denying(names), *filters], None, relation)
+            if others.verdict is None or names == () and others.verdict.fails:
+                return program.UNKNOWN, undetermined(report if others.verdict is None else others)
+            if not others.verdict.holds:
+                return ended, others
+        return status, report
 
     def native(self, filters: Sequence[bytes], profile: bytes | None = None) -> Report:
         """What scf says of other filters, beside the profile or another one, over native calls."""
@@ -75,6 +91,13 @@ class Comparison:
 
     def alone(self, one: Filter, scope: str) -> Report:
         return self._run(scope, [one.data], None, self.relation)[1]
+
+
+def undetermined(report: Report) -> Report:
+    """A report whose call is one that the profile is for, and scf doesn't judge."""
+    assert report.verdict is not None
+    return replace(report, lines=(FOR_OTHER_ABI, *report.lines[1:3]),
+                   verdict=replace(report.verdict, word=UNDETERMINED, profile=None))
 
 
 def named(what: Sequence[str]) -> str:
@@ -270,8 +293,9 @@ def _side_json(verdict: Verdict, table: Table) -> dict[str, object]:
     found: dict[str, object] = {}
     if verdict.call:
         found["call"] = verdict.call.as_json(table)
-    if verdict.filters and verdict.profile:
-        found["filter"], found["profile"] = verdict.filters.as_json(), verdict.profile.as_json()
+    for side, answer in (("filter", verdict.filters), ("profile", verdict.profile)):
+        if answer:
+            found[side] = answer.as_json()
     if verdict.at is not None:
         found["at"] = verdict.at
     return found
@@ -312,6 +336,9 @@ def as_json(comparison: Comparison, report: Report, scope: str, status: int) -> 
 
         found["unknown"] = [{"name": name, "nearest": near}
                             for name, near in tables.told_apart(report.skipped, table).unknown]
+    if scope in LOOKED_AT and report.verdict is not None:
+        filters = [one.data for one in comparison.filters]
+        found["foreign"] = [one.as_json() for one in foreign.let_through(filters, comparison.limit)]
     whose_it_is = list(whose_files(comparison, report, scope))
     if whose_it_is:
         found["files"] = whose_it_is

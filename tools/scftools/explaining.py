@@ -46,7 +46,7 @@ def of_verdict(report: Report, table: Table, is_native: bool, count: int) -> Ite
     verdict = report.verdict
     if verdict is None:
         return
-    if verdict.fails:
+    if verdict.fails or verdict.word == verdicts.UNDETERMINED:
         yield from of_differing(verdict, table, is_native, count)
     elif not verdict.holds:
         yield from faults.what_a_row_says(report.lines[0])

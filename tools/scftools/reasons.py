@@ -12,8 +12,9 @@ from .answers import Answer
 from .calls import Call
 from .comparing import Comparison
 from .deciding import Asked, Told
+from .filters import RETURN_CONSTANT, Filter, instruction
 from .tables import Table
-from .verdicts import Fault, Verdict
+from .verdicts import FOR_OTHER_ABI, UNDETERMINED, Fault, Verdict
 
 TYPE_CHECKING = False
 if TYPE_CHECKING:
@@ -158,9 +159,19 @@ def _json_of(reason: Reason, profile: bytes, call: Call | None, table: Table) ->
     return {**found, **as_json(reason, profile, call)}
 
 
+def _architectures(profile: bytes, table: Table) -> tuple[str, ...]:
+    """The architectures of a profile beside x86-64, which a comparison without a step says."""
+    allows = instruction(RETURN_CONSTANT, Answer("ALLOW", 0).word)
+    return Comparison([Filter("", allows)], profile, table, "0").run(comparing.NATIVE)[1].architectures
+
+
 def ask(profile: bytes, one: Asked, table: Table) -> Told:
     """What a profile answers to a call, and why."""
     reason = of(profile, table, one.words())
+    if reason.is_foreign and one.call is not None and one.call.other_abi in _architectures(profile, table):
+        call = one.call
+        return Told(program.UNKNOWN, [FOR_OTHER_ABI], lambda: explaining.of_call(call, table),
+                    lambda: {"call": call.as_json(table), "reason": UNDETERMINED})
     return Told(reason.status, [reason.line] if reason.line else [], lambda: _added(reason, profile, one.call, table),
                 lambda: _json_of(reason, profile, one.call, table))
 

@@ -16,6 +16,9 @@ from .calls import Call
 from .tables import Table
 
 SAME, DIFFERS, UNDECIDED, UNFINISHED = "same", "differs", "undecided", "unfinished"
+# Of the tools alone: what decides is a call of an architecture that the profile names, too, and scf doesn't judge.
+UNDETERMINED = "undetermined"
+FOR_OTHER_ABI = f"{UNDETERMINED}: the profile is for this architecture, too"
 # Of --no-more and --no-less, in place of the first two.
 NO_MORE, MORE, NO_LESS, LESS = "no more", "more", "no less", "less"
 HOLDS, FAILS = (SAME, NO_MORE, NO_LESS), (DIFFERS, MORE, LESS)

@@ -4,7 +4,7 @@ from __future__ import annotations
 from collections.abc import Iterator, Sequence
 from dataclasses import dataclass, replace
 
-from . import comparing, foreign, newer, output, program, runtimes, verdicts
+from . import comparing, newer, output, program, runtimes, verdicts
 from .comparing import Comparison
 from .processes import Found, Stack, threads_told
 from .runtimes import Applied
@@ -135,9 +135,6 @@ def _block_json(block: Block, found: Found, scope: str) -> dict[str, object]:
         own = comparing.as_json(block.comparison, block.report, scope, block.status)
         if block.stub is not None:
             own["stub"] = block.stub
-        if block.report.verdict is not None:
-            own["foreign"] = [one.as_json()
-                              for one in foreign.let_through(block.stack.filters, block.comparison.limit)]
     else:
         own["verdict"] = "strict" if block.stack.is_strict else "unconfined"
     return {**own, "filters": [len(data) // 8 for data in block.stack.filters],

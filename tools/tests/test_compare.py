@@ -32,8 +32,8 @@ class Compare(Case):
         self.says_usage("compare")
 
     def test_same(self):
-        self.assertEqual(self.run_tool("compare", self.same, self.profile), (0, "same\n", ""))
-        self.assertEqual(self.run_tool("compare", "--all", self.same, self.profile), (0, "same\n", ""))
+        for words in ((), ("--native",), ("--all",), ("--calls",)):
+            self.assertEqual(self.run_tool("compare", *words, self.same, self.profile), (0, "same\n", ""))
 
     def test_differs_by_the_name_of_a_call(self):
         status, out, err = self.run_tool("compare", self.wrong, self.profile)
@@ -50,7 +50,9 @@ class Compare(Case):
             "#  6  jeq #0x0, 3, 0         // read: to 10, else 7; loaded 0xe7, went to 7\n"
             "#  7  jeq #0x1, 2, 0         // write: to 10, else 8; loaded 0xe7, went to 8\n"
             "#  8  jeq #0xe7, 1, 0        // exit_group: to 10, else 9; loaded 0xe7, went to 10\n"
-            "# 10  ret #0x7fff0000        // ALLOW\n"), ""))
+            "# 10  ret #0x7fff0000        // ALLOW\n"
+            "# calls that the table names and that aren't answered as the profile says: 1\n"
+            "# 231 exit_group differs args 0x0 0x0 0x0 0x0 0x0 0x0 filter ALLOW 0 profile ERRNO 1\n"), ""))
 
     def test_a_table_of_ones_own(self):
         table = self.file("own.table", b"# mine\nread 0\nwrite 1\nleave 231\nleave_too 231\n")
@@ -69,9 +71,11 @@ class Compare(Case):
                       self.run_tool("compare", "--table", few, self.wrong, self.profile)[1])
 
     def test_foreign_calls_are_said_to_be_left_out_by_native(self):
-        status, out, _ = self.run_tool("compare", self.lax, self.profile)
+        status, out, _ = self.run_tool("compare", "--all", self.lax, self.profile)
         self.assertEqual(status, 1)
         self.assertIn("# --native leaves out ", out)
+        self.assertEqual(self.run_tool("compare", self.lax, self.profile), (0, "same\n", ""))
+
         def on_one_call(arch, number):
             """Allows one number of one architecture, and is the profile's filter elsewhere."""
             return (load(4) + jeq(arch, 0, 3) + load(0) + jeq(number, 0, 1) + ret(ALLOW)
@@ -83,8 +87,11 @@ class Compare(Case):
                 (X86_64, 0x40000005, "number 1073741829, which is 0x40000000 + 5, as x32 calls have\n"
                                      "# --native leaves out numbers from 0x40000000 on\n"),
                 (X86_64, 0x80000007, "number 2147483655, which is 0x80000007, as no call has\n"
+                                     "# --native leaves out numbers from 0x40000000 on\n"),
+                (X86_64, 0xFFFFFFFF, "number -1, as a tracer sets it to skip a call\n"
                                      "# --native leaves out numbers from 0x40000000 on\n")):
-            status, out, _ = self.run_tool("compare", self.file("one.bpf", on_one_call(arch, number)), self.profile)
+            status, out, _ = self.run_tool("compare", "--all", self.file("one.bpf", on_one_call(arch, number)),
+                                           self.profile)
             self.assertEqual(status, 1)
             self.assertIn(f"call nr {number} arch {arch:#x} ", out)
             self.assertIn(f"# the call is {says}", out)
@@ -244,6 +251,107 @@ class Compare(Case):
             self.assertEqual(self.run_tool("compare", *stack, self.profile)[:2], (0, "same\n"))
 
 
+def of_abis(native, i386, x32):
+    """A filter of three parts, and x86-64's numbers with bit 31 allowed."""
+    x32 = load(0) + insn(0x45, 0x80000000, 0, 1) + ret(ALLOW) + jge(0x40000000, 0, len(x32) // 8) + x32 + native
+    return load(4) + jeq(I386, 0, len(i386) // 8) + i386 + jeq(X86_64, 1, 0) + ret(KILL_PROCESS) + x32
+
+
+class OtherAbis(Case):
+    """Calls of i386 and x32, beside a profile that is for them, too, or that isn't."""
+
+    UNDETERMINED = "undetermined: the profile is for this architecture, too"
+
+    def setUp(self):
+        super().setUp()
+        native = load(0) + jeq(READ, 1, 0) + ret(EPERM) + ret(ALLOW)
+        self.lets_i386, self.lets_x32, self.lets_both = (
+            self.file(f"{at}.bpf", of_abis(native, *answers)) for at, answers in enumerate(
+                ((ret(EPERM), ret(KILL_PROCESS)), (ret(KILL_PROCESS), ret(EPERM)), (ret(EPERM), ret(ALLOW)))))
+        self.wrong = self.file("wrong.bpf", of_abis(ret(ALLOW), ret(EPERM), ret(EPERM)))
+
+    def profile(self, *architectures):
+        names = [f"SCMP_ARCH_{name}" for name in ("X86_64", *architectures)]
+        return self.file("p.json", json.dumps({**json.loads(profile_of("read")), "architectures": names}))
+
+    def said(self, *words):
+        status, out, err = self.run_tool("compare", *words)
+        self.assertEqual(err, "")
+        return status, out.split("\n")
+
+    def test_native_calls_are_looked_at(self):
+        for filters in (self.lets_i386, self.lets_x32, self.lets_both):
+            for words in ((), ("--native",), ("--calls",), ("--no-more",)):
+                status, lines = self.said(*words, filters, self.profile("X86", "X32"))
+                self.assertEqual((status, lines[0]), (0, "no more" if "--no-more" in words else "same"))
+        self.assertEqual(self.said(self.wrong, self.profile("X86", "X32"))[0], 1)
+
+    def test_a_call_that_decides_and_that_the_profile_may_be_for(self):
+        for name, filters, answer in (("X86", self.lets_i386, "ERRNO 1"), ("X32", self.lets_x32, "ERRNO 1"),
+                                      ("X32", self.lets_both, "ALLOW 0")):
+            named = ("X86", "X32") if filters == self.lets_both else (name,)
+            status, lines = self.said("--all", filters, self.profile(*named))
+            self.assertEqual((status, lines[0]), (4, self.UNDETERMINED))
+            found = json.loads(self.run_tool("compare", "--all", "--json", filters, self.profile(*named))[1])
+            self.assertEqual((found["status"], found["verdict"]), (4, "undetermined"))
+            self.assertNotIn("profile", found)
+            self.assertNotIn("profile", " ".join(lines[1:3]))
+            if filters != self.lets_both:
+                self.assertEqual(lines[2], f"filter {answer}")
+
+    def test_where_something_else_decides(self):
+        """A native call, or one of an architecture that the profile doesn't name."""
+        for filters, names, arch, number in ((self.wrong, ("X86", "X32"), X86_64, range(0x40000000)),
+                                             (self.lets_both, ("X86",), X86_64, range(0x40000000, 0x80000000)),
+                                             (self.lets_both, ("X32",), I386, range(0x80000000))):
+            status, lines = self.said("--all", filters, self.profile(*names))
+            self.assertEqual((status, lines[0]), (1, "differs"))
+            words = lines[1].split()
+            self.assertEqual(int(words[4], 16), arch)
+            self.assertIn(int(words[2]), number)
+        for names, word in (((), "more"), (("X86",), "more"), (("X32",), self.UNDETERMINED)):
+            self.assertEqual(self.said("--all", "--no-more", self.lets_both, self.profile(*names))[1][0], word)
+
+    def test_numbers_that_no_call_has_decide_alone(self):
+        """The record is one all the same, and it is said what it is."""
+        native = load(0) + jeq(READ, 1, 0) + ret(EPERM) + ret(ALLOW)
+        no_calls = self.file("f.bpf", of_abis(native, ret(KILL_PROCESS), ret(KILL_PROCESS)))
+        for names in ((), ("X86", "X32")):
+            status, lines = self.said("--all", no_calls, self.profile(*names))
+            self.assertEqual((status, lines[0]), (1, "differs"))
+            self.assertRegex("\n".join(lines), "\n# the call is number (-1, as a tracer|[0-9]+, which is 0x.*, as no call)")
+            self.assertEqual(self.said(no_calls, self.profile(*names))[0], 0)
+
+    def test_what_is_let_through_is_said(self):
+        """Behind the verdict over native calls; nothing where nothing is."""
+        i386, x32 = self.profile("X86"), "x32 calls: some are let through, as read (0x40000000 + 0): ALLOW"
+        status, lines = self.said(self.lets_both, i386)
+        self.assertEqual((status, lines), (0, [
+            "same", "other SCMP_ARCH_X86", "# the other architectures of the profile aren't looked at",
+            "# looked at: native calls, those of x86-64 with numbers below 0x40000000; of the others, whether any is "
+            "let through:", "# i386 calls: none is let through; the profile names SCMP_ARCH_X86, too", f"# {x32}",
+            "# other architectures' calls: none that this kernel makes", ""]))
+        lines = self.said(self.lets_both, self.profile("X32"))[1]
+        self.assertIn(f"# {x32}; the profile names SCMP_ARCH_X32, too", lines)
+        self.assertEqual(self.said(self.lets_i386, self.profile())[1], ["same", ""])
+        found = json.loads(self.run_tool("compare", "--json", self.lets_both, i386)[1])
+        self.assertEqual([bool(one["let_through"]) for one in found["foreign"]], [False, True])
+
+    def test_ask(self):
+        for arch, number, names, line in (("i386", "3", ("X86",), self.UNDETERMINED),
+                                          ("x32", "0", ("X86", "X32"), self.UNDETERMINED),
+                                          ("aarch64", "63", ("AARCH64",), self.UNDETERMINED),
+                                          ("x32", "0", ("X86",), "KILL_PROCESS 0 foreign"),
+                                          ("i386", "3", (), "KILL_PROCESS 0 foreign"),
+                                          ("x86_64", "-1", ("X86", "X32"), "KILL_PROCESS 0 foreign"),
+                                          ("x86_64", "read", ("X86", "X32"), "ALLOW 0 entry 0")):
+            words = ("ask", f"--arch={arch}", "--nr", number)
+            status, out, _ = self.run_tool(*words, self.profile(*names))
+            self.assertEqual((status, out.split("\n")[0]), (4 if line == self.UNDETERMINED else 0, line), words)
+            found = json.loads(self.run_tool(*words, "--json", self.profile(*names))[1])["calls"][0]
+            self.assertEqual("answer" in found, line != self.UNDETERMINED)
+
+
 FAKE = """#!/bin/sh
 case "$*" in
 'compare --help') echo ' --native ' ;;
@@ -279,7 +387,8 @@ class WithAnotherScf(Case):
             self.assertEqual(handed.read(), "compare --calls --limit 7\n")
         with open(os.path.join(self.folder, "kept.relations"), encoding="ascii") as handed:
             self.assertEqual(handed.read().split("\n"), [f"compare --native --no-{it} --limit 7"
-                                                         for it in ("more", "less")] + [""])
+                                                         for it in ("more", "less")]
+                             + ["compare --no-more --limit 7"] * 2 + [""])
         self.assertEqual(self.run_fake("--all", "--table", "t", "a.bpf", "p.json")[2], "compare\n")
 
 

@@ -313,22 +313,26 @@ class Objects(Case):
 
         left_out = {"skipped": ["waitpid", "umont2"], "other": ["SCMP_ARCH_X86"],
                     "unknown": [{"name": "umont2", "nearest": "umount2"}]}
-        self.assertEqual(found(same, profile),
+        foreign = {"foreign": [{"kind": kind, "is_decided": True, "let_through": []} for kind in ("i386", "x32")]}
+        self.assertEqual(found("--all", same, profile),
                          {"status": 0, "scope": "all", "verdict": "same", "calls": [], **left_out})
+        self.assertEqual(found(same, profile),
+                         {"status": 0, "scope": "native", "verdict": "same", "calls": [], **left_out, **foreign})
         call = {"number": 231, "names": ["exit_group"], "architecture": "0xc000003e", "pointer": "0x0",
                 "arguments": ["0x0"] * 6}
         sides = {"call": call, "filter": {"action": "ALLOW", "data": 0}, "profile": {"action": "ERRNO", "data": 1}}
         why = {"reason": "default", "path": {"filter": wrong, "places": [0, 1, 3, 4, 6, 7, 9]}}
         line = {"number": 231, "names": ["exit_group"], "verdict": "differs", **sides}
         fates = {"no_more": "more", "no_less": "no less"}
-        self.assertEqual(found(wrong, profile),
+        self.assertEqual(found("--all", wrong, profile),
                          {"status": 1, "scope": "all", "verdict": "differs", **sides, **why, **fates, "calls": [],
                           **left_out})
         self.assertEqual(found("--native", wrong, profile),
                          {"status": 1, "scope": "native", "verdict": "differs", **sides, **why, **fates,
-                          "calls": [line], **left_out})
+                          "calls": [line], **left_out, **foreign})
         self.assertEqual(found("--calls", wrong, profile),
-                         {"status": 1, "scope": "calls", "verdict": "differs", **fates, "calls": [line], **left_out})
+                         {"status": 1, "scope": "calls", "verdict": "differs", **fates, "calls": [line], **left_out,
+                          **foreign})
         jump = found(same, self.file("bad.bpf", jeq(0, 9, 0) + ret(ALLOW)), profile)
         self.assertEqual((jump["verdict"], jump["files"]), (None, [os.path.join(self.folder, "bad.bpf")]))
         self.assertEqual({key: jump["fault"][key] for key in ("source", "kind", "numbers")},

@@ -392,14 +392,14 @@ class Behind(Case):
         self.assertEqual(found["path"]["places"], StandIn().path(filter_of([0]), call))
 
     def test_a_foreign_call(self):
-        lines = self.added(self.file("f.bpf", filter_of([0], foreign=EPERM)), self.file("p.json", profile_of("read")))
+        lines = self.added("--all", self.file("f.bpf", filter_of([0], foreign=EPERM)), self.file("p.json", profile_of("read")))
         self.assertIn("by no entry: the call is foreign", lines)
 
     def test_nothing_is_added_to_same(self):
         """Nor is anything run for it but the comparison."""
         tree = self.made_tree('#!/bin/sh\necho "$1" >>"$KEPT"\necho same\n')
         kept = os.path.join(self.folder, "kept")
-        done = self.run_words([os.path.join(tree, "tools", "compare"), self.file("f.bpf", filter_of([0])),
+        done = self.run_words([os.path.join(tree, "tools", "compare"), "--all", self.file("f.bpf", filter_of([0])),
                                self.file("p.json", profile_of("read"))], env={**os.environ, "KEPT": kept})
         self.assertEqual(done, (0, "same\n", ""))
         with open(kept, encoding="ascii") as file:
