@@ -8,7 +8,7 @@ from __future__ import annotations
 
 import re
 from collections.abc import Sequence
-from dataclasses import dataclass
+from dataclasses import dataclass, replace
 
 from . import program
 from .answers import Answer
@@ -102,6 +102,11 @@ class Report:
         """scf's lines again, a name with line ends in it as the one line that it belongs to."""
         return [*self.lines, *(f"skipped {name}" for name in self.skipped),
                 *(f"other {name}" for name in self.architectures)]
+
+    @property
+    def brief(self) -> list[str]:
+        """scf's lines without those of skipped names, of which there are often many."""
+        return replace(self, skipped=()).printed
 
 
 def _shown(lines: Sequence[str]) -> Verdict:

@@ -115,7 +115,7 @@ def lines(made: Sequence[Block], found: Found, scope: str, is_verbose: bool = Fa
             if is_told:
                 report = replace(report, skipped=(), architectures=())
             is_told = is_told or report.verdict is not None
-            yield from report.printed
+            yield from report.printed if is_verbose else report.brief
             yield from (f"# {line}" for line in comparing.added(comparison, report, scope))
             if block.stub is not None:
                 yield f"# {runtimes.stub_told(block.stub)}"

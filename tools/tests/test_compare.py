@@ -173,11 +173,14 @@ class Compare(Case):
     def test_skipped_names_and_other_architectures(self):
         profile = profile_of("read", "gone", "write").replace(b"{",
             b'{"architectures":["SCMP_ARCH_X86_64","SCMP_ARCH_X86"],', 1)
-        self.assertEqual(self.run_tool("compare", self.same, self.file("p", profile)),
-                         (0, "same\nskipped gone\nother SCMP_ARCH_X86\n# names of the profile that were skipped, "
-                             "since the table doesn't name such calls: 1\n"
-                             "# no call that is known here is called gone\n"
-                             "# the other architectures of the profile aren't looked at\n", ""))
+        added = ("other SCMP_ARCH_X86\n# names of the profile that were skipped, since the table doesn't name such calls: "
+                 "1\n# no call that is known here is called gone\n"
+                 "# the other architectures of the profile aren't looked at\n")
+        profile = self.file("p", profile)
+        self.assertEqual(self.run_tool("compare", self.same, profile), (0, f"same\n{added}", ""))
+        self.assertEqual(self.run_tool("compare", "--verbose", self.same, profile),
+                         (0, f"same\nskipped gone\n{added}", ""))
+        self.assertEqual(json.loads(self.run_tool("compare", "--json", self.same, profile)[1])["skipped"], ["gone"])
 
     def test_a_name_that_looks_like_a_verdict(self):
         """All that is printed of such names, where nothing differs, and of the one call that does."""
@@ -190,9 +193,10 @@ class Compare(Case):
             added = ("# names of the profile that were skipped, since the table doesn't name such calls: 1\n# no call "
                      "that is known here is called " + told.replace("\n", "\\x0a") + "\n")
             for scope in ("--all", "--native", "--calls"):
-                self.assertEqual(self.run_tool("compare", scope, self.same, profile),
+                self.assertEqual(self.run_tool("compare", "--verbose", scope, self.same, profile),
                                  (0, f"same\nskipped {shown}\n{added}", ""))
-            self.assertEqual(self.run_tool("compare", "--calls", self.wrong, profile),
+                self.assertEqual(self.run_tool("compare", scope, self.same, profile), (0, f"same\n{added}", ""))
+            self.assertEqual(self.run_tool("compare", "--verbose", "--calls", self.wrong, profile),
                              (1, f"differs\n{call}\nskipped {shown}\n{added}", ""))
             status, out, _ = self.run_tool("compare", "--native", self.wrong, profile)
             self.assertEqual(status, 1)

@@ -337,6 +337,9 @@ class VerifyProcess(Confined):
         status, out = self.verify(child, profile, "--limit", "30")
         self.assertEqual((status, [block.split("\n")[0] for block in out.split("\n\n")]),
                          (1, ["differs", "unfinished", "same"]))
+        self.assertNotIn("skipped riscv_flush_icache\n", out)
+        self.assertEqual(out.count("# names of the profile that were skipped"), 1)
+        out = self.verify(child, profile, "--limit", "30", "--verbose")[1]
         self.assertEqual(out.count("skipped riscv_flush_icache\n"), 1)
         child = self.child([OLDEST], [many])
         status, out = self.verify(child, profile, "--limit", "30")

@@ -93,7 +93,7 @@ class Limits(Case):
 
     def test_names_as_long_as_a_profile(self):
         long = self.file("long.json", profile_of("read", "r" * (TEXT - 500), *map(str, range(20))))
-        self.ends(("compare", self.filter, long), 0, "same\nskipped rrr")
+        self.ends(("compare", "--verbose", self.filter, long), 0, "same\nskipped rrr")
 
     def test_the_last_byte_within_the_limits(self):
         whole = ret(ALLOW) * (FILTER // 8)

@@ -67,7 +67,8 @@ class Hostile(Case):
             for filters, status, verdict in ((self.same, 0, "same"), (self.wrong, 1, "differs")):
                 for scope in ("--all", "--native", "--calls"):
                     with self.subTest(name=name, scope=scope):
-                        found, out, err = self.run_tool("compare", scope, filters, self.profile(name))
+                        found, out, err = self.run_tool("compare", "--verbose", scope, filters,
+                                                        self.profile(name))
                         lines = out.split("\n")
                         self.assertEqual((found, err, lines[0]), (status, "", verdict))
                         self.assertEqual([line for line in lines if line.startswith("skipped ")], [f"skipped {shown}"])
@@ -84,7 +85,7 @@ class Hostile(Case):
         """Behind the first skipped name nothing is a call: one call differs, whatever the name says."""
         name = f"x\n{FORGED_CALL}\n42 connect differs"
         for words in (("--native",), ("--calls",)):
-            out = self.run_tool("compare", *words, self.wrong, self.profile(name))[1]
+            out = self.run_tool("compare", "--verbose", *words, self.wrong, self.profile(name))[1]
             self.assertNotIn("\n41 ", out)
             self.assertNotIn("# 41 ", out)
             found = json.loads(self.run_tool("compare", "--json", *words, self.wrong, self.profile(name))[1])
