@@ -28,6 +28,8 @@ LOOKED_AT = {NATIVE: "looked at: native calls, those of x86-64 with numbers belo
 RELATIONS = {SAME: [], NO_MORE: ["--no-more"], NO_LESS: ["--no-less"]}
 FAILED = {DIFFERS: "that aren't answered as the profile says", MORE: "that are let through further than by the profile",
           LESS: "that are let through less far than by the profile"}
+# So many calls that couldn't be told are listed.
+UNTOLD = 20
 
 
 @dataclass
@@ -158,8 +160,10 @@ def _counted(calls: Sequence[NamedCall]) -> Iterator[str]:
         yield f"calls that the table names and {FAILED[differing[0].verdict.word]}: {len(differing)}"
         yield from (call.line for call in differing)
     if len(differing) < len(calls):
-        yield f"calls that the table names and of which it couldn't be told: {len(calls) - len(differing)}"
-        yield from (call.line for call in calls if not call.verdict.fails)
+        untold = [call.line for call in calls if not call.verdict.fails]
+        yield f"calls that the table names and of which it couldn't be told: {len(untold)}"
+        yield from untold[:UNTOLD]
+        yield from [f"more such calls: {len(untold) - UNTOLD}"] * (len(untold) > UNTOLD)
 
 
 def of_native_calls(comparison: Comparison, report: Report) -> tuple[list[str], list[str]]:

@@ -56,6 +56,19 @@ class Slow(Case):
                                          self.file("a.json", b'{"defaultAction":"SCMP_ACT_ALLOW"}'))
         self.assertEqual((status, out.split("\n")[0], err), (4, "unfinished", ""))
 
+    def test_a_few_of_many_calls_that_could_not_be_told_are_listed(self):
+        """Where one call differs, and the comparison of each other is left unfinished."""
+        name = self.file("f.bpf", GATE + jeq(0, 0, 1) + ret(EPERM) + BITS[len(GATE):])
+        table = self.file("t", b"".join(b"c%d %d\n" % (number, number) for number in range(30)))
+        status, out, _ = self.run_tool("compare", "--limit=300", "--table", table, name,
+                                       self.file("a.json", b'{"defaultAction":"SCMP_ACT_ALLOW"}'))
+        lines = out.split("\n")
+        self.assertEqual((status, lines[0]), (1, "differs"))
+        self.assertIn("# calls that the table names and of which it couldn't be told: 29", lines)
+        self.assertEqual([line for line in lines if line.endswith(" unfinished")],
+                         [f"# {number} c{number} unfinished" for number in range(1, 21)])
+        self.assertIn("# more such calls: 9", lines)
+
 
 class Limits(Case):
     def setUp(self):
