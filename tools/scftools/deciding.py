@@ -106,8 +106,8 @@ class Numbering:
 
     def _named(self, name: str) -> int:
         if not self.is_native:
-            raise program.Refused(f"the table numbers '{name}' for x86-64, and not for --arch {self.architecture}: "
-                                  f"give the call's number there")
+            raise program.Refused(f"the table names calls of x86-64: with --arch {self.architecture}, give the number "
+                                  f"that '{name}' has there")
         number = self.table.number_of(name)
         if number is None:
             from . import tables  # pylint: disable=import-outside-toplevel

@@ -106,7 +106,8 @@ class Words(Case):
                           ("decide", "--calls-from", calls, self.i386)):
                 status, out, err = self.run_tool(words[0], "--arch", word, *words[1:])
                 self.assertEqual((status, out), (2, ""), words)
-                self.assertIn(f"the table numbers 'socket' for x86-64, and not for --arch {word}", err)
+                self.assertIn(f"the table names calls of x86-64: with --arch {word}, give the number that 'socket' has "
+                              "there", err)
         for word in ("x86_64", "SCMP_ARCH_X86_64", "0xc000003e", "3221225534", "c000003e"):
             self.assertEqual(self.answer("--nr=socket", "--arch", word, self.i386), "ALLOW 0", word)
 
