@@ -4,10 +4,13 @@ import json
 import os
 import random
 import re
+import shutil
+import subprocess
 import sys
+import unittest
 
-from common import (ALLOW, EPERM, I386, KILL_PROCESS, SCF, TABLE, TOP, X86_64, Case, filter_of, insn, jeq, load, part,
-                    profile_of, ret)
+from common import (ALLOW, EPERM, I386, KILL_PROCESS, SCF, TABLE, TOP, X86_64, Case, comes, filter_of, insn, jeq, load,
+                    part, profile_of, ret)
 from stand_in import StandIn
 
 sys.path.append(os.path.join(TOP, "tools"))
@@ -19,6 +22,24 @@ from scftools.calls import Call  # noqa: E402
 X32, WORD = 0x40000000, (1 << 32) - 1
 NATIVE = load(4) + jeq(X86_64, 1, 0) + ret(KILL_PROCESS) + load(0) + insn(0x35, X32, 0, 1) + ret(KILL_PROCESS)
 CONSTANTS = (0, 1, 2, 41, 0x3FFFFFFF, X32, 0x7FFFFFFF, 0x80000000, WORD, X86_64, I386)
+
+
+def innermost(pid):
+    """The last child of the last child of a process, and so on."""
+    try:
+        with open(f"/proc/{pid}/task/{pid}/children", encoding="ascii") as file:
+            children = file.read().split()
+    except OSError:
+        return pid
+    return innermost(int(children[-1])) if children else pid
+
+
+def is_program(pid, name):
+    try:
+        with open(f"/proc/{pid}/comm", encoding="utf-8") as file:
+            return file.read() == f"{name}\n"
+    except OSError:
+        return False
 
 
 def random_filter(random_of, count):
@@ -375,6 +396,27 @@ class Behind(Case):
         self.assertEqual((path["filter"], path["places"]), (other, [0, 1, 3, 4, 6, 8]))
         # where all look at the architecture alone, it is the newest
         self.assertIn("/i386.bpf: 0-2\n", self.run_tool("decide", "--nr=read", of_i386, of_i386)[1])
+
+    @unittest.skipUnless(shutil.which("firejail") and os.getuid() == 0, "firejail isn't here, or may not be used")
+    def test_firejail(self):
+        """Its program has two filters, the newest for i386; clone is let through, by the number."""
+        jail = subprocess.Popen(["firejail", "--quiet", "--noprofile", "--seccomp", "cat"], stdin=subprocess.PIPE,
+                                stdout=subprocess.DEVNULL, stderr=subprocess.DEVNULL)
+        try:
+            comes(lambda: is_program(innermost(jail.pid), "cat") or jail.poll() is not None)
+            if jail.poll() is not None:
+                self.skipTest("firejail doesn't run here")
+            pid = innermost(jail.pid)
+            profile = self.file("p.json", b'{"defaultAction":"SCMP_ACT_ALLOW","syscalls":[{"names":["clone"],'
+                                          b'"action":"SCMP_ACT_ERRNO"}]}')
+            out = self.run_tool("verify-process", "--no-more", str(pid), profile)[1]
+        finally:
+            jail.communicate()
+        self.assertTrue(out.startswith("more\ncall nr 56 "), out)
+        header, tests = self.way([line[2:] for line in out.split("\n") if line.startswith("# ")])
+        self.assertTrue(header.startswith("the last tests on the way in filter 0, behind "), header)
+        self.assertTrue(any("loaded 0x38, " in line for line in tests), tests)
+        self.assertEqual(re.findall("filter [0-9]+", out), ["filter 0"])
 
     def test_the_entry(self):
         conditions = [{"index": 2, "value": 7, "op": "SCMP_CMP_GE"}]
