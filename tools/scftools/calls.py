@@ -16,7 +16,7 @@ NO_CALL, SKIPPED = 0x80000000, 0xFFFFFFFF
 PRINTED = re.compile(r"call nr ([0-9]+) arch (0x[0-9a-f]+) ip (0x[0-9a-f]+) args((?: 0x[0-9a-f]+){6})")
 
 
-def number_told(number: int, architecture: int = X86_64) -> str:
+def number_text(number: int, architecture: int = X86_64) -> str:
     """A number of a call that no table names."""
     if number == SKIPPED:
         return "number -1, as a tracer sets it to skip a call"
@@ -63,7 +63,7 @@ class Call:
     def told(self, table: Table) -> str:
         """What the call is called."""
         if self.number == SKIPPED:
-            return number_told(self.number)
+            return number_text(self.number)
         if self.architecture != X86_64:
             shown = ARCHITECTURES.get(self.architecture, hex(self.architecture))
             return f"number {self.number} of the architecture {shown}"

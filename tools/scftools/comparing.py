@@ -58,7 +58,7 @@ class Comparison:
     def _run(self, scope: str, filters: Sequence[bytes], profile: bytes | None = None,
              relation: str = SAME) -> tuple[int, Report]:
         given = bundles.of_comparison(filters, self.profile if profile is None else profile, self.table.data)
-        done = effort.comparison([*SCOPES[scope], *RELATIONS[relation]], given, self.limit)
+        done = effort.compare([*SCOPES[scope], *RELATIONS[relation]], given, self.limit)
         known = self.facts if b"\nskipped " in done.out else None
         pointer = None if scope == CALLS and any(map(looks_at_pointer, filters)) else 0
         return done.status, verdicts.report(done.text, known.names if known else None, self.table, pointer)
@@ -75,9 +75,9 @@ class Comparison:
             return status, report
         # whether anything else decides, and if nothing does, whether a call does or only numbers that no call has
         for names in (report.architectures, ()):
-            ended, others = self._run(scope, [*foreign.denying(names), *filters], None, relation)
+            ended, others = self._run(scope, [*foreign.denial_filters(names), *filters], None, relation)
             if others.verdict is None or names == () and others.verdict.fails:
-                return program.UNKNOWN, undetermined(report if others.verdict is None else others)
+                return program.UNKNOWN, as_undetermined(report if others.verdict is None else others)
             if not others.verdict.holds:
                 return ended, others
         return status, report
@@ -95,7 +95,7 @@ class Comparison:
         return self._run(scope, [one.data], None, self.relation)[1]
 
 
-def undetermined(report: Report) -> Report:
+def as_undetermined(report: Report) -> Report:
     """A report whose call is one that the profile is for, and scf doesn't judge."""
     assert report.verdict is not None
     return replace(report, lines=(FOR_OTHER_ABI, *report.lines[1:3]),

@@ -29,7 +29,7 @@ def _tell() -> None:
     _is_told = True
 
 
-def comparison(words: Sequence[str], given: bytes, limit: str | None) -> Done:
+def compare(words: Sequence[str], given: bytes, limit: str | None) -> Done:
     """`scf compare` with so many steps at the most, as a text; without, with scf's own limit while there is time."""
     words = ["compare", *words]
     if limit is not None or not program.is_tool:

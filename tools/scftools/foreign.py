@@ -13,7 +13,7 @@ from dataclasses import dataclass
 
 from . import architectures, bundles, effort, program, verdicts
 from .answers import I386, MADE, X32, X86_64, Answer
-from .calls import NO_CALL, Call, number_told
+from .calls import NO_CALL, Call, number_text
 from .filters import JEQ, JGE, JSET, JUMP, LOAD_WORD, RETURN_CONSTANT, instruction
 from .verdicts import MORE, NO_MORE
 
@@ -48,7 +48,7 @@ class Kind:
     def told(self, number: int) -> str:
         """What a call is called."""
         name = next((name for name, one in self.calls if one == number), None)
-        shown = number_told(number, self.architecture)
+        shown = number_text(number, self.architecture)
         return f"{name} ({shown.partition(' ')[2]})" if name else shown
 
 
@@ -66,7 +66,7 @@ KINDS = (
 )
 
 
-def denying(profile_names: Iterable[str]) -> list[bytes]:
+def denial_filters(profile_names: Iterable[str]) -> list[bytes]:
     """Filters that deny, as a profile does, each call of other architectures by their OCI names, and each number that
     no call has; and allow all else."""
     tests = [NUMBER + jump(JSET, NO_CALL, 0, 1)]
@@ -127,7 +127,7 @@ class Tried:
 def _proved(filters: Sequence[bytes], kind: Kind, limit: str | None) -> Proved | None:
     """What scf says of all calls of a kind, or None where it can't tell."""
     given = bundles.of_comparison([kind.alone, *filters], ALLOWS_NATIVE, b"")
-    done = effort.comparison(["--no-more"], given, limit)
+    done = effort.compare(["--no-more"], given, limit)
     verdict = verdicts.report(done.text).verdict
     if verdict is None:
         return None
@@ -159,8 +159,9 @@ def told(found: Sequence[Proved | Tried], profile_names: Sequence[str] = ()) -> 
     """What is said of each kind, beside a profile that names these other architectures."""
     if are_none(found):
         return [NONE]
-    return [*(one.told() + f"; the profile names {one.kind.profile_name}, too" * (one.kind.profile_name in profile_names)
-              for one in found), OTHERS]
+    named = {one.kind.profile_name: f"; the profile names {one.kind.profile_name}, too" for one in found
+             if one.kind.profile_name in profile_names}
+    return [*(one.told() + named.get(one.kind.profile_name, "") for one in found), OTHERS]
 
 
 def let_through(filters: Sequence[bytes], limit: str | None = None) -> list[Proved | Tried]:

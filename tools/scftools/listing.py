@@ -5,7 +5,7 @@ from collections.abc import Iterable, Iterator, Sequence
 from typing import NamedTuple
 
 from .answers import ACTIONS, ARCHITECTURES, X32, X86_64
-from .calls import number_told
+from .calls import number_text
 from .filters import BY_X, INSTRUCTION, JEQ, JGE, JGT, JSET, JUMP, LOAD_WORD, RETURN_CONSTANT
 from .tables import Table
 
@@ -94,7 +94,7 @@ def _name_of(k: int, architecture: int | None, table: Table) -> str:
     """How a call's number is called where a filter tests it."""
     if architecture not in (None, X86_64):
         return f"number {k} of {ARCHITECTURES.get(architecture, hex(architecture))}"
-    return " or ".join(table.names_of(k)) or number_told(k)
+    return " or ".join(table.names_of(k)) or number_text(k)
 
 
 def _tested(insn: Instruction, known: Known, table: Table) -> str | None:

@@ -76,7 +76,7 @@ class Asker:
 
     def _compared(self, scope: str, question: Question, profile: bytes, table: bytes,
                   filters: Sequence[bytes] | None = None) -> Report:
-        done = effort.comparison([*SCOPES[scope], *RELATIONS[question.relation]],
+        done = effort.compare([*SCOPES[scope], *RELATIONS[question.relation]],
                                  bundles.of_comparison(filters or self.filters, profile, table), self.limit)
         report = verdicts.report(done.text)
         if report.fault is not None:

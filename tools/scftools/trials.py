@@ -35,7 +35,7 @@ class Trial:
     def report(self, filters: Sequence[bytes], profile: bytes, table: bytes, *words: str) -> Report:
         """What scf says of filters beside a profile, by a table."""
         self.count += 1
-        done = effort.comparison(words, bundles.of_comparison(filters, profile, table), self.limit)
+        done = effort.compare(words, bundles.of_comparison(filters, profile, table), self.limit)
         report = verdicts.report(done.text)
         if report.verdict is None:
             raise Unanswered(report.lines[0] if report.lines else "", done.status)

@@ -62,7 +62,7 @@ class Parser(argparse.ArgumentParser):
     def verbose(self) -> None:
         """Adds `--verbose`."""
         self.add_argument("--verbose", action="store_true",
-                          help="print scf's line for each name of the profile that was skipped, and not only their count")
+                          help="list the names of the profile that were skipped, which are counted otherwise")
 
     def relation(self) -> None:
         """Adds `--no-more` and `--no-less`, of which one may be given."""

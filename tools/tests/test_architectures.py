@@ -23,7 +23,8 @@ NAMED = {"X86": "I386", "X32": "X86_64", "SHEB": "SH", "SH": "SHEL"}
 def numbers_of_headers():
     """AUDIT_ARCH_.. as linux/audit.h defines it."""
     with open(AUDIT, encoding="ascii") as audit, open(MACHINES, encoding="ascii") as machines:
-        text, values = audit.read().replace("\\\n", " "), dict(re.findall(r"#define\s+(EM_\w+)\s+(\d+)", machines.read()))
+        text = audit.read().replace("\\\n", " ")
+        values = dict(re.findall(r"#define\s+(EM_\w+)\s+(\d+)", machines.read()))
     values.update(re.findall(r"#define\s+(__AUDIT_ARCH_\w+)\s+(0x[0-9a-f]+)", text))
     found = {}
     for name, parts in re.findall(r"#define\s+AUDIT_ARCH_(\w+)\s+\(([^)]*)\)", text):

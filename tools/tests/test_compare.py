@@ -173,8 +173,9 @@ class Compare(Case):
     def test_skipped_names_and_other_architectures(self):
         profile = profile_of("read", "gone", "write").replace(b"{",
             b'{"architectures":["SCMP_ARCH_X86_64","SCMP_ARCH_X86"],', 1)
-        added = ("other SCMP_ARCH_X86\n# names of the profile that were skipped, since the table doesn't name such calls: "
-                 "1\n# no call that is known here is called gone\n"
+        added = ("other SCMP_ARCH_X86\n"
+                 "# names of the profile that were skipped, since the table doesn't name such calls: 1\n"
+                 "# no call that is known here is called gone\n"
                  "# the other architectures of the profile aren't looked at\n")
         profile = self.file("p", profile)
         self.assertEqual(self.run_tool("compare", self.same, profile), (0, f"same\n{added}", ""))
@@ -323,7 +324,8 @@ class OtherAbis(Case):
         for names in ((), ("X86", "X32")):
             status, lines = self.said("--all", no_calls, self.profile(*names))
             self.assertEqual((status, lines[0]), (1, "differs"))
-            self.assertRegex("\n".join(lines), "\n# the call is number (-1, as a tracer|[0-9]+, which is 0x.*, as no call)")
+            self.assertRegex("\n".join(lines),
+                             "\n# the call is number (-1, as a tracer|[0-9]+, which is 0x.*, as no call)")
             self.assertEqual(self.said(no_calls, self.profile(*names))[0], 0)
 
     def test_what_is_let_through_is_said(self):

@@ -3,8 +3,8 @@ import json
 import os
 import sys
 
-from common import (ALLOW, EPERM, KILL_PROCESS, TABLE, TOP, X86_64, Case, filter_of, insn, jeq, jge, limited, load, part,
-                    profile_of, ret, taken)
+from common import (ALLOW, EPERM, KILL_PROCESS, TABLE, TOP, X86_64, Case, filter_of, insn, jeq, jge, limited, load,
+                    part, profile_of, ret, taken)
 
 sys.path.append(os.path.join(TOP, "tools"))
 
@@ -74,14 +74,15 @@ class Limits(Case):
     def setUp(self):
         super().setUp()
         with open(TABLE, "rb") as file:
-            self.given = part("filter", filter_of([0])) + part("profile", profile_of("read")) + part("table", file.read())
+            table = file.read()
+        self.given = part("filter", filter_of([0])) + part("profile", profile_of("read")) + part("table", table)
 
     def compared(self, seconds, most, *words):
         """What a tool whose time is over is told."""
         kept = program.is_tool, effort.SECONDS, effort.ALL_SECONDS, effort._is_told
         program.is_tool, effort.SECONDS, effort.ALL_SECONDS, effort._is_told = True, seconds, most, True
         try:
-            return effort.comparison(words, self.given, None)
+            return effort.compare(words, self.given, None)
         finally:
             program.is_tool, effort.SECONDS, effort.ALL_SECONDS, effort._is_told = kept
 

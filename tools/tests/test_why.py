@@ -434,7 +434,8 @@ class Behind(Case):
         self.assertEqual(found["path"]["places"], StandIn().path(filter_of([0]), call))
 
     def test_a_foreign_call(self):
-        lines = self.added("--all", self.file("f.bpf", filter_of([0], foreign=EPERM)), self.file("p.json", profile_of("read")))
+        lines = self.added("--all", self.file("f.bpf", filter_of([0], foreign=EPERM)),
+                           self.file("p.json", profile_of("read")))
         self.assertIn("by no entry: the call is foreign", lines)
 
     def test_nothing_is_added_to_same(self):
