@@ -53,16 +53,14 @@ def of(data: bytes, words: Sequence[str], with_path: bool = True) -> Path:
 
 @dataclass(frozen=True)
 class Giver:
-    """A filter that gives the answer of its stack, the place where it stands there, and its path."""
+    """A filter that gives the answer of its stack, and its path; and whether it is the only one of the stack."""
 
     filter: Filter
-    at: int
-    count: int
+    is_alone: bool
     path: Path
 
     def told(self) -> str:
-        """Which filter of how many, the oldest first."""
-        return "the filter" if self.count == 1 else f"{self.filter.name}, filter {self.at + 1} of {self.count}"
+        return "the filter" if self.is_alone else self.filter.name
 
     def as_json(self) -> dict[str, object]:
         return {"filter": self.filter.name, "places": list(self.path.places)}
@@ -73,7 +71,7 @@ def givers(filters: Sequence[Filter], words: Sequence[str], answer: Answer) -> l
 
     It runs the newest first, and of equal actions keeps the one that it has (seccomp_run_filters in kernel/seccomp.c).
     """
-    runs = (Giver(one, at, len(filters), of(one.data, words)) for at, one in enumerate(filters))
+    runs = (Giver(one, len(filters) == 1, of(one.data, words)) for one in filters)
     return [it for it in runs if it.path.decision.answer == answer and it.path.places]
 
 

@@ -183,7 +183,7 @@ def of_difference(comparison: Comparison, verdict: Verdict) -> Iterator[str]:
     words = verdict.call.words()
     if comparison.stub is not None and comparison.stub <= verdict.call.number:
         yield BY_STUB
-    else:
+    elif verdict.profile is not None:
         reason = of(comparison.profile, comparison.table, words)
         yield from told(reason, comparison.profile, verdict.call, comparison.origins)
     giver = paths.shown(paths.givers(comparison.filters, words, verdict.filters))
@@ -197,10 +197,10 @@ def difference_as_json(comparison: Comparison, verdict: Verdict) -> dict[str, ob
     """What gives the answers to a call that is answered otherwise, as members of an object."""
     if verdict.call is None or verdict.filters is None:
         return {}
-    words = verdict.call.words()
+    words, found = verdict.call.words(), {}
     if comparison.stub is not None and comparison.stub <= verdict.call.number:
-        found: dict[str, object] = {"reason": "stub"}
-    else:
+        found = {"reason": "stub"}
+    elif verdict.profile is not None:
         reason = of(comparison.profile, comparison.table, words)
         found = as_json(reason, comparison.profile, verdict.call, comparison.origins)
     giver = paths.shown(paths.givers(comparison.filters, words, verdict.filters))
