@@ -178,12 +178,12 @@ def ask(profile: bytes, one: Asked, table: Table) -> Told:
 
 def of_difference(comparison: Comparison, verdict: Verdict) -> Iterator[str]:
     """Behind a call that is answered otherwise: by what of the profile, and the last tests on the way in the filter."""
-    if verdict.call is None or verdict.filters is None:
+    if verdict.call is None or verdict.filters is None or verdict.profile is None:
         return
     words = verdict.call.words()
     if comparison.stub is not None and comparison.stub <= verdict.call.number:
         yield BY_STUB
-    elif verdict.profile is not None:
+    else:
         reason = of(comparison.profile, comparison.table, words)
         yield from told(reason, comparison.profile, verdict.call, comparison.origins)
     giver = paths.shown(paths.givers(comparison.filters, words, verdict.filters))
@@ -195,12 +195,12 @@ def of_difference(comparison: Comparison, verdict: Verdict) -> Iterator[str]:
 
 def difference_as_json(comparison: Comparison, verdict: Verdict) -> dict[str, object]:
     """What gives the answers to a call that is answered otherwise, as members of an object."""
-    if verdict.call is None or verdict.filters is None:
+    if verdict.call is None or verdict.filters is None or verdict.profile is None:
         return {}
-    words, found = verdict.call.words(), {}
+    words = verdict.call.words()
     if comparison.stub is not None and comparison.stub <= verdict.call.number:
-        found = {"reason": "stub"}
-    elif verdict.profile is not None:
+        found: dict[str, object] = {"reason": "stub"}
+    else:
         reason = of(comparison.profile, comparison.table, words)
         found = as_json(reason, comparison.profile, verdict.call, comparison.origins)
     giver = paths.shown(paths.givers(comparison.filters, words, verdict.filters))
