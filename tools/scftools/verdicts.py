@@ -145,16 +145,18 @@ def _names(lines: Sequence[str]) -> tuple[list[str], list[str]]:
 
     A line that begins as neither belongs to the name before it, which has a line end in it.
     """
-    found: dict[str, list[str]] = {word: [] for word in LEFT_OUT}
+    # the lines of each name: they are joined once, since a name may have millions of them
+    found: dict[str, list[list[str]]] = {word: [] for word in LEFT_OUT}
     last = found[LEFT_OUT[0]]
     for line in lines:
         word = next((word for word in LEFT_OUT if line.startswith(word)), None)
         if word:
             last = found[word]
-            last.append(line[len(word):])
+            last.append([line[len(word):]])
         elif last:
-            last[-1] += f"\n{line}"
-    return found[LEFT_OUT[0]], found[LEFT_OUT[1]]
+            last[-1].append(line)
+    skipped, others = (["\n".join(name) for name in found[word]] for word in LEFT_OUT)
+    return skipped, others
 
 
 def report(text: str, profile_names: Sequence[str] | None = None, table: Table | None = None,
