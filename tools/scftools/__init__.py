@@ -29,7 +29,14 @@ packages is imported. So it adds its own folder to the path of imports, by its r
     trials      many runs of scf for one answer
     entries     the entries of a profile as scf reads them, and records that meet conditions
     needless    entries without effect, entries that conflict
-    linting     what is odd in a profile
+    findings    findings of lint, each with its kind
+    members     members of a profile that nothing reads, or only an engine
+    names       names of syscalls and architectures that mean nothing
+    actions     errnos that no program knows, actions that wait for a supervisor, a default that allows
+    arguments   how many arguments a syscall has, and what they are
+    conditions  conditions beside what the kernel does with an argument
+    watchlist   dangerous syscalls, and those that the kernel restarts, in what a profile allows
+    lint        what is odd in a profile: all findings
     straces     logs of strace
     needing     what a program needs of a profile, by a log of strace
     engines     what a container engine makes of its own profile for one container

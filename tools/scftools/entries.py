@@ -85,13 +85,20 @@ def answer_of(action: str, errno: object) -> tuple[str, int]:
 class Object(dict):
     """An object of JSON, and the names of members that stand in it more than once; one that is null is absent."""
 
+    # a profile may have a million objects
+    __slots__ = ("repeated",)
+
     def __init__(self, pairs: Sequence[tuple[str, Any]]):
         super().__init__(pairs)
+        self.repeated: tuple[str, ...] = _repeated(pairs) if len(self) < len(pairs) else ()
         for name in [name for name, value in self.items() if value is None]:
             del self[name]
-        seen: set[str] = set()
-        # `add` has no value, so that a name is kept where it was seen before
-        self.repeated = list(dict.fromkeys(name for name, _ in pairs if name in seen or seen.add(name)))
+
+
+def _repeated(pairs: Sequence[tuple[str, Any]]) -> tuple[str, ...]:
+    seen: set[str] = set()
+    # `add` has no value, so that a name is kept where it was seen before
+    return tuple(dict.fromkeys(name for name, _ in pairs if name in seen or seen.add(name)))
 
 
 def read(data: bytes) -> Object | None:

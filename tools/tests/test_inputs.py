@@ -1,4 +1,5 @@
 """Inputs of the tools: each is read to its limit and no further, and whatever it holds, no tool shows a traceback."""
+import itertools
 import os
 import random
 import shutil
@@ -107,6 +108,61 @@ class Limits(Case):
             table = file.read()
         longer = self.file("whole.table", table + b"\n" * (TEXT - len(table)))
         self.assertEqual(self.run_tool("compare", "--table", longer, self.filter, self.profile)[:2], (0, "same\n"))
+
+
+def filled(head, item_of, tail):
+    """A text of just the most bytes that a profile may have: as many items as there is room for."""
+    room, found = TEXT - len(head) - len(tail), []
+    for at in itertools.count():
+        item = item_of(at)
+        room -= len(item) + 1
+        if room < 0:
+            return head + b",".join(found) + tail
+        found.append(item)
+
+
+class Profiles(Case):
+    """Profiles at the limit, of each awkward shape: the tools end within some seconds and half a gigabyte."""
+
+    # seconds of a processor and megabytes: 4 and 210 are measured
+    SECONDS, MEGABYTES = 10, 500
+    ALLOWS, DENIES = b'{"defaultAction":"SCMP_ACT_ALLOW",', b'{"defaultAction":"SCMP_ACT_ERRNO",'
+    NAMES = DENIES + b'"syscalls":[{"names":['
+
+    def ends(self, name, text):
+        path = self.file("p.json", text)
+        self.assertLessEqual(len(text), TEXT)
+        status, out, err, seconds, megabytes = run((name, path))
+        self.assertIn(status, (0, 1), (out[:200], err[:200]))
+        self.assertNotIn("Traceback", err)
+        self.assertLess(seconds, self.SECONDS)
+        self.assertLess(megabytes, self.MEGABYTES)
+        return out
+
+    def test_a_name_of_two_million_line_ends(self):
+        text = self.NAMES + b'"read","' + b"\\n" * 2000000 + b'"],"action":"SCMP_ACT_ALLOW"}]}'
+        self.ends("compile", text)
+        self.ends("lint", text)
+
+    def test_many_architectures(self):
+        text = filled(self.DENIES + b'"architectures":["SCMP_ARCH_X86_64",', lambda at: b'"SCMP_ARCH_Y%d"' % at, b"]}")
+        self.ends("compile", text)
+        self.assertRegex(self.ends("lint", text), rb"\nunknown-architecture: and [0-9]+ more\n")
+
+    def test_many_members(self):
+        text = filled(self.ALLOWS, lambda at: b'"%x":1' % at, b"}")
+        self.assertRegex(self.ends("lint", text), rb"\nunread-member: and [0-9]+ more\n")
+
+    def test_many_objects(self):
+        """Of nothing in them: each was an object of Python with several others."""
+        self.ends("lint", filled(self.ALLOWS + b'"x":[', lambda at: b"{}", b"]}"))
+
+    def test_many_entries_of_names_that_no_call_has(self):
+        text = filled(self.DENIES + b'"syscalls":[', lambda at: b'{"names":["x%d"],"action":"SCMP_ACT_LOG"}' % at, b"]}")
+        self.assertRegex(self.ends("lint", text), rb"\nunknown-name: and [0-9]+ more\n")
+
+    def test_arrays_as_deep_as_may_be(self):
+        self.ends("lint", filled(self.ALLOWS + b'"x":[', lambda at: b"[" * 120 + b"]" * 120, b"]}"))
 
 
 class Words(Case):

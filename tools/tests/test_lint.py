@@ -1,16 +1,19 @@
-"""tools/lint: each kind of finding where it is, and its absence at the border; what is said as proved, beside scf."""
+"""tools/lint: each kind of finding where it is, and its absence at the border; what is said as proved, beside scf and
+the running kernel."""
 import json
 import os
 import random
+import re
+import subprocess
 import sys
 
-from common import TABLE, TOP, Case, part, profile_of, taken
+from common import TABLE, TOP, Case, comes, part, profile_of, taken
 from test_output import HOSTILE
 
 sys.path.append(os.path.join(TOP, "tools"))
 
 import kernel_profiles  # noqa: E402
-from scftools import linting, program, tables  # noqa: E402
+from scftools import actions, arguments, program, tables, watchlist  # noqa: E402
 
 ALLOW, ERRNO, TOP_OF = "SCMP_ACT_ALLOW", "SCMP_ACT_ERRNO", (1 << 64) - 1
 ACTIONS = ("ALLOW", "LOG", "ERRNO", "TRACE", "TRAP", "NOTIFY", "KILL", "KILL_THREAD", "KILL_PROCESS")
@@ -71,7 +74,7 @@ class Usage(Linted):
         odd = profile(entry("umont2"), default=ALLOW)
         self.assertEqual(self.run_lint(odd, "--except", "dangerous-call"), (0, (
             "unknown-name: entry 0: no call that is known here is called umont2; the nearest name of the table is "
-            "umount2\ndefault-allows: SCMP_ACT_ALLOW: a call that no entry names is made\n# findings: 2\n"), ""))
+            "umount2\ndefault-allows: SCMP_ACT_ALLOW: a syscall that no entry names is allowed\n# findings: 2\n"), ""))
         self.assertEqual(self.run_lint(odd, "--strict")[0], 1)
         without = ("--except", "unknown-name", "--except=default-allows", "--except=dangerous-call")
         self.assertEqual(self.run_lint(odd, "--strict", *without), (0, "# nothing was found\n", ""))
@@ -109,6 +112,20 @@ class Usage(Linted):
         self.assertEqual((status, out.split("\n")[0]), (1, "fault table Form line 1"))
         status, out, _ = self.run_lint(profile(), "--limit", "x")
         self.assertEqual((status, out.split("\n")[0]), (2, "fault number limit"))
+
+    def test_a_refused_profile_is_not_one_without_findings(self):
+        for text, last in (
+                (b"{", "the profile is refused: no more was looked at"),
+                (json.dumps(profile(entry("read"), entry("write", action="ALLOW"))).encode(),
+                 "the profile is refused: no more was looked at"),
+                (json.dumps(profile(entry("reed"), entry("read"), entry("read", action=ERRNO, errnoRet=2))).encode(),
+                 "the profile is refused; findings that need no comparison: 2")):
+            status, out, _ = self.run_lint(text)
+            self.assertEqual((status, out.split("\n")[-2]), (1, f"# {last}"))
+            status, out, _ = self.run_lint(text, *(f"--except={kind}" for kind in ("conflict", "unknown-name")))
+            self.assertEqual((status, out.split("\n")[-2]), (1, "# the profile is refused: no more was looked at"))
+        status, out, _ = self.run_lint(profile(), "--table", self.file("bad.table", b"read\n"))
+        self.assertEqual((status, out.split("\n")[-2]), (1, "# the table is refused: no more was looked at"))
 
     def test_a_filter_that_would_be_too_large(self):
         entries = [entry("socket", args=[(0, "GT", it), (1, "GT", it)]) for it in range(2**40, 2**40 + 4000)]
@@ -170,9 +187,8 @@ class Members(Linted):
 
     def test_members_that_nothing_reads(self):
         self.assertEqual(self.unread(entry("read"), entry("write", arg=[])), [(1, "arg", "args")])
-        self.assertEqual(self.unread(entry("read", flags=["SECCOMP_FILTER_FLAG_LOG"], Args=[])),
-                         [(0, "flags", None), (0, "Args", "args")])
-        self.assertEqual(self.unread(entry("read"), defaultErrno="EPERM"), [(None, "defaultErrno", "defaultErrnoRet")])
+        self.assertEqual(self.unread(entry("read", flags=["SECCOMP_FILTER_FLAG_LOG"])), [(0, "flags", None)])
+        self.assertEqual(self.unread(entry("read"), defaultErno="EPERM"), [(None, "defaultErno", "defaultErrnoRet")])
         slip = {"index": 0, "op": "SCMP_CMP_EQ", "value": 1, "valueTow": 1}
         self.assertEqual(self.unread(entry("read", args=[slip])), [(0, "valueTow", "valueTwo")])
 
@@ -182,6 +198,36 @@ class Members(Linted):
                                      listenerMetadata="m", comment="c", defaultErrnoRet=1, archMap=[],
                                      architectures=[]), [])
         self.assertEqual(self.unread(entry("read", arg=None)), [])
+
+    def test_members_that_engines_read(self):
+        """Seccomp and Syscall in containers-common's pkg/seccomp/types.go; name in moby's, too."""
+        given = profile(entry("read", action=ERRNO, errno="EACCES", name="write"), defaultErrno="ENOSYS")
+        found = self.found(given, kinds=("engine-member", "unread-member"))
+        self.assertEqual([(it["kind"], it.get("entry"), it["member"]) for it in found],
+                         [("engine-member", None, "defaultErrno"), ("engine-member", 0, "errno"),
+                          ("engine-member", 0, "name")])
+        self.assertIn("entry 0: podman alone reads errno, an errno's name or its number as a text, and takes it for "
+                      "errnoRet: ", self.run_lint(given)[1])
+
+    def test_members_that_programs_in_go_read_as_others(self):
+        """encoding/json folds letters, of which U+017F is an s and U+212A a k."""
+        for name, read_as in (("Action", "action"), ("ACTION", "action"), ("arg\u017f", "args"), ("Names", "names")):
+            given = profile(entry("read"), entry("write", **{name: ["x"]}))
+            found = self.found(given, kinds=("folded-member", "unread-member"))
+            self.assertEqual([(it["kind"], it["member"], it["read_as"], it["where"]) for it in found],
+                             [("folded-member", name, read_as, "entry 1")])
+            self.assertIn("which programs in Go read as", self.run_lint(given)[1])
+        for name in ("act1on", "\u0130ndex", "commen"):
+            found = self.found(profile(entry("read", **{name: 1})), kinds=("folded-member",))
+            self.assertEqual(found, [], name)
+        top = self.found({**profile(), "defau\u017ftAction": 1, "\u017fyscalls": [], "Syscalls": []},
+                         kinds=("folded-member",))
+        self.assertEqual([(it["where"], it["member"]) for it in top],
+                         [("the profile", "\u017fyscalls"), ("the profile", "Syscalls")])
+        # where it is why scf refuses the profile, too
+        status, out, _ = self.run_lint({"defaultAction": ERRNO, "syscalls": [{"names": ["read"], "Action": ALLOW}]})
+        self.assertEqual((status, out.split("\n")[0]), (1, "fault profile Missing entry 0"))
+        self.assertIn("folded-member: entry 0 has a member 'Action'", out)
 
     def test_the_second_value_is_that_of_masks(self):
         for operator, second, expected in (("EQ", 5, [(0, "valueTwo", None)]), ("EQ", 0, []), ("MASKED_EQ", 5, []),
@@ -209,8 +255,9 @@ class Defaults(Linted):
                                 ([x86_64, x32], False), ([], False), (None, False)):
             found = self.found(profile(architectures=named), kinds=("x32",))
             self.assertEqual([it["architectures"] for it in found], [named] if is_found else [])
-        self.assertIn("the default refuses it", self.run_lint(profile(architectures=[x86_64]))[1])
-        self.assertIn("may be made as x32 call", self.run_lint(profile(default=ALLOW, architectures=[x86_64]))[1])
+        self.assertIn("the default, SCMP_ACT_ERRNO, answers them", self.run_lint(profile(architectures=[x86_64]))[1])
+        self.assertIn("the default, SCMP_ACT_ALLOW, allows them",
+                      self.run_lint(profile(default=ALLOW, architectures=[x86_64]))[1])
 
 
 class Dangerous(Linted):
@@ -218,19 +265,36 @@ class Dangerous(Linted):
         return [(it["name"], it["is_always"], it["entry"]) for it in self.found(given, kinds=("dangerous-call",))]
 
     def test_the_list(self):
-        listed, table = linting.dangerous_calls(), tables.read(TABLE)
+        listed, table = watchlist.dangerous(), tables.read(TABLE)
         self.assertEqual(list(listed), sorted(listed))
-        for name, reason in listed.items():
+        with open(watchlist.FILE, encoding="ascii") as file:
+            self.assertEqual(len(listed), sum(not line.startswith("#") for line in file))
+        for name, danger in listed.items():
             self.assertIsNotNone(table.number_of(name), name)
-            self.assertGreater(len(reason), 20, name)
+            self.assertGreater(len(danger.reason), 20, name)
         for name in ("ptrace", "bpf", "mount", "kexec_load"):
             self.assertIn(name, listed)
 
     def test_each_of_them(self):
-        names = sorted(linting.dangerous_calls())
+        names = sorted(watchlist.dangerous())
         self.assertEqual(self.made(profile(entry(*names))), [(name, True, 0) for name in names])
         self.assertEqual(self.made(profile(default=ALLOW)), [(name, True, None) for name in names])
-        self.assertEqual(self.made(profile(entry("read", "clone"))), [])
+        self.assertEqual(self.made(profile(entry("read", "fork"))), [])
+
+    def test_user_namespaces(self):
+        """CLONE_NEWUSER in linux/sched.h; what clone3 is asked for stands in memory."""
+        new_user = 0x10000000
+        for name in ("clone", "unshare"):
+            for args, is_found in (((), True), ([(0, "MASKED_EQ", new_user, 0)], False), ([(0, "EQ", 17)], False),
+                                   ([(0, "MASKED_EQ", 0x7E020000, 0)], False),
+                                   ([(0, "MASKED_EQ", 0x6E020000, 0)], True),
+                                   ([(0, "EQ", new_user | 17)], True), ([(1, "EQ", 0)], True)):
+                found = self.found(profile(entry(name, args=args)), kinds=("dangerous-call",))
+                self.assertEqual([it["name"] for it in found], [name] * is_found, args)
+                for it in found:
+                    self.assertTrue(int(it["arguments"][0], 16) & new_user)
+        self.assertEqual(self.made(profile(entry("clone3"))), [("clone3", True, 0)])
+        self.assertEqual(self.made(profile(entry("clone3", action=ERRNO, errnoRet=38))), [])
 
     def test_what_is_made(self):
         for action in ACTIONS:
@@ -244,13 +308,334 @@ class Dangerous(Linted):
         arguments = [int(it, 16) for it in found["arguments"]]
         self.assertEqual(arguments[0], 7)
         self.assertGreater(arguments[3], 9)
-        self.assertIn("ptrace (101) is made with some arguments, as 0x7 ", found["text"])
+        self.assertIn("ptrace (101) is allowed with some arguments, as 0x7 ", found["text"])
         both = profile(entry("ptrace", args=[(0, "LT", 7)]), entry("ptrace", args=[(0, "GE", 7)]))
         self.assertEqual([it[:2] for it in self.made(both)], [("ptrace", True)])
         referred = profile(entry("ptrace", args=[(0, "LT", 7)]),
                            entry("ptrace", action="SCMP_ACT_TRACE", args=[(0, "GE", 7)]))
         self.assertEqual(self.made(referred), [("ptrace", False, 0)])
         self.assertEqual(self.made(profile(entry("ptrace", args=[(0, "LT", 0)]))), [])
+
+
+# Runs each syscall of a list in a child of its own, behind a raw filter: a child whose syscall ends tells its errno.
+CHILDREN = """
+import ctypes, json, os, struct, sys
+libc = ctypes.CDLL(None, use_errno=True)
+raw = bytes.fromhex(sys.argv[1])
+held = ctypes.create_string_buffer(raw, len(raw))
+program = ctypes.create_string_buffer(struct.pack("HxxxxxxQ", len(raw) // 8, ctypes.addressof(held)), 16)
+kept = []
+def value(it):
+    if not isinstance(it, str):
+        return ctypes.c_ulong(it & 2**64 - 1)
+    kept.append(ctypes.create_string_buffer(bytes.fromhex(it)))
+    return kept[-1]
+for number, *args in json.loads(sys.argv[2]):
+    pid = os.fork()
+    if pid:
+        print(pid, flush=True)
+        continue
+    args = [value(it) for it in args]
+    libc.prctl(38, 1, 0, 0, 0)
+    if libc.prctl(22, 2, program, 0, 0):
+        os._exit(255)
+    ctypes.set_errno(0)
+    found = libc.syscall(ctypes.c_long(number), *args)
+    # an errno is told by a file, an exit's status has but 8 bits
+    with open(f"{sys.argv[3]}/{os.getpid()}.new", "w") as file:
+        file.write(f"{found} {ctypes.get_errno()}")
+    os.rename(file.name, file.name[:-4])
+    os._exit(0)
+for line in sys.stdin:
+    pass
+"""
+
+
+class Running(Linted):
+    """Syscalls in processes of this kernel, behind the filter of a profile."""
+
+    def setUp(self):
+        super().setUp()
+        if not os.path.exists("/proc/self/syscall") or os.uname().machine != "x86_64":
+            self.skipTest("this isn't Linux on x86-64")
+
+    def compiled(self, given):
+        text = json.dumps(given).encode()
+        return program.scf(["compile"], part("profile", text) + part("table", TABLE_TEXT)).out
+
+    def start(self, given, calls):
+        """The processes that make these syscalls, each a number and arguments, a text being a buffer's bytes."""
+        child = subprocess.Popen([sys.executable, "-IS", "-c", CHILDREN, self.compiled(given).hex(), json.dumps(calls),
+                                  self.folder], stdin=subprocess.PIPE, stdout=subprocess.PIPE)
+        pids = [int(child.stdout.readline()) for _ in calls]
+        self.addCleanup(self.end, child, pids)
+        return pids
+
+    @staticmethod
+    def end(child, pids):
+        for pid in pids:
+            try:
+                os.kill(pid, 9)
+            except ProcessLookupError:
+                pass
+        child.stdin.close()
+        child.stdout.close()
+        child.wait()
+
+    def result(self, pid):
+        """What a process's syscall returned, and its errno; None where it goes on."""
+        path = os.path.join(self.folder, str(pid))
+        if not os.path.exists(path):
+            return None
+        with open(path, encoding="ascii") as file:
+            return tuple(map(int, file.read().split()))
+
+    @staticmethod
+    def is_in(pid, number, state):
+        with open(f"/proc/{pid}/stat", encoding="ascii", errors="replace") as file:
+            found = file.read().rpartition(") ")[2][0]
+        with open(f"/proc/{pid}/syscall", encoding="ascii") as file:
+            return found == state and (state != "S" or file.read().split()[0] == str(number))
+
+    def results(self, given, calls):
+        pids = self.start(given, calls)
+        self.assertTrue(comes(lambda: all(map(self.result, pids))))
+        return [self.result(pid) for pid in pids]
+
+
+def seconds(count):
+    """A struct timespec."""
+    return count.to_bytes(8, "little").hex() + "00" * 8
+
+
+class Restart(Running):
+    """What the kernel goes on with by restart_syscall after a stop, and that the profile says so."""
+
+    # name, what is special, its arguments; a wait of minutes, which ends only by what is tried
+    LONG = seconds(600)
+    WAITS = (("nanosleep", "", LONG, 0), ("clock_nanosleep", "", 1, 0, LONG, 0),
+             ("clock_nanosleep", "until a time", 1, 1, seconds(1 << 32), 0), ("poll", "", 0, 0, 600000),
+             ("poll", "without end", 0, 0, -1), ("ppoll", "", 0, 0, LONG, 0, 8), ("select", "", 0, 0, 0, 0, LONG),
+             ("pselect6", "", 0, 0, 0, 0, LONG, 0), ("futex", "", "00000000", 0, 0, LONG, 0, 0),
+             ("futex", "bits", "00000000", 9, 0, seconds(1 << 32), 0, -1),
+             ("futex", "without end", "00000000", 0, 0, 0, 0, 0), ("pause", ""), ("rt_sigtimedwait", "", "00" * 8, 0, LONG, 8))
+
+    def denied(self, **members):
+        return profile(entry("restart_syscall", action=ERRNO, errnoRet=77, **members), default=ALLOW)
+
+    def test_what_the_kernel_restarts(self):
+        table, given, waits = tables.read(TABLE), self.denied(), self.WAITS
+        numbers = [table.number_of(name) for name, *_ in waits]
+        pids = self.start(given, [(number, *args) for number, (_, _, *args) in zip(numbers, waits)])
+        for pid, number in zip(pids, numbers):
+            self.assertTrue(comes(lambda pid=pid, number=number: self.is_in(pid, number, "S")), number)
+        for pid in pids:
+            os.kill(pid, 19)
+            self.assertTrue(comes(lambda pid=pid: self.is_in(pid, None, "T")))
+            os.kill(pid, 18)
+        restarted = set()
+        for pid, number, (name, what, *_) in zip(pids, numbers, waits):
+            self.assertTrue(comes(lambda pid=pid, number=number: self.result(pid) or self.is_in(pid, number, "S")))
+            if self.result(pid) == (-1, 77):
+                restarted.add((name, what))
+        self.assertEqual(restarted, {("nanosleep", ""), ("clock_nanosleep", ""), ("poll", ""), ("poll", "without end"),
+                                     ("futex", ""), ("futex", "bits")})
+        self.assertEqual({name for name, _ in restarted}, {name for name, _ in watchlist.RESTARTED})
+
+    def missing(self, given):
+        return [it["names"] for it in self.found(given, kinds=("no-restart",))]
+
+    def test_a_profile_without_it(self):
+        every = ["nanosleep", "clock_nanosleep", "poll", "futex"]
+        self.assertEqual(self.missing(self.denied()), [every])
+        self.assertEqual(self.missing(profile(entry("restart_syscall", *every))), [])
+        self.assertEqual(self.missing(profile(entry("ppoll", "select", "read", "pause", "epoll_wait"))), [])
+        for name in every:
+            self.assertEqual(self.missing(profile(entry(name))), [[name]])
+            for action, is_found in (("ALLOW", False), ("LOG", False), ("KILL", True), ("TRACE", True),
+                                     ("NOTIFY", True), ("TRAP", True)):
+                given = profile(entry(name), entry("restart_syscall", action=f"SCMP_ACT_{action}"))
+                self.assertEqual(self.missing(given), [[name]] * is_found, (name, action))
+        # it has the arguments of the syscall that it goes on with, so that none may be asked for
+        self.assertEqual(self.missing(profile(entry("poll"), entry("restart_syscall", args=[(0, "EQ", 0)]))),
+                         [["poll"]])
+
+    def test_only_what_may_be_restarted(self):
+        for name, args, is_found in (("futex", [(1, "EQ", 129)], False), ("futex", [(1, "EQ", 128)], True),
+                                     ("futex", [(1, "EQ", 137)], True), ("futex", [(3, "EQ", 0)], False),
+                                     ("clock_nanosleep", [(1, "EQ", 1)], False),
+                                     ("clock_nanosleep", [(1, "EQ", 0)], True)):
+            self.assertEqual(self.missing(profile(entry(name, args=args))), [[name]] * is_found, args)
+
+    def test_its_words(self):
+        self.assertIn("no-restart: nanosleep and poll are allowed, and restart_syscall (219) is not: a thread that is "
+                      "stopped in such a call and goes on, as by SIGSTOP and SIGCONT or under a debugger, makes it, "
+                      "and by the default the answer is KILL_PROCESS: the process ends\n",
+                      self.run_lint(profile(entry("poll", "nanosleep"), default="SCMP_ACT_KILL_PROCESS"))[1])
+
+
+class Errnos(Running):
+    """Errnos beside what a process gets of this kernel."""
+
+    def odd(self, *numbers, **members):
+        return [(it.get("entry"), it["errno"]) for it in self.found(
+            profile(*(entry("read", action=ERRNO, errnoRet=it, args=[(0, "EQ", it)]) for it in numbers), **members),
+            kinds=("odd-errno",))]
+
+    def test_which_are_odd(self):
+        with open("/usr/include/asm-generic/errno.h", encoding="ascii") as file:
+            last = max(map(int, re.findall(r"#define\s+E\w+\s+([0-9]+)", file.read())))
+        self.assertEqual(last, actions.LAST_ERRNO)
+        self.assertEqual(self.odd(0, 1, 38, last, last + 1, 511, 512, 516, 4094, 4095, 4096, 65535),
+                         list(zip((0, *range(4, 12)), (0, last + 1, 511, 512, 516, 4094, 4095, 4096, 65535))))
+        self.assertEqual(self.odd(defaultErrnoRet=0), [(None, 0)])
+        traced = profile(entry("read", action="SCMP_ACT_TRACE", errnoRet=0), entry("write", action=ERRNO))
+        self.assertEqual(self.found(traced, kinds=("odd-errno",)), [])
+
+    def test_what_a_process_gets(self):
+        """getppid with an argument, which it doesn't read, and which here is the errno that its entry gives."""
+        wanted = (0, 1, 133, 134, 512, 513, 514, 515, 516, 4094, 4095, 4096, 65535)
+        entries = [entry("getppid", action=ERRNO, errnoRet=it, args=[(0, "EQ", it)]) for it in wanted]
+        number = tables.read(TABLE).number_of("getppid")
+        found = self.results(profile(*entries, default=ALLOW), [(number, it) for it in wanted])
+        self.assertEqual(found, [(-1, min(it, 4095)) if it else (0, 0) for it in wanted])
+
+
+class Supervisors(Linted):
+    def test_actions_that_wait(self):
+        for action in ACTIONS:
+            waits = action in ("TRACE", "NOTIFY")
+            given = profile(entry("read"), entry("write", action=f"SCMP_ACT_{action}"))
+            for members, is_found in (({}, waits), ({"listenerPath": "/run/x"}, action == "TRACE")):
+                found = self.found({**given, **members}, kinds=("no-supervisor",))
+                self.assertEqual([(it["entry"], it["action"]) for it in found], [(1, f"SCMP_ACT_{action}")] * is_found)
+        self.assertIn("no-supervisor: the default: SCMP_ACT_TRACE needs a tracer with PTRACE_O_TRACESECCOMP: without "
+                      "one the syscall fails with ENOSYS\n", self.run_lint(profile(default="SCMP_ACT_TRACE"))[1])
+
+
+class Waiting(Running):
+    def test_without_a_supervisor_it_is_enosys(self):
+        number = tables.read(TABLE).number_of("getppid")
+        for action in ("TRACE", "NOTIFY"):
+            given = profile(entry("getppid", action=f"SCMP_ACT_{action}"), default=ALLOW)
+            self.assertEqual(self.results(given, [(number,)]), [(-1, 38)])
+
+
+class Architectures(Linted):
+    def test_names_that_the_specification_does_not_have(self):
+        def unknown(*names):
+            found = self.found(profile(architectures=["SCMP_ARCH_X86_64", *names]), kinds=("unknown-architecture",))
+            return [(it["name"], it["nearest"]) for it in found]
+        self.assertEqual(unknown("SCMP_ARCH_X86", "SCMP_ARCH_X32", "SCMP_ARCH_AARCH64", "SCMP_ARCH_RISCV64"), [])
+        self.assertEqual(unknown("SCMP_ARCH_AMD64", "x86", "SCMP_ARCH_ARM64", "SCMP_ARCH_NONSENSE"), [
+            ("SCMP_ARCH_AMD64", "SCMP_ARCH_X86_64"), ("x86", "SCMP_ARCH_X86"), ("SCMP_ARCH_ARM64", "SCMP_ARCH_AARCH64"),
+            ("SCMP_ARCH_NONSENSE", None)])
+
+
+class Arguments(Linted):
+    """Conditions beside what the kernel does with an argument."""
+
+    def odd(self, *entries, kinds=("no-such-argument", "pointer-argument"), **members):
+        return [(it["kind"], it["entry"], it["names"]) for it in self.found(profile(*entries, **members), kinds=kinds)]
+
+    def test_arguments_that_a_syscall_does_not_have(self):
+        self.assertEqual(self.odd(entry("personality", args=[(1, "EQ", 8)]), entry("socket", args=[(2, "EQ", 0)]),
+                                  entry("socket", "getpid", "dup", args=[(3, "EQ", 1)])),
+                         [("no-such-argument", 0, ["personality"]),
+                          ("no-such-argument", 2, ["socket", "getpid", "dup"])])
+
+    def test_addresses(self):
+        self.assertEqual(self.odd(entry("openat", args=[(1, "EQ", 0x7F0000)]), entry("openat", args=[(2, "EQ", 0)])),
+                         [("pointer-argument", 0, ["openat"])])
+        for condition in (("EQ", 0), ("NE", 0), ("GT", 0), ("LE", 0), ("LT", 1), ("GE", 1), ("MASKED_EQ", TOP_OF, 0)):
+            self.assertEqual(self.odd(entry("sendto", args=[(4, *condition)])), [], condition)
+        for condition in (("EQ", 1), ("NE", 8), ("GT", 5), ("MASKED_EQ", 4095, 0)):
+            self.assertEqual(len(self.odd(entry("sendto", args=[(4, *condition)]))), 1, condition)
+
+    def test_conditions_that_always_hold(self):
+        kinds = ("always-met", "odd-mask")
+        for condition, kind in ((("GE", 0), "always-met"), (("LE", TOP_OF), "always-met"), (("GE", 1), None),
+                                (("LE", TOP_OF - 1), None), (("MASKED_EQ", 0, 0), "always-met"),
+                                (("MASKED_EQ", 0, 0x7E020000), "always-met"), (("MASKED_EQ", 0x7E020000, 0), None),
+                                (("MASKED_EQ", 0xF0, 0x0F), "odd-mask"), (("MASKED_EQ", 0xF0, 0x30), None)):
+            found = self.found(profile(entry("clone", args=[(0, *condition)])), kinds=kinds)
+            self.assertEqual([it["kind"] for it in found], [kind] * (kind is not None), condition)
+        self.assertIn("they may be swapped", self.run_lint(profile(entry("clone", args=[(0, "MASKED_EQ", 0, 1)])))[1])
+
+    def test_the_list_beside_the_kernel(self):
+        """What this kernel's tracepoints say of its syscalls."""
+        if not os.path.isdir("/sys/kernel/tracing") or os.geteuid():
+            self.skipTest("only root reads the kernel's tracepoints")
+        done = subprocess.run(
+            ["unshare", "-m", "sh", "-c", 'mount -t tracefs none "$0" && cd "$0/events/syscalls" && '
+             "cat sys_enter_*/format", self.folder], stdout=subprocess.PIPE, stderr=subprocess.DEVNULL, check=False)
+        if done.returncode:
+            self.skipTest("this kernel has no tracepoints of syscalls")
+        listed, whole = arguments.read(), {"unsigned long", "long", "size_t", "loff_t", "off_t", "u64", "__u64",
+                                           "aio_context_t"}
+        # the kernel's function has another name
+        called = {"newstat": "stat", "newlstat": "lstat", "newfstat": "fstat", "newuname": "uname",
+                  "sendfile64": "sendfile", "umount": "umount2"}
+        seen = 0
+        for text in done.stdout.decode().split("name: sys_enter_")[1:]:
+            name = text.split("\n", 1)[0]
+            name = called.get(name, name)
+            fields = re.findall(r"field:([^;]*?)\w+;\toffset:(?:1[6-9]|[2-9][0-9]);", text)
+            kinds = "".join("p" if "*" in it or it.strip().startswith(("cap_user", "const cap_user")) else
+                            "w" if it.replace("const ", "").strip() in whole else "i" for it in fields)
+            if name in listed:
+                seen += 1
+                # an address or a number by the operation
+                self.assertEqual(listed[name], "piiwpi" if name == "futex" else kinds, name)
+        self.assertGreater(seen, 300)
+
+    def test_each_name_once(self):
+        table = tables.read(TABLE)
+        with open(arguments.FILE, encoding="ascii") as file:
+            names = [name for line in file if not line.startswith("#") for name in line.split()[1:]]
+        self.assertEqual(len(names), len(set(names)))
+        self.assertEqual([name for name in names if table.number_of(name) is None], [])
+
+
+class HighHalf(Running):
+    """Denials that a bit in the upper half of a register evades."""
+
+    def evaded(self, *entries, **members):
+        return [(it["name"], it["argument"], it["denied"], it["allowed"]) for it in self.found(
+            profile(*entries, **members), kinds=("high-half",)) if "denied" in it]
+
+    def test_denials(self):
+        self.assertEqual(self.evaded(entry("ioctl", action=ERRNO, args=[(1, "EQ", 0x5412)]), default=ALLOW),
+                         [("ioctl", 1, "0x5412", "0x100005412")])
+        self.assertEqual(self.evaded(entry("socket", args=[(0, "NE", 40)])), [("socket", 0, "0x28", "0x100000028")])
+        self.assertEqual(self.evaded(entry("socket", args=[(0, "EQ", 40)])), [])
+        self.assertEqual(self.evaded(entry("ioctl", action=ERRNO, args=[(1, "MASKED_EQ", 2**32 - 1, 0x5412)]),
+                                     default=ALLOW), [])
+        # a whole register, and the default that denies all
+        self.assertEqual(self.evaded(entry("prctl", action=ERRNO, args=[(1, "EQ", 4)]), default=ALLOW), [])
+        self.assertEqual(self.evaded(entry("personality", args=[(0, "EQ", 0xFFFFFFFF)])), [])
+        # delegated, which isn't denied
+        self.assertEqual(self.evaded(entry("ioctl", action="SCMP_ACT_TRACE", args=[(1, "EQ", 4)]), default=ALLOW), [])
+
+    def test_with_other_conditions(self):
+        both = entry("socket", action=ERRNO, args=[(0, "EQ", 16), (2, "EQ", 9)])
+        self.assertEqual(self.evaded(both, default=ALLOW), [("socket", 0, "0x10", "0x100000010"),
+                                                            ("socket", 2, "0x9", "0x100000009")])
+
+    def test_values_of_more_than_32_bits(self):
+        found = self.found(profile(entry("openat", args=[(0, "EQ", 2**64 - 100)])), kinds=("high-half",))
+        self.assertEqual([(it["entry"], it["names"]) for it in found], [(0, ["openat"])])
+        self.assertEqual(self.found(profile(entry("mmap", args=[(3, "EQ", 2**64 - 100)])), kinds=("high-half",)), [])
+
+    def test_a_process(self):
+        """personality(0xffffffff) asks for the persona and sets none."""
+        given = profile(entry("personality", action=ERRNO, errnoRet=77, args=[(0, "EQ", 0xFFFFFFFF)]), default=ALLOW)
+        self.assertEqual(self.evaded(*given["syscalls"], default=ALLOW),
+                         [("personality", 0, "0xffffffff", "0x1ffffffff")])
+        number = tables.read(TABLE).number_of("personality")
+        found = self.results(given, [(number, 0xFFFFFFFF), (number, 0x1FFFFFFFF)])
+        self.assertEqual(found[0], (-1, 77))
+        self.assertEqual(found[1][1], 0)
 
 
 class Effects(Linted):
@@ -409,11 +794,12 @@ class Hostile(Linted):
             lines = out.split("\n")[:-1]
             self.assertTrue(all(line.isprintable() for line in lines), out)
             self.assertEqual([line.partition(":")[0] for line in lines],
-                             ["unread-member", "unknown-name", "x32", "# findings"])
+                             ["unread-member", "unknown-name", "unknown-architecture", "x32", "# findings"])
             self.assertIn(shown[:40], lines[1])
+            self.assertIn(shown[:40], lines[2])
             report = self.report(given)
             self.assertEqual([it["member"] for it in report["findings"] if "member" in it], [f"{name}x"])
-            self.assertEqual([it["name"] for it in report["findings"] if "name" in it], [name])
+            self.assertEqual([it["name"] for it in report["findings"] if "name" in it], [name] * 2)
             self.assertTrue(self.run_lint(given, "--json")[1][:-1].isascii())
 
     def test_large_profiles_take_no_time(self):

@@ -1,0 +1,66 @@
+"""Actions of a profile beside what the kernel does with them: errnos that no program knows, answers that wait for a
+supervisor, a default that allows.
+"""
+from __future__ import annotations
+
+from collections.abc import Iterator
+
+from .answers import ERRNOS, MAX_ERRNO
+from .entries import Object
+from .findings import Finding
+from .profiles import LETS_THROUGH
+
+# What the kernel has for itself among the errnos (include/linux/errno.h).
+INTERNAL = {512: "ERESTARTSYS", 513: "ERESTARTNOINTR", 514: "ERESTARTNOHAND", 515: "ENOIOCTLCMD",
+            516: "ERESTART_RESTARTBLOCK"}
+# The greatest errno that programs know (EHWPOISON in asm-generic/errno.h).
+LAST_ERRNO = max(133, *ERRNOS)
+# Whose answer an action waits for: of a listener (seccomp_unotify(2)) or of a tracer with PTRACE_O_TRACESECCOMP.
+SUPERVISORS = {"SCMP_ACT_NOTIFY": "a supervisor that listens to the filter",
+               "SCMP_ACT_TRACE": "a tracer with PTRACE_O_TRACESECCOMP"}
+
+
+def _answers(top: Object) -> Iterator[tuple[str, dict[str, object], str, str, object]]:
+    """Of the default and of each entry: what it's called, what JSON has of it, its action, the member of its errno, and
+    that."""
+    yield "the default", {}, top["defaultAction"], "defaultErrnoRet", top.get("defaultErrnoRet")
+    for place, entry in enumerate(top.get("syscalls", [])):
+        yield f"entry {place}", {"entry": place}, entry["action"], "errnoRet", entry.get("errnoRet")
+
+
+def _why_odd(number: int) -> str | None:
+    """What is odd in an errno that a filter gives, if anything is."""
+    if number == 0:
+        return "the syscall isn't made, and the program is told that it succeeded"
+    if number in INTERNAL:
+        return (f"{INTERNAL[number]}, a mark of the kernel that no program knows: it reaches the program as it is, or, "
+                "where a signal comes meanwhile, the kernel may take it for its own")
+    if number > MAX_ERRNO:
+        return f"the kernel gives {MAX_ERRNO} in its place, and libseccomp takes none above {MAX_ERRNO - 1}"
+    if number == MAX_ERRNO:
+        return f"libseccomp takes none above {MAX_ERRNO - 1}"
+    return f"no errno of Linux has that number, the last is {LAST_ERRNO}" if number > LAST_ERRNO else None
+
+
+def of_errnos(top: Object) -> Iterator[Finding]:
+    """Errnos that no program knows, or that aren't what they seem."""
+    for where, at, action, member, number in _answers(top):
+        why = _why_odd(number) if action == "SCMP_ACT_ERRNO" and isinstance(number, int) else None
+        if why:
+            yield Finding("odd-errno", f"{where}: {member} {number}: {why}", {**at, "errno": number})
+
+
+def of_supervisors(top: Object) -> Iterator[Finding]:
+    """Actions that wait for somebody whom the profile doesn't name."""
+    for where, at, action, _, _ in _answers(top):
+        if action in SUPERVISORS and not (action == "SCMP_ACT_NOTIFY" and top.get("listenerPath")):
+            lacking = ", and the profile has no listenerPath" if action == "SCMP_ACT_NOTIFY" else ""
+            yield Finding("no-supervisor", f"{where}: {action} needs {SUPERVISORS[action]}{lacking}: without one the "
+                          "syscall fails with ENOSYS", {**at, "action": action})
+
+
+def of_default(top: Object) -> Iterator[Finding]:
+    """A default that allows."""
+    default = top["defaultAction"]
+    if default in LETS_THROUGH:
+        yield Finding("default-allows", f"{default}: a syscall that no entry names is allowed", {"action": default})

@@ -1,0 +1,139 @@
+"""Conditions of a profile beside what the kernel does with an argument (tables/x86_64.arguments).
+
+A filter compares all 64 bits of a register. Of an `int` the kernel reads the lower half, so that a denial by its value
+is evaded by a bit in the upper one (CVE-2019-10063 was that). That a denial is evaded is a pair of answers of scf.
+"""
+from __future__ import annotations
+
+from collections.abc import Callable, Iterator, Sequence
+
+from . import arguments, entries
+from .answers import Answer
+from .calls import Call
+from .entries import Condition, Entry, Object, record_of
+from .findings import MOST, Finding, listed
+from .reasons import Reason
+from .tables import Table
+
+LOW = (1 << 32) - 1
+# The most answers that are worked out in the search for evaded denials.
+LOOKS = 200000
+# A bit of the upper half, which stands for all of them.
+UPPER = 1 << 32
+
+
+def _always_holds(one: Condition) -> bool:
+    return (one.op, one.value) in (("SCMP_CMP_GE", 0), ("SCMP_CMP_LE", entries.MOST)) or \
+        (one.op == "SCMP_CMP_MASKED_EQ" and one.value == 0)
+
+
+def _is_null_test(one: Condition) -> bool:
+    """Whether a condition only tells an address that is 0 from all others."""
+    if one.op == "SCMP_CMP_MASKED_EQ":
+        return one.value == entries.MOST and one.two == 0
+    return (one.op, one.value) in (("SCMP_CMP_EQ", 0), ("SCMP_CMP_NE", 0), ("SCMP_CMP_GT", 0), ("SCMP_CMP_LE", 0),
+                                   ("SCMP_CMP_GE", 1), ("SCMP_CMP_LT", 1))
+
+
+def _of_value(entry: Entry, place: int, one: Condition) -> Iterator[Finding]:
+    """What is odd in a condition by itself."""
+    where, more = f"entry {entry.place}, condition {place}", {"entry": entry.place, "condition": place}
+    if _always_holds(one):
+        swapped = "; value is the mask, and valueTwo what is compared with: they may be swapped" if one.two else ""
+        yield Finding("always-met", f"{where}: {one.op} {one.value} holds for each value{swapped}", more)
+    elif one.op == "SCMP_CMP_MASKED_EQ" and one.two & ~one.value:
+        yield Finding("odd-mask", f"{where}: valueTwo {one.two:#x} has bits that the mask {one.value:#x} lacks, and "
+                      "these aren't compared", more)
+
+
+def _of_argument(entry: Entry, place: int, one: Condition, known: dict[str, str]) -> Iterator[Finding]:
+    """What is odd in a condition by the argument that it is on."""
+    where, more = f"entry {entry.place}, condition {place}", {"entry": entry.place, "condition": place}
+    has = [name for name in entry.names if name in known]
+    lacking = [name for name in has if one.index >= len(known[name])]
+    addresses = [name for name in has if known[name][one.index:one.index + 1] == arguments.ADDRESS]
+    halves = [name for name in has if known[name][one.index:one.index + 1] == arguments.HALF]
+    if lacking:
+        counts = {len(known[name]) for name in lacking}
+        have = f"has only {counts.pop()}" if len(lacking) == 1 else "have fewer"
+        yield Finding("no-such-argument", f"{where} is on argument {one.index}, counted from 0: "
+                      f"{listed(lacking, 'and')} {have}, and the kernel doesn't read the register",
+                      {**more, "names": lacking})
+    if addresses and not _is_null_test(one):
+        yield Finding("pointer-argument", f"{where}: argument {one.index} of {listed(addresses, 'and')} is an address: "
+                      "a filter doesn't see what stands there", {**more, "names": addresses})
+    if halves and one.op == "SCMP_CMP_EQ" and one.value > LOW:
+        yield Finding("high-half", f"{where}: the kernel reads 32 bits of argument {one.index} of "
+                      f"{listed(halves, 'and')}, and {one.value:#x} has more: a program that hands over "
+                      f"{one.value & LOW:#x} doesn't meet it", {**more, "names": halves})
+
+
+def of_conditions(found: Sequence[Entry]) -> Iterator[Finding]:
+    """Conditions that can't mean what they say: they always hold, or are on the wrong argument."""
+    known = arguments.read()
+    for entry in found:
+        for place, one in enumerate(entry.conditions):
+            yield from _of_value(entry, place, one)
+            yield from _of_argument(entry, place, one, known)
+
+
+class Denials:
+    """A search for denials that a bit in the upper half of a register evades."""
+
+    def __init__(self, table: Table, ask: Callable[[Call], Reason], top: Object, found: Sequence[Entry]):
+        self.table, self.ask, self.default = table, ask, entries.default_of(top)
+        self.looks = LOOKS
+        self._of_number: dict[int | None, list[Entry]] = {}
+        for entry in found:
+            for name in entry.names:
+                self._of_number.setdefault(table.number_of(name), []).append(entry)
+
+    def _allows(self, number: int, record: dict[int, int]) -> bool:
+        """Whether a call is allowed, by the entries as they are read here; scf has the last word."""
+        having = self._of_number[number]
+        self.looks -= len(having)
+        answer = next((it.answer for it in having if entries.meet(it.conditions, record)), self.default)
+        return answer[0] in ("SCMP_ACT_ALLOW", "SCMP_ACT_LOG")
+
+    def _evaded(self, number: int, entry: Entry, one: Condition) -> tuple[dict[int, int], dict[int, int]] | None:
+        """Arguments that are denied, and the same with a bit in the upper half, which are allowed."""
+        others = tuple(it for it in entry.conditions if it.index != one.index)
+        beside = record_of([others], []) or {}
+        for value in dict.fromkeys(edge & LOW for edge in one.edges()):
+            low, high = {**beside, one.index: value}, {**beside, one.index: value | UPPER}
+            if self.looks > 0 and not self._allows(number, low) and self._allows(number, high):
+                return low, high
+        return None
+
+    def _answer(self, number: int, record: dict[int, int]) -> tuple[Answer | None, int | None]:
+        reason = self.ask(Call(number, arguments=tuple(record.get(at, 0) for at in range(6))))
+        return reason.answer, reason.entry
+
+    def _told(self, name: str, number: int, one: Condition, pair: tuple[dict[int, int], dict[int, int]]) -> \
+            Finding | None:
+        (denied, _), (allowed, by) = (self._answer(number, it) for it in pair)
+        if denied is None or allowed is None or not denied.refuses or not allowed.lets_through:
+            return None
+        low, high = (it[one.index] for it in pair)
+        where = "by the default" if by is None else f"by entry {by}"
+        return Finding("high-half", f"{name} ({number}) is denied with {low:#x} as argument {one.index} ({denied}), "
+                       f"and allowed with {high:#x} {where}: the kernel reads the lower 32 bits alone, and makes the "
+                       "same of both", {"name": name, "argument": one.index, "denied": hex(low), "allowed": hex(high),
+                                        "entry": by})
+
+    def run(self, found: Sequence[Entry]) -> Iterator[Finding]:
+        """Each syscall and argument once, where a denial is evaded."""
+        known, seen, count = arguments.read(), set(), 0
+        for entry in found:
+            for one in entry.conditions:
+                for name in entry.names:
+                    number = self.table.number_of(name)
+                    is_half = known.get(name, "")[one.index:one.index + 1] == arguments.HALF
+                    if number is None or not is_half or (number, one.index) in seen or self.looks <= 0:
+                        continue
+                    pair = self._evaded(number, entry, one)
+                    told = self._told(name, number, one, pair) if pair and count < MOST else None
+                    if told:
+                        seen.add((number, one.index))
+                        count += 1
+                        yield told

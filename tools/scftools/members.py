@@ -1,0 +1,77 @@
+"""Members of a profile that nothing reads, that only engines or programs in Go read, or that stand in an object twice.
+"""
+from __future__ import annotations
+
+import difflib
+from collections.abc import Iterator, Sequence
+from dataclasses import dataclass, field
+
+from . import profiles, tables
+from .entries import Object
+from .findings import MOST, Finding, shown
+
+# How like a member must be to be the nearest.
+LIKENESS = 0.7
+COMMENT = "comment"
+# What engines alone read, in profiles of their own (Seccomp and Syscall in containers-common's pkg/seccomp/types.go,
+# and in moby's profiles/seccomp/seccomp.go).
+ENGINES = {"defaultErrno": "podman alone reads defaultErrno, an errno's name or its number as a text, and takes it for "
+                           "defaultErrnoRet",
+           "errno": "podman alone reads errno, an errno's name or its number as a text, and takes it for errnoRet",
+           "name": "engines alone read name, and none takes it beside names"}
+
+
+@dataclass
+class Members:
+    """A walk over the members of a profile's objects; how many nearest names are still looked for."""
+
+    nearest: int = field(default=MOST)
+
+    def _near(self, name: str, known: Sequence[str]) -> str | None:
+        """The member that is most like this one, in whatever case of letters."""
+        self.nearest -= 1
+        if self.nearest < 0 or len(name) > tables.LONGEST:
+            return None
+        lower = {it.lower(): it for it in known}
+        return next((lower[it] for it in difflib.get_close_matches(name.lower(), lower, 1, LIKENESS)), None)
+
+    def of_object(self, value: Object, members: dict[str, object], where: str, place: int | None) -> Iterator[Finding]:
+        """The members of an object that aren't read, and those that stand in it twice."""
+        at = {} if place is None else {"entry": place}
+        known, folded = [it for it in members if it not in ENGINES], {profiles.folded(it) for it in members}
+        for name in value:
+            if name in known or name == COMMENT:
+                continue
+            if name in members:
+                yield Finding("engine-member", f"{where}: {ENGINES[name]}: resolve-profile does so",
+                              {**at, "member": name})
+            elif profiles.folded(name) not in folded:
+                near = self._near(name, known)
+                nearest = f"; the nearest that is read is {near}" if near else ""
+                yield Finding("unread-member", f"{where}: nothing reads {shown(name)}{nearest}",
+                              {**at, "member": name, "nearest": near})
+        for name in value.repeated:
+            yield Finding("repeated-member", f"{where}: {shown(name)} stands there more than once, and the last is "
+                          "taken", {**at, "member": name})
+
+    def of_condition(self, condition: Object, where: str, place: int) -> Iterator[Finding]:
+        yield from self.of_object(condition, profiles.ARGUMENT, where, place)
+        if condition.get("valueTwo") and condition["op"] != "SCMP_CMP_MASKED_EQ":
+            yield Finding("unread-member", f"{where}: nothing reads valueTwo beside {condition['op']}",
+                          {"entry": place, "member": "valueTwo", "nearest": None})
+
+    def of_profile(self, top: Object) -> Iterator[Finding]:
+        """The members of the profile, its entries and their conditions."""
+        yield from self.of_object(top, profiles.SECCOMP, "the profile", None)
+        for place, entry in enumerate(top.get("syscalls", [])):
+            yield from self.of_object(entry, profiles.ENTRY, f"entry {place}", place)
+            for at, condition in enumerate(entry.get("args", [])):
+                yield from self.of_condition(condition, f"entry {place}, condition {at}", place)
+
+
+def misread(data: bytes) -> Iterator[Finding]:
+    """Members that runtimes and engines in Go read as others (runc, Docker, podman), and scf and crun don't."""
+    for one in profiles.misread_members(data):
+        if one.name != one.read_as:
+            yield Finding("folded-member", f"{one.told()}; scf and crun don't",
+                          {"where": one.where, "member": one.name, "read_as": one.read_as})

@@ -1,0 +1,76 @@
+"""Names in a profile that mean nothing: of syscalls and of architectures."""
+from __future__ import annotations
+
+import difflib
+from collections.abc import Iterator
+
+from . import tables
+from .entries import Object
+from .findings import Finding, listed, shown
+from .profiles import LETS_THROUGH
+from .tables import Table
+
+X32 = "SCMP_ARCH_X32"
+# The names of the OCI runtime specification (config-linux, seccomp).
+ARCHITECTURES = tuple(f"SCMP_ARCH_{it}" for it in (
+    "X86_64 X86 X32 ARM AARCH64 LOONGARCH64 M68K MIPS MIPS64 MIPS64N32 MIPSEL MIPSEL64 MIPSEL64N32 PARISC PARISC64 PPC "
+    "PPC64 PPC64LE RISCV64 S390 S390X SH SHEB").split())
+# What others call these.
+ALIASES = {"AMD64": "X86_64", "X86-64": "X86_64", "X64": "X86_64", "ARM64": "AARCH64"}
+
+
+def _places(top: Object) -> dict[str, int]:
+    """For each name the first entry that has it."""
+    found: dict[str, int] = {}
+    for place, entry in enumerate(top.get("syscalls", [])):
+        for name in entry["names"]:
+            found.setdefault(name, place)
+    return found
+
+
+def of_names(top: Object, table: Table) -> Iterator[Finding]:
+    """Names that no call has, and names of calls of other architectures, counted."""
+    places = _places(top)
+    skipped = tables.told_apart([name for name in places if table.number_of(name) is None], table)
+    for name, near in skipped.unknown:
+        nearest = f"; the nearest name of the table is {near}" if near else ""
+        yield Finding("unknown-name", f"entry {places[name]}: no call that is known here is called {shown(name)}"
+                      f"{nearest}", {"entry": places[name], "name": name, "nearest": near})
+    for name in skipped.left_out:
+        yield Finding("left-out-name", f"entry {places[name]}: {name} is a call of x86-64, which this table leaves "
+                      "out", {"entry": places[name], "name": name})
+    if skipped.elsewhere:
+        yield Finding("other-architectures", f"names of calls of other architectures alone: {len(skipped.elsewhere)}",
+                      {"count": len(skipped.elsewhere), "names": skipped.elsewhere})
+    for place, entry in enumerate(top.get("syscalls", [])):
+        seen: set[str] = set()
+        twice = list(dict.fromkeys(name for name in entry["names"] if name in seen or seen.add(name)))
+        if twice:
+            yield Finding("repeated-name", f"entry {place} names more than once: {listed(twice)}",
+                          {"entry": place, "names": twice})
+
+
+def _nearest_architecture(name: str) -> str | None:
+    if len(name) > tables.LONGEST:
+        return None
+    last = name.upper().removeprefix("SCMP_ARCH_")
+    likely = difflib.get_close_matches(f"SCMP_ARCH_{ALIASES.get(last, last)}", ARCHITECTURES, 1, 0.8)
+    return likely[0] if likely else None
+
+
+def of_architectures(top: Object) -> Iterator[Finding]:
+    """Architectures that the OCI specification doesn't have, and a list without x32."""
+    architectures = top.get("architectures", [])
+    unknown = (it for it in dict.fromkeys(architectures) if it not in ARCHITECTURES)
+    for at, name in enumerate(unknown):
+        near = _nearest_architecture(name) if at < tables.TOLD else None
+        nearest = f"; the nearest is {near}" if near else ""
+        yield Finding("unknown-architecture", f"architectures: the OCI specification has no {shown(name)}, and runc and "
+                      f"crun refuse what they don't know{nearest}", {"name": name, "nearest": near})
+    if architectures and X32 not in architectures:
+        default = top["defaultAction"]
+        then = f"the default, {default}, allows them all" if default in LETS_THROUGH else \
+            f"the default, {default}, answers them all"
+        yield Finding("x32", f"architectures has no {X32}: x32 syscalls are those of x86-64 with 0x40000000 added. "
+                      f"Filters of scf and of libseccomp deny them; in a filter that doesn't test for them {then}",
+                      {"architectures": architectures})

@@ -1,0 +1,132 @@
+"""Syscalls that `lint` looks for in what a profile allows: those that make a sandbox useless (tables/dangerous.calls),
+and those that the kernel goes on with by restart_syscall.
+
+A profile of them is compiled into a filter that allows nothing else, and a bit of an argument can be asked for there.
+Behind that filter scf compares the profile's own: what both allow is found over all arguments.
+"""
+from __future__ import annotations
+
+import os
+import re
+from collections.abc import Callable, Iterator, Sequence
+from dataclasses import dataclass
+
+from . import program
+from .answers import Answer
+from .calls import Call
+from .entries import Condition, Entry, profile_of
+from .findings import Finding, listed
+from .reasons import Reason
+from .trials import Trial
+from .verdicts import NamedCall
+
+FILE = os.path.join(program.TOP, "tables", "dangerous.calls")
+LINE = re.compile(r"(\w+) (?:\[(\d) has (0x[0-9a-f]+)\] )?(\S.*)")
+RESTART = "restart_syscall"
+DENIES, ALLOWS = ("SCMP_ACT_ERRNO", 1), ("SCMP_ACT_ALLOW", 0)
+# What a syscall is more permissive than, and less permissive than, where it is allowed: one by one.
+DELEGATES, ALLOWS_ALL = b'{"defaultAction": "SCMP_ACT_TRACE"}', b'{"defaultAction": "SCMP_ACT_ALLOW"}'
+
+
+def _has(index: int, mask: int, value: int) -> Condition:
+    return Condition(index, "SCMP_CMP_MASKED_EQ", mask, value)
+
+
+# What the kernel ends with -ERESTART_RESTARTBLOCK (hrtimer_nanosleep and its like, do_restart_poll,
+# futex_wait_restart): sleeps that aren't until a time (TIMER_ABSTIME is 1), poll, and FUTEX_WAIT and FUTEX_WAIT_BITSET
+# (0 and 9 under FUTEX_CMD_MASK) with a timeout. Others, as ppoll and select, begin anew or end with EINTR.
+_TIMEOUT = Condition(3, "SCMP_CMP_NE", 0, 0)
+RESTARTED: tuple[tuple[str, tuple[Condition, ...]], ...] = (
+    ("nanosleep", ()), ("clock_nanosleep", (_has(1, 1, 0),)), ("poll", ()), ("futex", (_has(1, 0x7F, 0), _TIMEOUT)),
+    ("futex", (_has(1, 0x7F, 9), _TIMEOUT)))
+
+
+@dataclass(frozen=True)
+class Dangerous:
+    """Why a syscall is dangerous, and what has to be in its arguments for that."""
+
+    reason: str
+    conditions: tuple[Condition, ...] = ()
+
+
+def dangerous() -> dict[str, Dangerous]:
+    """The syscalls that make a sandbox useless."""
+    found: dict[str, Dangerous] = {}
+    with open(FILE, encoding="ascii") as file:
+        for line in file:
+            parts = LINE.fullmatch(line.strip())
+            if parts and not line.startswith("#"):
+                bits = int(parts[3], 16) if parts[3] else None
+                conditions = () if bits is None else (_has(int(parts[2]), bits, bits),)
+                found[parts[1]] = Dangerous(parts[4], conditions)
+    return found
+
+
+class Watch:
+    """What a profile allows of the list, over all arguments, and what of it always; by the syscalls' numbers."""
+
+    def __init__(self, trial: Trial, ask: Callable[[Call], Reason], data: bytes):
+        self.trial, self.ask = trial, ask
+        self.dangerous = dangerous()
+        listed_calls = [*((name, it.conditions) for name, it in self.dangerous.items()), *RESTARTED, (RESTART, ())]
+        watched = [Entry(0, (name,), ALLOWS, conditions) for name, conditions in listed_calls]
+        self.numbers = {name: trial.table.number_of(name) for name, _ in listed_calls}
+        calls = "".join(f"{name} {at}\n" for name, at in self.numbers.items() if at is not None).encode()
+        older = trial.filter_of(profile_of(DENIES, watched))
+        self.allowed = self._compare([older, data], DELEGATES, calls, "--no-more")
+        self.not_always = self._compare([data], ALLOWS_ALL, calls, "--no-less")
+
+    def _compare(self, filters: Sequence[bytes], profile: bytes, calls: bytes, relation: str) -> dict[int, NamedCall]:
+        """The named calls that fail a relation, or of which it couldn't be told, by their numbers."""
+        return {it.number: it for it in self.trial.report(filters, profile, calls, "--calls", relation).calls}
+
+    def _found(self, name: str) -> NamedCall | None:
+        number = self.numbers[name]
+        return None if number is None else self.allowed.get(number)
+
+    def _is_always(self, name: str) -> bool:
+        number = self.numbers[name]
+        return number is not None and number in self.allowed and number not in self.not_always
+
+    def _answer(self, call: Call) -> tuple[Answer | None, str, int | None]:
+        """What the profile answers to a call, and by what of it."""
+        reason = self.ask(call)
+        return reason.answer, "by the default" if reason.entry is None else f"by entry {reason.entry}", reason.entry
+
+    def of_dangerous(self) -> Iterator[tuple[bool, Finding]]:
+        """The dangerous syscalls that are allowed, always or with some arguments; and whether it could be told."""
+        for name, danger in self.dangerous.items():
+            found = self._found(name)
+            if found is None:
+                continue
+            more: dict[str, object] = {"name": name, "number": found.number, "reason": danger.reason}
+            if found.verdict.call is None:
+                yield False, Finding("dangerous-call", f"it couldn't be told whether {name} ({found.number}) is "
+                                     f"allowed: {found.verdict.word}", more)
+            else:
+                yield True, self._allowed(name, found.verdict.call, danger, more)
+
+    def _allowed(self, name: str, call: Call, danger: Dangerous, more: dict[str, object]) -> Finding:
+        is_always, arguments = self._is_always(name), [hex(it) for it in call.arguments]
+        _, where, entry = self._answer(call)
+        how = "" if is_always else f" with some arguments, as {' '.join(arguments)},"
+        return Finding("dangerous-call", f"{call.told(self.trial.table)} is allowed{how} {where}: {danger.reason}",
+                       {**more, "is_always": is_always, "arguments": arguments, "entry": entry})
+
+    def of_restart(self) -> Iterator[tuple[bool, Finding]]:
+        """That restart_syscall isn't always allowed where syscalls are that go on by it."""
+        names = [name for name in dict.fromkeys(name for name, _ in RESTARTED) if self._found(name)]
+        number = self.numbers[RESTART]
+        if not names or number is None or self._is_always(RESTART):
+            return
+        less = self.not_always.get(number)
+        more: dict[str, object] = {"names": names}
+        if less is None or less.verdict.call is None:
+            yield False, Finding("no-restart", f"it couldn't be told whether {RESTART} ({number}) is always allowed",
+                                 more)
+            return
+        answer, where, entry = self._answer(less.verdict.call)
+        yield True, Finding("no-restart", f"{listed(names, 'and')} {'is' if len(names) == 1 else 'are'} allowed, and "
+                            f"{RESTART} ({number}) is not: a thread that is stopped in such a call and goes on, as by "
+                            f"SIGSTOP and SIGCONT or under a debugger, makes it, and {where} the answer is "
+                            f"{answer.told() if answer else '?'}", {**more, "entry": entry})
