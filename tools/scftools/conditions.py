@@ -54,10 +54,8 @@ def _of_argument(entry: Entry, place: int, one: Condition, known: dict[str, str]
     addresses = [name for name in has if known[name][one.index:one.index + 1] == arguments.ADDRESS]
     halves = [name for name in has if known[name][one.index:one.index + 1] == arguments.HALF]
     if lacking:
-        counts = {len(known[name]) for name in lacking}
-        have = f"has only {counts.pop()}" if len(lacking) == 1 else "have fewer"
-        yield Finding("no-such-argument", f"{where} is on argument {one.index}, counted from 0: "
-                      f"{listed(lacking, 'and')} {have}, and the kernel doesn't read the register",
+        yield Finding("no-such-argument", f"{where}: {listed(lacking, 'and')} {'has' if len(lacking) == 1 else 'have'} "
+                      f"no argument {one.index} (the first is 0), and the kernel doesn't read its register",
                       {**more, "names": lacking})
     if addresses and not _is_null_test(one):
         yield Finding("pointer-argument", f"{where}: argument {one.index} of {listed(addresses, 'and')} is an address: "
@@ -118,8 +116,8 @@ class Denials:
         where = "by the default" if by is None else f"by entry {by}"
         return Finding("high-half", f"{name} ({number}) is denied with {low:#x} as argument {one.index} ({denied}), "
                        f"and allowed with {high:#x} {where}: the kernel reads the lower 32 bits alone, and makes the "
-                       "same of both", {"name": name, "argument": one.index, "denied": hex(low), "allowed": hex(high),
-                                        "entry": by})
+                       "same syscall of both", {"name": name, "argument": one.index, "denied": hex(low),
+                                                "allowed": hex(high), "entry": by})
 
     def run(self, found: Sequence[Entry]) -> Iterator[Finding]:
         """Each syscall and argument once, where a denial is evaded."""

@@ -34,19 +34,19 @@ def of_names(top: Object, table: Table) -> Iterator[Finding]:
     skipped = tables.told_apart([name for name in places if table.number_of(name) is None], table)
     for name, near in skipped.unknown:
         nearest = f"; the nearest name of the table is {near}" if near else ""
-        yield Finding("unknown-name", f"entry {places[name]}: no call that is known here is called {shown(name)}"
-                      f"{nearest}", {"entry": places[name], "name": name, "nearest": near})
+        yield Finding("unknown-name", f"entry {places[name]}: no known syscall is called {shown(name)}{nearest}",
+                      {"entry": places[name], "name": name, "nearest": near})
     for name in skipped.left_out:
-        yield Finding("left-out-name", f"entry {places[name]}: {name} is a call of x86-64, which this table leaves "
-                      "out", {"entry": places[name], "name": name})
+        yield Finding("left-out-name", f"entry {places[name]}: {name} is a syscall of x86-64 that this table "
+                      "leaves out", {"entry": places[name], "name": name})
     if skipped.elsewhere:
-        yield Finding("other-architectures", f"names of calls of other architectures alone: {len(skipped.elsewhere)}",
+        yield Finding("other-architectures", f"names that only other architectures have: {len(skipped.elsewhere)}",
                       {"count": len(skipped.elsewhere), "names": skipped.elsewhere})
     for place, entry in enumerate(top.get("syscalls", [])):
         seen: set[str] = set()
         twice = list(dict.fromkeys(name for name in entry["names"] if name in seen or seen.add(name)))
         if twice:
-            yield Finding("repeated-name", f"entry {place} names more than once: {listed(twice)}",
+            yield Finding("repeated-name", f"entry {place} has names more than once: {listed(twice)}",
                           {"entry": place, "names": twice})
 
 
@@ -65,8 +65,8 @@ def of_architectures(top: Object) -> Iterator[Finding]:
     for at, name in enumerate(unknown):
         near = _nearest_architecture(name) if at < tables.TOLD else None
         nearest = f"; the nearest is {near}" if near else ""
-        yield Finding("unknown-architecture", f"architectures: the OCI specification has no {shown(name)}, and runc and "
-                      f"crun refuse what they don't know{nearest}", {"name": name, "nearest": near})
+        yield Finding("unknown-architecture", f"architectures: the OCI specification has no {shown(name)}, and runc "
+                      f"and crun refuse what they don't know{nearest}", {"name": name, "nearest": near})
     if architectures and X32 not in architectures:
         default = top["defaultAction"]
         then = f"the default, {default}, allows them all" if default in LETS_THROUGH else \

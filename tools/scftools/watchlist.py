@@ -127,6 +127,6 @@ class Watch:
             return
         answer, where, entry = self._answer(less.verdict.call)
         yield True, Finding("no-restart", f"{listed(names, 'and')} {'is' if len(names) == 1 else 'are'} allowed, and "
-                            f"{RESTART} ({number}) is not: a thread that is stopped in such a call and goes on, as by "
-                            f"SIGSTOP and SIGCONT or under a debugger, makes it, and {where} the answer is "
-                            f"{answer.told() if answer else '?'}", {**more, "entry": entry})
+                            f"{RESTART} ({number}) is not: a thread that is stopped in such a call, as by SIGSTOP or a "
+                            f"debugger, makes it to go on, and is answered {where} {answer.told() if answer else '?'}",
+                            {**more, "entry": entry})

@@ -73,7 +73,7 @@ class Usage(Linted):
     def test_strict_and_except(self):
         odd = profile(entry("umont2"), default=ALLOW)
         self.assertEqual(self.run_lint(odd, "--except", "dangerous-call"), (0, (
-            "unknown-name: entry 0: no call that is known here is called umont2; the nearest name of the table is "
+            "unknown-name: entry 0: no known syscall is called umont2; the nearest name of the table is "
             "umount2\ndefault-allows: SCMP_ACT_ALLOW: a syscall that no entry names is allowed\n# findings: 2\n"), ""))
         self.assertEqual(self.run_lint(odd, "--strict")[0], 1)
         without = ("--except", "unknown-name", "--except=default-allows", "--except=dangerous-call")
@@ -131,7 +131,7 @@ class Usage(Linted):
         entries = [entry("socket", args=[(0, "GT", it), (1, "GT", it)]) for it in range(2**40, 2**40 + 4000)]
         status, out, _ = self.run_lint(profile(entry("reed"), *entries))
         self.assertEqual((status, out.split("\n")[0]), (1, "fault compile TooLarge"))
-        self.assertIn("\nunknown-name: entry 0: no call that is known here is called reed; the nearest name of the "
+        self.assertIn("\nunknown-name: entry 0: no known syscall is called reed; the nearest name of the "
                       "table is read\n", out)
 
     def test_what_could_not_be_told(self):
@@ -152,9 +152,9 @@ class Names(Linted):
         kinds = ("unknown-name", "other-architectures", "left-out-name")
         self.assertEqual(self.found(profile(entry("read"), entry("umont2", "zzqqzz")), kinds=kinds), [
             {"kind": "unknown-name", "entry": 1, "name": "umont2", "nearest": "umount2",
-             "text": "entry 1: no call that is known here is called umont2; the nearest name of the table is umount2"},
+             "text": "entry 1: no known syscall is called umont2; the nearest name of the table is umount2"},
             {"kind": "unknown-name", "entry": 1, "name": "zzqqzz", "nearest": None,
-             "text": "entry 1: no call that is known here is called zzqqzz"}])
+             "text": "entry 1: no known syscall is called zzqqzz"}])
         self.assertEqual(self.found(profile(entry("read", "umount2"), default=ERRNO), kinds=kinds), [])
 
     def test_names_of_other_architectures_are_counted(self):
@@ -418,7 +418,8 @@ class Restart(Running):
              ("poll", "without end", 0, 0, -1), ("ppoll", "", 0, 0, LONG, 0, 8), ("select", "", 0, 0, 0, 0, LONG),
              ("pselect6", "", 0, 0, 0, 0, LONG, 0), ("futex", "", "00000000", 0, 0, LONG, 0, 0),
              ("futex", "bits", "00000000", 9, 0, seconds(1 << 32), 0, -1),
-             ("futex", "without end", "00000000", 0, 0, 0, 0, 0), ("pause", ""), ("rt_sigtimedwait", "", "00" * 8, 0, LONG, 8))
+             ("futex", "without end", "00000000", 0, 0, 0, 0, 0), ("pause", ""),
+             ("rt_sigtimedwait", "", "00" * 8, 0, LONG, 8))
 
     def denied(self, **members):
         return profile(entry("restart_syscall", action=ERRNO, errnoRet=77, **members), default=ALLOW)
@@ -469,8 +470,8 @@ class Restart(Running):
 
     def test_its_words(self):
         self.assertIn("no-restart: nanosleep and poll are allowed, and restart_syscall (219) is not: a thread that is "
-                      "stopped in such a call and goes on, as by SIGSTOP and SIGCONT or under a debugger, makes it, "
-                      "and by the default the answer is KILL_PROCESS: the process ends\n",
+                      "stopped in such a call, as by SIGSTOP or a debugger, makes it to go on, and is answered by "
+                      "the default KILL_PROCESS: the process ends\n",
                       self.run_lint(profile(entry("poll", "nanosleep"), default="SCMP_ACT_KILL_PROCESS"))[1])
 
 
@@ -684,7 +685,7 @@ class Effects(Linted):
         self.assertEqual(self.effects(entry("read"), entry("waitpid", "umont2")), [])
 
     def test_what_is_said_behind_them(self):
-        same = "# without all that is covered or without effect, scf says same\n"
+        same = "# scf says same of the profile without all that is covered or without effect\n"
         self.assertIn(same, self.run_lint(profile(entry("read"), entry("read")))[1])
         self.assertNotIn(same, self.run_lint(profile(entry("read"), entry("reed")))[1])
         self.assertEqual(self.report(profile(entry("read"), entry("read")))["verdict"], "same")
