@@ -10,12 +10,14 @@ from collections.abc import Callable, Iterator, Sequence
 from . import arguments, entries
 from .answers import Answer
 from .calls import Call
-from .entries import Condition, Entry, Object, record_of
+from .entries import Condition, Entry, profile_of, record_of
 from .findings import MOST, Finding, listed
 from .reasons import Reason
 from .tables import Table
+from .trials import Trial
 
 LOW = (1 << 32) - 1
+DENIES, ALLOWS_ALL = ("SCMP_ACT_ERRNO", 1), b'{"defaultAction": "SCMP_ACT_ALLOW"}'
 # The most answers that are worked out in the search for evaded denials.
 LOOKS = 200000
 # A bit of the upper half, which stands for all of them.
@@ -75,11 +77,33 @@ def of_conditions(found: Sequence[Entry]) -> Iterator[Finding]:
             yield from _of_argument(entry, place, one, known)
 
 
+def of_unions(trial: Trial, found: Sequence[Entry]) -> Iterator[Finding]:
+    """Entries with conditions and one answer that together leave no call of a syscall out: they were meant to hold all
+    at once, and one of them is enough."""
+    having: dict[tuple[str, tuple[str, int]], list[Entry]] = {}
+    for entry in found:
+        for name in entry.names:
+            having.setdefault((name, entry.answer), []).append(entry)
+    doubtful = {key: its for key, its in having.items() if len(its) > 1 and all(it.conditions for it in its)}
+    for answer in dict.fromkeys(answer for _, answer in doubtful):
+        its = {name: entries_of for (name, one), entries_of in doubtful.items() if one == answer}
+        number_of = trial.table.number_of
+        calls = "".join(f"{name} {number_of(name)}\n" for name in its).encode()
+        allowed = [it.allowing([name]) for name, entries_of in its.items() for it in entries_of]
+        left_out = {it.number for it in trial.report([trial.filter_of(profile_of(DENIES, allowed))], ALLOWS_ALL, calls,
+                                                     "--calls", "--no-less").calls}
+        for name, entries_of in its.items():
+            if number_of(name) not in left_out:
+                places = [it.place for it in entries_of]
+                yield Finding("always-met", f"entries {listed(list(map(str, places)), 'and')}: each call of {name} "
+                              "meets one of them, and one is enough", {"entries": places, "name": name})
+
+
 class Denials:
     """A search for denials that a bit in the upper half of a register evades."""
 
-    def __init__(self, table: Table, ask: Callable[[Call], Reason], top: Object, found: Sequence[Entry]):
-        self.table, self.ask, self.default = table, ask, entries.default_of(top)
+    def __init__(self, table: Table, ask: Callable[[Call], Reason], default: tuple[str, int], found: Sequence[Entry]):
+        self.table, self.ask, self.default = table, ask, default
         self.looks = LOOKS
         self._of_number: dict[int | None, list[Entry]] = {}
         for entry in found:

@@ -15,6 +15,7 @@ X32 = "SCMP_ARCH_X32"
 ARCHITECTURES = tuple(f"SCMP_ARCH_{it}" for it in (
     "X86_64 X86 X32 ARM AARCH64 LOONGARCH64 M68K MIPS MIPS64 MIPS64N32 MIPSEL MIPSEL64 MIPSEL64N32 PARISC PARISC64 PPC "
     "PPC64 PPC64LE RISCV64 S390 S390X SH SHEB").split())
+FLAGS = tuple(f"SECCOMP_FILTER_FLAG_{it}" for it in "TSYNC LOG SPEC_ALLOW WAIT_KILLABLE_RECV".split())
 # What others call these.
 ALIASES = {"AMD64": "X86_64", "X86-64": "X86_64", "X64": "X86_64", "ARM64": "AARCH64"}
 
@@ -56,6 +57,18 @@ def _nearest_architecture(name: str) -> str | None:
     last = name.upper().removeprefix("SCMP_ARCH_")
     likely = difflib.get_close_matches(f"SCMP_ARCH_{ALIASES.get(last, last)}", ARCHITECTURES, 1, 0.8)
     return likely[0] if likely else None
+
+
+def of_flags(top: Object) -> Iterator[Finding]:
+    """Flags that the OCI specification doesn't have."""
+    given = top.get("flags")
+    flags = [it for it in given if isinstance(it, str)] if isinstance(given, list) else []
+    for at, name in enumerate(it for it in dict.fromkeys(flags) if it not in FLAGS):
+        is_near = at < tables.TOLD and len(name) <= tables.LONGEST
+        likely = difflib.get_close_matches(name, FLAGS, 1, 0.8) if is_near else []
+        nearest = f"; the nearest is {likely[0]}" if likely else ""
+        yield Finding("unknown-flag", f"flags: the OCI specification has no {shown(name)}{nearest}",
+                      {"name": name, "nearest": likely[0] if likely else None})
 
 
 def of_architectures(top: Object) -> Iterator[Finding]:

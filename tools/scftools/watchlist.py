@@ -1,5 +1,5 @@
 """Syscalls that `lint` looks for in what a profile allows: those that make a sandbox useless (tables/dangerous.calls),
-and those that the kernel goes on with by restart_syscall.
+those that need another one, as sleeps need restart_syscall, and those that libc replaces only where they are ENOSYS.
 
 A profile of them is compiled into a filter that allows nothing else, and a bit of an argument can be asked for there.
 Behind that filter scf compares the profile's own: what both allow is found over all arguments.
@@ -22,7 +22,6 @@ from .verdicts import NamedCall
 
 FILE = os.path.join(program.TOP, "tables", "dangerous.calls")
 LINE = re.compile(r"(\w+) (?:\[(\d) has (0x[0-9a-f]+)\] )?(\S.*)")
-RESTART = "restart_syscall"
 DENIES, ALLOWS = ("SCMP_ACT_ERRNO", 1), ("SCMP_ACT_ALLOW", 0)
 # What a syscall is more permissive than, and less permissive than, where it is allowed: one by one.
 DELEGATES, ALLOWS_ALL = b'{"defaultAction": "SCMP_ACT_TRACE"}', b'{"defaultAction": "SCMP_ACT_ALLOW"}'
@@ -39,6 +38,28 @@ _TIMEOUT = Condition(3, "SCMP_CMP_NE", 0, 0)
 RESTARTED: tuple[tuple[str, tuple[Condition, ...]], ...] = (
     ("nanosleep", ()), ("clock_nanosleep", (_has(1, 1, 0),)), ("poll", ()), ("futex", (_has(1, 0x7F, 0), _TIMEOUT)),
     ("futex", (_has(1, 0x7F, 9), _TIMEOUT)))
+
+
+@dataclass(frozen=True)
+class Needed:
+    """A syscall that must be allowed, whatever its arguments are, where one of others is; the kind of finding that it
+    isn't, and who makes it."""
+
+    kind: str
+    name: str
+    users: tuple[tuple[str, tuple[Condition, ...]], ...]
+    why: str
+
+
+# It isn't the program that makes these (arch/x86/kernel/signal.c; vdso and libc return from a handler by sigreturn(2)).
+NEEDED = (
+    Needed("no-restart", "restart_syscall", RESTARTED, "a thread that is stopped in such a call, as by SIGSTOP or a "
+           "debugger, makes it to go on, and"),
+    Needed("no-return", "rt_sigreturn", (("rt_sigaction", ()),), "each signal handler ends by it, and it"))
+# Of newer syscalls what libc makes in their place, if they are ENOSYS and not if they are any other errno (glibc's
+# __clone_internal and faccessat); with arguments of a thread and of a fork, by linux/sched.h.
+FALLBACKS = (("clone3", "clone", (0x3D0F00, 0x1200011)), ("faccessat2", "faccessat", (0,)))
+ENOSYS = 38
 
 
 @dataclass(frozen=True)
@@ -68,7 +89,8 @@ class Watch:
     def __init__(self, trial: Trial, ask: Callable[[Call], Reason], data: bytes):
         self.trial, self.ask = trial, ask
         self.dangerous = dangerous()
-        listed_calls = [*((name, it.conditions) for name, it in self.dangerous.items()), *RESTARTED, (RESTART, ())]
+        listed_calls = [(name, it.conditions) for name, it in self.dangerous.items()]
+        listed_calls += [it for one in NEEDED for it in (*one.users, (one.name, ()))]
         watched = [Entry(0, (name,), ALLOWS, conditions) for name, conditions in listed_calls]
         self.numbers = {name: trial.table.number_of(name) for name, _ in listed_calls}
         calls = "".join(f"{name} {at}\n" for name, at in self.numbers.items() if at is not None).encode()
@@ -113,20 +135,34 @@ class Watch:
         return Finding("dangerous-call", f"{call.told(self.trial.table)} is allowed{how} {where}: {danger.reason}",
                        {**more, "is_always": is_always, "arguments": arguments, "entry": entry})
 
-    def of_restart(self) -> Iterator[tuple[bool, Finding]]:
-        """That restart_syscall isn't always allowed where syscalls are that go on by it."""
-        names = [name for name in dict.fromkeys(name for name, _ in RESTARTED) if self._found(name)]
-        number = self.numbers[RESTART]
-        if not names or number is None or self._is_always(RESTART):
-            return
-        less = self.not_always.get(number)
-        more: dict[str, object] = {"names": names}
-        if less is None or less.verdict.call is None:
-            yield False, Finding("no-restart", f"it couldn't be told whether {RESTART} ({number}) is always allowed",
-                                 more)
-            return
-        answer, where, entry = self._answer(less.verdict.call)
-        yield True, Finding("no-restart", f"{listed(names, 'and')} {'is' if len(names) == 1 else 'are'} allowed, and "
-                            f"{RESTART} ({number}) is not: a thread that is stopped in such a call, as by SIGSTOP or a "
-                            f"debugger, makes it to go on, and is answered {where} {answer.told() if answer else '?'}",
-                            {**more, "entry": entry})
+    def of_needed(self) -> Iterator[tuple[bool, Finding]]:
+        """That a syscall isn't always allowed where others are that need it; and whether it could be told."""
+        for one in NEEDED:
+            users = [name for name in dict.fromkeys(name for name, _ in one.users) if self._found(name)]
+            number = self.numbers[one.name]
+            if users and number is not None and not self._is_always(one.name):
+                yield self._lacking(one, users, number)
+
+    def _lacking(self, one: Needed, users: Sequence[str], number: int) -> tuple[bool, Finding]:
+        less, more = self.not_always.get(number), {"names": list(users)}
+        answer, where, entry = self._answer(less.verdict.call) if less and less.verdict.call else (None, "", None)
+        if answer is None:
+            return False, Finding(one.kind, f"it couldn't be told whether {one.name} ({number}) is always allowed",
+                                  more)
+        return True, Finding(one.kind, f"{listed(users, 'and')} {'is' if len(users) == 1 else 'are'} allowed, and "
+                             f"{one.name} ({number}) is not: {one.why} is answered {where} {answer.told()}",
+                             {**more, "entry": entry})
+
+    def of_fallbacks(self) -> Iterator[Finding]:
+        """That a newer syscall is denied in a way that keeps libc from making the older one, which is allowed."""
+        for newer, older, first_arguments in FALLBACKS:
+            numbers = [self.trial.table.number_of(name) for name in (newer, older)]
+            if None in numbers:
+                continue
+            answer, where, entry = self._answer(Call(numbers[0]))
+            instead = [self._answer(Call(numbers[1], arguments=(it, *[0] * 5)))[0] for it in first_arguments]
+            if answer and answer.refuses and (answer.action, answer.data) != ("ERRNO", ENOSYS) and \
+                    any(it and it.lets_through for it in instead):
+                yield Finding("no-fallback", f"{newer} ({numbers[0]}) is answered {where} {answer}, and {older} is "
+                              f"allowed: libc makes {older} in its place only after ENOSYS, which is errno {ENOSYS}",
+                              {"name": newer, "instead": older, "entry": entry})

@@ -475,6 +475,56 @@ class Restart(Running):
                       self.run_lint(profile(entry("poll", "nanosleep"), default="SCMP_ACT_KILL_PROCESS"))[1])
 
 
+class Partners(Running):
+    """Syscalls that others need, in processes of this machine's libc."""
+
+    def run_python(self, given, code):
+        """How a Python ends that runs this code behind the filter of a profile."""
+        text = f"raw = bytes.fromhex({self.compiled(given).hex()!r})\n" + """
+import ctypes, struct, threading, signal, os
+libc = ctypes.CDLL(None)
+held = ctypes.create_string_buffer(raw, len(raw))
+program = ctypes.create_string_buffer(struct.pack("HxxxxxxQ", len(raw) // 8, ctypes.addressof(held)), 16)
+libc.prctl(38, 1, 0, 0, 0)
+assert libc.prctl(22, 2, program, 0, 0) == 0
+""" + code
+        return subprocess.run([sys.executable, "-IS", "-c", text], stdout=subprocess.PIPE, stderr=subprocess.DEVNULL,
+                              stdin=subprocess.DEVNULL, check=False)
+
+    def lacking(self, given, kind):
+        return [it.get("names") or it["name"] for it in self.found(given, kinds=(kind,))]
+
+    def test_a_handler_ends_by_sigreturn(self):
+        given = profile(entry("rt_sigreturn", action="SCMP_ACT_KILL_PROCESS"), default=ALLOW)
+        code = "signal.signal(signal.SIGUSR1, lambda *_: None); os.kill(os.getpid(), signal.SIGUSR1); print('ended')"
+        self.assertEqual(self.run_python(given, code).returncode, -31)
+        self.assertEqual(self.lacking(given, "no-return"), [["rt_sigaction"]])
+        for names, expected in ((("rt_sigaction",), [["rt_sigaction"]]), (("rt_sigaction", "rt_sigreturn"), []),
+                                (("read",), [])):
+            self.assertEqual(self.lacking(profile(entry(*names)), "no-return"), expected)
+
+    def test_libc_makes_clone_only_after_enosys(self):
+        name, _, version = (os.confstr("CS_GNU_LIBC_VERSION") or "").partition(" ")
+        if name != "glibc" or tuple(map(int, version.split(".")[:2])) < (2, 34):
+            self.skipTest("this libc doesn't make clone3")
+        code = "thread = threading.Thread(target=print, args=('ran',)); thread.start(); thread.join()"
+        for number in (1, 22, 38):
+            given = profile(entry("clone3", action=ERRNO, errnoRet=number), default=ALLOW)
+            self.assertEqual(self.run_python(given, code).stdout, b"ran\n" * (number == 38), number)
+            self.assertEqual(self.lacking(given, "no-fallback"), ["clone3"] * (number != 38), number)
+
+    def test_where_libc_does_not_get_the_older_syscall_either(self):
+        threads = entry("clone", args=[(0, "MASKED_EQ", 0x7E020000, 0)])
+        for given, expected in ((profile(entry("read")), []), (profile(threads), ["clone3"]),
+                                (profile(threads, entry("clone3")), []), (profile(threads, defaultErrnoRet=38), []),
+                                (profile(threads, default="SCMP_ACT_KILL"), ["clone3"]),
+                                (profile(threads, default="SCMP_ACT_TRACE"), []),
+                                (profile(entry("clone", args=[(0, "EQ", 0)])), []),
+                                (profile(entry("faccessat")), ["faccessat2"]),
+                                (profile(entry("faccessat", "faccessat2")), [])):
+            self.assertEqual(self.lacking(given, "no-fallback"), expected, given)
+
+
 class Errnos(Running):
     """Errnos beside what a process gets of this kernel."""
 
@@ -533,6 +583,17 @@ class Architectures(Linted):
             ("SCMP_ARCH_NONSENSE", None)])
 
 
+    def test_flags_that_it_does_not_have(self):
+        def unknown(flags):
+            return [(it["name"], it["nearest"]) for it in self.found(profile(flags=flags), kinds=("unknown-flag",))]
+        names = [f"SECCOMP_FILTER_FLAG_{it}" for it in ("TSYNC", "LOG", "SPEC_ALLOW", "WAIT_KILLABLE_RECV")]
+        self.assertEqual(unknown(names), [])
+        self.assertEqual(unknown(["SECCOMP_FILTER_FLAG_LOGG", "nothing"]), [("SECCOMP_FILTER_FLAG_LOGG", names[1]),
+                                                                            ("nothing", None)])
+        for odd in ("text", 5, [5], {}, None):
+            self.assertEqual(unknown(odd), [])
+
+
 class Arguments(Linted):
     """Conditions beside what the kernel does with an argument."""
 
@@ -562,6 +623,31 @@ class Arguments(Linted):
             found = self.found(profile(entry("clone", args=[(0, *condition)])), kinds=kinds)
             self.assertEqual([it["kind"] for it in found], [kind] * (kind is not None), condition)
         self.assertIn("they may be swapped", self.run_lint(profile(entry("clone", args=[(0, "MASKED_EQ", 0, 1)])))[1])
+
+    def test_entries_of_which_each_call_meets_one(self):
+        def of(*args, action=ALLOW, default=ERRNO):
+            given = profile(*(entry("socket", args=one, action=action) for one in args), default=default)
+            return [it["entries"] for it in self.found(given, kinds=("always-met",))]
+        self.assertEqual(of([(0, "NE", 40)], [(0, "NE", 16)]), [[0, 1]])
+        self.assertEqual(of([(0, "NE", 40), (1, "EQ", 1)], [(0, "NE", 16)]), [])
+        self.assertEqual(of([(0, "NE", 40)], [(1, "NE", 16)]), [])
+        self.assertEqual(of([(0, "LT", 40)], [(0, "GE", 40)]), [[0, 1]])
+        self.assertEqual(of([(0, "LT", 40)], [(0, "GT", 40)], [(0, "EQ", 40)]), [[0, 1, 2]])
+        self.assertEqual(of([(0, "LT", 40)], [(0, "GT", 40)], [(1, "EQ", 40)]), [])
+        self.assertEqual(of([(0, "NE", 40)], [(0, "NE", 16)], action=ERRNO, default=ALLOW), [[0, 1]])
+        # an entry without conditions covers the others
+        self.assertEqual(of([(0, "NE", 40)], []), [])
+        mixed = profile(entry("socket", args=[(0, "EQ", 40)]),
+                        entry("socket", args=[(0, "NE", 40)], action="SCMP_ACT_LOG"))
+        self.assertEqual(self.found(mixed, kinds=("always-met",)), [])
+
+    def test_what_lint_makes_itself_is_not_the_profiles_fault(self):
+        """Entries as the default need no instruction, and as many that allow need more than a filter has."""
+        given = profile(*(entry("socket", args=[(0, "GT", it), (1, "GT", it)], action=ERRNO)
+                          for it in range(2**40, 2**40 + 900)))
+        report = self.report(given)
+        self.assertNotIn("fault", report)
+        self.assertIn("always-met", [it["kind"] for it in report["untold"]])
 
     def test_the_list_beside_the_kernel(self):
         """What this kernel's tracepoints say of its syscalls."""
