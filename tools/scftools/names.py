@@ -1,13 +1,14 @@
-"""Names in a profile that mean nothing: of syscalls and of architectures."""
+"""Names in a profile that mean nothing: of syscalls, architectures, flags, actions and operators."""
 from __future__ import annotations
 
 import difflib
-from collections.abc import Iterator
+from collections.abc import Iterator, Sequence
 
 from . import tables
 from .entries import Object
 from .findings import Finding, listed, shown
 from .profiles import LETS_THROUGH
+from .reasons import HOLDS
 from .tables import Table
 
 X32 = "SCMP_ARCH_X32"
@@ -16,7 +17,9 @@ ARCHITECTURES = tuple(f"SCMP_ARCH_{it}" for it in (
     "X86_64 X86 X32 ARM AARCH64 LOONGARCH64 M68K MIPS MIPS64 MIPS64N32 MIPSEL MIPSEL64 MIPSEL64N32 PARISC PARISC64 PPC "
     "PPC64 PPC64LE RISCV64 S390 S390X SH SHEB").split())
 FLAGS = tuple(f"SECCOMP_FILTER_FLAG_{it}" for it in "TSYNC LOG SPEC_ALLOW WAIT_KILLABLE_RECV".split())
-# What others call these.
+ACTIONS = tuple(f"SCMP_ACT_{it}" for it in
+                "ALLOW LOG ERRNO TRACE TRAP NOTIFY KILL KILL_THREAD KILL_PROCESS".split())
+# What others call these architectures.
 ALIASES = {"AMD64": "X86_64", "X86-64": "X86_64", "X64": "X86_64", "ARM64": "AARCH64"}
 
 
@@ -51,12 +54,41 @@ def of_names(top: Object, table: Table) -> Iterator[Finding]:
                           {"entry": place, "names": twice})
 
 
-def _nearest_architecture(name: str) -> str | None:
-    if len(name) > tables.LONGEST:
+def _near(name: str, prefix: str, known: Sequence[str], count: int) -> str | None:
+    """The word that is most like a name behind the prefix that all have, if one is much like it; not of a name that
+    stands behind so many."""
+    if count >= tables.TOLD or len(name) > tables.LONGEST:
         return None
-    last = name.upper().removeprefix("SCMP_ARCH_")
-    likely = difflib.get_close_matches(f"SCMP_ARCH_{ALIASES.get(last, last)}", ARCHITECTURES, 1, 0.8)
-    return likely[0] if likely else None
+    last = name.upper().removeprefix(prefix)
+    likely = difflib.get_close_matches(ALIASES.get(last, last), [it[len(prefix):] for it in known], 1, 0.75)
+    return prefix + likely[0] if likely else None
+
+
+def _nearest(near: str | None) -> str:
+    return f"; the nearest is {near}" if near else ""
+
+
+def _words(top: Object) -> Iterator[tuple[str, str, object]]:
+    """The actions and operators of a profile that may be faulty: where each stands, whether it's an action, and it."""
+    yield "the default", "action", top.get("defaultAction")
+    syscalls = top.get("syscalls")
+    for place, entry in enumerate(syscalls if isinstance(syscalls, list) else []):
+        if isinstance(entry, Object):
+            yield f"entry {place}", "action", entry.get("action")
+            conditions = entry.get("args")
+            for at, one in enumerate(conditions if isinstance(conditions, list) else []):
+                if isinstance(one, Object):
+                    yield f"entry {place}, condition {at}", "operator", one.get("op")
+
+
+def of_words(top: Object) -> Iterator[Finding]:
+    """Actions and operators that there aren't, for which scf refuses a profile."""
+    known = {"action": ACTIONS, "operator": tuple(HOLDS)}
+    wrong = (it for it in _words(top) if isinstance(it[2], str) and it[2] not in known[it[1]])
+    for at, (where, kind, word) in enumerate(wrong):
+        near = _near(str(word), "SCMP_ACT_" if kind == "action" else "SCMP_CMP_", known[kind], at)
+        yield Finding(f"unknown-{kind}", f"{where}: {shown(str(word))} is no {kind}{_nearest(near)}",
+                      {"where": where, "name": word, "nearest": near})
 
 
 def of_flags(top: Object) -> Iterator[Finding]:
@@ -64,11 +96,9 @@ def of_flags(top: Object) -> Iterator[Finding]:
     given = top.get("flags")
     flags = [it for it in given if isinstance(it, str)] if isinstance(given, list) else []
     for at, name in enumerate(it for it in dict.fromkeys(flags) if it not in FLAGS):
-        is_near = at < tables.TOLD and len(name) <= tables.LONGEST
-        likely = difflib.get_close_matches(name, FLAGS, 1, 0.8) if is_near else []
-        nearest = f"; the nearest is {likely[0]}" if likely else ""
-        yield Finding("unknown-flag", f"flags: the OCI specification has no {shown(name)}{nearest}",
-                      {"name": name, "nearest": likely[0] if likely else None})
+        near = _near(name, "SECCOMP_FILTER_FLAG_", FLAGS, at)
+        yield Finding("unknown-flag", f"flags: the OCI specification has no {shown(name)}{_nearest(near)}",
+                      {"name": name, "nearest": near})
 
 
 def of_architectures(top: Object) -> Iterator[Finding]:
@@ -76,10 +106,9 @@ def of_architectures(top: Object) -> Iterator[Finding]:
     architectures = top.get("architectures", [])
     unknown = (it for it in dict.fromkeys(architectures) if it not in ARCHITECTURES)
     for at, name in enumerate(unknown):
-        near = _nearest_architecture(name) if at < tables.TOLD else None
-        nearest = f"; the nearest is {near}" if near else ""
+        near = _near(name, "SCMP_ARCH_", ARCHITECTURES, at)
         yield Finding("unknown-architecture", f"architectures: the OCI specification has no {shown(name)}, and runc "
-                      f"and crun refuse what they don't know{nearest}", {"name": name, "nearest": near})
+                      f"and crun refuse what they don't know{_nearest(near)}", {"name": name, "nearest": near})
     if architectures and X32 not in architectures:
         default = top["defaultAction"]
         then = f"the default, {default}, allows them all" if default in LETS_THROUGH else \

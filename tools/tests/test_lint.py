@@ -104,7 +104,7 @@ class Usage(Linted):
             expected = self.run_tool("compile", self.file("q.json", text))
             self.assertEqual(status, expected[0])
             self.assertEqual([line.replace("compile: ", "# ", 1) for line in expected[2].split("\n")[1:-1]],
-                             out.split("\n")[1:-2])
+                             [line for line in out.split("\n")[1:-2] if not line.startswith("unknown-action: ")])
             self.assertEqual(f"compile: {out.split(chr(10))[0]}", expected[2].split("\n")[0])
             self.assertEqual(self.report(text, status=1)["fault"]["source"], "profile")
         bad = self.file("bad.table", b"read\n")
@@ -116,7 +116,7 @@ class Usage(Linted):
     def test_a_refused_profile_is_not_one_without_findings(self):
         for text, last in (
                 (b"{", "the profile is refused: no more was looked at"),
-                (json.dumps(profile(entry("read"), entry("write", action="ALLOW"))).encode(),
+                (json.dumps(profile(entry("read"), {"names": ["write"]})).encode(),
                  "the profile is refused: no more was looked at"),
                 (json.dumps(profile(entry("reed"), entry("read"), entry("read", action=ERRNO, errnoRet=2))).encode(),
                  "the profile is refused; findings that need no comparison: 2")):
@@ -126,6 +126,21 @@ class Usage(Linted):
             self.assertEqual((status, out.split("\n")[-2]), (1, "# the profile is refused: no more was looked at"))
         status, out, _ = self.run_lint(profile(), "--table", self.file("bad.table", b"read\n"))
         self.assertEqual((status, out.split("\n")[-2]), (1, "# the table is refused: no more was looked at"))
+
+    def test_actions_and_operators_that_there_are_not(self):
+        """scf names the entry of the first; all of them are found, each with what is like it."""
+        given = profile(entry("read", action="SCMP_ACT_ALOW"), entry("write", action="allow"),
+                        entry("open", args=[(0, "MASK_EQ", 1)]), entry("close", action="DENY"))
+        found = self.found(given, kinds=("unknown-action", "unknown-operator"), status=1)
+        self.assertEqual([(it["where"], it["name"], it["nearest"]) for it in found],
+                         [("entry 0", "SCMP_ACT_ALOW", ALLOW), ("entry 1", "allow", ALLOW),
+                          ("entry 2, condition 0", "SCMP_CMP_MASK_EQ", "SCMP_CMP_MASKED_EQ"),
+                          ("entry 3", "DENY", None)])
+        self.assertEqual(self.run_lint(given)[1].split("\n")[-2],
+                         "# the profile is refused; findings that need no comparison: 4")
+        for odd in ([], [[]], [5], 5, [{"action": 5}], [{"action": "x", "args": 5}], [{"args": [5, {"op": 6}]}]):
+            status, _, err = self.run_lint({"defaultAction": "x", "syscalls": odd})
+            self.assertEqual((status, err), (1, ""))
 
     def test_a_filter_that_would_be_too_large(self):
         entries = [entry("socket", args=[(0, "GT", it), (1, "GT", it)]) for it in range(2**40, 2**40 + 4000)]
