@@ -289,7 +289,10 @@ def compiled(profile: bytes, table: Table) -> tuple[int, bytes, list[str]]:
         return done.status, b"", [fault.line, *of_fault(fault, profile, table)]
     # without a step the comparison says what was left out, and no more
     comparison = Comparison([Filter("the compiled one", done.out)], profile, table, "0")
-    return done.status, done.out, list(of_left_out(comparison, comparison.run(NATIVE)[1]))
+    report = comparison.run(NATIVE)[1]
+    facts = comparison.facts if report.skipped else None
+    return done.status, done.out, [*explaining.of_skipped(report, table, bool(facts and facts.lets_through_by_default)),
+                                   *explaining.of_killed_architectures(report)]
 
 
 def _side_json(verdict: Verdict, table: Table) -> dict[str, object]:

@@ -68,7 +68,17 @@ class Compile(Case):
         self.assertEqual(err, "compile: names of the profile that were skipped, since the table doesn't name such "
                               "calls: 2\ncompile: no call that is known here is called umont2; the nearest name of "
                               f"the table is umount2\n{LOST.replace('# ', 'compile: ')}"
-                              "compile: the other architectures of the profile aren't looked at\n")
+                              "compile: the profile is for SCMP_ARCH_X86, too: the filter kills a process that makes "
+                              "such a syscall\n")
+        # it says of the filter what the filter does
+        self.assertEqual(self.run_tool("run", "--arch", "0x40000003", "--nr", "3", self.file("made.bpf", out))[1].split(
+            "\n")[0].split()[0], "KILL_PROCESS")
+        for names, says in ((("X86_64",), ""), (("X86_64", "ARM"), "compile: the other architectures of the profile "
+                                                                    "aren't looked at\n"),
+                            (("X32", "X86_64", "X86"), "compile: the profile is for SCMP_ARCH_X86 and SCMP_ARCH_X32, "
+                             "too: the filter kills a process that makes such a syscall\n")):
+            given = {"defaultAction": "SCMP_ACT_ALLOW", "architectures": [f"SCMP_ARCH_{it}" for it in names]}
+            self.assertEqual(self.compiled(self.file("p.json", json.dumps(given)))[2], says)
 
     def test_refusals_go_to_standard_error(self):
         for profile, status, says in ((b"{", 1, "fault profile Json\ncompile: The text isn't JSON"),
