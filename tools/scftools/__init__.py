@@ -36,6 +36,7 @@ packages is imported. So it adds its own folder to the path of imports, by its r
     arguments   how many arguments a syscall has, and what they are
     conditions  conditions beside what the kernel does with an argument
     watchlist   dangerous syscalls, and those that the kernel restarts, in what a profile allows
+    siblings    syscalls that do what another one does
     lint        what is odd in a profile: all findings
     straces     logs of strace
     needing     what a program needs of a profile, by a log of strace

@@ -13,7 +13,7 @@ from test_output import HOSTILE
 sys.path.append(os.path.join(TOP, "tools"))
 
 import kernel_profiles  # noqa: E402
-from scftools import actions, arguments, program, tables, watchlist  # noqa: E402
+from scftools import actions, arguments, program, siblings, tables, watchlist  # noqa: E402
 
 ALLOW, ERRNO, TOP_OF = "SCMP_ACT_ALLOW", "SCMP_ACT_ERRNO", (1 << 64) - 1
 ACTIONS = ("ALLOW", "LOG", "ERRNO", "TRACE", "TRAP", "NOTIFY", "KILL", "KILL_THREAD", "KILL_PROCESS")
@@ -738,6 +738,35 @@ class HighHalf(Running):
         found = self.results(given, [(number, 0xFFFFFFFF), (number, 0x1FFFFFFFF)])
         self.assertEqual(found[0], (-1, 77))
         self.assertEqual(found[1][1], 0)
+
+
+class Siblings(Linted):
+    """Denials that another syscall makes void."""
+
+    def void(self, *entries, **members):
+        return [(it["entry"], it["name"], it["allowed"]) for it in self.found(
+            profile(*entries, **members), kinds=("sibling-allowed",))]
+
+    def test_the_list(self):
+        table = tables.read(TABLE)
+        for name, others in siblings.SIBLINGS.items():
+            for one in (name, *others.split()):
+                self.assertIsNotNone(table.number_of(one), one)
+
+    def test_denials(self):
+        deny = {"action": ERRNO, "errnoRet": 1}
+        self.assertEqual(self.void(entry("mkdir", "open", **deny), default=ALLOW),
+                         [(0, "mkdir", ["mkdirat"]), (0, "open", ["openat", "openat2"])])
+        self.assertEqual(self.void(entry("mkdir", "mkdirat", **deny), entry("open", "openat", **deny), default=ALLOW),
+                         [(1, "open", ["openat2"])])
+        self.assertEqual(self.void(entry("mkdir", action="SCMP_ACT_KILL"), entry("mkdirat")),
+                         [(0, "mkdir", ["mkdirat"])])
+        for one in (entry("mkdir", action=ERRNO, errnoRet=38), entry("mkdir", action="SCMP_ACT_TRACE"),
+                    entry("mkdir", args=[(1, "EQ", 0)], **deny), entry("mkdirat", **deny), entry("close", **deny)):
+            self.assertEqual(self.void(one, default=ALLOW), [], one)
+        # by the default, which wasn't written for it
+        self.assertEqual(self.void(entry("mkdirat")), [])
+        self.assertEqual(self.void(entry("mkdir", action="SCMP_ACT_KILL"), entry("mkdirat", args=[(0, "EQ", 3)])), [])
 
 
 class Effects(Linted):
