@@ -52,7 +52,9 @@ class Linted(Case):
 
     def found(self, given, *words, kinds=(), status=0):
         """The findings of some kinds."""
-        return [it for it in self.report(given, *words, status=status)["findings"] if it["kind"] in kinds]
+        ended, out, err = self.run_lint(given, "--json", *words)
+        self.assertEqual((ended, err), (status, ""))
+        return [it for it in json.loads(out)["findings"] if it["kind"] in kinds]
 
     def effects(self, *entries, default=ERRNO, **members):
         """Each entry that is covered or without effect, as its place, whether all of it is, and why."""
@@ -81,6 +83,12 @@ class Usage(Linted):
         status, out, err = self.run_lint(odd, "--except", "everything")
         self.assertEqual((status, out), (2, ""))
         self.assertIn("invalid choice", err)
+
+    def test_lines_and_json_say_the_same(self):
+        self.assertGreater(len(self.report(profile(
+            entry("reed", "mkdir", "mkdir", action=ERRNO, errnoRet=600, arg=1), entry("ptrace", "poll"),
+            entry("socket", args=[(0, "NE", 40)]), entry("dup", args=[(1, "GE", 0)]), entry("mkdirat"),
+            architectures=["SCMP_ARCH_X86_64", "x"], flags=["y"]))["findings"]), 11)
 
     def test_inputs(self):
         given = json.dumps(profile(entry("reed")))
