@@ -138,10 +138,14 @@ class Denials:
             return None
         low, high = (it[one.index] for it in pair)
         where = "by the default" if by is None else f"by entry {by}"
-        return Finding("high-half", f"{name} ({number}) is denied with {low:#x} as argument {one.index} ({denied}), "
-                       f"and allowed with {high:#x} {where}: the kernel reads the lower 32 bits alone, and makes the "
-                       "same syscall of both", {"name": name, "argument": one.index, "denied": hex(low),
-                                                "allowed": hex(high), "entry": by})
+        asked_of = {it.index for entry in self._of_number[number] for it in entry.conditions}
+        others = {at: hex(pair[0].get(at, 0)) for at in sorted(asked_of - {one.index})}
+        beside = "".join(f", beside {value} as argument {at}" for at, value in others.items())
+        return Finding("high-half", f"{name} ({number}) is denied with {low:#x} as argument {one.index}{beside} "
+                       f"({denied}), and allowed with {high:#x} {where}: the kernel reads the lower 32 bits alone, and "
+                       "makes the same syscall of both",
+                       {"name": name, "argument": one.index, "denied": hex(low), "allowed": hex(high), "entry": by,
+                        "others": {str(at): value for at, value in others.items()}})
 
     def run(self, found: Sequence[Entry]) -> Iterator[Finding]:
         """Each syscall and argument once, where a denial is evaded."""

@@ -732,6 +732,11 @@ class HighHalf(Running):
         self.assertEqual(self.evaded(both, default=ALLOW), [("socket", 0, "0x10", "0x100000010"),
                                                             ("socket", 2, "0x9", "0x100000009")])
 
+        found = self.found(profile(both, default=ALLOW), kinds=("high-half",))
+        self.assertEqual([it["others"] for it in found], [{"2": "0x9"}, {"0": "0x10"}])
+        self.assertIn("socket (41) is denied with 0x10 as argument 0, beside 0x9 as argument 2 (ERRNO 1), and allowed "
+                      "with 0x100000010 by the default: ", found[0]["text"])
+
     def test_values_of_more_than_32_bits(self):
         found = self.found(profile(entry("openat", args=[(0, "EQ", 2**64 - 100)])), kinds=("high-half",))
         self.assertEqual([(it["entry"], it["names"]) for it in found], [(0, ["openat"])])
