@@ -51,8 +51,10 @@ class Members:
                 yield Finding("unread-member", f"{where}: nothing reads {shown(name)}{nearest}",
                               {**at, "member": name, "nearest": near})
         for name in value.repeated:
+            keeps = isinstance(members.get(name), list) and isinstance(members[name][0], dict)
+            then = ", of whose entries programs in Go keep what the one before had there" if keeps else ""
             yield Finding("repeated-member", f"{where}: {shown(name)} stands there more than once, and the last is "
-                          "taken", {**at, "member": name})
+                          f"taken{then}", {**at, "member": name})
 
     def of_condition(self, condition: Object, where: str, place: int) -> Iterator[Finding]:
         yield from self.of_object(condition, profiles.ARGUMENT, where, place)

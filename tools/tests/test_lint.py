@@ -262,8 +262,17 @@ class Members(Linted):
                b'"action":"SCMP_ACT_ALLOW"}]}'
         found = self.found(text, kinds=self.KINDS)
         self.assertEqual([(it["kind"], it["entry"], it["member"]) for it in found], [("repeated-member", 0, "action")])
+        self.assertTrue(found[0]["text"].endswith(": action stands there more than once, and the last is taken"))
         # the last is taken
         self.assertEqual(self.run_tool("ask", self.file("q.json", text))[1].split("\n")[0], "ALLOW 0 entry 0")
+
+
+    def test_lists_that_stand_twice(self):
+        """A second list's entries are decoded into those of the first (Decoder in encoding/json)."""
+        for text, is_list in ((b'{"defaultAction":"SCMP_ACT_ERRNO","syscalls":[],"syscalls":[]}', True),
+                              (b'{"defaultAction":"SCMP_ACT_ERRNO","flags":[],"flags":[]}', False)):
+            found = self.found(text, kinds=self.KINDS)
+            self.assertEqual(["programs in Go keep" in it["text"] for it in found], [is_list])
 
 
 class Defaults(Linted):
