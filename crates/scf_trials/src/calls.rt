@@ -6,7 +6,7 @@
 
 use crate::lines::{Lines, tell_twice, twice};
 use crate::{facts, rows};
-use scf_compare::{Relation, Scope, Verdict, compare, compare_stack};
+use scf_compare::{Relation, Scope, Verdict, compare, compare_stack, compare_within};
 use scf_compile::compile;
 use scf_facts::WordSets;
 use scf_insn::{Answer, CallRecord, Counted, Insn, Memory, read_input, read_program};
@@ -163,6 +163,20 @@ fn compare_filters<R: Print>(lines: &mut Lines<R>, alloc: Global, profile: &Prof
             lines,
             "compare_stack",
             compare_stack::<WordSets>(alloc, &stack, profile, Scope::All, LIMIT)
+        );
+        let mut left = LIMIT;
+        tell_twice!(
+            lines,
+            "compare_within",
+            compare_within::<WordSets>(
+                alloc,
+                &stack,
+                profile,
+                Scope::All,
+                Relation::Same,
+                LIMIT,
+                &mut left,
+            )
         );
     }
 }
