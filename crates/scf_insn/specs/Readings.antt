@@ -14,7 +14,7 @@ abbrev pub read_len : ℕ
 read_len = 4096
 
 -- What an input of these bytes may be read as under a limit: its bytes, or that it is past the limit. A failure of
--- the reader and want of memory may stand in place of either.
+-- the reader and running out of memory may stand in place of either.
 abbrev pub IsInput : {V : Type 0} → (V → List ℕ) → ℕ → List ℕ → Result V InputFault → Type 0
 IsInput view limit bytes (Ok read) = (bytes ≡ view read) × (length bytes ≤ limit)
 IsInput view limit bytes (Err PastLimit) = limit < length bytes
@@ -22,7 +22,7 @@ IsInput view limit bytes (Err CantRead) = Unit {0}
 IsInput view limit bytes (Err NoMemory) = Unit {0}
 
 -- What a filter file of these bytes may be read as: the list that has the bytes; a cut instruction, by the place of
--- its first byte; more bytes than those of the most instructions. A failure of the reader and want of memory may stand
+-- its first byte; more bytes than those of the most instructions. A failure of the reader and running out of memory may stand
 -- in place of these.
 abbrev pub IsReading : {V : Type 0} → (V → List Insn) → List ℕ → Result V ReadFault → Type 0
 IsReading view bytes (Ok insns) = (bytes ≡ program_bytes (view insns)) × (length bytes ≤ max_filter_len)

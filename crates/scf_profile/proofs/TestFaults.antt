@@ -59,7 +59,7 @@ profile_test : (table : Names) (root : Data) → IsTest (profile_of table root)
 unfolding profile_of seccomp_of no_engine_form
 profile_test table root = search (tests, answer_test, entry_test) depth 40 fits 4000
 
--- what the value of a text fails first, or want of memory
+-- what the value of a text fails first, or out of memory
 pub refuses_of_fault : (text : List ℕ) (table : Names) (d : Data) (e : LoadFault) → IsText text d
     → (e ≢ faults.Memory → profile_of table d ≡ Err e) → Refuses text table e
 refuses_of_fault text table d faults.Memory is_text fails = tt

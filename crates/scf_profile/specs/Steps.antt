@@ -10,7 +10,7 @@ abbrev pub ◌>>=◌ : {A B E : Type 0} → Result A E → (A → Result B E) �
 abbrev pub refused_if : {E : Type 0} → Bool → E → Result ⊤ E
 refused_if test fault = if test then Err fault else Ok tt
 
--- A function returned what the tests give, or want of memory in place of it.
+-- A function returned what the tests give, or out of memory in place of it.
 abbrev pub Gives : {A E : Type 0} → E → Result A E → Result A E → Type 0
 Gives memory (Ok x) stated = stated ≡ Ok x
 Gives memory (Err e) stated = e ≢ memory → stated ≡ Err e

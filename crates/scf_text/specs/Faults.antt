@@ -12,7 +12,7 @@ use Rattle.scf_text.specs.ParsedInsns.{FieldValue, Number, Label, ParsedInsn, pa
 use Rattle.scf_text.specs.Statements.{Statement, SymbolTable, symbols_in, statements_of, parsed_insns_in, parsed_insns_of}
 use Rattle.scf_text.specs.Statements.{label_in, instruction_in}
 
--- The fault is the first one, or want of memory.
+-- The fault is the first one, or out of memory.
 abbrev pub IsFault : TextFault → Option TextFault → Type 0
 IsFault fault.Memory first = Unit {0}
 IsFault e first = first ≡ Some e

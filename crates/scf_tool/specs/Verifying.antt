@@ -138,7 +138,7 @@ IsNoProfile names bytes (Profile fault) =
     IfSome bytes (λ told. (length told ≤ max_text_len) × Refuses told names fault)
 IsNoProfile names bytes fault = ⊥
 
--- why a table and a profile state nothing that is compared: the first that isn't read, or want of memory behind both
+-- why a table and a profile state nothing that is compared: the first that isn't read, or out of memory behind both
 abbrev pub IsProfileFault : Option (List ℕ) → Option (List ℕ) → VerifyFault → Type 0
 IsProfileFault table profile fault =
     IsNoTable table fault ⊎ ((names : Names) × IsTable table names × (IsNoProfile names profile fault

@@ -60,7 +60,7 @@ fn undo<F: WordFacts, R: Print>(lines: &mut Lines<R>, call: &str, facts: &mut F)
     }
 }
 
-/// Learns, opens a mark, learns more and goes back. A list takes four answers without a second growth.
+/// Learns, opens a mark, learns more and goes back. A list takes four answers without a second allocation.
 fn walk<F: WordFacts, R: Print>(lines: &mut Lines<R>, names: &Names, facts: &mut F) {
     let before = [
         (ge(0, 5), true),

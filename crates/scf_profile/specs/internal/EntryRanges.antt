@@ -17,6 +17,6 @@ pub record AreStatedRules (rules : List Rule) : Type 0 where
   pub each : All IsRule rules
   pub one_answer : (r s : Rule) → Contains rules r → Contains rules s → r.entry ≡ s.entry → r.answer ≡ s.answer
 
--- a fault other than want of memory tells that the rules are too many, and they are
+-- a fault other than out of memory tells that the rules are too many, and they are
 abbrev pub TellsTooMany : List Rule → LoadFault → Type 0
 TellsTooMany rules fault = fault ≢ faults.Memory → (fault ≡ faults.TooMany) × (max_rules < length rules)

@@ -7,7 +7,7 @@ use Rattle.scf_profile.specs.declared.load_fault.LoadFault.TheVariants as faults
 use Rattle.scf_profile.specs.Limits.{max_text_len}
 use Rattle.scf_profile.specs.Loading.{IsText, IsLeastConflict}
 
--- the conflict that a fault names is the least of the rules, or the fault is want of memory
+-- the conflict that a fault names is the least of the rules, or the fault is out of memory
 abbrev pub NamesLeastConflict : List Rule → LoadFault → Type 0
 NamesLeastConflict rules faults.Memory = Unit {0}
 NamesLeastConflict rules (faults.Conflict number first second) = IsLeastConflict rules number first second

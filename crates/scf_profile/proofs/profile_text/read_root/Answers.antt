@@ -7,7 +7,7 @@ use Rattle.scf_profile.specs.internal.Results.{result_map}
 use Rattle.scf_profile.proofs.StatedRules.{stated_rules}
 use Rattle.scf_profile.proofs.profile_text.read_root.Goals as goal
 
--- a fault that is handed on is what the root states, but for want of memory
+-- a fault that is handed on is what the root states, but when memory runs out
 handed_on : (result : Result Stated LoadFault) (fault : LoadFault) (stated : Result Loaded LoadFault)
     → IsErrAnd result (λ e. e ≡ fault) → (fault ≢ Memory → stated ≡ Err fault)
     → Gives Memory (result_map loaded_of result) stated
