@@ -3,20 +3,28 @@
 A runtime starts a hook with the container's state on standard input (OCI runtime specification, runtime.md: State, and
 config.md: POSIX-platform Hooks). The process is known by a pidfd (pidfd_open(2)) as soon as its number is, so that no
 other process that comes to that number is taken for it, or ended in its place.
+
+The look and the comparison are done by a worker, and the hook itself only waits for what it reports, so that a deadline
+holds whatever the worker hangs in. A watchdog kills where the hook is stopped or ended before it has come to that.
 """
 from __future__ import annotations
 
+import errno
 import json
 import math
 import os
+import select
 import signal
+import stat
 import sys
 import time
-from collections.abc import Callable, Sequence
+from collections.abc import Callable, Iterator, Sequence
 from dataclasses import dataclass
 
-from . import comparing, engines, inputs, output, processes, program, verdicts, verifying
+from . import (comparing, containers, engines, inputs, output, processes, profiles, program, verdicts, verifying)
 from .processes import Found, Kernel
+from .tables import Table
+from .watchdog import Watchdog, Worker
 
 TYPE_CHECKING = False
 if TYPE_CHECKING:
@@ -25,14 +33,20 @@ if TYPE_CHECKING:
 CONFIG = "config.json"
 # The container's own program isn't executed yet; runc calls a poststart hook so.
 CREATED = "created"
-# How long a process without a filter is left alone before it is looked at again, in seconds: a runtime may call its
-# hooks while the filter isn't loaded yet.
+# How often the threads of a process without a filter are looked at again, in seconds: a runtime may call its hooks while
+# the filter isn't loaded yet.
 PAUSE = 0.02
 # A hook has no environment but the one that is named.
 PATH = "PATH=/usr/local/sbin:/usr/local/bin:/usr/sbin:/usr/bin:/sbin:/bin"
-# How long a runtime lets the hook run beyond its wait, in seconds: threads take some time to stop (`PATIENCE` of
-# `processes`), and then the filters are compared.
-BEYOND_WAIT = 60
+# How long is waited for the container's state, for processes that were killed to end, for the explanation of what is
+# known already, and how much later than the hook the watchdog acts, in seconds.
+STATE_SECONDS, KILL_SECONDS, EXPLANATION_SECONDS, GRACE = 5.0, 2.0, 10.0, 1.0
+# How long it may take beyond the wait for a filter until it is known whether the container is confined.
+DEADLINE = 30.0
+OF_NO_GROUP = ("the container has neither a PID namespace nor a control group of its own: its first process was looked at, "
+               "and those that descend from it")
+# How much time the hook file leaves for what isn't waited for: the tool's own start, and its end.
+STARTUP = 10
 
 
 class Failed(Exception):
@@ -78,112 +92,371 @@ def container_of(data: bytes) -> Container:
     return Container(name, status, pid, bundle)
 
 
-def configured(container: Container, keeps_first: bool) -> bytes | None:
-    """The profile of the container's config.json, or None where it states none."""
+def state(seconds: float) -> bytes:
+    """What the runtime writes to standard input, which it closes then, within so many seconds."""
+    until, found = time.monotonic() + seconds, b""
+    while len(found) <= inputs.LIMITS["state"]:
+        try:
+            if not select.select([0], [], [], max(0.0, until - time.monotonic()))[0]:
+                raise Failed(f"the container's state didn't come on standard input within {seconds:g} seconds")
+            piece = os.read(0, 1 << 16)
+        except OSError as error:
+            raise Failed(inputs.why("-", "state", error)) from error
+        if not piece:
+            return found
+        found += piece
+    raise Failed(f"the state on standard input has more than {inputs.LIMITS['state']} bytes")
+
+
+def contents(name: str) -> bytes:
+    """What a configuration holds. A pipe or a device isn't opened: it may never end."""
+    try:
+        is_other = not stat.S_ISREG(os.stat(name).st_mode)
+    except (OSError, ValueError):
+        is_other = False
+    if is_other and not os.path.isdir(name):
+        raise Failed(f"'{name}' isn't a regular file")
+    return inputs.read_whole(name, "profile")
+
+
+def configured(container: Container) -> dict[str, Any] | None:
+    """What the container's config.json says of seccomp, as a config.json with nothing else in it, or None where it says
+    nothing. Runtimes read `linux.seccomp` alone, whatever else stands there."""
     name = os.path.join(container.bundle, CONFIG)
     try:
-        data = inputs.read_whole(name, "profile")
-        value = engines.read(data)
-        linux = value.get("linux") if isinstance(value, dict) else None
-        if not isinstance(value, dict) or not isinstance(linux or {}, dict):
-            raise Failed(f"'{name}' is no configuration of a container")
-        if (linux or {}).get("seccomp") is None:
-            return None
-        if not keeps_first:
-            return data
-        resolver = engines.Resolver(engines.Setting((), (0, 0), False), lambda _: None)
-        profile = resolver.resolved(value)
-        resolver.keep_first(profile)
-        return engines.printed(profile).encode()
+        value = engines.read(contents(name))
     except (program.Refused, engines.Refused) as why:
+        raise Failed(f"the container's configuration: {why}") from why
+    linux = member(value, "linux", name)
+    seccomp = None if linux is None else member(linux, "seccomp", name)
+    return None if seccomp is None else {"linux": {"seccomp": seccomp}}
+
+
+def member(value: Any, wanted: str, path: str) -> Any:
+    """A member of an object of a configuration; refused where a runtime in Go reads another one as it, too."""
+    if not isinstance(value, dict):
+        raise Failed(f"'{path}' is no configuration of a container")
+    others = [it for it in value if it != wanted and profiles.folded(it) == wanted]
+    if others:
+        raise Failed(f"'{path}' has a member '{others[0]}', which runc reads as {wanted} and crun doesn't")
+    return value.get(wanted)
+
+
+def asked_of(config: dict[str, Any], keeps_first: bool, table: Table, limit: str | None,
+             relation: str) -> verifying.Asked:
+    """What is asked of a container with this configuration."""
+    try:
+        text = json.dumps(config)
+        if keeps_first:
+            resolver = engines.Resolver(engines.Setting((), (0, 0), False), lambda _: None)
+            profile = resolver.resolved(config)
+            resolver.keep_first(profile)
+            text = engines.printed(profile)
+        return verifying.Asked(text.encode(), table, limit, comparing.NATIVE, relation)
+    except RecursionError as error:
+        raise Failed("the container's configuration: the profile is nested too deep") from error
+    except engines.Refused as why:
         raise Failed(f"the container's configuration: {why}") from why
 
 
+@dataclass(frozen=True)
+class Members:
+    """The processes of a container."""
+
+    numbers: Callable[[], list[int]]
+    # Whether the kernel ends them with the first one.
+    end_together: bool = False
+    remarks: Sequence[str] = ()
+    # What is said of others, of which it can't be known whether they are the container's, too.
+    others_told: Callable[[], str | None] = lambda: None
+
+
+def members_of(kernel: Kernel, pid: int) -> Members:
+    """The processes of a container whose first one this is: those of its PID namespace where it is the first one there,
+    too, else those of its control group, where this tool isn't in that group itself."""
+    if kernel.status_of(pid).get("NSpid", "").split()[1:][-1:] == ["1"]:
+        space = kernel.namespaces_of(pid)[:1]
+        return Members(lambda: [it for it in kernel.processes() if set(space) & set(kernel.namespaces_of(it))],
+                       end_together=True)
+    try:
+        found = processes.container_of(kernel, pid)
+        if found.group is not None and os.getpid() not in found.processes():
+            return Members(found.processes, others_told=lambda: containers.others_told(kernel, found))
+    except processes.Unreadable:
+        pass
+    return Members(lambda: descendants(kernel, pid), remarks=(OF_NO_GROUP,))
+
+
+def descendants(kernel: Kernel, pid: int) -> list[int]:
+    """A process and those that descend from it."""
+    parents = {it: kernel.status_of(it).get("PPid") for it in kernel.processes()}
+    found, last = [pid], [pid]
+    while last:
+        last = [it for it, parent in parents.items() if parent in set(map(str, last)) and it not in found]
+        found += last
+    return found
+
+
+def sent(file: int, number: int) -> int | None:
+    """Sends a signal by a pidfd; the errno where that fails."""
+    try:
+        signal.pidfd_send_signal(file, number)
+    except OSError as error:
+        return error.errno
+    return None
+
+
+def held_by(pid: int) -> Iterator[int]:
+    """A pidfd of a process, where it is there."""
+    try:
+        yield os.pidfd_open(pid)
+    except OSError:
+        pass
+
+
 class Process:
-    """The container's process, the same one whatever becomes of its number."""
+    """The container's first process, the same one whatever becomes of its number, and the others of the container."""
 
     def __init__(self, container: Container) -> None:
         self.container = container
+        self.kernel = Kernel()
         try:
             self.file = os.pidfd_open(container.pid)
         except ProcessLookupError as error:
             raise Failed(f"there is no process {container.pid}") from error
         except OSError as error:
             raise Failed(f"process {container.pid} can't be held: {error.strerror}") from error
+        self.members = members_of(self.kernel, container.pid)
 
-    def is_there(self) -> bool:
-        try:
-            signal.pidfd_send_signal(self.file, 0)
-        except ProcessLookupError:
-            return False
-        except OSError:
-            pass
-        return True
+    def has_ended(self, seconds: float = 0.0) -> bool:
+        """Whether it has ended, or does so within so many seconds: a pidfd can be read then (pidfd_open(2))."""
+        return bool(select.select([self.file], [], [], seconds)[0])
 
-    def kill(self) -> str:
-        """Ends it, and says so."""
-        try:
-            signal.pidfd_send_signal(self.file, signal.SIGKILL)
-        except ProcessLookupError:
-            return f"process {self.container.pid} has ended already"
-        except OSError as error:
-            return f"process {self.container.pid} can't be killed: {error.strerror}"
-        return f"process {self.container.pid} was killed"
+    def kill(self) -> Killed:
+        """Ends it and the others of the container."""
+        pid, until = self.container.pid, time.monotonic() + KILL_SECONDS
+        was_there = not self.has_ended()
+        others = {} if self.members.end_together else self.held_others()
+        why = sent(self.file, signal.SIGKILL)
+        count = self.kill_others(others, until)
+        more = f", and {count} more of the container" if count else ""
+        if not was_there or why == errno.ESRCH:
+            return Killed(count > 0, f"process {pid} has ended already" + (f"{more} were killed" if more else ""))
+        if why is not None:
+            return Killed(False, f"process {pid} can't be killed: {os.strerror(why)}")
+        if not self.has_ended(max(0.0, until - time.monotonic())):
+            return Killed(True, f"SIGKILL was sent to process {pid}{more}; it hasn't ended yet")
+        return Killed(True, f"process {pid} was killed{more}")
 
-    def look(self, kernel: Kernel) -> Found:
-        """What its threads have; before the container's program is executed, what the thread has that executes it."""
+    def kill_others(self, others: dict[int, int], until: float) -> int:
+        """Ends processes that are held, and those that they have begun meanwhile: how many."""
+        killed: set[int] = set()
+        while others:
+            killed.update(pid for pid, file in others.items() if sent(file, signal.SIGKILL) is None)
+            for file in others.values():
+                os.close(file)
+            if time.monotonic() > until:
+                break
+            time.sleep(0.001)
+            others = self.held_others()
+        return len(killed)
+
+    def held_others(self) -> dict[int, int]:
+        """The pidfds of the other processes that run, each held before it was listed again."""
+        held = {pid: file for pid in self.running_others() for file in held_by(pid)}
+        still = set(self.running_others())
+        for pid in held.keys() - still:
+            os.close(held[pid])
+        return {pid: file for pid, file in held.items() if pid in still}
+
+    def running_others(self) -> list[int]:
+        return [it for it in self.members.numbers()
+                if it != self.container.pid and self.kernel.status_of(it).get("State", "Z")[:1] not in "ZX"]
+
+    def threads(self) -> dict[int, int]:
+        """The threads of all processes of the container; of the first one, before the container's program is executed,
+        the one alone that executes it."""
         pid = self.container.pid
-        thread = pid if self.container.status == CREATED else None
-        found = processes.look_at_process(kernel, pid, thread)
-        if not self.is_there():
-            raise processes.Unreadable(f"process {pid} ended meanwhile")
+        threads = self.kernel.threads_of(pid)
+        found = {it: pid for it in threads if it == pid or self.container.status != CREATED}
+        for other in self.members.numbers():
+            found.update((it, other) for it in self.kernel.threads_of(other) if other != pid)
         return found
 
-    def confined(self, kernel: Kernel, seconds: float) -> Found:
-        """What its threads have, once each has a filter or so many seconds went by."""
+    def look(self, is_forced: bool = False) -> Found:
+        """What all threads have."""
+        pid = self.container.pid
+        found = processes.look(self.kernel, self.threads, processes.PATIENCE, is_forced)
+        if pid not in found.names or self.has_ended():
+            raise processes.Unreadable(f"process {pid} {found.passed_over.get(pid, 'ended meanwhile')}")
+        return found
+
+    def has_filters(self) -> bool:
+        """Whether no thread is there without a filter, as far as that can be told without stopping it."""
+        of_threads = [self.kernel.status_of(it) for it in self.threads()]
+        return all(it.get("Seccomp") != "0" or it.get("State", "Z")[:1] in "ZX" for it in of_threads)
+
+    def confined(self, seconds: float, is_forced: bool) -> Found:
+        """What all threads have, once each has a filter or so many seconds went by."""
         until = time.monotonic() + seconds
-        while True:
-            found = self.look(kernel)
-            if all(stack.filters or stack.is_strict for stack in found.stacks) or time.monotonic() >= until:
-                return found
+        while not self.has_ended() and not self.has_filters() and time.monotonic() < until:
             time.sleep(PAUSE)
+        return self.look(is_forced)
+
+
+@dataclass(frozen=True)
+class Killed:
+    """Whether a process was ended, and what is said of it."""
+
+    is_so: bool
+    line: str
+
+
+@dataclass
+class Finding:
+    """What is known of a container: a status and a verdict; and what else there is to say, which may take long to find,
+    as lines and as an object."""
+
+    status: int
+    verdict: str | None
+    lines: Callable[[], list[str]]
+    value: Callable[[], dict[str, object]]
 
 
 @dataclass
 class Result:
-    """What was found: a status, lines, and the same as an object."""
+    """What was found: a status, a verdict, lines, and the same as an object."""
 
     status: int
+    verdict: str | None
     lines: Sequence[str]
     value: dict[str, object]
 
 
-def judged(found: Found, asked: verifying.Asked) -> Result:
+def verdict_of(block: verifying.Block) -> str | None:
+    if block.report is None:
+        return "strict" if block.stack.is_strict else "unconfined"
+    return block.report.verdict.word if block.report.verdict else None
+
+
+def finding_of(found: Found, asked: verifying.Asked, members: Members) -> Finding:
     """What is said of each distinct stack, but for the names that were left out, which are counted."""
-    blocks = verifying.blocks(found, asked)
-    lines = [line for line in verifying.lines(blocks, found, asked.scope)
-             if line and not line.startswith(verdicts.LEFT_OUT)]
-    return Result(verifying.worst(blocks), lines, verifying.as_json(blocks, found, asked.scope, None))
+    blocks, others = verifying.blocks(found, asked), members.others_told()
+    status, verdict = verifying.worst(blocks), verdict_of(blocks[0])
+    if others is not None and status == program.WELL:
+        status, verdict = program.UNKNOWN, None
+    remarks = [*asked.remarks, *members.remarks, *([others] if others else [])]
+
+    def lines() -> list[str]:
+        own = [line for line in verifying.lines(blocks, found, asked.scope)
+               if line and not line.startswith(verdicts.LEFT_OUT)]
+        return own + [f"# {it}" for it in remarks]
+
+    def value() -> dict[str, object]:
+        own = verifying.as_json(blocks, found, asked.scope, None)
+        return {**own, "status": status, "verdict": verdict, "remarks": remarks}
+
+    return Finding(status, verdict, lines, value)
 
 
-def unstated(is_allowed: bool) -> Result:
+def stated(status: int, verdict: str | None, line: str) -> Finding:
+    """What a line says."""
+    value: dict[str, object] = {"status": status, "scope": comparing.NATIVE, "verdict": verdict}
+    return Finding(status, verdict, lambda: [line], lambda: value if verdict else {**value, "why": line})
+
+
+def result(finding: Finding) -> Result:
+    return Result(finding.status, finding.verdict, finding.lines(), finding.value())
+
+
+def unstated(is_allowed: bool) -> Finding:
     """The configuration states no profile."""
-    status = program.WELL if is_allowed else program.REFUSED
-    return Result(status, ["the configuration states no seccomp profile: the container isn't confined"],
-                  {"status": status, "scope": comparing.NATIVE, "verdict": "unstated"})
+    return stated(program.WELL if is_allowed else program.REFUSED, "unstated",
+                  "the configuration states no seccomp profile: the container isn't confined")
 
 
-def failed(why: str) -> Result:
-    return Result(program.FAILED, [why], {"status": program.FAILED, "scope": comparing.NATIVE, "verdict": None,
-                                          "why": why})
+def failed(why: str, status: int = program.FAILED) -> Finding:
+    return stated(status, None, why)
 
 
-def write_log(name: str, result: Result, lines: Sequence[str]) -> None:
+def report(finding: Finding, is_json: bool, send: Callable[[object], None]) -> None:
+    """What a worker sends: what is known, and then what else there is to say."""
+    send([finding.status, finding.verdict])
+    send(finding.lines())
+    if is_json:
+        send(finding.value())
+
+
+def result_of(worker: Worker, seconds: float, is_json: bool, settle: Callable[[int], None]) -> Result:
+    """What a worker finds within so many seconds. `settle` is called as soon as the status is known."""
+    known = worker.receive(time.monotonic() + seconds)
+    if known is None:
+        finding = unknown(worker.status(), seconds)
+        settle(finding.status)
+        return result(finding)
+    status, verdict = known
+    settle(status)
+    until = time.monotonic() + EXPLANATION_SECONDS
+    found = result(stated(status, verdict, f"the explanation isn't given: it takes longer than {EXPLANATION_SECONDS:g} "
+                                           f"seconds"))
+    found.lines = worker.receive(until) or found.lines
+    found.value = is_json and worker.receive(until) or found.value
+    return found
+
+
+def unknown(status: int | None, seconds: float) -> Finding:
+    """A worker has found nothing: it ended so, or goes on."""
+    if status is None:
+        return failed(f"it wasn't known within {seconds:g} seconds", program.UNKNOWN)
+    if status == program.NO_PROGRAM:
+        return failed("scf can't be run", program.NO_PROGRAM)
+    how = f"signal {-status}" if status < 0 else f"status {status}"
+    return failed(f"the look was ended with {how}")
+
+
+class Examination:
+    """A container that is to be found confined within so many seconds, and else is killed if that is asked: as soon as
+    that is known, before it is explained."""
+
+    def __init__(self, process: Process, seconds: float, kills: bool) -> None:
+        self.process = process
+        self.seconds = seconds
+        self.kills = kills
+        self.killed: list[Killed] = []
+        self.watchdog: Watchdog | None = None
+
+    def result(self, find: Callable[[], Finding], is_json: bool) -> Result:
+        try:
+            if self.kills:
+                self.watchdog = Watchdog(self.bark, time.monotonic() + self.seconds + GRACE)
+            worker = Worker(lambda send: report(guarded(find), is_json, send),
+                            [self.watchdog.end] if self.watchdog else [])
+        except OSError as error:
+            self.settle(program.FAILED)
+            return result(failed(f"no process can be begun: {error.strerror}"))
+        return result_of(worker, self.seconds, is_json, self.settle)
+
+    def settle(self, status: int) -> None:
+        """What is done when the status is known."""
+        if self.kills and status != program.WELL:
+            self.killed.append(self.process.kill())
+        if self.watchdog is not None:
+            self.watchdog.dismiss()
+
+    def bark(self) -> None:
+        """What the watchdog does."""
+        killed = self.process.kill()
+        line = f"{self.process.container.told}: the hook was ended or stopped: {killed.line}"
+        output.say(program.name(), line)
+        write_log(program.name(), program.FAILED, [line])
+
+
+def write_log(name: str, status: int, lines: Sequence[str]) -> None:
     """Writes lines to the system log; where there is none, they are lost."""
     import syslog  # pylint: disable=import-outside-toplevel
 
     syslog.openlog(output.escaped(name), syslog.LOG_PID, syslog.LOG_DAEMON)
-    level = syslog.LOG_INFO if result.status == program.WELL else syslog.LOG_ERR
+    level = syslog.LOG_INFO if status == program.WELL else syslog.LOG_ERR
     for line in lines:
         syslog.syslog(level, output.escaped(line))
     syslog.closelog()
@@ -192,11 +465,10 @@ def write_log(name: str, result: Result, lines: Sequence[str]) -> None:
 def verdict_line(container: Container | None, result: Result) -> str:
     """A line that says how it came out."""
     who = container.told if container else "a container"
-    verdict = result.value.get("verdict")
     if result.status == program.WELL:
-        return f"{who}: confined as configured ({verdict})"
-    if result.status == program.REFUSED and verdict is not None:
-        return f"{who}: not confined as configured ({verdict})"
+        return f"{who}: confined as configured ({result.verdict})"
+    if result.status == program.REFUSED and result.verdict is not None:
+        return f"{who}: not confined as configured ({result.verdict})"
     return f"{who}: it can't be told whether it is confined as configured"
 
 
@@ -215,10 +487,12 @@ def hook_words(words: Sequence[str]) -> list[str]:
     return found
 
 
-def hook_file(path: str, words: Sequence[str], wait: float) -> str:
-    """The text of a file for hooks.d, as oci-hooks(5) has it, that calls this tool for each container."""
+def hook_file(path: str, words: Sequence[str], seconds: float) -> str:
+    """The text of a file for hooks.d, as oci-hooks(5) has it, that calls this tool for each container. A runtime is to
+    wait longer than the tool itself, to which it takes so many seconds until it knows."""
+    longest = seconds + STATE_SECONDS + KILL_SECONDS + EXPLANATION_SECONDS + GRACE
     hook = {"path": path, "args": [os.path.basename(path), *hook_words(words)], "env": [PATH],
-            "timeout": math.ceil(wait) + BEYOND_WAIT}
+            "timeout": math.ceil(longest) + STARTUP}
     return json.dumps({"version": "1.0.0", "hook": hook, "when": {"always": True}, "stages": ["poststart"]},
                       indent=4) + "\n"
 
@@ -228,12 +502,13 @@ def own_path() -> str:
     return os.path.abspath(sys.argv[0])
 
 
-def guarded(look: Callable[[], Result]) -> Result:
+def guarded(find: Callable[[], Finding]) -> Finding:
     """What is found; where that fails, whatever fails, why."""
     try:
-        return look()
+        return find()
     except (Failed, program.Refused) as why:
-        return failed(str(why))
+        return failed(str(why), program.NO_PROGRAM if getattr(why, "status", None) == program.NO_PROGRAM
+                      else program.FAILED)
     except MemoryError:
         return failed("memory was refused")
     except OSError as error:

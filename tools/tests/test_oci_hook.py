@@ -1,8 +1,7 @@
-"""tools/oci-hook: states and bundles made here, with a child of the test as the container's process; and containers of
-a real runc and a real crun, where they are."""
+"""tools/oci-hook: states and bundles made here, with a child of the test as the container's process. Containers of real
+runtimes are in test_hook_containers."""
 import json
 import os
-import shutil
 import signal
 import subprocess
 import sys
@@ -11,12 +10,12 @@ import time
 import unittest
 from unittest import mock
 
-from common import PATIENCE, TOP, comes, tool
-from confined import Confined, FakeKernel, here
-from test_filters_of import MOUNT, ROOT, UMOUNT2, refuses, refusing
+from common import ALLOW, KILL_PROCESS, PATIENCE, TOP, X86_64, comes, insn, jeq, jge, load, ret, tool
+from confined import Confined, FakeKernel, here, let_on, status_of
+from test_filters_of import MOUNT, UMOUNT2, refuses, refusing
 
 sys.path.insert(0, os.path.join(TOP, "tools"))
-from scftools import hooks, processes, program  # noqa: E402 pylint: disable=wrong-import-position
+from scftools import hooks, processes, program, tables  # noqa: E402 pylint: disable=wrong-import-position
 
 NO_MEMBER = object()
 
@@ -50,12 +49,12 @@ class Hook(Confined):
             self.assertTrue(line.startswith("oci-hook: "), err)
         return [line[10:] for line in lines]
 
-    def fails(self, given, says, *words):
+    def fails(self, given, says, *words, at=1):
         status, out, err = self.run_tool("oci-hook", *words, given=given)
         self.assertEqual((status, out), (3, ""), err)
         lines = self.lines(err)
         self.assertTrue(lines[0].endswith(": it can't be told whether it is confined as configured"), lines)
-        self.assertIn(says, lines[1])
+        self.assertIn(says, lines[at])
         return lines
 
 
@@ -113,7 +112,8 @@ class OfStates(Hook):
         child = self.child([refusing(MOUNT)])
         child.kill()
         self.wait_for(child.pid, "Z")
-        self.fails(self.state(child.pid, self.bundle(refuses("mount"))), f"process {child.pid} has ended", "--kill")
+        lines = self.fails(self.state(child.pid, self.bundle(refuses("mount"))), "has ended already", "--kill")
+        self.assertIn(f"process {child.pid} has ended, and only waits", lines[2])
 
     def test_hostile_names(self):
         """Of a container, of a bundle: no line is forged, and nothing reaches a terminal."""
@@ -140,7 +140,11 @@ class OfStates(Hook):
         done = subprocess.run([found["hook"]["path"], *found["hook"]["args"][1:]], input=b"{}", check=False,
                               stderr=subprocess.PIPE, env=dict(it.split("=", 1) for it in found["hook"]["env"]))
         self.assertEqual(done.returncode, 3, done.stderr)
-        self.assertEqual(self.run_tool("oci-hook", "--print-hook", "--wait", "x")[0], 2)
+        read, write = os.pipe()
+        for file in (read, write):
+            self.addCleanup(os.close, file)
+        for words in (["--wait", "x"], ["--kill", "--wait", "x"]):
+            self.assertEqual(self.run_tool("oci-hook", "--print-hook", *words, given=read)[0], 2)
 
     def printed_hook(self, *words):
         status, out, err = self.run_tool("oci-hook", "--print-hook", *words)
@@ -149,10 +153,14 @@ class OfStates(Hook):
 
     def test_the_timeout_of_the_file_for_hooks(self):
         """It is a whole number, and leaves time to stop the threads and to compare after the wait."""
-        for words, wait in (((), 1), (("--wait", "0"), 0), (("--wait=0.5",), 1), (("--kill", "--wait", "60"), 60)):
+        for words, wait, deadline in (((), 1, hooks.DEADLINE), (("--wait", "0"), 0, hooks.DEADLINE),
+                                      (("--wait=0.5", "--deadline=300"), 0.5, 300),
+                                      (("--kill", "--wait", "60", "--deadline", "0.1"), 60, 0.1)):
             timeout = self.printed_hook(*words)["timeout"]
-            self.assertEqual((timeout, type(timeout)), (wait + 60, int), words)
-            self.assertGreater(timeout, wait + 2 * processes.PATIENCE)
+            self.assertIs(type(timeout), int)
+            self.assertGreater(timeout, wait + deadline + hooks.STATE_SECONDS + hooks.KILL_SECONDS
+                               + hooks.EXPLANATION_SECONDS + hooks.GRACE)
+        self.assertGreater(hooks.DEADLINE, 2 * processes.PATIENCE)
 
     def test_the_table_of_the_file_for_hooks(self):
         """A runtime calls the hook elsewhere: the path is the absolute one."""
@@ -177,7 +185,7 @@ class OfProcesses(Hook):
             self.assertEqual(found, status, lines)
             word = "not confined" if status else "confined"
             self.assertEqual(lines[:2], [f"container box: {word} as configured ({verdict})", verdict])
-            self.assertIn(f"# process {child.pid} (", lines[-1])
+            self.assertIn(f"# process {child.pid} (", lines[-2])
             self.runs_on(child)
 
     def test_what_differs_is_shown(self):
@@ -224,7 +232,7 @@ class OfProcesses(Hook):
             self.runs_on(child)
             status, lines = self.hook(child, profile, *words, "--kill")
             self.assertNotEqual(status, 0)
-            self.assertEqual(lines[-1], f"process {child.pid} was killed")
+            self.assertEqual(lines[1], f"process {child.pid} was killed")
             self.assertEqual(child.wait(PATIENCE), -signal.SIGKILL)
         child = self.child([refusing(UMOUNT2)])
         self.assertEqual(self.hook(child, refuses("umount2"), "--kill")[0], 0)
@@ -242,6 +250,89 @@ class OfProcesses(Hook):
         self.fails(self.state(child.pid, os.path.join(self.folder, "none")), "there is no file '")
         self.fails(self.state(child.pid, self.bundle(b" " * (1 << 22 | 1))), "has more than")
         self.runs_on(child)
+
+    def test_wrong_words(self):
+        """A misspelt option lets nothing run that isn't known to be confined."""
+        for words, status in ((["--polcy=same"], 0), (["--kill", "--polcy=same"], -signal.SIGKILL)):
+            child = self.child([refusing(MOUNT)])
+            found, _, err = self.run_tool("oci-hook", *words, given=self.state(child.pid, self.bundle(
+                refuses("mount"))))
+            self.assertEqual(found, 2)
+            self.assertIn("unrecognized arguments: --polcy=same", err)
+            if not status:
+                self.assertNotIn("container box", err)
+                self.runs_on(child)
+                child.stdin.close()
+            self.assertEqual(child.wait(PATIENCE), status)
+
+    def test_no_program(self):
+        child = self.child([refusing(MOUNT)])
+        tree = self.made_tree("#!/bin/sh\necho 'no compiler' >&2\nexit 125\n")
+        status, _, err = self.run_words([f"{tree}/tools/oci-hook", "--kill"], self.state(child.pid, self.bundle(
+            refuses("mount"))))
+        self.assertEqual((status, child.wait(PATIENCE)), (125, -signal.SIGKILL), err)
+        self.assertIn("no compiler\n", err)
+
+    def test_others_that_cannot_be_told(self):
+        """Of a process it can't be known whether it is the container's, too."""
+        child = self.child([refusing(MOUNT)])
+        process = hooks.Process(hooks.container_of(self.state(child.pid, self.bundle(refuses("mount")))))
+        asked = hooks.asked_of(hooks.configured(process.container), False, tables.read(None), None, "same")
+        for told, expected in ((None, (0, "same")), ("others are there", (4, None))):
+            finding = hooks.finding_of(process.look(), asked, hooks.Members(list, others_told=lambda it=told: it))
+            self.assertEqual((finding.status, finding.verdict), expected)
+            self.assertEqual("# others are there" in finding.lines(), told is not None)
+
+    def test_members_that_are_one_in_go(self):
+        """What runc reads as the profile, and crun doesn't, is refused."""
+        own = json.loads(refuses("mount"))
+        for config in ({"linux": {"seccomp": own}, "Linux": {}}, {"linux": {"seccomp": own, "\u017feccomp": own}},
+                       {"LINUX": {"seccomp": own}}):
+            status, lines = self.hook(self.child([refusing(MOUNT)]), json.dumps(config).encode())
+            self.assertEqual(status, 3)
+            self.assertIn("which runc reads as", lines[1])
+
+    def test_a_profile_beside_the_one_that_runtimes_read(self):
+        """They read `linux.seccomp` alone."""
+        other, own = json.loads(refuses("umount2")), json.loads(refuses("mount"))
+        for config, status in (({**other, "linux": {"seccomp": own}}, 0), ({**own, "linux": {"seccomp": other}}, 1),
+                               (own, 1), ({"linux": {**own, "seccomp": {"linux": {"seccomp": own}}}}, 1)):
+            for words in ((), ("--keep-first",)):
+                found, lines = self.hook(self.child([refusing(MOUNT)]), json.dumps(config).encode(), *words)
+                if status == 0:
+                    self.assertEqual(found, 0, lines)
+                else:
+                    self.assertNotEqual(found, 0, lines)
+        self.assertEqual(self.hook(self.child([refusing(MOUNT)]), json.dumps(own).encode())[1][0],
+                         "container box: not confined as configured (unstated)")
+
+    def test_a_configuration_that_is_no_file(self):
+        bundle = os.path.join(self.folder, "odd")
+        os.mkdir(bundle)
+        path = f"{bundle}/config.json"
+        for make, says in ((os.mkfifo, "isn't a regular file"), (os.mkdir, "is a folder"),
+                           (lambda it: os.symlink("/dev/zero", it), "isn't a regular file")):
+            make(path)
+            child = self.child([refusing(MOUNT)])
+            self.fails(self.state(child.pid, bundle), says, "--kill", at=2)
+            self.assertEqual(child.wait(PATIENCE), -signal.SIGKILL)
+            (os.rmdir if os.path.isdir(path) else os.remove)(path)
+
+    def test_a_process_begun_before_the_filter(self):
+        """It isn't confined, though the first process is; both are killed."""
+        child, late = self.child([]), self.file("late", refusing(MOUNT))
+        self.do(child, f"import subprocess; print(subprocess.Popen(['sleep', '1000']).pid, flush=True); "
+                       f"confine([{late!r}]); print('confined', flush=True)")
+        other = int(child.stdout.readline())
+        self.addCleanup(comes, lambda: not os.path.exists(f"/proc/{other}"))
+        self.assertEqual(child.stdout.readline(), "confined\n")
+        status, lines = self.hook(child, refuses("mount"), "--wait=0", "--kill")
+        self.assertEqual((status, lines[:2]), (1, [
+            "container box: not confined as configured (unconfined)",
+            f"process {child.pid} was killed, and 1 more of the container"]))
+        self.assertIn(f"# process {other} (sleep) has no filter: it isn't confined, and all calls are made", lines)
+        self.assertEqual(child.wait(PATIENCE), -signal.SIGKILL)
+        self.assertTrue(comes(lambda: not os.path.exists(f"/proc/{other}")))
 
     def test_a_configuration_that_states_no_profile(self):
         lines = self.hook(self.child([]), None)[1]
@@ -276,6 +367,150 @@ class OfProcesses(Hook):
         self.assertFalse([line for line in lines if line.startswith("skipped ")])
 
 
+def slow(count):
+    """A filter of which it is known at once that it makes mount, which is slow to explain: each other call goes both
+    ways at each of many tests."""
+    tests = b"".join(load(16 + 8 * (at % 6)) + insn(0x24, 2 * at + 3) + insn(0x45, 1 << at % 31, 1, 0) + insn(0x05, 0)
+                     for at in range(count))
+    return (load(4) + jeq(X86_64, 1, 0) + ret(KILL_PROCESS) + load(0) + jge(0x40000000, 0, 1) + ret(KILL_PROCESS)
+            + jeq(MOUNT, 0, 1) + ret(ALLOW) + tests + ret(ALLOW))
+
+
+@here
+class OfTime(Hook):
+    """Nothing that the hook or the container does keeps a container that isn't known to be confined running."""
+
+    def begin(self, child, *words, profile=refuses("mount"), **settings):
+        """A hook that is begun and given the state of a child."""
+        hook = subprocess.Popen([tool("oci-hook"), *words], stdin=subprocess.PIPE, stdout=subprocess.DEVNULL,
+                                stderr=subprocess.PIPE, **settings)
+        self.addCleanup(hook.stderr.close)
+        self.addCleanup(hook.wait)
+        self.addCleanup(hook.kill)
+        hook.stdin.write(self.state(child.pid, self.bundle(profile)))
+        hook.stdin.close()
+        return hook
+
+    def is_watched(self, hook):
+        """Waits until a hook has begun its watchdog and its worker, in process groups of their own."""
+        self.assertTrue(comes(lambda: [os.getpgid(it) for it in self.children(hook)] == self.children(hook) != []
+                              and len(self.children(hook)) == 2))
+
+    def children(self, hook):
+        with open(f"/proc/{hook.pid}/task/{hook.pid}/children", encoding="ascii") as file:
+            return [int(it) for it in file.read().split()]
+
+    def is_killed(self, child, seconds):
+        began = time.monotonic()
+        self.assertEqual(child.wait(PATIENCE), -signal.SIGKILL)
+        self.assertLess(time.monotonic() - began, seconds)
+
+    def is_let_on(self, child, fifo):
+        """Lets a child go on once the one that reads the pipe isn't held any more."""
+        self.assertTrue(comes(lambda: let_on(fifo) or status_of(child.pid)["State"][0] != "D"))
+
+    def test_a_look_that_does_not_end(self):
+        """A thread doesn't stop: it counts as not known at the deadline."""
+        child, fifo = self.stuck([refusing(MOUNT)])
+        hook = self.begin(child, "--kill", "--deadline=0.5", "--wait=0")
+        self.assertEqual(hook.wait(PATIENCE), 4)
+        lines = self.lines(hook.stderr.read().decode())
+        self.assertEqual(lines[::2], ["container box: it can't be told whether it is confined as configured",
+                                      "it wasn't known within 0.5 seconds"])
+        # (the kernel ends a process in vfork(2) as soon as its child is out of it)
+        self.assertIn(f"process {child.pid}", lines[1])
+        self.is_let_on(child, fifo)
+        self.is_killed(child, 30)
+
+    def test_the_deadline_without_kill(self):
+        child, fifo = self.stuck([refusing(MOUNT)])
+        hook = self.begin(child, "--deadline=0.5", "--wait=0")
+        self.assertEqual(hook.wait(PATIENCE), 4)
+        self.is_let_on(child, fifo)
+        self.assertTrue(comes(lambda: status_of(child.pid)["TracerPid"] == "0"))
+        self.runs_on(child)
+
+    def test_the_hook_is_ended(self):
+        """As a runtime ends it at its timeout; the container is killed at once."""
+        child = self.child([])
+        hook = self.begin(child, "--kill", "--wait=60")
+        self.is_watched(hook)
+        hook.kill()
+        self.is_killed(child, 20)
+        said = self.lines(hook.stderr.read().decode())
+        self.assertEqual(said, [f"container box: the hook was ended or stopped: process {child.pid} was killed"])
+
+    def test_the_worker_ends_with_the_hook(self):
+        child = self.child([])
+        hook = self.begin(child, "--wait=60")
+        self.assertTrue(comes(lambda: self.children(hook)))
+        worker, = self.children(hook)
+        hook.kill()
+        hook.wait()
+        self.assertTrue(comes(lambda: processes.Kernel().status_of(worker).get("State", "Z")[0] in "ZX"))
+        self.runs_on(child)
+
+    def test_the_hook_is_stopped(self):
+        """It, and all of its process group."""
+        child = self.child([])
+        hook = self.begin(child, "--kill", "--wait=0.5", "--deadline=0.5", start_new_session=True)
+        self.is_watched(hook)
+        os.killpg(hook.pid, signal.SIGSTOP)
+        self.is_killed(child, 20)
+        self.assertEqual(hook.wait(PATIENCE), -signal.SIGKILL)
+
+    def test_the_worker_is_ended(self):
+        child = self.child([])
+        hook = self.begin(child, "--kill", "--wait=60")
+        self.is_watched(hook)
+        os.kill(self.children(hook)[1], signal.SIGKILL)
+        self.assertEqual(hook.wait(PATIENCE), 3)
+        self.is_killed(child, 20)
+        self.assertIn("the look was ended with signal 9", hook.stderr.read().decode())
+
+    def test_a_confined_one_runs_on(self):
+        """Also behind the deadline of the watchdog, which is dismissed."""
+        child = self.child([refusing(MOUNT)])
+        hook = self.begin(child, "--kill", "--wait=0", "--deadline=2")
+        self.assertEqual(hook.wait(PATIENCE), 0, hook.stderr.read())
+        time.sleep(2.1 + hooks.GRACE)
+        self.runs_on(child)
+
+    def test_it_is_killed_before_it_is_explained(self):
+        child = self.child([slow(100)])
+        hook = self.begin(child, "--kill")
+        self.is_killed(child, 20)
+        self.assertIsNone(hook.poll())
+
+    def test_an_explanation_that_takes_too_long(self):
+        child = subprocess.Popen(["sleep", "1000"])
+        self.addCleanup(child.kill)
+        process = hooks.Process(hooks.container_of(self.state(child.pid, "/none")))
+        examination = hooks.Examination(process, 60, True)
+        with mock.patch.object(hooks, "EXPLANATION_SECONDS", 0.1):
+            found = examination.result(lambda: hooks.Finding(1, "differs", lambda: time.sleep(5), dict), True)
+        self.assertEqual((found.status, found.verdict, found.value), (1, "differs", {
+            "status": 1, "scope": "native", "verdict": "differs"}))
+        self.assertEqual(found.lines, ["the explanation isn't given: it takes longer than 0.1 seconds"])
+        self.assertEqual(examination.killed, [hooks.Killed(True, f"process {child.pid} was killed")])
+        self.is_killed(child, 20)
+
+    def test_no_standard_input(self):
+        """A pipe that nobody writes to or closes; one that never ends; none."""
+        read, write = os.pipe()
+        for file in (read, write):
+            self.addCleanup(os.close, file)
+        for given, says in ((read, "didn't come on standard input within 0.2 seconds"),
+                            (os.open("/dev/zero", os.O_RDONLY), "has more than 1048576 bytes")):
+            status, _, err = self.run_tool("oci-hook", "--kill", "--deadline=0.2", "--wait=0", given=given)
+            self.assertEqual(status, 3)
+            self.assertIn(says, err)
+        done = subprocess.run(["sh", "-c", 'exec "$0" "$@" <&-', tool("oci-hook"), "--kill"], stderr=subprocess.PIPE,
+                              check=False)
+        self.assertEqual(done.returncode, 3)
+        self.assertIn(b"the state standard input can't be read: Bad file descriptor", done.stderr)
+
+
 class Inside(Hook):
     """What a runtime, a kernel or a log would have to be brought to do."""
 
@@ -290,11 +525,12 @@ class Inside(Hook):
         child.wait()
         kernel = FakeKernel([refusing(MOUNT)])
         kernel.threads_of = lambda _: [child.pid]
+        process.kernel, process.members = kernel, hooks.Members(lambda: [child.pid])
         with self.assertRaises(processes.Unreadable) as caught:
-            process.look(kernel)
+            process.look()
         self.assertEqual(str(caught.exception), f"process {child.pid} ended meanwhile")
         with mock.patch("os.kill") as kill:
-            self.assertEqual(process.kill(), f"process {child.pid} has ended already")
+            self.assertEqual(process.kill(), hooks.Killed(False, f"process {child.pid} has ended already"))
         kill.assert_not_called()
 
     def test_whatever_fails(self):
@@ -302,116 +538,18 @@ class Inside(Hook):
         for error, says in ((MemoryError(), "memory was refused"),
                             (OSError(5, "failed"), "it can't be looked at: failed"),
                             (program.Refused("no scf", program.NO_PROGRAM), "no scf"), (hooks.Failed("no"), "no")):
-            result = hooks.guarded(mock.Mock(side_effect=error))
-            self.assertEqual((result.status, result.lines, result.value["verdict"]), (3, [says], None))
+            result = hooks.result(hooks.guarded(mock.Mock(side_effect=error)))
+            status = 125 if says == "no scf" else 3
+            self.assertEqual((result.status, result.lines, result.value["verdict"]), (status, [says], None))
 
     def test_the_log(self):
         """A line each, escaped; as an error where the process isn't known to be confined."""
         for status, level in ((0, 6), (1, 3), (3, 3)):
             with mock.patch("syslog.syslog") as log, mock.patch("syslog.openlog") as opened:
-                hooks.write_log("oci-hook", hooks.Result(status, [], {}),
-                                ["differs", "# \x1b[2J\n%s"])
+                hooks.write_log("oci-hook", status, ["differs", "# \x1b[2J\n%s"])
             self.assertEqual([it.args for it in log.call_args_list], [(level, "differs"),
                                                                       (level, "# \\x1b[2J\\x0a%s")])
             self.assertEqual(opened.call_args.args[0], "oci-hook")
-
-
-@here
-@ROOT
-class Runtimes(Hook):
-    """A container of a real runtime, whose config.json may say something else by the time the hook is called."""
-
-    def setUp(self):
-        super().setUp()
-        self.name = f"scf-hook-{os.getpid()}"
-        self.busybox = shutil.which("busybox")
-        os.makedirs(f"{self.folder}/box/rootfs/proc")
-
-    def configure(self, runtime, stated, words):
-        """A configuration of a container whose hook finds `stated` in place of the profile that was loaded."""
-        where = os.path.join(self.folder, "box")
-        if os.path.exists(f"{where}/config.json"):
-            os.remove(f"{where}/config.json")
-        subprocess.run([runtime, "spec"], cwd=where, check=True)
-        os.makedirs(f"{where}/rootfs/bin", exist_ok=True)
-        shutil.copy2(self.busybox, f"{where}/rootfs/bin/busybox")
-        with open(f"{where}/config.json", encoding="utf-8") as file:
-            config = json.load(file)
-        config["process"].update(terminal=False, args=["busybox", "sleep", "1000"])
-        loaded = {"defaultAction": "SCMP_ACT_ALLOW", "architectures": ["SCMP_ARCH_X86_64"],
-                  "syscalls": [{"names": ["mount", "ptrace"], "action": "SCMP_ACT_ERRNO", "errnoRet": 1}]}
-        config["linux"]["seccomp"] = stated
-        other = self.file("other.json", json.dumps(config))
-        path = {"env": [f"PATH={os.environ['PATH']}"]}
-        config["linux"]["seccomp"] = loaded
-        # a runtime may take long to load the filter
-        config["hooks"] = {"poststart": [
-            {"path": "/bin/cp", "args": ["cp", other, f"{where}/config.json"], **path},
-            {"path": tool("oci-hook"), "args": ["oci-hook", "--wait=60", *words], **path}]}
-        self.file("box/config.json", json.dumps(config))
-
-    def run_runtime(self, runtime):
-        """The status and what is said. crun takes no hybrid control groups: it is run where there are none."""
-        without = "mount --make-rprivate / && umount /sys/fs/cgroup/unified; exec \"$@\""
-        shown = ["unshare", "--mount", "sh", "-c", without, "sh"] if os.path.ismount("/sys/fs/cgroup/unified") else []
-        self.words = [*(shown if runtime == "crun" else []), runtime]
-        with open(os.path.join(self.folder, "said"), "w+b") as said:
-            done = subprocess.run([*self.words, "run", "--detach", "--pid-file", f"{self.folder}/pid", self.name],
-                                  cwd=f"{self.folder}/box", check=False, stdin=subprocess.DEVNULL, stdout=said,
-                                  stderr=said, timeout=PATIENCE)
-            said.seek(0)
-            return done.returncode, said.read().decode(errors="replace")
-
-    def runs(self, is_to_end):
-        """Whether the container's process runs a moment later; one that is to end is waited for."""
-        name = f"{self.folder}/pid"
-        if not os.path.exists(name):
-            return False
-        with open(name, encoding="ascii") as file:
-            pid = int(file.read())
-        os.remove(name)
-
-        def has_ended():
-            return processes.Kernel().status_of(pid).get("State", "Z")[0] in "ZX"
-
-        if is_to_end:
-            return not comes(has_ended)
-        time.sleep(0.3)
-        return not has_ended()
-
-    def container(self, runtime, refused, *words, is_to_end=False):
-        """How a runtime ended whose hook finds a profile that refuses these calls, what it said, and whether the
-        container's process runs on."""
-        if not shutil.which(runtime) or not self.busybox:
-            self.skipTest(f"there is no {runtime}, or no busybox, here")
-        self.configure(runtime, json.loads(refuses(*refused)), words)
-        try:
-            status, said = self.run_runtime(runtime)
-            return status, said, self.runs(is_to_end)
-        finally:
-            subprocess.run([*self.words, "delete", "--force", self.name], stderr=subprocess.DEVNULL, check=False)
-
-    def starts(self, runtime):
-        """Skips a test where the runtime starts no container at all; one that is confined as configured runs."""
-        status, said, runs = self.container(runtime, ["mount", "ptrace"], "--kill")
-        if status and "oci-hook" not in said:
-            self.skipTest(f"{runtime} starts no container here: {said.strip()}")
-        self.assertEqual((status, runs), (0, True), said)
-
-    def test_runc(self):
-        """A container whose hook fails is refused."""
-        self.starts("runc")
-        status, said, runs = self.container("runc", ["mount", "chroot"], is_to_end=True)
-        self.assertEqual((status, runs), (1, False), said)
-        self.assertIn(f"container {self.name}: not confined as configured (differs)", said)
-        status, said, runs = self.container("runc", ["mount"], "--policy", "no-more")
-        self.assertEqual((status, runs), (0, True), said)
-
-    def test_crun(self):
-        """A container whose hook fails runs on, but for --kill."""
-        self.starts("crun")
-        self.assertEqual(self.container("crun", ["mount", "chroot"])[::2], (0, True))
-        self.assertEqual(self.container("crun", ["mount", "chroot"], "--kill", is_to_end=True)[2], False)
 
 
 if __name__ == "__main__":
