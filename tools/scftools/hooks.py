@@ -21,7 +21,8 @@ import time
 from collections.abc import Callable, Iterator, Sequence
 from dataclasses import dataclass
 
-from . import (comparing, containers, engines, inputs, output, processes, profiles, program, verdicts, verifying)
+from . import (comparing, containers, engines, inputs, output, processes, profiles, program, runtimes, verdicts,
+               verifying)
 from .processes import Found, Kernel
 from .tables import Table
 from .watchdog import Watchdog, Worker
@@ -142,10 +143,13 @@ def member(value: Any, wanted: str, path: str) -> Any:
     return value.get(wanted)
 
 
-def asked_of(config: dict[str, Any], keeps_first: bool, table: Table, limit: str | None,
+def asked_of(config: dict[str, Any], runtime: str | None, keeps_first: bool, table: Table, limit: str | None,
              relation: str) -> verifying.Asked:
-    """What is asked of a container with this configuration."""
+    """What is asked of a container with this configuration, as its runtime applies it."""
     try:
+        if runtime is not None:
+            return verifying.Asked.of_runtime(runtimes.applied(config, runtime), table, limit, comparing.NATIVE,
+                                              relation)
         text = json.dumps(config)
         if keeps_first:
             resolver = engines.Resolver(engines.Setting((), (0, 0), False), lambda _: None)

@@ -277,7 +277,7 @@ class OfProcesses(Hook):
         """Of a process it can't be known whether it is the container's, too."""
         child = self.child([refusing(MOUNT)])
         process = hooks.Process(hooks.container_of(self.state(child.pid, self.bundle(refuses("mount")))))
-        asked = hooks.asked_of(hooks.configured(process.container), False, tables.read(None), None, "same")
+        asked = hooks.asked_of(hooks.configured(process.container), None, False, tables.read(None), None, "same")
         for told, expected in ((None, (0, "same")), ("others are there", (4, None))):
             finding = hooks.finding_of(process.look(), asked, hooks.Members(list, others_told=lambda it=told: it))
             self.assertEqual((finding.status, finding.verdict), expected)
