@@ -1,0 +1,334 @@
+"""tools/oci-hook in containers of a real runc, crun and podman, where they are and start containers."""
+import contextlib
+import json
+import os
+import re
+import shutil
+import subprocess
+import time
+import unittest
+
+from common import comes, tool
+from confined import here
+from test_filters_of import ROOT, refuses
+from test_oci_hook import Hook, processes
+from test_processes import EXECUTE
+from test_runtimes import MOBY, PODMAN
+from scftools import ptrace
+
+BUSYBOX = shutil.which("busybox")
+LOADED = {"defaultAction": "SCMP_ACT_ALLOW", "architectures": ["SCMP_ARCH_X86_64"],
+          "syscalls": [{"names": ["mount", "ptrace"], "action": "SCMP_ACT_ERRNO", "errnoRet": 1}]}
+# crun takes no mix of both versions of control groups: it is run where there is none.
+HYBRID = "/sys/fs/cgroup/unified"
+WITHOUT = ["unshare", "--mount", "--propagation", "private", "sh", "-c", f'umount {HYBRID}; exec "$@"', "sh"]
+ALONE = WITHOUT if os.path.ismount(HYBRID) else []
+PATH = {"env": [f"PATH={os.environ['PATH']}"]}
+# Limits that nobody needs a capability for, and folders and locks of podman's own.
+CONTAINERS = """[containers]
+netns = "none"
+default_ulimits = ["nofile=1024:1024", "nproc=1000:1000"]
+pids_limit = 0
+[engine]
+cgroup_manager = "cgroupfs"
+events_logger = "none"
+lock_type = "file"
+tmp_dir = "{0}/tmp"
+static_dir = "{0}/static"
+volume_path = "{0}/volumes"
+"""
+STORAGE = """[storage]
+driver = "vfs"
+graphroot = "{0}/root"
+runroot = "{0}/run"
+"""
+# A pause that is over soon; what needs longer hangs.
+SECONDS = 60
+
+
+def state_of(pid):
+    return processes.Kernel().status_of(pid).get("State", "Z")[0]
+
+
+def has_ended(pid):
+    return state_of(pid) in "ZX"
+
+
+@here
+@ROOT
+class Containers(Hook):
+    """A bundle, and containers that a runtime makes of it."""
+
+    def setUp(self):
+        super().setUp()
+        if not BUSYBOX:
+            self.skipTest("there is no busybox here")
+        self.name = f"scf-hook-{os.getpid()}"
+        self.where = os.path.join(self.folder, "box")
+        for name in ("bin", "proc", "dev", "sys", "tmp", "etc", "run"):
+            os.makedirs(f"{self.where}/rootfs/{name}")
+        shutil.copy2(BUSYBOX, f"{self.where}/rootfs/bin/busybox")
+        for name in ("sh", "sleep", "true"):
+            os.symlink("busybox", f"{self.where}/rootfs/bin/{name}")
+
+    def words_of(self, runtime):
+        """How a runtime is called; skips the test where it isn't there."""
+        if not shutil.which(runtime):
+            self.skipTest(f"there is no {runtime} here")
+        return [*(ALONE if runtime == "crun" else []), runtime, "--root", f"{self.folder}/{runtime}"]
+
+    def configure(self, loaded, stated, words, args=("sleep", "1000"), shared=(), hooks=None):
+        """A configuration with a profile, whose hook finds another one that is stated in its place."""
+        runtime = shutil.which("runc") or shutil.which("crun")
+        subprocess.run([runtime, "spec"], cwd=self.where, check=True)
+        with open(f"{self.where}/config.json", encoding="utf-8") as file:
+            config = json.load(file)
+        config["process"].update(terminal=False, args=list(args), rlimits=[])
+        config["linux"]["namespaces"] = [it for it in config["linux"]["namespaces"] if it["type"] not in shared]
+        config["linux"]["seccomp"] = stated
+        other = self.file("other.json", json.dumps(config))
+        config["linux"]["seccomp"] = loaded
+        config["hooks"] = {**(hooks or {}), "poststart": [
+            {"path": shutil.which("cp"), "args": ["cp", other, f"{self.where}/config.json"], **PATH},
+            # a runtime may take long to load the filter
+            {"path": tool("oci-hook"), "args": ["oci-hook", "--wait=30", *words], **PATH}]}
+        self.file("box/config.json", json.dumps(config))
+
+    def said(self, words, **settings):
+        """A run of which a container may keep the output open: the status, and what was said."""
+        with open(os.path.join(self.folder, "said"), "w+b") as said:
+            done = subprocess.run(words, cwd=self.folder, check=False, stdin=subprocess.DEVNULL, stdout=said,
+                                  stderr=said, timeout=SECONDS, **settings)
+            said.seek(0)
+            return done.returncode, said.read().decode(errors="replace")
+
+    @contextlib.contextmanager
+    def container(self, runtime, loaded=None, stated=None, *words, **settings):
+        """A container: how the runtime ended, what was said, and the process, None where there is none."""
+        call = self.words_of(runtime)
+        loaded = LOADED if loaded is None else loaded
+        self.configure(loaded, loaded if stated is None else stated, words, **settings)
+        pid_file = f"{self.folder}/pid"
+        try:
+            status, said = self.said([*call, "run", "--detach", "--bundle", self.where, "--pid-file", pid_file,
+                                      self.name])
+            if status and "oci-hook" not in said:
+                self.skipTest(f"{runtime} starts no container here: {said.strip()}")
+            pid = None
+            if os.path.exists(pid_file):
+                with open(pid_file, encoding="ascii") as file:
+                    pid = int(file.read())
+                os.remove(pid_file)
+            yield status, said, pid
+        finally:
+            self.said([*call, "delete", "--force", self.name])
+            os.remove(f"{self.where}/config.json")
+
+    def by_hand(self, runtime, *words):
+        """The hook, called with the state of a container that runs."""
+        state = subprocess.run([*self.words_of(runtime), "state", self.name], stdout=subprocess.PIPE, check=True).stdout
+        status, _, err = self.run_tool("oci-hook", *words, given=state)
+        return status, self.lines(err)
+
+    def is_same(self, pid, profile, *words):
+        """verify-process says it plainly."""
+        status, out, err = self.run_tool("verify-process", "--all", *words, str(pid), profile)
+        self.assertEqual((status, out.split("\n")[0]), (0, "same"), err)
+        self.assertFalse([line for line in out.split("\n") if "differ" in line], out)
+
+    def text(self, path):
+        with open(path, encoding="utf-8") as file:
+            return file.read()
+
+    def called(self, *words):
+        """The processes that were called so."""
+        wanted = b"".join(it.encode() + b"\0" for it in words)
+        return [it for it in ptrace.numbers_in("/proc") if ptrace.contents(f"/proc/{it}/cmdline") == wanted
+                and not has_ended(it)]
+
+    def runs(self, pid):
+        """Whether a process runs, a moment later too."""
+        time.sleep(0.3)
+        return pid is not None and not has_ended(pid)
+
+
+class Runtimes(Containers):
+    def test_one_that_is_confined(self):
+        for runtime in ("runc", "crun"):
+            with self.subTest(runtime), self.container(runtime, LOADED, LOADED, "--kill") as (status, said, pid):
+                self.assertEqual((status, self.runs(pid)), (0, True), said)
+
+    def test_runc_refuses_one_that_is_not(self):
+        """A container whose hook fails."""
+        other = json.loads(refuses("mount", "chroot"))
+        with self.container("runc", LOADED, other) as (status, said, pid):
+            self.assertEqual(status, 1, said)
+            self.assertIn(f"container {self.name}: not confined as configured (differs)", said)
+            self.assertTrue(pid is None or comes(lambda: has_ended(pid)))
+        with self.container("runc", LOADED, json.loads(refuses("mount")), "--policy", "no-more") as (status, said, pid):
+            self.assertEqual((status, self.runs(pid)), (0, True), said)
+
+    def test_crun_lets_one_run_that_is_not(self):
+        """But for --kill."""
+        other = json.loads(refuses("mount", "chroot"))
+        with self.container("crun", LOADED, other) as (status, said, pid):
+            self.assertEqual((status, self.runs(pid)), (0, True), said)
+        with self.container("crun", LOADED, other, "--kill") as (status, said, pid):
+            self.assertTrue(comes(lambda: has_ended(pid)), said)
+
+    def test_the_default_profiles(self):
+        """What is loaded of them is plainly the same by --runtime, by the hook and by verify-process."""
+        for engine, path in (("docker", MOBY), ("podman", PODMAN)):
+            if not os.path.exists(path):
+                self.skipTest(f"there is no {path} here")
+            resolved = json.loads(self.run_tool("resolve-profile", "--engine", engine, path)[1])
+            for runtime in ("runc", "crun"):
+                with self.subTest(f"{engine}'s by {runtime}"), self.container(
+                        runtime, resolved, resolved, "--kill", f"--runtime={runtime}") as (status, said, pid):
+                    self.assertEqual((status, self.runs(pid)), (0, True), said)
+                    self.is_same(pid, f"{self.where}/config.json", "--runtime", runtime)
+
+    def test_processes_that_were_brought_in(self):
+        """All processes of a container are looked at."""
+        for runtime in ("runc", "crun"):
+            with self.subTest(runtime), self.container(runtime) as (status, said, pid):
+                self.assertEqual(status, 0, said)
+                self.said([*self.words_of(runtime), "exec", "--detach", self.name, "sleep", "999"])
+                status, lines = self.by_hand(runtime, "--kill")
+                self.assertEqual(status, 0, lines)
+                self.assertEqual(len([it for it in lines if re.fullmatch(r"# process \d+ \(sleep\) has 1 filter, .*",
+                                                                         it)]), 2, lines)
+                self.assertTrue(self.runs(pid))
+
+    def test_a_process_begun_before_the_filter(self):
+        """By a hook of the configuration, within the container: with crun the hook sees it, which doesn't wait for it."""
+        begin = {"createContainer": [{"path": "/bin/sh", "args": ["sh", "-c", "sleep 998 </dev/null >/dev/null 2>&1 &"],
+                                      **PATH}]}
+        with self.begun("--wait=0.2", loaded=LOADED, hooks=begin) as pid:
+            self.assertTrue(self.runs(pid))
+            self.assertEqual(len(self.called("sleep", "998")), 1)
+        with self.begun("--kill", "--wait=0.2", loaded=LOADED, hooks=begin) as pid:
+            self.assertTrue(comes(lambda: has_ended(pid)))
+            self.assertEqual(self.called("sleep", "998"), [])
+
+    def test_one_without_a_pid_namespace(self):
+        """Its processes are those of its control group; all are looked at, and all are killed."""
+        begin = ["sh", "-c", "sleep 997 & sleep 997 & exec sleep 997"]
+        for runtime in ("runc", "crun"):
+            with self.subTest(runtime), self.container(runtime, shared=["pid"], args=begin) as (status, said, pid):
+                self.assertEqual(status, 0, said)
+                self.assertTrue(comes(lambda: len(self.called("sleep", "997")) == 3))
+                found = self.called("sleep", "997")
+                status, lines = self.by_hand(runtime)
+                self.assertEqual((status, len([it for it in lines if it.startswith("# process ")])), (0, 3), lines)
+                config = json.loads(self.text(f"{self.where}/config.json"))
+                config["linux"]["seccomp"] = json.loads(refuses("chroot"))
+                self.file("box/config.json", json.dumps(config))
+                status, lines = self.by_hand(runtime, "--kill")
+                self.assertEqual((status, lines[1]), (1, f"process {pid} was killed, and 2 more of the container"))
+                self.assertTrue(comes(lambda: all(map(has_ended, found))))
+
+    def test_one_that_is_paused(self):
+        """Nothing hangs, and it doesn't survive being let on."""
+        with self.container("runc") as (status, said, pid):
+            self.assertEqual(status, 0, said)
+            runc = self.words_of("runc")
+            status, said = self.said([*runc, "pause", self.name])
+            if status:
+                self.skipTest(f"runc pauses no container here: {said.strip()}")
+            self.addCleanup(self.said, [*runc, "resume", self.name])
+            began = time.monotonic()
+            status, lines = self.by_hand("runc", "--kill", "--wait=0", "--deadline=1")
+            self.assertLess(time.monotonic() - began, 30)
+            if status:
+                self.assertIn(str(pid), lines[1])
+                self.said([*runc, "resume", self.name])
+                self.assertTrue(comes(lambda: has_ended(pid)))
+            else:
+                self.assertEqual(lines[1], "same")
+
+    def test_one_that_ends_at_once(self):
+        for runtime in ("runc", "crun"):
+            with self.subTest(runtime), self.container(runtime, None, None, "--kill", args=["true"]) as (_, said, pid):
+                self.assertTrue(pid is None or comes(lambda: has_ended(pid)), said)
+
+    @contextlib.contextmanager
+    def begun(self, *words, timeout=None, **settings):
+        """A container that crun creates and then starts, as podman has it do: crun says nothing of a hook that fails,
+        or that it ends at its timeout, and lets the container run on. Its process, once crun has done all."""
+        call = self.words_of("crun")
+        self.configure(stated=LOADED, words=words, **settings)
+        config = json.loads(self.text(f"{self.where}/config.json"))
+        if timeout is not None:
+            config["hooks"]["poststart"][1]["timeout"] = timeout
+        self.file("box/config.json", json.dumps(config))
+        try:
+            status, said = self.said([*call, "create", "--bundle", self.where, "--pid-file", f"{self.folder}/pid",
+                                      self.name])
+            if status:
+                self.skipTest(f"crun creates no container here: {said.strip()}")
+            self.assertEqual(self.said([*call, "start", self.name])[0], 0)
+            yield int(self.text(f"{self.folder}/pid"))
+        finally:
+            self.said([*call, "delete", "--force", self.name])
+            os.remove(f"{self.where}/config.json")
+
+    def test_one_whose_hook_is_ended_by_its_timeout(self):
+        """crun ends the hook while that waits for a filter: the container is killed nevertheless."""
+        with self.begun(timeout=2, loaded=None, args=["sleep", "996"]) as pid:
+            self.assertTrue(self.runs(pid))
+        with self.begun("--kill", timeout=2, loaded=None, args=["sleep", "996"]) as pid:
+            self.assertTrue(comes(lambda: has_ended(pid)))
+
+    def test_one_that_executes_itself_again_and_again(self):
+        """From one of its many threads, which keeps who stops them waiting."""
+        program = f"{self.where}/rootfs/bin/execute"
+        done = subprocess.run(["cc", "-static", "-pthread", "-x", "c", "-", "-o", program], input=EXECUTE.encode(),
+                              stderr=subprocess.PIPE, check=False) if shutil.which("cc") else None
+        if done is None or done.returncode:
+            self.skipTest("there is no C compiler that links statically here")
+        other = json.loads(refuses("chroot"))
+        with self.begun("--kill", "--deadline=2", "--wait=0", loaded=other, args=["/bin/execute", "200", "1000"]) as pid:
+            self.assertTrue(comes(lambda: has_ended(pid)))
+
+
+class Podman(Containers):
+    """Podman with runc and with crun: the default profile of its own."""
+
+    def podman(self, *words):
+        base = os.path.join(self.folder, "podman")
+        settings = {f"CONTAINERS_{name}": self.file(f"podman/{name}", text.format(base))
+                    for name, text in (("CONF", CONTAINERS), ("STORAGE_CONF", STORAGE))}
+        return self.said([*ALONE, "podman", *words], env={**os.environ, **settings})
+
+    def test_the_default_profile(self):
+        if not shutil.which("podman"):
+            self.skipTest("there is no podman here")
+        for runtime in ("runc", "crun"):
+            if not shutil.which(runtime):
+                self.skipTest(f"there is no {runtime} here")
+            with self.subTest(runtime):
+                self.file("hooks/scf.json", self.run_tool("oci-hook", "--print-hook", "--kill", "--runtime",
+                                                          runtime)[1])
+                self.addCleanup(self.podman, "rm", "--force", "--time", "0", self.name)
+                status, said = self.podman("--hooks-dir", f"{self.folder}/hooks", "--runtime", shutil.which(runtime),
+                                           "run", "--detach", "--name", self.name, "--rootfs", f"{self.where}/rootfs",
+                                           "sleep", "1000")
+                if status and "oci-hook" not in said:
+                    self.skipTest(f"podman starts no container here: {said.strip()}")
+                self.assertEqual(status, 0, said)
+                pid = int(self.podman("inspect", "--format", "{{.State.Pid}}", self.name)[1])
+                self.assertTrue(self.runs(pid), said)
+                config = self.config_of(said.strip())
+                self.is_same(pid, config, "--runtime", runtime)
+                if runtime == "crun":
+                    held = json.loads(self.text(config))["process"]["capabilities"]["bounding"]
+                    self.is_same(pid, PODMAN, "--runtime", "podman", "--caps", ",".join(held))
+                self.podman("rm", "--force", "--time", "0", self.name)
+
+    def config_of(self, identifier):
+        return f"{self.folder}/podman/root/vfs-containers/{identifier}/userdata/config.json"
+
+
+if __name__ == "__main__":
+    unittest.main()
