@@ -21,7 +21,7 @@ import time
 from collections.abc import Callable, Iterator, Sequence
 from dataclasses import dataclass
 
-from . import (comparing, containers, engines, inputs, output, processes, profiles, program, runtimes, verdicts,
+from . import (comparing, containers, engines, hold, inputs, output, processes, profiles, program, runtimes, verdicts,
                verifying)
 from .processes import Found, Kernel
 from .tables import Table
@@ -40,8 +40,8 @@ PAUSE = 0.02
 # A hook has no environment but the one that is named.
 PATH = "PATH=/usr/local/sbin:/usr/local/bin:/usr/sbin:/usr/bin:/sbin:/bin"
 # How long is waited for the container's state, for processes that were killed to end, for the explanation of what is
-# known already, and how much later than the hook the watchdog acts, in seconds.
-STATE_SECONDS, KILL_SECONDS, EXPLANATION_SECONDS, GRACE = 5.0, 2.0, 10.0, 1.0
+# known already, and how much later than the hook, which may be killing then, the watchdog acts, in seconds.
+STATE_SECONDS, KILL_SECONDS, EXPLANATION_SECONDS, GRACE = 5.0, 2.0, 10.0, 4.0
 # How long it may take beyond the wait for a filter until it is known whether the container is confined.
 DEADLINE = 30.0
 OF_NO_GROUP = ("the container has neither a PID namespace nor a control group of its own: its first process was looked at, "
@@ -513,6 +513,10 @@ def guarded(find: Callable[[], Finding]) -> Finding:
     except (Failed, program.Refused) as why:
         return failed(str(why), program.NO_PROGRAM if getattr(why, "status", None) == program.NO_PROGRAM
                       else program.FAILED)
+    except processes.Unreadable as why:
+        return failed(f"{why} (--force stops it)" if isinstance(why, hold.Waiting) else str(why))
+    except processes.Interrupted as came:
+        return failed(f"the look was ended by {signal.Signals(came.args[0]).name}")
     except MemoryError:
         return failed("memory was refused")
     except OSError as error:

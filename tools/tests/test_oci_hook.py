@@ -15,7 +15,7 @@ from confined import Confined, FakeKernel, here, let_on, status_of
 from test_filters_of import MOUNT, UMOUNT2, refuses, refusing
 
 sys.path.insert(0, os.path.join(TOP, "tools"))
-from scftools import hooks, processes, program, tables  # noqa: E402 pylint: disable=wrong-import-position
+from scftools import hold, hooks, processes, program, tables  # noqa: E402 pylint: disable=wrong-import-position
 
 NO_MEMBER = object()
 
@@ -347,7 +347,8 @@ class OfProcesses(Hook):
         self.assertEqual((status, lines[:2]), (
             1, ["container box: it can't be told whether it is confined as configured",
                 "fault profile Conflict number 165 first 0 second 1"]))
-        self.assertEqual(self.hook(child, profile, "--keep-first")[0], 0)
+        for words in (["--keep-first"], ["--runtime=runc"], ["--runtime=crun"]):
+            self.assertEqual(self.hook(child, profile, *words)[0], 0, words)
 
     def test_json(self):
         child = self.child([refusing(UMOUNT2)])
@@ -438,6 +439,7 @@ class OfTime(Hook):
         hook.kill()
         self.is_killed(child, 20)
         said = self.lines(hook.stderr.read().decode())
+        # (and nothing of the worker's)
         self.assertEqual(said, [f"container box: the hook was ended or stopped: process {child.pid} was killed"])
 
     def test_the_worker_ends_with_the_hook(self):
@@ -533,11 +535,26 @@ class Inside(Hook):
             self.assertEqual(process.kill(), hooks.Killed(False, f"process {child.pid} has ended already"))
         kill.assert_not_called()
 
+    def test_a_process_that_does_not_end_at_once(self):
+        """One that is killed while it is frozen: the watchdog leaves the hook the time to say so."""
+        self.assertGreater(hooks.GRACE, hooks.KILL_SECONDS + 1)
+        child = subprocess.Popen(["sleep", "1000"])
+        self.addCleanup(child.wait)
+        self.addCleanup(child.kill)
+        process = self.process(pid=child.pid)
+        with mock.patch.object(hooks, "sent"), mock.patch.object(hooks, "KILL_SECONDS", 0.1):
+            hooks.sent.return_value = None
+            self.assertEqual(process.kill(), hooks.Killed(True, f"SIGKILL was sent to process {child.pid}; it hasn't "
+                                                                f"ended yet"))
+
     def test_whatever_fails(self):
         """It is said, and isn't taken for a process that is confined."""
         for error, says in ((MemoryError(), "memory was refused"),
                             (OSError(5, "failed"), "it can't be looked at: failed"),
-                            (program.Refused("no scf", program.NO_PROGRAM), "no scf"), (hooks.Failed("no"), "no")):
+                            (program.Refused("no scf", program.NO_PROGRAM), "no scf"), (hooks.Failed("no"), "no"),
+                            (hold.Waiting("it waits"), "it waits (--force stops it)"),
+                            (processes.Unreadable("it can't"), "it can't"),
+                            (processes.Interrupted(15), "the look was ended by SIGTERM")):
             result = hooks.result(hooks.guarded(mock.Mock(side_effect=error)))
             status = 125 if says == "no scf" else 3
             self.assertEqual((result.status, result.lines, result.value["verdict"]), (status, [says], None))
