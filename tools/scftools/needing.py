@@ -8,7 +8,7 @@ from __future__ import annotations
 import itertools
 import json
 import re
-from collections.abc import Iterator, Sequence
+from collections.abc import Iterable, Iterator, Sequence
 from dataclasses import dataclass, field
 
 from . import comparing, entries, output, program, reasons, straces, tables
@@ -27,12 +27,15 @@ if TYPE_CHECKING:
     Answers = tuple[Call | None, tuple[Call, Answer] | None]
 
 IS_MADE, ISNT_MADE, DEPENDS, UNTOLD = "made", "not made", "depends", "untold"
-# The most calls that are judged, and entries with conditions for one name.
-CALLS, CONDITIONS = 1000, 64
+# The most entries with conditions for one name.
+CONDITIONS = 64
 REFERRED, EQUAL = ("SCMP_ACT_TRACE", 1), "SCMP_CMP_EQ"
 # What a least profile has of the one that is given, beside its default.
 KEPT = ("architectures", "flags", "listenerPath", "listenerMetadata")
 LETS_THROUGH = ("SCMP_ACT_ALLOW", "SCMP_ACT_LOG")
+# What each least profile allows: a process makes these calls where a log needn't show it, to go on after a stop or a
+# signal, and to end.
+ALWAYS = ("restart_syscall", "rt_sigreturn", "exit", "exit_group")
 
 
 @dataclass(frozen=True)
@@ -94,7 +97,7 @@ class Needs:
     @property
     def isnt_whole(self) -> bool:
         """Whether something in the log wasn't judged, or there was nothing to judge."""
-        return bool(self.unnamed or self.foreign or self.cut or self.left or not self.judged)
+        return bool(self.unnamed or self.foreign or self.unread or self.cut or self.left or not self.judged)
 
     @property
     def status(self) -> int:
@@ -105,7 +108,7 @@ class Needs:
 
 def number_of(name: str, table: Table) -> int | None:
     """The number of a call by its name in a log; strace prints one without a name as `syscall_0x1c3`."""
-    without_name = re.fullmatch("syscall_0x([0-9a-f]{1,8})", name)
+    without_name = re.fullmatch("syscall_0x([1-9a-f][0-9a-f]{0,7})", name)
     return int(without_name[1], 16) if without_name else table.number_of(name)
 
 
@@ -119,18 +122,19 @@ class Judge:
         if top is None:
             raise program.Refused("the profile's JSON can't be looked at beside scf", program.FAILED)
         self.top: Object = top
-        self.looked: dict[int | None, set[int]] = {}
+        looked: dict[int | None, set[int]] = {}
         for entry in entries.entries_of(top, self.table.number_of):
             for name in entry.names if entry.conditions else ():
-                self.looked.setdefault(self.table.number_of(name), set()).update(it.index for it in entry.conditions)
+                looked.setdefault(self.table.number_of(name), set()).update(it.index for it in entry.conditions)
+        self.looked = {name: tuple(sorted(indices)) for number, indices in looked.items() if number is not None
+                       for name in (*self.table.names_of(number), f"syscall_{number:#x}")}
 
     def looked_at(self, name: str) -> tuple[int, ...]:
         """The arguments of a call that a condition looks at."""
-        return tuple(sorted(self.looked.get(number_of(name, self.table), ())))
+        return self.looked.get(name, ())
 
-    def is_named(self, name: str) -> bool:
-        """Whether a call is called so."""
-        return number_of(name, self.table) is not None
+    def number_of(self, name: str) -> int | None:
+        return number_of(name, self.table)
 
     def of(self, traced: Traced) -> Judged:
         made, refused, line = None, None, ""
@@ -175,16 +179,15 @@ class Judge:
 
 def find(log: Log, judge: Judge) -> Needs:
     """The calls of a log, by their numbers, each judged."""
-    found = Needs([], foreign=log.foreign.count, unread=log.unread.count, cut=log.cut.count)
+    found = Needs([], {}, log.foreign.count, log.unread.count, log.cut.count, log.left.count)
     traced: list[Traced] = []
     for (name, values), seen in log.calls.items():
-        number = number_of(name, judge.table)
+        number = judge.number_of(name)
         if number is None:
             found.unnamed[name] = found.unnamed.get(name, 0) + seen.count
         else:
             traced.append(Traced(number, name, tuple(zip(judge.looked_at(name), values)), seen))
-    found.left = max(0, len(traced) - CALLS)
-    for one in sorted(traced[:CALLS], key=lambda it: (it.number, it.name, it.seen.line)):
+    for one in sorted(traced, key=lambda it: (it.number, it.name, it.seen.line)):
         found.judged.append(judge.of(one))
     return found
 
@@ -220,11 +223,11 @@ def _of_unjudged(needs: Needs) -> Iterator[str]:
     if needs.foreign:
         yield f"not judged, since they are calls of processes that don't run in 64 bit mode: {needs.foreign}"
     if needs.cut:
-        yield f"not judged, since their lines end before their results: calls: {needs.cut}"
+        yield f"not judged, since the log lacks their beginning or their end: calls: {needs.cut}"
     if needs.left:
-        yield f"not judged, since there are more than {CALLS}: {needs.left} calls with other arguments"
+        yield f"not judged, since they come behind {straces.KEPT} others: calls with other arguments: {needs.left}"
     if needs.unread:
-        yield f"lines that strace didn't write, or that can't be read: {needs.unread}"
+        yield f"not judged, since strace didn't write them, or they can't be read: lines: {needs.unread}"
     if not needs.judged:
         yield "no call was found in the log"
 
@@ -262,7 +265,7 @@ def as_json(needs: Needs, table: Table) -> dict[str, object]:
                            "lines": needs.unread}}
 
 
-def _entries(needs: Needs) -> Iterator[dict[str, object]]:
+def _entries(needs: Needs, always: Iterable[str]) -> Iterator[dict[str, object]]:
     """The entries that let the calls through, each argument that is known and looked at with its value."""
     plain: dict[str, None] = {}
     ruled: dict[str, dict[tuple[tuple[int, int], ...], None]] = {}
@@ -272,6 +275,7 @@ def _entries(needs: Needs) -> Iterator[dict[str, object]]:
     for name, rules in ruled.items():
         if () in rules or len(rules) > CONDITIONS:
             plain[name] = None
+    plain.update(dict.fromkeys(always))
     if plain:
         yield {"names": list(plain), "action": "SCMP_ACT_ALLOW"}
     for name, rules in ruled.items():
@@ -290,7 +294,7 @@ def least_profile(needs: Needs, judge: Judge) -> tuple[str, list[str]]:
         found["defaultErrnoRet"] = top["defaultErrnoRet"]
     found.update((name, top[name]) for name in KEPT if name in top)
     named = [it for it in needs.judged if judge.table.number_of(it.traced.name) is not None]
-    found["syscalls"] = list(_entries(Needs(named)))
+    found["syscalls"] = list(_entries(Needs(named), (name for name in ALWAYS if judge.number_of(name) is not None)))
     remarks = list(_of_unjudged(needs))
     remarks += [f"{it.traced.name} has no name, and isn't in the profile" for it in needs.judged
                 if judge.table.number_of(it.traced.name) is None]
@@ -308,7 +312,7 @@ def of_refusal(why: Unanswered, profile: bytes, table: Table) -> Iterator[str]:
 
 
 def read(name: str, judge: Judge) -> Needs:
-    return find(straces.read(name, judge.looked_at, judge.is_named), judge)
+    return find(straces.read(name, judge.looked_at, judge.number_of), judge)
 
 
 def put(found: Iterator[str]) -> None:

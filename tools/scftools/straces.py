@@ -1,7 +1,7 @@
 """Logs of strace: which calls stand in one, and what is known of their arguments.
 
-Only what strace prints as a number is known of an argument. Where it prints a symbol, a text, a structure or nothing
-at all, the argument isn't known.
+Of an argument a number is known, and the names of tables/arguments.symbols, each alone or joined by `|`. Where strace
+prints a text, a structure, another name or nothing at all, the argument isn't known.
 """
 from __future__ import annotations
 
@@ -14,58 +14,101 @@ from dataclasses import dataclass, field
 
 from . import inputs, output, program
 
-# The most bytes of a log; so many of a line are looked at, and so many calls are kept that aren't finished yet.
-LIMIT, LINE, PENDING = 1 << 30, 1 << 16, 10000
+# The most bytes of a log, and so many of a line, of a call that isn't finished yet and of an argument are looked at.
+LIMIT, LINE, BEGINNING, ARGUMENT = 1 << 30, 1 << 16, 1 << 13, 1 << 12
+# So many calls that aren't finished yet are kept, and so many with other names or arguments; so many more are counted,
+# and so many processes.
+PENDING, KEPT, LEFT, PROCESSES = 10000, 1000, 300000, 1 << 20
 # So many processes may make one at a time, and it is still looked at in which mode each runs.
 MAKERS = 100
+SYMBOLS = os.path.join(program.TOP, "tables", "arguments.symbols")
 # What stands before a call: a process, a time, the instruction pointer and the call's number (strace(1): -f, -Y; -t,
 # -tt, -ttt, -r; -i; -n).
 LEADER = re.compile(
     r"(?:\[pid +([0-9]{1,10})(?:<[^>]{0,64}>)?\] |([0-9]{1,10})(?:<[^>]{0,64}>)? +)?"
     r" *(?:[0-9]{2}:[0-9]{2}:[0-9]{2}(?:\.[0-9]+)? +|[0-9]+\.[0-9]+ +)?(?:\(\+ *[0-9.]+\) )?"
-    r"(?:\[[0-9a-f?]{8,16}\] )?(?:\[ *[0-9]+\] )?")
+    r"(?:\[[0-9a-f?]{16}\] )?(?:\[ *([0-9]{1,10})\] )?(?:\[[0-9a-f?]{8,16}\] )?")
 CALL = re.compile(r"([a-z_][a-z0-9_]{0,63})\(")
 RESUMED = re.compile(r"<\.\.\. ([a-z_][a-z0-9_]{0,63}) resumed> ?")
 MODE = re.compile(r"(?:strace: )?\[ Process PID=([0-9]{1,10})[^\]]{0,64} runs in ([0-9a-z ]{1,16}) mode\. \]")
 MESSAGE = re.compile(r"strace: Process [0-9]+ (?:attached|detached)")
 RESULT = re.compile(r" *= (\?|-?[0-9]+|0x[0-9a-f]+)")
 # What ends an argument, or holds what doesn't.
-STOP = re.compile(r'["\[\](){},]|/\*|(?<=[0-9DT])<(?!<)')
-STRING = re.compile(r'"[^"\\]*(?:\\.[^"\\]*)*"')
-END_OF_PATH = re.compile(r">(?=[,)\]} ]|$)")
+STOP = re.compile(r'["\[\](){},]|/\*|(?<=[0-9D])<(?!<)')
+STRING = re.compile(r'"[^"\\]*(?:\\.[^"\\]*)*"', re.S)
+# What -y and -yy print behind a descriptor: <pipe:[7]>, <TCP:[1.2.3.4:5->6.7.8.9:10]> and <UNIX:[7,"name"]>, where a
+# name stands as a text does, or a path, in which < and > are escaped, as </dev/null<char 1:3>>.
+OBJECT = (r'<(?:[\w-]+:\[(?:"(?:\\.|[^"\\])*"|[^"])*?\]'
+          r"|(?![\w-]+:\[)(?:\\.|[^\\<>])*(?:<(?:block|char) [0-9:]+>)?)>(?:\(deleted\))?")
+DESCRIBED = re.compile(OBJECT, re.S)
+# A number or a name, and what it is.
+PART = re.compile(rf"(?:0x([0-9a-f]{{1,16}})|0([0-7]{{1,22}})|(-?[0-9]{{1,20}})|([A-Z_][A-Z0-9_]*))"
+                  rf"(?:{OBJECT})?(?: /\*.*?\*/)?", re.S)
 UNFINISHED, NATIVE = " <unfinished ...>", "64 bit"
-NUMBER = re.compile(r"(?:(-?(?:0|[1-9][0-9]{0,19}))|0([0-7]{1,22})|0x([0-9a-f]{1,16}))(?:<.*>| /\*.*\*/)?", re.S)
-# Symbols that are one number (stddef.h, fcntl.h).
-SYMBOLS = {"NULL": 0, "AT_FDCWD": -100}
-# Where strace's order isn't that of the registers: clone's arguments have names, and one half of an offset isn't shown.
+COMMENT = re.compile(r"/\*|\*/")
+# Where strace's order isn't that of the registers: clone's arguments have names. Of others fewer than these are shown:
+# without one half of an offset, or by an operation; unknown flags of IPC are printed as one number with what follows.
 CLONE = {"flags": 0, "child_stack": 1, "parent_tid": 2, "parent_tidptr": 2, "child_tidptr": 3, "tls": 4}
-ORDER = {"preadv2": (0, 1, 2, 3, 5), "pwritev2": (0, 1, 2, 3, 5)}
+ORDER = {"preadv2": (6, (0, 1, 2, 3, 5)), "pwritev2": (6, (0, 1, 2, 3, 5)), "futex": (6, (0, 1)), "ptrace": (4, (0, 1)),
+         "msgget": (3, (0,)), "semget": (4, (0, 1)), "shmget": (4, (0, 1))}
+# Of a mode the lower 16 bits are shown, in octal digits.
+OCTAL = re.compile(r"(?:\A|\|)0[0-7]")
+NAMED = re.compile(r" *([a-z_]+)=")
 FORKS = ("clone(", "clone3(", "fork(", "vfork(")
 
 
-def _number_of(found: re.Match[str]) -> int:
-    return int(found[1]) if found[1] else int(found[2], 8) if found[2] else int(found[3], 16)
+@functools.lru_cache(None)
+def symbols() -> dict[str, int]:
+    """The numbers of the names that strace prints for arguments."""
+    with open(SYMBOLS, encoding="ascii") as file:
+        rows = (line.split() for line in file if not line.startswith("#"))
+        return {name: int(number) for name, number in rows}
+
+
+def _number_of(found: re.Match[str]) -> int | None:
+    """The number of a part of an argument."""
+    hexadecimal, octal, decimal, name = found.groups()
+    if name:
+        return symbols().get(name)
+    if decimal:
+        return int(decimal) if re.fullmatch("-?(?:0|[1-9].*)", decimal) else None
+    return int(hexadecimal, 16) if hexadecimal else int(octal, 8)
 
 
 def _number_in(text: str) -> int | None:
-    """The number that is printed, or the numbers that have bits of it, as 0x1200000|17."""
-    whole = NUMBER.fullmatch(text)
-    parts = [whole] if whole else [NUMBER.fullmatch(it) for it in text.split("|")]
-    numbers = [_number_of(it) for it in parts if it]
-    if len(numbers) < len(parts):
-        return SYMBOLS.get(text.partition("<")[0])
-    return functools.reduce(operator.or_, numbers) if len(numbers) == 1 or min(numbers) >= 0 else None
+    """The number that is printed, or that has the bits of all that are printed, as in SOCK_STREAM|0x80000."""
+    whole, at = 0, 0
+    while True:
+        part = PART.match(text, at)
+        number = _number_of(part) if part else None
+        if part is None or number is None:
+            return None
+        is_alone = part.start() == 0 and part.end() == len(text)
+        if number < 0 and not is_alone:
+            return None
+        whole, at = number if is_alone else whole | number, part.end()
+        if at == len(text):
+            return whole
+        if text[at] != "|":
+            return None
+        at += 1
 
 
 def values_of(text: str) -> tuple[int, ...] | None:
-    """The values that a printed argument may have, None where it isn't known: of a negative one that fits 32 bits, with
-    and without the sign in the upper half."""
-    number = _number_in(text.strip().removesuffix(UNFINISHED.strip()).strip())
+    """The values that the register of a printed argument may have, None where it isn't known.
+
+    Of many arguments strace prints the lower 32 bits, and of a mode the lower 16. What is above is taken for zero, or
+    where the highest bit is set that is shown, also for the sign.
+    """
+    text = text.strip().removesuffix(UNFINISHED.strip()).rstrip()
+    number = _number_in(text) if len(text) <= ARGUMENT else None
     if number is None or not -(1 << 63) <= number < 1 << 64:
         return None
-    if number >= 0:
-        return (number,)
-    return (number + (1 << 32), number + (1 << 64)) if number >= -(1 << 31) else (number + (1 << 64),)
+    if OCTAL.search(text) and 1 << 15 <= number < 1 << 16:
+        return (number, number | 0xFFFF << 16, number | (1 << 64) - (1 << 16))
+    if -(1 << 31) <= number < 0 or 1 << 31 <= number < 1 << 32:
+        return (number % (1 << 32), number % (1 << 32) | (1 << 64) - (1 << 32))
+    return (number % (1 << 64),)
 
 
 def _past(text: str, at: int) -> int | None:
@@ -74,10 +117,14 @@ def _past(text: str, at: int) -> int | None:
         found = STRING.match(text, at)
         return found.end() if found else None
     if text[at] == "<":
-        found = END_OF_PATH.search(text, at)
+        found = DESCRIBED.match(text, at)
         return found.end() if found else None
-    end = text.find("*/", at)
-    return end + 2 if end >= 0 else None
+    depth = 0
+    for found in COMMENT.finditer(text, at):
+        depth += 1 if found[0] == "/*" else -1
+        if not depth:
+            return found.end()
+    return None
 
 
 def arguments_in(text: str, at: int) -> tuple[list[str], int | None]:
@@ -108,12 +155,12 @@ def arguments_in(text: str, at: int) -> tuple[list[str], int | None]:
 
 def _in_registers(name: str, printed: list[str]) -> dict[int, str]:
     """The printed arguments by the registers that hold them."""
-    if name == "clone":
-        pairs = [it.strip().partition("=") for it in printed]
-        return {CLONE[key]: value for key, is_named, value in pairs if is_named and key in CLONE}
-    if any(re.match(r"[a-z_]+=", it.strip()) for it in printed):
-        return {}
-    return dict(zip(ORDER.get(name, range(6)), printed))
+    named = [NAMED.match(it) for it in printed]
+    if any(named):
+        pairs = [(it[1], text[it.end():]) for it, text in zip(named, printed) if it and name == "clone"]
+        return {CLONE[key]: value for key, value in pairs if key in CLONE}
+    count, order = ORDER.get(name, (0, ()))
+    return dict(zip(order if len(printed) < count else range(6), printed))
 
 
 @dataclass
@@ -129,42 +176,67 @@ class Log:
     """What stands in a log: calls by their names and the values of those arguments that are asked for."""
 
     looked_at: Callable[[str], tuple[int, ...]]
-    is_named: Callable[[str], bool] = lambda name: False
+    number_of: Callable[[str], int | None] = lambda name: None
     calls: dict[tuple[str, tuple], Seen] = field(default_factory=dict)
     foreign: Seen = field(default_factory=lambda: Seen(0))
     unread: Seen = field(default_factory=lambda: Seen(0))
-    # lines that begin as a call that has a name, and have no result
+    # lines of calls that have a number, without a result or without a beginning
     cut: Seen = field(default_factory=lambda: Seen(0))
+    # calls with other names or arguments than those that are kept
+    left: Seen = field(default_factory=lambda: Seen(0))
+    _names: set[str] = field(default_factory=set)
     _modes: dict[str | None, str] = field(default_factory=dict)
     _alive: set[str] = field(default_factory=set)
     _pending: dict[str | None, tuple[int, str]] = field(default_factory=dict)
     # those of which such a call makes processes
     _makers: dict[str | None, None] = field(default_factory=dict)
     _other_mode: str | None = None
-    _broken: str = ""
+    # pieces of a line that messages of strace's stand in the midst of, and so many characters more are kept
+    _broken: list[str] = field(default_factory=list)
+    _room: int = LINE
+    _line: int = 0
     # whether the line that is looked at is longer than it is looked at
     _is_long: bool = False
 
     def add(self, number: int, line: str) -> None:
         """Takes a line of the log."""
-        if self._broken:
-            line, self._broken = self._broken + line, ""
-        message = MESSAGE.search(line, max(0, len(line) - 64))
-        if message and message.end() == len(line):
-            # a message of strace's stands where the line was broken off, which goes on in the next one
-            self._broken = line[:message.start()]
+        self._line = number
+        if line.endswith(("attached", "detached")) and self._is_message(line):
             return
+        if self._broken:
+            line = "".join([*self._broken, line])
+            self._broken, self._room = [], LINE
         self._is_long = len(line) >= LINE
         leader = LEADER.match(line)
-        start = leader.end() if leader else 0
-        who = self._who(leader[1] or leader[2] if leader else None)
-        self._add(number, who, line[start:].rstrip("\r"))
+        assert leader
+        who, text = self._who(leader[1] or leader[2]), line[leader.end():].rstrip("\r")
+        if leader[3] and self._is_of_other_abi(int(leader[3]), text):
+            self._count(self.foreign, number)
+        else:
+            self._add(number, who, text)
+
+    def _is_message(self, line: str) -> bool:
+        """Whether a message of strace's ends a line, which it broke off there, and which goes on in the next one."""
+        message = MESSAGE.search(line, max(0, len(line) - 64))
+        if message is None or message.end() != len(line):
+            return False
+        if message.start() and self._room > 0:
+            self._broken.append(line[:message.start()])
+            self._room -= message.start()
+        return True
+
+    def _is_of_other_abi(self, number: int, text: str) -> bool:
+        """Whether a call has another number than the call of its name, as those of i386 have."""
+        name = CALL.match(text)
+        return name is not None and self.number_of(name[1]) not in (None, number)
 
     def _who(self, printed: str | None) -> str | None:
         """The process of a line: strace names it only where there are several."""
         if printed is None:
             return next(iter(self._alive)) if len(self._alive) == 1 else None
         if printed not in self._alive:
+            if max(len(self._alive), len(self._modes)) >= PROCESSES:
+                raise program.Refused(f"the log has more than {PROCESSES} processes that aren't seen to end")
             self._alive.add(printed)
             self._modes.setdefault(printed, self._mode_of_new())
         return printed
@@ -182,8 +254,13 @@ class Log:
         return self._modes.get(who, NATIVE)
 
     def _add(self, number: int, who: str | None, text: str) -> None:
-        mode = MODE.match(text)
-        if mode:
+        name = CALL.match(text)
+        mode = None if name else MODE.match(text)
+        if name and text.endswith(UNFINISHED):
+            self._begin(number, who, text.removesuffix(UNFINISHED)[:BEGINNING])
+        elif name:
+            self._call(number, who, text, name)
+        elif mode:
             self._modes[mode[1]] = self._modes[who] = mode[2]
             self._other_mode = mode[2] if mode[2] != NATIVE else self._other_mode
         elif text.startswith("+++ "):
@@ -193,23 +270,23 @@ class Log:
                 self._modes.pop(who, None)
         elif text.startswith("<... "):
             self._resume(number, who, text)
-        elif text.endswith(UNFINISHED) and CALL.match(text):
-            self._pending_ends(who)
-            self._pending[who] = number, text.removesuffix(UNFINISHED)
-            if text.startswith(FORKS):
-                self._makers[who] = None
-            if len(self._pending) > PENDING:
-                self._pending_ends(next(iter(self._pending)))
-        elif CALL.match(text):
-            self._call(number, who, text)
         elif text.strip() and not text.startswith(("--- ", "> ", "strace: ")):
             self._count(self.unread, number)
+
+    def _begin(self, number: int, who: str | None, text: str) -> None:
+        """Keeps a call that isn't finished yet."""
+        self._pending_ends(who)
+        self._pending[who] = number, text
+        if text.startswith(FORKS):
+            self._makers[who] = None
+        if len(self._pending) > PENDING:
+            self._pending_ends(next(iter(self._pending)))
 
     def _pending_ends(self, who: str | None) -> None:
         """A call that isn't finished won't be."""
         if who in self._pending:
             number, text = self._taken(who)
-            self._call(number, who, text, is_cut=True)
+            self._call(number, who, text, CALL.match(text), is_cut=True)
 
     def _taken(self, who: str | None) -> tuple[int, str]:
         """A call that isn't finished, which is kept no longer."""
@@ -220,22 +297,23 @@ class Log:
         found = RESUMED.match(text)
         # the first process has no number as long as it is alone
         key = who if who in self._pending else None
-        if not found or key not in self._pending or CALL.match(self._pending[key][1])[1] != found[1]:
-            self._count(self.unread, number)
-            return
-        begun, before = self._taken(key)
-        self._call(begun, who, before + text[found.end():])
+        name = CALL.match(self._pending[key][1]) if key in self._pending else None
+        if found and name and name[1] == found[1]:
+            begun, before = self._taken(key)
+            is_cut = len(before) >= BEGINNING
+            self._call(begun, who, before if is_cut else before + text[found.end():], name, is_cut)
+        else:
+            self._count(self.cut if found and self.number_of(found[1]) is not None else self.unread, number)
 
     @staticmethod
     def _count(seen: Seen, number: int) -> None:
         seen.line = seen.line or number
         seen.count += 1
 
-    def _call(self, number: int, who: str | None, text: str, is_cut: bool = False) -> None:
+    def _call(self, number: int, who: str | None, text: str, name: re.Match[str], is_cut: bool = False) -> None:
         """Counts a call: its name, and of what is asked for the values that it shows."""
-        name = CALL.match(text)
-        if name is None or not (is_cut or self._is_long or len(text) >= LINE or " = " in text):
-            self._count(self.cut if name and self.is_named(name[1]) else self.unread, number)
+        if not (is_cut or self._is_long or len(text) >= LINE or " = " in text):
+            self._count(self.unread if self.number_of(name[1]) is None else self.cut, number)
             return
         if text.startswith(FORKS):
             self._forked(who, text)
@@ -244,8 +322,19 @@ class Log:
             return
         wanted = self.looked_at(name[1])
         shown = _in_registers(name[1], arguments_in(text, name.end())[0]) if wanted else {}
-        values = tuple(values_of(shown[at]) if at in shown else None for at in wanted)
-        self._count(self.calls.setdefault((name[1], values), Seen(0)), number)
+        self._count(self._kept(name[1], tuple(values_of(shown[at]) if at in shown else None for at in wanted)), number)
+
+    def _kept(self, name: str, values: tuple) -> Seen:
+        """Where a call is counted: of a name that has a number the first one is kept in any case."""
+        seen = self.calls.get((name, values))
+        if seen is None:
+            kept = len(self.calls)
+            is_first = kept >= KEPT and name not in self._names and self.number_of(name) is not None
+            if kept >= 2 * KEPT or kept >= KEPT and not is_first:
+                return self.left
+            self._names.add(name)
+            seen = self.calls[name, values] = Seen(0)
+        return seen
 
     def _forked(self, who: str | None, text: str) -> None:
         """A new process begins in the mode of the one that makes it."""
@@ -255,6 +344,8 @@ class Log:
             self._modes[result[1]] = self._mode_of(who)
 
     def end(self) -> None:
+        if self._broken:
+            self.add(self._line, "")
         for who in list(self._pending):
             self._pending_ends(who)
 
@@ -291,10 +382,22 @@ def lines(name: str) -> Iterator[str]:
         yield kept.decode("latin-1")
 
 
-def read(name: str, looked_at: Callable[[str], tuple[int, ...]], is_named: Callable[[str], bool]) -> Log:
+def is_log(data: bytes) -> bool:
+    """Whether some of the first lines of a text are strace's."""
+    for line in data[:LINE].decode("latin-1").split("\n")[:100]:
+        text = line[LEADER.match(line).end():]
+        if CALL.match(text) and " = " in text:
+            return True
+    return False
+
+
+def read(name: str, looked_at: Callable[[str], tuple[int, ...]], number_of: Callable[[str], int | None]) -> Log:
     """What stands in a log; of the arguments of a call those that are asked for."""
-    found = Log(looked_at, is_named)
+    found = Log(looked_at, number_of)
     for number, line in enumerate(lines(name), 1):
         found.add(number, line)
+        if found.left.count > LEFT:
+            raise program.Refused(f"the log has more than {KEPT + LEFT} calls with other names or arguments: make one "
+                                  "of fewer calls by strace -e trace=..")
     found.end()
     return found

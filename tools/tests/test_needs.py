@@ -4,19 +4,24 @@ import os
 import random
 import re
 import shutil
+import struct
 import subprocess
 import sys
 import time
 import unittest
 
-from common import TOP, Case, profile_of, tool
+from common import TOP, Case, limited, profile_of, taken, tool
 
 sys.path.append(os.path.join(TOP, "tools"))
 
-from scftools import straces  # noqa: E402
+from scftools import straces, tables  # noqa: E402
+
+TABLE = tables.read(None)
 
 ALLOW, ERRNO = "SCMP_ACT_ALLOW", "SCMP_ACT_ERRNO"
 HIGH = 1 << 64
+# What each least profile allows.
+ALWAYS = ["restart_syscall", "rt_sigreturn", "exit", "exit_group"]
 COUNTED = "# calls, each with the arguments that conditions look at"
 # A name that opens a bracket where a call may begin.
 BEGUN = re.compile(r"(?m)^(?:\[pid +\d+\] |\d+ +)? *(?:[\d:.]+ +)?(?:\[[0-9a-f]+\] )?([a-z_]\w*)\(", re.A)
@@ -39,16 +44,40 @@ class Values(unittest.TestCase):
         for text, value in (("3", 3), ("0", 0), ("0x1c3", 0x1C3), ("0644", 0o644), ("022", 0o22), ("NULL", 0),
                             ("0x2 /* AF_INET */", 2), ("0x80000 /* O_RDONLY|O_CLOEXEC */", 0x80000),
                             ("3</tmp/a, b>", 3), ("0x1200000|17", 0x1200011), ("18446744073709551615", HIGH - 1),
-                            ("-9223372036854775808", 1 << 63), ("-2147483649", HIGH - 2147483649), (" 7 ", 7)):
+                            ("-9223372036854775808", 1 << 63), ("-2147483649", HIGH - 2147483649), (" 7 ", 7),
+                            ("2147483647", (1 << 31) - 1), ("4294967296", 1 << 32),
+                            ("0xffffffff80000000 /* CLONE_IO|0xffffffff00000000 */|17 /* SIGCHLD */",
+                             0xFFFFFFFF80000011), ("0 /* PER_LINUX */|0x40000 /* ADDR_NO_RANDOMIZE */", 0x40000),
+                            ("3</tmp/a>(deleted)", 3), ("0</dev/null<char 1:3>>", 0), ("4<pipe:[7]>", 4),
+                            ('5<UNIX:[7,@"x\\"]>, 9, 9<"]>', 5), ("6<TCPv6:[[::1]:22->[::1]:23]>", 6)):
             self.assertEqual(straces.values_of(text), (value,), text)
 
-    def test_a_sign_stands_in_the_upper_half_or_not(self):
+    def test_names(self):
+        """By the manual pages and headers: socket(2), clone(2), personality(2), linux/sched.h, asm/ioctls.h."""
+        for text, value in (("AF_INET", 2), ("AF_VSOCK", 40), ("SOCK_STREAM|SOCK_CLOEXEC", 0o2000001),
+                            ("NETLINK_AUDIT", 9), ("CLONE_VM|CLONE_VFORK|SIGCHLD", 0x4111), ("PER_LINUX", 0),
+                            ("PER_LINUX|ADDR_NO_RANDOMIZE", 0x40000), ("CLONE_NEWUSER|SIGCHLD", 0x10000011),
+                            ("O_RDWR|O_CREAT|O_LARGEFILE", 0o100102), ("TIOCSTI", 0x5412), ("PROT_READ|PROT_EXEC", 5),
+                            ("S_IFIFO|0644", 0o10644), ("077777", 0o77777), ("AF_INET|1", 3), ("PR_SET_SECCOMP", 22),
+                            ("CLONE_IO|0xffffffff00000000|SIGCHLD", 0xFFFFFFFF80000011)):
+            self.assertEqual(straces.values_of(text), (value,), text)
+
+    def test_an_upper_half_is_zero_or_the_sign(self):
         for text, number in (("-1", -1), ("-100", -100), ("AT_FDCWD", -100), ("AT_FDCWD</tmp>", -100),
-                             ("-2147483648", -(1 << 31))):
+                             ("-2147483648", -(1 << 31)), ("0xffffffff", -1), ("4294967295", -1),
+                             ("0x80000000", -(1 << 31)), ("CLONE_IO|SIGCHLD", 17 - (1 << 31)),
+                             ("0xffffffff /* CAP_??? */", -1), ("PR_SET_PTRACER_ANY", -1)):
             self.assertEqual(straces.values_of(text), (number + (1 << 32), number + HIGH), text)
 
+    def test_the_upper_bits_of_a_mode(self):
+        """The kernel takes a mode as umode_t, which is an unsigned short (linux/types.h), and strace prints that."""
+        for text, number in (("0177777", 0xFFFF), ("S_IFREG|0644", 0o100644)):
+            self.assertEqual(straces.values_of(text), (number, number | 0xFFFF0000, number | HIGH - 0x10000), text)
+
     def test_what_is_not_known(self):
-        for text in ("", "AF_INET", "AF_INET|1", "O_RDONLY", '"3"', "[3]", "{3}", "1<<3", "1|-1", "08", "0xg", "3x",
+        for text in ("", "AF_NONE", "AF_NONE|1", "AT_FDCWD|1", "htons(ETH_P_ALL)", "3</a", "3<</a>", "3<a:[7>", "1|",
+                     "|1", "1 | 1", "_IOC(_IOC_NONE, 0x56, 0x78, 0x1234)", "1|" * 5000 + "1", '"3"', "[3]", "{3}",
+                     "1<<3", "1|-1", "08", "0xg", "3x",
                      "18446744073709551616", "0x10000000000000000", "-9223372036854775809", "9" * 5000, "a=3", "~3"):
             self.assertIsNone(straces.values_of(text), text)
 
@@ -61,7 +90,12 @@ class Arguments(unittest.TestCase):
                                ("(3</a,b)>, 4)", ["3</a,b)>", " 4"]),
                                ("(4<TCP:[127.0.0.1:1->127.0.0.1:2]>, 5)", ["4<TCP:[127.0.0.1:1->127.0.0.1:2]>", " 5"]),
                                ("(0x2 /* a, b) */, 5)", ["0x2 /* a, b) */", " 5"]), ("(1<<3, 5)", ["1<<3", " 5"]),
-                               ("(makedev(0x1, 0x3), 5)", ["makedev(0x1, 0x3)", " 5"])):
+                               ("(makedev(0x1, 0x3), 5)", ["makedev(0x1, 0x3)", " 5"]),
+                               ('(12<UNIX-STREAM:[7,"a>, 9, 9<"]>, 5)', ['12<UNIX-STREAM:[7,"a>, 9, 9<"]>', " 5"]),
+                               ('(1<UNIX:[7->8,@"x\\"]>, 9\\n"]>, 5)', ['1<UNIX:[7->8,@"x\\"]>, 9\\n"]>', " 5"]),
+                               ("(0</dev/null<char 1:3>>, 5)", ["0</dev/null<char 1:3>>", " 5"]),
+                               ('(3</q\\"[x]\\76, 7\\74>(deleted), 5)', ['3</q\\"[x]\\76, 7\\74>(deleted)', " 5"]),
+                               ("(6<TCPv6:[[::1]:1->[::1]:2]>, 5)", ["6<TCPv6:[[::1]:1->[::1]:2]>", " 5"])):
             found, end = straces.arguments_in(text, 1)
             self.assertEqual((found, end), (expected, len(text)), text)
 
@@ -105,7 +139,7 @@ class Forms(unittest.TestCase):
             self.assertEqual(log_of(text, [0]), ({("read", (3,)): 1, ("close", (4,)): 1}, 0, 0), text)
         text = "1  socket(AF_UNIX <unfinished ...>\n2  socket(3 <unfinished ...>\n" \
                "2  <... socket resumed>, 4, 5) = 1\n1  <... socket resumed>, 6, 7) = 1"
-        self.assertEqual(log_of(text, [0, 1]), ({("socket", (3,), (4,)): 1, ("socket", None, (6,)): 1}, 0, 0))
+        self.assertEqual(log_of(text, [0, 1]), ({("socket", (3,), (4,)): 1, ("socket", (1,), (6,)): 1}, 0, 0))
         # the last argument of a call that never ended may not be whole
         self.assertEqual(log_of("1  read(3, 4 <unfinished ...>", [0, 1])[0], {("read", (3,), None): 1})
 
@@ -121,6 +155,8 @@ class Forms(unittest.TestCase):
     def test_arguments_by_name_and_in_another_order(self):
         text = "clone(child_stack=NULL, flags=0x1200000|17, child_tidptr=0x7f) = 7"
         self.assertEqual(log_of(text, range(5))[0], {("clone", (0x1200011,), (0,), None, (0x7F,), None): 1})
+        text = "clone(0x1200011, 0, 0x7, 0x7f, 0) = 0x7"
+        self.assertEqual(log_of(text, range(5))[0], {("clone", (0x1200011,), (0,), (7,), (0x7F,), (0,)): 1})
         self.assertEqual(log_of("other(a=1, 2) = 0", [0, 1])[0], {("other", None, None): 1})
         self.assertEqual(log_of("preadv2(3, [], 0, 9, 5) = 0", [3, 4, 5])[0], {("preadv2", (9,), None, (5,)): 1})
 
@@ -201,7 +237,7 @@ class Needs(Judged):
                          [("not made", {"0": ["0x28"]}), ("made", {"0": ["0x1"]})])
 
     def test_arguments_that_are_not_known(self):
-        for log in ("socket(AF_VSOCK, 1, 0) = 3", "socket(AF_VSOCK|1, 1, 0) = 3", "socket(40", "socket() = 3",
+        for log in ("socket(AF_NONE, 1, 0) = 3", "socket(AF_NONE|1, 1, 0) = 3", "socket(40", "socket() = 3",
                     "1 socket(40 <unfinished ...>"):
             fates, report, out = self.judged(f"{log} = 3" if log == "socket(40" else log, 4)
             self.assertEqual(fates, {"socket": "depends"}, log)
@@ -221,7 +257,7 @@ class Needs(Judged):
             {"names": ["socket"], "action": "SCMP_ACT_LOG", "args": [{"index": 0, "op": "SCMP_CMP_GE", "value": 5}]},
             {"names": ["bind"], "action": ALLOW, "args": [{"index": 0, "op": "SCMP_CMP_EQ", "value": 5},
                                                           {"index": 1, "op": "SCMP_CMP_EQ", "value": 5}]}]}
-        self.assertEqual(self.judged("socket(AF_INET) = 3", 0, halves)[0], {"socket": "made"})
+        self.assertEqual(self.judged("socket(AF_NONE) = 3", 0, halves)[0], {"socket": "made"})
         self.assertEqual(self.judged("bind(6, {x}) = 3", 1, halves)[0], {"bind": "not made"})
         fates, _, out = self.judged("bind(5, {x}) = 3", 4, halves)
         self.assertEqual((fates, out.split("\n")[0]), ({"bind": "depends"}, "49 bind arg 0 0x5 depends on arg 1"))
@@ -232,7 +268,8 @@ class Needs(Judged):
         self.assertEqual((fates, out.split("\n")[0]), ({"wait4": "depends"}, "61 wait4 depends on arg 0"))
         self.assertEqual(report["calls"][0]["arguments"], {"0": ["0xffffffff", "0xffffffffffffffff"]})
         self.assertEqual(self.judged("wait4(-2, NULL, 0, NULL) = 3", 1)[0], {"wait4": "not made"})
-        self.assertEqual(self.judged("wait4(0xffffffff, NULL, 0, NULL) = 3", 0)[0], {"wait4": "made"})
+        self.assertEqual(self.judged("wait4(0xffffffff, NULL, 0, NULL) = 3", 4)[0], {"wait4": "depends"})
+        self.assertEqual(self.judged("wait4(0xffffffffffffffff, NULL, 0, NULL) = 3", 1)[0], {"wait4": "not made"})
 
     def test_what_is_not_judged(self):
         log = "read(1) = 1\nno_such_call(1) = 1\n[ Process PID=7 runs in 32 bit mode. ]\nopen(1) = 1\nwhat\n"
@@ -242,9 +279,9 @@ class Needs(Judged):
                           {"names": {"no_such_call": 1}, "foreign": 1, "cut": 0, "more": 0, "lines": 1}))
         for line in ("# not judged, since the table names no such call: no_such_call, calls of it: 1",
                      "# not judged, since they are calls of processes that don't run in 64 bit mode: 1",
-                     "# lines that strace didn't write, or that can't be read: 1"):
+                     "# not judged, since strace didn't write them, or they can't be read: lines: 1"):
             self.assertIn(f"{line}\n", out)
-        self.assertEqual(self.judged("read(1) = 1\nwhat\n", 0)[0], {"read": "made"})
+        self.assertEqual(self.judged("read(1) = 1\nwhat\n", 4)[0], {"read": "made"})
         out = self.judged("read(1) = 1\nmmap2(1) = 1\n" + "".join(f"no{it}(1) = 1\n" for it in range(30)), 4)[2]
         self.assertIn("names no such call: mmap2, calls of it: 1; it is one of other architectures alone\n", out)
         self.assertEqual(out.count("# not judged, since the table names no such call: "), 20)
@@ -252,16 +289,37 @@ class Needs(Judged):
         for log in ("", "\n\n", "what\n"):
             self.assertIn("# no call was found in the log\n", self.judged(log, 4)[2])
 
+    def test_a_call_without_its_beginning(self):
+        for log in ("<... ptrace resumed>) = 0", "7 <... ptrace resumed>, 1) = 0",
+                    "7 read(3 <unfinished ...>\n7 <... ptrace resumed>) = 0"):
+            fates, report, out = self.judged(f"read(1) = 1\n{log}\n", 4)
+            self.assertEqual((fates, report["not_judged"]["cut"]), ({"read": "made"}, 1), log)
+            self.assertIn("# not judged, since the log lacks their beginning or their end: calls: 1\n", out)
+        self.assertEqual(self.judged("read(1) = 1\n<... what resumed>) = 0\n", 4)[1]["not_judged"]["lines"], 1)
+
+    def test_a_number_of_another_abi(self):
+        """By -n strace prints a call's number: 20 is getpid of i386 (asm/unistd_32.h), and writev of x86-64."""
+        fates, report, _ = self.judged("7 [   0] read(1) = 1\n7 [  20] getpid() = 7\n7 [   3] read(1) = 1\n", 4)
+        self.assertEqual((fates, report["not_judged"]["foreign"]), ({"read": "made"}, 2))
+
+    def test_the_wrong_order(self):
+        log, profile = self.file("l", "7  openat(AT_FDCWD, \"x\") = 3\n"), self.file("p.json", profile_of("read"))
+        self.assertEqual(self.run_tool("needs", profile, log),
+                         (2, "", f"needs: '{log}' is a log of strace, and no profile: LOG stands before PROFILE\n"))
+        # what is no log either is refused by scf
+        self.assertEqual(self.run_tool("needs", profile, self.file("q", "x"))[:2][1].split("\n")[0],
+                         "fault profile Json")
+
     def test_a_line_that_ends_before_its_result(self):
         for cut in ('mount("/dev/sda", "/mnt"', "mount(", 'mount("/dev/sda", "/mnt", NULL, 0, NULL)'):
             for log in (f"read(1) = 1\n{cut}", f"read(1) = 1\n{cut}\nread(1) = 1\n"):
                 fates, report, out = self.judged(log, 4)
                 self.assertEqual((fates, report["not_judged"]["cut"], report["not_judged"]["lines"]),
                                  ({"read": "made"}, 1, 0))
-                self.assertIn("# not judged, since their lines end before their results: calls: 1\n", out)
+                self.assertIn("# not judged, since the log lacks their beginning or their end: calls: 1\n", out)
                 self.assertEqual(self.needs(log, "--profile")[0], 4)
         # what isn't a call's name isn't strace's
-        self.assertEqual(self.judged("read(1) = 1\nwhat(1\n", 0)[1]["not_judged"]["lines"], 1)
+        self.assertEqual(self.judged("read(1) = 1\nwhat(1\n", 4)[1]["not_judged"]["lines"], 1)
 
     def test_a_line_longer_than_it_is_looked_at(self):
         for leader in ("", "7 ", "[pid     7] ", "12:00:00 "):
@@ -279,7 +337,7 @@ class Needs(Judged):
             self.assertEqual(self.judged(f"{name}(0x1) = -1", 4)[1]["not_judged"]["names"], {name: 1})
 
     def test_limits_and_refusals(self):
-        status, out, _ = self.needs("socket(X) = 3", "--limit=0")
+        status, out, _ = self.needs("socket(AF_NONE) = 3", "--limit=0")
         self.assertEqual((status, out.split("\n")[0]), (4, "41 socket unfinished"))
         status, out, _ = self.needs("socket(X) = 3", "--limit=x")
         self.assertEqual((status, out.split("\n")[0]), (2, "fault number limit"))
@@ -320,14 +378,14 @@ class Least(Judged):
         made, err = self.least(self.LOG)
         self.assertEqual(err, "")
         self.assertEqual(made, {"defaultAction": ERRNO, "syscalls": [
-            {"names": ["read", "open"], "action": ALLOW},
+            {"names": ["read", "open", *ALWAYS], "action": ALLOW},
             *({"names": [name], "action": ALLOW, "args": [{"index": 0, "value": value, "op": "SCMP_CMP_EQ"}]}
               for name, value in (("socket", 40), ("socket", 1), ("wait4", (1 << 32) - 1), ("wait4", HIGH - 1)))]})
         self.assertEqual(self.needs(self.LOG, profile=made)[0], 0)
         self.assertEqual(self.needs("socket(2, 1, 0) = 3", profile=made)[0], 1)
         # without any of it a call of the log isn't made
         for place, entry in enumerate(made["syscalls"]):
-            for name in entry["names"]:
+            for name in set(entry["names"]) - set(ALWAYS):
                 left = [{**it, "names": [other for other in it["names"] if (at, other) != (place, name)]}
                         for at, it in enumerate(made["syscalls"])]
                 less = {**made, "syscalls": [it for it in left if it["names"]]}
@@ -344,20 +402,29 @@ class Least(Judged):
                 given["defaultErrnoRet"] = errno
             made, _ = self.least("read(1) = 1", profile=given)
             self.assertEqual(made, {**expected, "architectures": ["SCMP_ARCH_X86_64"],
-                                    "syscalls": [{"names": ["read"], "action": ALLOW}]})
+                                    "syscalls": [{"names": ["read", *ALWAYS], "action": ALLOW}]})
+
+    def test_what_it_always_allows(self):
+        made, _ = self.least("exit_group(0) = ?\nread(1) = 1\n")
+        self.assertEqual(made["syscalls"], [
+            {"names": ["read", "exit_group", "restart_syscall", "rt_sigreturn", "exit"], "action": ALLOW}])
+        table = self.file("t", "read 0\nexit 60\n")
+        status, out, _ = self.needs("read(1) = 1\n", "--profile", "--table", table, profile=json.loads(
+            profile_of("read")))
+        self.assertEqual((status, json.loads(out)["syscalls"]), (0, [{"names": ["read", "exit"], "action": ALLOW}]))
 
     def test_arguments_that_are_not_known(self):
-        made, err = self.least("socket(AF_INET, 1, 0) = 3\nsocket(1, 1, 0) = 3\n")
-        self.assertEqual(made["syscalls"], [{"names": ["socket"], "action": ALLOW}])
+        made, err = self.least("socket(AF_NONE, 1, 0) = 3\nsocket(1, 1, 0) = 3\n")
+        self.assertEqual(made["syscalls"], [{"names": ["socket", *ALWAYS], "action": ALLOW}])
         self.assertEqual(err, "needs: socket: strace doesn't show arguments 0 as numbers: they may be any\n")
 
     def test_many_values(self):
         made, _ = self.least("".join(f"socket({it}, 1, 0) = 3\n" for it in range(200)))
-        self.assertEqual(made["syscalls"], [{"names": ["socket"], "action": ALLOW}])
+        self.assertEqual(made["syscalls"], [{"names": ["socket", *ALWAYS], "action": ALLOW}])
 
     def test_what_is_not_in_it(self):
         made, err = self.least("read(1) = 1\nno_such_call(1) = 1\n", status=4)
-        self.assertEqual(made["syscalls"], [{"names": ["read"], "action": ALLOW}])
+        self.assertEqual(made["syscalls"], [{"names": ["read", *ALWAYS], "action": ALLOW}])
         self.assertEqual(err, "needs: not judged, since the table names no such call: no_such_call, calls of it: 1\n")
 
 
@@ -395,17 +462,140 @@ class Hostile(Judged):
             self.assertIn(status, (0, 1, 4), log[:30])
             self.assertEqual(err, "", log[:30])
 
+    def test_the_largest_logs(self):
+        """Within 10 seconds and 500 MB; up to five and 150 are measured."""
+        many = "calls with other names or arguments"
+        for log, status, says in ((b"xstrace: Process 1 attached\n" * 300000, 4, ""),
+                                  (b"strace: Process 1 attached\n" * 300000 + b"read(1) = 1\n", 0, ""),
+                                  (b"".join(b"wait4(%d) = 1\n" % it for it in range(320000)), 2, many),
+                                  (b"".join(b"no_%d(1) = 1\n" % it for it in range(320000)), 2, many)):
+            before = taken()
+            found, _, err = self.run_tool("needs", self.file("log", log), self.file("p.json", json.dumps(self.PROFILE)),
+                                          preexec_fn=limited(40, 500 << 20))
+            self.assertEqual((found, says in err), (status, True), log[:30])
+            self.assertLess(taken() - before, 30)
+
     def test_many_values(self):
         log = "".join(f"wait4({it}) = 1\n" for it in range(2, 6002))
         # each of the thousand is judged by two runs of scf, which takes four seconds in all
         status, out, _ = self.needs(log, seconds=120)
         self.assertEqual(status, 1)
-        self.assertIn("# not judged, since there are more than 1000: 5000 calls with other arguments\n", out)
+        self.assertIn("# not judged, since they come behind 1000 others: calls with other arguments: 5000\n", out)
 
     def test_a_log_without_an_end(self):
         status, out, err = self.run_tool("needs", "/dev/zero", self.file("p.json", profile_of("read")))
         self.assertEqual((status, out), (2, ""))
         self.assertIn("has more than 1073741824 bytes", err)
+
+
+# Makes the calls that standard input holds, a number and six arguments each; a filter denies all but exit_group.
+CALLS = r"""
+#include <linux/filter.h>
+#include <linux/seccomp.h>
+#include <stdio.h>
+#include <sys/prctl.h>
+#include <unistd.h>
+static void call(long number, long *a)
+{
+    register long r10 asm("r10") = a[3], r8 asm("r8") = a[4], r9 asm("r9") = a[5];
+    asm volatile("syscall" : "+a"(number) : "D"(a[0]), "S"(a[1]), "d"(a[2]), "r"(r10), "r"(r8), "r"(r9)
+                 : "rcx", "r11", "memory");
+}
+static long calls[1 << 16][7];
+int main(void)
+{
+    struct sock_filter code[] = {{BPF_LD | BPF_W | BPF_ABS, 0, 0, 0}, {BPF_JMP | BPF_JEQ | BPF_K, 0, 1, 231},
+        {BPF_RET, 0, 0, SECCOMP_RET_ALLOW}, {BPF_RET, 0, 0, SECCOMP_RET_ERRNO | 1}};
+    struct sock_fprog program = {4, code};
+    size_t count = fread(calls, sizeof *calls, 1 << 16, stdin);
+    if (prctl(PR_SET_NO_NEW_PRIVS, 1, 0, 0, 0) || prctl(PR_SET_SECCOMP, SECCOMP_MODE_FILTER, &program))
+        return 99;
+    for (size_t at = 0; at < count; at++)
+        call(calls[at][0], calls[at] + 1);
+    _exit(0);
+}
+"""
+
+
+@unittest.skipUnless(shutil.which("strace") and shutil.which("cc"), "there is no strace, or no C compiler here")
+class Registers(Case):
+    """What a program has in its registers, and what is taken of strace's lines for them."""
+
+    # So many operations are tried where the first arguments say which others there are.
+    OPERATIONS = {"futex": 14, "ptrace": 34, "prctl": 65, "keyctl": 32, "fcntl": 17}
+    # exit_group ends the program; the kernel answers the two others, which no program makes by itself, with SIGILL.
+    LEFT_OUT = ("exit_group", "uretprobe", "uprobe")
+
+    def calls(self):
+        """Numbers and arguments: corners, and in each of the first places an operation."""
+        for number in sorted(TABLE.numbers()):
+            name = TABLE.names_of(number)[0]
+            if name in self.LEFT_OUT:
+                continue
+            yield from ((number, *[value] * 6) for value in (0, -1, 0xFFFFFFFF, 0x80000001))
+            for place in range(3):
+                for value in range(self.OPERATIONS.get(name, 4)):
+                    arguments = list(range(1001, 1007))
+                    arguments[place] = value
+                    yield (number, *arguments)
+
+    def traced(self, calls, *words):
+        """The lines of a log of these calls, in their order."""
+        log, made = os.path.join(self.folder, "log"), os.path.join(self.folder, "calls")
+        if not os.path.exists(made):
+            subprocess.run(["cc", "-x", "c", "-w", "-o", made, "-"], input=CALLS.encode(), check=True)
+        data = b"".join(struct.pack("<7q", *call) for call in calls)
+        done = subprocess.run(["strace", "-n", "-o", log, *words, made], input=data, stderr=subprocess.PIPE,
+                              check=False)
+        if done.returncode == 99 or done.returncode and not os.path.exists(log):
+            self.skipTest("strace may not trace, or no filter can be installed here")
+        self.assertEqual(done.returncode, 0, done.stderr)
+        with open(log, encoding="latin-1") as file:
+            lines = file.read().split("\n")
+        mark = re.compile(r"\[ 157\] prctl\((?:PR_SET_SECCOMP|0x16)\b")
+        first = max(at for at, line in enumerate(lines[:200]) if mark.match(line))
+        return lines[first + 1:first + 1 + len(calls)]
+
+    def test_each_call(self):
+        calls = list(self.calls())
+        for words in ((), ("-X", "raw"), ("-X", "verbose"), ("-e", "raw=all"), ("-yy",)):
+            known = shown = 0
+            for (number, *registers), line in zip(calls, self.traced(calls, *words)):
+                leader = straces.LEADER.match(line)
+                self.assertEqual(int(leader[3]), number)
+                name = straces.CALL.match(line, leader.end())
+                printed = straces.arguments_in(line, name.end())[0]
+                for place, text in straces._in_registers(name[1], printed).items():
+                    values = straces.values_of(text)
+                    shown, known = shown + 1, known + (values is not None)
+                    # what stands above the 16 bits of a mode is neither zero nor the sign
+                    if values is not None and not (text.strip()[:3] == "001" and registers[place] == 0x80000001):
+                        self.assertIn(registers[place] % HIGH, values, line)
+            self.assertGreater(known, shown * 9 // 10, words)
+
+
+@unittest.skipUnless(shutil.which("cc"), "there is no C compiler here")
+class Symbols(Case):
+    """tables/arguments.symbols."""
+
+    def test_it_is_what_the_headers_say(self):
+        status, out, err = self.run_tool("symbol-table")
+        if status == 3 and "cc: " in err:
+            self.skipTest(f"a header isn't there: {err}")
+        self.assertEqual((status, err), (0, ""))
+        here = dict(line.split() for line in out.split("\n") if line and line[0] != "#")
+        with open(straces.SYMBOLS, encoding="ascii") as file:
+            table = dict(line.split() for line in file if line[0] != "#")
+        unlike = {name for name in here if name in table and here[name] != table[name]}
+        # these grow with each kernel
+        self.assertEqual(unlike - {"AF_MAX", "IPPROTO_MAX", "PTRACE_O_MASK", "SCHED_FLAG_ALL"}, set())
+        self.assertGreater(len(here.keys() & table.keys()), 1000)
+
+    def test_usage(self):
+        self.assertEqual(self.run_tool("symbol-table", "a")[:2], (2, ""))
+        self.assertEqual(self.run_tool("symbol-table", "--help")[::2], (0, ""))
+        status, out, err = self.run_words([sys.executable, tool("symbol-table")], env={"PATH": self.folder})
+        self.assertEqual((status, out, err), (3, "", "symbol-table: cc can't be run: No such file or directory\n"))
 
 
 @unittest.skipUnless(shutil.which("strace"), "there is no strace here")
