@@ -1,7 +1,9 @@
 """What numbers the calls of x86-64: a header of the kernel, its source's own table, and the installed libseccomp."""
 from __future__ import annotations
 
+import os
 import re
+from collections.abc import Callable
 
 from . import program
 
@@ -14,6 +16,8 @@ NAME = re.compile(r"[A-Za-z_]\w*", re.A)
 COUNT = "syscalls"
 # SCMP_ARCH_X86_64 (seccomp.h of libseccomp); its numbers end far below this.
 ARCHITECTURE, NUMBERS = 0xC000003E, 4096
+# __NR_SCMP_ERROR, which stands for a name that libseccomp doesn't know.
+UNKNOWN = -1
 
 
 def _add(calls: dict[str, int], name: str, digits: str, line: int | None = None) -> None:
@@ -65,15 +69,30 @@ def calls_of(data: bytes) -> dict[str, int]:
     return calls
 
 
+def _library():
+    import ctypes  # pylint: disable=import-outside-toplevel
+
+    try:
+        return ctypes.CDLL("libseccomp.so.2")
+    except OSError as error:
+        raise program.Refused("libseccomp can't be asked: there is no library libseccomp.so.2",
+                              program.FAILED) from error
+
+
+def known_names() -> Callable[[str], bool]:
+    """What says whether the installed libseccomp knows a call by this name, of any architecture."""
+    import ctypes  # pylint: disable=import-outside-toplevel
+
+    resolve = _library().seccomp_syscall_resolve_name
+    resolve.restype, resolve.argtypes = ctypes.c_int, [ctypes.c_char_p]
+    return lambda name: resolve(os.fsencode(name)) != UNKNOWN
+
+
 def _libseccomp():
     """The library, and what frees the names that it gives."""
     import ctypes  # pylint: disable=import-outside-toplevel
 
-    try:
-        library, libc = ctypes.CDLL("libseccomp.so.2"), ctypes.CDLL(None)
-    except OSError as error:
-        raise program.Refused("libseccomp can't be asked: there is no library libseccomp.so.2",
-                              program.FAILED) from error
+    library, libc = _library(), ctypes.CDLL(None)
     resolve = library.seccomp_syscall_resolve_num_arch
     resolve.restype, resolve.argtypes = ctypes.c_void_p, [ctypes.c_uint32, ctypes.c_int]
     libc.free.restype, libc.free.argtypes = None, [ctypes.c_void_p]

@@ -14,14 +14,21 @@ import re
 from collections.abc import Callable, Iterator, Sequence
 from dataclasses import dataclass, field
 
-from . import program
+from . import numbering, output, program
 from .engines import OCI_ARCH
 
-PROPERTIES = ("LoadState", "SystemCallFilter", "SystemCallErrorNumber", "SystemCallArchitectures", "SystemCallLog")
+PROPERTIES = ("Id", "LoadState", "NeedDaemonReload", "FragmentPath", "DropInPaths", "SystemCallFilter",
+              "SystemCallErrorNumber", "SystemCallArchitectures", "SystemCallLog")
+# The sections of those units that run processes (systemd.exec(5)).
+SECTIONS = {kind: f"[{kind.capitalize()}]" for kind in ("service", "socket", "mount", "swap")}
 # How `systemctl show` prints the error number of what is killed: SECCOMP_ERROR_NUMBER_KILL, which is INT_MAX - 1; older
 # systemds print 0.
 KILLED = ("2147483646", "0", "kill", "")
 MOST_ERRNO = 4095
+# asm-generic/errno.h; Python's module lacks it.
+ERRNOS = {**{name: number for number, name in errno.errorcode.items()}, "EHWPOISON": 133}
+# An errno as safe_atoi of systemd's basic/parse-util.c reads it: in C's notation, also with the prefixes 0b and 0o.
+NUMBER = re.compile(r"\+?(?:0[xX][0-9a-fA-F]+|0[bB][01]+|0[oO][0-7]+|0[0-7]*|[1-9][0-9]*)|-0", re.A)
 # What each list of allowed calls has beside those that it names.
 IMPLIED = "@default"
 # The names of ConditionArchitecture= and SystemCallArchitectures=, and those of the OCI specification.
@@ -35,6 +42,8 @@ ARCHITECTURES = {name: f"SCMP_ARCH_{oci}" for name, oci in (
 LOCAL = (OCI_ARCH, "SCMP_ARCH_X86", "SCMP_ARCH_X32")
 # The most bytes of what a command of systemd prints, and the deepest nesting of groups.
 MOST_PRINTED, DEEPEST = 1 << 20, 16
+# The most bytes of a unit's file, and so many names that are left out are told.
+MOST_BYTES, MOST_TOLD = 1 << 20, 20
 
 
 class Refused(Exception):
@@ -93,9 +102,9 @@ def answer_of_errno(text: str) -> Answer:
     """What an errno by its name or its number stands for, or the word `kill`."""
     if text in (KILLED[0], "kill"):
         return KILL
-    number = getattr(errno, text, None) if re.fullmatch("E[A-Z0-9]+", text) else None
-    if number is None and re.fullmatch("[0-9]{1,4}", text):
-        number = int(text)
+    number = getattr(errno, text, ERRNOS.get(text)) if re.fullmatch("E[A-Z0-9]+", text) else None
+    if number is None and len(text) <= 16 and NUMBER.fullmatch(text):
+        number = int(re.sub("^([+-]?)0(?=[0-7])", r"\g<1>0o", text), 0)
     if number is None or number > MOST_ERRNO:
         raise Refused(f"'{text[:64]}' is no errno")
     return Answer("SCMP_ACT_ERRNO", number)
@@ -131,17 +140,29 @@ def groups_of(text: str) -> dict[str, list[str]]:
 
 
 class Reader:
-    """Reads lists of calls; groups are asked for where a list names one, and what is left out is told."""
+    """Reads lists of calls; groups are asked for where a list names one, and what is left out is told.
 
-    def __init__(self, groups: Callable[[], dict[str, list[str]]], tell: Callable[[str], None]) -> None:
+    A name that systemd's libseccomp doesn't know is left out, as systemd does; where that can't be asked, none is.
+    """
+
+    def __init__(self, groups: Callable[[], dict[str, list[str]]], tell: Callable[[str], None],
+                 is_call: Callable[[str], bool] = lambda name: True) -> None:
         self.ask = groups
         self.tell = tell
+        self.is_call = is_call
+        # whether a word that systemd leaves out is left out, and not refused
+        self.is_lenient = False
         self.known: dict[str, list[str]] | None = None
+        # the names that are left out, in their order
+        self.unknown: dict[str, None] = {}
 
     def calls_of(self, name: str, depth: int = 0) -> Iterator[str]:
         """The calls of a name, which may be a group's."""
         if not name.startswith("@"):
-            yield name
+            if self.is_call(name):
+                yield name
+            else:
+                self.unknown[name] = None
             return
         if self.known is None:
             self.known = self.ask()
@@ -159,7 +180,13 @@ class Reader:
         if colon and not is_inverted:
             self.tell(f"{word} left out: a call that is allowed takes no errno")
             return
-        own = answer_of_errno(text) if colon else None
+        try:
+            own = answer_of_errno(text) if colon else None
+        except Refused as why:
+            if not self.is_lenient:
+                raise
+            self.tell(f"{word} left out: {why}")
+            return
         for call in self.calls_of(name):
             if is_inverted == found.is_inverted or own is not None:
                 found.calls[call] = own
@@ -182,6 +209,14 @@ class Reader:
             for word in words:
                 self.add(found, word, is_inverted)
         return found if found is None or found.calls or not found.is_inverted else None
+
+    def tell_unknown(self) -> None:
+        """Says which names were left out, since libseccomp doesn't know them."""
+        if self.unknown:
+            names = list(self.unknown)
+            more = f" and {len(names) - MOST_TOLD} more" if len(names) > MOST_TOLD else ""
+            self.tell(f"left out, as systemd does with names that its libseccomp doesn't know: "
+                      f"{', '.join(names[:MOST_TOLD])}{more}")
 
     def shown(self, text: str) -> CallList | None:
         """The list that `systemctl show` prints, in which groups are resolved; `~` alone is one that isn't set."""
@@ -210,6 +245,63 @@ def all_groups() -> dict[str, list[str]]:
     return groups_of(printed_by(["systemd-analyze", "--no-pager", "syscall-filter"]))
 
 
+def assignments_of(text: str, section: str, setting: str) -> Iterator[str]:
+    """The values that a unit's file assigns to a setting of a section, in their order (systemd.syntax(7))."""
+    begun, current = "", ""
+    for line in text.split("\n"):
+        if line.lstrip().startswith(("#", ";")):
+            continue
+        whole, begun = begun + line, ""
+        if (len(whole) - len(whole.rstrip("\\"))) % 2:
+            begun = f"{whole[:-1]} "
+            continue
+        name, equals, value = (it.strip() for it in whole.partition("="))
+        if name.startswith("["):
+            current = whole.strip()
+        elif equals and name == setting and current == section:
+            yield value
+
+
+def files_of(shown: dict[str, str]) -> Iterator[str]:
+    """The texts of the files that systemd has read a unit from: its own file, and the drop-ins in their order."""
+    import shlex  # pylint: disable=import-outside-toplevel
+
+    for path in [shown.get("FragmentPath", ""), *shlex.split(shown.get("DropInPaths", ""))]:
+        try:
+            with open(path, "rb") as file:
+                data = file.read(MOST_BYTES + 1)
+        except OSError as error:
+            raise Unknown(f"'{output.escaped(path)}' can't be read: {error.strerror}") from error
+        if len(data) > MOST_BYTES:
+            raise Unknown(f"'{output.escaped(path)}' has more than {MOST_BYTES} bytes")
+        yield data.decode("utf-8", "surrogateescape")
+
+
+class Unknown(Exception):
+    """What a unit's files say isn't known."""
+
+
+def denied_by(shown: dict[str, str], allowed: CallList, reader: Reader) -> dict[str, Answer | None]:
+    """The calls that a list of allowed calls denies by an errno of their own, as `SystemCallFilter=~clone3:EINVAL`.
+
+    systemd doesn't show them (property_get_syscall_filter of its core/dbus-execute.c), so the unit's files are read.
+    """
+    if shown.get("NeedDaemonReload") != "no":
+        raise Unknown("its files aren't those that systemd has read; run systemctl daemon-reload")
+    section = SECTIONS.get(shown.get("Id", "").rpartition(".")[2], "")
+    values = [value for text in files_of(shown) for value in assignments_of(text, section, "SystemCallFilter")]
+    if not any(value.startswith("~") and ":" in value for value in values):
+        return {}
+    reader.is_lenient = True
+    listed = reader.assigned(values)
+    if listed is None or listed.is_inverted:
+        raise Unknown("its files state another list than systemd shows")
+    own = {call: answer for call, answer in listed.calls.items() if answer is not None}
+    if not allowed.calls.keys() <= listed.calls.keys() - own.keys():
+        raise Unknown("its files state another list than systemd shows")
+    return own
+
+
 def of_unit(unit: str, reader: Reader) -> Settings:
     """What a unit states, as its manager shows it."""
     text = printed_by(["systemctl", "--no-pager", "show", *(f"--property={name}" for name in PROPERTIES), "--", unit])
@@ -219,7 +311,14 @@ def of_unit(unit: str, reader: Reader) -> Settings:
     if "SystemCallFilter" not in shown:
         raise program.Refused(f"the unit {unit} runs no processes of its own: it has no SystemCallFilter",
                               program.FAILED)
-    return Settings(reader.shown(shown["SystemCallFilter"]), refusal_of(shown.get("SystemCallErrorNumber", "")),
+    found = reader.shown(shown["SystemCallFilter"])
+    if found is not None and not found.is_inverted:
+        try:
+            found.calls.update(denied_by(shown, found, reader))
+        except (Unknown, ValueError) as why:
+            raise program.Refused("it can't be known which calls the list of allowed calls denies by an errno of their "
+                                  f"own, which systemctl show doesn't show: {why}", program.UNKNOWN) from why
+    return Settings(found, refusal_of(shown.get("SystemCallErrorNumber", "")),
                     architectures_of(shown.get("SystemCallArchitectures", "")),
                     reader.shown(shown.get("SystemCallLog", "~")))
 

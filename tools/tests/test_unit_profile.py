@@ -1,10 +1,16 @@
 """tools/unit-profile: the settings of systemd.exec(5), by stand-ins that print what systemd 252 prints."""
+import ctypes.util
 import json
 import os
+import re
 import shutil
+import signal
+import subprocess
+import tempfile
+import time
 import unittest
 
-from common import SCF, TABLE, Case, part
+from common import SCF, TABLE, Case, comes, part, tool
 
 ALLOW, ERRNO, KILL, LOG = (f"SCMP_ACT_{name}" for name in ("ALLOW", "ERRNO", "KILL_PROCESS", "LOG"))
 NATIVE, ALL = ["SCMP_ARCH_X86_64"], ["SCMP_ARCH_X86_64", "SCMP_ARCH_X86", "SCMP_ARCH_X32"]
@@ -46,10 +52,14 @@ class UnitProfile(Case):
 
     def shows(self, *lines, **members):
         """Has systemctl show these settings of a unit."""
-        found = {"LoadState": "loaded", "SystemCallFilter": "~", "SystemCallArchitectures": "",
-                 "SystemCallErrorNumber": KILLED, "SystemCallLog": "~", **members}
+        found = {"Id": "box.service", "LoadState": "loaded", "NeedDaemonReload": "no", "DropInPaths": "",
+                 "FragmentPath": self.unit_file("box.service", ""), "SystemCallFilter": "~",
+                 "SystemCallArchitectures": "", "SystemCallErrorNumber": KILLED, "SystemCallLog": "~", **members}
         text = "".join(f"{name}={value}\n" for name, value in found.items() if value is not None)
         self.stand_in("systemctl", f"cat <<'END'\n{text}END")
+
+    def unit_file(self, name, text):
+        return self.file(f"units/{name}", text)
 
     def printed(self, *words):
         """The profile by these words, with its calls by their answers, and what is said."""
@@ -82,7 +92,8 @@ class UnitProfile(Case):
             asked = file.read().split("\n")[:-1]
         self.assertEqual((asked[:2], asked[-2:]), (["--no-pager", "show"], ["--", "box.service"]))
         self.assertEqual(sorted(asked[2:-2]), [f"--property={name}" for name in (
-            "LoadState", "SystemCallArchitectures", "SystemCallErrorNumber", "SystemCallFilter", "SystemCallLog")])
+            "DropInPaths", "FragmentPath", "Id", "LoadState", "NeedDaemonReload", "SystemCallArchitectures",
+            "SystemCallErrorNumber", "SystemCallFilter", "SystemCallLog")])
         self.assertFalse(os.path.exists(os.path.join(self.folder, "systemd-analyze.words")))
 
     def test_a_unit_that_lists_what_is_allowed(self):
@@ -99,6 +110,76 @@ class UnitProfile(Case):
                                           (KILL, None): {"swapon"}}, ALL, ""))
         calls = self.of_unit(SystemCallFilter="~mount swapon:EPERM")[1]
         self.assertEqual(calls, {(KILL, None): {"mount"}, (ERRNO, 1): {"swapon"}})
+
+    def denied(self, *texts, **members):
+        """What a unit denies by an errno of their own whose file and drop-ins have these texts."""
+        paths = [self.unit_file(f"{at} unit.conf", text) for at, text in enumerate(texts)]
+        drop_ins = " ".join(f'"{path}"' for path in paths[1:])
+        found, calls, _, err = self.of_unit(**{"SystemCallFilter": "read write", "FragmentPath": paths[0],
+                                               "DropInPaths": drop_ins, **members})
+        self.assertEqual(found, (KILL, None))
+        self.assertEqual(calls.pop((ALLOW, None)), {"read", "write"})
+        return calls, err
+
+    def test_what_an_allowing_unit_denies_by_an_errno(self):
+        """systemctl show leaves that out; files and drop-ins by systemd.syntax(7)."""
+        own = {(ERRNO, 22): {"clone3"}}
+        for texts in (("[Service]\nSystemCallFilter=read write\nSystemCallFilter=~clone3:EINVAL\n",),
+                      ("[Service]\nSystemCallFilter=@inner\n", "[Service]\nSystemCallFilter = ~clone3:EINVAL \n"),
+                      ("[Service]\nSystemCallFilter=@inner mount\n[Unit]\nSystemCallFilter=~mount:E2BIG\n"
+                       "[Service]\n#SystemCallFilter=~mount:E2BIG\n ; SystemCallFilter=\n"
+                       "SystemCallFilter=~\\\n# a comment\n "
+                       " clone3:EINVAL\\\n mount\n",),
+                      ("[Service]\nSystemCallFilter=mount\nSystemCallFilter=~mount:E2BIG\n",
+                       "[Service]\nSystemCallFilter=\nSystemCallFilter=@inner\nSystemCallFilter=~clone3:22\n"),
+                      ("[Service]\nSystemCallFilter=@inner\nSystemCallFilter=~clone3:EINVAL mount:E2BIG read:1\n",
+                       "[Service]\nSystemCallFilter=mount read\nSystemCallFilter=~mount\n")):
+            self.assertEqual(self.denied(*texts), (own, ""), texts)
+        self.assertEqual(self.denied("[Service]\nSystemCallFilter=@inner\nSystemCallFilter=~mount:08 clone3:22\n"),
+                         (own, "unit-profile: mount:08 left out: '08' is no errno\n"))
+        self.assertEqual(self.denied("[Service]\nSystemCallFilter=@inner\n[Socket]\nSystemCallFilter=~clone3:22\n"),
+                         ({}, ""))
+
+    def test_what_can_not_be_known_of_a_unit(self):
+        changed = "its files aren't those that systemd has read"
+        for members, says in (({"NeedDaemonReload": "yes"}, changed), ({"NeedDaemonReload": None}, changed),
+                              ({"FragmentPath": "/none/box.service"}, "'/none/box.service' can't be read: No"),
+                              ({"FragmentPath": ""}, "'' can't be read"), ({"DropInPaths": '"'}, "No closing"),
+                              ({"FragmentPath": self.unit_file("u", "[Service]\nSystemCallFilter=mount\n"
+                                                               "SystemCallFilter=~clone3:EINVAL")}, "another list"),
+                              ({"FragmentPath": self.unit_file("v", "[Service]\nSystemCallFilter=~clone3:EINVAL")},
+                               "another list")):
+            self.shows(SystemCallFilter="read", **members)
+            self.refused(4, "it can't be known which calls the list of allowed calls denies by an errno of their own",
+                         "box.service")
+            self.refused(4, says, "box.service")
+            # a list of denied calls is shown whole
+            self.shows(SystemCallFilter="~read", **members)
+            self.assertEqual(self.printed("box.service")[0], (ALLOW, None))
+
+    def test_numbers_of_errnos(self):
+        """As strtol(3) reads them with base 0, and safe_atoi of systemd 252, which knows 0b and 0o, too."""
+        for text, number in (("010", 8), ("0x10", 16), ("0b11", 3), ("0o17", 15), ("00", 0), ("+7", 7), ("-0", 0),
+                             ("EHWPOISON", 133), ("EWOULDBLOCK", 11), ("ENOTSUP", 95)):
+            self.assertEqual(self.printed("--set", f"~read:{text}")[1], {(ERRNO, number): {"read"}}, text)
+        self.assertEqual(self.printed("--set", "~read", "--errno", "010")[1], {(ERRNO, 8): {"read"}})
+        for text in ("08", "0x", "1_0", "0b2", "-1", "4096", "9" * 5000, "EHWPOISON1", "\u0663"):
+            self.refused(1, "is no errno", "--set", f"~read:{text}")
+
+    @unittest.skipUnless(ctypes.util.find_library("seccomp"), "there is no libseccomp here")
+    def test_names_that_libseccomp_does_not_know(self):
+        says = "unit-profile: left out, as systemd does with names that its libseccomp doesn't know: no_such_call\n"
+        self.assertEqual(self.printed("--set", "~no_such_call mount _llseek")[1::2], ({(KILL, None): {
+            "mount", "_llseek"}}, says))
+        self.assertEqual(self.printed("--set", "no_such_call read")[1::2], (
+            {(ALLOW, None): {"brk", "exit_group", "read"}}, says))
+        many = self.printed("--set", "~" + " ".join(f"no_such_{at}" for at in range(30)))[3]
+        self.assertIn("no_such_19 and 10 more\n", many)
+        # what Debian's resolver says of a name; it asks the library itself
+        if shutil.which("scmp_sys_resolver"):
+            for name in ("mseal", "listmount", "fchmodat2", "cachestat", "clone3"):
+                is_known = self.run_words(["scmp_sys_resolver", name])[1].strip() != "-1"
+                self.assertEqual(bool(self.printed("--set", f"~{name}")[1]), is_known, name)
 
     def test_a_unit_without_a_filter(self):
         says = "unit-profile: there is no SystemCallFilter: all calls are made\n"
@@ -211,3 +292,138 @@ class UnitProfile(Case):
         with open("/dev/full", "wb") as full:
             status, _, err = self.run_tool("unit-profile", "box", env=self.env, stdout=full)
         self.assertEqual((status, err), (3, "unit-profile: the output failed: No space left on device\n"))
+
+
+SYSTEMD = "/lib/systemd/systemd"
+# Makes systemd the first process of namespaces of its own, which sees one folder of cgroups and our units.
+BOOT = """
+echo $$ >"$1/cgroup.procs" && exec unshare --kill-child -p --fork -m -u -i -n --cgroup --mount-proc sh -c '
+    mount -t tmpfs none /run && mount -t tmpfs none /sys/fs/cgroup && mount -t cgroup2 none /sys/fs/cgroup &&
+    exec env container=scf SYSTEMD_UNIT_PATH="$1": "$2" --system --unit=scf-none.target' boot "$2" "$3"
+"""
+ALLOWING = """[Unit]
+DefaultDependencies=no
+[Service]
+ExecStart=/bin/sleep 300
+SystemCallFilter=@system-service
+SystemCallFilter=~clone3:EINVAL chmod:010 fchmod:EHWPOISON mseal:EPERM chown:08 lchown:+7
+SystemCallErrorNumber=EPERM
+"""
+DROP_IN = """[Service]
+SystemCallFilter=~mkdir:0x10 \\
+# a comment
+ rmdir:0b11
+"""
+DENYING = """[Unit]
+DefaultDependencies=no
+[Service]
+ExecStart=/bin/sleep 300
+SystemCallFilter=~mseal listmount mount:0 swapoff:E2BIG reboot:0o17 syncfs:kill swapon
+SystemCallErrorNumber=010
+SystemCallArchitectures=native
+"""
+
+
+@unittest.skipUnless(os.geteuid() == 0 and os.path.exists(SYSTEMD), "needs root and systemd")
+class RealSystemd(Case):
+    """A real systemd in namespaces of its own: the filters of its units are what unit-profile says."""
+
+    def setUp(self):
+        super().setUp()
+        for name, text in (("scf-none.target", "[Unit]\nDefaultDependencies=no\n"), ("scf-allow.service", ALLOWING),
+                           ("scf-allow.service.d/a.conf", DROP_IN), ("scf-deny.service", DENYING)):
+            self.file(f"units/{name}", text)
+        self.cgroup = self.made_cgroup()
+        self.boot = subprocess.Popen(["sh", "-c", BOOT, "boot", self.cgroup, f"{self.folder}/units", SYSTEMD],
+                                     stdin=subprocess.DEVNULL, stdout=subprocess.DEVNULL, stderr=subprocess.DEVNULL)
+        self.addCleanup(self.end)
+        if not self.comes(lambda: self.inside("systemctl", "show", "--property=Version")[0] == 0):
+            self.skipTest("systemd can't be the first process of namespaces here")
+
+    def comes(self, holds):
+        until = time.monotonic() + 20
+        while time.monotonic() < until and self.boot.poll() is None:
+            if holds():
+                return True
+            time.sleep(0.05)
+        return False
+
+    def made_cgroup(self):
+        with open("/proc/mounts", encoding="utf-8") as file:
+            found = [line.split()[1] for line in file if line.split()[2] == "cgroup2"]
+        if not found:
+            self.skipTest("there are no cgroups of version 2 here")
+        try:
+            path = tempfile.mkdtemp(prefix="scf-systemd-", dir=found[0])
+        except OSError as error:
+            self.skipTest(f"no cgroup can be made here: {error.strerror}")
+        self.addCleanup(self.remove, path)
+        return path
+
+    def remove(self, path):
+        """Removes a cgroup with all below it, once their processes have ended."""
+        for folder, _, _ in os.walk(path, topdown=False):
+            comes(lambda folder=folder: not self.is_there(folder))
+
+    @staticmethod
+    def is_there(folder):
+        try:
+            os.rmdir(folder)
+        except FileNotFoundError:
+            return False
+        except OSError:
+            pass
+        return os.path.exists(folder)
+
+    def end(self):
+        """Ends systemd, by which all that it has started ends."""
+        first = self.first()
+        if first:
+            os.kill(first, signal.SIGKILL)
+        self.boot.kill()
+        self.boot.wait()
+
+    def first(self):
+        with open(f"/proc/{self.boot.pid}/task/{self.boot.pid}/children", encoding="ascii") as file:
+            return int((file.read().split() or ["0"])[0])
+
+    def inside(self, *words):
+        first = self.first()
+        return self.run_words(["nsenter", "-t", str(first), "-m", "-u", "-i", "-n", "-p", "-C", *words]) if first else (
+            1, "", "")
+
+    def pid_of(self, unit):
+        """The unit's process, seen from outside."""
+        inner = self.inside("systemctl", "show", "--property=MainPID", "--value", unit)[1].strip()
+        for name in filter(str.isdigit, os.listdir("/proc")) if inner not in ("", "0") else ():
+            try:
+                with open(f"/proc/{name}/status", encoding="utf-8", errors="replace") as file:
+                    status = file.read()
+                with open(f"/proc/{name}/cgroup", encoding="utf-8") as file:
+                    is_ours = os.path.basename(self.cgroup) in file.read()
+            except OSError:
+                continue
+            if is_ours and re.search(rf"^NSpid:.*\t{inner}$", status, re.M) and "\nName:\tsleep\n" in f"\n{status}":
+                return name
+        return None
+
+    def test_units(self):
+        for unit in ("scf-allow.service", "scf-deny.service"):
+            self.assertEqual(self.inside("systemctl", "start", "--no-block", unit)[0], 0)
+            self.assertTrue(self.comes(lambda unit=unit: self.pid_of(unit)), unit)
+            status, out, err = self.inside(tool("unit-profile"), unit)
+            self.assertEqual(status, 0, err)
+            profile = self.file("profile.json", out)
+            found = self.run_tool("verify-process", self.pid_of(unit), profile)
+            self.assertEqual((found[0], found[1].split("\n")[0]), (0, "same"), found)
+        # what --set states is what the unit states
+        lists = re.findall("SystemCallFilter=(.*)", DENYING)
+        out = self.run_tool("unit-profile", "--set", *lists, "--errno", "010", "--architectures", "native")[1]
+        found = self.run_tool("verify-process", self.pid_of("scf-deny.service"), self.file("set.json", out))
+        self.assertEqual((found[0], found[1].split("\n")[0]), (0, "same"), found)
+        # a file that changed isn't what systemd has read
+        self.file("units/scf-allow.service", ALLOWING + "#\n")
+        os.utime(f"{self.folder}/units/scf-allow.service", (2000000000, 2000000000))
+        status, out, err = self.inside(tool("unit-profile"), "scf-allow.service")
+        self.assertEqual((status, out), (4, ""))
+        self.assertIn("run systemctl daemon-reload", err)
