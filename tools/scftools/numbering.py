@@ -12,6 +12,9 @@ X32 = 0x40000000
 DEFINE = re.compile(r"^[ \t]*#[ \t]*define[ \t]+__NR_([A-Za-z_]\w*)[ \t]+([0-9]+)[ \t\r\f\v]*$", re.M | re.A)
 COMMENT = re.compile(r"/\*.*?(?:\*/|\Z)|//[^\n]*", re.S)
 NAME = re.compile(r"[A-Za-z_]\w*", re.A)
+ROW = re.compile(r"[^\n]+")
+# The first row that isn't empty and no comment.
+FIRST = re.compile(r"^[ \t\r]*([^ \t\r\n#][^\n]*)", re.M)
 # A count, and no call.
 COUNT = "syscalls"
 # SCMP_ARCH_X86_64 (seccomp.h of libseccomp); its numbers end far below this.
@@ -22,7 +25,8 @@ UNKNOWN = -1
 
 def _add(calls: dict[str, int], name: str, digits: str, line: int | None = None) -> None:
     at = "" if line is None else f"line {line}: "
-    number = int(digits) if len(digits.lstrip("0")) <= 10 else X32
+    digits = digits.lstrip("0") or "0"
+    number = int(digits) if len(digits) <= 10 else X32
     if number >= X32:
         raise program.Refused(f"{at}the number of {name} isn't below {X32}")
     if calls.setdefault(name, number) != number:
@@ -42,8 +46,11 @@ def of_header(text: str) -> dict[str, int]:
 def of_source_table(text: str) -> dict[str, int]:
     """The calls of syscall_64.tbl: its rows of a number, `common` or `64`, a name and entries, without those of x32."""
     calls: dict[str, int] = {}
-    for line, row in enumerate(text.split("\n"), 1):
-        fields = row.split("#", 1)[0].split()
+    line, begun = 1, 0
+    for found in ROW.finditer(text):
+        line, begun = line + text.count("\n", begun, found.start()), found.start()
+        row = found[0]
+        fields = row.split("#", 1)[0].split(None, 3)
         if not fields:
             continue
         if len(fields) < 3 or not re.fullmatch(r"[0-9]+", fields[0], re.A):
@@ -61,7 +68,8 @@ def calls_of(data: bytes) -> dict[str, int]:
     """The calls of a header, or of a table where no line of it defines anything."""
     text = data.decode("utf-8", "surrogateescape")
     calls = of_header(text)
-    if not calls and re.match(r"(?:[ \t\r]*(?:#[^\n]*)?\n)*[ \t]*[0-9]+[ \t]+[A-Za-z0-9]+[ \t]", text):
+    first = FIRST.search(text)
+    if not calls and first and re.match(r"[0-9]+[ \t]+[A-Za-z0-9]+[ \t]", first[1]):
         calls = of_source_table(text)
     if not calls:
         raise program.Refused("the header numbers no call: it has no line `#define __NR_NAME NUMBER`, and no row "

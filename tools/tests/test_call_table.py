@@ -90,6 +90,13 @@ class CallTable(Case):
         self.refuses(b"0 common read sys_read\n1 common read sys_read\n", "line 2: read has the numbers 0 and 1")
         self.refuses(b"1073741824 common read sys_read\n", "line 1: the number of read isn't below 1073741824")
         self.refuses(b"9" * 5000 + b" common read sys_read\n", "line 1: the number of read isn't below 1073741824")
+        self.refuses(b"\n\n#\n\n0 common read sys_read\n\n\n1 common\n", "line 8 has no number, ABI and name")
+
+    def test_many_digits(self):
+        """More than Python makes a number of (4300)."""
+        for given in (b"#define __NR_read %s7\n", b"%s7 common read sys_read\n"):
+            self.assertEqual(self.run_tool("call-table", given=given % (b"0" * 5000)), (0, "read 7\n", ""))
+            self.refuses(given % (b"1" * 5000), "the number of read isn't below 1073741824")
 
     def test_a_header_without_calls(self):
         for given in (b"", b"#define __NR_syscalls 3\n", b"/* #define __NR_a 1 */\n", b"\x7fELF\0\0", b"read 0\n",
@@ -111,8 +118,11 @@ class CallTable(Case):
     def test_the_longest_input(self):
         """In time that doesn't grow with the square of its length, which would be hours; two seconds are measured."""
         for given in (b"/" * LIMIT, b" " * LIMIT, b"\n" * LIMIT, b"#" * LIMIT, b"/*" * (LIMIT // 2),
-                      b"1 " * (LIMIT // 2), b"1 common " * (LIMIT // 9), b"#define __NR_" + b"a" * (LIMIT - 13)):
-            self.assertEqual(self.run_tool("call-table", given=given, seconds=40)[:2], (2, ""))
+                      b"1 " * (LIMIT // 2), b"1 common " * (LIMIT // 9), b"#define __NR_" + b"a" * (LIMIT - 13),
+                      b"\r\n" * (LIMIT // 2), b"#\n" * (LIMIT // 2), b" \n" * (LIMIT // 2 - 9) + b"1 common\n"):
+            # 300 MB are measured
+            status, out, err = self.run_tool("call-table", given=given, preexec_fn=limited(40, 500 << 20))
+            self.assertEqual((status, out, err.count("\n")), (2, "", 1), given[:20])
         row = b"#define __NR_read 0\n"
         self.assertEqual(self.run_tool("call-table", given=row + b" " * (LIMIT - len(row))), (0, "read 0\n", ""))
         self.refuses(row + b" " * (LIMIT + 1 - len(row)), f"more than {LIMIT} bytes")
