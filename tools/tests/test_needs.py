@@ -653,27 +653,94 @@ if library.prctl(38, 1, 0, 0, 0) or library.prctl(22, 2, ctypes.byref(Program(le
 os.execv(sys.argv[2], sys.argv[2:])
 """
 
-    def ended(self, profile):
-        """How the program ends under a profile's filter."""
+    def ended(self, profile, *words):
+        """How a program ends under a profile's filter, and what it prints."""
         filters = os.path.join(self.folder, "f.bpf")
         with open(filters, "wb") as out:
             subprocess.run([tool("compile"), profile], stdout=out, check=True)
-        done = subprocess.run([sys.executable, "-IS", "-c", self.CONFINED, filters, shutil.which("ls"), self.folder],
+        done = subprocess.run([sys.executable, "-IS", "-c", self.CONFINED, filters, shutil.which(words[0]), *words[1:]],
                               stdout=subprocess.PIPE, stderr=subprocess.PIPE, check=False)
         if done.returncode == 99:
             self.skipTest("no filter can be installed here")
-        return done.returncode, b"real.log" in done.stdout
+        return done.returncode, done.stdout
 
-    def test_a_program_runs_under_its_least_profile(self):
+    def log_of(self, *words, options=()):
         log = os.path.join(self.folder, "real.log")
-        subprocess.run(["strace", "-f", "-X", "raw", "-o", log, "ls", self.folder], stdout=subprocess.DEVNULL,
-                       stderr=subprocess.DEVNULL, check=False)
+        done = subprocess.run(["strace", "-f", *options, "-o", log, *words], stdout=subprocess.PIPE,
+                              stderr=subprocess.DEVNULL, check=False)
         if not os.path.exists(log) or not os.path.getsize(log):
             self.skipTest("strace may not trace here")
+        return log, (done.returncode, done.stdout)
+
+    def test_a_program_runs_under_its_least_profile(self):
+        conditions = {"defaultAction": ERRNO, "syscalls": [
+            {"names": [name], "action": ALLOW, "args": [{"index": index, "op": "SCMP_CMP_EQ", "value": 0}]}
+            for name, index in (("clone", 0), ("socket", 0), ("openat", 2), ("mprotect", 2), ("fcntl", 1))]}
+        given = self.file("p.json", json.dumps(conditions))
+        for options in ((), ("-X", "verbose", "-yy", "-T"), ("-v", "-tt", "-n")):
+            for words in (("ls", "/"), ("sh", "-c", "ls / | head -n 1; (exit 3) & wait $!; exit 4"),
+                          ("git", "--version"), ("python3", "-ISc", "import json; print(json.dumps([1]))")):
+                if shutil.which(words[0]):
+                    log, plain = self.log_of(*words, options=options)
+                    status, out, err = self.run_tool("needs", "--profile", log, given)
+                    self.assertEqual((status, err), (0, ""), (options, words))
+                    self.assertEqual(self.ended(self.file("least.json", out), *words), plain, (options, words))
+
+    def test_a_call_that_is_not_made_ends_a_program(self):
+        log, _ = self.log_of("ls", self.folder, options=("-X", "raw"))
         made = json.loads(self.run_tool("needs", "--profile", log, self.file("p.json", profile_of()))[1])
-        self.assertEqual(self.ended(self.file("least.json", json.dumps(made))), (0, True))
         made["syscalls"][0]["names"].remove("getdents64")
         less = self.file("less.json", json.dumps(made))
         self.assertIn("217 getdents64 ERRNO 1 default\n", self.run_tool("needs", log, less)[1])
-        status, is_shown = self.ended(less)
-        self.assertEqual((bool(status), is_shown), (True, False))
+        status, out = self.ended(less, "ls", self.folder)
+        self.assertEqual((bool(status), b"real.log" in out), (True, False))
+
+    # Makes calls, under a filter where one is given, and prints for each whether it failed with errno 77.
+    CALLS = """
+import ctypes, sys
+class Program(ctypes.Structure):
+    _fields_ = [("len", ctypes.c_ushort), ("filter", ctypes.c_char_p)]
+library = ctypes.CDLL(None, use_errno=True)
+library.syscall.restype = ctypes.c_long
+if len(sys.argv) > 2:
+    data = open(sys.argv[2], "rb").read()
+    if library.prctl(38, 1, 0, 0, 0) or library.prctl(22, 2, ctypes.byref(Program(len(data) // 8, data)), 0, 0):
+        sys.exit(99)
+for number, *arguments in eval(sys.argv[1]):
+    failed = library.syscall(*map(ctypes.c_long, (number, *arguments))) == -1 and ctypes.get_errno() == 77
+    print(int(failed))
+"""
+
+    def test_each_call_becomes_what_is_said(self):
+        """Registers that strace prints alike have other fates: what is said of each holds under the filter."""
+        denied = {"defaultAction": ALLOW, "syscalls": [
+            {"names": [name], "action": ERRNO, "errnoRet": 77, "args": [
+                {"index": index, "op": op, "value": value, "valueTwo": value}]}
+            for name, index, op, value in (
+                ("personality", 0, "SCMP_CMP_EQ", HIGH - 1), ("socket", 0, "SCMP_CMP_EQ", 40),
+                ("unshare", 0, "SCMP_CMP_MASKED_EQ", 0x10000000), ("ioctl", 1, "SCMP_CMP_EQ", 0x5412),
+                ("umask", 0, "SCMP_CMP_GT", 0xFFFF), ("dup3", 1, "SCMP_CMP_GT", 0xFFFFFFFF),
+                ("mprotect", 2, "SCMP_CMP_MASKED_EQ", 4))]}
+        calls = [("personality", -1), ("personality", 0xFFFFFFFF), ("personality", 0), ("socket", 40, 1, 0),
+                 ("socket", 1, 0o2000001, 0), ("unshare", 0x10020000), ("unshare", 0x4000000), ("ioctl", 0, 0x5412, 0),
+                 ("ioctl", 0, 0x5401, 0), ("umask", -1), ("umask", 0xFFFF), ("umask", 0o22), ("dup3", 0, -5, 0),
+                 ("dup3", 0, 0xFFFFFFFB, 0), ("mprotect", 0, 0, 5), ("mprotect", 0, 0, 1)]
+        numbered = repr([(TABLE.number_of(name), *arguments) for name, *arguments in calls])
+        profile, looked = self.file("p.json", json.dumps(denied)), {it["names"][0]: it["args"][0]["index"]
+                                                                    for it in denied["syscalls"]}
+        with open(os.path.join(self.folder, "f.bpf"), "wb") as out:
+            subprocess.run([tool("compile"), profile], stdout=out, check=True)
+        done = self.run_words([sys.executable, "-IS", "-c", self.CALLS, numbered, out.name])
+        if done[0] == 99:
+            self.skipTest("no filter can be installed here")
+        failed = [line == "1" for line in done[1].split()]
+        self.assertEqual((len(failed), sum(failed)), (len(calls), 7))
+        for options in ((), ("-X", "raw"), ("-X", "verbose"), ("-y",), ("-e", "raw=all")):
+            log, _ = self.log_of(sys.executable, "-IS", "-c", self.CALLS, numbered, options=options)
+            judged = json.loads(self.run_tool("needs", "--json", log, profile)[1])["calls"]
+            for (name, *arguments), is_denied in zip(calls, failed):
+                value = hex(arguments[looked[name]] % HIGH)
+                fates = {it["fate"] for it in judged if it["name"] == name and value in
+                         it["arguments"][str(looked[name])]}
+                self.assertTrue(fates, (options, name, value))
+                self.assertLessEqual(fates, {"depends", "not made" if is_denied else "made"}, (options, name, value))
