@@ -27,8 +27,8 @@ if TYPE_CHECKING:
     Answers = tuple[Call | None, tuple[Call, Answer] | None]
 
 IS_MADE, ISNT_MADE, DEPENDS, UNTOLD = "made", "not made", "depends", "untold"
-# The most entries with conditions for one name.
-CONDITIONS = 64
+# The most entries with conditions for one name, and the most calls that are judged, each with each of its values.
+CONDITIONS, WAYS = 64, 2000
 REFERRED, EQUAL = ("SCMP_ACT_TRACE", 1), "SCMP_CMP_EQ"
 # What a least profile has of the one that is given, beside its default.
 KEPT = ("architectures", "flags", "listenerPath", "listenerMetadata")
@@ -187,8 +187,13 @@ def find(log: Log, judge: Judge) -> Needs:
             found.unnamed[name] = found.unnamed.get(name, 0) + seen.count
         else:
             traced.append(Traced(number, name, tuple(zip(judge.looked_at(name), values)), seen))
+    ways = 0
     for one in sorted(traced, key=lambda it: (it.number, it.name, it.seen.line)):
-        found.judged.append(judge.of(one))
+        ways += sum(1 for _ in one.known())
+        if ways <= WAYS:
+            found.judged.append(judge.of(one))
+        else:
+            found.left += one.seen.count
     return found
 
 
@@ -225,7 +230,7 @@ def _of_unjudged(needs: Needs) -> Iterator[str]:
     if needs.cut:
         yield f"not judged, since the log lacks their beginning or their end: calls: {needs.cut}"
     if needs.left:
-        yield f"not judged, since they come behind {straces.KEPT} others: calls with other arguments: {needs.left}"
+        yield f"not judged, since there are too many with other arguments: calls: {needs.left}"
     if needs.unread:
         yield f"not judged, since strace didn't write them, or they can't be read: lines: {needs.unread}"
     if not needs.judged:

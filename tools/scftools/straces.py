@@ -18,7 +18,7 @@ from . import inputs, output, program
 LIMIT, LINE, BEGINNING, ARGUMENT = 1 << 30, 1 << 16, 1 << 13, 1 << 12
 # So many calls that aren't finished yet are kept, and so many with other names or arguments; so many more are counted,
 # and so many processes.
-PENDING, KEPT, LEFT, PROCESSES = 10000, 1000, 300000, 1 << 20
+PENDING, KEPT, LEFT, PROCESSES = 10000, 1000, 100000, 1 << 20
 # So many processes may make one at a time, and it is still looked at in which mode each runs.
 MAKERS = 100
 SYMBOLS = os.path.join(program.TOP, "tables", "arguments.symbols")

@@ -467,8 +467,8 @@ class Hostile(Judged):
         many = "calls with other names or arguments"
         for log, status, says in ((b"xstrace: Process 1 attached\n" * 300000, 4, ""),
                                   (b"strace: Process 1 attached\n" * 300000 + b"read(1) = 1\n", 0, ""),
-                                  (b"".join(b"wait4(%d) = 1\n" % it for it in range(320000)), 2, many),
-                                  (b"".join(b"no_%d(1) = 1\n" % it for it in range(320000)), 2, many)):
+                                  (b"".join(b"wait4(%d) = 1\n" % it for it in range(110000)), 2, many),
+                                  (b"".join(b"no_%d(1) = 1\n" % it for it in range(110000)), 2, many)):
             before = taken()
             found, _, err = self.run_tool("needs", self.file("log", log), self.file("p.json", json.dumps(self.PROFILE)),
                                           preexec_fn=limited(40, 500 << 20))
@@ -480,7 +480,14 @@ class Hostile(Judged):
         # each of the thousand is judged by two runs of scf, which takes four seconds in all
         status, out, _ = self.needs(log, seconds=120)
         self.assertEqual(status, 1)
-        self.assertIn("# not judged, since they come behind 1000 others: calls with other arguments: 5000\n", out)
+        self.assertIn("# not judged, since there are too many with other arguments: calls: 5000\n", out)
+        # six registers of two values each are 64 ways
+        every = {"defaultAction": ERRNO, "syscalls": [{"names": ["wait4"], "action": ALLOW, "args": [
+            {"index": index, "op": "SCMP_CMP_EQ", "value": 1} for index in range(6)]}]}
+        log = "".join(f"wait4({', '.join([str(-it)] * 6)}) = 1\n" for it in range(1, 201))
+        status, out, _ = self.needs(log, profile=every, seconds=120)
+        self.assertEqual(status, 1)
+        self.assertIn("# not judged, since there are too many with other arguments: calls: 169\n", out)
 
     def test_a_log_without_an_end(self):
         status, out, err = self.run_tool("needs", "/dev/zero", self.file("p.json", profile_of("read")))
