@@ -30,9 +30,11 @@ PF_USER_WORKER = 0x00004000
 # How long the others are held for one that doesn't stop, in seconds: it may wait for one of them, as a thread in
 # vfork(2) does.
 HELD_FOR_ONE = 0.2
-# How long the kernel may refuse to trace a thread before that is believed, how often it is asked, and how often it is
-# looked whether a supervisor has answered, in seconds.
-REFUSED_FOR, PAUSE, PAUSE_FOR_ANSWER = 0.1, 0.005, 0.02
+# How often and for how many seconds the kernel refuses to trace a thread before that is believed: one that ends or
+# executes a program is refused for a moment.
+SURE_TIMES, SURE_AFTER = 10, 0.5
+# How often threads are waited for while PTRACE_SEIZE waits, and are listed again while none is held, in seconds.
+PAUSE, PAUSE_UNHELD = 0.005, 0.02
 # The state of a stopped thread, as waitpid(2) gives it.
 STOPPED = 0x7F
 
@@ -69,29 +71,24 @@ def require_rights(kernel: Kernel) -> None:
                          "containers")
 
 
-def why_it_makes_no_calls(kernel: Kernel, thread: int, process: int) -> str | None:
-    """Why a thread that can't be stopped needs not be, or None where it may make calls."""
-    if process == kernel.tool:
-        return "is this tool itself"
-    if kernel.status_of(thread).get("State", "Z")[:1] in "ZX":
-        return "has ended, and only waits for its parent to ask how (it is a zombie)"
-    if kernel.flags_of(thread) & (PF_KTHREAD | PF_IO_WORKER | PF_USER_WORKER):
-        return "is a thread of the kernel, which makes no system calls"
-    return None
+def is_sure(since: float, count: int) -> bool:
+    """Whether it is believed that a thread can't be traced which the kernel has refused so often since then."""
+    return count >= SURE_TIMES and time.monotonic() - since >= SURE_AFTER
 
 
-def why_not_stopped(kernel: Kernel, thread: int, process: int, error: OSError) -> str:
+def why_not_traced(kernel: Kernel, thread: int, process: int, error: OSError) -> str | None:
+    """Why the kernel refuses to trace a thread, or None where that may be since it ends or executes a program."""
     who = called(thread, process)
     if error.errno not in (errno.EPERM, errno.EACCES):
         return f"{who} can't be stopped: {error.strerror}"
     tracer = kernel.status_of(thread).get("TracerPid", "0")
-    if tracer != "0":
+    if tracer not in ("0", str(os.getpid())):
         return f"{who} is traced by process {tracer} already, and the kernel lets no second one trace it"
     if not int(kernel.status_of(os.getpid()).get("CapEff", "0"), 16) >> CAP_SYS_PTRACE & 1:
         return f"{who} can't be stopped without CAP_SYS_PTRACE: run this as root, outside of containers"
     if contents("/proc/sys/kernel/yama/ptrace_scope").strip() == b"3":
         return f"{who} can't be stopped: on this kernel nobody may trace (kernel.yama.ptrace_scope is 3)"
-    return f"{who} can't be stopped ({error.strerror}): run this as root, outside of containers"
+    return None
 
 
 def signal_of(state: int) -> int:
@@ -118,8 +115,12 @@ class Hold:
         self.stopped: dict[int, int] = {}
         self.restarts = restart.Restarts(kernel)
         self.passed_over: dict[int, str] = {}
-        # Since when the kernel has refused to stop a thread.
-        self.refused: dict[int, float] = {}
+        # Those that aren't to be held any more, and couldn't be let go: they end, and are waited for.
+        self.leaving: set[int] = set()
+        # Of a thread that the kernel refuses to trace since when it does, and how often it was listed so; and the same
+        # before the last listing.
+        self.refused: dict[int, tuple[float, int]] = {}
+        self.refused_before: dict[int, tuple[float, int]] = {}
         # Held by this thread, but for the time in which it waits in PTRACE_SEIZE; then the other one waits for threads,
         # and puts down here what became of them.
         self.lock = threading.Lock()
@@ -154,7 +155,7 @@ class Hold:
         while not self.is_over:
             time.sleep(PAUSE)
             with self.lock:
-                for thread in {*self.seized, *self.stopping, *self.stopped}:
+                for thread in {*self.seized, *self.stopping, *self.leaving, *self.stopped}:
                     if os.WIFSTOPPED(self.states.get(thread, STOPPED)):
                         self.states.update({thread: state for state in self.state_of(thread)})
 
@@ -171,9 +172,9 @@ class Hold:
     def stop_all(self) -> None:
         """Stops threads until all that are listed are stopped."""
         while self.seize_listed() or self.seized or self.stopping:
-            if self.waiting():
+            if self.is_unsure() or self.waiting():
                 self.let_stopped_go()
-                time.sleep(PAUSE_FOR_ANSWER)
+                time.sleep(PAUSE_UNHELD)
                 self.look_at_traced()
             else:
                 self.interrupt_seized()
@@ -184,6 +185,10 @@ class Hold:
             child.look_for_signals()
             if time.monotonic() > self.until:
                 raise self.why_impatient()
+
+    def is_unsure(self) -> bool:
+        """Whether a thread may yet be traced that the kernel refuses."""
+        return not all(is_sure(*refused) for refused in self.refused.values())
 
     def waiting(self) -> list[int]:
         """The threads that aren't to be stopped, since their calls would go to their supervisors again."""
@@ -198,38 +203,42 @@ class Hold:
         for thread in sorted(others):
             self.drop(thread)
         self.process_of.update(listed)
+        self.refused_before, self.refused = self.refused, {}
         told = [self.trace(thread, process) for thread, process in listed.items() if thread not in held]
         return bool(others) or any(told)
 
     def trace(self, thread: int, process: int) -> bool:
         """Whether there was a change: the thread is traced, or has ended since it was listed, or may yet be traced."""
+        if process == self.kernel.tool:
+            self.passed_over[process] = "is this tool itself"
+            return False
         try:
-            if process == self.kernel.tool:
-                raise OSError(errno.EPERM, os.strerror(errno.EPERM))
             self.seize(thread)
         except OSError as error:
-            return self.is_change(thread, process, error)
-        self.refused.pop(thread, None)
+            if error.errno == errno.ESRCH:
+                return True
+            # under another number, before it executed a program, it may have been traced by this process
+            if self.kernel.status_of(thread).get("TracerPid") != str(os.getpid()):
+                return self.is_refused(thread, process, error)
+        self.leaving.discard(thread)
         self.seized.add(thread)
         return True
 
-    def is_change(self, thread: int, process: int, error: OSError) -> bool:
-        """Whether a thread that wasn't traced is to be listed again."""
-        if error.errno == errno.ESRCH:
-            return True
-        if self.kernel.status_of(thread).get("TracerPid") == str(os.getpid()):
-            # it had another number before it executed a program
-            self.seized.add(thread)
-            return True
-        why = why_it_makes_no_calls(self.kernel, thread, process)
-        if why is not None:
-            self.passed_over[process] = why
+    def is_refused(self, thread: int, process: int, error: OSError) -> bool:
+        """Whether a thread that the kernel refuses to trace is to be listed again."""
+        if self.kernel.flags_of(thread) & (PF_KTHREAD | PF_IO_WORKER | PF_USER_WORKER):
+            self.passed_over[process] = "is a thread of the kernel, which makes no system calls"
             return False
-        # one that ends, or executes a program, is refused for a moment
-        if time.monotonic() - self.refused.setdefault(thread, time.monotonic()) < REFUSED_FOR:
-            time.sleep(PAUSE)
+        why = why_not_traced(self.kernel, thread, process, error)
+        since, count = self.refused_before.get(thread, (time.monotonic(), 0))
+        self.refused[thread] = since, count + 1
+        if why is None and not is_sure(since, count + 1):
             return True
-        raise Unreadable(why_not_stopped(self.kernel, thread, process, error)) from error
+        if why is None and self.kernel.status_of(thread).get("State", "Z")[:1] in "ZX":
+            self.passed_over[process] = "has ended, and only waits for its parent to ask how (it is a zombie)"
+            return False
+        raise Unreadable(why or f"{called(thread, process)} can't be stopped ({error.strerror}): run this as root, "
+                                f"outside of containers") from error
 
     def interrupt_seized(self) -> None:
         """Tells those that run to stop."""
@@ -252,7 +261,7 @@ class Hold:
             time.sleep(0.0005)
 
     def look_at_traced(self) -> None:
-        for thread in (*self.seized, *self.stopping):
+        for thread in (*self.seized, *self.stopping, *self.leaving):
             for state in self.state_of(thread):
                 self.note(thread, state)
 
@@ -281,21 +290,22 @@ class Hold:
     def forget(self, thread: int) -> None:
         self.seized.discard(thread)
         self.stopping.discard(thread)
+        self.leaving.discard(thread)
         self.stopped.pop(thread, None)
+        self.restarts.calls.pop(thread, None)
 
     def drop(self, thread: int) -> None:
         """Lets a thread go that isn't to be held any more, whether it is there or has ended."""
         given = self.stopped.get(thread, 0)
-        if thread in self.restarts.changed:
+        if thread in self.restarts.calls:
             self.choose_restart(thread)
-        self.restarts.forget(thread)
         self.forget(thread)
         try:
             self.kernel.ptrace(PTRACE_DETACH, thread, None, given)
         except OSError:
-            # It ended, which its parent is told only when its tracer has asked for it; or it never stopped, and then
-            # the kernel lets it go when this process ends.
-            self.state_of(thread)
+            # It ends, which its parent is told only once its tracer has waited for it; or it never stopped.
+            if not self.state_of(thread):
+                self.leaving.add(thread)
 
     def choose_restart(self, thread: int) -> None:
         """Chooses how a stopped thread's call goes on; where that can't be, it begins anew."""

@@ -138,8 +138,8 @@ def look(kernel: Kernel, listed: Callable[[], dict[int, int]], patience: float, 
     try:
         return child.run(lambda: read_threads(kernel, listed, TO_STOP * patience, is_forced), patience)
     except child.Late as late:
-        raise Unreadable(f"the kernel made this tool wait for more than {patience:g} seconds to trace a thread, as it "
-                         f"does while a thread of the process executes a program; what was held runs on") from late
+        raise Unreadable(f"the threads couldn't be looked at within {patience:g} seconds: the kernel makes a tracer wait, "
+                         f"as for a thread that executes a program; what was held runs on") from late
     except child.Died as died:
         raise Unreadable(str(died)) from died
 

@@ -5,6 +5,7 @@ behind the stop (handle_signal and arch_do_signal_or_restart in arch/x86/kernel/
 no longer, as in nanosleep and in poll, it makes restart_syscall(2) in its place, which goes on with the time that is
 left. A filter answers that as any other system call: where it doesn't allow it, it ends the process or fails the call.
 So a thread in such a call is given another number while it is stopped, if its filters don't allow restart_syscall.
+Nor does a call begin anew that they deny.
 """
 from __future__ import annotations
 
@@ -13,7 +14,7 @@ from collections.abc import Sequence
 from dataclasses import dataclass
 
 from . import bundles, paths, program, verdicts
-from .answers import I386, X86_64, X32, Answer
+from .answers import I386, MADE, REFUSED, X32, X86_64, Answer
 from .filters import INSTRUCTION, LOAD_WORD, POINTER, RETURN_CONSTANT
 from .ptrace import Kernel
 
@@ -69,68 +70,80 @@ def notifies(filters: Sequence[bytes]) -> bool:
                for data in filters for code, _, _, k in INSTRUCTION.iter_unpack(data))
 
 
+@dataclass(frozen=True)
+class Interrupted:
+    """An interrupted call: the number by which it would go on, and what it may be.
+
+    Where the kernel doesn't tell the architecture, it is a call of x86-64 or one of i386.
+    """
+
+    number: int
+    calls: tuple[Call, ...]
+
+    @property
+    def goes_on(self) -> bool:
+        """Whether restart_syscall is made in its place."""
+        return self.number == ERESTART_RESTARTBLOCK
+
+    @property
+    def anew(self) -> int:
+        """The number by which it begins anew."""
+        return ERESTARTNOHAND if self.goes_on else self.number
+
+
 class Restarts:
     """The interrupted calls of stopped threads."""
 
     def __init__(self, kernel: Kernel) -> None:
         self.kernel = kernel
-        # What a thread may be in: where the kernel doesn't tell the architecture, a call of either.
-        self.calls: dict[int, list[Call]] = {}
-        # Those of them that would go on by restart_syscall.
-        self.changed: set[int] = set()
+        self.calls: dict[int, Interrupted] = {}
         self.are_by_number: dict[tuple[tuple[bytes, ...], Call], bool] = {}
         self.answers: dict[tuple[tuple[bytes, ...], Call], Answer | None] = {}
 
     def at_stop(self, thread: int) -> None:
         """A thread has stopped. Until it is known what its filters allow, its call begins anew, so that it does even if
         this process is killed."""
-        self.forget(thread)
+        self.calls.pop(thread, None)
         registers = self.kernel.registers(thread)
         number = restart_number(registers)
         if not number:
             return
         architecture = self.kernel.architecture_of_call(thread)
         known = (architecture,) if architecture in RESTART else tuple(RESTART)
-        self.calls[thread] = [call_of(it, registers) for it in known]
-        if number == ERESTART_RESTARTBLOCK:
-            self.kernel.set_result(thread, -ERESTARTNOHAND)
-            self.changed.add(thread)
+        interrupted = Interrupted(number, tuple(call_of(it, registers) for it in known))
+        if interrupted.goes_on:
+            self.kernel.set_result(thread, -interrupted.anew)
+        self.calls[thread] = interrupted
 
     def before_it_runs_on(self, thread: int, filters: tuple[bytes, ...]) -> None:
         """Chooses how the call of a thread goes on that has these filters."""
-        if thread in self.changed:
-            result = self.result(thread, filters)
-            if result != -ERESTARTNOHAND:
-                self.kernel.set_result(thread, result)
-        self.forget(thread)
+        interrupted = self.calls[thread]
+        number = self.number(interrupted, filters)
+        if number != interrupted.anew:
+            self.kernel.set_result(thread, -number)
 
-    def forget(self, thread: int) -> None:
-        self.calls.pop(thread, None)
-        self.changed.discard(thread)
-
-    def result(self, thread: int, filters: tuple[bytes, ...]) -> int:
-        """By restart_syscall where that is allowed; else anew; where not even that is, by EINTR."""
-        calls = self.calls[thread]
-        if all(self.is_allowed(filters, call.restart) for call in calls):
-            return -ERESTART_RESTARTBLOCK
-        return -errno.EINTR if any(self.is_allowed(filters, call) is False for call in calls) else -ERESTARTNOHAND
+    def number(self, interrupted: Interrupted, filters: tuple[bytes, ...]) -> int:
+        """By which number a call goes on: by that of restart_syscall where it is allowed; else it begins anew; where it
+        is denied itself, since its thread was put under another filter meanwhile, it ends with EINTR."""
+        if not filters:
+            return interrupted.number
+        calls = interrupted.calls
+        if interrupted.goes_on and all(self.becomes(filters, call.restart) == MADE for call in calls):
+            return ERESTART_RESTARTBLOCK
+        return errno.EINTR if any(self.becomes(filters, call) == REFUSED for call in calls) else interrupted.anew
 
     def goes_to_supervisor_again(self, thread: int, filters: tuple[bytes, ...]) -> bool:
         """Whether a stopped thread's call begins anew, and is one that a supervisor answers."""
-        calls = self.calls.get(thread, [])
-        if not calls or not notifies(filters):
+        interrupted = self.calls.get(thread)
+        if interrupted is None or not notifies(filters) or self.number(interrupted, filters) != interrupted.anew:
             return False
-        if thread in self.changed and self.result(thread, filters) != -ERESTARTNOHAND:
-            return False
-        answers = [self.answer(filters, call) for call in calls]
+        answers = [self.answer(filters, call) for call in interrupted.calls]
         return any(answer is not None and answer.action == "USER_NOTIF" for answer in answers)
 
-    def is_allowed(self, filters: tuple[bytes, ...], call: Call) -> bool | None:
-        """Whether filters let a call through, or None where that isn't known."""
-        if not filters:
-            return True
+    def becomes(self, filters: tuple[bytes, ...], call: Call) -> str | None:
+        """What becomes of a call, or None where that isn't known."""
         answer = self.answer(filters, call)
-        return None if answer is None else answer.lets_through
+        return None if answer is None else answer.fate
 
     def answer(self, filters: tuple[bytes, ...], call: Call) -> Answer | None:
         """What filters answer to a call; where they look at its number alone, that is asked of scf once."""

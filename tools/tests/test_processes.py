@@ -27,6 +27,13 @@ here_and_now = mock.patch.object(children, "run", lambda work, _: work())
 class Asked(Case):
     """What is asked of a kernel, and what is said where it refuses."""
 
+    def setUp(self):
+        super().setUp()
+        for name, soon in (("SURE_AFTER", 0), ("SURE_TIMES", 4), ("PAUSE_UNHELD", 0.001)):
+            patch = mock.patch.object(hold, name, soon)
+            patch.start()
+            self.addCleanup(patch.stop)
+
     def look(self, kernel, process=7, **settings):
         with here_and_now:
             return processes.look_at_process(kernel, process, **settings)
@@ -464,8 +471,8 @@ class Real(Confined):
         """It stops no sooner than the child runs on: that is said, and both run on."""
         child, fifo = self.stuck([OLDEST])
         said = subprocess.run([sys.executable, "-c", TRY, os.path.dirname(os.path.dirname(processes.__file__)),
-                               str(child.pid), "0.5"], stdout=subprocess.PIPE, text=True, check=True).stdout
-        self.assertEqual(said, f"process {child.pid} didn't stop within 0.45 seconds: its state is D (disk sleep)\n")
+                               str(child.pid), "2"], stdout=subprocess.PIPE, text=True, check=True).stdout
+        self.assertEqual(said, f"process {child.pid} didn't stop within 1.8 seconds: its state is D (disk sleep)\n")
         with open(fifo, "wb"):
             self.wait_for(child.pid, "S")
             self.runs_on(child)
@@ -477,13 +484,13 @@ class Real(Confined):
         if not shutil.which("cc") or subprocess.run(["cc", "-pthread", "-o", program, source], check=False).returncode:
             self.skipTest("there is no C compiler here")
         for words in (["60", "1000"], ["3", "0"]):
-            with subprocess.Popen([program, *words]) as child:
-                self.addCleanup(child.kill)
-                for _ in range(15):
-                    found = processes.look_at_process(processes.Kernel(), child.pid, patience=PATIENCE)
-                    self.assertEqual([stack.filters for stack in found.stacks], [()])
-                self.assertIsNone(child.poll())
-                child.kill()
+            child = subprocess.Popen([program, *words])
+            self.addCleanup(child.wait)
+            self.addCleanup(child.kill)
+            for _ in range(15):
+                found = processes.look_at_process(processes.Kernel(), child.pid, patience=PATIENCE)
+                self.assertEqual([stack.filters for stack in found.stacks], [()])
+            self.assertIsNone(child.poll())
 
     def test_a_program_that_is_executed_for_ever(self):
         """PTRACE_SEIZE doesn't return before it is: the look ends in time, and the process runs on."""
@@ -497,7 +504,7 @@ class Real(Confined):
         with self.assertRaises(processes.Unreadable) as caught:
             processes.look_at_process(kernel, child.pid, patience=0.5)
         self.assertLess(time.monotonic() - begun, PATIENCE)
-        self.assertIn("wait for more than 0.5 seconds to trace a thread", str(caught.exception))
+        self.assertIn("couldn't be looked at within 0.5 seconds", str(caught.exception))
         os.waitpid(other, ptrace.WALL)
         self.assertTrue(comes(lambda: kernel.name_of(child.pid) == b"sleep"))
         self.assertEqual(status_of(child.pid)["TracerPid"], "0")
@@ -534,7 +541,7 @@ class Real(Confined):
     def test_a_tool_whose_child_is_stopped(self):
         child, looks = self.held("2")
         os.kill(int(status_of(child.threads[1])["TracerPid"]), signal.SIGSTOP)
-        self.assertIn("wait for more than 2 seconds", looks.communicate()[0])
+        self.assertIn("couldn't be looked at within 2 seconds", looks.communicate()[0])
         self.let_go(child)
 
     def test_what_calls_end_early(self):

@@ -18,7 +18,7 @@ from scftools import hold, program, restart
 TRAP, TRACE, LOG = 0x00030000, 0x7FF00000, 0x7FFC0000
 DENIALS = (KILL_PROCESS, KILL_THREAD, EPERM, TRAP, USER_NOTIF, TRACE)
 # asm/unistd_64.h, asm/unistd_32.h
-NANOSLEEP, POLL, MKDIR, FUTEX, RESTART = 35, 7, 83, 202, 219
+NANOSLEEP, POLL, PAUSE, MKDIR, FUTEX, RESTART = 35, 7, 34, 83, 202, 219
 NANOSLEEP_32, POLL_32, FUTEX_32, CLOCK_NANOSLEEP_32, RESTART_32 = 162, 168, 240, 267, 0
 WAIT = 0.9
 # What a child waits with for 0.9 seconds: a timespec, a timeval, a word that is 0; and i386 calls, made by int 0x80:
@@ -215,21 +215,21 @@ class Restarts(Confined):
 
     def test_a_filter_that_denies_the_call_itself(self):
         """Another thread has put the waiting one under it (SECCOMP_FILTER_FLAG_TSYNC): its call can't begin anew."""
-        given = self.file("later", denying(KILL_PROCESS, RESTART, NANOSLEEP, 230))
-        child = self.child([])
-        self.do(child, "slept = lambda: (library.nanosleep(ctypes.create_string_buffer(b'\\x09' + bytes(15)), None), "
-                       "ctypes.get_errno())")
-        self.do(child, "threading.Thread(target=lambda: print(*slept(), flush=True)).start()")
-        self.assertTrue(comes(lambda: len(os.listdir(f"/proc/{child.pid}/task")) == 2))
-        other = next(int(it) for it in os.listdir(f"/proc/{child.pid}/task") if int(it) != child.pid)
-        self.assertTrue(comes(lambda: self.call_of(other) in (NANOSLEEP, 230)))
-        self.do(child, f"data = open({given!r}, 'rb').read(); "
-                       f"print(library.syscall(317, 1, 1, ctypes.byref(Program(len(data) // 8, data))), flush=True)")
-        self.assertEqual(child.stdout.readline(), "0\n")
-        found = processes.look_at_process(processes.Kernel(), child.pid)
-        self.assertEqual(len(found.stacks[0].threads[child.pid]), 2)
-        self.assertEqual(child.stdout.readline(), f"-1 {errno.EINTR}\n")
-        self.runs_on(child)
+        for numbers, call in (((RESTART, NANOSLEEP), f"{NANOSLEEP}, ctypes.create_string_buffer(b'\\x09' + bytes(15)), 0"),
+                              ((PAUSE,), f"{PAUSE}, 0, 0")):
+            given, child = self.file("later", denying(KILL_PROCESS, *numbers)), self.child([])
+            self.do(child, f"threading.Thread(target=lambda: print(library.syscall({call}), ctypes.get_errno(), "
+                           f"flush=True)).start()")
+            self.assertTrue(comes(lambda child=child: len(os.listdir(f"/proc/{child.pid}/task")) == 2))
+            other = next(int(it) for it in os.listdir(f"/proc/{child.pid}/task") if int(it) != child.pid)
+            self.assertTrue(comes(lambda other=other, numbers=numbers: self.call_of(other) == numbers[-1]))
+            self.do(child, f"data = open({given!r}, 'rb').read(); "
+                           f"print(library.syscall(317, 1, 1, ctypes.byref(Program(len(data) // 8, data))), flush=True)")
+            self.assertEqual(child.stdout.readline(), "0\n")
+            found = processes.look_at_process(processes.Kernel(), child.pid)
+            self.assertEqual(len(found.stacks[0].threads[child.pid]), 2)
+            self.assertEqual(child.stdout.readline(), f"-1 {errno.EINTR}\n")
+            self.runs_on(child)
 
     def test_a_stopped_process(self):
         """It stays stopped, and then goes on, though it would end without a look."""
