@@ -457,7 +457,8 @@ class Program(Case):
         tree = self.made_tree(f'#!/bin/sh\necho "$*" >>"{counted}"\nexec "{SCF}" "$@"\n')
         self.run_words([os.path.join(tree, "tools", "surface"), self.file("f", filter_of(range(200)))])
         with open(counted, encoding="utf-8") as file:
-            ran = file.read().split("\n")[:-1]
+            # (--version has a launcher build scf, which no comparison waits for)
+            ran = [line for line in file.read().split("\n")[:-1] if line != "--version"]
         self.assertEqual(sum("--calls" in line for line in ran), 2)
         self.assertLessEqual(len(ran), 6)
 
