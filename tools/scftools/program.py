@@ -24,6 +24,8 @@ FAULTS = os.path.join(TOP, "docs", "FAULTS.md")
 WELL, REFUSED, WRONG_WORDS, FAILED, UNKNOWN, NO_PROGRAM = 0, 1, 2, 3, 4, 125
 # SIGKILL (signal(7)), by which a process ends that takes more of a processor than it may.
 KILLED = 9
+# The most bytes of address space that the tools give scf. Real inputs take a tenth; 4 MiB of `{"":0}` would take 520 MB.
+MAX_MEMORY = 350 << 20
 
 
 def name() -> str:
@@ -148,17 +150,22 @@ def _all_of(file: int) -> bytes:
         found.append(piece)
 
 
-def _limit_seconds(child: int, seconds: float) -> None:
-    """Has a child killed, and so without a core, once it took so many seconds of a processor."""
+def _limit(child: int, seconds: float | None) -> None:
+    """Limits the memory of scf, so that it reports `Memory` instead of taking more, and the seconds of a processor, behind
+    which it is killed without a core."""
     import resource  # pylint: disable=import-outside-toplevel
 
-    most = resource.getrlimit(resource.RLIMIT_CPU)[1]
-    whole = max(1, round(seconds)) if most == resource.RLIM_INFINITY else min(max(1, round(seconds)), most)
-    try:
-        resource.prlimit(child, resource.RLIMIT_CPU, (whole, whole))
-    except ProcessLookupError:
-        # it has ended
-        pass
+    limits = [(resource.RLIMIT_AS, MAX_MEMORY)]
+    if seconds is not None:
+        limits.append((resource.RLIMIT_CPU, max(1, round(seconds))))
+    for kind, limit in limits:
+        most = resource.getrlimit(kind)[1]
+        limit = limit if most == resource.RLIM_INFINITY else min(limit, most)
+        try:
+            resource.prlimit(child, kind, (limit, limit))
+        except ProcessLookupError:
+            # it has ended
+            pass
 
 
 def scf(words: Sequence[str], given: bytes | None = b"", seconds: float | None = None) -> Done:
@@ -185,8 +192,8 @@ def run(path: str, words: Sequence[str], given: bytes | None = b"", seconds: flo
     os.close(ends[1])
     if source is not None:
         os.close(source)
-    if seconds is not None:
-        _limit_seconds(child, seconds)
+    if path == built():
+        _limit(child, seconds)
     out = _all_of(ends[0])
     os.close(ends[0])
     state = os.waitpid(child, 0)[1]

@@ -157,6 +157,15 @@ class Profiles(Case):
         """Of nothing in them: each was an object of Python with several others."""
         self.ends("lint", filled(self.ALLOWS + b'"x":[', lambda at: b"{}", b"]}"))
 
+    def test_more_objects_than_scf_has_memory_for(self):
+        """The tools give scf 350 MiB; it says that this isn't enough, and nothing of the profile."""
+        path = self.file("p.json", filled(self.ALLOWS + b'"x":[', lambda at: b'{"":0}', b"]}"))
+        status, out, err, seconds, megabytes = run(("compile", path))
+        self.assertEqual((status, out), (3, b""), err[:200])
+        self.assertIn("fault profile Memory\n", err)
+        self.assertLess(seconds, self.SECONDS)
+        self.assertLess(megabytes, self.MEGABYTES)
+
     def test_many_entries_of_names_that_no_call_has(self):
         text = filled(self.DENIES + b'"syscalls":[', lambda at: b'{"names":["x%d"],"action":"SCMP_ACT_LOG"}' % at, b"]}")
         self.assertRegex(self.ends("lint", text), rb"\nunknown-name: and [0-9]+ more\n")
