@@ -50,6 +50,10 @@ class Refused(Exception):
     """What systemd prints, or what is given in its place, isn't as systemd.exec(5) says."""
 
 
+class Unknown(Exception):
+    """What a unit's files say isn't known."""
+
+
 @dataclass(frozen=True)
 class Answer:
     """What a call is answered: an action of the OCI specification, and its errno where it has one."""
@@ -146,12 +150,12 @@ class Reader:
     """
 
     def __init__(self, groups: Callable[[], dict[str, list[str]]], tell: Callable[[str], None],
-                 is_call: Callable[[str], bool] = lambda name: True) -> None:
+                 is_call: Callable[[str], bool] = lambda name: True, is_lenient: bool = False) -> None:
         self.ask = groups
         self.tell = tell
         self.is_call = is_call
         # whether a word that systemd leaves out is left out, and not refused
-        self.is_lenient = False
+        self.is_lenient = is_lenient
         self.known: dict[str, list[str]] | None = None
         # the names that are left out, in their order
         self.unknown: dict[str, None] = {}
@@ -277,10 +281,6 @@ def files_of(shown: dict[str, str]) -> Iterator[str]:
         yield data.decode("utf-8", "surrogateescape")
 
 
-class Unknown(Exception):
-    """What a unit's files say isn't known."""
-
-
 def denied_by(shown: dict[str, str], allowed: CallList, reader: Reader) -> dict[str, Answer | None]:
     """The calls that a list of allowed calls denies by an errno of their own, as `SystemCallFilter=~clone3:EINVAL`.
 
@@ -292,8 +292,9 @@ def denied_by(shown: dict[str, str], allowed: CallList, reader: Reader) -> dict[
     values = [value for text in files_of(shown) for value in assignments_of(text, section, "SystemCallFilter")]
     if not any(value.startswith("~") and ":" in value for value in values):
         return {}
-    reader.is_lenient = True
-    listed = reader.assigned(values)
+    lenient = Reader(reader.ask, reader.tell, numbering.known_names(), is_lenient=True)
+    listed = lenient.assigned(values)
+    lenient.tell_unknown()
     if listed is None or listed.is_inverted:
         raise Unknown("its files state another list than systemd shows")
     own = {call: answer for call, answer in listed.calls.items() if answer is not None}

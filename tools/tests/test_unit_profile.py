@@ -306,8 +306,8 @@ DefaultDependencies=no
 [Service]
 ExecStart=/bin/sleep 300
 SystemCallFilter=@system-service
-SystemCallFilter=~clone3:EINVAL chmod:010 fchmod:EHWPOISON mseal:EPERM chown:08 lchown:+7
-SystemCallErrorNumber=EPERM
+SystemCallFilter=~clone3:EINVAL chmod:010 fchmod:EHWPOISON mseal:EPERM chown:08 lchown:+7 %n:ENOENT
+SystemCallErrorNumber=EACCES
 """
 DROP_IN = """[Service]
 SystemCallFilter=~mkdir:0x10 \\
