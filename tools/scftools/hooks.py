@@ -34,8 +34,8 @@ if TYPE_CHECKING:
 CONFIG = "config.json"
 # The container's own program isn't executed yet; runc calls a poststart hook so.
 CREATED = "created"
-# How often the threads of a process without a filter are looked at again, in seconds: a runtime may call its hooks while
-# the filter isn't loaded yet.
+# How often the threads of a process without a filter are looked at again, in seconds: a runtime may call its hooks
+# while the filter isn't loaded yet.
 PAUSE = 0.02
 # A hook has no environment but the one that is named.
 PATH = "PATH=/usr/local/sbin:/usr/local/bin:/usr/sbin:/usr/bin:/sbin:/bin"
@@ -44,8 +44,8 @@ PATH = "PATH=/usr/local/sbin:/usr/local/bin:/usr/sbin:/usr/bin:/sbin:/bin"
 STATE_SECONDS, KILL_SECONDS, EXPLANATION_SECONDS, GRACE = 5.0, 2.0, 10.0, 4.0
 # How long it may take beyond the wait for a filter until it is known whether the container is confined.
 DEADLINE = 30.0
-OF_NO_GROUP = ("the container has neither a PID namespace nor a control group of its own: its first process was looked at, "
-               "and those that descend from it")
+OF_NO_GROUP = ("the container has neither a PID namespace nor a control group of its own: its first process was "
+               "looked at, and those that descend from it")
 # How much time the hook file leaves for what isn't waited for: the tool's own start, and its end.
 STARTUP = 10
 

@@ -1,5 +1,5 @@
-"""Processes beside a hook: a watchdog, which acts where the hook can't, and a worker, which the hook waits for no longer
-than it wants to, whatever call the worker hangs in.
+"""Processes beside a hook: a watchdog, which acts where the hook can't, and a worker, which the hook waits for no
+longer than it wants to, whatever system call the worker hangs in.
 """
 from __future__ import annotations
 
@@ -54,8 +54,8 @@ def _ended(child: int) -> int | None:
 class Watchdog:
     """A process that acts at a deadline, or as soon as the one that began it has ended, unless it is dismissed before.
 
-    It takes no signal but SIGKILL and SIGSTOP, and has a process group of its own, so that what ends or stops the hook's
-    leaves it alone. A hook that is still there when it has acted hangs or is stopped: it is ended.
+    It takes no signal but SIGKILL and SIGSTOP, and has a process group of its own, so that what ends or stops the
+    hook's leaves it alone. A hook that is still there when it has acted hangs or is stopped: it is ended.
     """
 
     def __init__(self, act: Callable[[], object], until: float) -> None:
@@ -82,8 +82,8 @@ class Watchdog:
 
 
 class Worker:
-    """A process that works and sends values. Where the hook ends, it ends, too, with all that it began, once it holds no
-    thread of another process any more."""
+    """A process that works and sends values. Where the hook ends, it ends, too, with all that it began, once it holds
+    no thread of another process any more."""
 
     def __init__(self, work: Callable[[Callable[[object], None]], object], unneeded: Sequence[int] = ()) -> None:
         self.file, end = os.pipe()

@@ -201,7 +201,7 @@ class Runtimes(Containers):
                 self.assertTrue(self.runs(pid))
 
     def test_a_process_begun_before_the_filter(self):
-        """By a hook of the configuration, within the container: with crun the hook sees it, which doesn't wait for it."""
+        """By a hook of the configuration, within the container; runc would wait for its end."""
         begin = {"createContainer": [{"path": "/bin/sh", "args": ["sh", "-c", "sleep 998 </dev/null >/dev/null 2>&1 &"],
                                       **PATH}]}
         with self.begun("--wait=0.2", loaded=LOADED, hooks=begin) as pid:
@@ -288,7 +288,8 @@ class Runtimes(Containers):
         if done is None or done.returncode:
             self.skipTest("there is no C compiler that links statically here")
         other = json.loads(refuses("chroot"))
-        with self.begun("--kill", "--deadline=2", "--wait=0", loaded=other, args=["/bin/execute", "200", "1000"]) as pid:
+        args = ["/bin/execute", "200", "1000"]
+        with self.begun("--kill", "--deadline=2", "--wait=0", loaded=other, args=args) as pid:
             self.assertTrue(comes(lambda: has_ended(pid)))
 
 
