@@ -1,5 +1,6 @@
 """tools/oci-hook in containers of a real runc, crun and podman, where they are and start containers."""
 import contextlib
+import glob
 import json
 import os
 import re
@@ -311,10 +312,11 @@ class Podman(Containers):
             with self.subTest(runtime):
                 self.file("hooks/scf.json", self.run_tool("oci-hook", "--print-hook", "--kill", "--runtime",
                                                           runtime)[1])
+                self.addCleanup(self.remove_groups)
                 self.addCleanup(self.podman, "rm", "--force", "--time", "0", self.name)
                 status, said = self.podman("--hooks-dir", f"{self.folder}/hooks", "--runtime", shutil.which(runtime),
-                                           "run", "--detach", "--name", self.name, "--rootfs", f"{self.where}/rootfs",
-                                           "sleep", "1000")
+                                           "run", "--detach", "--name", self.name, "--cgroup-parent", f"/{self.name}",
+                                           "--rootfs", f"{self.where}/rootfs", "sleep", "1000")
                 if status and "oci-hook" not in said:
                     self.skipTest(f"podman starts no container here: {said.strip()}")
                 self.assertEqual(status, 0, said)
@@ -326,6 +328,13 @@ class Podman(Containers):
                     held = json.loads(self.text(config))["process"]["capabilities"]["bounding"]
                     self.is_same(pid, PODMAN, "--runtime", "podman", "--caps", ",".join(held))
                 self.podman("rm", "--force", "--time", "0", self.name)
+
+    def remove_groups(self):
+        """Podman leaves the control group that holds its containers'."""
+        for path in glob.glob(f"/sys/fs/cgroup/{self.name}") + glob.glob(f"/sys/fs/cgroup/*/{self.name}"):
+            for inner in [*glob.glob(f"{path}/*/"), path]:
+                with contextlib.suppress(OSError):
+                    os.rmdir(inner)
 
     def config_of(self, identifier):
         return f"{self.folder}/podman/root/vfs-containers/{identifier}/userdata/config.json"
