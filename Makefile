@@ -32,13 +32,14 @@ install: $(PROGRAM) uninstall
 	install -m 644 tools/scftools/*.py "$(LIB)/tools/scftools"
 	install -m 644 tables/* "$(LIB)/tables"
 	install -m 644 docs/FAULTS.md "$(LIB)/docs"
-	install -m 644 docs/*.1 "$(MAN)"
+	install -m 644 docs/scf.1 "$(MAN)"
+	umask 022; dev/manual "$(MAN)"
 	install -m 644 LICENSE "$(DOC)"
 	umask 022; python3 -m compileall -q --invalidation-mode checked-hash $(if $(DESTDIR),-s "$(DESTDIR)") \
 	    "$(LIB)/tools/scftools"
 	ln -sf ../lib/scf/scf "$(BIN)/scf"
-	for it in $(TOOLS); do ln -sf "../lib/scf/tools/$$it" "$(BIN)/scf-$$it" || exit 1; \
-	    [ -e "docs/scf-$$it.1" ] || ln -sf scf.1 "$(MAN)/scf-$$it.1" || exit 1; done
+	for it in $(TOOLS); do ln -sf "../lib/scf/tools/$$it" "$(BIN)/scf-$$it" || exit 1; done
+	ln -sf scf-resolve-profile.1 "$(MAN)/scf-plain-profile.1"
 
 uninstall:
 	for it in "$(LIB)"/tools/*; do rm -f "$(BIN)/scf-$${it##*/}" "$(MAN)/scf-$${it##*/}.1"; done

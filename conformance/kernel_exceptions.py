@@ -1,4 +1,4 @@
-"""Where the kernel does otherwise than scf's definitions say, on purpose: the rows of docs/KERNEL.md, each tried."""
+"""Where the kernel does otherwise than scf's definitions say, on purpose: the rows of conformance/README.md, each tried."""
 from __future__ import annotations
 
 from collections.abc import Callable
@@ -82,7 +82,7 @@ def unasked(asking: Asking) -> list[str]:
     return wrong + ([] if gate == [returns(-77)] or gate[0].startswith("the process ends with") else [f"i386: {gate}"])
 
 
-# By their titles in docs/KERNEL.md.
+# By their titles in conformance/README.md.
 ROWS: dict[str, Callable[[Asking], list[str]]] = {
     "data of ERRNO above 4095": errno_above,
     "an action without a name": unnamed,

@@ -1,4 +1,4 @@
-"""dev/believe, on a made tree of two crates, and the lists of docs/HEADLINE.md against the sources."""
+"""dev/believe, on a made tree of two crates, and the lists of docs/trusted-base.txt against the sources."""
 import os
 import re
 import shutil
@@ -270,16 +270,16 @@ class Layers(Case):
         self.assertEqual(self.run_words([for_developers("believe"), "--all"]), (0, "", ""))
 
 
-class Headline(Case):
-    """docs/HEADLINE.md."""
+class TrustedBase(Case):
+    """docs/trusted-base.txt."""
 
     def page(self):
-        with open(os.path.join(TOP, "docs", "HEADLINE.md"), encoding="utf-8") as file:
+        with open(os.path.join(TOP, "docs", "trusted-base.txt"), encoding="utf-8") as file:
             return file.read()
 
     def test_its_lists_are_what_the_sources_have(self):
-        """Where this fails, `dev/believe --page docs/HEADLINE.md --write` writes the lists anew."""
-        page = os.path.join(TOP, "docs", "HEADLINE.md")
+        """Where this fails, `dev/believe --page docs/trusted-base.txt --write` writes the lists anew."""
+        page = os.path.join(TOP, "docs", "trusted-base.txt")
         status, out, err = self.run_words([for_developers("believe"), "--page", page])
         self.assertEqual((status, out, err), (0, "", ""))
 
@@ -292,19 +292,20 @@ class Headline(Case):
             self.assertIn(f"`{name}`", listed)
         self.assertNotIn("`Conflicts`", listed)
 
-    def test_what_it_says_is_to_be_believed_stands_in_a_list(self):
+    def test_what_the_page_on_trust_says_to_read_stands_in_a_list(self):
         lists = " ".join(re.findall(r"<!-- believe .*?<!-- end -->", self.page(), re.S))
-        for paragraph in re.findall(r"^To believe.*$", self.page(), re.M):
-            paragraph = paragraph.split("That a profile gives one answer")[0]
-            for name in re.findall(r"`(\w+)`", paragraph):
-                self.assertIn(f"`{name}`", lists)
+        with open(os.path.join(TOP, "docs", "TRUST.md"), encoding="utf-8") as file:
+            paragraphs = re.findall(r"^Read: .*$", file.read(), re.M)
+        self.assertEqual(len(paragraphs), 2)
+        for name in re.findall(r"`(\w+)`", " ".join(paragraphs)):
+            self.assertIn(f"`{name}`", lists)
 
     def test_a_definition_that_changes_is_noticed(self):
         tree = os.path.join(self.folder, "tree")
         for name in ("crates", "docs"):
             shutil.copytree(os.path.join(TOP, name), os.path.join(tree, name), ignore=shutil.ignore_patterns("out"))
         shutil.copy2(os.path.join(TOP, "crates.txt"), tree)
-        page = os.path.join(tree, "docs", "HEADLINE.md")
+        page = os.path.join(tree, "docs", "trusted-base.txt")
         self.assertEqual(self.run_words([for_developers("believe"), "--repository", tree, "--page", page]), (0, "", ""))
         path = os.path.join(tree, "crates", "scf_profile", "specs", "SameAnswers.antt")
         with open(path, encoding="utf-8") as file:

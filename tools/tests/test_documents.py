@@ -1,5 +1,5 @@
-"""The documents: docs/FAULTS.md against the program's kinds and lines, README's blocks, the manual page, statuses, and
-that what docs/HEADLINE.md and docs/ARCHITECTURE.md name is there."""
+"""The documents: docs/FAULTS.md against the program's kinds and lines, the blocks of README.md and docs/TUTORIAL.md, the
+manual pages, statuses, and that what docs/TRUST.md and docs/ARCHITECTURE.md name is there."""
 import glob
 import os
 import re
@@ -7,7 +7,12 @@ import shutil
 import subprocess
 import unittest
 
-from common import ALLOW, PATIENCE, SCF, TABLE, TOP, Case, filter_of, insn, jeq, load, part, profile_of, ret, tool
+from common import (ALLOW, PATIENCE, SCF, TABLE, TOP, Case, filter_of, for_developers, insn, jeq, load, part, profile_of,
+                    ret)
+
+# The tools that have a page of their own; plain-profile is an old name.
+TOOLS = sorted(it for it in os.listdir(os.path.join(TOP, "tools"))
+               if os.path.isfile(os.path.join(TOP, "tools", it)) and it != "plain-profile")
 
 # Which enum of the program is printed for which sources; for some, only these of its kinds.
 SOURCES = {
@@ -48,7 +53,7 @@ def rows():
 
 def options(command):
     done = subprocess.run([SCF, command, "--help"], stdin=subprocess.DEVNULL, stdout=subprocess.PIPE, check=False)
-    return re.findall(r"--([a-z0-9]+) <NUMBER>", done.stdout.decode())
+    return re.findall(r"--([a-z0-9-]+) <NUMBER>", done.stdout.decode())
 
 
 class Faults(Case):
@@ -232,8 +237,9 @@ def commands_of(block):
             yield command
 
 
-class Readme(Case):
-    """The shell blocks (```sh) of README.md, as they stand, in a folder that has the launcher and the tools.
+class Blocks(Case):
+    """The shell blocks (```sh) of README.md and docs/TUTORIAL.md, as they stand, in a folder that has the launcher and the
+    tools.
 
     Behind a command its first line of output may stand as a comment. What the other commands of a block print is the
     block without a language that follows at once, if one does.
@@ -258,11 +264,10 @@ class Readme(Case):
         return [(command, printed[2 * at], int(printed[2 * at + 1])) for at,
                 command in enumerate(commands)], done.stderr.decode()
 
-    def test_blocks(self):
-        with open(os.path.join(TOP, "README.md"), encoding="utf-8") as file:
-            blocks = list(blocks_of(file.read()))
-        self.assertGreater(len(blocks), 2)
+    def check_blocks(self, *path):
+        """Runs the blocks of a page: how many outputs were compared."""
         compared = 0
+        blocks = list(blocks_of(text_of(*path)))
         for block, output in blocks:
             ran, said = self.run_block(block)
             rest = ""
@@ -277,7 +282,14 @@ class Readme(Case):
             if output is not None:
                 self.assertEqual(rest, output)
                 compared += 1
-        self.assertGreater(compared, 5)
+        return compared
+
+    def test_readme(self):
+        self.assertGreaterEqual(self.check_blocks("README.md"), 2)
+        self.assertLessEqual(text_of("README.md").count("\n"), 140)
+
+    def test_tutorial(self):
+        self.assertGreater(self.check_blocks("docs", "TUTORIAL.md"), 9)
 
     def test_the_reading_of_blocks(self):
         text = "\n".join(["```sh", "a   # same", "```", "", "```", "out", "```", "", "```console", "$ no", "```", "",
@@ -307,29 +319,15 @@ class Names(unittest.TestCase):
                 for name in files:
                     if name.endswith((".rt", ".antt")) or name == "run":
                         words.update(re.findall(r"\w+", text_of(at, name)))
-        for page in ("HEADLINE.md", "PROVED.md", "ARCHITECTURE.md", "DECISIONS.md"):
+        for page in ("TRUST.md", "ARCHITECTURE.md", "DECISIONS.md"):
             for name in re.findall(r"`([a-z]+(?:_[a-z0-9]+)+|[A-Z]\w+)`", text_of("docs", page)):
                 self.assertIn(name, words, page)
 
-    def files_of_definitions(self):
-        """The files that the table of docs/ARCHITECTURE.md names: a file without a folder stands where the one before
-        it does, and a folder without a crate in the crate before it."""
-        table = text_of("docs", "ARCHITECTURE.md").partition("\n## Where each definition lives\n")[2]
-        for line in re.findall(r"(?m)^\| .*\.antt \|$", table.partition("\n## ")[0]):
-            crate = folder = None
-            for name in line.strip("| ").rpartition("|")[2].strip().split(", "):
-                at, _, file = name.rpartition("/")
-                if at:
-                    crate, folder = (at.split("/", 1) if at.startswith("scf_") else (crate, at))
-                yield os.path.join("crates", crate, folder, file)
-
-    def test_each_definition_has_its_row(self):
-        named = list(self.files_of_definitions())
-        for name in named:
-            self.assertTrue(os.path.isfile(os.path.join(TOP, name)), name)
+    def test_each_file_of_definitions_says_what_it_defines(self):
         for path in glob.glob(os.path.join(TOP, "crates", "*", "specs", "*.antt")):
             if os.path.basename(path) not in ("Lib.antt", "internal.antt"):
-                self.assertEqual(named.count(os.path.relpath(path, TOP)), 1, path)
+                with open(path, encoding="utf-8") as file:
+                    self.assertRegex(file.readline(), r"^-- [A-Z]", path)
 
 
 class Recipes(Case):
@@ -379,18 +377,12 @@ class Manual(Case):
         self.assertIn("compare", commands)
         for command in commands:
             self.assertRegex(text, rf"(?m)^\.B[R]? {command}\b", command)
-        for option in ("--nr", "--arch", "--ip", "--a0", "--a5", "--limit", "--table", "--caps", "--kernel",
-                       "--calls-from", "--thread", "--wait", "--set"):
-            self.assertRegex(text, rf"(?m)^\.BI? ?{option} |\" {option} ", option)
-        for option in ("--json", "--all", "--native", "--calls", "--keep-first", "--kill", "--allow-unconfined",
-                       "--print-hook"):
-            self.assertRegex(text, rf"(?m)^\.B {option}$", option)
-        for option in ("--native", "--calls"):
+            for option in set(options(command)) - {"a1", "a2", "a3", "a4"}:
+                self.assertIn(f"--{option}", text)
+        for option in ("--native", "--calls", "--no-more", "--no-less", "--path"):
             self.assertIn(option, text)
-        tools = [it for it in os.listdir(os.path.join(TOP, "tools")) if os.path.isfile(os.path.join(TOP, "tools", it))]
-        self.assertIn("verify-process", tools)
-        for name in tools:
-            self.assertRegex(text, rf"(?m)^\.B scf-{name}$", name)
+        for name in TOOLS:
+            self.assertRegex(text, rf"(?m)^\.BR scf-{name} \(1\)", name)
         for status in (0, 1, 2, 3, 4, 125):
             self.assertRegex(text, rf"(?m)^\.B {status}$", status)
 
@@ -401,30 +393,40 @@ class Manual(Case):
 
     def test_the_examples(self):
         """Each is run, but for those of a container's process."""
-        for name in os.listdir(os.path.join(TOP, "tools")):
+        os.symlink(SCF, os.path.join(self.folder, "scf"))
+        for name in TOOLS:
             os.symlink(os.path.join(TOP, "tools", name), os.path.join(self.folder, f"scf-{name}"))
         for name, allowed in (("profile", ["read", "openat"]), ("old", ["read", "openat"]), ("new", ["read"])):
             self.file(f"{name}.json", profile_of(*allowed))
         env = {**os.environ, "PATH": f"{self.folder}:{os.environ['PATH']}"}
         ran = 0
         for block in self.examples():
-            if any("podman" in line or "$pid" in line for line in block):
-                continue
             for line in block:
                 status, _, err = self.run_words(["sh", "-c", line], env=env)
                 self.assertEqual((status, err), (0, ""), line)
                 ran += 1
         self.assertGreaterEqual(ran, 5)
 
-    def test_the_examples_of_a_container(self):
-        """Their words are those that the tools take: an engine's profile, and a process."""
-        blocks = [block for block in self.examples() if any("podman" in line or "$pid" in line for line in block)]
-        self.assertEqual(len(blocks), 2)
-        profile = self.file("engine.json", b'{"defaultAction":"SCMP_ACT_ERRNO","syscalls":[{"names":["read"],"action":'
-                                           b'"SCMP_ACT_ALLOW"},{"names":["read"],"action":"SCMP_ACT_LOG"}]}')
-        for line in (line for block in blocks for line in block if line.startswith("scf-plain-profile")):
-            words = re.sub(r'"\$\(.*\)"|/usr/share/\S+', profile, line).partition(" ")[2]
-            status, _, err = self.run_words(["sh", "-c", f"{tool('plain-profile')} {words}"])
-            self.assertEqual(status, 0, err)
-            with open(os.path.join(self.folder, "resolved.json"), encoding="utf-8") as file:
-                self.assertIn("SCMP_ACT_ALLOW", file.read())
+
+class ManualOfTools(Case):
+    """The pages that dev/manual makes of the tools' docstrings and help."""
+
+    def setUp(self):
+        super().setUp()
+        self.assertEqual(self.run_words([for_developers("manual"), self.folder]), (0, "", ""))
+
+    def test_each_tool_has_a_page_that_names_its_options(self):
+        for name in TOOLS:
+            with open(os.path.join(self.folder, f"scf-{name}.1"), encoding="utf-8") as file:
+                page = file.read().replace("\\-", "-")
+            status, shown, _ = self.run_tool(name, "--help")
+            self.assertEqual(status, 0)
+            for option in re.findall(r"^  (?:-\w, )?(--[a-z0-9-]+)", shown, re.M):
+                self.assertRegex(page, rf"(?m)^\.B .*{option}\b", name)
+
+    @unittest.skipUnless(shutil.which("groff"), "there is no groff here")
+    def test_they_are_shown_without_a_warning(self):
+        for name in TOOLS:
+            done = subprocess.run(["groff", "-man", "-ww", "-Kutf8", "-Tutf8", f"{self.folder}/scf-{name}.1"],
+                                  stdout=subprocess.PIPE, stderr=subprocess.PIPE, check=False)
+            self.assertEqual((done.returncode, done.stderr.decode()), (0, ""), name)

@@ -10,7 +10,7 @@ import sys
 import time
 import unittest
 
-from common import TOP, Case, limited, profile_of, taken, tool
+from common import TOP, Case, for_developers, limited, profile_of, taken, tool
 
 sys.path.append(os.path.join(TOP, "tools"))
 
@@ -586,7 +586,7 @@ class Symbols(Case):
     """tables/arguments.symbols."""
 
     def test_it_is_what_the_headers_say(self):
-        status, out, err = self.run_tool("symbol-table")
+        status, out, err = self.run_words([for_developers("symbol-table")])
         if status == 3 and "cc: " in err:
             self.skipTest(f"a header isn't there: {err}")
         self.assertEqual((status, err), (0, ""))
@@ -599,9 +599,9 @@ class Symbols(Case):
         self.assertGreater(len(here.keys() & table.keys()), 1000)
 
     def test_usage(self):
-        self.assertEqual(self.run_tool("symbol-table", "a")[:2], (2, ""))
-        self.assertEqual(self.run_tool("symbol-table", "--help")[::2], (0, ""))
-        status, out, err = self.run_words([sys.executable, tool("symbol-table")], env={"PATH": self.folder})
+        self.assertEqual(self.run_words([for_developers("symbol-table"), "a"])[:2], (2, ""))
+        self.assertEqual(self.run_words([for_developers("symbol-table"), "--help"])[::2], (0, ""))
+        status, out, err = self.run_words([sys.executable, for_developers("symbol-table")], env={"PATH": self.folder})
         self.assertEqual((status, out, err), (3, "", "symbol-table: cc can't be run: No such file or directory\n"))
 
 
