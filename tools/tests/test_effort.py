@@ -32,8 +32,9 @@ class Slow(Case):
 
     def test_compare(self):
         allows, fails = self.file("a.json", b'{"defaultAction":"SCMP_ACT_ALLOW"}'), self.file("e.json", profile_of())
+        # scf's own limit of steps for all calls together comes first
         status, out, err = self.ends("compare", "--calls", self.file("f.bpf", BITS), allows)
-        self.assertEqual((status, out.split("\n")[0], err), (4, "unfinished", f"compare: {TOLD}\n"))
+        self.assertEqual((status, out.split("\n")[0], err), (4, "unfinished", ""))
         # the verdict over all of them is known soon
         for data in (BITS, ORDERS):
             name = self.file("f.bpf", data)

@@ -286,14 +286,14 @@ class VerifyProcess(Confined):
         child = self.child([refusing(MOUNT), OLDEST])
         status, out = self.verify(child, ALLOWS_ALL)
         self.assertEqual(status, 1)
-        self.assertIn("\n# the last tests on the way in 0.bpf, filter 1 of 2:\n", out)
+        self.assertIn("\n# the last tests on the way in 0.bpf:\n", out)
         status, out = self.verify(child, refuses("umount2"), "--no-more")
         self.assertEqual((status, out.split("\n")[0]), (1, "more"))
-        self.assertIn("\n# the last tests on the way in 0.bpf, filter 1 of 2:\n", out)
+        self.assertIn("\n# the last tests on the way in 0.bpf:\n", out)
         self.assertEqual(self.run_tool("filters-of", str(child.pid), "out")[1], "out/0.bpf\nout/1.bpf\n")
         child = self.child([refusing(MOUNT), refusing(MOUNT)])
         out = self.verify(child, ALLOWS_ALL)[1]
-        self.assertIn("\n# the last tests on the way in 1.bpf, filter 2 of 2:\n", out)
+        self.assertIn("\n# the last tests on the way in 1.bpf:\n", out)
 
     @here
     def test_threads_that_differ(self):

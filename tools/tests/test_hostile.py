@@ -14,7 +14,7 @@ import tempfile
 from common import ALLOW, KILL_PROCESS, SCF, X86_64, Case, insn, jeq, jge, limited, load, part, ret
 
 LIMIT_OF_FILTER, LIMIT_OF_TEXT, LIMIT_OF_INPUT = 32768, 4194304, 16777216
-# Seconds of a processor: 7 are measured of a text of many labels in no order, and 0.9 of a million steps.
+# Seconds of a processor: 3 are measured of a text of many labels in no order, and 0.9 of a million steps.
 SECONDS, MEGABYTES = 30, 640
 GATE = load(4) + jeq(X86_64, 0, 2) + load(0) + jge(0x40000000, 0, 1) + ret(KILL_PROCESS)
 ALLOWS = b'{"defaultAction":"SCMP_ACT_ALLOW"}'
@@ -179,7 +179,8 @@ class Hostile(Case):
         self.ends(["asm"], b"".join(b"l%06x:\n" % number for number in range(LIMIT_OF_INPUT // 9)), (0, b""))
 
     def test_texts_of_labels(self):
-        """No more than three times the text is kept, however short its labels are, and whatever their order."""
+        """No more than three times the text is kept, however short its labels are, and whatever their order; four times
+        where labels repeat."""
         letters = string.ascii_letters.encode()
         names = [bytes(it) for it in itertools.islice(itertools.product(letters, repeat=4), LIMIT_OF_INPUT // 6)]
         quarter = names[:len(names) // 4]
@@ -188,7 +189,7 @@ class Hostile(Case):
             self.ends(["asm"], text, (0, b""), most=3 * len(text) / 2**20)
         text = b":\n".join(quarter) + b":\n"
         again = b"a:;" * (len(text) // 3)
-        first, most = f"line {len(quarter) + 1}", 3 * 2 * len(text) / 2**20
+        first, most = f"line {len(quarter) + 1}", 4 * 2 * len(text) / 2**20
         self.faults(["asm"], text + again, f"fault text Label {first}", 1, most)
         self.faults(["asm"], text + names[0] + b":ld\nld", f"fault text Label {first}", 1, most)
         self.faults(["asm"], text + b"ld\n" + names[0] + b":", f"fault text Operand {first}", 1, most)
