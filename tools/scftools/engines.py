@@ -76,6 +76,8 @@ class Setting:
     engine: str | None = None
     # Unknown members that are no conditions; None where all are.
     ignored: Sequence[str] | None = ()
+    # Where the capabilities come from, if no word names them.
+    source: str | None = None
 
     @property
     def unread(self) -> Sequence[str]:
@@ -432,6 +434,11 @@ def capabilities_of(text: str) -> list[str]:
             raise ValueError(f"'{word}' is no capability")
         found += SETS.get(word, [name])
     return sorted({f"CAP_{it}" for it in found})
+
+
+def capabilities_in(mask: int) -> list[str]:
+    """The capabilities of a set of bits, as a process's status has them (proc_pid_status(5))."""
+    return sorted(f"CAP_{name}" for bit, name in enumerate(CAPABILITIES) if mask >> bit & 1)
 
 
 def kernel_of(text: str) -> tuple[int, int]:

@@ -25,6 +25,8 @@ TYPE_CHECKING = False
 if TYPE_CHECKING:
     from typing import Any
 
+    from . import processes
+
 RUNC, CRUN = "runc", "crun"
 # The actions that the runtimes know, under one name each where they have two; and those that take a number, which is
 # EPERM where none is given.
@@ -99,6 +101,16 @@ def setting_of_words(given: argparse.Namespace, parser: argparse.ArgumentParser)
                        given.ignore or ())
     except ValueError as why:
         parser.error(str(why))
+
+
+def setting_of_process(given: argparse.Namespace, kernel: processes.Kernel) -> Setting:
+    """The container of a process: without `--caps` with the capabilities of the process's bounding set, which are those
+    that the engine gave the container."""
+    bounding = kernel.status_of(given.pid).get("CapBnd")
+    if given.caps is not None or bounding is None:
+        return given.setting
+    return replace(given.setting, capabilities=engines.capabilities_in(int(bounding, 16)),
+                   source="the process's bounding set")
 
 
 class Library:
@@ -382,7 +394,11 @@ def applied(value: Any, name: str, setting: Setting | None = None) -> Applied:
     resolver = engines.Resolver(setting, notes.append)
     resolved = resolver.resolved(value)
     found = _Application(runtime, Library()).run(resolved, resolver.origins)
-    return replace(found, notes=list(dict.fromkeys([*notes, *found.notes])))
+    remarks = list(found.remarks)
+    if setting.engine is not None and setting.source is not None:
+        names = ", ".join(it[4:] for it in setting.capabilities) or "none"
+        remarks.append(f"resolved for the capabilities of {setting.source}: {names}")
+    return replace(found, remarks=remarks, notes=list(dict.fromkeys([*notes, *found.notes])))
 
 
 def read(path: str, name: str, setting: Setting) -> Applied:

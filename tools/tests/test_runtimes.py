@@ -47,13 +47,13 @@ def profile(*entries, default=ERRNO, **members):
     return {"defaultAction": default, "architectures": [X86_64], "syscalls": [OTHERS, *entries], **members}
 
 
-def config(seccomp):
+def config(seccomp, capabilities=CAPABILITIES):
     mounts = [{"destination": "/proc", "type": "proc", "source": "proc"},
               {"destination": "/dev", "type": "tmpfs", "source": "tmpfs"}]
-    capabilities = {it: CAPABILITIES for it in ("bounding", "effective", "permitted")}
     return {"ociVersion": "1.0.2",
             "process": {"user": {"uid": 0, "gid": 0}, "args": ["/busybox", "sleep", "300"], "env": ["PATH=/"],
-                        "cwd": "/", "capabilities": capabilities},
+                        "cwd": "/",
+                        "capabilities": {it: capabilities for it in ("bounding", "effective", "permitted")}},
             "root": {"path": "rootfs", "readonly": True}, "mounts": mounts,
             "linux": {"namespaces": [{"type": it} for it in ("pid", "ipc", "uts", "mount")], "seccomp": seccomp}}
 
@@ -63,7 +63,7 @@ ALONE = ["unshare", "-m", "sh", "-c", 'mount -t cgroup2 cgroup2 /sys/fs/cgroup &
 
 
 @contextlib.contextmanager
-def container(runtime, seccomp):
+def container(runtime, seccomp, capabilities=CAPABILITIES):
     """A container with a profile: its process, or why the runtime refuses it."""
     if os.geteuid() or not BUSYBOX or not shutil.which(runtime):
         raise unittest.SkipTest(f"needs root, busybox and {runtime}")
@@ -76,7 +76,7 @@ def container(runtime, seccomp):
             os.makedirs(os.path.join(folder, "rootfs", inner))
         shutil.copy(BUSYBOX, os.path.join(folder, "rootfs", "busybox"))
         with open(os.path.join(folder, "config.json"), "w", encoding="utf-8") as file:
-            json.dump(config(seccomp), file)
+            json.dump(config(seccomp, capabilities), file)
         said = os.path.join(folder, "said")
         with open(said, "wb") as err:
             done = subprocess.run([*words, "run", "--detach", "--bundle", folder, "--pid-file", f"{folder}/pid", name],
@@ -323,7 +323,8 @@ class VerifyProcess(Case):
                 self.assertEqual(out.count(stub), 1 if first == "same" else 0, out)
             found = json.loads(self.verify(process, MOBY, "--runtime", "docker", "--json")[1])
             self.assertEqual((found["status"], found["verdict"], found["stacks"][0]["stub"], found["remarks"]),
-                             (0, "same", 450, []))
+                             (0, "same", 450, [f"resolved for the capabilities of the process's bounding set: "
+                                               f"{', '.join(sorted(engines.DOCKER.split()))}"]))
             # a whole config.json is resolved already; of another runtime there is no stub
             for given, words, status in ((config(handed_on), ("--runtime", "runc"), 0),
                                          (config(handed_on), ("--runtime", "docker"), 0), (handed_on, (), 1),
@@ -336,6 +337,26 @@ class VerifyProcess(Case):
             found = json.loads(self.verify(process, MOBY, "--runtime", "docker", "--caps", "docker,SYS_ADMIN",
                                            "--json")[1])
             self.assertEqual(found["stacks"][0]["place"], 13)
+
+    def test_the_capabilities_of_the_container(self):
+        """Without --caps an engine's profile is resolved for what the container has, and not for a default."""
+        given = profile({**entry("mkdir"), "includes": {"caps": ["CAP_SYS_TIME"]}},
+                        {**entry("rmdir"), "excludes": {"caps": ["CAP_BLOCK_SUSPEND"]}})
+        for runtime, engine in (("runc", "docker"), ("crun", "podman")):
+            for capabilities in (["CAP_CHOWN", "CAP_SYS_TIME"], ["CAP_BLOCK_SUSPEND"], []):
+                setting = engines.Setting(capabilities, (6, 1), False, engine)
+                resolved = engines.Resolver(setting, lambda _: None).resolved(given)
+                with container(runtime, resolved, capabilities) as (process, why):
+                    self.assertIsNotNone(process, why)
+                    status, out, _ = self.verify(process, given, "--runtime", engine)
+                    self.assertEqual((status, out.splitlines()[0]), (0, "same"), capabilities)
+                    names = ", ".join(it[4:] for it in capabilities) or "none"
+                    self.assertIn(f"\n# resolved for the capabilities of the process's bounding set: {names}\n", out)
+                    has_default = capabilities == []
+                    status, out, _ = self.verify(process, given, "--runtime", engine, "--caps", engine)
+                    self.assertEqual((status, "bounding set" in out), (0 if has_default else 1, False))
+                    out = self.verify(process, config(resolved), "--runtime", engine)[1]
+                    self.assertEqual((out.splitlines()[0], "bounding set" in out), ("same", False))
 
     def test_a_call_above_the_stub_that_is_allowed(self):
         """Beside it, what runc answers by ENOSYS isn't told as what differs."""
