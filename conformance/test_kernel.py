@@ -98,7 +98,7 @@ class Gate(Asked):
 
     def test_rows_of_the_document_are_those_that_are_tried(self):
         with open(os.path.join(HERE, "README.md"), encoding="utf-8") as file:
-            text = file.read().split("## Where the kernel does otherwise")[1]
+            text = file.read().split("## Where the kernel differs")[1]
         rows = re.findall(r"^\| ([^|]+?) \|", text.split("\n## ")[0], re.M)
         self.assertEqual(rows[1:], list(kernel_exceptions.ROWS))
 
