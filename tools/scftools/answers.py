@@ -11,21 +11,21 @@ ACTIONS = {0x8000: "KILL_PROCESS", 0x0000: "KILL_THREAD", 0x0003: "TRAP", 0x0005
            0x7FF0: "TRACE", 0x7FFC: "LOG", 0x7FFF: "ALLOW"}
 # What the kernel does (seccomp(2)).
 DOES = {
-    "ALLOW": "the call is made",
-    "LOG": "the call is made, and logged",
-    "TRAP": "the call isn't made, and the thread gets SIGSYS",
-    "KILL_THREAD": "the thread ends",
-    "KILL_PROCESS": "the process ends",
-    "USER_NOTIF": "a supervisor answers the call; without one it fails with ENOSYS",
-    "TRACE": "a tracer is told of the call; without one it fails with ENOSYS",
-    "UNNAMED": "the process ends, since seccomp(2) names no such action",
+    "ALLOW": "the syscall is executed",
+    "LOG": "the syscall is executed, and logged",
+    "TRAP": "the syscall isn't executed, and the thread gets SIGSYS",
+    "KILL_THREAD": "the thread is killed",
+    "KILL_PROCESS": "the process is killed",
+    "USER_NOTIF": "a supervisor handles the syscall; without one it fails with ENOSYS",
+    "TRACE": "a tracer handles the syscall; without one it fails with ENOSYS",
+    "UNNAMED": "the process is killed, since seccomp(2) has no such action",
 }
-# Where the call is made, and where it isn't whoever looks on.
+# The actions that allow a syscall, and those that deny it.
 LETS_THROUGH = ("ALLOW", "LOG")
 REFUSES = ("ERRNO", "TRAP", "KILL_THREAD", "KILL_PROCESS", "UNNAMED")
-# What becomes of a call, the least permissive first. It follows from the action alone: the rank of an answer only says
+# The disposition of a syscall, the strictest first. It follows from the action alone; the rank of an answer only says
 # which of a stack's answers decides.
-FATES = REFUSED, REFERRED, MADE = "refused", "referred to a supervisor or tracer", "made"
+FATES = REFUSED, REFERRED, MADE = "denied", "delegated to a supervisor or tracer", "allowed"
 # An answer of these without a number still has one.
 HAS_DATA = ("ERRNO", "TRACE", "TRAP", "UNNAMED")
 # The names of errno(3) that Linux has; where a number has two of them, the one that its header gives the number.
@@ -78,7 +78,7 @@ class Answer:
 
     @property
     def fate(self) -> str:
-        """What becomes of the call."""
+        """The disposition of the syscall."""
         return MADE if self.lets_through else REFUSED if self.refuses else REFERRED
 
     def does(self) -> str:
@@ -86,10 +86,10 @@ class Answer:
         if self.action != "ERRNO":
             return DOES[self.action]
         if self.data == 0:
-            return "the call isn't made, and seems to end well"
+            return "the syscall isn't executed, and returns 0 as if it had succeeded"
         if self.data > MAX_ERRNO:
-            return f"the call isn't made, and fails with errno {MAX_ERRNO}, the greatest that the kernel gives"
-        return f"the call isn't made, and fails with {ERRNOS.get(self.data, f'errno {self.data}')}"
+            return f"the syscall fails with errno {MAX_ERRNO}, the greatest that the kernel returns"
+        return f"the syscall fails with {ERRNOS.get(self.data, f'errno {self.data}')}"
 
     def told(self) -> str:
         return f"{self}: {self.does()}"

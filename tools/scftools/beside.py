@@ -7,7 +7,7 @@ from dataclasses import dataclass
 from . import foreign, program
 from .groups import Groups
 from .showing import LEAST, details, fitted, grouped, of_whole, row_json, wrapped
-from .surfaces import DEPENDS, Row, Surface, fate_of
+from .surfaces import DEPENDS, Row, Surface, fate_of, word_of
 
 BESIDE = "beside"
 
@@ -101,7 +101,7 @@ def _of_whole(found: Beside) -> Iterator[str]:
 
 def _told(pair: Pair) -> list[str]:
     """Both sides of a pair, each with what it shows."""
-    return [" ".join([row.said, *details(row)]) for row in (pair.one, pair.other)]
+    return [" ".join([word_of(row.said), *details(row)]) for row in (pair.one, pair.other)]
 
 
 def _as_table(found: Beside, groups: Groups, width: int) -> Iterator[str]:
@@ -123,7 +123,9 @@ def _as_table(found: Beside, groups: Groups, width: int) -> Iterator[str]:
 
 def lines(found: Beside, groups: Groups, width: int | None) -> Iterator[str]:
     """All that is said of two surfaces."""
-    yield from fitted([*_of_whole(found), f"calls of which the same isn't said: {len(found.pairs)}"], width)
+    undecided = sum(not pair.is_told for pair in found.pairs)
+    count = f"syscalls that differ: {len(found.pairs) - undecided}" + f", undecided: {undecided}" * (undecided > 0)
+    yield from fitted([*_of_whole(found), count], width)
     if width is not None:
         yield from _as_table(found, groups, width)
     else:
@@ -133,7 +135,7 @@ def lines(found: Beside, groups: Groups, width: int | None) -> Iterator[str]:
                 yield f"{group} {pair.number} {','.join(pair.names)} {one} {BESIDE} {other}"
     if found.alike:
         names = ", ".join(",".join(pair.names) for pair in found.alike)
-        told = f"calls that depend by both, and whose shown calls fare alike; whether all do isn't told: {names}"
+        told = f"syscalls that depend on both sides, and agree where they were tried, which isn't proved for all: {names}"
         yield from fitted([told], width)
 
 

@@ -19,7 +19,7 @@ PRINTED = re.compile(r"call nr ([0-9]+) arch (0x[0-9a-f]+) ip (0x[0-9a-f]+) args
 def number_text(number: int, architecture: int = X86_64) -> str:
     """A number of a call that no table names."""
     if number == SKIPPED:
-        return "number -1, as a tracer sets it to skip a call"
+        return "number -1, which a tracer sets to skip a syscall"
     if architecture == X86_64 and X32 <= number < NO_CALL:
         return f"number 0x40000000 + {number - X32}"
     return f"number {number}"
@@ -68,15 +68,15 @@ class Call:
             shown = ARCHITECTURES.get(self.architecture, hex(self.architecture))
             return f"number {self.number} of the architecture {shown}"
         if self.number >= NO_CALL:
-            return f"number {self.number}, which is {hex(self.number)}, as no call has"
+            return f"number {self.number} ({hex(self.number)}), which no syscall has"
         if self.number >= X32:
-            return f"number {self.number}, which is 0x40000000 + {self.number - X32}, as x32 calls have"
+            return f"number {self.number} (0x40000000 + {self.number - X32}), an x32 syscall"
         named = " or ".join(table.names_of(self.number))
         return f"{named} ({self.number})" if named else f"number {self.number}, which the table doesn't name"
 
     def left_out_of_native(self) -> str:
         """What a comparison of native calls leaves out with this call, which is foreign."""
-        return "a foreign architecture" if self.architecture != X86_64 else "numbers from 0x40000000 on"
+        return "other architectures" if self.architecture != X86_64 else "numbers from 0x40000000 on"
 
     def as_json(self, table: Table) -> dict[str, object]:
         return {"number": self.number, "names": table.names_of(self.number) if self.is_native else [],

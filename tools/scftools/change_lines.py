@@ -11,11 +11,11 @@ from .tables import Table
 from .verdicts import LESS, MORE, UNDECIDED, UNFINISHED
 
 # What stands above the calls of a kind, before their count.
-HEADINGS = {MORE: "what the new profile lets through further than the old one",
-            LESS: "what the new profile lets through less far than the old one",
-            OTHERWISE: "what is answered otherwise, and let through as far as before",
-            UNDECIDED: "calls of which it couldn't be told whether they are let through as far",
-            UNFINISHED: "calls of which it couldn't be told within the limit whether they are let through as far"}
+HEADINGS = {MORE: "syscalls for which the new profile is more permissive",
+            LESS: "syscalls for which the new profile is stricter",
+            OTHERWISE: "syscalls that get another answer, neither more permissive nor stricter",
+            UNDECIDED: "syscalls that are undecided",
+            UNFINISHED: "syscalls that are undecided within the limit"}
 # So many names are told one by one.
 TOLD = 20
 
@@ -70,7 +70,7 @@ def _apart(what: str, of_sides: dict[str, tuple[str, ...]]) -> Iterator[str]:
         names = [name for name in dict.fromkeys(of_sides[side]) if name not in others]
         more = f" and {len(names) - TOLD} more" if len(names) > TOLD else ""
         if names:
-            yield f"of these only in the {side} one: {', '.join(names[:TOLD])}{more}"
+            yield f"only in the {side} one: {', '.join(names[:TOLD])}{more}"
 
 
 def lines(changes: Changes) -> Iterator[str]:
@@ -86,14 +86,14 @@ def lines(changes: Changes) -> Iterator[str]:
             yield line_of(change, changes.sources)
             yield from (f"# {line}" for line in _conditions(changes, change))
     if changes.unnamed is not None and changes.unnamed.call is not None:
-        yield "# numbers that the table doesn't name are answered by the defaults; one of them:"
+        yield "# numbers that the table doesn't name get the defaults, for example:"
         yield line_of(changes.unnamed, changes.sources)
     elif changes.unnamed is not None:
-        yield f"# whether numbers that the table doesn't name are answered alike: {changes.unnamed.kind}"
+        yield f"# numbers that the table doesn't name: {changes.unnamed.kind}"
     yield from (f"# {line}" for line in _entries(changes))
-    yield from (f"# {line}" for line in _apart("names that were skipped, since the table doesn't name such calls",
+    yield from (f"# {line}" for line in _apart("names that were skipped because the table doesn't have them",
                                                changes.skipped))
-    yield from (f"# {line}" for line in _apart("other architectures, which aren't looked at", changes.architectures))
+    yield from (f"# {line}" for line in _apart("other architectures, not compared", changes.architectures))
 
 
 def _change_json(changes: Changes, change: Change, table: Table) -> dict[str, object]:

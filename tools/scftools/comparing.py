@@ -19,15 +19,13 @@ if TYPE_CHECKING:
 ALL, NATIVE, CALLS = "all", "native", "calls"
 SCOPES = {ALL: [], NATIVE: ["--native"], CALLS: ["--calls"]}
 # What is said of a scope that leaves foreign calls out.
-LOOKED_AT = {NATIVE: "looked at: native calls, those of x86-64 with numbers below 0x40000000; of the others, whether "
-                     "any is let through:",
-             CALLS: "looked at: the native calls that the table names, each by itself; of foreign ones, whether any is "
-                    "let through:"}
+LOOKED_AT = {NATIVE: "compared: x86-64 syscalls; other ABIs are only checked for any allowed syscall:",
+             CALLS: "compared: each x86-64 syscall in the table; other ABIs are only checked for any allowed syscall:"}
 # The relations of two answers that scf looks for, by the verdict where one holds; and what isn't as it should be of the
 # named calls that fail it.
 RELATIONS = {SAME: [], NO_MORE: ["--no-more"], NO_LESS: ["--no-less"]}
-FAILED = {DIFFERS: "that aren't answered as the profile says", MORE: "that are let through further than by the profile",
-          LESS: "that are let through less far than by the profile"}
+FAILED = {DIFFERS: "that differ", MORE: "answered more permissively than by the profile",
+          LESS: "answered more strictly than by the profile"}
 # So many calls that couldn't be told are listed.
 UNTOLD = 20
 
@@ -157,13 +155,13 @@ def _counted(calls: Sequence[NamedCall]) -> Iterator[str]:
     """How many calls by name differ, and their lines; and the same of those that couldn't be told."""
     differing = [call for call in calls if call.verdict.fails]
     if differing:
-        yield f"calls that the table names and {FAILED[differing[0].verdict.word]}: {len(differing)}"
+        yield f"syscalls in the table {FAILED[differing[0].verdict.word]}: {len(differing)}"
         yield from (call.line for call in differing)
     if len(differing) < len(calls):
         untold = [call.line for call in calls if not call.verdict.fails]
-        yield f"calls that the table names and of which it couldn't be told: {len(untold)}"
+        yield f"syscalls in the table without a verdict: {len(untold)}"
         yield from untold[:UNTOLD]
-        yield from [f"more such calls: {len(untold) - UNTOLD}"] * (len(untold) > UNTOLD)
+        yield from [f"more such syscalls: {len(untold) - UNTOLD}"] * (len(untold) > UNTOLD)
 
 
 def of_native_calls(comparison: Comparison, report: Report) -> tuple[list[str], list[str]]:
@@ -177,9 +175,9 @@ def of_native_calls(comparison: Comparison, report: Report) -> tuple[list[str], 
     by_name = comparison.run(CALLS)[1]
     if by_name.verdict is None or report.verdict is None or report.verdict.call is None:
         return [], []
-    all_named = [f"no calls that the table names are among those {FAILED[report.verdict.word]}"]
+    all_named = [f"no syscall in the table is among those {FAILED[report.verdict.word]}"]
     if comparison.relation == SAME:
-        all_named = ["each call that the table names is answered as the profile says"]
+        all_named = ["each syscall in the table is answered as the profile says"]
     found = newer.calls_of(comparison) if comparison.relation == SAME and comparison.stub is None else None
     if found is None:
         return [], all_named if by_name.verdict.holds else list(_counted(by_name.calls))
@@ -187,7 +185,7 @@ def of_native_calls(comparison: Comparison, report: Report) -> tuple[list[str], 
     count, others_differ = len(by_name.calls) - len(others), newer.another_call(comparison, found)
     told = [found.told(others_differ is None, comparison.table)]
     if count:
-        told.append(f"calls among these that the table names: {count}")
+        told.append(f"syscalls in the table among these: {count}")
     if others_differ is None:
         return told, [] if count else all_named
     lines = list(_counted(others)) or list(
@@ -205,16 +203,16 @@ def of_refusing_more(comparison: Comparison, scope: str) -> Iterator[str]:
     no_more, no_less = (report.verdict for report in of_fates(comparison, scope))
     if no_more is None or not no_more.holds:
         return
-    they, s = ("they", "") if len(comparison.filters) > 1 else ("it", "s")
-    they = f"of the calls that the table names: {they}" if scope == CALLS else they
+    they, are, s = ("they", "are", "") if len(comparison.filters) > 1 else ("it", "is", "s")
+    they = f"over the syscalls in the table: {they}" if scope == CALLS else they
     if no_less is not None and no_less.holds:
-        yield f"{they} let{s} through no more and no less than the profile, only by other answers"
+        yield f"{they} {are} neither more permissive nor stricter than the profile: only the answers differ"
     elif no_less is not None and no_less.fails:
-        shown = no_less.call is None or no_less.filters is None or no_less.filters.fate == REFUSED
-        less = f"refuse{s} more" if shown else f"refer{s} more to a supervisor or tracer"
-        yield f"{they} {less}, and let{s} nothing through that the profile refuses"
+        is_denied = no_less.call is None or no_less.filters is None or no_less.filters.fate == REFUSED
+        less = f"{are} stricter, and" if is_denied else f"delegate{s} more to a supervisor or tracer, and {are}"
+        yield f"{they} {less} never more permissive than the profile"
     else:
-        yield f"{they} let{s} nothing through that the profile refuses"
+        yield f"{they} {are} never more permissive than the profile"
 
 
 def of_fault(fault: verdicts.Fault, profile: bytes, table: Table) -> Iterator[str]:

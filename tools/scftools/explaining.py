@@ -13,12 +13,12 @@ from .verdicts import Decision, Fault, Report
 def of_fault(fault: Fault, table: Table | None) -> Iterator[str]:
     yield from faults.what_a_row_says(fault.line)
     if (fault.source, fault.kind) == ("profile", "Conflict") and table is not None:
-        yield f"the call is {Call(fault.numbers['number']).told(table)}"
+        yield f"the syscall is {Call(fault.numbers['number']).told(table)}"
 
 
 def of_call(call: Call, table: Table, is_native: bool | None = None) -> Iterator[str]:
     """A call's name, and whether a comparison of native calls leaves it out, where one could be asked for."""
-    yield f"the call is {call.told(table)}"
+    yield f"the syscall is {call.told(table)}"
     if is_native is False and not call.is_native:
         yield f"--native leaves out {call.left_out_of_native()}"
 
@@ -37,8 +37,8 @@ def of_differing(verdict: verdicts.Verdict, table: Table, is_native: bool, count
     if verdict.profile:
         yield f"the profile answers {verdict.profile.told()}"
     if verdict.word != verdicts.DIFFERS and verdict.filters and verdict.profile:
-        yield (f"by the filter{'s' * (count > 1)} the call is {verdict.filters.fate}, by the profile it is "
-               f"{verdict.profile.fate}")
+        yield (f"the syscall is {verdict.filters.fate} by the filter{'s' * (count > 1)}, and {verdict.profile.fate} by "
+               f"the profile")
 
 
 def of_verdict(report: Report, table: Table, is_native: bool, count: int) -> Iterator[str]:
@@ -59,24 +59,24 @@ def of_skipped(report: Report, table: Table, default_lets_through: bool) -> Iter
     from . import tables  # pylint: disable=import-outside-toplevel
 
     found = tables.told_apart(report.skipped, table)
-    yield (f"names of the profile that were skipped, since the table doesn't name such calls: {len(report.skipped)}"
-           + (", all of them calls of other architectures" if not found.left_out and not found.unknown else ""))
+    yield (f"names in the profile that were skipped because the table doesn't have them: {len(report.skipped)}"
+           + (", all of them syscalls of other architectures" if not found.left_out and not found.unknown else ""))
     for name in found.left_out[:tables.TOLD]:
-        yield f"{name} is a call of x86-64, which this table leaves out"
+        yield f"{name} is an x86-64 syscall that this table leaves out"
     for name, near in found.unknown[:tables.TOLD]:
         shown = name if len(name) <= tables.LONGEST else f"{name[:tables.LONGEST]}.."
-        nearest = f"; the nearest name of the table is {near}" if near else ""
-        yield f"no call that is known here is called {shown}{nearest}"
+        nearest = f"; the nearest name in the table is {near}" if near else ""
+        yield f"no known syscall is named {shown}{nearest}"
     more = max(len(found.left_out) - tables.TOLD, 0) + max(len(found.unknown) - tables.TOLD, 0)
     if more:
         yield f"more such names: {more}"
     if default_lets_through and (found.left_out or found.unknown):
-        yield "the profile lets through what it doesn't name: the rules of these names are lost"
+        yield "the profile's default allows syscalls: the rules for these names are lost"
 
 
 def of_architectures(report: Report) -> Iterator[str]:
     if report.architectures:
-        yield "the other architectures of the profile aren't looked at"
+        yield "the profile's other architectures are left out"
 
 
 def of_killed_architectures(report: Report) -> Iterator[str]:

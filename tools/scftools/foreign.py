@@ -21,8 +21,8 @@ ALLOWS_NATIVE = b'{"defaultAction": "SCMP_ACT_ALLOW"}'
 ALLOWED, REFUSED = (instruction(RETURN_CONSTANT, Answer(action, 0).word) for action in ("ALLOW", "KILL_PROCESS"))
 # struct seccomp_data in linux/seccomp.h
 NUMBER, ARCHITECTURE = instruction(LOAD_WORD, 0), instruction(LOAD_WORD, 4)
-OTHERS = "other architectures' calls: none that this kernel makes"
-NONE = "i386 and x32 calls: none is let through; others: none that this kernel makes"
+OTHERS = "other ABIs: an x86-64 kernel has no others"
+NONE = "other ABIs: every i386 and x32 syscall is denied; an x86-64 kernel has no others"
 
 
 def jump(test: int, k: int, if_true: int, if_false: int) -> bytes:
@@ -92,9 +92,9 @@ class Proved:
 
     def told(self) -> str:
         if self.call is None or self.answer is None:
-            return f"{self.kind.name} calls: none is let through"
-        which = "some are let through" if self.answer.fate == MADE else "not all are refused"
-        return f"{self.kind.name} calls: {which}, as {self.kind.told(self.call.number)}: {self.answer}"
+            return f"{self.kind.name}: every syscall is denied"
+        which = "some syscalls are allowed" if self.answer.fate == MADE else "not every syscall is denied"
+        return f"{self.kind.name}: {which}, such as {self.kind.told(self.call.number)}: {self.answer}"
 
     def as_json(self) -> dict[str, object]:
         shown = [] if self.call is None or self.answer is None else [
@@ -110,13 +110,12 @@ class Tried:
     let_through: tuple[tuple[str, int, Answer], ...]
 
     def told(self) -> str:
-        count, calls = len(self.kind.calls), f"{self.kind.name} calls: it wasn't decided whether any is let through;"
+        tried = f"{self.kind.name}: undecided whether any syscall is allowed; of {len(self.kind.calls)} that were tried,"
         if not self.let_through:
-            return f"{calls} none of {count} that were tried is"
-        which = f"{len(self.let_through)} of {count}" if len(self.let_through) < count else f"all {count}"
+            return f"{tried} none is"
         _, number, answer = self.let_through[0]
         verb = "is" if len(self.let_through) == 1 else "are"
-        return f"{calls} {which} that were tried {verb}, as {self.kind.told(number)}: {answer}"
+        return f"{tried} {len(self.let_through)} {verb}, such as {self.kind.told(number)}: {answer}"
 
     def as_json(self) -> dict[str, object]:
         return {"kind": self.kind.name, "is_decided": False, "tried": len(self.kind.calls),
@@ -159,7 +158,7 @@ def told(found: Sequence[Proved | Tried], profile_names: Sequence[str] = ()) -> 
     """What is said of each kind, beside a profile that names these other architectures."""
     if are_none(found):
         return [NONE]
-    named = {one.kind.profile_name: f"; the profile names {one.kind.profile_name}, too" for one in found
+    named = {one.kind.profile_name: f"; the profile also names {one.kind.profile_name}" for one in found
              if one.kind.profile_name in profile_names}
     return [*(one.told() + named.get(one.kind.profile_name, "") for one in found), OTHERS]
 

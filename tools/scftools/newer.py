@@ -69,8 +69,8 @@ def compared_with_stub(comparison: Comparison, scope: str, first: int | None) ->
 
 
 def _told(calls: str, are_all: bool, first: int, table: Table) -> str:
-    return (f"{'only ' if are_all else ''}{calls} with greater numbers than all that the profile names are answered "
-            f"otherwise, the first is {Call(first).told(table)}; both sides refuse them")
+    return (f"{'only ' if are_all else ''}{calls} with numbers above all that the profile names differ, the first is "
+            f"{Call(first).told(table)}; both sides deny them")
 
 
 def greatest_named(comparison: Comparison) -> int | None:
@@ -92,8 +92,8 @@ class Newer:
         return call.number >= self.first
 
     def told(self, are_all: bool, table: Table) -> str:
-        return (f"{_told('calls', are_all, self.first, table)}, the filter by {self.filters.named()} and the profile "
-                f"by {self.profile.named()}")
+        return (f"{_told('syscalls', are_all, self.first, table)}, the filter with {self.filters.named()} and the "
+                f"profile with {self.profile.named()}")
 
 
 def default_of(comparison: Comparison) -> tuple[bytes, Answer] | None:
@@ -146,5 +146,5 @@ def of_named_calls(comparison: Comparison, calls: Sequence[NamedCall]) -> Iterat
         return
     others = [call.verdict.word for call in calls if call.number <= greatest or not call.verdict.both_refuse]
     for word in dict.fromkeys(others):
-        yield f"other calls that {'differ' if word == DIFFERS else f'are {word}'}: {others.count(word)}"
-    yield f"{_told('named calls', not others, above[0].number, comparison.table)}: {len(above)}"
+        yield f"other syscalls that {'differ' if word == DIFFERS else f'are {word}'}: {others.count(word)}"
+    yield f"{_told('syscalls in the table', not others, above[0].number, comparison.table)}: {len(above)}"

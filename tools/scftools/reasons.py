@@ -106,7 +106,7 @@ def told(reason: Reason, profile: bytes, call: Call | None, origins: Sequence[Or
     if reason.answer is None:
         return
     if reason.is_foreign:
-        yield "by no entry: the call is foreign"
+        yield "by no entry: the syscall is of another ABI"
     elif reason.entry is None:
         yield "by the default"
     else:
@@ -189,7 +189,7 @@ def of_difference(comparison: Comparison, verdict: Verdict) -> Iterator[str]:
     giver = paths.shown(paths.givers(comparison.filters, words, verdict.filters))
     if giver is not None:
         before, lines = paths.last_tests(giver.filter.data, giver.path, verdict.call, comparison.table)
-        yield f"the last tests on the way in {giver.told()}" + (f", behind {before} others:" if before else ":")
+        yield f"the last tests on the path in {giver.told()}" + (f", after {before} others:" if before else ":")
         yield from lines
 
 

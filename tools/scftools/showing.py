@@ -6,7 +6,7 @@ from collections.abc import Iterable, Iterator, Sequence
 
 from . import foreign
 from .groups import Groups
-from .surfaces import DEPENDS, MADE, REFUSED, SAID, Row, Surface
+from .surfaces import DEPENDS, MADE, REFUSED, SAID, Row, Surface, word_of
 
 # What a terminal has that doesn't say its width, and the least width that a cell of names is given beside others.
 USUAL, LEAST = 80, 24
@@ -40,7 +40,7 @@ def fitted(told: Iterable[str], width: int | None) -> Iterator[str]:
 
 def _summary(surface: Surface) -> str:
     counts = surface.counts
-    return ", ".join(f"{said} {counts[said]}" for said in SAID if counts[said] or said in (MADE, DEPENDS, REFUSED))
+    return ", ".join(f"{word_of(said)} {counts[said]}" for said in SAID if counts[said] or said in (MADE, DEPENDS, REFUSED))
 
 
 def _foreign(surface: Surface) -> str:
@@ -55,7 +55,7 @@ def of_whole(surface: Surface) -> list[str]:
 def details(row: Row) -> list[str]:
     """Behind what is said of all calls of a number: some of them by their fates, or else an answer of one."""
     if row.shown:
-        return [f"{fate} {shown.told()}" for fate, shown in row.shown.items()]
+        return [f"{word_of(fate)} {shown.told()}" for fate, shown in row.shown.items()]
     return [str(row.answer)] if row.answer else []
 
 
@@ -63,7 +63,7 @@ def plain(rows: Iterable[Row], groups: Groups) -> Iterator[str]:
     """A line for each call, group by group."""
     for group, members in grouped(rows, groups):
         for row in members:
-            yield " ".join([group, row.said, str(row.number), ",".join(row.names), *details(row)])
+            yield " ".join([group, word_of(row.said), str(row.number), ",".join(row.names), *details(row)])
 
 
 def grouped(rows: Iterable[Row], groups: Groups) -> list[tuple[str, list[Row]]]:
@@ -90,7 +90,7 @@ def _cell(said: str, rows: Sequence[Row], width: int) -> list[str]:
 def as_table(rows: Iterable[Row], groups: Groups, width: int) -> Iterator[str]:
     """The calls of each group, by what is said of them."""
     found = grouped(rows, groups)
-    before, next_to = max((len(group) for group, _ in found), default=0) + 2, max(map(len, SAID)) + 2
+    before, next_to = max((len(group) for group, _ in found), default=0) + 2, max(map(len, map(word_of, SAID))) + 2
     is_narrow = width - before - next_to < LEAST
     for group, members in found:
         heading = group
@@ -99,11 +99,11 @@ def as_table(rows: Iterable[Row], groups: Groups, width: int) -> Iterator[str]:
             if not those:
                 continue
             if is_narrow:
-                yield from ([heading] if heading else []) + [f" {said}"]
+                yield from ([heading] if heading else []) + [f" {word_of(said)}"]
                 yield from (f"  {line}" for line in _cell(said, those, width - 2))
             else:
                 for at, line in enumerate(_cell(said, those, width - before - next_to)):
-                    yield f"{heading if at == 0 else '':{before}}{said if at == 0 else '':{next_to}}{line}"
+                    yield f"{heading if at == 0 else '':{before}}{word_of(said) if at == 0 else '':{next_to}}{line}"
             heading = ""
 
 

@@ -15,8 +15,15 @@ from .verdicts import UNDECIDED, UNFINISHED, NamedCall
 
 MADE, REFERRED, REFUSED, DEPENDS = "made", "referred", "refused", "depends"
 FATES = {answers.MADE: MADE, answers.REFERRED: REFERRED, answers.REFUSED: REFUSED}
-# What may be said of all calls of a number, in the order in which it is told; the last two where scf couldn't tell.
+# What may hold for all syscalls of a number, in the order in which it is printed; the last two where scf can't tell.
 SAID = (MADE, DEPENDS, REFERRED, REFUSED, UNDECIDED, UNFINISHED)
+# The words of text output; JSON has those above.
+WORDS = {MADE: "allowed", REFERRED: "delegated", REFUSED: "denied"}
+
+
+def word_of(said: str) -> str:
+    """How text output calls what JSON calls `said`."""
+    return WORDS.get(said, said)
 
 
 def fate_of(answer: Answer) -> str:

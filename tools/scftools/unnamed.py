@@ -30,19 +30,19 @@ class Unnamed:
     def _as_shown(self) -> str:
         if self.shown is None or self.shown.call is None:
             return ""
-        return f", as {self.shown.call.number}: {self.shown.filters}"
+        return f", such as {self.shown.call.number}: {self.shown.filters}"
 
     def told(self) -> str:
         if self.are_made:
-            return f"all calls of all {self.count} are made"
+            return f"all {self.count} are always allowed"
         if self.untold:
-            least = f"calls of at least {self.let_through} of {self.count} are let through{self._as_shown}; " \
-                if self.let_through else ""
-            return f"{least}of {self.untold} it couldn't be told"
+            least = f"at least {self.let_through} of {self.count} are allowed or delegated with some arguments" \
+                    f"{self._as_shown}; " if self.let_through else ""
+            return f"{least}{self.untold} are undecided"
         if not self.let_through:
-            return f"none of {self.count} is let through"
+            return f"all {self.count} are always denied"
         which = f"all {self.count}" if self.let_through == self.count else f"{self.let_through} of {self.count}"
-        return f"calls of {which} are let through{self._as_shown}"
+        return f"{which} are allowed or delegated with some arguments{self._as_shown}"
 
     def as_json(self) -> dict[str, object]:
         found: dict[str, object] = {"count": self.count, "let_through": self.let_through, "untold": self.untold,

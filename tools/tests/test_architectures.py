@@ -115,7 +115,7 @@ class Words(Case):
     def test_number_minus_one(self):
         status, out, _ = self.run_tool("decide", "--nr", "-1", self.x32)
         self.assertEqual((status, out.split("\n")[:2]), (0, [
-            "ALLOW 0", "# the call is number -1, as a tracer sets it to skip a call"]))
-        self.assertIn("# the call is number -1, as a tracer", self.run_tool("decide", "--nr=0xffffffff", self.x32)[1])
-        self.assertIn("# the call is number 4294967294, which is 0xfffffffe, as no call has",
+            "ALLOW 0", "# the syscall is number -1, which a tracer sets to skip a syscall"]))
+        self.assertIn("# the syscall is number -1, which a tracer", self.run_tool("decide", "--nr=0xffffffff", self.x32)[1])
+        self.assertIn("# the syscall is number 4294967294 (0xfffffffe), which no syscall has",
                       self.run_tool("decide", "--nr=0xfffffffe", self.x32)[1])

@@ -42,16 +42,16 @@ class Compare(Case):
                          "differs\ncall nr 231 arch 0xc000003e ip 0x0 args 0x0 0x0 0x0 0x0 0x0 0x0\nfilter ALLOW 0\n"
                          "profile ERRNO 1\n")
         self.assertEqual((status, out, err), (1, verdict + (
-            "# the call is exit_group (231)\n# the filter answers ALLOW: the call is made\n"
-            "# the profile answers ERRNO 1: the call isn't made, and fails with EPERM\n# by the default\n"
-            "# the last tests on the way in the filter:\n"
+            "# the syscall is exit_group (231)\n# the filter answers ALLOW: the syscall is executed\n"
+            "# the profile answers ERRNO 1: the syscall fails with EPERM\n# by the default\n"
+            "# the last tests on the path in the filter:\n"
             "#  1  jeq #0xc000003e, 1, 0  // x86-64: to 3, else 2; loaded 0xc000003e, went to 3\n"
             "#  4  jge #0x40000000, 0, 1  // x32: to 5, else 6; loaded 0xe7, went to 6\n"
             "#  6  jeq #0x0, 3, 0         // read: to 10, else 7; loaded 0xe7, went to 7\n"
             "#  7  jeq #0x1, 2, 0         // write: to 10, else 8; loaded 0xe7, went to 8\n"
             "#  8  jeq #0xe7, 1, 0        // exit_group: to 10, else 9; loaded 0xe7, went to 10\n"
             "# 10  ret #0x7fff0000        // ALLOW\n"
-            "# calls that the table names and that aren't answered as the profile says: 1\n"
+            "# syscalls in the table that differ: 1\n"
             "# 231 exit_group differs args 0x0 0x0 0x0 0x0 0x0 0x0 filter ALLOW 0 profile ERRNO 1\n"), ""))
 
     def test_a_table_of_ones_own(self):
@@ -59,15 +59,15 @@ class Compare(Case):
         for name, given in ((table, b""), ("-", b"read 0\nwrite 1\nleave 231\nleave_too 231\n")):
             status, out, _ = self.run_tool("compare", "--table", name, self.wrong, self.profile, given=given)
             self.assertEqual(status, 1)
-            self.assertIn("# the call is leave or leave_too (231)\n", out)
+            self.assertIn("# the syscall is leave or leave_too (231)\n", out)
         with open(table, "rb") as given:
             out = self.run_tool("compare", "--table", "-", self.wrong, self.profile, given=given)[1]
-        self.assertIn("# the call is leave or leave_too (231)\n", out)
+        self.assertIn("# the syscall is leave or leave_too (231)\n", out)
         self.file("-t", b"read 0\nwrite 1\nleave 231\n")
-        self.assertIn("# the call is leave (231)\n",
+        self.assertIn("# the syscall is leave (231)\n",
                       self.run_tool("compare", "--native", "--table=-t", self.wrong, self.profile)[1])
         few = self.file("few.table", b"read 0\nwrite 1\n")
-        self.assertIn("# the call is number 231, which the table doesn't name\n",
+        self.assertIn("# the syscall is number 231, which the table doesn't name\n",
                       self.run_tool("compare", "--table", few, self.wrong, self.profile)[1])
 
     def test_foreign_calls_are_said_to_be_left_out_by_native(self):
@@ -82,19 +82,19 @@ class Compare(Case):
                     + filter_of([READ, WRITE]))
 
         for arch, number, says in (
-                (I386, 5, "number 5 of the architecture i386\n# --native leaves out a foreign architecture\n"),
-                (0xC0FFEE, 5, "number 5 of the architecture 0xc0ffee\n# --native leaves out a foreign architecture\n"),
-                (X86_64, 0x40000005, "number 1073741829, which is 0x40000000 + 5, as x32 calls have\n"
+                (I386, 5, "number 5 of the architecture i386\n# --native leaves out other architectures\n"),
+                (0xC0FFEE, 5, "number 5 of the architecture 0xc0ffee\n# --native leaves out other architectures\n"),
+                (X86_64, 0x40000005, "number 1073741829 (0x40000000 + 5), an x32 syscall\n"
                                      "# --native leaves out numbers from 0x40000000 on\n"),
-                (X86_64, 0x80000007, "number 2147483655, which is 0x80000007, as no call has\n"
+                (X86_64, 0x80000007, "number 2147483655 (0x80000007), which no syscall has\n"
                                      "# --native leaves out numbers from 0x40000000 on\n"),
-                (X86_64, 0xFFFFFFFF, "number -1, as a tracer sets it to skip a call\n"
+                (X86_64, 0xFFFFFFFF, "number -1, which a tracer sets to skip a syscall\n"
                                      "# --native leaves out numbers from 0x40000000 on\n")):
             status, out, _ = self.run_tool("compare", "--all", self.file("one.bpf", on_one_call(arch, number)),
                                            self.profile)
             self.assertEqual(status, 1)
             self.assertIn(f"call nr {number} arch {arch:#x} ", out)
-            self.assertIn(f"# the call is {says}", out)
+            self.assertIn(f"# the syscall is {says}", out)
 
     def test_pipes_and_standard_input(self):
         for words, given in ((("-", self.profile), filter_of([READ, WRITE])),
@@ -151,7 +151,7 @@ class Compare(Case):
         status, out, _ = self.run_tool("compare", self.same, self.file("c", conflict))
         self.assertEqual(status, 1)
         self.assertTrue(out.startswith("fault profile Conflict number 41 first 0 second 1\n# Two entries"), out)
-        self.assertTrue(out.endswith("# the call is socket (41)\n"), out)
+        self.assertTrue(out.endswith("# the syscall is socket (41)\n"), out)
 
     def test_unfinished_and_limit(self):
         status, out, _ = self.run_tool("compare", "--limit", "0", self.same, self.profile)
@@ -174,9 +174,9 @@ class Compare(Case):
         profile = profile_of("read", "gone", "write").replace(b"{",
             b'{"architectures":["SCMP_ARCH_X86_64","SCMP_ARCH_X86"],', 1)
         added = ("other SCMP_ARCH_X86\n"
-                 "# names of the profile that were skipped, since the table doesn't name such calls: 1\n"
-                 "# no call that is known here is called gone\n"
-                 "# the other architectures of the profile aren't looked at\n")
+                 "# names in the profile that were skipped because the table doesn't have them: 1\n"
+                 "# no known syscall is named gone\n"
+                 "# the profile's other architectures are left out\n")
         profile = self.file("p", profile)
         self.assertEqual(self.run_tool("compare", self.same, profile), (0, f"same\n{added}", ""))
         self.assertEqual(self.run_tool("compare", "--verbose", self.same, profile),
@@ -187,12 +187,12 @@ class Compare(Case):
         """All that is printed of such names, where nothing differs, and of the one call that does."""
         call = "231 exit_group differs args 0x0 0x0 0x0 0x0 0x0 0x0 filter ALLOW 0 profile ERRNO 1"
         for name in ("x\ndiffers", "x\nsame\n", "x\nfault filter Empty", f"x\n{call}", "x\n7 poll differs",
-                     "x\n# the call is read (0)", "x\nundecided at 1"):
+                     "x\n# the syscall is read (0)", "x\nundecided at 1"):
             profile, shown = self.file("p", profile_of("read", "write", name)), name.replace("\n", "\\x0a")
             # a long name is cut where it is told again
             told = name if len(name) <= 64 else f"{name[:64]}.."
-            added = ("# names of the profile that were skipped, since the table doesn't name such calls: 1\n# no call "
-                     "that is known here is called " + told.replace("\n", "\\x0a") + "\n")
+            added = ("# names in the profile that were skipped because the table doesn't have them: 1\n# no known "
+                     "syscall is named " + told.replace("\n", "\\x0a") + "\n")
             for scope in ("--all", "--native", "--calls"):
                 self.assertEqual(self.run_tool("compare", "--verbose", scope, self.same, profile),
                                  (0, f"same\nskipped {shown}\n{added}", ""))
@@ -201,8 +201,7 @@ class Compare(Case):
                              (1, f"differs\n{call}\nskipped {shown}\n{added}", ""))
             status, out, _ = self.run_tool("compare", "--native", self.wrong, profile)
             self.assertEqual(status, 1)
-            self.assertTrue(out.endswith(f"{added}# calls that the table names and that aren't answered as the profile "
-                                         f"says: 1\n# {call}\n"), out)
+            self.assertTrue(out.endswith(f"{added}# syscalls in the table that differ: 1\n# {call}\n"), out)
 
     def test_output_that_fails(self):
         status, _, err = self.closed_output("compare", self.wrong, self.profile)
@@ -215,7 +214,7 @@ class Compare(Case):
         status, out, err = self.run_tool("compare", "--native", self.wrong, self.profile)
         self.assertEqual((status, err), (1, ""))
         self.assertTrue(out.startswith("differs\n"))
-        self.assertIn("# the call is exit_group (231)\n", out)
+        self.assertIn("# the syscall is exit_group (231)\n", out)
         self.assertNotIn("--native", out)
 
     @needs("--calls")
@@ -233,7 +232,7 @@ class Compare(Case):
     @needs("--calls")
     def test_native_calls_that_differ_are_told_by_name(self):
         line = "231 exit_group differs args 0x0 0x0 0x0 0x0 0x0 0x0 filter ALLOW 0 profile ERRNO 1"
-        said = "calls that the table names and that aren't answered as the profile says"
+        said = "syscalls in the table that differ"
         self.assertTrue(self.run_tool("compare", "--native", self.wrong, self.profile)[1].endswith(
             f"# {said}: 1\n# {line}\n"))
         # as runc puts in front of a filter: numbers that it doesn't know fail with ENOSYS
@@ -249,7 +248,7 @@ class Compare(Case):
         stricter = self.file("stricter.bpf", load(0) + jeq(WRITE, 0, 1) + ret(0x00050002) + ret(ALLOW))
         status, out, _ = self.run_tool("compare", "--native", self.lax, stricter, self.profile)
         self.assertEqual(status, 1)
-        self.assertIn("# the call is write (1)\n# the filters answer ERRNO 2: the call isn't made, and fails with "
+        self.assertIn("# the syscall is write (1)\n# the filters answer ERRNO 2: the syscall fails with "
                       "ENOENT\n", out)
         allow = self.file("allow.bpf", ret(ALLOW))
         for stack in ((allow, self.same), (self.same, allow)):
@@ -325,20 +324,19 @@ class OtherAbis(Case):
             status, lines = self.said("--all", no_calls, self.profile(*names))
             self.assertEqual((status, lines[0]), (1, "differs"))
             self.assertRegex("\n".join(lines),
-                             "\n# the call is number (-1, as a tracer|[0-9]+, which is 0x.*, as no call)")
+                             "\n# the syscall is number (-1, which a tracer|[0-9]+ .0x.*, which no syscall)")
             self.assertEqual(self.said(no_calls, self.profile(*names))[0], 0)
 
     def test_what_is_let_through_is_said(self):
         """Behind the verdict over native calls; nothing where nothing is."""
-        i386, x32 = self.profile("X86"), "x32 calls: some are let through, as read (0x40000000 + 0): ALLOW"
+        i386, x32 = self.profile("X86"), "x32: some syscalls are allowed, such as read (0x40000000 + 0): ALLOW"
         status, lines = self.said(self.lets_both, i386)
         self.assertEqual((status, lines), (0, [
-            "same", "other SCMP_ARCH_X86", "# the other architectures of the profile aren't looked at",
-            "# looked at: native calls, those of x86-64 with numbers below 0x40000000; of the others, whether any is "
-            "let through:", "# i386 calls: none is let through; the profile names SCMP_ARCH_X86, too", f"# {x32}",
-            "# other architectures' calls: none that this kernel makes", ""]))
+            "same", "other SCMP_ARCH_X86", "# the profile's other architectures are left out",
+            "# compared: x86-64 syscalls; other ABIs are only checked for any allowed syscall:", "# i386: every syscall is denied; the profile also names SCMP_ARCH_X86", f"# {x32}",
+            "# other ABIs: an x86-64 kernel has no others", ""]))
         lines = self.said(self.lets_both, self.profile("X32"))[1]
-        self.assertIn(f"# {x32}; the profile names SCMP_ARCH_X32, too", lines)
+        self.assertIn(f"# {x32}; the profile also names SCMP_ARCH_X32", lines)
         self.assertEqual(self.said(self.lets_i386, self.profile())[1], ["same", ""])
         found = json.loads(self.run_tool("compare", "--json", self.lets_both, i386)[1])
         self.assertEqual([bool(one["let_through"]) for one in found["foreign"]], [False, True])
@@ -388,7 +386,7 @@ class WithAnotherScf(Case):
         self.assertEqual(bundle, part("filter", b"AAAA") + part("filter", b"BB") + part("profile", b"{}")
                          + part("table", b"getpid 39\n"))
         self.assertEqual(words, "compare --native --limit 7\n")
-        self.assertTrue(done[1].endswith("of which it couldn't be told: 1\n# 39 getpid unfinished\n"), done)
+        self.assertTrue(done[1].endswith("without a verdict: 1\n# 39 getpid unfinished\n"), done)
         with open(os.path.join(self.folder, "kept.calls"), encoding="ascii") as handed:
             self.assertEqual(handed.read(), "compare --calls --limit 7\n")
         with open(os.path.join(self.folder, "kept.relations"), encoding="ascii") as handed:
@@ -409,15 +407,15 @@ class Decide(Case):
     def test_by_number_and_by_name(self):
         for number in ("1", "0x1", "write"):
             self.assertEqual(self.run_tool("decide", "--nr", number, self.filter),
-                             (0, "ERRNO 1\n# the call is write (1)\n# ERRNO 1: the call isn't made, and fails with "
+                             (0, "ERRNO 1\n# the syscall is write (1)\n# ERRNO 1: the syscall fails with "
                                  "EPERM\n# the path in the filter: 0 1 3 4 6 7\n", ""))
         self.assertEqual(self.run_tool("decide", self.filter)[1],
-                         "ALLOW 0\n# the call is read (0)\n# ALLOW: the call is made\n# the path in the filter: 0 1 3 "
+                         "ALLOW 0\n# the syscall is read (0)\n# ALLOW: the syscall is executed\n# the path in the filter: 0 1 3 "
                          "4 6 8\n")
         self.file("-t", b"own 1\n")
         for words, given in (("--table=-t", b""), ("--table=-", b"own 1\n")):
             out = self.run_tool("decide", words, "--nr", "own", self.filter, given=given)[1]
-            self.assertTrue(out.startswith("ERRNO 1\n# the call is own (1)\n"), out)
+            self.assertTrue(out.startswith("ERRNO 1\n# the syscall is own (1)\n"), out)
         status, out, err = self.run_tool("decide", "--nr", "no_such_call", self.filter)
         self.assertEqual((status, out), (2, ""))
         self.assertIn("the table names no call 'no_such_call'", err)
@@ -426,7 +424,7 @@ class Decide(Case):
     def test_pipes_of_a_shell(self):
         out = self.run_words(["bash", "-c", '"$1" --table <(echo own 1) --nr own <(cat "$2")', "-", tool("decide"),
                               self.filter])[1]
-        self.assertTrue(out.startswith("ERRNO 1\n# the call is own (1)\n"), out)
+        self.assertTrue(out.startswith("ERRNO 1\n# the syscall is own (1)\n"), out)
 
     def test_each_option_is_handed_on(self):
         for at in range(6):
@@ -438,7 +436,7 @@ class Decide(Case):
         self.assertTrue(self.run_tool("decide", "--ip", "9", self.file("ip.bpf", ip))[1].startswith("ALLOW 0\n"))
         out = self.run_tool("decide", "--arch", "0x40000003", self.filter)[1]
         self.assertEqual(out,
-                         "KILL_PROCESS 0\n# the call is number 0 of the architecture i386\n"
+                         "KILL_PROCESS 0\n# the syscall is number 0 of the architecture i386\n"
                          "# KILL_PROCESS: the process ends\n# the path in the filter: 0-2\n")
 
     def test_filters_stand_oldest_first(self):
@@ -471,30 +469,30 @@ class Explain(Case):
         self.says_usage("explain")
 
     def test_what_each_answer_does(self):
-        for answer, line, means in ((0x7FFC0000, "LOG 0", "LOG: the call is made, and logged"),
-                                    (0x00030007, "TRAP 7", "TRAP 7: the call isn't made, and the thread gets SIGSYS"),
+        for answer, line, means in ((0x7FFC0000, "LOG 0", "LOG: the syscall is executed, and logged"),
+                                    (0x00030007, "TRAP 7", "TRAP 7: the syscall isn't executed, and the thread gets SIGSYS"),
                                     (0x7FC00000, "USER_NOTIF 0", "USER_NOTIF: a supervisor answers the call; without "
                                                                  "one it fails with ENOSYS"),
                                     (0x7FF00000, "TRACE 0",
                                      "TRACE 0: a tracer is told of the call; without one it fails with ENOSYS"),
                                     (0, "KILL_THREAD 0", "KILL_THREAD: the thread ends"),
-                                    (0x00050000, "ERRNO 0", "ERRNO 0: the call isn't made, and seems to end well"),
-                                    (0x00050026, "ERRNO 38", "ERRNO 38: the call isn't made, and fails with ENOSYS"),
-                                    (0x0005000B, "ERRNO 11", "ERRNO 11: the call isn't made, and fails with EAGAIN"),
+                                    (0x00050000, "ERRNO 0", "ERRNO 0: the syscall isn't executed, and returns 0 as if it had succeeded"),
+                                    (0x00050026, "ERRNO 38", "ERRNO 38: the syscall fails with ENOSYS"),
+                                    (0x0005000B, "ERRNO 11", "ERRNO 11: the syscall fails with EAGAIN"),
                                     (0x00050023, "ERRNO 35",
-                                     "ERRNO 35: the call isn't made, and fails with EDEADLK"),
+                                     "ERRNO 35: the syscall fails with EDEADLK"),
                                     (0x0005005F, "ERRNO 95",
-                                     "ERRNO 95: the call isn't made, and fails with EOPNOTSUPP"),
+                                     "ERRNO 95: the syscall fails with EOPNOTSUPP"),
                                     (0x00050FFF, "ERRNO 4095",
-                                     "ERRNO 4095: the call isn't made, and fails with errno 4095"),
+                                     "ERRNO 4095: the syscall fails with errno 4095"),
                                     (0x00051000, "ERRNO 4096",
-                                     "ERRNO 4096: the call isn't made, and fails with errno 4095, the greatest that "
+                                     "ERRNO 4096: the syscall fails with errno 4095, the greatest that "
                                      "the kernel gives"),
                                     (0x12340000, "UNNAMED 0x12340000",
                                      "UNNAMED 0x12340000: the process ends, since seccomp(2) names no such "
                                      "action")):
             self.assertEqual(self.run_tool("explain", "run", given=ret(answer)),
-                             (0, f"{line} steps 1\n# the call is read (0)\n# {means}\n", ""))
+                             (0, f"{line} steps 1\n# the syscall is read (0)\n# {means}\n", ""))
 
     def test_what_scf_prints_stands_first_as_it_is(self):
         for words, given in ((("check",), ret(0)), (("asm",), b"ret #1\n"), (("dis",), ret(1) * 3),

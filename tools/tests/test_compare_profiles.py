@@ -33,7 +33,7 @@ READ_WRITE = profile(("read write", "ALLOW", {}))
 
 
 def degree(answer):
-    return ("refused", "referred to a supervisor or tracer", "made").index(answer.fate)
+    return ("denied", "delegated to a supervisor or tracer", "allowed").index(answer.fate)
 
 
 class Program(Case):
@@ -63,19 +63,19 @@ class Program(Case):
         new = profile(("read", "LOG", {}), ("mount", "ALLOW", {}), ("open", "ERRNO", {"errnoRet": 38}))
         self.assertEqual(self.compared(READ_WRITE, new), (1, [
             "differs", "more 1, less 1, otherwise 2",
-            "# what the new profile lets through further than the old one: 1",
+            "# syscalls for which the new profile is more permissive: 1",
             f"165 mount more {NO_ARGUMENTS} old ERRNO 1 default new ALLOW entry 1",
-            "# what the new profile lets through less far than the old one: 1",
+            "# syscalls for which the new profile is stricter: 1",
             f"1 write less {NO_ARGUMENTS} old ALLOW entry 0 new ERRNO 1 default",
-            "# what is answered otherwise, and let through as far as before: 2",
+            "# syscalls that get another answer, neither more permissive nor stricter: 2",
             f"0 read otherwise {NO_ARGUMENTS} old ALLOW entry 0 new LOG entry 0",
             f"2 open otherwise {NO_ARGUMENTS} old ERRNO 1 default new ERRNO 38 entry 2",
             '# old: entry 0 of syscalls: {"names": ["read", "write"], "action": "SCMP_ACT_ALLOW"}',
-            "# old: default: ERRNO 1: the call isn't made, and fails with EPERM",
+            "# old: default: ERRNO 1: the syscall fails with EPERM",
             '# new: entry 0 of syscalls: {"names": ["read"], "action": "SCMP_ACT_LOG"}',
             '# new: entry 1 of syscalls: {"names": ["mount"], "action": "SCMP_ACT_ALLOW"}',
             '# new: entry 2 of syscalls: {"names": ["open"], "action": "SCMP_ACT_ERRNO", "errnoRet": 38}',
-            "# new: default: ERRNO 1: the call isn't made, and fails with EPERM"]))
+            "# new: default: ERRNO 1: the syscall fails with EPERM"]))
 
     def test_a_call_of_which_more_and_less_is_let_through(self):
         old, new = (profile(("socket", "ALLOW", {"args": it})) for it in (NOT_40, IS_41))
@@ -109,8 +109,8 @@ class Program(Case):
             "differs", "more 0, less 0, otherwise 0",
             "# numbers that the table doesn't name are answered by the defaults; one of them:",
             f"2 otherwise {NO_ARGUMENTS} old ERRNO 1 default new ERRNO 38 default",
-            "# old: default: ERRNO 1: the call isn't made, and fails with EPERM",
-            "# new: default: ERRNO 38: the call isn't made, and fails with ENOSYS"]))
+            "# old: default: ERRNO 1: the syscall fails with EPERM",
+            "# new: default: ERRNO 38: the syscall fails with ENOSYS"]))
         for default, kind in (("SCMP_ACT_ALLOW", MORE), ("SCMP_ACT_TRACE", MORE), ("SCMP_ACT_KILL", OTHERWISE)):
             status, lines = self.compared(READ_WRITE, profile(("read write", "ALLOW", {}), default=default), "--table",
                                           self.file("t", b"read 0\nwrite 1\n"), "--json")
@@ -126,17 +126,16 @@ class Program(Case):
         status, lines = self.compared(old, new)
         self.assertEqual((status, lines), (0, [
             "same", "more 0, less 0, otherwise 0",
-            "# names that were skipped, since the table doesn't name such calls: 2 in the old profile, 2 in the new "
-            "one",
-            "# of these only in the old one: umont2", "# of these only in the new one: \\x1b[2J\\x0a0 read more",
-            "# other architectures, which aren't looked at: 1 in the old profile, 2 in the new one",
-            "# of these only in the old one: SCMP_ARCH_X86",
-            "# of these only in the new one: SCMP_ARCH_ARM, \\xc2\\x9b\\x0a# same"]))
+            "# names that were skipped because the table doesn't have them: 2 in the old profile, 2 in the new one",
+            "# only in the old one: umont2", "# only in the new one: \\x1b[2J\\x0a0 read more",
+            "# other architectures, not compared: 1 in the old profile, 2 in the new one",
+            "# only in the old one: SCMP_ARCH_X86",
+            "# only in the new one: SCMP_ARCH_ARM, \\xc2\\x9b\\x0a# same"]))
         found = json.loads(self.compared(old, new, "--json")[1][0])
         self.assertEqual(found["skipped"], {"old": ["waitpid", "umont2"], "new": ["waitpid", hostile]})
         many = profile((" ".join(["read", *(f"x{at}" for at in range(25))]), "ALLOW", {}))
         self.assertEqual(self.compared(many, profile(("read", "ALLOW", {})))[1][-1],
-                         f"# of these only in the old one: {', '.join(f'x{at}' for at in range(20))} and 5 more")
+                         f"# only in the old one: {', '.join(f'x{at}' for at in range(20))} and 5 more")
 
     def test_a_strangers_entry(self):
         """It is one line, without a control character, and bounded."""
@@ -163,7 +162,7 @@ class Program(Case):
         self.assertEqual((more["old"]["reason"], more["new"]["reason"], more["new"]["place"]), ("default", "entry", 1))
         self.assertEqual(more["new"]["entry"], json.loads(new)["syscalls"][1])
         self.assertEqual(len(more["new"]["held"]), 1)
-        self.assertEqual(less["old"]["answer"], {"action": "ALLOW", "data": 0, "does": "the call is made"})
+        self.assertEqual(less["old"]["answer"], {"action": "ALLOW", "data": 0, "does": "the syscall is executed"})
         self.assertEqual(less["call"]["names"], ["write"])
 
     def test_a_whole_config_and_standard_input(self):
@@ -225,7 +224,7 @@ esac
         lines = out.split("\n")
         self.assertEqual((status, lines[:4]), (1, [
             "differs", "more 0, less 0, otherwise 0, undecided 1",
-            "# calls of which it couldn't be told whether they are let through as far: 1",
+            "# syscalls that are undecided: 1",
             "1 write undecided args 0x1 0x0 0x0 0x0 0x0 0x0 old ALLOW entry 0 new ALLOW entry 0"]))
         status, out, _ = self.run_words([os.path.join(tree, "tools", "compare-profiles"), "--no-more", given, given])
         self.assertEqual((status, out.split("\n")[0]), (4, "undecided at 3".partition(" ")[0]))
@@ -347,14 +346,14 @@ class Runtimes(Case):
         status, lines, _ = self.lines(old, new, "--runtime", "runc", "--table", table)
         self.assertEqual((status, lines[:6]), (1, [
             "differs", "more 1, less 0, otherwise 1",
-            "# what the new profile lets through further than the old one: 1",
+            "# syscalls for which the new profile is more permissive: 1",
             f"435 clone3 more {NO_ARGUMENTS} old ERRNO 38 stub new ALLOW entry 0",
-            "# what is answered otherwise, and let through as far as before: 1",
+            "# syscalls that get another answer, neither more permissive nor stricter: 1",
             f"132 utime otherwise {NO_ARGUMENTS} old ERRNO 38 stub new ERRNO 1 default"]))
         self.assertIn("# old: the ENOSYS that runc puts before the filter", lines)
         found = json.loads(self.lines(old, new, "--runtime", "runc", "--table", table, "--json")[1][0])
         self.assertEqual(found["changes"][0]["old"], {"answer": {"action": "ERRNO", "data": 38, "does":
-                         "the call isn't made, and fails with ENOSYS"}, "reason": "stub"})
+                         "the syscall fails with ENOSYS"}, "reason": "stub"})
         status, lines, _ = self.lines(old, new, "--runtime", "crun", "--table", table)
         self.assertEqual(lines[:2], ["differs", "more 1, less 0, otherwise 0"])
         # above both stubs the defaults are no difference, and below them they are

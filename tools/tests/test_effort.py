@@ -65,7 +65,7 @@ class Slow(Case):
                                        self.file("a.json", b'{"defaultAction":"SCMP_ACT_ALLOW"}'))
         lines = out.split("\n")
         self.assertEqual((status, lines[0]), (1, "differs"))
-        self.assertIn("# calls that the table names and of which it couldn't be told: 29", lines)
+        self.assertIn("# syscalls in the table without a verdict: 29", lines)
         self.assertEqual([line for line in lines if line.endswith(" unfinished")],
                          [f"# {number} c{number} unfinished" for number in range(1, 21)])
         self.assertIn("# more such calls: 9", lines)

@@ -276,7 +276,7 @@ class VerifyProcess(Confined):
         status, out = self.verify(child, profile_of("read"))
         self.assertEqual(status, 1)
         self.assertTrue(out.startswith("differs\ncall nr "), out)
-        self.assertIn("the filters answer ALLOW: the call is made", comments(out))
+        self.assertIn("the filters answer ALLOW: the syscall is executed", comments(out))
         self.runs_on(child)
 
     @here
@@ -338,7 +338,7 @@ class VerifyProcess(Confined):
         self.assertEqual((status, [block.split("\n")[0] for block in out.split("\n\n")]),
                          (1, ["differs", "unfinished", "same"]))
         self.assertNotIn("skipped riscv_flush_icache\n", out)
-        self.assertEqual(out.count("# names of the profile that were skipped"), 1)
+        self.assertEqual(out.count("# names in the profile that were skipped"), 1)
         out = self.verify(child, profile, "--limit", "30", "--verbose")[1]
         self.assertEqual(out.count("skipped riscv_flush_icache\n"), 1)
         child = self.child([OLDEST], [many])
@@ -365,21 +365,20 @@ class VerifyProcess(Confined):
         status, out = self.verify(self.child([refusing(MOUNT)]), refuses("mount"))
         self.assertEqual(status, 0)
         said = comments(out)
-        self.assertIn("looked at: native calls, those of x86-64 with numbers below 0x40000000; of the others, whether "
-                      "any is let through:", said)
-        self.assertIn("i386 and x32 calls: none is let through; others: none that this kernel makes", said)
+        self.assertIn("compared: x86-64 syscalls; other ABIs are only checked for any allowed syscall:", said)
+        self.assertIn("other ABIs: every i386 and x32 syscall is denied; an x86-64 kernel has no others", said)
         untested = load(0) + jeq(MOUNT, 0, 1) + ret(EPERM) + ret(ALLOW)
         status, out = self.verify(self.child([untested]), refuses("mount", architectures=["SCMP_ARCH_X86_64",
                                                                                          "SCMP_ARCH_X86"]))
         said = comments(out)
         self.assertEqual((status, out.split("\n")[0]), (0, "same"))
-        self.assertIn("i386 calls: some are let through, as number 0: ALLOW; the profile names SCMP_ARCH_X86, too",
+        self.assertIn("i386: some syscalls are allowed, such as number 0: ALLOW; the profile also names SCMP_ARCH_X86",
                       said)
-        self.assertIn("x32 calls: some are let through, as read (0x40000000 + 0): ALLOW", said)
+        self.assertIn("x32: some syscalls are allowed, such as read (0x40000000 + 0): ALLOW", said)
         logs_one = (load(4) + jeq(I386, 1, 0) + ret(ALLOW) + load(0) + jeq(3, 0, 1) + ret(0x7FFC0000)
                     + ret(EPERM))
         said = comments(self.verify(self.child([logs_one]), ALLOWS_ALL)[1])
-        self.assertIn("i386 calls: some are let through, as read (3): LOG", said)
+        self.assertIn("i386: some syscalls are allowed, such as read (3): LOG", said)
         self.assertIn("other architectures' calls: none that this kernel makes", said)
 
     @here
@@ -389,8 +388,7 @@ class VerifyProcess(Confined):
         self.assertEqual(self.verify(child, refuses("mount"))[0], 1)
         status, out = self.verify(child, refuses("mount"), "--calls")
         self.assertEqual((status, out.split("\n")[0]), (0, "same"))
-        self.assertIn("looked at: the native calls that the table names, each by itself; of foreign ones, whether any "
-                      "is let through:", comments(out))
+        self.assertIn("compared: each x86-64 syscall in the table; other ABIs are only checked for any allowed syscall:", comments(out))
 
     @here
     def test_json(self):
@@ -633,16 +631,16 @@ class Containers(Confined):
                          ["differs", "call nr 440 arch 0xc000003e ip 0x0 args 0x0 0x0 0x0 0x0 0x0 0x0",
                           "filter ERRNO 38", "profile ERRNO 1"])
         fates, first = comments(out)[:2]
-        self.assertEqual(fates, "it lets through no more and no less than the profile, only by other answers")
+        self.assertEqual(fates, "it is neither more permissive nor stricter than the profile: only the answers differ")
         self.assertTrue(first.startswith("only calls with greater numbers than all that the profile names are answered "
                                          "otherwise, the first is process_madvise (440)"), first)
-        self.assertIn("# i386 and x32 calls: none is let through; ", out)
+        self.assertIn("# other ABIs: every i386 and x32 syscall is denied; ", out)
         self.assertIn(f"# process {pid} (busybox) has 1 filter, of ", out)
         profile["syscalls"][0]["names"] = [name for name in allowed if name != "chroot"] + ["mount"]
         status, out, _ = self.verify(pid, json.dumps(profile))
         self.assertEqual(status, 1)
         said = comments(out)
-        self.assertEqual(said[0], "calls that the table names and that aren't answered as the profile says: 2")
+        self.assertEqual(said[0], "syscalls in the table that differ: 2")
         self.assertEqual([line.split()[:2] for line in said[1:3]], [["161", "chroot"], ["165", "mount"]])
         self.assertTrue(said[3].startswith("calls with greater numbers than all that the profile names"), said)
         status, out, err = self.verify(pid, json.dumps(profile), "--all")

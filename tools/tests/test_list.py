@@ -56,7 +56,7 @@ class List(Case):
                  jeq(0x40000007, 0, 0), jeq(0xFFFFFFFF, 0, 0),
                  insn(0x45, 0x40000000, 0, 0), insn(0x1D, 0, 0, 0))
         names = ["read: ", "above write: ", "from open on: ", "", "number 99999: ", "number 0x40000000 + 7: ",
-                 "number -1, as a tracer sets it to skip a call: ", "x32: ", ""]
+                 "number -1, which a tracer sets to skip a syscall: ", "x32: ", ""]
         for test, name in zip(tests, names):
             self.assertEqual(self.meanings(load(0) + test + ret(0))[1], f"{name}to 2, else 2")
 

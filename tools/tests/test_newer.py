@@ -11,9 +11,9 @@ sys.path.append(os.path.join(TOP, "tools"))
 from scftools import filters  # noqa: E402
 
 ENOSYS = 0x00050026
-SAID = "calls with greater numbers than all that the profile names are answered otherwise, the first is"
-FATES = "it lets through no more and no less than the profile, only by other answers"
-BOTH = "; both sides refuse them, the filter by ERRNO 38 (ENOSYS) and the profile by ERRNO 1 (EPERM)"
+SAID = "syscalls with numbers above all that the profile names differ, the first is"
+FATES = "it is neither more permissive nor stricter than the profile: only the answers differ"
+BOTH = "; both sides deny them, the filter with ERRNO 38 (ENOSYS) and the profile with ERRNO 1 (EPERM)"
 # The numbers of the table's last calls, and the count of its calls from 450 on.
 CACHESTAT, LAST, COUNT_FROM_450 = 451, 469, 20
 
@@ -43,11 +43,11 @@ class Newer(Case):
         self.assertEqual(added[:8], [
             FATES,
             f"only {SAID} set_mempolicy_home_node (450){BOTH}",
-            f"calls among these that the table names: {COUNT_FROM_450}",
-            "the call is set_mempolicy_home_node (450)",
-            "the filter answers ERRNO 38: the call isn't made, and fails with ENOSYS",
-            "the profile answers ERRNO 1: the call isn't made, and fails with EPERM",
-            "by the default", "the last tests on the way in the filter:"])
+            f"syscalls in the table among these: {COUNT_FROM_450}",
+            "the syscall is set_mempolicy_home_node (450)",
+            "the filter answers ERRNO 38: the syscall fails with ENOSYS",
+            "the profile answers ERRNO 1: the syscall fails with EPERM",
+            "by the default", "the last tests on the path in the filter:"])
         self.assertRegex(added[-1], r"^ *[0-9]+  ret #0x50026 +// ERRNO 38$")
 
     def test_the_first_of_them_is_told(self):
@@ -61,7 +61,7 @@ class Newer(Case):
     def test_of_several_filters(self):
         allow = load(0) + ret(ALLOW)
         _, added = self.added(allow, stub(450) + filter_of(self.rules), allow)
-        self.assertEqual(added[0], FATES.replace("it lets", "they let"))
+        self.assertEqual(added[0], FATES.replace("it is", "they are"))
         self.assertTrue(added[1].startswith(f"only {SAID} set_mempolicy_home_node (450)"), added)
 
     def test_others_come_first_and_are_counted_apart(self):
@@ -69,27 +69,27 @@ class Newer(Case):
         _, added = self.added(lax)
         self.assertFalse(any(line.startswith("only ") for line in added), added)
         told = added.index(f"{SAID} set_mempolicy_home_node (450){BOTH}")
-        other = added.index("calls that the table names and that aren't answered as the profile says: 1")
+        other = added.index("syscalls in the table that differ: 1")
         self.assertLess(other, told)
         self.assertTrue(added[other + 1].startswith("41 socket differs "))
-        self.assertEqual(added[told + 1], f"calls among these that the table names: {COUNT_FROM_450}")
+        self.assertEqual(added[told + 1], f"syscalls in the table among these: {COUNT_FROM_450}")
 
     def test_another_call_without_a_name(self):
         """400 has no name: it is told by the call and both answers."""
         _, added = self.added(stub(450) + filter_of([*self.rules, 400]))
         self.assertFalse(any(line.startswith("only ") for line in added), added)
         told = added.index(f"{SAID} set_mempolicy_home_node (450){BOTH}")
-        self.assertLess(added.index("the call is number 400, which the table doesn't name"), told)
+        self.assertLess(added.index("the syscall is number 400, which the table doesn't name"), told)
 
     def test_newer_calls_that_are_let_through(self):
-        """A filter that lets newer calls through isn't said to refuse them, nor one that lets one of them through."""
+        """A filter that lets newer calls through isn't said to deny them, nor one that lets one of them through."""
         for code in (stub(450, ALLOW) + filter_of(self.rules),
                      load(0) + jeq(500, 0, 1) + ret(ALLOW) + stub(450) + filter_of(self.rules),
                      load(0) + jeq(LAST, 0, 1) + ret(ALLOW) + stub(450) + filter_of(self.rules)):
             _, added = self.added(code)
             self.assertFalse(any(SAID in line for line in added), added)
             _, added = self.added(code, scope="--calls")
-            self.assertFalse(any(line.startswith("only calls") for line in added), added)
+            self.assertFalse(any(line.startswith("only syscalls") for line in added), added)
 
     def test_newer_calls_of_several_answers(self):
         """Whichever of them scf shows: one is let through for some arguments, or is refused in a third way."""
@@ -108,13 +108,13 @@ class Newer(Case):
 
     def test_calls_by_name(self):
         _, added = self.added(stub(450) + filter_of(self.rules), scope="--calls")
-        said = SAID.replace("calls", "named calls", 1)
+        said = SAID.replace("syscalls", "syscalls in the table", 1)
         self.assertEqual(added, [
-            f"of the calls that the table names: {FATES}",
-            f"only {said} set_mempolicy_home_node (450); both sides refuse them: {COUNT_FROM_450}"])
+            f"over the syscalls in the table: {FATES}",
+            f"only {said} set_mempolicy_home_node (450); both sides deny them: {COUNT_FROM_450}"])
         _, added = self.added(stub(450) + filter_of([*self.rules, 41, 42]), scope="--calls")
-        self.assertEqual(added, ["other calls that differ: 2",
-                                 f"{said} set_mempolicy_home_node (450); both sides refuse them: {COUNT_FROM_450}"])
+        self.assertEqual(added, ["other syscalls that differ: 2",
+                                 f"{said} set_mempolicy_home_node (450); both sides deny them: {COUNT_FROM_450}"])
 
     def test_a_long_filter_is_left_as_it_is(self):
         """Where no instructions can be put before it, nothing is said of newer calls."""
@@ -122,7 +122,7 @@ class Newer(Case):
         long = load(0) * (4096 - len(code) // 8) + code
         _, added = self.added(long)
         self.assertFalse(any(SAID in line for line in added), added)
-        self.assertIn(f"calls that the table names and that aren't answered as the profile says: {COUNT_FROM_450}",
+        self.assertIn(f"syscalls in the table that differ: {COUNT_FROM_450}",
                       added)
 
     def test_json(self):

@@ -192,7 +192,7 @@ class OfProcesses(Hook):
         status, lines = self.hook(self.child([refusing(UMOUNT2)]), refuses("mount"), "--policy=no-more")
         self.assertEqual((status, lines[2:5]), (1, ["call nr 165 arch 0xc000003e ip 0x0 args 0x0 0x0 0x0 0x0 0x0 0x0",
                                                     "filter ALLOW 0", "profile ERRNO 1"]))
-        self.assertIn("# the call is mount (165)", lines)
+        self.assertIn("# the syscall is mount (165)", lines)
 
     def test_a_process_without_a_filter(self):
         child = self.child([])
@@ -364,7 +364,7 @@ class OfProcesses(Hook):
     def test_names_of_a_stranger_in_the_profile(self):
         status, lines = self.hook(self.child([refusing(MOUNT)]), refuses("mount", "\x1b[2J\nsame"))
         self.assertEqual(status, 0)
-        self.assertIn("# no call that is known here is called \\x1b[2J\\x0asame", lines)
+        self.assertIn("# no known syscall is named \\x1b[2J\\x0asame", lines)
         self.assertFalse([line for line in lines if line.startswith("skipped ")])
 
 

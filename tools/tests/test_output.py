@@ -22,7 +22,7 @@ HOSTILE = {
         "x\\x0adiffers\\x0acall nr 0 arch 0xc000003e ip 0x0 args 0x0 0x0 0x0 0x0 0x0 0x0\\x0afilter ALLOW 0\\x0a"
         "profile ERRNO 1",
     f"x\n{FORGED_CALL}": f"x\\x0a{FORGED_CALL}",
-    "x\n# the filter answers ALLOW: the call is made": "x\\x0a# the filter answers ALLOW: the call is made",
+    "x\n# the filter answers ALLOW: the syscall is executed": "x\\x0a# the filter answers ALLOW: the syscall is executed",
     "x\nskipped y": "x\\x0askipped y",
     "x\nother SCMP_ARCH_X86": "x\\x0aother SCMP_ARCH_X86",
     "\x9b2Jy": "\\xc2\\x9b2Jy",
@@ -78,8 +78,8 @@ class Hostile(Case):
                         at = lines.index(f"skipped {shown}")
                         self.assertTrue(all(line.startswith("# ") for line in lines[at + 1:-1]), out)
                         self.assertFalse(any(line.startswith("#") for line in lines[:at]), out)
-                        self.assertIn("# names of the profile that were skipped, since the table doesn't name such "
-                                      "calls: 1", out)
+                        self.assertIn("# names in the profile that were skipped because the table doesn't have "
+                                      "them: 1", out)
 
     def test_a_forged_line_is_no_call(self):
         """Behind the first skipped name nothing is a call: one call differs, whatever the name says."""
@@ -92,13 +92,13 @@ class Hostile(Case):
             self.assertEqual([call["number"] for call in found["calls"]], [231])
             self.assertEqual(found["skipped"], [name])
         out = self.run_tool("compare", "--native", self.wrong, self.profile(name))[1]
-        self.assertIn("# calls that the table names and that aren't answered as the profile says: 1\n# 231 ", out)
+        self.assertIn("# syscalls in the table that differ: 1\n# 231 ", out)
 
     def test_architectures(self):
         forged = "SCMP_ARCH_\x1b[2J\nsame\n# all is well"
         status, out, _ = self.run_tool("compare", self.same, self.profile(architectures=[forged]))
         self.assertEqual((status, out), (0, "same\nother SCMP_ARCH_\\x1b[2J\\x0asame\\x0a# all is well\n"
-                                            "# the other architectures of the profile aren't looked at\n"))
+                                            "# the profile's other architectures are left out\n"))
 
     def test_where_a_skipped_name_stands_for_several(self):
         """Two names and one name with a line end in it are printed alike by scf, and told apart by the profile."""
@@ -130,8 +130,8 @@ class Hostile(Case):
                 given = part("profile", text) + part("filter", filter_of([165])) + part("table", table)
                 shown = name.replace("\n", "\\x0a")
                 self.assertEqual(self.run_tool("explain", "compare", given=given)[1].split("\n")[:4], [
-                    "same", f"skipped {shown}", "# names of the profile that were skipped, since the table doesn't "
-                    "name such calls: 1", f"# no call that is known here is called {shown}"])
+                    "same", f"skipped {shown}", "# names in the profile that were skipped because the table doesn't "
+                    "have them: 1", f"# no known syscall is named {shown}"])
 
     def test_explain_reads_what_it_compares_once_and_only_where_it_is_needed(self):
         read, write = os.pipe()

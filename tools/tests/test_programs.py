@@ -18,7 +18,7 @@ TOOLS = ("ask", "bundle", "check", "compare", "compare-profiles", "compile", "de
 NATIVE = load(4) + jeq(X86_64, 1, 0) + ret(KILL_PROCESS) + load(0) + jge(0x40000000, 0, 1) + ret(KILL_PROCESS)
 # A is the number times the number, which isn't followed where the number isn't known.
 SQUARE = NATIVE + insn(0x07, 0) + insn(0x2C, 0) + jeq(49, 0, 1) + ret(EPERM) + ret(ALLOW)
-LOST = "# the profile lets through what it doesn't name: the rules of these names are lost\n"
+LOST = "# the profile's default allows syscalls: the rules for these names are lost\n"
 
 
 class Check(Case):
@@ -65,16 +65,16 @@ class Compile(Case):
                  b'"syscalls":[{"names":["umont2","waitpid"],"action":"SCMP_ACT_ERRNO"}]}'
         status, out, err = self.compiled(self.file("p.json", denies))
         self.assertEqual((status, len(out) % 8), (0, 0))
-        self.assertEqual(err, "compile: names of the profile that were skipped, since the table doesn't name such "
-                              "calls: 2\ncompile: no call that is known here is called umont2; the nearest name of "
+        self.assertEqual(err, "compile: names in the profile that were skipped because the table doesn't have "
+                              "them: 2\ncompile: no known syscall is named umont2; the nearest name in "
                               f"the table is umount2\n{LOST.replace('# ', 'compile: ')}"
                               "compile: the profile is for SCMP_ARCH_X86, too: the filter kills a process that makes "
                               "such a syscall\n")
         # it says of the filter what the filter does
         self.assertEqual(self.run_tool("run", "--arch", "0x40000003", "--nr", "3", self.file("made.bpf", out))[1].split(
             "\n")[0].split()[0], "KILL_PROCESS")
-        for names, says in ((("X86_64",), ""), (("X86_64", "ARM"), "compile: the other architectures of the profile "
-                                                                    "aren't looked at\n"),
+        for names, says in ((("X86_64",), ""), (("X86_64", "ARM"), "compile: the profile's other architectures "
+                                                                    "are left out\n"),
                             (("X32", "X86_64", "X86"), "compile: the profile is for SCMP_ARCH_X86 and SCMP_ARCH_X32, "
                              "too: the filter kills a process that makes such a syscall\n")):
             given = {"defaultAction": "SCMP_ACT_ALLOW", "architectures": [f"SCMP_ARCH_{it}" for it in names]}
@@ -112,10 +112,10 @@ class Run(Case):
 
     def test_one_call(self):
         self.assertEqual(self.run_tool("run", "--nr", "write", self.filter),
-                         (0, "ERRNO 1 steps 6\n# the call is write (1)\n# ERRNO 1: the call isn't made, and fails with "
+                         (0, "ERRNO 1 steps 6\n# the syscall is write (1)\n# ERRNO 1: the syscall fails with "
                              "EPERM\n", ""))
         status, out, _ = self.run_tool("run", "--arch", hex(I386), self.filter)
-        self.assertEqual((status, out), (0, "KILL_PROCESS 0 steps 3\n# the call is number 0 of the architecture i386\n"
+        self.assertEqual((status, out), (0, "KILL_PROCESS 0 steps 3\n# the syscall is number 0 of the architecture i386\n"
                                             "# KILL_PROCESS: the process ends\n"))
         status, out, err = self.run_tool("run", "--nr", "raed", self.filter)
         self.assertEqual((status, out), (2, ""))
@@ -136,8 +136,8 @@ class Several(Case):
         for name, steps, paths in (("decide", "", [f"{path}8\n", f"{path}7\n"]), ("run", " steps 6", ["", ""])):
             status, out, err = self.run_tool(name, "--nr", "read", "--nr=1", self.filter)
             self.assertEqual((status, err), (0, ""))
-            self.assertEqual(out, f"ALLOW 0{steps}\n# the call is read (0)\n# ALLOW: the call is made\n{paths[0]}"
-                                  f"ERRNO 1{steps}\n# the call is write (1)\n# ERRNO 1: the call isn't made, and fails "
+            self.assertEqual(out, f"ALLOW 0{steps}\n# the syscall is read (0)\n# ALLOW: the syscall is executed\n{paths[0]}"
+                                  f"ERRNO 1{steps}\n# the syscall is write (1)\n# ERRNO 1: the syscall fails "
                                   f"with EPERM\n{paths[1]}")
 
     def test_by_a_file(self):
@@ -146,7 +146,7 @@ class Several(Case):
         self.assertEqual((status, err), (0, ""))
         self.assertEqual([line for line in out.split("\n") if line and line[0] != "#"],
                          ["ERRNO 1", "ALLOW 0", "ALLOW 0", "ERRNO 1", "ERRNO 1"])
-        self.assertEqual(re.findall(r"# the call is (\w+)", out), ["mmap", "read", "write", "write", "close"])
+        self.assertEqual(re.findall(r"# the syscall is (\w+)", out), ["mmap", "read", "write", "write", "close"])
         self.assertEqual(self.run_tool("decide", "--calls-from", self.file("none", ""), self.asks), (0, "", ""))
 
     def test_wrong_lines(self):
@@ -164,7 +164,7 @@ class Several(Case):
         status, out, _ = self.run_tool("decide", "--nr", "99999999999", "--nr", "read", self.filter)
         self.assertEqual(status, 2)
         self.assertTrue(out.startswith("fault number nr\n# The option's text"), out)
-        self.assertIn("\nALLOW 0\n# the call is read (0)\n", out)
+        self.assertIn("\nALLOW 0\n# the syscall is read (0)\n", out)
 
     def test_many_calls_take_one_tool(self):
         """scf is started for each call, and for the path of its answer, and nothing else."""
@@ -243,16 +243,16 @@ class Names(Case):
 
     def test_names_of_other_architectures(self):
         self.assertEqual(self.added(["read", "waitpid", "_llseek"]),
-                         ["# names of the profile that were skipped, since the table doesn't name such calls: 2, all "
-                          "of them calls of other architectures"])
+                         ["# names in the profile that were skipped because the table doesn't have them: 2, all "
+                          "of them syscalls of other architectures"])
 
     def test_names_that_no_call_has(self):
         self.assertEqual(self.added(["read", "umont2", "waitpid", "raed", "gone", "frobnicate"]),
-                         ["# names of the profile that were skipped, since the table doesn't name such calls: 5",
-                          "# no call that is known here is called umont2; the nearest name of the table is umount2",
-                          "# no call that is known here is called raed; the nearest name of the table is read",
-                          "# no call that is known here is called gone",
-                          "# no call that is known here is called frobnicate"])
+                         ["# names in the profile that were skipped because the table doesn't have them: 5",
+                          "# no known syscall is named umont2; the nearest name in the table is umount2",
+                          "# no known syscall is named raed; the nearest name in the table is read",
+                          "# no known syscall is named gone",
+                          "# no known syscall is named frobnicate"])
 
     def test_many_of_them(self):
         added = self.added(["read", *(f"x{at}_y" for at in range(30))])
@@ -269,7 +269,7 @@ class Names(Case):
 
     def test_names_that_a_table_of_ones_own_leaves_out(self):
         own = self.file("own.table", b"read 0\n")
-        self.assertIn("# write is a call of x86-64, which this table leaves out",
+        self.assertIn("# write is an x86-64 syscall that this table leaves out",
                       self.added(["read", "write"], "--table", own))
         self.assertIn(LOST.rstrip(), self.added(["read", "write"], "--table", own, default="SCMP_ACT_ALLOW"))
 
@@ -357,7 +357,7 @@ class Objects(Case):
         one, two = self.file("one.bpf", ret(0x00050001)), self.file("two.bpf", ret(0x00050002))
         call = {"number": 0, "names": ["read"], "architecture": "0xc000003e", "pointer": "0x0",
                 "arguments": ["0x7", *["0x0"] * 5]}
-        answer = {"action": "ERRNO", "data": 2, "does": "the call isn't made, and fails with ENOENT"}
+        answer = {"action": "ERRNO", "data": 2, "does": "the syscall fails with ENOENT"}
         status, out, _ = self.run_tool("decide", "--json", "--a0=7", one, two)
         self.assertEqual((status, json.loads(out)), (0, {"status": 0, "calls": [
             {"status": 0, "call": call, "answer": answer, "filters": [two],

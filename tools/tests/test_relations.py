@@ -208,10 +208,10 @@ class Fates(Case):
         """What becomes of a call, as the tools say it."""
         for answer in EACH:
             printed = answers.Answer.read(StandIn().printed(answer))
-            self.assertEqual(printed.fate, ("refused", "referred to a supervisor or tracer", "made")[degree(answer)],
+            self.assertEqual(printed.fate, ("denied", "delegated to a supervisor or tracer", "allowed")[degree(answer)],
                              hex(answer))
         self.assertEqual([answers.Answer.read(it).fate for it in ("ERRNO 65535", "USER_NOTIF 0", "TRACE 9", "LOG 0")],
-                         ["refused", *["referred to a supervisor or tracer"] * 2, "made"])
+                         ["denied", *["delegated to a supervisor or tracer"] * 2, "allowed"])
 
 
 class Compare(Case):
@@ -232,22 +232,22 @@ class Compare(Case):
         status, lines = self.compare([filter_of([READ, WRITE])], ALLOWS_READ, "--no-more")
         self.assertEqual((status, lines[:9]), (1, [
             "more", "call nr 1 arch 0xc000003e ip 0x0 args 0x0 0x0 0x0 0x0 0x0 0x0", "filter ALLOW 0",
-            "profile ERRNO 1", "# the call is write (1)", "# the filter answers ALLOW: the call is made",
-            "# the profile answers ERRNO 1: the call isn't made, and fails with EPERM",
-            "# by the filter the call is made, by the profile it is refused", "# by the default"]))
+            "profile ERRNO 1", "# the syscall is write (1)", "# the filter answers ALLOW: the syscall is executed",
+            "# the profile answers ERRNO 1: the syscall fails with EPERM",
+            "# the syscall is allowed by the filter, and denied by the profile", "# by the default"]))
         status, lines = self.compare([one_number(WRITE, TRACE, ALLOW), ret(ALLOW)], ALLOWS, "--no-less", "--native")
         self.assertEqual((status, lines[0]), (1, "less"))
-        self.assertIn("# by the filters the call is referred to a supervisor or tracer, by the profile it is made",
+        self.assertIn("# the syscall is delegated to a supervisor or tracer by the filters, and allowed by the profile",
                       lines)
         self.assertEqual(lines[-2:], [
-            "# calls that the table names and that are let through less far than by the profile: 1",
+            "# syscalls in the table answered more strictly than by the profile: 1",
             "# 1 write less args 0x0 0x0 0x0 0x0 0x0 0x0 filter TRACE 0 profile ALLOW 0"])
 
     def test_native_calls_without_a_name(self):
         """400 has none."""
         _, lines = self.compare([filter_of([READ, 400])], ALLOWS_READ, "--no-more", "--native")
-        self.assertEqual(lines[-1], "# no calls that the table names are among those that are let through further "
-                                    "than by the profile")
+        self.assertEqual(lines[-1], "# no syscall in the table is among those answered more permissively than by the "
+                                    "profile")
 
     def test_calls_by_name(self):
         status, lines = self.compare([filter_of([READ, WRITE])], ALLOWS_READ, "--no-more", "--calls")
@@ -256,11 +256,11 @@ class Compare(Case):
 
     def test_the_first_line_behind_a_difference(self):
         """Over each scope; not where more is let through, and not where it isn't told."""
-        refuses = "refuses more, and lets nothing through that the profile refuses"
-        lets = "lets through no more and no less than the profile, only by other answers"
+        refuses = "is stricter, and never more permissive than the profile"
+        lets = "is neither more permissive nor stricter than the profile: only the answers differ"
         for name, said in (("a rule is dropped", f"it {refuses}"),
-                           ("both together too little", "they refuse more, and let nothing through that the profile "
-                                                        "refuses"),
+                           ("both together too little", "they are stricter, and never more permissive than the "
+                                                        "profile"),
                            ("a thread is ended for foreign calls", f"it {lets}"), ("an ENOSYS stub", f"it {lets}"),
                            ("all is refused", f"it {refuses}"), ("no native call is refused", f"it {lets}")):
             filters, given, _ = PAIRS[name]
@@ -269,14 +269,14 @@ class Compare(Case):
                 if status == 0:
                     continue
                 first = next(line for line in lines if line.startswith("# "))
-                prefix = "of the calls that the table names: " if scope == ["--calls"] else ""
+                prefix = "over the syscalls in the table: " if scope == ["--calls"] else ""
                 self.assertEqual(first, f"# {prefix}{said}", (name, scope))
         for name in ("one more and one less", "one lets more through", "foreign calls are made"):
             filters, given, _ = PAIRS[name]
             lines = self.compare(filters, given)[1]
-            self.assertFalse([line for line in lines if re.search("no more|refuses? more|nothing through", line)],
+            self.assertFalse([line for line in lines if re.search("no more|neither more|stricter|never more", line)],
                              name)
-        self.assertIn("# it refers more to a supervisor or tracer, and lets nothing through that the profile refuses",
+        self.assertIn("# it delegates more to a supervisor or tracer, and is never more permissive than the profile",
                       self.compare([one_number(WRITE, USER_NOTIF, ALLOW)], ALLOWS)[1])
 
     def test_json(self):
@@ -308,7 +308,7 @@ class Compare(Case):
             given = part("filter", filter_of([WRITE])) + part("profile", ALLOWS) + part("table", file.read())
         status, out, _ = self.run_tool("explain", "compare", "--no-less", "--native", given=given)
         self.assertEqual((status, out.split("\n")[0]), (1, "less"))
-        self.assertTrue(out.endswith("# by the filter the call is refused, by the profile it is made\n"), out)
+        self.assertTrue(out.endswith("# the syscall is denied by the filter, and allowed by the profile\n"), out)
 
 
 class Foreign(Case):
@@ -339,21 +339,21 @@ class Foreign(Case):
 
     def test_told(self):
         told = [one.told() for one in foreign.let_through([ret(TRACE)])]
-        self.assertEqual(told, ["i386 calls: not all are refused, as number 0: TRACE 0",
-                                "x32 calls: not all are refused, as read (0x40000000 + 0): TRACE 0"])
+        self.assertEqual(told, ["i386: not every syscall is denied, such as number 0: TRACE 0",
+                                "x32: not every syscall is denied, such as read (0x40000000 + 0): TRACE 0"])
 
     def test_undecided_and_unfinished(self):
         """Some calls are tried, and it is said that it wasn't decided."""
         squares = load(4) + jeq(X86_64, 1, 0) + load(0) + insn(0x07, 0) + insn(0x2C, 0) + jeq(9, 0, 1) + ret(LOG) + \
             ret(EPERM)
         found = foreign.let_through([squares])
-        self.assertEqual(found[0].told(), "i386 calls: it wasn't decided whether any is let through; 1 of 12 that were "
-                                          "tried is, as read (3): LOG")
+        self.assertEqual(found[0].told(), "i386: undecided whether any syscall is allowed; of 12 that were tried, 1 is, "
+                                          "such as read (3): LOG")
         self.assertEqual(found[0].as_json(), {
             "kind": "i386", "is_decided": False, "tried": 12,
             "let_through": [{"name": "read", "number": 3, "answer": {"action": "LOG", "data": 0}}]})
         self.assertEqual([one.told() for one in foreign.let_through([filter_of([READ])], "0")], [
-            f"{kind} calls: it wasn't decided whether any is let through; none of {count} that were tried is"
+            f"{kind}: undecided whether any syscall is allowed; of {count} that were tried, none is"
             for kind, count in (("i386", 12), ("x32", 11))])
 
     def test_refused_filters(self):
@@ -368,14 +368,13 @@ class VerifyProcess(Confined):
         child = self.child([refuses_more])
         status, out, _ = self.run_tool("verify-process", str(child.pid), given)
         self.assertEqual((status, out.split("\n")[0], out.split("\n")[4]),
-                         (1, "differs", "# it refuses more, and lets nothing through that the profile refuses"))
+                         (1, "differs", "# it is stricter, and never more permissive than the profile"))
         status, out, _ = self.run_tool("verify-process", "--no-more", str(child.pid), given)
         self.assertEqual((status, out.split("\n")[:3]), (0, [
-            "no more", "# looked at: native calls, those of x86-64 with numbers below 0x40000000; of the others, "
-            "whether any is let through:", f"# {foreign.NONE}"]))
+            "no more", "# compared: x86-64 syscalls; other ABIs are only checked for any allowed syscall:", f"# {foreign.NONE}"]))
         status, out, _ = self.run_tool("verify-process", "--no-less", str(child.pid), given)
         self.assertEqual((status, out.split("\n")[0]), (1, "less"))
-        self.assertIn("\n# by the filter the call is refused, by the profile it is made\n", out)
+        self.assertIn("\n# the syscall is denied by the filter, and allowed by the profile\n", out)
         found = json.loads(self.run_tool("verify-process", "--no-more", "--json", str(child.pid), given)[1])
         stack = found["stacks"][0]
         self.assertEqual((found["verdict"], stack["relation"]), ("no more", "no more"))

@@ -94,7 +94,7 @@ KNOWN = {
     "an action without a name, between LOG and ALLOW": ([ret(NEARLY)], [R] * 5),
     "an action without a name, and one before it": ([ret(NEARLY), ret(LOG)], [M] * 5),
 }
-NO_FOREIGN = "i386 and x32 calls: none is let through; others: none that this kernel makes"
+NO_FOREIGN = "other ABIs: every i386 and x32 syscall is denied; an x86-64 kernel has no others"
 ARGUMENTS = (0, 1, 2, 3, 4, 5, 8, 39, 40, 41, 42, 40 * HIGH, 40 * HIGH + 40, 41 * HIGH, (1 << 64) - 1)
 POINTERS = (0, 0x1234, 0x1235)
 
@@ -222,7 +222,7 @@ class Rows(Case):
         self.assertEqual((surface.rows[3].never, set(surface.rows[3].shown) - {M, R}), ([], set()))
         surface = of([filter_of([READ])], "0")
         self.assertEqual([row.said for row in surface.rows], ["unfinished"] * 5)
-        self.assertEqual(surface.unnamed.told(), f"of {OTHERS} it couldn't be told")
+        self.assertEqual(surface.unnamed.told(), f"{OTHERS} are undecided")
 
     def test_a_number_with_two_names_and_one_with_zeros(self):
         self.assertEqual(of([ret(ALLOW)]).rows[0].names, ["read", "too"])
@@ -231,8 +231,8 @@ class Rows(Case):
 
     def test_a_table_without_names(self):
         surface = of([ret(ALLOW)], table=b"# none\n")
-        self.assertEqual((surface.rows, showing.of_whole(surface)[0]), ([], "made 0, depends 0, refused 0"))
-        self.assertEqual(surface.unnamed.told(), f"all calls of all {X32} are made")
+        self.assertEqual((surface.rows, showing.of_whole(surface)[0]), ([], "allowed 0, depends 0, denied 0"))
+        self.assertEqual(surface.unnamed.told(), f"all {X32} are always allowed")
 
 
 class Unnamed(unittest.TestCase):
@@ -242,54 +242,54 @@ class Unnamed(unittest.TestCase):
         return of(filters, **more).unnamed.told()
 
     def test_none_and_all(self):
-        self.assertEqual(self.told(filter_of([READ, EXIT_GROUP])), f"none of {OTHERS} is let through")
-        self.assertEqual(self.told(ret(ALLOW)), f"all calls of all {OTHERS} are made")
-        self.assertEqual(self.told(of_number(READ, EPERM, LOG)), f"all calls of all {OTHERS} are made")
-        self.assertEqual(self.told(ret(USER_NOTIF)), f"calls of all {OTHERS} are let through, as 2: USER_NOTIF")
+        self.assertEqual(self.told(filter_of([READ, EXIT_GROUP])), f"all {OTHERS} are always denied")
+        self.assertEqual(self.told(ret(ALLOW)), f"all {OTHERS} are always allowed")
+        self.assertEqual(self.told(of_number(READ, EPERM, LOG)), f"all {OTHERS} are always allowed")
+        self.assertEqual(self.told(ret(USER_NOTIF)), f"all {OTHERS} are allowed or delegated with some arguments, such as 2: USER_NOTIF")
 
     def test_some(self):
         """Counted on both sides of each test, and over what the table names."""
         some = gate(jge(400, 0, 2) + jge(410, 1, 0) + ret(ALLOW) + ret(EPERM))
-        self.assertEqual(self.told(some), f"calls of 10 of {OTHERS} are let through, as 400: ALLOW")
-        self.assertEqual(self.told(filter_of([READ, 400])), f"calls of 1 of {OTHERS} are let through, as 400: ALLOW")
+        self.assertEqual(self.told(some), f"10 of {OTHERS} are allowed or delegated with some arguments, such as 400: ALLOW")
+        self.assertEqual(self.told(filter_of([READ, 400])), f"1 of {OTHERS} are allowed or delegated with some arguments, such as 400: ALLOW")
         self.assertEqual(self.told(gate(jgt(X32 - 3, 0, 1) + ret(ALLOW) + ret(EPERM))),
-                         f"calls of 2 of {OTHERS} are let through, as {X32 - 2}: ALLOW")
+                         f"2 of {OTHERS} are allowed or delegated with some arguments, such as {X32 - 2}: ALLOW")
         below = gate(jge(42, 1, 0) + ret(ALLOW) + ret(EPERM))
-        self.assertEqual(self.told(below), f"calls of {42 - 4} of {OTHERS} are let through, as 2: ALLOW")
+        self.assertEqual(self.told(below), f"{42 - 4} of {OTHERS} are allowed or delegated with some arguments, such as 2: ALLOW")
         self.assertEqual(self.told(filter_of([*range(0, 80, 2)])),
-                         f"calls of {40 - 1} of {OTHERS} are let through, as 2: ALLOW")
+                         f"{40 - 1} of {OTHERS} are allowed or delegated with some arguments, such as 2: ALLOW")
         all_but = of_number(300, EPERM, ALLOW)
-        self.assertEqual(self.told(all_but), f"calls of {OTHERS - 1} of {OTHERS} are let through, as 2: ALLOW")
+        self.assertEqual(self.told(all_but), f"{OTHERS - 1} of {OTHERS} are allowed or delegated with some arguments, such as 2: ALLOW")
 
     def test_where_no_test_of_the_number_turns(self):
         """The odd ones below 64, but for those that have a name."""
         odd = gate(jge(64, 3, 0) + insn(0x45, 1, 0, 2) + ret(ALLOW) * 2 + ret(EPERM))
         self.assertEqual(StandIn().decide([odd], Call(63)), "ALLOW 0")
         self.assertEqual({StandIn().decide([odd], Call(number)) for number in (62, 64, 65)}, {"ERRNO 1"})
-        self.assertEqual(self.told(odd), f"calls of {32 - 3} of {OTHERS} are let through, as 3: ALLOW")
+        self.assertEqual(self.told(odd), f"{32 - 3} of {OTHERS} are allowed or delegated with some arguments, such as 3: ALLOW")
 
     def test_by_an_argument(self):
         self.assertEqual(self.told(of_number(400, by_argument(7, ALLOW, EPERM), EPERM)),
-                         f"calls of 1 of {OTHERS} are let through, as 400: ALLOW")
+                         f"1 of {OTHERS} are allowed or delegated with some arguments, such as 400: ALLOW")
 
     def test_a_stack(self):
         self.assertEqual(self.told(filter_of([400, 401]), filter_of([401, 402])),
-                         f"calls of 1 of {OTHERS} are let through, as 401: ALLOW")
+                         f"1 of {OTHERS} are allowed or delegated with some arguments, such as 401: ALLOW")
 
     def test_what_could_not_be_told(self):
         """A filter that isn't followed; more stretches than are looked at; a filter that is too long to be asked."""
         found = of([SQUARE]).unnamed
         self.assertGreater(found.untold, 0)
         self.assertLessEqual(found.let_through + found.untold, OTHERS)
-        self.assertRegex(found.told(), rf"of [0-9]+ it couldn't be told\Z")
+        self.assertRegex(found.told(), r"\A[0-9]+ are undecided\Z")
         found = of([allowing(range(300, 1300, 2))]).unnamed
         self.assertGreater(found.untold, 0)
         self.assertLessEqual(found.let_through, 500)
         self.assertGreaterEqual(found.let_through + found.untold, 500)
-        self.assertRegex(found.told(), r"\Acalls of at least [0-9]+ of [0-9]+ are let through, as 300: ALLOW; of ")
+        self.assertRegex(found.told(), r"\Aat least [0-9]+ of [0-9]+ are allowed or delegated with some arguments, such as 300: ALLOW; [0-9]+ are undecided\Z")
         long = gate(jeq(400, 0, 1) + ret(ALLOW) + jeq(0, 0, 0) * 4087 + ret(EPERM))
         self.assertEqual(StandIn().check(long), "accepted 4096")
-        self.assertEqual(self.told(long), f"of {OTHERS} it couldn't be told")
+        self.assertEqual(self.told(long), f"{OTHERS} are undecided")
 
     def test_gaps(self):
         self.assertEqual(list(unnamed.gaps(tables.Table(OWN))), [(2, 39), (40, 41), (42, 231), (232, X32)])
@@ -323,29 +323,28 @@ class Program(Case):
         filters = KNOWN["by an argument"][0]
         status, lines = self.said(filters)
         self.assertEqual((status, lines), (0, [
-            "made 0, depends 1, refused 4", NO_FOREIGN,
-            f"numbers without a name: none of {OTHERS} is let through", "files refused 0 read,too ERRNO 1",
-            "files refused 1 write ERRNO 1", lines[5], "processes refused 39 getpid ERRNO 1",
-            "processes refused 231 exit_group ERRNO 1"]))
-        found = re.fullmatch(r"network depends 41 socket ((?:made|refused) args .*) ((?:made|refused) args .*)",
+            "allowed 0, depends 1, denied 4", NO_FOREIGN,
+            f"numbers without a name: all {OTHERS} are always denied", "files denied 0 read,too ERRNO 1",
+            "files denied 1 write ERRNO 1", lines[5], "processes denied 39 getpid ERRNO 1",
+            "processes denied 231 exit_group ERRNO 1"]))
+        found = re.fullmatch(r"network depends 41 socket ((?:allowed|denied) args .*) ((?:allowed|denied) args .*)",
                              lines[5])
-        self.assertEqual({part.split()[0] for part in found.groups()}, {"made", "refused"})
+        self.assertEqual({part.split()[0] for part in found.groups()}, {"allowed", "denied"})
         for part in found.groups():
             said, _, *arguments = part.split()
             call = Call(SOCKET, arguments=tuple(int(it, 16) for it in arguments[:6]))
-            self.assertEqual(StandIn().decide(filters, call), {"made": "ALLOW 0", "refused": "ERRNO 1"}[said])
-            self.assertEqual(" ".join(arguments[6:]), {"made": "ALLOW", "refused": "ERRNO 1"}[said])
+            self.assertEqual(StandIn().decide(filters, call), {"allowed": "ALLOW 0", "denied": "ERRNO 1"}[said])
+            self.assertEqual(" ".join(arguments[6:]), {"allowed": "ALLOW", "denied": "ERRNO 1"}[said])
 
     def test_foreign_calls(self):
-        for name, says in (("all is made", "i386 calls: some are let through, as number 0: ALLOW; x32 calls: some are "
-                                           "let through, as read (0x40000000 + 0): ALLOW; other architectures' calls: "
-                                           "none that this kernel makes"),
+        for name, says in (("all is made", "i386: some syscalls are allowed, such as number 0: ALLOW; x32: some "
+                                           "syscalls are allowed, such as read (0x40000000 + 0): ALLOW; other ABIs: an "
+                                           "x86-64 kernel has no more"),
                            ("some are made", NO_FOREIGN)):
             self.assertEqual(self.said(KNOWN[name][0])[1][1], says)
         gone = load(4) + jeq(I386, 0, 1) + ret(ALLOW) + ret(KILL_PROCESS)
-        self.assertEqual(self.said([gone])[1][1], "i386 calls: some are let through, as number 0: ALLOW; x32 calls: "
-                                                  "none is let through; other architectures' calls: none that "
-                                                  "this kernel makes")
+        self.assertEqual(self.said([gone])[1][1], "i386: some syscalls are allowed, such as number 0: ALLOW; x32: every "
+                                                  "syscall is denied; other ABIs: an x86-64 kernel has no others")
 
     def test_calls_that_no_kernel_makes(self):
         """-1, other numbers with bit 31 and other architectures are no hole, by an argument of libseccomp's, or by
@@ -376,14 +375,14 @@ class Program(Case):
         self.assertEqual(status, 0)
         rows = [line.split() for line in lines[3:]]
         self.assertEqual(sorted(int(row[2]) for row in rows), sorted(own.numbers()))
-        self.assertEqual({row[0]: row[3] for row in rows if row[1] == M},
+        self.assertEqual({row[0]: row[3] for row in rows if row[1] == "allowed"},
                          {"files": "read", "mounts": "mount", "tracing": "ptrace", "keys": "keyctl",
                           "time": "clock_settime", "modules": "init_module"})
-        self.assertEqual(lines[0], f"made {len(allowed)}, depends 0, refused {len(rows) - len(allowed)}")
+        self.assertEqual(lines[0], f"allowed {len(allowed)}, depends 0, denied {len(rows) - len(allowed)}")
 
     def test_names_that_no_group_has(self):
         lines = self.said([ret(ALLOW)], "--table", self.file("t", b"look 7\n"))[1]
-        self.assertEqual(lines[3:], ["other made 7 look ALLOW"])
+        self.assertEqual(lines[3:], ["other allowed 7 look ALLOW"])
 
     def test_json(self):
         filters = KNOWN["of three fates"][0]
@@ -422,9 +421,9 @@ class Program(Case):
         self.assertEqual(self.said([good], "--limit", "x"), (2, ["fault number limit", *self.said([good], "--limit",
                                                                                                    "x")[1][1:]]))
         status, lines = self.said([good], "--limit", "0")
-        self.assertEqual((status, lines[0]), (4, "made 0, depends 0, refused 0, unfinished 5"))
+        self.assertEqual((status, lines[0]), (4, "allowed 0, depends 0, denied 0, unfinished 5"))
         status, lines = self.said([BY_SQUARE])
-        self.assertEqual((status, lines[0]), (4, "made 4, depends 0, refused 0, undecided 1"))
+        self.assertEqual((status, lines[0]), (4, "allowed 4, depends 0, denied 0, undecided 1"))
         self.assertEqual(self.run_tool("surface", "none"), (2, "", "surface: there is no file 'none'\n"))
         status, _, err = self.closed_output("surface", self.file("f", good))
         self.assertEqual((status, err.split("\n")[0]), (3, "surface: the output failed: No space left on device"))
@@ -496,13 +495,13 @@ class Terminal(Case):
                 for number in own.numbers():
                     for call in own.names_of(number):
                         self.assertIn(call, words)
-                self.assertTrue(any("made args" in line for line in lines) or columns < 30)
+                self.assertTrue(any("allowed args" in line for line in lines) or columns < 30)
         self.assertGreater(max(map(len, self.shown(250, name)[1])), 200)
 
     def test_no_width_is_told(self):
         lines = self.shown(0, self.file("f.bpf", filter_of([READ])))[1]
         self.assertLessEqual(max(map(len, lines)), 80)
-        self.assertRegex(lines[3], r"\Afiles +made +read\Z")
+        self.assertRegex(lines[3], r"\Afiles +allowed +read\Z")
 
     def test_beside(self):
         one, other = self.file("f.bpf", filter_of([READ])), self.file("g.bpf", filter_of([READ, WRITE]))
@@ -511,8 +510,8 @@ class Terminal(Case):
             self.assertEqual(status, 1)
             self.assertTrue(columns < 20 or max(map(len, lines)) <= columns, lines)
             told = " ".join(" ".join(lines).split())
-            self.assertTrue(told.endswith("calls of which the same isn't said: 1 files write (1) refused ERRNO 1 "
-                                          "beside: made ALLOW"), told)
+            self.assertTrue(told.endswith("syscalls that differ: 1 files write (1) denied ERRNO 1 "
+                                          "beside: allowed ALLOW"), told)
 
     def test_wrapped(self):
         self.assertEqual(showing.wrapped(["aa", "b", "cccc", "d"], 4), ["aa b", "cccc", "d"])
@@ -574,12 +573,12 @@ class Beside(Case):
         one, other = self.file("1.bpf", filter_of([READ, 400])), self.file("2.bpf", filter_of([WRITE]))
         words = ("--table", self.file("t", OWN), one, "--beside", other)
         self.assertEqual(self.run_tool("surface", *words), (1, (
-            "made 1, depends 0, refused 4\nbeside: made 1, depends 0, refused 4\n"
+            "allowed 1, depends 0, denied 4\nbeside: allowed 1, depends 0, denied 4\n"
             f"{NO_FOREIGN}\n"
-            f"numbers without a name: calls of 1 of {OTHERS} are let through, as 400: ALLOW\n"
-            f"beside: numbers without a name: none of {OTHERS} is let through\n"
-            "calls of which the same isn't said: 2\n"
-            "files 0 read,too made ALLOW beside refused ERRNO 1\nfiles 1 write refused ERRNO 1 beside made ALLOW\n"),
+            f"numbers without a name: 1 of {OTHERS} are allowed or delegated with some arguments, such as 400: ALLOW\n"
+            f"beside: numbers without a name: all {OTHERS} are always denied\n"
+            "syscalls that differ: 2\n"
+            "files 0 read,too allowed ALLOW beside denied ERRNO 1\nfiles 1 write denied ERRNO 1 beside allowed ALLOW\n"),
             ""))
         found = json.loads(self.run_tool("surface", "--json", *words)[1])
         self.assertEqual([(pair["one"]["number"], pair["one"]["said"], pair["other"]["said"])
@@ -600,9 +599,9 @@ class Process(Confined):
         refuses = of_number(0x0FFFFFFE, EPERM, ALLOW)
         child = self.child([OLDEST, refuses])
         status, lines = self.surface("--pid", str(child.pid))
-        self.assertEqual((status, lines[0]), (0, "made 5, depends 0, refused 0"))
-        self.assertEqual(lines[2], f"numbers without a name: calls of {OTHERS - 1} of {OTHERS} are let through, as 2: "
-                                   "ALLOW")
+        self.assertEqual((status, lines[0]), (0, "allowed 5, depends 0, denied 0"))
+        self.assertEqual(lines[2], f"numbers without a name: {OTHERS - 1} of {OTHERS} are allowed or delegated with some "
+                                   "arguments, such as 2: ALLOW")
         self.assertRegex(lines[-1], rf"\A# process {child.pid} \(.*\) has 2 filters, of 1, 9 instructions\Z")
         found = json.loads(self.surface("--json", "--pid", str(child.pid))[1][0])
         stack = found["stacks"][0]
@@ -626,9 +625,9 @@ class Process(Confined):
     def test_beside(self):
         child = self.child([OLDEST])
         status, lines = self.surface("--pid", str(child.pid), "--beside", self.file("f", OLDEST))
-        self.assertEqual((status, lines[-2]), (0, "calls of which the same isn't said: 0"))
+        self.assertEqual((status, lines[-2]), (0, "syscalls that differ: 0"))
         status, lines = self.surface("--pid", str(child.pid), "--beside", self.file("f", filter_of([READ])))
-        self.assertEqual((status, lines[-6]), (1, "calls of which the same isn't said: 4"))
+        self.assertEqual((status, lines[-6]), (1, "syscalls that differ: 4"))
 
     @here
     def test_a_name_of_a_process_is_safe(self):

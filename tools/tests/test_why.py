@@ -129,8 +129,8 @@ class List(Case):
             "> 6  jeq #0x0, 1, 0         // read: to 8, else 7",
             "> 7  ret #0x50001           // ERRNO 1",
             "  8  ret #0x7fff0000        // ALLOW",
-            "# the call is write (1)",
-            "# ERRNO 1: the call isn't made, and fails with EPERM", ""])
+            "# the syscall is write (1)",
+            "# ERRNO 1: the syscall fails with EPERM", ""])
 
     def test_it_is_the_same_listing(self):
         """The marks are those of the second machine, and what is behind them is the listing without a call."""
@@ -195,12 +195,12 @@ class Ask(Case):
 
     def test_an_entry_and_its_conditions(self):
         self.assertEqual(self.asked("--nr", "socket", "--a0", "16", "--a1", "0xf01"), (0, [
-            "ALLOW 0 entry 2", "# the call is socket (41)", "# ALLOW: the call is made",
+            "ALLOW 0 entry 2", "# the syscall is socket (41)", "# ALLOW: the syscall is executed",
             f"# by entry 2 of syscalls: {json.dumps(self.ENTRIES[2])}",
             "# argument 0 is 16 (0x10): SCMP_CMP_NE 40 (0x28) holds",
             "# argument 1 is 3841 (0xf01): SCMP_CMP_MASKED_EQ 255 (0xff) of 513 (0x201) holds"]))
         self.assertEqual(self.asked("--nr=write"), (0, [
-            "ALLOW 0 entry 0", "# the call is write (1)", "# ALLOW: the call is made",
+            "ALLOW 0 entry 0", "# the syscall is write (1)", "# ALLOW: the syscall is executed",
             '# by entry 0 of syscalls: {"names": ["read", "write"], "action": "SCMP_ACT_ALLOW"}']))
 
     def test_the_default(self):
@@ -213,7 +213,7 @@ class Ask(Case):
         for words in (("--nr=0x40000000",), ("--nr=0xffffffff",), ("--arch=0x40000003",), ("--nr=0", "--arch=0")):
             status, lines = self.asked(*words)
             self.assertEqual((status, lines[0], lines[-1]),
-                             (0, "KILL_PROCESS 0 foreign", "# by no entry: the call is foreign"), words)
+                             (0, "KILL_PROCESS 0 foreign", "# by no entry: the syscall is of another ABI"), words)
 
     def test_several_calls_and_json(self):
         calls = self.file("calls", "socket 16 1\nread\n0x40000000\n")
@@ -226,7 +226,7 @@ class Ask(Case):
         self.assertEqual([call.get("entry") for call in found["calls"]], [None, self.ENTRIES[2], self.ENTRIES[0], None])
         self.assertEqual(found["calls"][1]["place"], 2)
         self.assertEqual(len(found["calls"][1]["held"]), 2)
-        self.assertEqual(found["calls"][1]["answer"], {"action": "ALLOW", "data": 0, "does": "the call is made"})
+        self.assertEqual(found["calls"][1]["answer"], {"action": "ALLOW", "data": 0, "does": "the syscall is executed"})
 
     def test_a_whole_config_and_standard_input(self):
         config = json.dumps({"ociVersion": "1.0.2", "linux": {"seccomp": self.own}})
@@ -241,14 +241,14 @@ class Ask(Case):
     def test_a_table_of_ones_own(self):
         table = self.file("t", b"look 7\n")
         lines = self.asked("--table", table, "--nr=look", profile=self.file("q.json", profile_of("look")))[1]
-        self.assertEqual(lines[:2], ["ALLOW 0 entry 0", "# the call is look (7)"])
+        self.assertEqual(lines[:2], ["ALLOW 0 entry 0", "# the syscall is look (7)"])
 
     def test_explain(self):
         """What `scf ask` says of a bundle, without the profile at hand."""
         with open(TABLE, "rb") as file:
             given = part("profile", json.dumps(self.own).encode()) + part("table", file.read())
         self.assertEqual(self.run_tool("explain", "ask", "--nr=1", given=given),
-                         (0, "ALLOW 0 entry 0\n# the call is write (1)\n# ALLOW: the call is made\n", ""))
+                         (0, "ALLOW 0 entry 0\n# the syscall is write (1)\n# ALLOW: the syscall is executed\n", ""))
         self.assertTrue(self.run_tool("explain", "ask", "--nr=x", given=given)[1].startswith("fault number nr\n# "))
 
     def test_inputs_without_an_end(self):
@@ -342,8 +342,8 @@ class Behind(Case):
             self.assertIn("by the default", lines)
             header, tests = self.way(lines)
             path = StandIn().path(data, Call(5))
-            self.assertEqual(header, "the last tests on the way in the filter" +
-                             (f", behind {others} others:" if others else ":"))
+            self.assertEqual(header, "the last tests on the path in the filter" +
+                             (f", after {others} others:" if others else ":"))
             self.assertEqual(len(tests), min(count + 3, 12))
             self.assertEqual([int(line.split()[0]) for line in tests], [at for at in path if at not in (0, 3)][-12:])
 
@@ -436,7 +436,7 @@ class Behind(Case):
     def test_a_foreign_call(self):
         lines = self.added("--all", self.file("f.bpf", filter_of([0], foreign=EPERM)),
                            self.file("p.json", profile_of("read")))
-        self.assertIn("by no entry: the call is foreign", lines)
+        self.assertIn("by no entry: the syscall is of another ABI", lines)
 
     def test_nothing_is_added_to_same(self):
         """Nor is anything run for it but the comparison."""
@@ -451,7 +451,7 @@ class Behind(Case):
     def test_run_with_its_path(self):
         name = self.file("f.bpf", filter_of([0]))
         self.assertEqual(self.run_tool("run", "--path", "--nr=write", name)[1].split("\n")[:3],
-                         ["ERRNO 1 steps 6", "path 0 1 3 4 6 7", "# the call is write (1)"])
+                         ["ERRNO 1 steps 6", "path 0 1 3 4 6 7", "# the syscall is write (1)"])
         found = json.loads(self.run_tool("run", "--path", "--json", "--nr=write", name)[1])["calls"][0]
         self.assertEqual((found["steps"], found["path"]), (6, [0, 1, 3, 4, 6, 7]))
         self.assertNotIn("path", self.run_tool("run", "--json", "--nr=write", name)[1])
