@@ -42,9 +42,9 @@ def number_in(text: str) -> str:
         return f"0x{text}"
     meant = next((name for name, number in NUMBERS.items() if text == f"{number:08x}"), None)
     if meant is not None:
-        raise program.Refused(f"--arch {text} is ambiguous: write 0x{text} for {meant}, as audit's log has it, or "
+        raise program.Refused(f"--arch {text} is ambiguous: write 0x{text} for {meant}, as the audit log has it, or "
                               f"{int(text):#x} for the decimal number")
     if re.match("[A-Za-z_]", text):
-        raise program.Refused(f"no architecture '{text}' is known: write a name as i386, x32 or SCMP_ARCH_AARCH64, or "
-                              f"a number")
+        raise program.Refused(f"unknown architecture '{text}': write a name such as i386, x32 or SCMP_ARCH_AARCH64, "
+                              f"or a number")
     return text

@@ -135,7 +135,7 @@ def lines(found: Beside, groups: Groups, width: int | None) -> Iterator[str]:
                 yield f"{group} {pair.number} {','.join(pair.names)} {one} {BESIDE} {other}"
     if found.alike:
         names = ", ".join(",".join(pair.names) for pair in found.alike)
-        told = f"syscalls that depend on both sides, and agree where they were tried, which isn't proved for all: {names}"
+        told = f"syscalls that depend on both sides, and agree where tried, which isn't proved for all: {names}"
         yield from fitted([told], width)
 
 

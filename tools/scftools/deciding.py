@@ -68,13 +68,13 @@ def add_one_call(parser: Parser, what: str) -> None:
 def add_options(parser: Parser) -> None:
     """Adds the options that give calls, and how they are answered."""
     parser.add_argument("--nr", metavar="NUMBER|NAME", action="append", default=[],
-                        help="a call, by number or by name; may stand several times [default: 0]")
+                        help="a syscall, by number or by name; may be repeated [default: 0]")
     parser.add_argument("--calls-from", metavar="FILE",
-                        help="more calls, a line each: a number or a name, and behind it the arguments from the first "
-                             "on, if any are given; - is standard input")
+                        help="more syscalls, one a line: a number or a name, and any arguments from the first on; - "
+                             "is standard input")
     _add_numbers(parser)
     parser.table()
-    parser.add_argument("--json", action="store_true", help="print one JSON object in place of lines")
+    parser.add_argument("--json", action="store_true", help="print one JSON object instead of lines")
 
 
 @dataclass(frozen=True)
@@ -106,25 +106,25 @@ class Numbering:
 
     def _named(self, name: str) -> int:
         if not self.is_native:
-            raise program.Refused(f"the table names calls of x86-64: with --arch {self.architecture}, give the number "
-                                  f"that '{name}' has there")
+            raise program.Refused(f"the table has x86-64 syscalls: with --arch {self.architecture}, give the number of "
+                                  f"'{name}'")
         number = self.table.number_of(name)
         if number is None:
             from . import tables  # pylint: disable=import-outside-toplevel
 
             near = tables.nearest(name, self.table)
-            raise program.Refused(f"the table names no call '{name}'"
+            raise program.Refused(f"the table has no syscall '{name}'"
                                   + (f"; the nearest name is '{near}'" if near else ""))
         return number
 
 
 def _lines_of(name: str) -> Iterator[list[str]]:
     """The words of each line of a list of calls; a line that begins with `#` says nothing."""
-    for line in inputs.read_whole(name, "list of calls").decode("utf-8", "surrogateescape").split("\n"):
+    for line in inputs.read_whole(name, "list of syscalls").decode("utf-8", "surrogateescape").split("\n"):
         given = line.split()
         if given and not given[0].startswith("#"):
             if len(given) > 7 or "\0" in line or max(map(len, given)) > LONGEST_WORD:
-                raise program.Refused(f"a line of the list of calls isn't a call and up to six numbers: {line[:80]}")
+                raise program.Refused(f"a line of the list isn't a syscall and up to six numbers: {line[:80]}")
             yield given
 
 

@@ -10,9 +10,9 @@ from .program import Done
 # Where no --limit is given: so many seconds of a processor for a tool and all that it runs; then comparisons have few
 # steps, and in the end none.
 SECONDS, ALL_SECONDS, FEW_STEPS = 6, 8, "1000"
-HELP = f"the most steps of each comparison [default: 1000000, and {SECONDS} s of a processor for all together]"
-SPENT = (f"all comparisons together took {SECONDS} s of a processor, the most without --limit: what {FEW_STEPS} steps "
-         f"don't tell is unfinished")
+HELP = f"steps at most for each comparison [default: 1000000, and {SECONDS} s of CPU time for all together]"
+SPENT = (f"all comparisons together took {SECONDS} s of CPU time, the most without --limit: what {FEW_STEPS} steps "
+         f"don't decide is unfinished")
 _is_told = False
 
 

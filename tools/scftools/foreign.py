@@ -110,7 +110,7 @@ class Tried:
     let_through: tuple[tuple[str, int, Answer], ...]
 
     def told(self) -> str:
-        tried = f"{self.kind.name}: undecided whether any syscall is allowed; of {len(self.kind.calls)} that were tried,"
+        tried = f"{self.kind.name}: undecided whether any syscall is allowed; of {len(self.kind.calls)} tried,"
         if not self.let_through:
             return f"{tried} none is"
         _, number, answer = self.let_through[0]
@@ -158,8 +158,7 @@ def told(found: Sequence[Proved | Tried], profile_names: Sequence[str] = ()) -> 
     """What is said of each kind, beside a profile that names these other architectures."""
     if are_none(found):
         return [NONE]
-    named = {one.kind.profile_name: f"; the profile also names {one.kind.profile_name}" for one in found
-             if one.kind.profile_name in profile_names}
+    named = {name: f"; the profile also names {name}" for name in profile_names}
     return [*(one.told() + named.get(one.kind.profile_name, "") for one in found), OTHERS]
 
 

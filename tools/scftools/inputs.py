@@ -13,7 +13,7 @@ from . import output, program
 # The most bytes of what scf reads: a filter of 4096 instructions, a profile, a table; and of what the tools alone
 # read: an engine's profile, a kernel's header, a list of calls to try.
 LIMITS = {"bundle": 1 << 24, "filter": 1 << 15, "profile": 1 << 22, "table": 1 << 22,
-          "engine's profile": 1 << 24, "header": 1 << 22, "list of calls": 1 << 16,
+          "engine's profile": 1 << 24, "header": 1 << 22, "list of syscalls": 1 << 16,
           # of oci-hook alone: what a runtime says of a container
           "state": 1 << 20}
 
@@ -60,7 +60,7 @@ def read_profile(name: str, is_runtimes: bool = False) -> bytes:
     found = profiles.errno_by_name(data)
     if found is not None:
         hint = "--runtime podman takes it" if is_runtimes else "tools/resolve-profile resolves it"
-        raise program.Refused(f"{found}, which podman alone reads: {hint}", program.REFUSED)
+        raise program.Refused(f"{found}, which only podman reads: {hint}", program.REFUSED)
     misread = profiles.misread_members(data) if is_runtimes else []
     if misread:
         raise program.Refused(f"{misread[0].told()}", program.REFUSED)

@@ -32,14 +32,14 @@ __all__ = ("Container", "Found", "Interrupted", "Kernel", "Stack", "Unreadable",
 # How long a look may last, in seconds, and the part of it in which all threads are to stop.
 PATIENCE, TO_STOP = 10.0, 0.9
 # What is said of it by --help.
-NEEDS = (f"It needs CAP_SYS_ADMIN and CAP_SYS_PTRACE, which root has outside of containers, and a kernel with "
-         f"CONFIG_CHECKPOINT_RESTORE. The threads are stopped for a moment by ptrace(2), and run on whatever happens, "
-         f"within {PATIENCE:g} seconds. A few system calls in which they wait end early by that, with EINTR, as they do "
-         f"by SIGSTOP and SIGCONT (signal(7)): epoll_wait, semop, sigtimedwait, and recv, send and the like with a "
-         f"timeout. nanosleep, clock_nanosleep, poll and futex go on by restart_syscall(2) for the time that is left; "
-         f"where the thread's filters don't allow that, they begin anew, with their whole time, or end with EINTR where "
-         f"the filters don't allow the call itself any more. A thread that waits for the answer of a seccomp supervisor "
-         f"isn't stopped before it has it, since its call would be made twice.")
+NEEDS = (f"This needs CAP_SYS_ADMIN and CAP_SYS_PTRACE, which root has outside of containers, and a kernel with "
+         f"CONFIG_CHECKPOINT_RESTORE. The threads are stopped for a moment with ptrace(2), and continue within "
+         f"{PATIENCE:g} seconds, whatever happens. A few blocking syscalls then return early with EINTR, as after "
+         f"SIGSTOP and SIGCONT (signal(7)): epoll_wait, semop, sigtimedwait, and recv, send and the like with a "
+         f"timeout. nanosleep, clock_nanosleep, poll and futex continue by restart_syscall(2) for the remaining time; "
+         f"if the thread's filters don't allow that, they restart with their whole time, or return EINTR if the "
+         f"filters no longer allow the syscall itself. A thread that waits for a seccomp supervisor isn't stopped "
+         f"before it has its answer, since the supervisor would get the syscall twice.")
 
 
 @dataclass
@@ -62,7 +62,7 @@ class Stack:
     def told(self) -> str:
         """How many filters there are, and how long."""
         if self.is_strict:
-            return "no filter, but the strict mode of seccomp(2)"
+            return "no filter, but seccomp's strict mode"
         if not self.filters:
             return "no filter"
         sizes = ", ".join(str(one.count) for one in self.named)
@@ -79,15 +79,15 @@ class Found:
     names: dict[int, bytes]
     # The processes of which no thread makes a call, by number, and why.
     passed_over: dict[int, str]
-    # The processes and threads whose system calls a supervisor answers and was asked again for, since they were stopped.
+    # The processes and threads whose syscalls a supervisor got twice, since they were stopped meanwhile.
     asked_again: list[tuple[int, int]] = field(default_factory=list)
 
     @property
     def notes(self) -> list[str]:
         """What is said of the look itself."""
-        return [*(f"process {process} isn't looked at: it {why}" for process, why in self.passed_over.items()),
-                *(f"the system call of {called(thread, process)} is made anew, and its seccomp supervisor gets it a "
-                  f"second time" for process, thread in self.asked_again)]
+        return [*(f"process {process} is skipped: it {why}" for process, why in self.passed_over.items()),
+                *(f"the syscall of {called(thread, process)} restarts, and its seccomp supervisor gets it a second "
+                  f"time" for process, thread in self.asked_again)]
 
 
 def threads_told(threads: Sequence[int]) -> str:
@@ -138,8 +138,8 @@ def look(kernel: Kernel, listed: Callable[[], dict[int, int]], patience: float, 
     try:
         return child.run(lambda: read_threads(kernel, listed, TO_STOP * patience, is_forced), patience)
     except child.Late as late:
-        raise Unreadable(f"the threads couldn't be looked at within {patience:g} seconds: the kernel makes a tracer wait, "
-                         f"as for a thread that executes a program; what was held runs on") from late
+        raise Unreadable(f"the threads couldn't be read within {patience:g} seconds: the kernel makes a tracer wait, as "
+                         f"for a thread that executes a program; all stopped threads continue") from late
     except child.Died as died:
         raise Unreadable(str(died)) from died
 
@@ -165,7 +165,7 @@ def look_at_process(kernel: Kernel, process: int, thread: int | None = None, pat
     found = look(kernel, listed, patience, is_forced)
     if not found.stacks:
         who = called(process if thread is None else thread, process)
-        raise Unreadable(f"{who} {found.passed_over.get(process, 'ended meanwhile')}")
+        raise Unreadable(f"{who} {found.passed_over.get(process, 'has ended')}")
     return found
 
 
@@ -178,22 +178,22 @@ def look_at_container(kernel: Kernel, container: Container, patience: float = PA
 
     found = look(kernel, listed, patience, is_forced)
     if not found.stacks:
-        raise Unreadable("the processes of the container ended meanwhile")
+        raise Unreadable("the processes of the container have ended")
     return found
 
 
 def number_in(text: str, parser: Parser) -> int:
     """The number of a process or a thread among the words of a tool."""
     if not (text.isascii() and text.isdigit()) or len(text) > 10 or not 0 < int(text) < 2**31:
-        parser.error(f"'{text}' is no number of a process")
+        parser.error(f"'{text}' isn't a process ID")
     return int(text)
 
 
 def add_force(parser: Parser) -> None:
     """Adds `--force`."""
     parser.add_argument("--force", action="store_true",
-                        help="stop threads that wait for the answer of a seccomp supervisor, too: it gets their system "
-                             "calls a second time")
+                        help="also stop threads that wait for a seccomp supervisor, which then gets their syscalls a "
+                             "second time")
 
 
 def read_or_end(read: Callable[[], Read], has_force: bool = False, is_json: bool = False) -> Read:
@@ -208,7 +208,7 @@ def read_or_end(read: Callable[[], Read], has_force: bool = False, is_json: bool
         raise program.Refused(why, program.FAILED) from error
     except Interrupted as came:
         number = came.args[0]
-        output.say(program.name(), f"ended by {signal.Signals(number).name}; what was held runs on")
+        output.say(program.name(), f"ended by {signal.Signals(number).name}; all stopped threads continue")
         signal.signal(number, signal.SIG_DFL)
         os.kill(os.getpid(), number)
         raise program.Refused("the signal didn't end it", program.FAILED) from came

@@ -57,10 +57,10 @@ class Runtime:
 
 RUNTIMES = {it.name: it for it in (Runtime(RUNC, RUNC), Runtime(CRUN, CRUN), Runtime("docker", RUNC, "docker"),
                                    Runtime("podman", CRUN, "podman"))}
-HELP = ("read a profile as this container runtime does. runc and crun take a resolved profile; docker is Docker's "
-        "engine (moby), which resolves an engine's profile first, with runc; podman is podman's engine with crun. "
-        "Entries whose answer is the default's are skipped, of two entries without conditions the first counts, and names "
-        "that this machine's libseccomp doesn't know are left out")
+HELP = ("read a profile as this container runtime does: runc and crun take a resolved profile; docker stands for "
+        "Docker's engine (moby), which resolves an engine's profile, with runc, and podman for podman's with crun. "
+        "An entry whose answer is the default's is ignored, of two entries without conditions the first counts, and "
+        "names that this machine's libseccomp doesn't know are left out")
 
 
 def add_option(parser: argparse.ArgumentParser) -> None:
@@ -72,14 +72,14 @@ def add_options(parser: argparse.ArgumentParser) -> None:
     """Adds `--runtime`, and what says how an engine resolves a profile."""
     add_option(parser)
     parser.add_argument("--engine", choices=tuple(engines.ENGINES),
-                        help="whose rules resolve an engine's profile: Docker's since 23.0, Docker's 20.10 or podman's "
-                             "[default: that of --runtime, or the members that one of them reads]")
+                        help="the engine whose rules resolve the profile: Docker since 23.0, Docker 20.10 or podman "
+                             "[default: that of --runtime, or all members that one of them reads]")
     parser.add_argument("--caps", metavar="LIST",
-                        help="the container's capabilities, as CAP_KILL,SYS_ADMIN; docker, podman and none are sets, "
-                             "and docker,SYS_ADMIN is one with another [default: podman for podman, or docker]")
+                        help="the container's capabilities, such as CAP_KILL,SYS_ADMIN; docker, podman and none are "
+                             "sets, as in docker,SYS_ADMIN [default: podman for podman, or docker]")
     parser.add_argument("--kernel", metavar="X.Y", help="the kernel that the engine runs on [default: this one]")
     parser.add_argument("--arch", choices=("native", "all"),
-                        help="whether only x86-64 or all architectures are handed on [default: all, as the engine "
+                        help="whether only x86-64 or all architectures are passed on [default: all, as the engine "
                              "does]")
     parser.add_argument("--ignore", metavar="MEMBER", action="append",
                         help="ignore a member of entries that no engine reads, which may be a condition")
@@ -177,7 +177,7 @@ class Applied:
 
 def stub_told(first: int) -> str:
     """What is said of a filter with runc's stub before it."""
-    return f"runc answers the numbers from {first} on, which are above all that the profile names, by ENOSYS"
+    return f"runc answers the numbers from {first} on, above all that the profile names, with ENOSYS"
 
 
 # An action and its number.
@@ -226,7 +226,7 @@ class _Application:
     def answer_of(self, action: str, number: int | None, where: str) -> Answer:
         """What libseccomp is given for an action and its number."""
         if action not in ACTIONS:
-            self.refuse(f"{where} has no action that it knows: '{told(action)}'")
+            self.refuse(f"{where} has an unknown action: '{told(action)}'")
         action = ACTIONS[action]
         if action in WITH_NUMBER:
             if self.runtime.program == CRUN and number is not None and number >= 1 << 32:
@@ -248,7 +248,7 @@ class _Application:
         answer = self.answer_of(profile["defaultAction"], profile.get("defaultErrnoRet"), "the default")
         self.check(answer, "the default")
         if answer[0] == NOTIFY and self.runtime.program == RUNC:
-            self.refuse(f"{NOTIFY} is no default action")
+            self.refuse(f"{NOTIFY} can't be the default action")
         return answer
 
     def known(self, names: Sequence[str], where: str) -> list[str]:
@@ -305,7 +305,7 @@ class _Application:
             left_out = {name for names in gone.values() for name in names}
             rule.names = [name for name in rule.names if name not in left_out]
             self.notes += [f"{listed(names)} left out of entry {rule.origin.index}: entry {origin.index}, which has no "
-                           f"conditions, has all such calls" for origin, names in gone.items()]
+                           f"conditions, covers all such syscalls" for origin, names in gone.items()]
 
     def architectures_of(self, names: Sequence[str]) -> list[str]:
         """The architectures, x86-64 among them."""
@@ -313,7 +313,7 @@ class _Application:
             names = [PREFIX + it.removeprefix(PREFIX).upper() for it in names]
         if not names or OCI_ARCH in names:
             return list(names)
-        self.remarks.append(f"the calls of x86-64 are confined, too, though architectures hasn't {OCI_ARCH}")
+        self.remarks.append(f"x86-64 syscalls are confined too, though architectures lacks {OCI_ARCH}")
         return [OCI_ARCH, *names]
 
     def stub_of(self, profile: dict[str, Any], default: Answer) -> int | None:
@@ -323,10 +323,10 @@ class _Application:
 
     def tell_unknown(self) -> None:
         if not self.library.is_there:
-            self.remarks.append("there is no libseccomp.so.2 here to ask which names the runtime's doesn't know")
+            self.remarks.append("there is no libseccomp.so.2 here, so it is unknown which names the runtime's doesn't know")
         elif self.unknown:
             names = listed(list(self.unknown))
-            self.remarks.append(f"left out, since {self.library.told} doesn't know such names: {names}")
+            self.remarks.append(f"left out, since {self.library.told} doesn't know them: {names}")
 
     def run(self, profile: dict[str, Any], origins: Sequence[Origin]) -> Applied:
         default = self.default_of(profile)
@@ -356,7 +356,7 @@ def _is_config(value: Any) -> bool:
 def _seccomp_of(value: Any) -> Any:
     """The seccomp object of a config.json, where runtimes look for it and nowhere else."""
     if value.get("defaultAction") is not None:
-        raise Refused("both defaultAction and linux stand at the top: it is a profile, or a config.json")
+        raise Refused("both defaultAction and linux are at the top: is it a profile or a config.json?")
     return value
 
 

@@ -40,7 +40,8 @@ def fitted(told: Iterable[str], width: int | None) -> Iterator[str]:
 
 def _summary(surface: Surface) -> str:
     counts = surface.counts
-    return ", ".join(f"{word_of(said)} {counts[said]}" for said in SAID if counts[said] or said in (MADE, DEPENDS, REFUSED))
+    shown = [said for said in SAID if counts[said] or said in (MADE, DEPENDS, REFUSED)]
+    return ", ".join(f"{word_of(said)} {counts[said]}" for said in shown)
 
 
 def _foreign(surface: Surface) -> str:

@@ -11,14 +11,14 @@ TYPE_CHECKING = False
 if TYPE_CHECKING:
     from typing import Any, NoReturn
 
-EPILOG = "Status: 0 well, 1 refused or differs, 2 wrong words, 3 a failed input or output, 4 undecided or unfinished."
+EPILOG = "Exit status: 0 success, 1 refused or differs, 2 usage error, 3 I/O error, 4 undecided or unfinished."
 
 
 class Version(argparse.Action):
     """`--version`: the version is scf's."""
 
     def __init__(self, option_strings: list[str], dest: str, **_: Any):
-        super().__init__(option_strings, dest, nargs=0, default=argparse.SUPPRESS, help="print the version and end")
+        super().__init__(option_strings, dest, nargs=0, default=argparse.SUPPRESS, help="print the version and exit")
 
     def __call__(self, parser: argparse.ArgumentParser, *_: Any) -> None:
         program.finish(program.print_version())
@@ -53,7 +53,7 @@ class Parser(argparse.ArgumentParser):
 
     def table(self, dash: str = "; - is standard input") -> None:
         """Adds `--table`."""
-        self.add_argument("--table", metavar="FILE", help=f"the call table{dash} [default: tables/x86_64.table]")
+        self.add_argument("--table", metavar="FILE", help=f"the syscall table{dash} [default: tables/x86_64.table]")
 
     def limit(self) -> None:
         """Adds `--limit`."""
@@ -62,15 +62,15 @@ class Parser(argparse.ArgumentParser):
     def verbose(self) -> None:
         """Adds `--verbose`."""
         self.add_argument("--verbose", action="store_true",
-                          help="list the names of the profile that were skipped, which are counted otherwise")
+                          help="list the names in the profile that were skipped, not only their count")
 
     def relation(self) -> None:
         """Adds `--no-more` and `--no-less`, of which one may be given."""
         group = self.add_mutually_exclusive_group()
         group.add_argument("--no-more", dest="relation", action="store_const", const=verdicts.NO_MORE,
-                           default=verdicts.SAME, help="whether no call is let through further than by the profile")
+                           default=verdicts.SAME, help="whether nothing is more permissive than the profile")
         group.add_argument("--no-less", dest="relation", action="store_const", const=verdicts.NO_LESS,
-                           default=verdicts.SAME, help="whether none is let through less far than by the profile")
+                           default=verdicts.SAME, help="whether nothing is stricter than the profile")
 
     def one_standard_input(self, names: Iterable[str | None]) -> None:
         """Refuses words that name standard input twice."""

@@ -57,7 +57,7 @@ class Numbers(unittest.TestCase):
         for text, says in (("40000003", "write 0x40000003 for SCMP_ARCH_X86, as audit's log has it, or 0x2625a03 for "
                                         "the decimal number"),
                            ("40000028", "0x40000028 for SCMP_ARCH_ARM"), ("80000016", "0x80000016 for SCMP_ARCH_S390X"),
-                           ("i387", "no architecture 'i387' is known"), ("SCMP_ARCH_", "no architecture")):
+                           ("i387", "unknown architecture 'i387'"), ("SCMP_ARCH_", "unknown architecture")):
             with self.assertRaises(program.Refused) as caught:
                 architectures.number_in(text)
             self.assertIn(says, str(caught.exception))
@@ -107,8 +107,7 @@ class Words(Case):
                           ("decide", "--calls-from", calls, self.i386)):
                 status, out, err = self.run_tool(words[0], "--arch", word, *words[1:])
                 self.assertEqual((status, out), (2, ""), words)
-                self.assertIn(f"the table names calls of x86-64: with --arch {word}, give the number that 'socket' has "
-                              "there", err)
+                self.assertIn(f"the table has x86-64 syscalls: with --arch {word}, give the number of 'socket'", err)
         for word in ("x86_64", "SCMP_ARCH_X86_64", "0xc000003e", "3221225534", "c000003e"):
             self.assertEqual(self.answer("--nr=socket", "--arch", word, self.i386), "ALLOW 0", word)
 

@@ -418,7 +418,7 @@ class Decide(Case):
             self.assertTrue(out.startswith("ERRNO 1\n# the syscall is own (1)\n"), out)
         status, out, err = self.run_tool("decide", "--nr", "no_such_call", self.filter)
         self.assertEqual((status, out), (2, ""))
-        self.assertIn("the table names no call 'no_such_call'", err)
+        self.assertIn("the table has no syscall 'no_such_call'", err)
 
     @unittest.skipUnless(shutil.which("bash"), "there is no bash here")
     def test_pipes_of_a_shell(self):

@@ -477,7 +477,7 @@ class Containers(Confined):
         self.assertEqual([block.split("\n")[0] for block in blocks], ["differs", "same"])
         self.assertIn(f"# process {second} (", blocks[0])
         self.assertIn(f"# process {first} (", blocks[1])
-        self.assertEqual(comments(out)[-1], "the container is a PID namespace; processes of it that were looked at: 2")
+        self.assertEqual(comments(out)[-1], "the container is a PID namespace; its processes: 2")
         found = json.loads(self.verify(first, refuses("mount"), "--all", "--json")[1])
         self.assertEqual((found["status"], found["verdict"], found["container"]), (1, "differs", "a PID namespace"))
         self.assertEqual([stack["processes"][0]["process"] for stack in found["stacks"]], [second, first])
@@ -558,7 +558,7 @@ class Containers(Confined):
         status, out, err = self.verify(children[0].pid, refuses("mount"), "--all")
         self.assertEqual((status, err, [block.split("\n")[0] for block in out.split("\n\n")]),
                          (1, "", ["differs", "same"]))
-        self.assertIn(f"/scf-test-{os.getpid()}; processes of it that were looked at: 2", comments(out)[-1])
+        self.assertIn(f"/scf-test-{os.getpid()}; its processes: 2", comments(out)[-1])
         status, out, err = self.verify(children[1].pid, refuses("umount2"), "--all")
         self.assertEqual((status, out.split("\n")[0]), (0, "same"))
         for child in children:
@@ -645,7 +645,7 @@ class Containers(Confined):
         self.assertTrue(said[3].startswith("calls with greater numbers than all that the profile names"), said)
         status, out, err = self.verify(pid, json.dumps(profile), "--all")
         self.assertEqual((status, err), (1, ""))
-        self.assertIn("processes of it that were looked at: 1", out)
+        self.assertIn("its processes: 1", out)
 
     @here
     @ROOT

@@ -119,7 +119,7 @@ class Run(Case):
                                             "# KILL_PROCESS: the process ends\n"))
         status, out, err = self.run_tool("run", "--nr", "raed", self.filter)
         self.assertEqual((status, out), (2, ""))
-        self.assertIn("the table names no call 'raed'; the nearest name is 'read'", err)
+        self.assertIn("the table has no syscall 'raed'; the nearest name is 'read'", err)
 
 
 class Several(Case):
@@ -150,10 +150,10 @@ class Several(Case):
         self.assertEqual(self.run_tool("decide", "--calls-from", self.file("none", ""), self.asks), (0, "", ""))
 
     def test_wrong_lines(self):
-        for text, status, says in (("no_such_call\n", 2, "the table names no call 'no_such_call'"),
-                                   ("read 1 2 3 4 5 6 7\n", 2, "isn't a call and up to six numbers"),
-                                   ("read\0\n", 2, "isn't a call and up to six numbers"),
-                                   ("9" * 300, 2, "isn't a call and up to six numbers"),
+        for text, status, says in (("no_such_call\n", 2, "the table has no syscall 'no_such_call'"),
+                                   ("read 1 2 3 4 5 6 7\n", 2, "isn't a syscall and up to six numbers"),
+                                   ("read\0\n", 2, "isn't a syscall and up to six numbers"),
+                                   ("9" * 300, 2, "isn't a syscall and up to six numbers"),
                                    ("read x\n", 2, "fault number a0"), ("99999999999\nread\n", 2, "fault number nr")):
             found, out, err = self.run_tool("decide", "--calls-from", self.file("calls", text), self.filter)
             self.assertEqual(found, status, text)

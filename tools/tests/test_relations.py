@@ -347,13 +347,13 @@ class Foreign(Case):
         squares = load(4) + jeq(X86_64, 1, 0) + load(0) + insn(0x07, 0) + insn(0x2C, 0) + jeq(9, 0, 1) + ret(LOG) + \
             ret(EPERM)
         found = foreign.let_through([squares])
-        self.assertEqual(found[0].told(), "i386: undecided whether any syscall is allowed; of 12 that were tried, 1 is, "
+        self.assertEqual(found[0].told(), "i386: undecided whether any syscall is allowed; of 12 tried, 1 is, "
                                           "such as read (3): LOG")
         self.assertEqual(found[0].as_json(), {
             "kind": "i386", "is_decided": False, "tried": 12,
             "let_through": [{"name": "read", "number": 3, "answer": {"action": "LOG", "data": 0}}]})
         self.assertEqual([one.told() for one in foreign.let_through([filter_of([READ])], "0")], [
-            f"{kind}: undecided whether any syscall is allowed; of {count} that were tried, none is"
+            f"{kind}: undecided whether any syscall is allowed; of {count} tried, none is"
             for kind, count in (("i386", 12), ("x32", 11))])
 
     def test_refused_filters(self):

@@ -182,7 +182,7 @@ class UnitProfile(Case):
                 self.assertEqual(bool(self.printed("--set", f"~{name}")[1]), is_known, name)
 
     def test_a_unit_without_a_filter(self):
-        says = "unit-profile: there is no SystemCallFilter: all calls are made\n"
+        says = "unit-profile: there is no SystemCallFilter: every syscall is allowed\n"
         for number in (KILLED, "1"):
             self.assertEqual(self.of_unit(SystemCallErrorNumber=number), ((ALLOW, None), {}, ALL, says))
         self.assertEqual(self.of_unit(SystemCallFilter=""), ((KILL, None), {}, ALL, ""))
