@@ -31,15 +31,15 @@ def _answers(top: Object) -> Iterator[tuple[str, dict[str, object], str, str, ob
 def _why_odd(number: int) -> str | None:
     """What is odd in an errno that a filter gives, if anything is."""
     if number == 0:
-        return "the syscall isn't made, and the program is told that it succeeded"
+        return "the syscall isn't executed, and returns 0 as if it had succeeded"
     if number in INTERNAL:
-        return (f"{INTERNAL[number]}, a mark of the kernel that no program knows: it reaches the program as it is, or, "
-                "where a signal comes meanwhile, the kernel may take it for its own")
+        return (f"{INTERNAL[number]}, which the kernel uses internally and no program knows: it reaches the program as "
+                "it is, or, if a signal arrives, the kernel may take it for its own")
     if number > MAX_ERRNO:
-        return f"the kernel gives {MAX_ERRNO} in its place, and libseccomp takes none above {MAX_ERRNO - 1}"
+        return f"the kernel returns {MAX_ERRNO} instead, and libseccomp takes none above {MAX_ERRNO - 1}"
     if number == MAX_ERRNO:
         return f"libseccomp takes none above {MAX_ERRNO - 1}"
-    return f"no errno of Linux has that number, the last is {LAST_ERRNO}" if number > LAST_ERRNO else None
+    return f"Linux has no such errno, the last is {LAST_ERRNO}" if number > LAST_ERRNO else None
 
 
 def of_errnos(top: Object) -> Iterator[Finding]:

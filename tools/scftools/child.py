@@ -74,7 +74,7 @@ def run(work: Callable[[], Result], seconds: float) -> Result:
     finally:
         signal.pthread_sigmask(signal.SIG_SETMASK, mask)
     if not data:
-        raise Died("the process that looked ended without a result")
+        raise Died("the inspecting process ended without a result")
     is_well, result = pickle.loads(data)
     if not is_well:
         raise result

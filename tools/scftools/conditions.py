@@ -42,7 +42,7 @@ def _of_value(entry: Entry, place: int, one: Condition) -> Iterator[Finding]:
     where, more = f"entry {entry.place}, condition {place}", {"entry": entry.place, "condition": place}
     if _always_holds(one):
         swapped = "; value is the mask, and valueTwo what is compared with: they may be swapped" if one.two else ""
-        yield Finding("always-met", f"{where}: {one.op} {one.value} holds for each value{swapped}", more)
+        yield Finding("always-met", f"{where}: {one.op} {one.value} holds for every value{swapped}", more)
     elif one.op == "SCMP_CMP_MASKED_EQ" and one.two & ~one.value:
         yield Finding("odd-mask", f"{where}: valueTwo {one.two:#x} has bits that the mask {one.value:#x} lacks, and "
                       "these aren't compared", more)
@@ -61,10 +61,10 @@ def _of_argument(entry: Entry, place: int, one: Condition, known: dict[str, str]
                       {**more, "names": lacking})
     if addresses and not _is_null_test(one):
         yield Finding("pointer-argument", f"{where}: argument {one.index} of {listed(addresses, 'and')} is an address: "
-                      "a filter doesn't see what stands there", {**more, "names": addresses})
+                      "a filter can't see what it points to", {**more, "names": addresses})
     if halves and one.op == "SCMP_CMP_EQ" and one.value > LOW:
         yield Finding("high-half", f"{where}: the kernel reads 32 bits of argument {one.index} of "
-                      f"{listed(halves, 'and')}, and {one.value:#x} has more: a program that hands over "
+                      f"{listed(halves, 'and')}, and {one.value:#x} has more: a program that passes "
                       f"{one.value & LOW:#x} doesn't meet it", {**more, "names": halves})
 
 
@@ -142,8 +142,8 @@ class Denials:
         others = {at: hex(pair[0].get(at, 0)) for at in sorted(asked_of - {one.index})}
         beside = "".join(f", beside {value} as argument {at}" for at, value in others.items())
         return Finding("high-half", f"{name} ({number}) is denied with {low:#x} as argument {one.index}{beside} "
-                       f"({denied}), and allowed with {high:#x} {where}: the kernel reads the lower 32 bits alone, and "
-                       "makes the same syscall of both",
+                       f"({denied}), and allowed with {high:#x} {where}: the kernel reads only the lower 32 bits, and "
+                       "executes the same syscall for both",
                        {"name": name, "argument": one.index, "denied": hex(low), "allowed": hex(high), "entry": by,
                         "others": {str(at): value for at, value in others.items()}})
 

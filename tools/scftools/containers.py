@@ -61,7 +61,7 @@ class Container:
 
 
 def why_no_group(process: int, path: bytes) -> str:
-    return (f"the container of process {process} can't be told: this tool is in a cgroup namespace of its own, which "
+    return (f"the container of process {process} is unknown: this tool is in a cgroup namespace of its own, which "
             f"shows the control group of the process as {output.escaped(path)}: run it in the initial one")
 
 
@@ -113,7 +113,7 @@ def container_of(kernel: Kernel, process: int) -> Container:
                          lambda: [it for it in in_space() if not group.has(kernel, it) and is_unknown(kernel, it)])
     if not has_space:
         raise Unreadable(f"process {process} is in no container: its control group is the root, and its PID namespace "
-                         f"that of this tool")
+                         f"this tool's")
     return Container(None, in_space)
 
 

@@ -103,13 +103,13 @@ def members(pairs: list[tuple[str, Any]]) -> dict[str, Any]:
         seen: set[str] = set()
         for name, _ in pairs:
             if name in seen:
-                raise Refused(f"the member '{told(name)}' stands twice in one object")
+                raise Refused(f"the member '{told(name)}' is repeated in one object")
             seen.add(name)
     return found
 
 
 def fraction(text: str) -> Any:
-    raise Refused(f"the number {told(text)} isn't a whole one")
+    raise Refused(f"the number {told(text)} isn't an integer")
 
 
 def whole(text: str) -> int | float:
@@ -155,9 +155,9 @@ def _check_one(value: Any, kind: str, where: str, name: str) -> None:
     """Refuses a member in which the engines don't read a text, a number or a version of a kernel."""
     if kind == NUMBER:
         if type(value) is not int or not 0 <= value < 1 << 64:
-            raise Refused(f"{where_in(where, name)} isn't a whole number from 0 to 2^64-1")
+            raise Refused(f"{where_in(where, name)} isn't an integer from 0 to 2^64-1")
     elif not isinstance(value, str):
-        what = "isn't a text" if kind == TEXT else "is no version of a kernel as 4.8"
+        what = "isn't a string" if kind == TEXT else "isn't a kernel version such as 4.8"
         raise Refused(f"{where_in(where, name)} {what}")
     elif kind == VERSION:
         version_of(value, where_in(where, name))
@@ -165,7 +165,7 @@ def _check_one(value: Any, kind: str, where: str, name: str) -> None:
 
 def _check_list(value: Any, kind: Any, where: str, setting: Setting) -> None:
     if not isinstance(value, list) or (kind == TEXT and not all(isinstance(it, str) for it in value)):
-        raise Refused(f"{where} isn't a list" + " of texts" * (kind == TEXT))
+        raise Refused(f"{where} isn't a list" + " of strings" * (kind == TEXT))
     if kind != TEXT:
         parent, _, name = where.rpartition(": ")
         for index, one in enumerate(value):
@@ -218,7 +218,7 @@ def version_of(text: str, where: str) -> tuple[int, int]:
     parts = re.fullmatch(r"([0-9]+)\.([0-9]+)", text) if len(text) <= MAX_TOLD else None
     found = (int(parts[1]), int(parts[2])) if parts else (0, 0)
     if found == (0, 0) or max(found) > 255:
-        raise Refused(f"{where} is no version of a kernel as 4.8")
+        raise Refused(f"{where} isn't a kernel version such as 4.8")
     return found
 
 
@@ -301,17 +301,17 @@ class Resolver:
             return holder.get(number)
         is_number = len(text) <= MAX_TOLD and re.fullmatch("[0-9]+", text) and int(text) < 1 << 32
         if not is_number and text not in ERRNOS:
-            raise Refused(f"{where}: {name} '{told(text)}' is no errno that podman knows")
+            raise Refused(f"{where}: {name} '{told(text)}' isn't an errno that podman knows")
         value = int(text) if is_number else getattr(errno, text)
         if holder.get(number) not in (None, value):
-            self.note(f"{where}: {name} '{text}' is taken, and not {number} {told(holder[number])}")
+            self.note(f"{where}: {name} '{text}' is used, not {number} {told(holder[number])}")
         return value
 
     def architectures_of(self, top: dict[str, Any]) -> list[str]:
         """The architectures that the engine hands on."""
         names, mapped = top.get("architectures", []), top.get("archMap", [])
         if names and mapped:
-            raise Refused("both architectures and archMap stand there, and the engines take one")
+            raise Refused("the profile has both architectures and archMap, and the engines take one")
         for one in mapped:
             if one.get("architecture") == OCI_ARCH:
                 names = [OCI_ARCH, *(one.get("subArchitectures") or [])]
@@ -327,7 +327,7 @@ class Resolver:
     def entry_of(self, entry: dict[str, Any], where: str) -> dict[str, Any] | None:
         """The resolved form of an entry, or None where it names no call."""
         if entry.get("name") and entry.get("names"):
-            raise Refused(f"{where}: both name and names stand there, and the engines take one")
+            raise Refused(f"{where} has both name and names, and the engines take one")
         names = [entry["name"]] if entry.get("name") else entry.get("names", [])
         found = {"names": names, "action": entry.get("action", "")}
         number = self.errno_of(entry, "errno", "errnoRet", where)
@@ -351,7 +351,7 @@ class Resolver:
             is_ignored = self.setting.ignored is None or name in self.setting.ignored
             if where.startswith("entry ") and not is_ignored:
                 raise Refused(f"{where} has a member '{told(name)}', which no engine reads, and which may be a "
-                              f"condition: to leave it out of account, say --ignore {told(name)}")
+                              f"condition: --ignore {told(name)} ignores it")
             self.note(f"{where}: nothing reads '{told(name)}'")
         if self.setting.unread:
             for where, name in self._of_other_engines(top):
@@ -395,7 +395,7 @@ class Resolver:
         made = None if why else self.entry_of(entry, f"entry {at}")
         origin = Origin(at, names_of(entry))
         if made is None:
-            self.note(f"{origin.told()} left out: {why or 'it names no call'}")
+            self.note(f"{origin.told()} left out: {why or 'it has no name'}")
             return []
         self.origins.append(origin)
         return [made]
@@ -431,7 +431,7 @@ def capabilities_of(text: str) -> list[str]:
         name = word.upper()
         name = name[4:] if name.startswith("CAP_") else name
         if word not in SETS and name not in CAPABILITIES:
-            raise ValueError(f"'{word}' is no capability")
+            raise ValueError(f"'{word}' isn't a capability")
         found += SETS.get(word, [name])
     return sorted({f"CAP_{it}" for it in found})
 
@@ -445,5 +445,5 @@ def kernel_of(text: str) -> tuple[int, int]:
     """The version of a kernel, of which two numbers count; a ValueError where it is none."""
     parts = re.match(r"([0-9]{1,9})\.([0-9]{1,9})", text)
     if not parts:
-        raise ValueError(f"'{text}' is no version of a kernel as 6.1")
+        raise ValueError(f"'{text}' isn't a kernel version such as 6.1")
     return int(parts[1]), int(parts[2])

@@ -21,8 +21,8 @@ ALLOWS_NATIVE = b'{"defaultAction": "SCMP_ACT_ALLOW"}'
 ALLOWED, REFUSED = (instruction(RETURN_CONSTANT, Answer(action, 0).word) for action in ("ALLOW", "KILL_PROCESS"))
 # struct seccomp_data in linux/seccomp.h
 NUMBER, ARCHITECTURE = instruction(LOAD_WORD, 0), instruction(LOAD_WORD, 4)
-OTHERS = "other ABIs: an x86-64 kernel has no others"
-NONE = "other ABIs: every i386 and x32 syscall is denied; an x86-64 kernel has no others"
+OTHERS = "other ABIs: the kernel has no others"
+NONE = "other ABIs: every i386 and x32 syscall is denied; the kernel has no others"
 
 
 def jump(test: int, k: int, if_true: int, if_false: int) -> bytes:

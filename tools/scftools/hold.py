@@ -58,13 +58,13 @@ def called(thread: int, process: int) -> str:
 def require_rights(kernel: Kernel) -> None:
     """Says why no filters can be had by this tool, before any process is stopped."""
     if os.uname().machine != "x86_64" or struct.calcsize("P") != 8:
-        raise Unreadable("only on x86-64, and with a Python of 64 bits, are processes looked at")
+        raise Unreadable("processes can only be inspected on x86-64, and with a 64-bit Python")
     if not kernel.is_proc_ours():
-        raise Unreadable("/proc isn't mounted, or isn't that of this tool's PID namespace")
+        raise Unreadable("/proc isn't mounted, or isn't of this tool's PID namespace")
     own = kernel.status_of(os.getpid())
     if own.get("Seccomp", "0") != "0":
-        raise Unreadable("this tool runs under a filter itself, and to such a one the kernel shows none: run it "
-                         "outside of containers")
+        raise Unreadable("this tool runs under a filter itself, so the kernel shows it none: run it outside of "
+                         "containers")
     held = int(own.get("CapEff", "0"), 16)
     if not held >> CAP_SYS_ADMIN & 1:
         raise Unreadable("the kernel shows filters only to a process with CAP_SYS_ADMIN: run this as root, outside of "
@@ -83,11 +83,11 @@ def why_not_traced(kernel: Kernel, thread: int, process: int, error: OSError) ->
         return f"{who} can't be stopped: {error.strerror}"
     tracer = kernel.status_of(thread).get("TracerPid", "0")
     if tracer not in ("0", str(os.getpid())):
-        return f"{who} is traced by process {tracer} already, and the kernel lets no second one trace it"
+        return f"{who} is already traced by process {tracer}, and can have only one tracer"
     if not int(kernel.status_of(os.getpid()).get("CapEff", "0"), 16) >> CAP_SYS_PTRACE & 1:
         return f"{who} can't be stopped without CAP_SYS_PTRACE: run this as root, outside of containers"
     if contents("/proc/sys/kernel/yama/ptrace_scope").strip() == b"3":
-        return f"{who} can't be stopped: on this kernel nobody may trace (kernel.yama.ptrace_scope is 3)"
+        return f"{who} can't be stopped: tracing is disabled (kernel.yama.ptrace_scope is 3)"
     return None
 
 
@@ -227,7 +227,7 @@ class Hold:
     def is_refused(self, thread: int, process: int, error: OSError) -> bool:
         """Whether a thread that the kernel refuses to trace is to be listed again."""
         if self.kernel.flags_of(thread) & (PF_KTHREAD | PF_IO_WORKER | PF_USER_WORKER):
-            self.passed_over[process] = "is a thread of the kernel, which makes no system calls"
+            self.passed_over[process] = "is a kernel thread, which makes no syscalls"
             return False
         why = why_not_traced(self.kernel, thread, process, error)
         since, count = self.refused_before.get(thread, (time.monotonic(), 0))
@@ -235,7 +235,7 @@ class Hold:
         if why is None and not is_sure(since, count + 1):
             return True
         if why is None and self.kernel.status_of(thread).get("State", "Z")[:1] in "ZX":
-            self.passed_over[process] = "has ended, and only waits for its parent to ask how (it is a zombie)"
+            self.passed_over[process] = "is a zombie: it has ended, and waits for its parent"
             return False
         raise Unreadable(why or f"{called(thread, process)} can't be stopped ({error.strerror}): run this as root, "
                                 f"outside of containers") from error
@@ -321,13 +321,13 @@ class Hold:
 
     def why_impatient(self) -> Unreadable:
         for thread in self.waiting():
-            return Waiting(f"{called(thread, self.process_of[thread])} has waited for {self.patience:g} seconds for the "
-                           f"answer of a seccomp supervisor; if it were stopped, its system call would be made twice")
+            return Waiting(f"{called(thread, self.process_of[thread])} has waited {self.patience:g} seconds for a "
+                           f"seccomp supervisor, which would get its syscall twice if it were stopped")
         for thread in sorted(self.stopping):
             state = self.kernel.status_of(thread).get("State", "none")
-            return Unreadable(f"{called(thread, self.process_of[thread])} didn't stop within {self.patience:g} seconds: "
+            return Unreadable(f"{called(thread, self.process_of[thread])} didn't stop within {self.patience:g} seconds; "
                               f"its state is {state}")
-        return Unreadable(f"threads came and went for {self.patience:g} seconds, faster than all of them can be stopped")
+        return Unreadable(f"threads came and went for {self.patience:g} seconds, faster than they can be stopped")
 
 
 def why_no_filter(kernel: Kernel, thread: int, process: int, place: int, error: OSError) -> str:
@@ -339,7 +339,7 @@ def why_no_filter(kernel: Kernel, thread: int, process: int, place: int, error: 
     if error.errno in (errno.EIO, errno.ENOSYS):
         return f"this kernel doesn't show filters: {error.strerror}"
     if error.errno == errno.EMEDIUMTYPE:
-        return (f"filter {place} of {called(thread, process)} isn't kept as classic BPF, so that the kernel can't show "
+        return (f"filter {place} of {called(thread, process)} isn't kept as classic BPF, so the kernel can't show "
                 f"it")
     return f"filter {place} of {called(thread, process)} can't be read: {error.strerror}"
 

@@ -292,7 +292,7 @@ class Process:
         pid = self.container.pid
         found = processes.look(self.kernel, self.threads, processes.PATIENCE, is_forced)
         if pid not in found.names or self.has_ended():
-            raise processes.Unreadable(f"process {pid} {found.passed_over.get(pid, 'ended meanwhile')}")
+            raise processes.Unreadable(f"process {pid} {found.passed_over.get(pid, 'has ended')}")
         return found
 
     def has_filters(self) -> bool:
@@ -376,7 +376,7 @@ def result(finding: Finding) -> Result:
 def unstated(is_allowed: bool) -> Finding:
     """The configuration states no profile."""
     return stated(program.WELL if is_allowed else program.REFUSED, "unstated",
-                  "the configuration states no seccomp profile: the container isn't confined")
+                  "the configuration has no seccomp profile: the container isn't confined")
 
 
 def failed(why: str, status: int = program.FAILED) -> Finding:
@@ -473,7 +473,7 @@ def verdict_line(container: Container | None, result: Result) -> str:
         return f"{who}: confined as configured ({result.verdict})"
     if result.status == program.REFUSED and result.verdict is not None:
         return f"{who}: not confined as configured ({result.verdict})"
-    return f"{who}: it can't be told whether it is confined as configured"
+    return f"{who}: unknown whether it is confined as configured"
 
 
 def hook_words(words: Sequence[str]) -> list[str]:
@@ -518,9 +518,9 @@ def guarded(find: Callable[[], Finding]) -> Finding:
     except processes.Interrupted as came:
         return failed(f"the look was ended by {signal.Signals(came.args[0]).name}")
     except MemoryError:
-        return failed("memory was refused")
+        return failed("out of memory")
     except OSError as error:
-        return failed(f"it can't be looked at: {error.strerror}")
+        return failed(f"the container can't be inspected: {error.strerror}")
     except Exception as error:  # pylint: disable=broad-exception-caught
         # a fault of this tool's own: nothing fails open
         return failed(f"{program.name()} itself failed: {type(error).__name__}")

@@ -11,7 +11,7 @@ from .tables import Table
 
 # The words of a call, by their place in it (struct seccomp_data in linux/seccomp.h).
 NUMBER, ARCHITECTURE, ARGUMENTS, END = 0, 1, 4, 16
-WORDS = {NUMBER: "the call's number", ARCHITECTURE: "the architecture", 2: "the instruction pointer, low half",
+WORDS = {NUMBER: "the syscall number", ARCHITECTURE: "the architecture", 2: "the instruction pointer, low half",
          3: "the instruction pointer, high half"}
 # linux/bpf_common.h: classes of codes, and the one miscellaneous code that changes the accumulator.
 LOADS, ALU, JUMPS, RETURNS, TXA = 0, 4, 5, 6, 0x87
@@ -116,11 +116,11 @@ def _meaning(place: int, insn: Instruction, known: Known, table: Table, count: i
         at = insn.word - ARGUMENTS
         return WORDS.get(insn.word) or f"argument {at // 2}, {'high' if at % 2 else 'low'} half"
     if insn.code == RETURN_CONSTANT:
-        action, data = ACTIONS.get(insn.k >> 16, "no action of seccomp(2)"), insn.k & 0xFFFF
+        action, data = ACTIONS.get(insn.k >> 16, "an unknown action"), insn.k & 0xFFFF
         return f"{action} {data}" if data or action == "ERRNO" else action
     if insn.kind != JUMPS or (insn.code != JUMP and insn.code & 0xF0 not in (JEQ, JGT, JGE, JSET)):
         return None
-    shown = [f"{it}" if it < count else f"{it}, which is outside" for it in insn.targets(place)]
+    shown = [f"{it}" if it < count else f"{it}, which is out of range" for it in insn.targets(place)]
     what = _tested(insn, known, table) if insn.code != JUMP else None
     return (f"{what}: " if what else "") + f"to {shown[0]}" + (f", else {shown[1]}" if len(shown) > 1 else "")
 

@@ -15,10 +15,10 @@ LIKENESS = 0.7
 COMMENT = "comment"
 # What engines alone read, in profiles of their own (Seccomp and Syscall in containers-common's pkg/seccomp/types.go,
 # and in moby's profiles/seccomp/seccomp.go).
-ENGINES = {"defaultErrno": "podman alone reads defaultErrno, an errno's name or its number as a text, and takes it for "
-                           "defaultErrnoRet",
-           "errno": "podman alone reads errno, an errno's name or its number as a text, and takes it for errnoRet",
-           "name": "engines alone read name, and none takes it beside names"}
+ENGINES = {"defaultErrno": "only podman reads defaultErrno, an errno's name or its number as a string, and takes it "
+                           "for defaultErrnoRet",
+           "errno": "only podman reads errno, an errno's name or its number as a string, and takes it for errnoRet",
+           "name": "only engines read name, and none takes it beside names"}
 
 
 @dataclass
@@ -53,7 +53,7 @@ class Members:
         for name in value.repeated:
             keeps = isinstance(members.get(name), list) and isinstance(members[name][0], dict)
             then = ", of whose entries programs in Go keep what the one before had there" if keeps else ""
-            yield Finding("repeated-member", f"{where}: {shown(name)} stands there more than once, and the last is "
+            yield Finding("repeated-member", f"{where}: {shown(name)} is repeated, and the last one is "
                           f"taken{then}", {**at, "member": name})
 
     def of_condition(self, condition: Object, where: str, place: int) -> Iterator[Finding]:

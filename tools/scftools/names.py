@@ -37,8 +37,8 @@ def of_names(top: Object, table: Table) -> Iterator[Finding]:
     places = _places(top)
     skipped = tables.told_apart([name for name in places if table.number_of(name) is None], table)
     for name, near in skipped.unknown:
-        nearest = f"; the nearest name of the table is {near}" if near else ""
-        yield Finding("unknown-name", f"entry {places[name]}: no known syscall is called {shown(name)}{nearest}",
+        nearest = f"; the nearest name in the table is {near}" if near else ""
+        yield Finding("unknown-name", f"entry {places[name]}: no known syscall is named {shown(name)}{nearest}",
                       {"entry": places[name], "name": name, "nearest": near})
     for name in skipped.left_out:
         yield Finding("left-out-name", f"entry {places[name]}: {name} is a syscall of x86-64 that this table "

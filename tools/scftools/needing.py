@@ -27,6 +27,8 @@ if TYPE_CHECKING:
     Answers = tuple[Call | None, tuple[Call, Answer] | None]
 
 IS_MADE, ISNT_MADE, DEPENDS, UNTOLD = "made", "not made", "depends", "untold"
+# The words of text output; JSON has those above.
+WORDS = {IS_MADE: "allowed", ISNT_MADE: "not allowed", DEPENDS: DEPENDS, UNTOLD: "undecided"}
 # The most entries with conditions for one name, and the most calls that are judged, each with each of its values.
 CONDITIONS, WAYS = 64, 2000
 REFERRED, EQUAL = ("SCMP_ACT_TRACE", 1), "SCMP_CMP_EQ"
@@ -120,7 +122,7 @@ class Judge:
         self.filter = trial.filter_of(profile)
         top = entries.read(profile)
         if top is None:
-            raise program.Refused("the profile's JSON can't be looked at beside scf", program.FAILED)
+            raise program.Refused("the profile's JSON can't be parsed by this tool", program.FAILED)
         self.top: Object = top
         looked: dict[int | None, set[int]] = {}
         for entry in entries.entries_of(top, self.table.number_of):
@@ -206,7 +208,7 @@ def _of_judged(one: Judged) -> Iterator[str]:
         args = f"arg {unsure[0]}" if len(unsure) == 1 else f"args {', '.join(map(str, unsure))}"
         yield f"{one.traced.told()} depends on {args}"
         if one.made and one.refused:
-            yield (f"# made with {_arguments(one.made)}; with {_arguments(one.refused[0])} it is {one.refused[1]}")
+            yield (f"# allowed with {_arguments(one.made)}; with {_arguments(one.refused[0])} it is {one.refused[1]}")
     else:
         yield f"{one.traced.told()} {one.line}"
     seen = one.traced.seen
@@ -221,20 +223,20 @@ def _of_unjudged(needs: Needs) -> Iterator[str]:
     """What in the log wasn't judged."""
     elsewhere = tables.names_elsewhere() if needs.unnamed else ()
     for name, count in sorted(needs.unnamed.items())[:tables.TOLD]:
-        yield (f"not judged, since the table names no such call: {name}, calls of it: {count}"
-               + ("; it is one of other architectures alone" if name in elsewhere else ""))
+        yield (f"not judged, since the table doesn't have it: {name}, times: {count}"
+               + ("; it is a syscall of other architectures alone" if name in elsewhere else ""))
     if len(needs.unnamed) > tables.TOLD:
         yield f"more such names: {len(needs.unnamed) - tables.TOLD}"
     if needs.foreign:
-        yield f"not judged, since they are calls of processes that don't run in 64 bit mode: {needs.foreign}"
+        yield f"syscalls not judged, since their processes don't run in 64-bit mode: {needs.foreign}"
     if needs.cut:
-        yield f"not judged, since the log lacks their beginning or their end: calls: {needs.cut}"
+        yield f"syscalls not judged, since the log lacks their beginning or end: {needs.cut}"
     if needs.left:
-        yield f"not judged, since there are too many with other arguments: calls: {needs.left}"
+        yield f"syscalls not judged, since there are too many with other arguments: {needs.left}"
     if needs.unread:
-        yield f"not judged, since strace didn't write them, or they can't be read: lines: {needs.unread}"
+        yield f"lines not judged, since they aren't strace's or can't be parsed: {needs.unread}"
     if not needs.judged:
-        yield "no call was found in the log"
+        yield "the log has no syscall"
 
 
 def lines(needs: Needs) -> Iterator[str]:
@@ -243,9 +245,9 @@ def lines(needs: Needs) -> Iterator[str]:
         for one in needs.of(fate):
             yield from _of_judged(one)
     yield from (f"# {line}" for line in _of_unjudged(needs))
-    counts = ", ".join(f"{fate} {len(needs.of(fate))}" for fate in (IS_MADE, ISNT_MADE, DEPENDS, UNTOLD)
+    counts = ", ".join(f"{WORDS[fate]} {len(needs.of(fate))}" for fate in (IS_MADE, ISNT_MADE, DEPENDS, UNTOLD)
                        if fate != UNTOLD or needs.of(UNTOLD))
-    yield f"# calls, each with the arguments that conditions look at: {counts}"
+    yield f"# syscalls, each with the arguments that conditions test: {counts}"
 
 
 def as_json(needs: Needs, table: Table) -> dict[str, object]:

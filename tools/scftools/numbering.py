@@ -30,7 +30,7 @@ def _add(calls: dict[str, int], name: str, digits: str, line: int | None = None)
     if number >= X32:
         raise program.Refused(f"{at}the number of {name} isn't below {X32}")
     if calls.setdefault(name, number) != number:
-        raise program.Refused(f"{at}{name} has the numbers {calls[name]} and {number}")
+        raise program.Refused(f"{at}{name} has two numbers, {calls[name]} and {number}")
 
 
 def of_header(text: str) -> dict[str, int]:
@@ -56,9 +56,9 @@ def of_source_table(text: str) -> dict[str, int]:
         if len(fields) < 3 or not re.fullmatch(r"[0-9]+", fields[0], re.A):
             raise program.Refused(f"line {line} has no number, ABI and name: '{row[:80]}'")
         if fields[1] not in ("common", "64", "x32"):
-            raise program.Refused(f"line {line}: the ABI '{fields[1][:80]}' is none of x86-64's: common, 64, x32")
+            raise program.Refused(f"line {line}: the ABI '{fields[1][:80]}' isn't common, 64 or x32")
         if not NAME.fullmatch(fields[2]):
-            raise program.Refused(f"line {line}: '{fields[2][:80]}' is no name")
+            raise program.Refused(f"line {line}: '{fields[2][:80]}' isn't a name")
         if fields[1] != "x32":
             _add(calls, fields[2], fields[0], line)
     return calls
@@ -72,8 +72,8 @@ def calls_of(data: bytes) -> dict[str, int]:
     if not calls and first and re.match(r"[0-9]+[ \t]+[A-Za-z0-9]+[ \t]", first[1]):
         calls = of_source_table(text)
     if not calls:
-        raise program.Refused("the header numbers no call: it has no line `#define __NR_NAME NUMBER`, and no row "
-                              "`NUMBER ABI NAME` as syscall_64.tbl")
+        raise program.Refused("the header has no syscall: no line `#define __NR_NAME NUMBER`, and no row `NUMBER ABI "
+                              "NAME` as in syscall_64.tbl")
     return calls
 
 
@@ -83,7 +83,7 @@ def _library():
     try:
         return ctypes.CDLL("libseccomp.so.2")
     except OSError as error:
-        raise program.Refused("libseccomp can't be asked: there is no library libseccomp.so.2",
+        raise program.Refused("there is no libseccomp.so.2",
                               program.FAILED) from error
 
 
@@ -121,7 +121,7 @@ def version_of_libseccomp(library) -> str:
 
     library.seccomp_version.restype = ctypes.POINTER(ctypes.c_uint * 3)
     found = library.seccomp_version()
-    return ".".join(map(str, found.contents)) if found else "of no known version"
+    return ".".join(map(str, found.contents)) if found else "of unknown version"
 
 
 def of_libseccomp() -> tuple[str, dict[str, int]]:

@@ -207,7 +207,7 @@ def _too_deep(text: str) -> int | None:
 
 
 def _refuse(number: str) -> None:
-    raise ValueError(f"the profile has the number {number}, which JSON doesn't have")
+    raise ValueError(f"the profile has {number}, which isn't a JSON number")
 
 
 def where_json_ends(data: bytes) -> str:
@@ -223,9 +223,9 @@ def where_json_ends(data: bytes) -> str:
             return f"at {_place(text, deep)} the profile is nested more than {DEEPEST} deep"
         json.loads(text, parse_int=str, parse_float=str, parse_constant=_refuse)
     except json.JSONDecodeError as error:
-        return f"a JSON reader stops at {_place(text, error.pos)}: {error.msg}"
+        return f"the JSON is malformed at {_place(text, error.pos)}: {error.msg}"
     except ValueError as error:
         return str(error)
     except RecursionError:
         pass
-    return "Python's JSON reader doesn't stop: look for halves of surrogate pairs, and for numbers past all range"
+    return "Python's JSON parser accepts it: look for unpaired surrogates, and for numbers out of range"

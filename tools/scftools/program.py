@@ -65,7 +65,7 @@ def start(main: Callable[[], int]) -> NoReturn:
         output.say(name(), str(why))
         status = why.status
     except MemoryError:
-        output.say(name(), "memory was refused")
+        output.say(name(), "out of memory")
         status = FAILED
     except OSError as error:
         what = "the output failed: " if isinstance(error, output.Failed) else \

@@ -57,7 +57,7 @@ def checked(status: int, report: Report, scope: str) -> Report:
     verdict = report.verdict
     expected = None if verdict is None else 0 if verdict.holds else 1 if verdict.fails else program.UNKNOWN
     if status != expected or (scope == CALLS and len(report.calls) != len(report.lines) - 1):
-        raise program.Refused(f"scf ended with status {status} and lines that aren't understood", program.FAILED)
+        raise program.Refused(f"scf ended with status {status} and unexpected output", program.FAILED)
     return report
 
 

@@ -110,7 +110,7 @@ def answer_of_errno(text: str) -> Answer:
     if number is None and len(text) <= 16 and NUMBER.fullmatch(text):
         number = int(re.sub("^([+-]?)0(?=[0-7])", r"\g<1>0o", text), 0)
     if number is None or number > MOST_ERRNO:
-        raise Refused(f"'{text[:64]}' is no errno")
+        raise Refused(f"'{text[:64]}' isn't an errno")
     return Answer("SCMP_ACT_ERRNO", number)
 
 
@@ -124,7 +124,7 @@ def architectures_of(text: str) -> list[str]:
     words = text.split()
     for word in words:
         if word not in ARCHITECTURES:
-            raise Refused(f"'{word[:64]}' is no architecture")
+            raise Refused(f"'{word[:64]}' isn't an architecture")
     return list(dict.fromkeys([OCI_ARCH, *(ARCHITECTURES[word] for word in words)])) if words else list(LOCAL)
 
 
@@ -182,7 +182,7 @@ class Reader:
         """Adds a word of a list to what was listed before, or takes it away, as systemd merges assignments."""
         name, colon, text = word.partition(":")
         if colon and not is_inverted:
-            self.tell(f"{word} left out: a call that is allowed takes no errno")
+            self.tell(f"{word} left out: a syscall that is allowed takes no errno")
             return
         try:
             own = answer_of_errno(text) if colon else None

@@ -99,7 +99,7 @@ def of_threads(stack: Stack, found: Found) -> Iterator[str]:
             line = f"{who} has {stack.told}" + (f", in each of its {count} threads" if count > 1 else "")
         if not stack.filters and not stack.is_strict:
             line += ": they aren't confined" if len(threads) > 1 else ": it isn't confined"
-            line += ", and all calls are made"
+            line += ", and every syscall is allowed"
         yield line
 
 

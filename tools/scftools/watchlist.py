@@ -53,9 +53,9 @@ class Needed:
 
 # It isn't the program that makes these (arch/x86/kernel/signal.c; vdso and libc return from a handler by sigreturn(2)).
 NEEDED = (
-    Needed("no-restart", "restart_syscall", RESTARTED, "a thread that is stopped in such a call, as by SIGSTOP or a "
-           "debugger, makes it to go on, and"),
-    Needed("no-return", "rt_sigreturn", (("rt_sigaction", ()),), "each signal handler ends by it, and it"))
+    Needed("no-restart", "restart_syscall", RESTARTED, "a thread stopped in such a syscall, by SIGSTOP or a "
+           "debugger, calls it to continue, and"),
+    Needed("no-return", "rt_sigreturn", (("rt_sigaction", ()),), "each signal handler ends with it, and it"))
 # Of newer syscalls what libc makes in their place, if they are ENOSYS and not if they are any other errno (glibc's
 # __clone_internal and faccessat); with arguments of a thread and of a fork, by linux/sched.h.
 FALLBACKS = (("clone3", "clone", (0x3D0F00, 0x1200011)), ("faccessat2", "faccessat", (0,)))
@@ -123,7 +123,7 @@ class Watch:
                 continue
             more: dict[str, object] = {"name": name, "number": found.number, "reason": danger.reason}
             if found.verdict.call is None:
-                yield False, Finding("dangerous-call", f"it couldn't be told whether {name} ({found.number}) is "
+                yield False, Finding("dangerous-call", f"undecided whether {name} ({found.number}) is "
                                      f"allowed: {found.verdict.word}", more)
             else:
                 yield True, self._allowed(name, found.verdict.call, danger, more)
@@ -131,7 +131,7 @@ class Watch:
     def _allowed(self, name: str, call: Call, danger: Dangerous, more: dict[str, object]) -> Finding:
         is_always, arguments = self._is_always(name), [hex(it) for it in call.arguments]
         _, where, entry = self._answer(call)
-        how = "" if is_always else f" with some arguments, as {' '.join(arguments)},"
+        how = "" if is_always else f" with some arguments, such as {' '.join(arguments)},"
         return Finding("dangerous-call", f"{call.told(self.trial.table)} is allowed{how} {where}: {danger.reason}",
                        {**more, "is_always": is_always, "arguments": arguments, "entry": entry})
 
@@ -147,7 +147,7 @@ class Watch:
         less, more = self.not_always.get(number), {"names": list(users)}
         answer, where, entry = self._answer(less.verdict.call) if less and less.verdict.call else (None, "", None)
         if answer is None:
-            return False, Finding(one.kind, f"it couldn't be told whether {one.name} ({number}) is always allowed",
+            return False, Finding(one.kind, f"undecided whether {one.name} ({number}) is always allowed",
                                   more)
         return True, Finding(one.kind, f"{listed(users, 'and')} {'is' if len(users) == 1 else 'are'} allowed, and "
                              f"{one.name} ({number}) is not: {one.why} is answered {where} {answer.told()}",
@@ -164,5 +164,5 @@ class Watch:
             if answer and answer.refuses and (answer.action, answer.data) != ("ERRNO", ENOSYS) and \
                     any(it and it.lets_through for it in instead):
                 yield Finding("no-fallback", f"{newer} ({numbers[0]}) is answered {where} {answer}, and {older} is "
-                              f"allowed: libc makes {older} in its place only after ENOSYS, which is errno {ENOSYS}",
+                              f"allowed: libc calls {older} instead only after ENOSYS, which is errno {ENOSYS}",
                               {"name": newer, "instead": older, "entry": entry})

@@ -82,12 +82,12 @@ class CallTable(Case):
         self.assertRegex(done[2], r"^call-table: [ -~]*\n$")
 
     def test_a_wrong_table_of_the_source(self):
-        self.refuses(b"0 common read sys_read\n1 i386 exit sys_exit\n", "line 2: the ABI 'i386' is none of x86-64's")
+        self.refuses(b"0 common read sys_read\n1 i386 exit sys_exit\n", "line 2: the ABI 'i386' isn't common, 64 or x32")
         self.refuses(b"0 common read sys_read\nx common exit sys_exit\n", "line 2 has no number, ABI and name")
         self.refuses(b"0 common read sys_read\n1 common\n", "line 2 has no number, ABI and name: '1 common'")
-        self.refuses(b"0 common read sys_read\n1 common a\x1b[2Jb sys\n", r"line 2: 'a\x1b[2Jb' is no name")
-        self.refuses(b"0 common read sys_read\n1 common \xff\xfe sys\n", r"'\xff\xfe' is no name")
-        self.refuses(b"0 common read sys_read\n1 common read sys_read\n", "line 2: read has the numbers 0 and 1")
+        self.refuses(b"0 common read sys_read\n1 common a\x1b[2Jb sys\n", r"line 2: 'a\x1b[2Jb' isn't a name")
+        self.refuses(b"0 common read sys_read\n1 common \xff\xfe sys\n", r"'\xff\xfe' isn't a name")
+        self.refuses(b"0 common read sys_read\n1 common read sys_read\n", "line 2: read has two numbers, 0 and 1")
         self.refuses(b"1073741824 common read sys_read\n", "line 1: the number of read isn't below 1073741824")
         self.refuses(b"9" * 5000 + b" common read sys_read\n", "line 1: the number of read isn't below 1073741824")
         self.refuses(b"\n\n#\n\n0 common read sys_read\n\n\n1 common\n", "line 8 has no number, ABI and name")
@@ -101,10 +101,10 @@ class CallTable(Case):
     def test_a_header_without_calls(self):
         for given in (b"", b"#define __NR_syscalls 3\n", b"/* #define __NR_a 1 */\n", b"\x7fELF\0\0", b"read 0\n",
                       b"/* #define __NR_a 1\n", b"\n" * 1000):
-            self.refuses(given, "numbers no call")
+            self.refuses(given, "has no syscall")
 
     def test_a_wrong_header(self):
-        self.refuses(b"#define __NR_read 0\n#define __NR_read 1\n", "read has the numbers 0 and 1")
+        self.refuses(b"#define __NR_read 0\n#define __NR_read 1\n", "read has two numbers, 0 and 1")
         self.refuses(b"#define __NR_read " + b"1" * 5000, "the number of read isn't below 1073741824")
         self.assertEqual(self.run_tool("call-table", given=b"#define __NR_a 1\n#define __NR_a 1\n"), (0, "a 1\n", ""))
 

@@ -107,7 +107,7 @@ class Program(Case):
                                       self.file("t", b"read 0\nwrite 1\n"))
         self.assertEqual((status, lines), (1, [
             "differs", "more 0, less 0, otherwise 0",
-            "# numbers that the table doesn't name are answered by the defaults; one of them:",
+            "# numbers that the table doesn't name get the defaults, for example:",
             f"2 otherwise {NO_ARGUMENTS} old ERRNO 1 default new ERRNO 38 default",
             "# old: default: ERRNO 1: the syscall fails with EPERM",
             "# new: default: ERRNO 38: the syscall fails with ENOSYS"]))
@@ -203,7 +203,7 @@ class Program(Case):
                                       self.file("t", b"read 0\nwrite 1\n"))
         self.assertEqual((status, lines[0], lines[1]), (4, "unfinished", "more 0, less 0, otherwise 0, unfinished 2"))
         self.assertIn("0 read unfinished", lines)
-        self.assertIn("# whether numbers that the table doesn't name are answered alike: unfinished", lines)
+        self.assertIn("# numbers that the table doesn't name: unfinished", lines)
 
     def test_undecided(self):
         """By a program that stands in for scf: nothing is guessed of the calls."""

@@ -83,7 +83,7 @@ class Hostile(Case):
             for at in range(600000):
                 file.write(b'"%d":0,' % at)
             file.write(b'"599999":0}')
-        self.ends(path, 1, "the member '599999' stands twice in one object")
+        self.ends(path, 1, "the member '599999' is repeated in one object")
 
     def test_many_names(self):
         """Those that are left out are told up to a limit, and counted behind it."""
@@ -127,8 +127,8 @@ class Hostile(Case):
         self.assertEqual(json.loads(data)["syscalls"], [{"names": [bad, "\ud800"], "action": ALLOW}])
         self.assertNotIn(b"\x1b", data)
         for given, says in ((engine(**{bad: 0, "Syscalls": 0}), "which programs in Go read as 'syscalls'"),
-                            (engine({"names": ["a"], "action": ALLOW, "errno": bad}), "is no errno"),
-                            (b'{"\\u001b":1,"\\u001b":2}', "the member '\\x1b' stands twice"),
+                            (engine({"names": ["a"], "action": ALLOW, "errno": bad}), "isn't an errno"),
+                            (b'{"\\u001b":1,"\\u001b":2}', "the member '\\x1b' is repeated"),
                             (b'{"\x1b', "isn't JSON"), (b'{"a":"\xff"}', "isn't UTF-8")):
             self.ends(self.file("given", given), 1, says)
 

@@ -51,7 +51,7 @@ class Programs(Confined):
             for pid in ("0", "-1", "x", "1.5", "4294967296", "²", "9" * 5000, "\x1b[2J\n"):
                 status, out, err = self.run_tool(name, "--", pid, "out")
                 self.assertEqual((status, out), (2, ""))
-                self.assertIn("is no number of a process", err)
+                self.assertIn("isn't a process ID", err)
                 self.assertNotIn("\x1b", err)
         self.assertEqual(self.run_tool("filters-of", "--thread", "0", "--", "1", "out")[0], 2)
         self.assertEqual(self.run_tool("verify-process", "--native", "--calls", "1", "p")[0], 2)
@@ -103,7 +103,7 @@ class Programs(Confined):
         status, out, err = self.run_words(words)
         if err.startswith("unshare:"):
             self.skipTest(err)
-        self.assertEqual(out, "# process 1 (sh) has no filter: it isn't confined, and all calls are made\nstatus 1\n")
+        self.assertEqual(out, "# process 1 (sh) has no filter: it isn't confined, and every syscall is allowed\nstatus 1\n")
         self.assertEqual((status, err), (3, "filters-of: process 1 has no filter\n"))
 
     def beside(self):
@@ -153,7 +153,7 @@ class Programs(Confined):
             out, err = held.communicate(timeout=PATIENCE)
             # so it was ended by the signal, and not since the child didn't stop, which it says after some seconds
             self.assertEqual((held.returncode, out, err),
-                             (-number, "", f"filters-of: ended by {number.name}; what was held runs on\n"))
+                             (-number, "", f"filters-of: ended by {number.name}; all stopped threads continue\n"))
             self.assertEqual(status_of(child.pid)["TracerPid"], "0")
         ignoring = ("import os, signal, sys; signal.signal(signal.SIGHUP, signal.SIG_IGN); "
                     "os.execv(sys.argv[1], sys.argv[1:])")
@@ -317,7 +317,7 @@ class VerifyProcess(Confined):
         first, second = out.split("\n\n")
         self.assertEqual(status, 1)
         self.assertEqual(first, f"# thread {child.threads[1]} of {self.called(child)} has no filter: it isn't "
-                                f"confined, and all calls are made")
+                                f"confined, and every syscall is allowed")
         self.assertTrue(second.startswith("same\n"), out)
         self.runs_on(child)
 
@@ -356,7 +356,7 @@ class VerifyProcess(Confined):
     def test_strict_mode(self):
         child = self.strict_child()
         self.assertEqual(self.verify(child, ALLOWS_ALL),
-                         (4, f"# {self.called(child)} has no filter, but the strict mode of seccomp(2)\n"))
+                         (4, f"# {self.called(child)} has no filter, but seccomp's strict mode\n"))
         self.assertEqual(self.run_tool("filters-of", str(child.pid), "out")[0], 3)
 
     @here
@@ -366,7 +366,7 @@ class VerifyProcess(Confined):
         self.assertEqual(status, 0)
         said = comments(out)
         self.assertIn("compared: x86-64 syscalls; other ABIs are only checked for any allowed syscall:", said)
-        self.assertIn("other ABIs: every i386 and x32 syscall is denied; an x86-64 kernel has no others", said)
+        self.assertIn("other ABIs: every i386 and x32 syscall is denied; the kernel has no others", said)
         untested = load(0) + jeq(MOUNT, 0, 1) + ret(EPERM) + ret(ALLOW)
         status, out = self.verify(self.child([untested]), refuses("mount", architectures=["SCMP_ARCH_X86_64",
                                                                                          "SCMP_ARCH_X86"]))

@@ -69,17 +69,17 @@ class Usage(Linted):
     def test_nothing(self):
         clean = profile(entry("read", "write", comment="as it is"), defaultErrnoRet=38)
         for words in ((), ("--strict",)):
-            self.assertEqual(self.run_lint(clean, *words), (0, "# nothing was found\n", ""))
+            self.assertEqual(self.run_lint(clean, *words), (0, "# no findings\n", ""))
         self.assertEqual(self.report(clean, "--strict"), {"status": 0, "findings": [], "untold": []})
 
     def test_strict_and_except(self):
         odd = profile(entry("umont2"), default=ALLOW)
         self.assertEqual(self.run_lint(odd, "--except", "dangerous-call"), (0, (
-            "unknown-name: entry 0: no known syscall is called umont2; the nearest name of the table is "
+            "unknown-name: entry 0: no known syscall is named umont2; the nearest name in the table is "
             "umount2\ndefault-allows: SCMP_ACT_ALLOW: a syscall that no entry names is allowed\n# findings: 2\n"), ""))
         self.assertEqual(self.run_lint(odd, "--strict")[0], 1)
         without = ("--except", "unknown-name", "--except=default-allows", "--except=dangerous-call")
-        self.assertEqual(self.run_lint(odd, "--strict", *without), (0, "# nothing was found\n", ""))
+        self.assertEqual(self.run_lint(odd, "--strict", *without), (0, "# no findings\n", ""))
         status, out, err = self.run_lint(odd, "--except", "everything")
         self.assertEqual((status, out), (2, ""))
         self.assertIn("invalid choice", err)
@@ -123,17 +123,17 @@ class Usage(Linted):
 
     def test_a_refused_profile_is_not_one_without_findings(self):
         for text, last in (
-                (b"{", "the profile is refused: no more was looked at"),
+                (b"{", "the profile is refused; nothing else was checked"),
                 (json.dumps(profile(entry("read"), {"names": ["write"]})).encode(),
-                 "the profile is refused: no more was looked at"),
+                 "the profile is refused; nothing else was checked"),
                 (json.dumps(profile(entry("reed"), entry("read"), entry("read", action=ERRNO, errnoRet=2))).encode(),
                  "the profile is refused; findings that need no comparison: 2")):
             status, out, _ = self.run_lint(text)
             self.assertEqual((status, out.split("\n")[-2]), (1, f"# {last}"))
             status, out, _ = self.run_lint(text, *(f"--except={kind}" for kind in ("conflict", "unknown-name")))
-            self.assertEqual((status, out.split("\n")[-2]), (1, "# the profile is refused: no more was looked at"))
+            self.assertEqual((status, out.split("\n")[-2]), (1, "# the profile is refused; nothing else was checked"))
         status, out, _ = self.run_lint(profile(), "--table", self.file("bad.table", b"read\n"))
-        self.assertEqual((status, out.split("\n")[-2]), (1, "# the table is refused: no more was looked at"))
+        self.assertEqual((status, out.split("\n")[-2]), (1, "# the table is refused; nothing else was checked"))
 
     def test_actions_and_operators_that_there_are_not(self):
         """scf names the entry of the first; all of them are found, each with what is like it."""
@@ -154,7 +154,7 @@ class Usage(Linted):
         entries = [entry("socket", args=[(0, "GT", it), (1, "GT", it)]) for it in range(2**40, 2**40 + 4000)]
         status, out, _ = self.run_lint(profile(entry("reed"), *entries))
         self.assertEqual((status, out.split("\n")[0]), (1, "fault compile TooLarge"))
-        self.assertIn("\nunknown-name: entry 0: no known syscall is called reed; the nearest name of the "
+        self.assertIn("\nunknown-name: entry 0: no known syscall is named reed; the nearest name in the "
                       "table is read\n", out)
 
     def test_what_could_not_be_told(self):
@@ -164,8 +164,8 @@ class Usage(Linted):
         self.assertEqual({it["verdict"] for it in report["untold"] if it["kind"] == "without-effect"}, {"unfinished"})
         self.assertTrue(any(it["kind"] == "dangerous-call" for it in report["untold"]))
         out = self.run_lint(given, "--limit=0")[1]
-        self.assertIn("# without-effect: it couldn't be told which entries have an effect: unfinished\n", out)
-        self.assertTrue(out.split("\n")[-2].startswith("# nothing was found; couldn't be told: "), out)
+        self.assertIn("# without-effect: undecided which entries have an effect: unfinished\n", out)
+        self.assertTrue(out.split("\n")[-2].startswith("# no findings; undecided: "), out)
         self.report(given, "--limit=0", "--strict", status=4)
         self.report(profile(entry("reed")), "--limit=0", "--strict", status=1)
 
@@ -175,9 +175,9 @@ class Names(Linted):
         kinds = ("unknown-name", "other-architectures", "left-out-name")
         self.assertEqual(self.found(profile(entry("read"), entry("umont2", "zzqqzz")), kinds=kinds), [
             {"kind": "unknown-name", "entry": 1, "name": "umont2", "nearest": "umount2",
-             "text": "entry 1: no known syscall is called umont2; the nearest name of the table is umount2"},
+             "text": "entry 1: no known syscall is named umont2; the nearest name in the table is umount2"},
             {"kind": "unknown-name", "entry": 1, "name": "zzqqzz", "nearest": None,
-             "text": "entry 1: no known syscall is called zzqqzz"}])
+             "text": "entry 1: no known syscall is named zzqqzz"}])
         self.assertEqual(self.found(profile(entry("read", "umount2"), default=ERRNO), kinds=kinds), [])
 
     def test_names_of_other_architectures_are_counted(self):
@@ -229,7 +229,7 @@ class Members(Linted):
         self.assertEqual([(it["kind"], it.get("entry"), it["member"]) for it in found],
                          [("engine-member", None, "defaultErrno"), ("engine-member", 0, "errno"),
                           ("engine-member", 0, "name")])
-        self.assertIn("entry 0: podman alone reads errno, an errno's name or its number as a text, and takes it for "
+        self.assertIn("entry 0: only podman reads errno, an errno's name or its number as a string, and takes it for "
                       "errnoRet: ", self.run_lint(given)[1])
 
     def test_members_that_programs_in_go_read_as_others(self):
@@ -501,8 +501,8 @@ class Restart(Running):
             self.assertEqual(self.missing(profile(entry(name, args=args))), [[name]] * is_found, args)
 
     def test_its_words(self):
-        self.assertIn("no-restart: nanosleep and poll are allowed, and restart_syscall (219) is not: a thread that is "
-                      "stopped in such a call, as by SIGSTOP or a debugger, makes it to go on, and is answered by "
+        self.assertIn("no-restart: nanosleep and poll are allowed, and restart_syscall (219) is not: a thread "
+                      "stopped in such a syscall, by SIGSTOP or a debugger, calls it to continue, and is answered by "
                       "the default KILL_PROCESS: the process ends\n",
                       self.run_lint(profile(entry("poll", "nanosleep"), default="SCMP_ACT_KILL_PROCESS"))[1])
 
@@ -837,7 +837,7 @@ class Effects(Linted):
         self.assertEqual(self.effects(entry("read"), entry("waitpid", "umont2")), [])
 
     def test_what_is_said_behind_them(self):
-        same = "# scf says same of the profile without all that is covered or without effect\n"
+        same = "# scf proves the profile the same without all that is covered or without effect\n"
         self.assertIn(same, self.run_lint(profile(entry("read"), entry("read")))[1])
         self.assertNotIn(same, self.run_lint(profile(entry("read"), entry("reed")))[1])
         self.assertEqual(self.report(profile(entry("read"), entry("read")))["verdict"], "same")
@@ -996,4 +996,4 @@ class Container(Linted):
         given["syscalls"].append(entry("personality", "read"))
         self.assertEqual([(it["entry"], it["names"]) for it in self.found(given, kinds=("covered", "without-effect"))],
                          [*((it, ["personality"]) for it in range(1, 5)), (7, ["read"])])
-        self.assertEqual(self.run_lint(profile_of("read"))[1], "# nothing was found\n")
+        self.assertEqual(self.run_lint(profile_of("read"))[1], "# no findings\n")

@@ -28,7 +28,7 @@ class List(Case):
             "0  ld [4]                 // the architecture",
             "1  jeq #0xc000003e, 1, 0  // x86-64: to 3, else 2",
             "2  ret #0x80000000        // KILL_PROCESS",
-            "3  ld [0]                 // the call's number",
+            "3  ld [0]                 // the syscall number",
             "4  jge #0x40000000, 0, 1  // x32: to 5, else 6",
             "5  ret #0x50001           // ERRNO 1",
             "6  jeq #0xe7, 0, 1        // exit_group: to 7, else 8",
@@ -48,8 +48,8 @@ class List(Case):
     def test_targets_are_absolute(self):
         data = insn(0x05, 2) + insn(0x05, 0) + ret(0) + jeq(1, 0, 1) + ret(0) + insn(0x4D, 0, 200, 0) + ret(0)
         self.assertEqual(self.meanings(data), ["to 3", "to 2", "KILL_THREAD", "to 4, else 5", "KILL_THREAD",
-                                               "to 206, which is outside, else 6", "KILL_THREAD"])
-        self.assertEqual(self.meanings(insn(0x05, 0xFFFFFFFF)), ["to 4294967296, which is outside"])
+                                               "to 206, which is out of range, else 6", "KILL_THREAD"])
+        self.assertEqual(self.meanings(insn(0x05, 0xFFFFFFFF)), ["to 4294967296, which is out of range"])
 
     def test_calls_are_named_where_the_number_is_tested(self):
         tests = (jeq(0, 0, 0), insn(0x25, 1, 0, 0), jge(2, 0, 0), insn(0x45, 3, 0, 0), jeq(99999, 0, 0),
@@ -82,20 +82,20 @@ class List(Case):
 
     def test_calls_of_another_architecture_are_not_named(self):
         data = load(4) + jeq(I386, 0, 2) + load(0) + jeq(1, 0, 0) + load(0) + jeq(1, 0, 0) + ret(0)
-        self.assertEqual(self.meanings(data), ["the architecture", "i386: to 2, else 4", "the call's number",
-                                               "number 1 of i386: to 4, else 4", "the call's number",
+        self.assertEqual(self.meanings(data), ["the architecture", "i386: to 2, else 4", "the syscall number",
+                                               "number 1 of i386: to 4, else 4", "the syscall number",
                                                "write: to 6, else 6", "KILL_THREAD"])
 
     def test_words_of_a_call(self):
         names = self.meanings(b"".join(load(4 * at) for at in range(16)) + load(64) + load(2))
-        self.assertEqual(names[:4], ["the call's number", "the architecture", "the instruction pointer, low half",
+        self.assertEqual(names[:4], ["the syscall number", "the architecture", "the instruction pointer, low half",
                                      "the instruction pointer, high half"])
         self.assertEqual(names[4:16], [f"argument {at}, {half} half" for at in range(6) for half in ("low", "high")])
         self.assertEqual(names[16:], ["", ""])
 
     def test_answers(self):
         self.assertEqual(self.meanings(ret(0x00050000) + ret(0x7FFF0002) + ret(0x12340000)),
-                         ["ERRNO 0", "ALLOW 2", "no action of seccomp(2)"])
+                         ["ERRNO 0", "ALLOW 2", "an unknown action"])
 
     def test_pipes_and_a_table_of_ones_own(self):
         table = self.file("t", b"look 231\n")

@@ -22,7 +22,7 @@ ALLOW, ERRNO = "SCMP_ACT_ALLOW", "SCMP_ACT_ERRNO"
 HIGH = 1 << 64
 # What each least profile allows.
 ALWAYS = ["restart_syscall", "rt_sigreturn", "exit", "exit_group"]
-COUNTED = "# calls, each with the arguments that conditions look at"
+COUNTED = "# syscalls, each with the arguments that conditions test"
 # A name that opens a bracket where a call may begin.
 BEGUN = re.compile(r"(?m)^(?:\[pid +\d+\] |\d+ +)? *(?:[\d:.]+ +)?(?:\[[0-9a-f]+\] )?([a-z_]\w*)\(", re.A)
 
@@ -220,11 +220,11 @@ class Needs(Judged):
     def test_made_and_not_made(self):
         fates, _, out = self.judged("read(3, 0x7f, 1) = 1\nexit_group(0) = ?\n", 0)
         self.assertEqual(fates, {"read": "made", "exit_group": "made"})
-        self.assertEqual(out, f"{COUNTED}: made 2, not made 0, depends 0\n")
+        self.assertEqual(out, f"{COUNTED}: allowed 2, not allowed 0, depends 0\n")
         fates, report, out = self.judged("1 open(\"a\") = 3\n1 ptrace(1) = 0\n1 open(\"b\") = 3\n1 bpf(1) = 3\n", 1)
         self.assertEqual(fates, {"open": "not made", "ptrace": "made", "bpf": "not made"})
         self.assertEqual(out, "2 open ERRNO 1 default\n# 2 times, first in line 1 of the log\n321 bpf TRACE 1 entry 4\n"
-                              f"# once in line 4 of the log\n{COUNTED}: made 1, not made 2, depends 0\n")
+                              f"# once in line 4 of the log\n{COUNTED}: allowed 1, not allowed 2, depends 0\n")
         first = report["calls"][0]
         self.assertEqual((first["number"], first["count"], first["line"], first["refused"]["answer"],
                           first["refused"]["reason"]), (2, 2, 1, {"action": "ERRNO", "data": 1}, "default"))
@@ -248,7 +248,7 @@ class Needs(Judged):
                              ("0x28", {"action": "ERRNO", "data": 22}))
             self.assertNotEqual(one["made"]["arguments"][0], "0x28")
             self.assertRegex(out.split("\n")[1],
-                             r"^# made with args 0x[0-9a-f]+( 0x0){5}; with args 0x28( 0x0){5} it is ERRNO 22$")
+                             r"^# allowed with args 0x[0-9a-f]+( 0x0){5}; with args 0x28( 0x0){5} it is ERRNO 22$")
 
     def test_conditions_that_do_not_matter(self):
         """An argument isn't known, and the call is made with each of its values, or with none."""
@@ -277,24 +277,24 @@ class Needs(Judged):
         self.assertEqual((fates, report["not_judged"]),
                          ({"read": "made"},
                           {"names": {"no_such_call": 1}, "foreign": 1, "cut": 0, "more": 0, "lines": 1}))
-        for line in ("# not judged, since the table names no such call: no_such_call, calls of it: 1",
-                     "# not judged, since they are calls of processes that don't run in 64 bit mode: 1",
-                     "# not judged, since strace didn't write them, or they can't be read: lines: 1"):
+        for line in ("# not judged, since the table doesn't have it: no_such_call, times: 1",
+                     "# syscalls not judged, since their processes don't run in 64-bit mode: 1",
+                     "# lines not judged, since they aren't strace's or can't be parsed: 1"):
             self.assertIn(f"{line}\n", out)
         self.assertEqual(self.judged("read(1) = 1\nwhat\n", 4)[0], {"read": "made"})
         out = self.judged("read(1) = 1\nmmap2(1) = 1\n" + "".join(f"no{it}(1) = 1\n" for it in range(30)), 4)[2]
-        self.assertIn("names no such call: mmap2, calls of it: 1; it is one of other architectures alone\n", out)
-        self.assertEqual(out.count("# not judged, since the table names no such call: "), 20)
+        self.assertIn("doesn't have it: mmap2, times: 1; it is a syscall of other architectures alone\n", out)
+        self.assertEqual(out.count("# not judged, since the table doesn't have it: "), 20)
         self.assertIn("# more such names: 11\n", out)
         for log in ("", "\n\n", "what\n"):
-            self.assertIn("# no call was found in the log\n", self.judged(log, 4)[2])
+            self.assertIn("# the log has no syscall\n", self.judged(log, 4)[2])
 
     def test_a_call_without_its_beginning(self):
         for log in ("<... ptrace resumed>) = 0", "7 <... ptrace resumed>, 1) = 0",
                     "7 read(3 <unfinished ...>\n7 <... ptrace resumed>) = 0"):
             fates, report, out = self.judged(f"read(1) = 1\n{log}\n", 4)
             self.assertEqual((fates, report["not_judged"]["cut"]), ({"read": "made"}, 1), log)
-            self.assertIn("# not judged, since the log lacks their beginning or their end: calls: 1\n", out)
+            self.assertIn("# syscalls not judged, since the log lacks their beginning or end: 1\n", out)
         self.assertEqual(self.judged("read(1) = 1\n<... what resumed>) = 0\n", 4)[1]["not_judged"]["lines"], 1)
 
     def test_a_number_of_another_abi(self):
@@ -316,7 +316,7 @@ class Needs(Judged):
                 fates, report, out = self.judged(log, 4)
                 self.assertEqual((fates, report["not_judged"]["cut"], report["not_judged"]["lines"]),
                                  ({"read": "made"}, 1, 0))
-                self.assertIn("# not judged, since the log lacks their beginning or their end: calls: 1\n", out)
+                self.assertIn("# syscalls not judged, since the log lacks their beginning or end: 1\n", out)
                 self.assertEqual(self.needs(log, "--profile")[0], 4)
         # what isn't a call's name isn't strace's
         self.assertEqual(self.judged("read(1) = 1\nwhat(1\n", 4)[1]["not_judged"]["lines"], 1)
@@ -425,7 +425,7 @@ class Least(Judged):
     def test_what_is_not_in_it(self):
         made, err = self.least("read(1) = 1\nno_such_call(1) = 1\n", status=4)
         self.assertEqual(made["syscalls"], [{"names": ["read", *ALWAYS], "action": ALLOW}])
-        self.assertEqual(err, "needs: not judged, since the table names no such call: no_such_call, calls of it: 1\n")
+        self.assertEqual(err, "needs: not judged, since the table doesn't have it: no_such_call, times: 1\n")
 
 
 class Hostile(Judged):
@@ -480,14 +480,14 @@ class Hostile(Judged):
         # each of the thousand is judged by two runs of scf, which takes four seconds in all
         status, out, _ = self.needs(log, seconds=120)
         self.assertEqual(status, 1)
-        self.assertIn("# not judged, since there are too many with other arguments: calls: 5000\n", out)
+        self.assertIn("# syscalls not judged, since there are too many with other arguments: 5000\n", out)
         # six registers of two values each are 64 ways
         every = {"defaultAction": ERRNO, "syscalls": [{"names": ["wait4"], "action": ALLOW, "args": [
             {"index": index, "op": "SCMP_CMP_EQ", "value": 1} for index in range(6)]}]}
         log = "".join(f"wait4({', '.join([str(-it)] * 6)}) = 1\n" for it in range(1, 201))
         status, out, _ = self.needs(log, profile=every, seconds=120)
         self.assertEqual(status, 1)
-        self.assertIn("# not judged, since there are too many with other arguments: calls: 169\n", out)
+        self.assertIn("# syscalls not judged, since there are too many with other arguments: 169\n", out)
 
     def test_a_log_without_an_end(self):
         status, out, err = self.run_tool("needs", "/dev/zero", self.file("p.json", profile_of("read")))

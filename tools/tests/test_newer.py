@@ -89,7 +89,7 @@ class Newer(Case):
             _, added = self.added(code)
             self.assertFalse(any(SAID in line for line in added), added)
             _, added = self.added(code, scope="--calls")
-            self.assertFalse(any(line.startswith("only syscalls") for line in added), added)
+            self.assertFalse(any(line.startswith("only syscalls with") for line in added), added)
 
     def test_newer_calls_of_several_answers(self):
         """Whichever of them scf shows: one is let through for some arguments, or is refused in a third way."""

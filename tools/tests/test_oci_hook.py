@@ -53,7 +53,7 @@ class Hook(Confined):
         status, out, err = self.run_tool("oci-hook", *words, given=given)
         self.assertEqual((status, out), (3, ""), err)
         lines = self.lines(err)
-        self.assertTrue(lines[0].endswith(": it can't be told whether it is confined as configured"), lines)
+        self.assertTrue(lines[0].endswith(": unknown whether it is confined as configured"), lines)
         self.assertIn(says, lines[at])
         return lines
 
@@ -92,7 +92,7 @@ class OfStates(Hook):
         twice = self.folder + "/twice"
         self.file("twice/config.json", b'{"\\ud800":1,"\\ud800":2}')
         for bundle, says in (("/b\ud800", "there is no file '/b\\xed\\xa0\\x80/config.json'"),
-                             (twice, "the member '\\xed\\xa0\\x80' stands twice")):
+                             (twice, "the member '\\xed\\xa0\\x80' is repeated")):
             child = subprocess.Popen(["sleep", "1000"])
             self.addCleanup(child.kill)
             status, _, err = self.run_tool("oci-hook", "--kill", given=self.state(child.pid, bundle, id="a\udfff"))
@@ -337,7 +337,7 @@ class OfProcesses(Hook):
     def test_a_configuration_that_states_no_profile(self):
         lines = self.hook(self.child([]), None)[1]
         self.assertEqual(lines, ["container box: not confined as configured (unstated)",
-                                 "the configuration states no seccomp profile: the container isn't confined"])
+                                 "the configuration has no seccomp profile: the container isn't confined"])
 
     def test_two_answers_to_one_call(self):
         profile = json.dumps({"defaultAction": "SCMP_ACT_ALLOW", "syscalls": [
@@ -345,7 +345,7 @@ class OfProcesses(Hook):
         child = self.child([refusing(MOUNT)])
         status, lines = self.hook(child, profile)
         self.assertEqual((status, lines[:2]), (
-            1, ["container box: it can't be told whether it is confined as configured",
+            1, ["container box: unknown whether it is confined as configured",
                 "fault profile Conflict number 165 first 0 second 1"]))
         for words in (["--keep-first"], ["--runtime=runc"], ["--runtime=crun"]):
             self.assertEqual(self.hook(child, profile, *words)[0], 0, words)
@@ -530,7 +530,7 @@ class Inside(Hook):
         process.kernel, process.members = kernel, hooks.Members(lambda: [child.pid])
         with self.assertRaises(processes.Unreadable) as caught:
             process.look()
-        self.assertEqual(str(caught.exception), f"process {child.pid} ended meanwhile")
+        self.assertEqual(str(caught.exception), f"process {child.pid} has ended")
         with mock.patch("os.kill") as kill:
             self.assertEqual(process.kill(), hooks.Killed(False, f"process {child.pid} has ended already"))
         kill.assert_not_called()
@@ -549,8 +549,8 @@ class Inside(Hook):
 
     def test_whatever_fails(self):
         """It is said, and isn't taken for a process that is confined."""
-        for error, says in ((MemoryError(), "memory was refused"),
-                            (OSError(5, "failed"), "it can't be looked at: failed"),
+        for error, says in ((MemoryError(), "out of memory"),
+                            (OSError(5, "failed"), "the container can't be inspected: failed"),
                             (program.Refused("no scf", program.NO_PROGRAM), "no scf"), (hooks.Failed("no"), "no"),
                             (hold.Waiting("it waits"), "it waits (--force stops it)"),
                             (processes.Unreadable("it can't"), "it can't"),

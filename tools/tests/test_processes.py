@@ -144,7 +144,7 @@ class Asked(Case):
         kernel = FakeKernel([OLDEST], {SEIZE: errno.EPERM})
         kernel.own["CapEff"] = f"{1 << hold.CAP_SYS_ADMIN:x}"
         self.refused(kernel, "without CAP_SYS_PTRACE: run this as root")
-        self.refused(FakeKernel([OLDEST], {SEIZE: errno.ESRCH}, listings=[(7,), ()]), "process 7 ended meanwhile")
+        self.refused(FakeKernel([OLDEST], {SEIZE: errno.ESRCH}, listings=[(7,), ()]), "process 7 has ended")
 
     def test_a_thread_that_executes_a_program(self):
         """The kernel refuses to trace one that ends or executes a program, for a moment: it is listed again. Under its
@@ -235,7 +235,7 @@ class Asked(Case):
             self.refused(kernel, says)
             self.assertEqual(kernel.let_go(), [0], says)
         kernel = FakeKernel([OLDEST], {GET: errno.ESRCH}, listings=[(7,), ()])
-        self.refused(kernel, "process 7 ended meanwhile")
+        self.refused(kernel, "process 7 has ended")
 
     def test_no_filter_at_all(self):
         for fails, status, is_strict in (({}, {}, False), ({GET: errno.EINVAL}, {"Seccomp": "0"}, False),
@@ -248,7 +248,7 @@ class Asked(Case):
                               ({INTERRUPT: errno.ESRCH}, [ChildProcessError(errno.ECHILD, "none")])):
             with self.assertRaises(processes.Unreadable) as caught:
                 self.look(FakeKernel([OLDEST], fails, states=states, listings=[(7,), ()]))
-            self.assertEqual(str(caught.exception), "process 7 ended meanwhile")
+            self.assertEqual(str(caught.exception), "process 7 has ended")
         kernel = FakeKernel([OLDEST], states=[None], status={"State": "D (disk sleep)"})
         with self.assertRaises(processes.Unreadable) as caught:
             self.look(kernel, patience=0.01)
@@ -310,7 +310,7 @@ class Asked(Case):
                 kernel.namespaces_of = lambda it, space=space: [(1, 1)] if it == os.getpid() else space
                 with self.assertRaises(processes.Unreadable) as caught:
                     processes.container_of(kernel, process)
-                self.assertIn(f"the container of process {process} can't be told: ", str(caught.exception))
+                self.assertIn(f"the container of process {process} is unknown: ", str(caught.exception))
                 self.assertIn(f" as {groups[process].decode()}: ", str(caught.exception))
         for process, members in ((9, [9, 10]), (10, [10]), (12, [12])):
             container = processes.container_of(kernel, process)
@@ -407,7 +407,7 @@ class Real(Confined):
         with self.assertRaises(processes.Unreadable) as caught:
             processes.look_at_process(kernel, number)
         self.assertEqual(str(caught.exception),
-                         f"process {number} is a thread of the kernel, which makes no system calls")
+                         f"process {number} is a kernel thread, which makes no syscalls")
 
     def test_a_process_that_is_traced_already(self):
         child = self.child([OLDEST])

@@ -293,8 +293,8 @@ class Json(Case):
                             "the profile isn't UTF-8 from line 2, column 8 on"),
                            (b'{"a":\n' + b"[" * 127 + b"]" * 127 + b"}",
                             "at line 2, column 127 the profile is nested more than 127 deep"),
-                           (b'{"a": "[[\\"[[' + b"[" * 200 + b'", "b"}', "a JSON reader stops at line 1, column "),
-                           (b'{"a": NaN}', "the number NaN, which JSON doesn't have"),
+                           (b'{"a": "[[\\"[[' + b"[" * 200 + b'", "b"}', "the JSON is malformed at line 1, column "),
+                           (b'{"a": NaN}', "NaN, which isn't a JSON number"),
                            (b'{"a": "\\ud800"}', "halves of surrogate pairs")):
             profile = self.file("p.json", text)
             status, out, _ = self.run_tool("compare", same, profile)

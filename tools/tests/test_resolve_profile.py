@@ -69,7 +69,7 @@ class ResolveProfile(Case):
         given = engine(entry("mount", "\ud800x", includes={"caps": ["CAP_SYS_ADMIN"]}))
         self.assertEqual(self.resolved(given, "--caps", "none")[1].split(" left out: ")[0],
                          "resolve-profile: entry 0 (mount, \\xed\\xa0\\x80x)")
-        self.refused(b'{"\\ud800":1,"\\ud800":2}', "the member '\\xed\\xa0\\x80' stands twice")
+        self.refused(b'{"\\ud800":1,"\\ud800":2}', "the member '\\xed\\xa0\\x80' is repeated")
 
     def test_excludes_of_capabilities_want_none(self):
         given = engine(entry("a", excludes={"caps": ["CAP_SYS_ADMIN", "CAP_SYSLOG"]}))
@@ -105,7 +105,7 @@ class ResolveProfile(Case):
         self.assertIn("entry 1 (b) left out: only below kernel 4.8\n", self.resolved(given, "--kernel", "4.8")[1])
         for version in ("4", "4.8.1", "x.y", "0.0", 4.8, "4.-1"):
             self.refused(engine(entry("a", includes={"minKernel": version})),
-                         "whole one" if version == 4.8 else "no version of a kernel")
+                         "an integer" if version == 4.8 else "a kernel version")
 
     def test_all_conditions_of_an_entry_hold_together(self):
         both = {"includes": {"caps": ["CAP_SYSLOG"], "arches": ["amd64"], "minKernel": "4.8"},
@@ -143,7 +143,7 @@ class ResolveProfile(Case):
                         {"names": None, "name": "", "action": ALLOW}):
             plain, said = self.resolved(engine(entry("read"), nothing))
             self.assertEqual((plain, said), (engine(entry("read")),
-                                             "resolve-profile: entry 1 left out: it names no call\n"))
+                                             "resolve-profile: entry 1 left out: it has no name\n"))
 
     def test_errnos_by_name(self):
         given = engine(entry("a", action=ERRNO, errno="ENOSYS"), entry("b", action=ERRNO, errno="EPERM", errnoRet=1),
@@ -154,13 +154,13 @@ class ResolveProfile(Case):
         self.assertEqual((plain["defaultErrnoRet"], said), (38, ""))
         plain, said = self.resolved(engine(entry("a", action=ERRNO, errno="EPERM", errnoRet=22)))
         self.assertEqual((plain["syscalls"][0]["errnoRet"], said),
-                         (1, "resolve-profile: entry 0: errno 'EPERM' is taken, and not errnoRet 22\n"))
+                         (1, "resolve-profile: entry 0: errno 'EPERM' is used, not errnoRet 22\n"))
         plain, _ = self.resolved(engine(*(entry("a", action=ERRNO, errno=name) for name in
                                        ("EAGAIN", "EDEADLK", "EOPNOTSUPP", "ENOTSUP", "0038"))))
         self.assertEqual([it["errnoRet"] for it in plain["syscalls"]], [11, 35, 95, 95, 38])
         for name in ("ENOTHING", "EWOULDBLOCK", "EHWPOISON", "4294967296", "+1", "1_0", " 1"):
-            self.refused(engine(entry("a", action=ERRNO, errno=name)), f"'{name}' is no errno that podman knows")
-        self.refused(engine(defaultErrno="-1"), "'-1' is no errno")
+            self.refused(engine(entry("a", action=ERRNO, errno=name)), f"'{name}' isn't an errno that podman knows")
+        self.refused(engine(defaultErrno="-1"), "'-1' isn't an errno")
 
     def test_a_whole_config(self):
         self.assertEqual(self.resolved({"ociVersion": "1.0.2", "linux": {"seccomp": engine(entry("read"))}})[0],
@@ -181,9 +181,9 @@ class ResolveProfile(Case):
     def test_what_the_engines_refuse(self):
         for given, says in ((b"", "isn't JSON"), (b"{", "isn't JSON"), (b"\xff", "isn't UTF-8"),
                             (b"[" * 100000, "nested too deep"), (b"[]", "the profile isn't an object"),
-                            (b'{"defaultAction":"A","defaultAction":"B"}', "'defaultAction' stands twice"),
+                            (b'{"defaultAction":"A","defaultAction":"B"}', "'defaultAction' is repeated"),
                             (b'{"syscalls":[]}', "no defaultAction"),
-                            (b'{"defaultAction":"A","x":NaN}', "isn't a whole one"),
+                            (b'{"defaultAction":"A","x":NaN}', "isn't an integer"),
                             (engine(None), "entry 0 isn't an object"), (engine("x"), "entry 0 isn't an object"),
                             ({"defaultAction": "A", "syscalls": {}}, "syscalls isn't a list"),
                             (engine(entry("a", includes=[1])), "includes isn't an object"),
@@ -238,8 +238,8 @@ class ResolveProfile(Case):
 
     def test_members_that_nothing_reads(self):
         given = engine(entry("a"), {**entry("b"), "requires": {"caps": ["CAP_SYS_ADMIN"]}}, version=2)
-        self.refused(given, "entry 1 has a member 'requires', which no engine reads, and which may be a condition: to "
-                            "leave it out of account, say --ignore requires")
+        self.refused(given, "entry 1 has a member 'requires', which no engine reads, and which may be a condition: "
+                            "--ignore requires ignores it")
         found, said = self.resolved(given, "--ignore", "requires")
         self.assertEqual(found, engine(entry("a"), entry("b")))
         self.assertEqual(said.splitlines(), ["resolve-profile: the profile: nothing reads 'version'",
@@ -261,8 +261,8 @@ class ResolveProfile(Case):
         self.assertEqual(said.splitlines(), [
             "resolve-profile: entry 2 (rmdir) left out: only with CAP_SYS_ADMIN",
             "resolve-profile: entry 0 (mkdir) left out: its answer is the default's",
-            "resolve-profile: not in the profile: runc answers the numbers from 84 on, which are above all that the "
-            "profile names, by ENOSYS"])
+            "resolve-profile: not in the profile: runc answers the numbers from 84 on, above all that the profile names, "
+            "with ENOSYS"])
         self.assertEqual(self.resolved(given, "--runtime", "podman", "--caps", "SYS_ADMIN")[0]["syscalls"],
                          [entry("mkdir", "read"), entry("rmdir")])
         self.refused(given, "runc doesn't read archMap", "--runtime", "runc")
@@ -293,7 +293,7 @@ class ErrnoByName(Case):
                     status, out, err = self.run_tool(name, *words)
                     is_runtimes = name in ("compare-profiles", "verify-process")
                     hint = "--runtime podman takes it" if is_runtimes else "tools/resolve-profile resolves it"
-                    self.assertEqual((status, out, err), (1, "", f"{name}: {says}, which podman alone reads: {hint}\n"))
+                    self.assertEqual((status, out, err), (1, "", f"{name}: {says}, which only podman reads: {hint}\n"))
                 found, _ = self.resolved("p.json")
                 self.assertEqual(self.run_tool("ask", "--nr=mkdir", self.file("r.json", found))[0], 0)
 

@@ -303,7 +303,7 @@ class Supervised(Confined):
         child, supervisor, call = self.waiting()
         with self.assertRaises(processes.Unreadable) as caught:
             processes.look_at_process(processes.Kernel(), child.pid, patience=0.3)
-        self.assertIn(f"process {child.pid} has waited for 0.27 seconds for the answer of a seccomp supervisor",
+        self.assertIn(f"process {child.pid} has waited 0.27 seconds for a seccomp supervisor",
                       str(caught.exception))
         self.is_made_once(child, supervisor, call)
 
@@ -327,7 +327,7 @@ class Supervised(Confined):
             child, supervisor, _ = self.waiting()
             pid = ("--pid", str(child.pid)) if name == "surface" else (str(child.pid),)
             _, out, err = self.run_tool(name, "--force", *pid, *words)
-            self.assertIn(f"the system call of process {child.pid} is made anew, and its seccomp supervisor gets it a "
+            self.assertIn(f"the syscall of process {child.pid} restarts, and its seccomp supervisor gets it a "
                           f"second time\n", err if name == "filters-of" else out)
             again = supervisor.receives()
             self.assertTrue(supervisor.answers(again, 78))

@@ -134,7 +134,7 @@ class Runtimes(Case):
         only = [condition(0, "EQ", 7)]
         for runtime in ("runc", "crun"):
             found = self.same(runtime, entry("mkdir", action=ERRNO, errno=2), entry("rmdir", "mkdir"))
-            self.assertIn("mkdir left out of entry 2: entry 1, which has no conditions, has all such calls",
+            self.assertIn("mkdir left out of entry 2: entry 1, which has no conditions, covers all such syscalls",
                           found.notes)
             self.same(runtime, entry("mkdir"), entry("mkdir", action=ERRNO, errno=2))
             # an entry without conditions has all calls, wherever it stands
@@ -208,8 +208,8 @@ class Runtimes(Case):
                 ("runc", profile(defaultErrnoRet=5000), "and the default has 5000"),
                 ("crun", profile(defaultErrnoRet=5000), "and the default has 5000"),
                 ("crun", profile(entry("mkdir", action=ERRNO, errno=2**32 + 1)), "the errno 4294967297 of entry 1"),
-                ("runc", profile(entry("mkdir", action="SCMP_ACT_X")), "entry 1 has no action that it knows"),
-                ("crun", profile(entry("mkdir", action="SCMP_ACT_X")), "entry 1 has no action that it knows"),
+                ("runc", profile(entry("mkdir", action="SCMP_ACT_X")), "entry 1 has an unknown action"),
+                ("crun", profile(entry("mkdir", action="SCMP_ACT_X")), "entry 1 has an unknown action"),
                 ("runc", profile(entry("")), "a name of entry 1 is empty"),
                 ("runc", profile(entry("write", action="SCMP_ACT_NOTIFY"), listenerPath="/x"), "entry 1 has write"),
                 ("runc", profile(entry("mkdir", action="SCMP_ACT_NOTIFY")), "no listenerPath"),
@@ -319,7 +319,7 @@ class VerifyProcess(Case):
                 status, out, err = self.verify(process, MOBY, "--runtime", "docker", *words)
                 first = {"--no-more": "no more", "--no-less": "no less"}.get("".join(words), "same")
                 self.assertEqual((status, out.splitlines()[0], err), (0, first, ""))
-                stub = "# runc answers the numbers from 450 on, which are above all that the profile names, by ENOSYS\n"
+                stub = "# runc answers the numbers from 450 on, above all that the profile names, with ENOSYS\n"
                 self.assertEqual(out.count(stub), 1 if first == "same" else 0, out)
             found = json.loads(self.verify(process, MOBY, "--runtime", "docker", "--json")[1])
             self.assertEqual((found["status"], found["verdict"], found["stacks"][0]["stub"], found["remarks"]),
@@ -397,7 +397,7 @@ class VerifyProcess(Case):
             self.assertEqual((status, out), (2, ""))
             self.assertIn("verify-process: ", err)
         for given, says in ((b'{"defaultAction":"SCMP_ACT_ERRNO","archMap":[{}]}', "runc doesn't read archMap"),
-                            (b'{"defaultAction":"A"}', "no action that it knows"), (b"{", "isn't JSON"),
+                            (b'{"defaultAction":"A"}', "has an unknown action"), (b"{", "isn't JSON"),
                             (b'{"DefaultAction":"SCMP_ACT_ALLOW"}', "which programs in Go read as 'defaultAction'")):
             status, out, err = self.run_tool("verify-process", "--runtime", "runc", own, self.file("p.json", given))
             self.assertEqual((status, out), (1, ""))

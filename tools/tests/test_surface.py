@@ -94,7 +94,7 @@ KNOWN = {
     "an action without a name, between LOG and ALLOW": ([ret(NEARLY)], [R] * 5),
     "an action without a name, and one before it": ([ret(NEARLY), ret(LOG)], [M] * 5),
 }
-NO_FOREIGN = "other ABIs: every i386 and x32 syscall is denied; an x86-64 kernel has no others"
+NO_FOREIGN = "other ABIs: every i386 and x32 syscall is denied; the kernel has no others"
 ARGUMENTS = (0, 1, 2, 3, 4, 5, 8, 39, 40, 41, 42, 40 * HIGH, 40 * HIGH + 40, 41 * HIGH, (1 << 64) - 1)
 POINTERS = (0, 0x1234, 0x1235)
 
@@ -281,7 +281,7 @@ class Unnamed(unittest.TestCase):
         found = of([SQUARE]).unnamed
         self.assertGreater(found.untold, 0)
         self.assertLessEqual(found.let_through + found.untold, OTHERS)
-        self.assertRegex(found.told(), r"\A[0-9]+ are undecided\Z")
+        self.assertRegex(found.told(), r"[0-9]+ are undecided\Z")
         found = of([allowing(range(300, 1300, 2))]).unnamed
         self.assertGreater(found.untold, 0)
         self.assertLessEqual(found.let_through, 500)
@@ -338,13 +338,13 @@ class Program(Case):
 
     def test_foreign_calls(self):
         for name, says in (("all is made", "i386: some syscalls are allowed, such as number 0: ALLOW; x32: some "
-                                           "syscalls are allowed, such as read (0x40000000 + 0): ALLOW; other ABIs: an "
-                                           "x86-64 kernel has no more"),
+                                           "syscalls are allowed, such as read (0x40000000 + 0): ALLOW; other ABIs: the "
+                                           "kernel has no others"),
                            ("some are made", NO_FOREIGN)):
             self.assertEqual(self.said(KNOWN[name][0])[1][1], says)
         gone = load(4) + jeq(I386, 0, 1) + ret(ALLOW) + ret(KILL_PROCESS)
         self.assertEqual(self.said([gone])[1][1], "i386: some syscalls are allowed, such as number 0: ALLOW; x32: every "
-                                                  "syscall is denied; other ABIs: an x86-64 kernel has no others")
+                                                  "syscall is denied; other ABIs: the kernel has no others")
 
     def test_calls_that_no_kernel_makes(self):
         """-1, other numbers with bit 31 and other architectures are no hole, by an argument of libseccomp's, or by
@@ -616,7 +616,7 @@ class Process(Confined):
         self.assertEqual(status, 1)
         self.assertEqual(lines.count(""), 2)
         self.assertRegex(lines[0], r"\A# thread [0-9]+ of process [0-9]+ \(.*\) has no filter: it isn't confined, and "
-                                   r"all calls are made\Z")
+                                   r"every syscall is allowed\Z")
         found = json.loads(self.surface("--json", "--pid", str(child.pid))[1][0])
         self.assertEqual([stack["confined"] for stack in found["stacks"]], ["not", "by filters", "by filters"])
         self.assertEqual([stack["status"] for stack in found["stacks"]], [1, 0, 0])
@@ -642,7 +642,7 @@ class Process(Confined):
         """Without a filter there is nothing to compare; the threads are told."""
         asked = surfacing.Asked(tables.Table(OWN), None, [])
         for is_strict, status, says in ((True, 4, "has no filter, but the strict mode of seccomp(2)"),
-                                        (False, 1, "has no filter: it isn't confined, and all calls are made")):
+                                        (False, 1, "has no filter: it isn't confined, and every syscall is allowed")):
             found = processes.Found([processes.Stack((), is_strict, {7: [7]})], {7: b"x"}, {})
             blocks = surfacing.of_process(found, asked)
             self.assertEqual((surfacing.worst(blocks), list(surfacing.lines(blocks, found, None))),

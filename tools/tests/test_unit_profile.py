@@ -225,17 +225,17 @@ class UnitProfile(Case):
 
     def test_what_systemd_ignores(self):
         for lists, says in (("read @none", "@none left out: systemd knows no such group"),
-                            ("read mount:EPERM", "mount:EPERM left out: a call that is allowed takes no errno")):
+                            ("read mount:EPERM", "mount:EPERM left out: a syscall that is allowed takes no errno")):
             default, calls, _, err = self.printed("--set", lists)
             self.assertEqual((default, calls), ((KILL, None), {(ALLOW, None): {"brk", "exit_group", "read"}}))
             self.assertEqual(err, f"unit-profile: {says}\n")
 
     def test_what_is_refused(self):
-        for words, says in ((("--set", "~read:ENOTHING"), "'ENOTHING' is no errno"),
-                            (("--set", "~read:4096"), "'4096' is no errno"), (("--set", "~read:"), "'' is no errno"),
-                            (("--set", "~read:strerror"), "'strerror' is no errno"),
-                            (("--set", "read", "--errno=-1"), "'-1' is no errno"),
-                            (("--set", "read", "--architectures", "x86 \x1b[2J"), "'\\x1b[2J' is no architecture"),
+        for words, says in ((("--set", "~read:ENOTHING"), "'ENOTHING' isn't an errno"),
+                            (("--set", "~read:4096"), "'4096' isn't an errno"), (("--set", "~read:"), "'' isn't an errno"),
+                            (("--set", "~read:strerror"), "'strerror' isn't an errno"),
+                            (("--set", "read", "--errno=-1"), "'-1' isn't an errno"),
+                            (("--set", "read", "--architectures", "x86 \x1b[2J"), "'\\x1b[2J' isn't an architecture"),
                             (("--set", "@round"), "the group @round is nested too deep")):
             self.refused(1, says, *words)
 

@@ -123,7 +123,7 @@ class List(Case):
             "> 0  ld [4]                 // the architecture",
             "> 1  jeq #0xc000003e, 1, 0  // x86-64: to 3, else 2",
             "  2  ret #0x80000000        // KILL_PROCESS",
-            "> 3  ld [0]                 // the call's number",
+            "> 3  ld [0]                 // the syscall number",
             "> 4  jge #0x40000000, 0, 1  // x32: to 5, else 6",
             "  5  ret #0x80000000        // KILL_PROCESS",
             "> 6  jeq #0x0, 1, 0         // read: to 8, else 7",
