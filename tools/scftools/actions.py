@@ -1,5 +1,4 @@
-"""Actions of a profile beside what the kernel does with them: errnos that no program knows, answers that wait for a
-supervisor, a default that allows.
+"""Odd actions of a profile: errnos that no program knows, actions that need a supervisor, a default that allows.
 """
 from __future__ import annotations
 
@@ -10,26 +9,25 @@ from .entries import Object
 from .findings import Finding
 from .profiles import LETS_THROUGH
 
-# What the kernel has for itself among the errnos (include/linux/errno.h).
+# The errnos that the kernel uses internally (include/linux/errno.h).
 INTERNAL = {512: "ERESTARTSYS", 513: "ERESTARTNOINTR", 514: "ERESTARTNOHAND", 515: "ENOIOCTLCMD",
             516: "ERESTART_RESTARTBLOCK"}
 # The greatest errno that programs know (EHWPOISON in asm-generic/errno.h).
 LAST_ERRNO = max(133, *ERRNOS)
-# Whose answer an action waits for: of a listener (seccomp_unotify(2)) or of a tracer with PTRACE_O_TRACESECCOMP.
+# What an action needs: a listener (seccomp_unotify(2)) or a tracer with PTRACE_O_TRACESECCOMP.
 SUPERVISORS = {"SCMP_ACT_NOTIFY": "a supervisor that listens to the filter",
                "SCMP_ACT_TRACE": "a tracer with PTRACE_O_TRACESECCOMP"}
 
 
 def _answers(top: Object) -> Iterator[tuple[str, dict[str, object], str, str, object]]:
-    """Of the default and of each entry: what it's called, what JSON has of it, its action, the member of its errno, and
-    that."""
+    """For the default and each entry: its name, its members in JSON, its action, the name and value of its errno."""
     yield "the default", {}, top["defaultAction"], "defaultErrnoRet", top.get("defaultErrnoRet")
     for place, entry in enumerate(top.get("syscalls", [])):
         yield f"entry {place}", {"entry": place}, entry["action"], "errnoRet", entry.get("errnoRet")
 
 
 def _why_odd(number: int) -> str | None:
-    """What is odd in an errno that a filter gives, if anything is."""
+    """What is odd about an errno, if anything is."""
     if number == 0:
         return "the syscall isn't executed, and returns 0 as if it had succeeded"
     if number in INTERNAL:
@@ -43,7 +41,7 @@ def _why_odd(number: int) -> str | None:
 
 
 def of_errnos(top: Object) -> Iterator[Finding]:
-    """Errnos that no program knows, or that aren't what they seem."""
+    """Errnos that no program knows, or that the kernel changes."""
     for where, at, action, member, number in _answers(top):
         why = _why_odd(number) if action == "SCMP_ACT_ERRNO" and isinstance(number, int) else None
         if why:
@@ -51,7 +49,7 @@ def of_errnos(top: Object) -> Iterator[Finding]:
 
 
 def of_supervisors(top: Object) -> Iterator[Finding]:
-    """Actions that wait for somebody whom the profile doesn't name."""
+    """Actions that need a supervisor or a tracer."""
     for where, at, action, _, _ in _answers(top):
         if action in SUPERVISORS and not (action == "SCMP_ACT_NOTIFY" and top.get("listenerPath")):
             lacking = ", and the profile has no listenerPath" if action == "SCMP_ACT_NOTIFY" else ""

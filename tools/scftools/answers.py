@@ -9,7 +9,7 @@ from dataclasses import dataclass
 # linux/seccomp.h: the actions by the high half of an answer, the strictest first.
 ACTIONS = {0x8000: "KILL_PROCESS", 0x0000: "KILL_THREAD", 0x0003: "TRAP", 0x0005: "ERRNO", 0x7FC0: "USER_NOTIF",
            0x7FF0: "TRACE", 0x7FFC: "LOG", 0x7FFF: "ALLOW"}
-# What the kernel does (seccomp(2)).
+# What the kernel does with a syscall (seccomp(2)).
 DOES = {
     "ALLOW": "the syscall is executed",
     "LOG": "the syscall is executed, and logged",
@@ -26,17 +26,17 @@ REFUSES = ("ERRNO", "TRAP", "KILL_THREAD", "KILL_PROCESS", "UNNAMED")
 # The disposition of a syscall, the strictest first. It follows from the action alone; the rank of an answer only says
 # which of a stack's answers decides.
 FATES = REFUSED, REFERRED, MADE = "denied", "delegated to a supervisor or tracer", "allowed"
-# An answer of these without a number still has one.
+# Actions whose data is always printed, even if it is 0.
 HAS_DATA = ("ERRNO", "TRACE", "TRAP", "UNNAMED")
-# The names of errno(3) that Linux has; where a number has two of them, the one that its header gives the number.
+# Linux's names of errno(3); of two names for a number, the one that the header defines by the number.
 ERRNOS = {**errno.errorcode, errno.EAGAIN: "EAGAIN", errno.EDEADLK: "EDEADLK", errno.EOPNOTSUPP: "EOPNOTSUPP"}
-# The greatest errno that the kernel gives (MAX_ERRNO in linux/err.h).
+# The greatest errno that the kernel returns (MAX_ERRNO in linux/err.h).
 MAX_ERRNO = 4095
 
 # linux/audit.h: x86-64, the other architecture of its kernel, and two neighbours.
 X86_64, I386 = 0xC000003E, 0x40000003
 ARCHITECTURES = {X86_64: "x86-64", I386: "i386", 0xC00000B7: "aarch64", 0x40000028: "arm"}
-# Numbers of x32 calls begin here (__X32_SYSCALL_BIT in asm/unistd.h), and native ones end.
+# The first x32 syscall number (__X32_SYSCALL_BIT in asm/unistd.h).
 X32 = 0x40000000
 
 PRINTED = re.compile(r"([A-Z_]+) (0x[0-9a-f]{8}|[0-9]+)")
@@ -44,19 +44,19 @@ PRINTED = re.compile(r"([A-Z_]+) (0x[0-9a-f]{8}|[0-9]+)")
 
 @dataclass(frozen=True)
 class Answer:
-    """An answer as scf prints it: an action and its number, of UNNAMED the whole answer."""
+    """An answer as scf prints it: an action and its 16 bits of data; for UNNAMED the data is the whole answer."""
 
     action: str
     data: int
 
     @classmethod
     def read(cls, text: str) -> Answer | None:
-        """The answer that a text spells as scf prints it."""
+        """Parses an answer as scf prints it; None if it isn't one."""
         found = PRINTED.fullmatch(text)
         return cls(found[1], int(found[2], 0)) if found and found[1] in (*DOES, "ERRNO") else None
 
     def __str__(self) -> str:
-        """As people say it: without a number that says nothing."""
+        """The action, with its data unless that means nothing."""
         if self.action == "UNNAMED":
             return f"UNNAMED {self.data:#010x}"
         return f"{self.action} {self.data}" if self.data or self.action in HAS_DATA else self.action
@@ -99,7 +99,7 @@ class Answer:
         return f"{self} ({ERRNOS[self.data]})" if self.action == "ERRNO" and self.data in ERRNOS else str(self)
 
     def as_profile(self) -> bytes | None:
-        """A profile that gives each native call this answer, or None where none does."""
+        """A profile that gives every x86-64 syscall this answer, or None if none can."""
         if self.action in ("USER_NOTIF", "UNNAMED") or (self.data and self.action not in ("ERRNO", "TRACE")):
             return None
         errno_member = f', "defaultErrnoRet": {self.data}' if self.action in ("ERRNO", "TRACE") else ""

@@ -1,4 +1,4 @@
-"""Architectures: their numbers in a call's record, and the names by which a command line or a profile gives them."""
+"""Architectures: their AUDIT_ARCH numbers, and their names on a command line and in a profile."""
 from __future__ import annotations
 
 import re
@@ -10,7 +10,7 @@ PREFIX = "SCMP_ARCH_"
 X32 = f"{PREFIX}X32"
 # By the names of libseccomp (seccomp.h), the numbers of linux/audit.h: a machine of linux/elf-em.h, with 0x80000000
 # where it has 64 bits, 0x40000000 where it is little-endian, and 0x20000000 for the N32 calls of MIPS. The record of an
-# x32 call has x86-64's.
+# x32 syscall has x86-64's.
 NUMBERS = {f"{PREFIX}{name}": number for name, number in {
     "X86": 0x40000003, "X86_64": X86_64, "X32": X86_64, "ARM": 0x40000028, "AARCH64": 0xC00000B7,
     "LOONGARCH64": 0xC0000102, "M68K": 0x00000004, "MIPS": 0x00000008, "MIPS64": 0x80000008, "MIPS64N32": 0xA0000008,
@@ -21,7 +21,7 @@ OTHER_NAMES = {"I386": "X86", "AMD64": "X86_64", "ARM64": "AARCH64"}
 
 
 def profile_name(number: int) -> str | None:
-    """The name that a profile has for an architecture by its number."""
+    """The OCI name of an architecture number."""
     return next((name for name, it in NUMBERS.items() if it == number), None)
 
 
@@ -33,8 +33,8 @@ def name_in(text: str) -> str | None:
 
 
 def number_in(text: str) -> str:
-    """The number, as scf takes it, of the architecture that a text gives: by a name, a number, or as audit's log does
-    (arch=c000003e, in hexadecimal). Refused where it names none, or where it has two meanings."""
+    """The number of an architecture, as scf takes it, given by a name, a number, or as in the audit log
+    (arch=c000003e, in hexadecimal). Raises Refused if it is unknown or ambiguous."""
     name = name_in(text)
     if name is not None:
         return hex(NUMBERS[name])

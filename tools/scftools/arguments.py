@@ -1,4 +1,4 @@
-"""Arguments of syscalls: how many each has and what they are, as tables/x86_64.arguments states it."""
+"""Arguments of syscalls: how many each has and of which kind, from tables/x86_64.arguments."""
 from __future__ import annotations
 
 import os

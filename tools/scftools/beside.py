@@ -1,4 +1,4 @@
-"""Two surfaces beside each other: the calls of which the same isn't said, and those of which it couldn't be told."""
+"""Two surfaces compared: the syscalls that differ, and those that are undecided."""
 from __future__ import annotations
 
 from collections.abc import Iterator
@@ -14,7 +14,7 @@ BESIDE = "beside"
 
 @dataclass(frozen=True)
 class Pair:
-    """A call by two surfaces."""
+    """A syscall in two surfaces."""
 
     one: Row
     other: Row
@@ -38,14 +38,14 @@ class Beside:
 
     one: Surface
     other: Surface
-    # the calls of which one thing is said by one and another by the other, or of which it couldn't be told by one
+    # the syscalls that differ, or are undecided on one side
     pairs: tuple[Pair, ...]
-    # those that depend by both, and whose shown calls fare alike: that all do isn't told
+    # those that depend on both sides and agree in the examples, which proves nothing about the others
     alike: tuple[Pair, ...]
 
     @property
     def foreign_differ(self) -> bool:
-        """Whether foreign calls of a kind are let through by one alone, as far as it was told."""
+        """Whether only one side allows some syscall of another ABI, as far as that is proved."""
         both = zip(self.one.foreign, self.other.foreign)
         return any(one.lets_none_through != other.lets_none_through for one, other in both
                    if isinstance(one, foreign.Proved) and isinstance(other, foreign.Proved))
@@ -57,7 +57,7 @@ class Beside:
 
     @property
     def status(self) -> int:
-        """1 where they differ, else 4 where it couldn't be told, else 0."""
+        """1 if they differ, 4 if something is undecided, else 0."""
         if any(pair.is_told for pair in self.pairs) or self.foreign_differ or self.unnamed_differ:
             return program.REFUSED
         is_told = self.one.is_told and self.other.is_told and not self.alike
@@ -65,12 +65,12 @@ class Beside:
 
     @property
     def are_the_same(self) -> bool:
-        """Whether they are of the same filters, byte by byte."""
+        """Whether the filters are the same, byte by byte."""
         return list(self.one.asker.filters) == list(self.other.asker.filters)
 
 
 def _fares_otherwise(row: Row, surface: Surface) -> bool:
-    """Whether a call that a row shows has another fate by other filters."""
+    """Whether an example of a row has another disposition in the other surface."""
     for fate, shown in row.shown.items():
         answer = surface.asker.decided(shown.call) if shown.is_whole else None
         if answer is not None and fate_of(answer) != fate:
@@ -79,7 +79,7 @@ def _fares_otherwise(row: Row, surface: Surface) -> bool:
 
 
 def of_surfaces(one: Surface, other: Surface) -> Beside:
-    """Holds two surfaces beside each other. Where a call depends by both, the calls that are shown are run by both."""
+    """Compares two surfaces. If a syscall depends on both sides, the examples of each are run on the other."""
     pairs, alike = [], []
     for pair in map(Pair, one.rows, other.rows):
         if not pair.is_told or pair.one.said != pair.other.said:
@@ -92,7 +92,7 @@ def of_surfaces(one: Surface, other: Surface) -> Beside:
 
 
 def _of_whole(found: Beside) -> Iterator[str]:
-    """What is said of all calls by the one, and by the other where that is said otherwise."""
+    """The lines about the whole of one side, and those of the other that differ."""
     for at, (one, other) in enumerate(zip(of_whole(found.one), of_whole(found.other))):
         yield one
         if at == 0 or one != other:
@@ -100,7 +100,7 @@ def _of_whole(found: Beside) -> Iterator[str]:
 
 
 def _told(pair: Pair) -> list[str]:
-    """Both sides of a pair, each with what it shows."""
+    """Both sides of a pair, each with its examples."""
     return [" ".join([word_of(row.said), *details(row)]) for row in (pair.one, pair.other)]
 
 
@@ -122,7 +122,7 @@ def _as_table(found: Beside, groups: Groups, width: int) -> Iterator[str]:
 
 
 def lines(found: Beside, groups: Groups, width: int | None) -> Iterator[str]:
-    """All that is said of two surfaces."""
+    """The text output for two surfaces."""
     undecided = sum(not pair.is_told for pair in found.pairs)
     count = f"syscalls that differ: {len(found.pairs) - undecided}" + f", undecided: {undecided}" * (undecided > 0)
     yield from fitted([*_of_whole(found), count], width)
@@ -140,7 +140,7 @@ def lines(found: Beside, groups: Groups, width: int | None) -> Iterator[str]:
 
 
 def as_json(found: Beside, groups: Groups) -> dict[str, object]:
-    """What `lines` says of the other, and of both."""
+    """The members of JSON beyond those of the first surface."""
     return {"differs": [{"one": row_json(pair.one, groups), "other": row_json(pair.other, groups)}
                         for pair in found.pairs],
             "alike": [pair.number for pair in found.alike], "foreign_differ": found.foreign_differ,

@@ -1,17 +1,17 @@
-"""Bundles: several inputs as one, which is what scf reads where it needs several, since it opens none itself."""
+"""Bundles: several inputs as one, which is how scf reads them, since it opens no file itself."""
 from __future__ import annotations
 
 import re
 from collections.abc import Iterable, Sequence
 
 KINDS = ("filter", "profile", "table")
-# The most bytes that scf reads. Of a longer bundle it only says that it is too long.
+# The most bytes that scf reads; it refuses a longer bundle.
 LIMIT = 1 << 24
 HEADER = re.compile(rb"(filter|profile|table) ([0-9]{1,8})\n")
 
 
 def bundle(parts: Iterable[tuple[str, bytes]]) -> bytes:
-    """The parts, each behind a header with its kind and the count of its bytes."""
+    """The parts, each after a header with its kind and its length in bytes."""
     pieces: list[bytes] = []
     length = 0
     for kind, data in parts:
@@ -23,7 +23,7 @@ def bundle(parts: Iterable[tuple[str, bytes]]) -> bytes:
 
 
 def part_of(data: bytes, kind: str) -> bytes | None:
-    """The first part of a kind, where a bundle has one as far as its parts are whole."""
+    """The first part of a kind, if a bundle has one before any malformed part."""
     at = 0
     while True:
         header = HEADER.match(data, at)

@@ -1,4 +1,4 @@
-"""Calls: the record that a filter sees, how one is given in words, and how one is told."""
+"""Syscall records: what a filter sees, how one is given as options, and how one is printed."""
 from __future__ import annotations
 
 import re
@@ -8,16 +8,16 @@ from . import architectures
 from .answers import ARCHITECTURES, X32, X86_64
 from .tables import Table
 
-# The numbers of a call, by the names of scf's options, in scf's order.
+# The fields of a record, by the names of scf's options, in scf's order.
 OPTIONS = ("nr", "arch", "ip", "a0", "a1", "a2", "a3", "a4", "a5")
-# Bit 31, which no kernel's numbers have; and -1, by which a tracer has a call skipped while filters run with it all the
-# same (Documentation/userspace-api/seccomp_filter.rst of Linux; do_syscall_64 of x86 makes no such call).
+# Bit 31, which no kernel's numbers have; and -1, which a tracer sets to skip a syscall, and which filters still see
+# (Documentation/userspace-api/seccomp_filter.rst of Linux; do_syscall_64 of x86 executes no such syscall).
 NO_CALL, SKIPPED = 0x80000000, 0xFFFFFFFF
 PRINTED = re.compile(r"call nr ([0-9]+) arch (0x[0-9a-f]+) ip (0x[0-9a-f]+) args((?: 0x[0-9a-f]+){6})")
 
 
 def number_text(number: int, architecture: int = X86_64) -> str:
-    """A number of a call that no table names."""
+    """How a number that no table names is printed."""
     if number == SKIPPED:
         return "number -1, which a tracer sets to skip a syscall"
     if architecture == X86_64 and X32 <= number < NO_CALL:
@@ -27,7 +27,7 @@ def number_text(number: int, architecture: int = X86_64) -> str:
 
 @dataclass(frozen=True)
 class Call:
-    """A call record (struct seccomp_data in linux/seccomp.h). The instruction pointer is None where it isn't known."""
+    """A syscall record (struct seccomp_data in linux/seccomp.h). The instruction pointer is None if it is unknown."""
 
     number: int
     architecture: int = X86_64
@@ -36,7 +36,7 @@ class Call:
 
     @classmethod
     def read(cls, line: str) -> Call | None:
-        """The call of a line of scf, `call nr N arch H ip H args H H H H H H`."""
+        """Parses a line of scf, `call nr N arch H ip H args H H H H H H`."""
         found = PRINTED.fullmatch(line)
         if not found:
             return None
@@ -48,7 +48,7 @@ class Call:
 
     @property
     def other_abi(self) -> str | None:
-        """The name by which a profile names the architecture of a call that isn't native; None where no call is so."""
+        """The OCI name of the architecture of a foreign syscall; None if no syscall can be so."""
         if self.is_native or self.number >= NO_CALL:
             return None
         if self.architecture == X86_64:
@@ -56,12 +56,12 @@ class Call:
         return architectures.profile_name(self.architecture)
 
     def words(self) -> list[str]:
-        """The options of scf that give this call."""
+        """The options of scf that give this record."""
         numbers = (self.number, self.architecture, self.pointer, *self.arguments)
         return [f"--{name}={number:#x}" for name, number in zip(OPTIONS, numbers) if number is not None]
 
     def told(self, table: Table) -> str:
-        """What the call is called."""
+        """The syscall's name and number."""
         if self.number == SKIPPED:
             return number_text(self.number)
         if self.architecture != X86_64:
@@ -75,7 +75,7 @@ class Call:
         return f"{named} ({self.number})" if named else f"number {self.number}, which the table doesn't name"
 
     def left_out_of_native(self) -> str:
-        """What a comparison of native calls leaves out with this call, which is foreign."""
+        """What --native leaves out, of which this foreign syscall is a part."""
         return "other architectures" if self.architecture != X86_64 else "numbers from 0x40000000 on"
 
     def as_json(self, table: Table) -> dict[str, object]:
@@ -85,7 +85,7 @@ class Call:
 
 
 def number_in(text: str) -> int | None:
-    """The number that a text spells as scf's options take it: decimal, or hexadecimal behind 0x."""
+    """Parses a number as scf's options do: decimal, or hexadecimal after 0x."""
     if re.fullmatch("0[xX][0-9a-fA-F]{1,40}", text):
         return int(text, 16)
     return int(text) if re.fullmatch("[0-9]{1,40}", text) else None

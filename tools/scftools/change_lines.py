@@ -1,4 +1,4 @@
-"""How changes from one profile to another are told, in lines and as JSON."""
+"""Changes from one profile to another, in lines and as JSON."""
 from __future__ import annotations
 
 from collections.abc import Iterator
@@ -10,18 +10,18 @@ from .reasons import Reason
 from .tables import Table
 from .verdicts import LESS, MORE, UNDECIDED, UNFINISHED
 
-# What stands above the calls of a kind, before their count.
+# The heading of each kind of change, printed before its count.
 HEADINGS = {MORE: "syscalls for which the new profile is more permissive",
             LESS: "syscalls for which the new profile is stricter",
             OTHERWISE: "syscalls that get another answer, neither more permissive nor stricter",
             UNDECIDED: "syscalls that are undecided",
             UNFINISHED: "syscalls that are undecided within the limit"}
-# So many names are told one by one.
+# At most so many names are listed.
 TOLD = 20
 
 
 def _by(reason: Reason, source: Source) -> str:
-    """What gives an answer: an entry by its index in the user's profile, or what else."""
+    """What gives an answer: an entry, by its index in the user's profile, or something else."""
     index = reasons.index_of(reason, source.origins)
     if index == STUB.index:
         return "stub"
@@ -29,7 +29,7 @@ def _by(reason: Reason, source: Source) -> str:
 
 
 def line_of(change: Change, sources: dict[str, Source]) -> str:
-    """A number, its names and what changes; a call of it, and what both profiles answer to it, and by what."""
+    """The line of a change: number, names, kind, an example, and for each profile its answer and what gives it."""
     words = [str(change.number), *([",".join(change.names)] if change.names else []), change.kind]
     if change.call is not None:
         words += ["args", *map(hex, change.call.arguments)]
@@ -38,7 +38,7 @@ def line_of(change: Change, sources: dict[str, Source]) -> str:
 
 
 def _conditions(changes: Changes, change: Change) -> Iterator[str]:
-    """The conditions by which the entries of both profiles answer the call."""
+    """The conditions of both profiles' entries that the example meets."""
     for side, reason in change.reasons.items():
         source = changes.sources[side]
         for line in list(reasons.told(reason, source.data, change.call, source.origins))[1:]:
@@ -46,7 +46,7 @@ def _conditions(changes: Changes, change: Change) -> Iterator[str]:
 
 
 def _entries(changes: Changes) -> Iterator[str]:
-    """The entries that were named, each once, and the defaults."""
+    """The entries that give answers, each once, and the defaults."""
     for side in (OLD, NEW):
         found = {change.reasons[side].entry: change.reasons[side] for change in (*changes.calls, changes.unnamed)
                  if change is not None and change.reasons}
@@ -60,7 +60,7 @@ def _entries(changes: Changes) -> Iterator[str]:
 
 
 def _apart(what: str, of_sides: dict[str, tuple[str, ...]]) -> Iterator[str]:
-    """What is left out of both profiles, and what of one alone."""
+    """What is left out of both profiles, and what only of one."""
     counts = {side: len(set(names)) for side, names in of_sides.items()}
     if not any(counts.values()):
         return
@@ -74,7 +74,7 @@ def _apart(what: str, of_sides: dict[str, tuple[str, ...]]) -> Iterator[str]:
 
 
 def lines(changes: Changes) -> Iterator[str]:
-    """The verdict, the counts, and then the changes; what is added is marked by `# `."""
+    """The verdict, the counts, and the changes; added lines are marked by `# `."""
     yield changes.verdict
     yield ", ".join(f"{kind} {count}" for kind, count in changes.counts.items()
                     if count or kind not in (UNDECIDED, UNFINISHED))
@@ -108,7 +108,7 @@ def _change_json(changes: Changes, change: Change, table: Table) -> dict[str, ob
 
 
 def as_json(changes: Changes, table: Table) -> dict[str, object]:
-    """All that `lines` says, as one object."""
+    """The same as `lines`, as one object."""
     return {"status": changes.status, "relation": changes.relation, "verdict": changes.verdict,
             "counts": changes.counts, "changes": [_change_json(changes, change, table) for change in changes.calls],
             "unnamed": None if changes.unnamed is None else _change_json(changes, changes.unnamed, table),

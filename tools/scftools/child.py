@@ -1,9 +1,8 @@
-"""A function that runs in a child process, and ends in time whatever system call it waits in.
+"""Runs a function in a child process, so that it ends in time whatever syscall it blocks in.
 
-The child has what a tool that traces others needs: the tool's signals are handed on to it, so that it ends in order,
-and so it does where the tool itself is killed. A tool that is stopped (SIGSTOP) doesn't stop its child. Where the time
-is up, the tool kills it, and where the tool can't, a timer of the child's own does: the kernel then lets go of all that
-it traced.
+The child serves a tool that traces others: the tool's signals are passed on to it, so that it ends in order, and so it
+does if the tool itself is killed. A tool that is stopped (SIGSTOP) doesn't stop its child. When the time is up, the
+tool kills the child, and if the tool can't, the child's own timer does: the kernel then releases all that it traced.
 """
 from __future__ import annotations
 
@@ -23,7 +22,7 @@ if TYPE_CHECKING:
 
 # linux/prctl.h
 PR_SET_PDEATHSIG = 1
-# The signals that end a tool where they aren't ignored.
+# The signals that end a tool unless they are ignored.
 ENDING = (signal.SIGHUP, signal.SIGINT, signal.SIGQUIT, signal.SIGTERM)
 # How often the tool looks for signals while it waits for the child, and how long a child may take to end by one; how
 # much later than the tool the child's own timer ends it, and how long a child that was killed is waited for, in seconds.
@@ -31,7 +30,7 @@ PAUSE, TO_END, TIMER_DELAY, LAST_WAIT = 0.05, 1.0, 0.5, 0.2
 
 
 class Interrupted(Exception):
-    """This signal, which ends the tool, came meanwhile; it was taken."""
+    """A signal that ends the tool arrived meanwhile, and was consumed."""
 
 
 class Late(Exception):
@@ -43,14 +42,14 @@ class Died(Exception):
 
 
 def look_for_signals() -> None:
-    """Where the child is to end early, an exception in it."""
+    """Raised in the child to end it early."""
     came = signal.sigtimedwait(ENDING, 0)
     if came:
         raise Interrupted(came.si_signo)
 
 
 def run(work: Callable[[], Result], seconds: float) -> Result:
-    """What a function returns or raises in a child process. The function calls `look_for_signals` now and then."""
+    """The result or exception of a function run in a child process; it calls `look_for_signals` now and then."""
     until = time.monotonic() + seconds
     heeded = {it for it in ENDING if signal.getsignal(it) != signal.SIG_IGN}
     parent = os.getpid()
@@ -82,7 +81,7 @@ def run(work: Callable[[], Result], seconds: float) -> Result:
 
 
 def _output_of(child: int, file: int, heeded: set[int], until: float) -> bytes:
-    """All that the child writes; it is told of the signals that end this process, and ends soon then."""
+    """All that the child writes; signals that end this process are passed on to it, and it ends soon then."""
     pieces: list[bytes] = []
     late: Exception = Late()
     while True:
@@ -100,7 +99,7 @@ def _output_of(child: int, file: int, heeded: set[int], until: float) -> bytes:
 
 
 def _wait_for(child: int) -> None:
-    """Waits for a child that has ended or was killed, unless a system call keeps it even then."""
+    """Waits for a child that has ended or was killed, unless a syscall blocks it even then."""
     until = time.monotonic() + LAST_WAIT
     try:
         while not os.waitpid(child, os.WNOHANG)[0] and time.monotonic() < until:

@@ -1,4 +1,4 @@
-"""Filters beside a profile: what scf says of them, and what is added to it."""
+"""Comparisons of filters with a profile: scf's verdict, and the lines that explain it."""
 from __future__ import annotations
 
 from collections.abc import Iterator, Sequence
@@ -18,22 +18,21 @@ if TYPE_CHECKING:
 
 ALL, NATIVE, CALLS = "all", "native", "calls"
 SCOPES = {ALL: [], NATIVE: ["--native"], CALLS: ["--calls"]}
-# What is said of a scope that leaves foreign calls out.
+# The line about a scope that leaves out other ABIs.
 LOOKED_AT = {NATIVE: "compared: x86-64 syscalls; other ABIs are only checked for any allowed syscall:",
              CALLS: "compared: each x86-64 syscall in the table; other ABIs are only checked for any allowed syscall:"}
-# The relations of two answers that scf looks for, by the verdict where one holds; and what isn't as it should be of the
-# named calls that fail it.
+# The options for each relation, by the verdict if it holds; and what is printed of syscalls that fail it.
 RELATIONS = {SAME: [], NO_MORE: ["--no-more"], NO_LESS: ["--no-less"]}
 FAILED = {DIFFERS: "that differ", MORE: "answered more permissively than by the profile",
           LESS: "answered more strictly than by the profile"}
-# So many calls that couldn't be told are listed.
+# At most so many syscalls without a verdict are listed.
 UNTOLD = 20
 
 
 @dataclass
 class Comparison:
-    """Filters, oldest first, a profile and a table; the most steps, as a text, where they aren't scf's; a relation; of a
-    resolved profile where each entry stands in the user's, and the least number that runc answers by ENOSYS."""
+    """Filters, oldest first, a profile and a table; the step limit as a text, or None for scf's; a relation; of a
+    resolved profile the index of each entry in the user's, and the least number that runc answers with ENOSYS."""
 
     filters: Sequence[Filter]
     profile: bytes
@@ -46,7 +45,7 @@ class Comparison:
 
     @property
     def facts(self) -> Profile | None:
-        """What is known of the profile beside what scf says."""
+        """What the tools read of the profile themselves."""
         if not self._facts:
             from . import profiles  # pylint: disable=import-outside-toplevel
 
@@ -62,8 +61,8 @@ class Comparison:
         return done.status, verdicts.report(done.text, known.names if known else None, self.table, pointer)
 
     def run(self, scope: str = ALL, relation: str | None = None) -> tuple[int, Report]:
-        """The status of scf, and what it printed, by the relation that was asked for or by this one. Where a call of
-        an architecture decides that the profile names, too, nothing is determined."""
+        """scf's exit status and report, for this relation or the comparison's own. The verdict is `undetermined` if
+        the syscall that decides is of an architecture that the profile also names."""
         relation, filters = relation or self.relation, [one.data for one in self.filters]
         status, report = self._run(scope, filters, None, relation)
         call = report.verdict.call if report.verdict is not None else None
@@ -71,7 +70,7 @@ class Comparison:
             return status, report
         if call.other_abi is not None and call.other_abi not in report.architectures:
             return status, report
-        # whether anything else decides, and if nothing does, whether a call does or only numbers that no call has
+        # whether anything else decides, and if nothing does, whether a syscall does or only numbers that none has
         for names in (report.architectures, ()):
             ended, others = self._run(scope, [*foreign.denial_filters(names), *filters], None, relation)
             if others.verdict is None or names == () and others.verdict.fails:
@@ -81,11 +80,11 @@ class Comparison:
         return status, report
 
     def native(self, filters: Sequence[bytes], profile: bytes | None = None) -> Report:
-        """What scf says of other filters, beside the profile or another one, over native calls."""
+        """scf's report on other filters, compared with the profile or another one, over x86-64 syscalls."""
         return self._run(NATIVE, filters, profile)[1]
 
     def is_same(self, filters: Sequence[bytes], profile: bytes | None = None) -> bool:
-        """Whether other filters answer all native calls as the profile, or as another one."""
+        """Whether other filters answer every x86-64 syscall as the profile, or another one, does."""
         verdict = self.native(filters, profile).verdict
         return verdict is not None and verdict.word == SAME
 
@@ -94,7 +93,7 @@ class Comparison:
 
 
 def as_undetermined(report: Report) -> Report:
-    """A report whose call is one that the profile is for, and scf doesn't judge."""
+    """A report whose syscall the profile covers, and scf doesn't judge."""
     assert report.verdict is not None
     return replace(report, lines=(FOR_OTHER_ABI, *report.lines[1:3]),
                    verdict=replace(report.verdict, word=UNDETERMINED, profile=None))
@@ -105,7 +104,7 @@ def named(what: Sequence[str]) -> str:
 
 
 def fault_of_one(filters: Sequence[Filter], fault: verdicts.Fault) -> list[str]:
-    """The files of the filters that a fault of a stack is of."""
+    """The files of the filters that cause a stack's fault."""
     if fault.source == "filter":
         for one in filters:
             if program.scf(["check"], one.data).text.split("\n", 1)[0] == fault.line:
@@ -120,9 +119,9 @@ def fault_of_one(filters: Sequence[Filter], fault: verdicts.Fault) -> list[str]:
 
 
 def undecided_alone(comparison: Comparison, scope: str) -> Iterator[tuple[Filter, int | None]]:
-    """The filters of several that are undecided by themselves, and where.
+    """The filters of a stack that are undecided by themselves, and the instruction index.
 
-    The place that scf names for all of them may be one of another filter, which only the undecided calls come to.
+    The index that scf prints for the stack may belong to another filter, which only the undecided syscalls reach.
     """
     for one in comparison.filters:
         verdict = comparison.alone(one, scope).verdict
@@ -131,7 +130,7 @@ def undecided_alone(comparison: Comparison, scope: str) -> Iterator[tuple[Filter
 
 
 def whose_files(comparison: Comparison, report: Report, scope: str) -> list[str]:
-    """The files of the filters, of several, that a fault is of or that are undecided."""
+    """The files of the filters in a stack that cause a fault or are undecided."""
     if len(comparison.filters) < 2:
         return []
     if report.fault:
@@ -142,7 +141,7 @@ def whose_files(comparison: Comparison, report: Report, scope: str) -> list[str]
 
 
 def whose(comparison: Comparison, report: Report, scope: str) -> Iterator[str]:
-    """Which filter of several a fault is of, or which of them are undecided."""
+    """Which filters of a stack cause a fault or are undecided."""
     if len(comparison.filters) > 1 and report.fault:
         for name in fault_of_one(comparison.filters, report.fault):
             yield f"the filter is {name}"
@@ -152,7 +151,7 @@ def whose(comparison: Comparison, report: Report, scope: str) -> Iterator[str]:
 
 
 def _counted(calls: Sequence[NamedCall]) -> Iterator[str]:
-    """How many calls by name differ, and their lines; and the same of those that couldn't be told."""
+    """The count and the lines of the syscalls that differ, and of those without a verdict."""
     differing = [call for call in calls if call.verdict.fails]
     if differing:
         yield f"syscalls in the table {FAILED[differing[0].verdict.word]}: {len(differing)}"
@@ -165,10 +164,9 @@ def _counted(calls: Sequence[NamedCall]) -> Iterator[str]:
 
 
 def of_native_calls(comparison: Comparison, report: Report) -> tuple[list[str], list[str]]:
-    """Where native calls differ, what is added before scf's call is told, and what behind it.
+    """The lines before and after the explanation of scf's example, if x86-64 syscalls differ.
 
-    Calls that are only newer than the profile stand apart: where there are no others, that comes first; where there
-    are, these come first.
+    Syscalls that are only newer than the profile are reported apart: first if there are no others, else last.
     """
     from . import newer  # pylint: disable=import-outside-toplevel
 
@@ -194,12 +192,12 @@ def of_native_calls(comparison: Comparison, report: Report) -> tuple[list[str], 
 
 
 def of_fates(comparison: Comparison, scope: str) -> tuple[Report, Report]:
-    """Of filters that don't answer as the profile: whether they let through no more, and whether no less."""
+    """Reports on filters that differ: whether they are nowhere more permissive, and whether nowhere stricter."""
     return comparison.run(scope, NO_MORE)[1], comparison.run(scope, NO_LESS)[1]
 
 
 def of_refusing_more(comparison: Comparison, scope: str) -> Iterator[str]:
-    """Where filters that don't answer as the profile let nothing through that it refuses, that they don't."""
+    """A line if filters that differ from the profile are never more permissive."""
     no_more, no_less = (report.verdict for report in of_fates(comparison, scope))
     if no_more is None or not no_more.holds:
         return
@@ -216,7 +214,7 @@ def of_refusing_more(comparison: Comparison, scope: str) -> Iterator[str]:
 
 
 def of_fault(fault: verdicts.Fault, profile: bytes, table: Table) -> Iterator[str]:
-    """What a fault is and what to do; where the profile isn't JSON, the place where it stops being it."""
+    """What a fault is and what to do; if the profile isn't JSON, where the error is."""
     yield from explaining.of_fault(fault, table)
     if (fault.source, fault.kind) == ("profile", "Json"):
         from . import profiles  # pylint: disable=import-outside-toplevel
@@ -234,7 +232,7 @@ def sentences_of(comparison: Comparison, fault: verdicts.Fault) -> Iterator[str]
 
 
 def of_left_out(comparison: Comparison, report: Report) -> Iterator[str]:
-    """What of the profile was left out: skipped names, and other architectures."""
+    """What was left out of the profile: skipped names, and other architectures."""
     if report.skipped:
         facts = comparison.facts
         yield from explaining.of_skipped(report, comparison.table, bool(facts and facts.lets_through_by_default))
@@ -242,7 +240,7 @@ def of_left_out(comparison: Comparison, report: Report) -> Iterator[str]:
 
 
 def of_foreign(comparison: Comparison, report: Report, scope: str, is_quiet: bool = False) -> Iterator[str]:
-    """What a scope doesn't cover, and whether calls outside of it are let through; if quiet only where some may be."""
+    """Whether syscalls of other ABIs are allowed, which a scope doesn't cover; if quiet, only if some may be."""
     if scope not in LOOKED_AT or report.verdict is None:
         return
     found = foreign.let_through([one.data for one in comparison.filters], comparison.limit)
@@ -252,7 +250,7 @@ def of_foreign(comparison: Comparison, report: Report, scope: str, is_quiet: boo
 
 
 def added(comparison: Comparison, report: Report, scope: str) -> Iterator[str]:
-    """What is said behind scf's lines."""
+    """The lines behind scf's."""
     table, count = comparison.table, len(comparison.filters)
     if report.fault:
         yield from sentences_of(comparison, report.fault)
@@ -280,12 +278,12 @@ def added(comparison: Comparison, report: Report, scope: str) -> Iterator[str]:
 
 
 def compiled(profile: bytes, table: Table) -> tuple[int, bytes, list[str]]:
-    """The status of scf, the filter of a profile, and what is said of it: of a refusal, or of what was left out."""
+    """scf's exit status, a profile's filter, and lines about a refusal, or about what was left out."""
     done = program.scf(["compile"], bundles.of_compilation(profile, table.data))
     fault = None if done.status == program.WELL else verdicts.Fault.read(done.text.split("\n", 1)[0])
     if fault:
         return done.status, b"", [fault.line, *of_fault(fault, profile, table)]
-    # without a step the comparison says what was left out, and no more
+    # without a step the comparison only reports what was left out
     comparison = Comparison([Filter("the compiled one", done.out)], profile, table, "0")
     report = comparison.run(NATIVE)[1]
     facts = comparison.facts if report.skipped else None
@@ -294,7 +292,7 @@ def compiled(profile: bytes, table: Table) -> tuple[int, bytes, list[str]]:
 
 
 def _side_json(verdict: Verdict, table: Table) -> dict[str, object]:
-    """What a verdict shows, as members of an object."""
+    """A verdict's example, as members of an object."""
     found: dict[str, object] = {}
     if verdict.call:
         found["call"] = verdict.call.as_json(table)
@@ -307,7 +305,7 @@ def _side_json(verdict: Verdict, table: Table) -> dict[str, object]:
 
 
 def as_json(comparison: Comparison, report: Report, scope: str, status: int) -> dict[str, object]:
-    """All that `added` says, as one object without scf's lines."""
+    """The same as `added`, as one object without scf's lines."""
     table = comparison.table
     found: dict[str, object] = {"status": status, "scope": scope,
                                 "verdict": report.verdict.word if report.verdict else None}

@@ -1,7 +1,7 @@
-"""Conditions of a profile beside what the kernel does with an argument (tables/x86_64.arguments).
+"""Odd conditions of a profile, given what the kernel reads of an argument (tables/x86_64.arguments).
 
-A filter compares all 64 bits of a register. Of an `int` the kernel reads the lower half, so that a denial by its value
-is evaded by a bit in the upper one (CVE-2019-10063 was that). That a denial is evaded is a pair of answers of scf.
+A filter compares all 64 bits of a register. The kernel reads only the lower half of an `int`, so a bit in the upper
+half evades a denial by its value (CVE-2019-10063 was that). An evaded denial is shown by two answers of scf.
 """
 from __future__ import annotations
 
@@ -18,9 +18,9 @@ from .trials import Trial
 
 LOW = (1 << 32) - 1
 DENIES, ALLOWS_ALL = ("SCMP_ACT_ERRNO", 1), b'{"defaultAction": "SCMP_ACT_ALLOW"}'
-# The most answers that are worked out in the search for evaded denials.
+# The most answers to compute in the search for evaded denials.
 LOOKS = 200000
-# A bit of the upper half, which stands for all of them.
+# A bit of the upper half, as an example for all of them.
 UPPER = 1 << 32
 
 
@@ -30,7 +30,7 @@ def _always_holds(one: Condition) -> bool:
 
 
 def _is_null_test(one: Condition) -> bool:
-    """Whether a condition only tells an address that is 0 from all others."""
+    """Whether a condition only tests whether an address is 0."""
     if one.op == "SCMP_CMP_MASKED_EQ":
         return one.value == entries.MOST and one.two == 0
     return (one.op, one.value) in (("SCMP_CMP_EQ", 0), ("SCMP_CMP_NE", 0), ("SCMP_CMP_GT", 0), ("SCMP_CMP_LE", 0),
@@ -38,7 +38,7 @@ def _is_null_test(one: Condition) -> bool:
 
 
 def _of_value(entry: Entry, place: int, one: Condition) -> Iterator[Finding]:
-    """What is odd in a condition by itself."""
+    """What is odd about a condition by itself."""
     where, more = f"entry {entry.place}, condition {place}", {"entry": entry.place, "condition": place}
     if _always_holds(one):
         swapped = "; value is the mask, and valueTwo what is compared with: they may be swapped" if one.two else ""
@@ -49,7 +49,7 @@ def _of_value(entry: Entry, place: int, one: Condition) -> Iterator[Finding]:
 
 
 def _of_argument(entry: Entry, place: int, one: Condition, known: dict[str, str]) -> Iterator[Finding]:
-    """What is odd in a condition by the argument that it is on."""
+    """What is odd about a condition, given its argument."""
     where, more = f"entry {entry.place}, condition {place}", {"entry": entry.place, "condition": place}
     has = [name for name in entry.names if name in known]
     lacking = [name for name in has if one.index >= len(known[name])]
@@ -69,7 +69,7 @@ def _of_argument(entry: Entry, place: int, one: Condition, known: dict[str, str]
 
 
 def of_conditions(found: Sequence[Entry]) -> Iterator[Finding]:
-    """Conditions that can't mean what they say: they always hold, or are on the wrong argument."""
+    """Conditions that can't be meant: they always hold, or are on the wrong argument."""
     known = arguments.read()
     for entry in found:
         for place, one in enumerate(entry.conditions):
@@ -100,7 +100,7 @@ def of_unions(trial: Trial, found: Sequence[Entry]) -> Iterator[Finding]:
 
 
 class Denials:
-    """A search for denials that a bit in the upper half of a register evades."""
+    """Searches for denials that a bit in the upper half of a register evades."""
 
     def __init__(self, table: Table, ask: Callable[[Call], Reason], default: tuple[str, int], found: Sequence[Entry]):
         self.table, self.ask, self.default = table, ask, default
@@ -111,14 +111,14 @@ class Denials:
                 self._of_number.setdefault(table.number_of(name), []).append(entry)
 
     def _allows(self, number: int, record: dict[int, int]) -> bool:
-        """Whether a call is allowed, by the entries as they are read here; scf has the last word."""
+        """Whether a syscall is allowed, by the entries as read here; scf has the last word."""
         having = self._of_number[number]
         self.looks -= len(having)
         answer = next((it.answer for it in having if entries.meet(it.conditions, record)), self.default)
         return answer[0] in ("SCMP_ACT_ALLOW", "SCMP_ACT_LOG")
 
     def _evaded(self, number: int, entry: Entry, one: Condition) -> tuple[dict[int, int], dict[int, int]] | None:
-        """Arguments that are denied, and the same with a bit in the upper half, which are allowed."""
+        """Arguments that are denied, and are allowed with a bit in the upper half."""
         others = tuple(it for it in entry.conditions if it.index != one.index)
         beside = record_of([others], []) or {}
         for value in dict.fromkeys(edge & LOW for edge in one.edges()):
@@ -148,7 +148,7 @@ class Denials:
                         "others": {str(at): value for at, value in others.items()}})
 
     def run(self, found: Sequence[Entry]) -> Iterator[Finding]:
-        """Each syscall and argument once, where a denial is evaded."""
+        """The evaded denials, each syscall and argument once."""
         known, seen, count = arguments.read(), set(), 0
         for entry in found:
             for one in entry.conditions:

@@ -1,9 +1,9 @@
-"""Containers: which processes are taken for those of one, told by control groups (cgroups(7)) and namespaces.
+"""Containers: which processes belong to one, by control groups (cgroups(7)) and namespaces.
 
 A process may be in a group below its container's: systemd puts itself into init.scope, and its services beside that.
-The container's own group is the highest one that something tells: the root of a mount of control groups that the
-process sees (a runtime mounts the container's own group, and no other), a name that a runtime gives, or systemd's names
-for groups beside one another. Where nothing does, it is the process's.
+The container's own group is the highest one that is known to be a container's: the root of a mount of control groups
+that the process sees (a runtime mounts the container's own group, and no other), a name that a runtime gives, or
+systemd's names for sibling groups. If there is none, it is the process's.
 """
 from __future__ import annotations
 
@@ -16,8 +16,8 @@ from . import output
 from .hold import Unreadable
 from .ptrace import Kernel
 
-# The hierarchies of control groups in which a container is sought, in this order: the one of version 2, which names no
-# controllers, and of version 1 that of systemd and the one that counts processes.
+# The cgroup hierarchies in which a container is searched for, in this order: that of version 2, which names no
+# controllers, and of version 1 those of systemd and of the pids controller.
 HIERARCHIES = ("", "name=systemd", "pids")
 # How runtimes name the group of a container: by its identifier of 64 hexadecimal digits, alone or as in libpod-ID,
 # docker-ID.scope, cri-containerd-ID.scope and crio-ID.scope; podman's has the container in a group below. runc and crun
@@ -47,9 +47,9 @@ class Group:
 
 @dataclass
 class Container:
-    """The processes that are taken for those of one container."""
+    """The processes of a container."""
 
-    # What they have in common: the path of a control group; None where it is a PID namespace.
+    # The path of their control group; None if they share a PID namespace instead.
     group: bytes | None
     processes: Callable[[], list[int]]
     # Those of the PID namespace in other groups, of which nothing tells whether they are the container's.
@@ -66,7 +66,7 @@ def why_no_group(process: int, path: bytes) -> str:
 
 
 def told_groups(kernel: Kernel, process: int, path: bytes) -> Iterator[bytes]:
-    """The groups at or above that of a process which something tells to be a container's."""
+    """The groups at or above a process's that are known to be a container's."""
     for root in kernel.mounted_groups(process):
         if root != b"/" and (path + b"/").startswith(root + b"/"):
             yield root
@@ -79,10 +79,10 @@ def told_groups(kernel: Kernel, process: int, path: bytes) -> Iterator[bytes]:
 
 
 def group_of(kernel: Kernel, process: int) -> Group | None:
-    """The container's own group of a process, or None where it is in the root group.
+    """The control group of a process's container, or None if the process is in the root group.
 
-    In a cgroup namespace the kernel shows its root as `/`, whichever group that is, and what is outside as `/..` and
-    what follows, so that what is in such a group isn't known.
+    In a cgroup namespace the kernel shows its root as `/`, whichever group that is, and groups outside as `/..`, so
+    that the processes of such a group are unknown.
     """
     groups = kernel.groups_of(process)
     for name in HIERARCHIES:
@@ -99,8 +99,8 @@ def group_of(kernel: Kernel, process: int) -> Group | None:
 
 
 def container_of(kernel: Kernel, process: int) -> Container:
-    """The processes of the container's own group of a process, and of those below it; where that is the root, those of
-    its PID namespace, and of those within it."""
+    """The processes in the group of a process's container and in those below it; if that is the root, those in its PID
+    namespace and in those within it."""
     group = group_of(kernel, process)
     space, own = kernel.namespaces_of(process)[:1], kernel.namespaces_of(os.getpid())[:1]
     has_space = bool(space) and space != own

@@ -1,4 +1,4 @@
-"""What filters answer to calls: each call that is asked for, and which filter of a stack gives the answer."""
+"""What filters answer to syscalls: the requested records, and which filter of a stack gives the answer."""
 from __future__ import annotations
 
 import re
@@ -19,13 +19,13 @@ if TYPE_CHECKING:
     from .words import Parser
 
 
-# No name of a call and no number is longer.
+# No name of a syscall and no number is longer.
 LONGEST_WORD = 256
 
 
 @dataclass(frozen=True)
 class Asked:
-    """A call as it is asked for: the options of scf, as texts; scf judges the numbers."""
+    """A requested record: the options of scf as texts; scf checks the numbers."""
 
     texts: tuple[tuple[str, str], ...]
 
@@ -34,7 +34,7 @@ class Asked:
 
     @property
     def call(self) -> Call | None:
-        """The call, where each text is a number."""
+        """The record, if each text is a number."""
         texts = {"arch": hex(X86_64), **dict(self.texts)}
         numbers = [number_in(texts.get(name, "0")) for name in OPTIONS]
         found = [number for number in numbers if number is not None]
@@ -42,7 +42,7 @@ class Asked:
 
 
 def of_words(words: Sequence[str]) -> Asked:
-    """The call that scf's own words ask for."""
+    """The record that scf's own options request."""
     found: dict[str, str] = {}
     for at, word in enumerate(words):
         name, is_given, text = word.partition("=")
@@ -52,7 +52,7 @@ def of_words(words: Sequence[str]) -> Asked:
 
 
 def _add_numbers(parser: Parser) -> None:
-    """Adds the options that give what a call has beside its number."""
+    """Adds the options for a record's fields beside its number."""
     parser.add_argument("--arch", metavar="ARCH", help="by name (i386, x32, aarch64, SCMP_ARCH_..) or by number, also "
                                                        "as audit's log has it (c000003e) [default: x86_64]")
     for name in OPTIONS[2:]:
@@ -60,13 +60,13 @@ def _add_numbers(parser: Parser) -> None:
 
 
 def add_one_call(parser: Parser, what: str) -> None:
-    """Adds the options that give one call, or none."""
+    """Adds the options that give one record, or none."""
     parser.add_argument("--nr", metavar="NUMBER|NAME", help=f"{what}, by number or by name [default: 0]")
     _add_numbers(parser)
 
 
 def add_options(parser: Parser) -> None:
-    """Adds the options that give calls, and how they are answered."""
+    """Adds the options that give records, and --json."""
     parser.add_argument("--nr", metavar="NUMBER|NAME", action="append", default=[],
                         help="a syscall, by number or by name; may be repeated [default: 0]")
     parser.add_argument("--calls-from", metavar="FILE",
@@ -79,10 +79,10 @@ def add_options(parser: Parser) -> None:
 
 @dataclass(frozen=True)
 class Numbering:
-    """How the number of a call is given: by names of a table, which has those of x86-64 alone, or as it is."""
+    """How a syscall number is given: by a name of the table, which has only those of x86-64, or as a number."""
 
     table: Table
-    # --arch as it was given, or None
+    # --arch as given, or None
     architecture: str | None
 
     @property
@@ -95,13 +95,13 @@ class Numbering:
             number_in(architectures.number_in(self.architecture)) == X86_64)
 
     def number_of(self, text: str) -> str:
-        """The number of a call that is given by its name or its number, as scf takes it."""
+        """The number, as scf takes it, of a syscall given by name or number."""
         if re.match("[A-Za-z_]", text):
             return str(self._named(text))
         if text == "-1":
             return hex(SKIPPED)
         number = number_in(text)
-        # an x32 call has bit 30, whether or not it is given with it
+        # an x32 number has bit 30, whether or not it was given with it
         return hex(number | X32) if self.is_x32 and number is not None and number < X32 else text
 
     def _named(self, name: str) -> int:
@@ -119,7 +119,7 @@ class Numbering:
 
 
 def _lines_of(name: str) -> Iterator[list[str]]:
-    """The words of each line of a list of calls; a line that begins with `#` says nothing."""
+    """The words of each line of a list of syscalls; a line that begins with `#` is a comment."""
     for line in inputs.read_whole(name, "list of syscalls").decode("utf-8", "surrogateescape").split("\n"):
         given = line.split()
         if given and not given[0].startswith("#"):
@@ -129,7 +129,7 @@ def _lines_of(name: str) -> Iterator[list[str]]:
 
 
 def _rest_of(given: object) -> tuple[tuple[str, str], ...]:
-    """The options that give what a call has beside its number."""
+    """The given fields of a record beside its number."""
     texts = {name: getattr(given, name) for name in OPTIONS[1:] if getattr(given, name) is not None}
     if "arch" in texts:
         texts["arch"] = architectures.number_in(texts["arch"])
@@ -137,7 +137,7 @@ def _rest_of(given: object) -> tuple[tuple[str, str], ...]:
 
 
 def one_asked(given: object, table: Table) -> Asked | None:
-    """The call that the options of a command line ask for, which may give one; None where they give none."""
+    """The record that a command line requests, or None."""
     number, rest = getattr(given, "nr"), _rest_of(given)
     if number is None and not rest:
         return None
@@ -146,7 +146,7 @@ def one_asked(given: object, table: Table) -> Asked | None:
 
 
 def asked(given: object, table: Table) -> list[Asked]:
-    """The calls that the options of a command line ask for, in their order."""
+    """The records that a command line requests, in order."""
     rest, numbering = _rest_of(given), Numbering(table, getattr(given, "arch"))
     found = [Asked((("nr", numbering.number_of(text)), *rest)) for text in getattr(given, "nr")]
     if getattr(given, "calls_from") is not None:
@@ -159,7 +159,7 @@ def asked(given: object, table: Table) -> list[Asked]:
 
 
 def of_fault(filters: Sequence[Filter], decision: Decision) -> Iterator[str]:
-    """Which filter of several a fault is of."""
+    """Which filter of several causes a fault."""
     found = fault_of_one(filters, decision.fault) if decision.fault and len(filters) > 1 else []
     if found:
         yield f"the filter is {named(found)}"
@@ -178,7 +178,7 @@ def of_givers(filters: Sequence[Filter], givers: Sequence[Giver]) -> Iterator[st
 
 
 def added(filters: Sequence[Filter], one: Asked, decision: Decision, table: Table) -> Iterator[str]:
-    """What is said behind scf's line of a stack."""
+    """The lines behind scf's for a stack."""
     yield from explaining.of_decision(one.call, decision, table)
     yield from of_fault(filters, decision)
     if decision.answer:
@@ -190,13 +190,13 @@ def added(filters: Sequence[Filter], one: Asked, decision: Decision, table: Tabl
 
 
 def decide(filters: Sequence[Filter], one: Asked) -> tuple[int, Decision]:
-    """What the stack answers, and the status of scf."""
+    """scf's exit status, and what the stack answers."""
     done = program.scf(["decide", *one.words()], bundles.of_stack([it.data for it in filters]))
     return done.status, verdicts.decision(done.text)
 
 
 def worst(statuses: Sequence[int]) -> int:
-    """The status of several runs: a failure before wrong words before a refusal."""
+    """The status of several runs: a failure before a usage error before a refusal."""
     order = (program.FAILED, program.WRONG_WORDS, program.REFUSED, program.UNKNOWN, program.WELL)
     return next((status for status in order if status in statuses), max(statuses, default=program.WELL))
 
@@ -218,7 +218,7 @@ def _json_of(filters: Sequence[Filter], one: Asked, decision: Decision, table: T
 
 @dataclass(frozen=True)
 class Told:
-    """What is answered to a call: the status and the lines of scf; and, where it is asked for, what is added to it."""
+    """The answer to a syscall: scf's status and lines, and on request the added lines."""
 
     status: int
     lines: Sequence[str]
@@ -227,7 +227,7 @@ class Told:
 
 
 def of_stack(filters: Sequence[Filter], one: Asked, table: Table) -> Told:
-    """What a stack answers to a call, which filter of it gives the answer, and the path in that one."""
+    """What a stack answers to a syscall, which filter gives the answer, and the path through that one."""
     status, decision = decide(filters, one)
 
     def as_json() -> dict[str, object]:
@@ -244,7 +244,7 @@ def of_stack(filters: Sequence[Filter], one: Asked, table: Table) -> Told:
 
 
 def of_run(one_filter: Filter, one: Asked, table: Table, with_path: bool) -> Told:
-    """What a filter answers to a call, in how many instructions, and by which path, where that is asked for."""
+    """What a filter answers to a syscall, in how many instructions, and on request by which path."""
     path = paths.of(one_filter.data, one.words(), with_path)
 
     def as_json() -> dict[str, object]:
@@ -255,7 +255,7 @@ def of_run(one_filter: Filter, one: Asked, table: Table, with_path: bool) -> Tol
 
 
 def tell(calls: Sequence[Asked], answer: Callable[[Asked], Told], is_json: bool) -> int:
-    """Prints what is answered to each call, and behind it what it means; the worst status."""
+    """Prints the answer to each syscall and what it means; returns the worst status."""
     statuses, found = [], []
     for one in calls:
         answered = answer(one)

@@ -1,4 +1,4 @@
-"""The effort of comparisons: each has a limit of steps, and all of a tool together one of time."""
+"""The effort of comparisons: each has a limit of steps, and all of a tool together a limit of CPU time."""
 from __future__ import annotations
 
 import os
@@ -7,8 +7,8 @@ from collections.abc import Sequence
 from . import output, program
 from .program import Done
 
-# Where no --limit is given: so many seconds of a processor for a tool and all that it runs; then comparisons have few
-# steps, and in the end none.
+# Without --limit: seconds of CPU time for a tool and all that it runs; after the first limit comparisons have few
+# steps, after the second none.
 SECONDS, ALL_SECONDS, FEW_STEPS = 6, 8, "1000"
 HELP = f"steps at most for each comparison [default: 1000000, and {SECONDS} s of CPU time for all together]"
 SPENT = (f"all comparisons together took {SECONDS} s of CPU time, the most without --limit: what {FEW_STEPS} steps "
@@ -17,12 +17,12 @@ _is_told = False
 
 
 def _taken() -> float:
-    """The seconds of a processor that this process took, and its children that have ended."""
+    """The CPU time of this process and its ended children, in seconds."""
     return sum(os.times()[:4])
 
 
 def _tell() -> None:
-    """Says once that the time is over."""
+    """Reports once that the time is up."""
     global _is_told  # pylint: disable=global-statement
     if not _is_told:
         output.say(program.name(), SPENT)
@@ -30,12 +30,12 @@ def _tell() -> None:
 
 
 def compare(words: Sequence[str], given: bytes, limit: str | None) -> Done:
-    """`scf compare` with so many steps at the most, as a text; without, with scf's own limit while there is time."""
+    """`scf compare` with this step limit, a text; without one, with scf's own while there is time."""
     words = ["compare", *words]
     if limit is not None or not program.is_tool:
         return program.scf([*words, *(["--limit", limit] if limit is not None else [])], given)
     if program.built() is None:
-        # building it takes no part of the time
+        # the time to build it doesn't count
         program.scf(["--version"])
     for steps, until in (([], SECONDS), (["--limit", FEW_STEPS], ALL_SECONDS)):
         left = until - _taken()

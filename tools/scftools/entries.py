@@ -1,6 +1,6 @@
-"""The entries of a profile that scf has read, as it reads them; and a search for records that meet conditions.
+"""The entries of a profile as scf reads them, and a search for arguments that meet conditions.
 
-What is found here only spares comparisons: nothing is said as proved that wasn't a verdict of scf.
+The results only save comparisons: nothing is reported as proved that isn't a verdict of scf.
 """
 from __future__ import annotations
 
@@ -17,15 +17,15 @@ if TYPE_CHECKING:
     from typing import Any
 
 MOST = (1 << 64) - 1
-# So many values of an argument are tried, and so many records.
+# The most values of an argument to try, and the most records.
 VALUES, RECORDS = 32, 512
-# The actions that have two names, and those that have a number (the OCI specification; 1 where none is given).
+# The actions with two names, and those with an errno or data (the OCI specification; 1 if none is given).
 TWICE_NAMED = {"SCMP_ACT_KILL": "SCMP_ACT_KILL_THREAD"}
 WITH_ERRNO = ("SCMP_ACT_ERRNO", "SCMP_ACT_TRACE")
 
 
 class Condition(NamedTuple):
-    """What an entry asks of an argument."""
+    """A condition of an entry on an argument."""
 
     index: int
     op: str
@@ -36,7 +36,7 @@ class Condition(NamedTuple):
         return HOLDS[self.op](argument, self.value, self.two)
 
     def edges(self) -> Iterator[int]:
-        """Values on both sides of it."""
+        """Values that meet it, and values that don't."""
         yield from ((self.value + step) & MOST for step in (0, 1, -1))
         if self.op == "SCMP_CMP_MASKED_EQ":
             yield self.two & self.value
@@ -50,7 +50,7 @@ Conditions = Sequence[Condition]
 
 
 class Entry(NamedTuple):
-    """An entry of `syscalls`, of its names those that the table has, each once; and whether it has others."""
+    """An entry of `syscalls`: those of its names that the table has, each once, and whether it has others."""
 
     place: int
     names: tuple[str, ...]
@@ -65,25 +65,25 @@ class Entry(NamedTuple):
         return {**found, "args": [it.as_json() for it in self.conditions]}
 
     def allowing(self, names: Sequence[str]) -> Entry:
-        """The entry for some names, if it let them through."""
+        """The entry for some names, with ALLOW as its action."""
         return self._replace(names=tuple(names), answer=("SCMP_ACT_ALLOW", 0))
 
 
 def profile_of(default: tuple[str, int], entries: Iterable[Entry]) -> bytes:
-    """The text of a profile for x86-64, without the entries that have no name."""
+    """The text of a profile for x86-64, without entries that have no names."""
     errno = {"defaultErrnoRet": default[1]} if default[0] in WITH_ERRNO else {}
     listed = [it.as_json() for it in entries if it.names]
     return json.dumps({"defaultAction": default[0], **errno, "syscalls": listed}).encode()
 
 
 def answer_of(action: str, errno: object) -> tuple[str, int]:
-    """An action under one name, with its number."""
+    """An action under one of its names, with its data."""
     number = errno if isinstance(errno, int) else 1 if action in WITH_ERRNO else 0
     return TWICE_NAMED.get(action, action), number
 
 
 class Object(dict):
-    """An object of JSON, and the names of members that stand in it more than once; one that is null is absent."""
+    """A JSON object, and the names of repeated members; a null member is absent."""
 
     # a profile may have a million objects
     __slots__ = ("repeated",)
@@ -97,12 +97,12 @@ class Object(dict):
 
 def _repeated(pairs: Sequence[tuple[str, Any]]) -> tuple[str, ...]:
     seen: set[str] = set()
-    # `add` has no value, so that a name is kept where it was seen before
+    # `add` returns None, so a name is kept if it was seen before
     return tuple(dict.fromkeys(name for name, _ in pairs if name in seen or seen.add(name)))
 
 
 def read(data: bytes) -> Object | None:
-    """The seccomp object of a profile, or of a whole config.json; None where it can't be told."""
+    """The seccomp object of a profile or a whole config.json; None if it can't be read."""
     def whole(text: str) -> int | str:
         return int(text) if len(text) <= LONGEST_NUMBER else text
 
@@ -120,7 +120,7 @@ def default_of(top: Object) -> tuple[str, int]:
 
 
 def entry_of(place: int, entry: Object, number_of: Callable[[str], int | None]) -> Entry:
-    """An entry that scf has read; of its names those that a table has."""
+    """An entry as scf reads it, with those of its names that a table has."""
     conditions = tuple(Condition(it["index"], it["op"], it["value"], it.get("valueTwo", 0))
                        for it in entry.get("args", []))
     names = dict.fromkeys(entry["names"])
@@ -133,7 +133,7 @@ def entries_of(top: Object, number_of: Callable[[str], int | None]) -> list[Entr
 
 
 def _values(conditions: Iterable[Condition], index: int) -> list[int]:
-    """Values of an argument at which some condition on it changes, alone or beside the bits of another."""
+    """Values of an argument at which some condition on it changes, alone or combined with the bits of another."""
     on_it = [it for it in conditions if it.index == index]
     edges = list(itertools.islice(itertools.chain((edge for it in on_it for edge in it.edges()), (0, MOST)), VALUES))
     mixed = ((it.two & it.value) | edge & ~it.value for it in on_it if it.op == "SCMP_CMP_MASKED_EQ" for edge in edges)
@@ -145,7 +145,7 @@ def meet(conditions: Conditions, record: dict[int, int]) -> bool:
 
 
 def record_of(all_of: Sequence[Conditions], none_of: Sequence[Conditions]) -> dict[int, int] | None:
-    """Arguments that meet all of the first and none of the second, or None where no such are found."""
+    """Arguments that meet all of the first conditions and none of the second, or None if none are found."""
     if any(not conditions for conditions in none_of):
         return None
     wanted = [condition for conditions in all_of for condition in conditions]

@@ -1,4 +1,4 @@
-"""What scf's answers, verdicts and faults mean, in sentences: what the tools add behind scf's lines."""
+"""What scf's answers, verdicts and faults mean: the lines that the tools add behind scf's."""
 from __future__ import annotations
 
 from collections.abc import Iterator
@@ -17,7 +17,7 @@ def of_fault(fault: Fault, table: Table | None) -> Iterator[str]:
 
 
 def of_call(call: Call, table: Table, is_native: bool | None = None) -> Iterator[str]:
-    """A call's name, and whether a comparison of native calls leaves it out, where one could be asked for."""
+    """A syscall's name, and whether --native leaves it out, if that could be given."""
     yield f"the syscall is {call.told(table)}"
     if is_native is False and not call.is_native:
         yield f"--native leaves out {call.left_out_of_native()}"
@@ -28,7 +28,7 @@ def of_answer(answer: Answer) -> str:
 
 
 def of_differing(verdict: verdicts.Verdict, table: Table, is_native: bool, count: int) -> Iterator[str]:
-    """The call that is answered otherwise, and what both answers do; of more and less what becomes of it, too."""
+    """The syscall that differs, and what both answers do; for `more` and `less` also both dispositions."""
     if verdict.call is None:
         return
     yield from of_call(verdict.call, table, is_native)
@@ -42,7 +42,7 @@ def of_differing(verdict: verdicts.Verdict, table: Table, is_native: bool, count
 
 
 def of_verdict(report: Report, table: Table, is_native: bool, count: int) -> Iterator[str]:
-    """What a verdict of so many filters means, but for what was left out of the profile."""
+    """What a verdict on `count` filters means, except for what was left out of the profile."""
     verdict = report.verdict
     if verdict is None:
         return
@@ -53,7 +53,7 @@ def of_verdict(report: Report, table: Table, is_native: bool, count: int) -> Ite
 
 
 def of_skipped(report: Report, table: Table, default_lets_through: bool) -> Iterator[str]:
-    """What the skipped names are, and what is lost by them."""
+    """What the skipped names are, and what is lost with them."""
     if not report.skipped:
         return
     from . import tables  # pylint: disable=import-outside-toplevel
@@ -89,7 +89,7 @@ def of_killed_architectures(report: Report) -> Iterator[str]:
 
 
 def of_decision(call: Call | None, decision: Decision, table: Table) -> Iterator[str]:
-    """What a run or a decision says of a call."""
+    """What `scf run` or `scf decide` says about a syscall."""
     if decision.fault:
         yield from of_fault(decision.fault, table)
     elif decision.answer:

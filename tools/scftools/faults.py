@@ -1,4 +1,4 @@
-"""The rows of docs/FAULTS.md: what is said of a fault, an undecided and an unfinished comparison."""
+"""The rows of docs/FAULTS.md: what a fault, `undecided` and `unfinished` mean."""
 from __future__ import annotations
 
 import re
@@ -9,13 +9,13 @@ UNNAMED = ["docs/FAULTS.md doesn't name this line."]
 
 
 def _key(line: str) -> str:
-    """A printed line's words up to its numbers, which name its row."""
+    """The words of a printed line up to its numbers, which are the key of its row."""
     words = line.split()
     return " ".join(words[:3] if words[:1] == ["fault"] else words[:1])
 
 
 def _rows() -> dict[str, list[str]]:
-    """For each line that the page names, its words without numbers, the cells behind it but for its status."""
+    """For each line in the page, by its words without numbers, the cells after it except the status."""
     found: dict[str, list[str]] = {}
     with open(program.FAULTS, encoding="utf-8") as file:
         for line in file:
@@ -27,5 +27,5 @@ def _rows() -> dict[str, list[str]]:
 
 
 def what_a_row_says(line: str) -> list[str]:
-    """The sentences of a printed line's row: when it comes, and what to do."""
+    """The sentences of a printed line's row: when it appears, and what to do."""
     return _rows().get(_key(line), UNNAMED)

@@ -10,12 +10,12 @@ from . import bundles, inputs
 # linux/filter.h: struct sock_filter, and BPF_MAXINSNS.
 INSTRUCTION = struct.Struct("<HBBI")
 LONGEST = 4096
-# linux/bpf_common.h: the codes that the tools make or look at.
+# linux/bpf_common.h: the codes that the tools write or read.
 LOAD_WORD, LOAD_CONSTANT, RETURN_CONSTANT, JUMP = 0x20, 0x00, 0x06, 0x05
-# Where the halves of the instruction pointer stand in struct seccomp_data (linux/seccomp.h).
+# The offsets of the halves of the instruction pointer in struct seccomp_data (linux/seccomp.h).
 POINTER = (8, 12)
 JEQ, JGT, JGE, JSET, BY_X = 0x10, 0x20, 0x30, 0x40, 0x08
-# The whole of a stack, of which each older filter counts so many instructions more (MAX_INSNS_PER_PATH in
+# The most instructions of a stack, in which each older filter counts some more (MAX_INSNS_PER_PATH in
 # kernel/seccomp.c, which counts the kernel's own translation).
 LONGEST_STACK, MORE_OF_OLDER = 32768, 4
 
@@ -29,7 +29,7 @@ class Filter:
 
     @property
     def count(self) -> int:
-        """The count of its whole instructions."""
+        """The number of its complete instructions."""
         return len(self.data) // INSTRUCTION.size
 
 
@@ -39,7 +39,7 @@ def read(name: str) -> Filter:
 
 
 def read_stack(names: Sequence[str]) -> list[Filter]:
-    """The filters of some files; where they are more than scf reads, as many as show it."""
+    """The filters of some files; if they exceed what scf reads, only as many as show that."""
     found: list[Filter] = []
     length = 0
     for name in names:
@@ -55,21 +55,21 @@ def instruction(code: int, k: int, if_true: int = 0, if_false: int = 0) -> bytes
 
 
 def looks_at_pointer(data: bytes) -> bool:
-    """Whether a half of the instruction pointer is loaded somewhere."""
+    """Whether any instruction loads a half of the instruction pointer."""
     whole = data[:len(data) // INSTRUCTION.size * INSTRUCTION.size]
     return any(code == LOAD_WORD and k in POINTER for code, _, _, k in INSTRUCTION.iter_unpack(whole))
 
 
 def answering_from(data: bytes, number: int, answer: int) -> bytes:
-    """The filter that answers so where the call's number is at least this one, and as these bytes elsewhere.
+    """A filter that gives this answer from this syscall number on, and otherwise runs these bytes.
 
-    The accumulator is 0 again where they begin, as the kernel begins with it.
+    The accumulator is 0 again when they start, as in the kernel.
     """
     return (instruction(LOAD_WORD, 0) + instruction(JUMP | JGE, number, 0, 1) + instruction(RETURN_CONSTANT, answer)
             + instruction(LOAD_CONSTANT, 0) + data)
 
 
 def answering_below(data: bytes, number: int, answer: int) -> bytes:
-    """The filter that answers so where the call's number is below this one, and as these bytes elsewhere."""
+    """A filter that gives this answer below this syscall number, and otherwise runs these bytes."""
     return (instruction(LOAD_WORD, 0) + instruction(JUMP | JGE, number, 1, 0) + instruction(RETURN_CONSTANT, answer)
             + instruction(LOAD_CONSTANT, 0) + data)

@@ -1,10 +1,10 @@
-"""Foreign calls beside a comparison of native ones, which says nothing of them: whether filters let any through.
+"""Syscalls of other ABIs, which a comparison of x86-64 syscalls leaves out: whether filters allow any.
 
-A filter without a test of the architecture reads the number of an i386 call as if it were a native one; and x32 calls
-are of the native architecture, with numbers from 0x40000000 on. An x86-64 kernel makes no others. By each profile a
-foreign call is refused. So scf is asked whether the filters let through no more than a profile that allows every native
-call, behind an older filter that refuses all calls but those of one kind: what is said of a kind is said of all its
-calls. Where scf can't tell, some calls are tried by `scf decide`, and `none` is said of those alone.
+A filter that doesn't test the architecture takes the number of an i386 syscall for one of x86-64; and x32 syscalls have
+the architecture of x86-64, with numbers from 0x40000000 on. An x86-64 kernel has no other ABIs. Each profile denies
+foreign syscalls. So scf is asked whether the filters are nowhere more permissive than a profile that allows every
+x86-64 syscall, together with an older filter that denies all but one kind: the result holds for all syscalls of the
+kind. If scf can't decide, some syscalls are tried by `scf decide`, and the result says so.
 """
 from __future__ import annotations
 
@@ -31,8 +31,8 @@ def jump(test: int, k: int, if_true: int, if_false: int) -> bytes:
 
 @dataclass(frozen=True)
 class Kind:
-    """Foreign calls of one kind: what they are, their architecture, its OCI name, some of them by name, and the tests
-    of a filter that go on behind them for these calls alone, and else skip one instruction more."""
+    """Foreign syscalls of one kind: their ABI, its architecture and OCI name, some of them by name, and the tests of a
+    filter that continue behind them for these syscalls only, and else skip one more instruction."""
 
     name: str
     architecture: int
@@ -42,11 +42,11 @@ class Kind:
 
     @property
     def alone(self) -> bytes:
-        """The filter that allows these calls alone."""
+        """The filter that allows only these syscalls."""
         return self.tests + ALLOWED + REFUSED
 
     def told(self, number: int) -> str:
-        """What a call is called."""
+        """A syscall's name and number."""
         name = next((name for name, one in self.calls if one == number), None)
         shown = number_text(number, self.architecture)
         return f"{name} ({shown.partition(' ')[2]})" if name else shown
@@ -67,8 +67,8 @@ KINDS = (
 
 
 def denial_filters(profile_names: Iterable[str]) -> list[bytes]:
-    """Filters that deny, as a profile does, each call of other architectures by their OCI names, and each number that
-    no call has; and allow all else."""
+    """Filters that deny, as a profile does, every syscall of the architectures with these OCI names, and every number
+    that no syscall has, and allow all else."""
     tests = [NUMBER + jump(JSET, NO_CALL, 0, 1)]
     for name in dict.fromkeys(profile_names):
         if name == architectures.X32:
@@ -80,7 +80,7 @@ def denial_filters(profile_names: Iterable[str]) -> list[bytes]:
 
 @dataclass(frozen=True)
 class Proved:
-    """What scf says of all calls of a kind: that none is let through, or one that is, with its answer."""
+    """A proof for all syscalls of a kind: every one is denied, or the one given isn't."""
 
     kind: Kind
     call: Call | None = None
@@ -104,7 +104,7 @@ class Proved:
 
 @dataclass(frozen=True)
 class Tried:
-    """The calls of a kind that filters let through, of those that were tried, with their answers."""
+    """The syscalls of a kind that filters allow, of those that were tried, with their answers."""
 
     kind: Kind
     let_through: tuple[tuple[str, int, Answer], ...]
@@ -124,7 +124,7 @@ class Tried:
 
 
 def _proved(filters: Sequence[bytes], kind: Kind, limit: str | None) -> Proved | None:
-    """What scf says of all calls of a kind, or None where it can't tell."""
+    """scf's result for all syscalls of a kind, or None if it can't decide."""
     given = bundles.of_comparison([kind.alone, *filters], ALLOWS_NATIVE, b"")
     done = effort.compare(["--no-more"], given, limit)
     verdict = verdicts.report(done.text).verdict
@@ -136,7 +136,7 @@ def _proved(filters: Sequence[bytes], kind: Kind, limit: str | None) -> Proved |
 
 
 def _tried(filters: Sequence[bytes], kind: Kind) -> Tried | None:
-    """What filters answer to some calls of a kind, or None where scf refuses the filters."""
+    """What filters answer to some syscalls of a kind, or None if scf refuses the filters."""
     given = bundles.of_stack(filters)
     found = []
     for name, number in kind.calls:
@@ -150,12 +150,12 @@ def _tried(filters: Sequence[bytes], kind: Kind) -> Tried | None:
 
 
 def are_none(found: Sequence[Proved | Tried]) -> bool:
-    """Whether it is proved that no foreign call is let through."""
+    """Whether it is proved that every foreign syscall is denied."""
     return all(isinstance(one, Proved) and one.lets_none_through for one in found)
 
 
 def told(found: Sequence[Proved | Tried], profile_names: Sequence[str] = ()) -> list[str]:
-    """What is said of each kind, beside a profile that names these other architectures."""
+    """A line for each kind, given a profile that names these other architectures."""
     if are_none(found):
         return [NONE]
     named = {name: f"; the profile also names {name}" for name in profile_names}
@@ -163,6 +163,6 @@ def told(found: Sequence[Proved | Tried], profile_names: Sequence[str] = ()) -> 
 
 
 def let_through(filters: Sequence[bytes], limit: str | None = None) -> list[Proved | Tried]:
-    """Whether filters, oldest first, let foreign calls through: of each kind; nothing where scf refuses them."""
+    """For each kind, whether filters, oldest first, allow any foreign syscall; nothing if scf refuses the filters."""
     found = (_proved(filters, kind, limit) or _tried(filters, kind) for kind in KINDS)
     return [one for one in found if one is not None]

@@ -1,4 +1,4 @@
-"""Groups: what calls are for, as tables/calls.groups has it, where its sources are named."""
+"""Groups: what syscalls are for, from tables/calls.groups, which names its sources."""
 from __future__ import annotations
 
 import os
@@ -7,12 +7,12 @@ from collections.abc import Iterable
 from . import program
 
 FILE = os.path.join(program.TOP, "tables", "calls.groups")
-# The group of a call that the file doesn't name.
+# The group of a syscall that the file doesn't name.
 OTHER = "other"
 
 
 class Groups:
-    """The group of each name, and the groups in their order."""
+    """The group of each name, and the groups in order."""
 
     def __init__(self) -> None:
         self.of_names: dict[str, str] = {}
@@ -24,5 +24,5 @@ class Groups:
         self.order = [*dict.fromkeys(self.of_names.values()), OTHER]
 
     def of_call(self, names: Iterable[str]) -> str:
-        """The group of a call with these names."""
+        """The group of a syscall with these names."""
         return next((self.of_names[name] for name in names if name in self.of_names), OTHER)

@@ -240,7 +240,7 @@ class Compare(Case):
         status, out, _ = self.run_tool("compare", "--native",
                                        self.file("stub.bpf", stub + filter_of([READ, WRITE])), self.profile)
         self.assertEqual(status, 1)
-        self.assertTrue(out.endswith("# each call that the table names is answered as the profile says\n"), out)
+        self.assertTrue(out.endswith("# each syscall in the table is answered as the profile says\n"), out)
         self.assertNotIn(said, self.run_tool("compare", "--all", self.wrong, self.profile)[1])
 
     @needs("--native")
@@ -437,7 +437,7 @@ class Decide(Case):
         out = self.run_tool("decide", "--arch", "0x40000003", self.filter)[1]
         self.assertEqual(out,
                          "KILL_PROCESS 0\n# the syscall is number 0 of the architecture i386\n"
-                         "# KILL_PROCESS: the process ends\n# the path in the filter: 0-2\n")
+                         "# KILL_PROCESS: the process is killed\n# the path in the filter: 0-2\n")
 
     def test_filters_stand_oldest_first(self):
         one, two = self.file("one.bpf", ret(0x00050001)), self.file("two.bpf", ret(0x00050002))
@@ -471,12 +471,13 @@ class Explain(Case):
     def test_what_each_answer_does(self):
         for answer, line, means in ((0x7FFC0000, "LOG 0", "LOG: the syscall is executed, and logged"),
                                     (0x00030007, "TRAP 7", "TRAP 7: the syscall isn't executed, and the thread gets SIGSYS"),
-                                    (0x7FC00000, "USER_NOTIF 0", "USER_NOTIF: a supervisor answers the call; without "
-                                                                 "one it fails with ENOSYS"),
+                                    (0x7FC00000, "USER_NOTIF 0", "USER_NOTIF: a supervisor handles the syscall; "
+                                                                 "without one it fails with ENOSYS"),
                                     (0x7FF00000, "TRACE 0",
-                                     "TRACE 0: a tracer is told of the call; without one it fails with ENOSYS"),
-                                    (0, "KILL_THREAD 0", "KILL_THREAD: the thread ends"),
-                                    (0x00050000, "ERRNO 0", "ERRNO 0: the syscall isn't executed, and returns 0 as if it had succeeded"),
+                                     "TRACE 0: a tracer handles the syscall; without one it fails with ENOSYS"),
+                                    (0, "KILL_THREAD 0", "KILL_THREAD: the thread is killed"),
+                                    (0x00050000, "ERRNO 0", "ERRNO 0: the syscall isn't executed, and returns 0 as "
+                                                              "if it had succeeded"),
                                     (0x00050026, "ERRNO 38", "ERRNO 38: the syscall fails with ENOSYS"),
                                     (0x0005000B, "ERRNO 11", "ERRNO 11: the syscall fails with EAGAIN"),
                                     (0x00050023, "ERRNO 35",
@@ -487,9 +488,9 @@ class Explain(Case):
                                      "ERRNO 4095: the syscall fails with errno 4095"),
                                     (0x00051000, "ERRNO 4096",
                                      "ERRNO 4096: the syscall fails with errno 4095, the greatest that "
-                                     "the kernel gives"),
+                                     "the kernel returns"),
                                     (0x12340000, "UNNAMED 0x12340000",
-                                     "UNNAMED 0x12340000: the process ends, since seccomp(2) names no such "
+                                     "UNNAMED 0x12340000: the process is killed, since seccomp(2) has no such "
                                      "action")):
             self.assertEqual(self.run_tool("explain", "run", given=ret(answer)),
                              (0, f"{line} steps 1\n# the syscall is read (0)\n# {means}\n", ""))

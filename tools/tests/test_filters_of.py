@@ -76,8 +76,7 @@ class Programs(Confined):
         self.wait_for(zombie.pid, "Z")
         profile = self.file("p", ALLOWS_ALL)
         for pid, why in ((ended_child.pid, f"there is no process {ended_child.pid}"),
-                         (zombie.pid, f"process {zombie.pid} has ended, and only waits for its parent to ask how (it "
-                                      f"is a zombie)")):
+                         (zombie.pid, f"process {zombie.pid} is a zombie: it has ended, and waits for its parent")):
             for name, words in (("verify-process", (str(pid), profile)), ("surface", ("--pid", str(pid)))):
                 status, out, err = self.run_tool(name, "--json", *words)
                 self.assertEqual((status, err), (3, f"{name}: {why}\n"))
@@ -90,8 +89,8 @@ class Programs(Confined):
         self.wait_for(child.pid, "Z")
         for name, last in (("filters-of", "out"), ("verify-process", self.file("p", ALLOWS_ALL))):
             self.assertEqual(self.run_tool(name, str(child.pid), last),
-                             (3, "", f"{name}: process {child.pid} has ended, and only waits for its parent to ask how "
-                                     f"(it is a zombie)\n"))
+                             (3, "", f"{name}: process {child.pid} is a zombie: it has ended, and waits for its "
+                                     f"parent\n"))
 
     @here
     def test_the_first_process_of_a_namespace(self):

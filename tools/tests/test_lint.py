@@ -503,7 +503,7 @@ class Restart(Running):
     def test_its_words(self):
         self.assertIn("no-restart: nanosleep and poll are allowed, and restart_syscall (219) is not: a thread "
                       "stopped in such a syscall, by SIGSTOP or a debugger, calls it to continue, and is answered by "
-                      "the default KILL_PROCESS: the process ends\n",
+                      "the default KILL_PROCESS: the process is killed\n",
                       self.run_lint(profile(entry("poll", "nanosleep"), default="SCMP_ACT_KILL_PROCESS"))[1])
 
 

@@ -215,7 +215,7 @@ class Needs(Judged):
         self.says_usage("needs", "a")
         status, out, err = self.run_tool("needs", "--profile", "--json", "a", "b")
         self.assertEqual((status, out), (2, ""))
-        self.assertIn("leave --json out", err)
+        self.assertIn("leave out --json", err)
 
     def test_made_and_not_made(self):
         fates, _, out = self.judged("read(3, 0x7f, 1) = 1\nexit_group(0) = ?\n", 0)
@@ -647,7 +647,9 @@ class Real(Judged):
         least = self.file("least.json", made[1])
         status, out, _ = self.run_tool("needs", log, least)
         self.assertEqual(status, 0, out)
-        self.assertEqual(self.run_tool("lint", "--strict", "--except=dangerous-call", least)[0], 0)
+        # (what a program calls may be dangerous, or sleep, or have -1 in an `int`)
+        kinds = ("dangerous-call", "high-half", "no-restart")
+        self.assertEqual(self.run_tool("lint", "--strict", *(f"--except={kind}" for kind in kinds), least)[0], 0)
 
     # Puts itself under a filter and becomes another program, whose first call is execve.
     CONFINED = """

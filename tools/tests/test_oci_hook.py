@@ -113,7 +113,7 @@ class OfStates(Hook):
         child.kill()
         self.wait_for(child.pid, "Z")
         lines = self.fails(self.state(child.pid, self.bundle(refuses("mount"))), "has ended already", "--kill")
-        self.assertIn(f"process {child.pid} has ended, and only waits", lines[2])
+        self.assertIn(f"process {child.pid} is a zombie: it has ended", lines[2])
 
     def test_hostile_names(self):
         """Of a container, of a bundle: no line is forged, and nothing reaches a terminal."""

@@ -133,14 +133,14 @@ class Asked(Case):
                 (errno.EPERM, {"TracerPid": "12"}, "process 7 is traced by process 12 already"),
                 (errno.EPERM, {"TracerPid": "0"}, "process 7 can't be stopped (Operation not permitted): run this as"),
                 (errno.EACCES, {}, "run this as root"),
-                (errno.EPERM, {"State": "Z (zombie)"}, "process 7 has ended, and only waits for its parent"),
+                (errno.EPERM, {"State": "Z (zombie)"}, "process 7 is a zombie: it has ended, and waits for its parent"),
                 (errno.EIO, {}, "can't be stopped: ")):
             kernel = FakeKernel([OLDEST], {SEIZE: fails}, status=status)
             self.refused(kernel, says)
             self.assertEqual(kernel.let_go(), [])
         kernel = FakeKernel([OLDEST], {SEIZE: errno.EPERM})
         kernel.flags = hold.PF_KTHREAD
-        self.refused(kernel, "process 7 is a thread of the kernel")
+        self.refused(kernel, "process 7 is a kernel thread")
         kernel = FakeKernel([OLDEST], {SEIZE: errno.EPERM})
         kernel.own["CapEff"] = f"{1 << hold.CAP_SYS_ADMIN:x}"
         self.refused(kernel, "without CAP_SYS_PTRACE: run this as root")
@@ -389,8 +389,8 @@ class Real(Confined):
         self.wait_for(child.pid, "Z")
         with self.assertRaises(processes.Unreadable) as caught:
             self.look(child)
-        self.assertEqual(str(caught.exception), f"process {child.pid} has ended, and only waits for its parent to ask "
-                                                f"how (it is a zombie)")
+        self.assertEqual(str(caught.exception), f"process {child.pid} is a zombie: it has ended, and waits for its "
+                                                f"parent")
 
     def test_a_main_thread_that_has_ended(self):
         child = self.child([OLDEST], [NEWEST])
@@ -403,7 +403,7 @@ class Real(Confined):
         kernel = processes.Kernel()
         number = next((it for it in kernel.processes() if kernel.flags_of(it) & hold.PF_KTHREAD), None)
         if number is None:
-            self.skipTest("no thread of the kernel is seen here")
+            self.skipTest("no kernel thread is seen here")
         with self.assertRaises(processes.Unreadable) as caught:
             processes.look_at_process(kernel, number)
         self.assertEqual(str(caught.exception),

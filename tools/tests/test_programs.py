@@ -116,7 +116,7 @@ class Run(Case):
                              "EPERM\n", ""))
         status, out, _ = self.run_tool("run", "--arch", hex(I386), self.filter)
         self.assertEqual((status, out), (0, "KILL_PROCESS 0 steps 3\n# the syscall is number 0 of the architecture i386\n"
-                                            "# KILL_PROCESS: the process ends\n"))
+                                            "# KILL_PROCESS: the process is killed\n"))
         status, out, err = self.run_tool("run", "--nr", "raed", self.filter)
         self.assertEqual((status, out), (2, ""))
         self.assertIn("the table has no syscall 'raed'; the nearest name is 'read'", err)
@@ -295,7 +295,7 @@ class Json(Case):
                             "at line 2, column 127 the profile is nested more than 127 deep"),
                            (b'{"a": "[[\\"[[' + b"[" * 200 + b'", "b"}', "the JSON is malformed at line 1, column "),
                            (b'{"a": NaN}', "NaN, which isn't a JSON number"),
-                           (b'{"a": "\\ud800"}', "halves of surrogate pairs")):
+                           (b'{"a": "\\ud800"}', "unpaired surrogates")):
             profile = self.file("p.json", text)
             status, out, _ = self.run_tool("compare", same, profile)
             self.assertEqual((status, out.split("\n")[0]), (1, "fault profile Json"), text)

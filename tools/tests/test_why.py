@@ -264,7 +264,7 @@ class Ask(Case):
         self.assertEqual((status, err), (3, "ask: the output failed: No space left on device\n"))
 
     def test_refusals(self):
-        for text, says in ((b"{", ["fault profile Json", "a JSON reader stops at line 1, column 2"]),
+        for text, says in ((b"{", ["fault profile Json", "the JSON is malformed at line 1, column 2"]),
                            (b'{"defaultAction":"ALLOW"}', ["fault profile Action"])):
             status, lines = self.asked("--nr=0", profile=self.file("bad.json", text))
             self.assertEqual((status, lines[0]), (1, says[0]))
