@@ -1,7 +1,6 @@
-"""Inputs: files, pipes and standard input. Each is read to its limit and one byte further, whatever stands behind that.
+"""Inputs: files, pipes and standard input. Each is read up to its limit and one byte beyond.
 
-The byte more lets scf say itself that an input is too long, as it says everything of inputs; what scf doesn't see is
-refused here.
+The extra byte lets scf itself report that an input is too long; inputs that scf doesn't see are refused here.
 """
 from __future__ import annotations
 
@@ -10,11 +9,11 @@ import os
 
 from . import output, program
 
-# The most bytes of what scf reads: a filter of 4096 instructions, a profile, a table; and of what the tools alone
-# read: an engine's profile, a kernel's header, a list of calls to try.
+# The most bytes of what scf reads: a filter of 4096 instructions, a profile, a table; and of what only the tools
+# read: an engine's profile, a kernel header, a list of syscalls to try.
 LIMITS = {"bundle": 1 << 24, "filter": 1 << 15, "profile": 1 << 22, "table": 1 << 22,
           "engine's profile": 1 << 24, "header": 1 << 22, "list of syscalls": 1 << 16,
-          # of oci-hook alone: what a runtime says of a container
+          # only for oci-hook: a container's state
           "state": 1 << 20}
 
 
@@ -28,8 +27,8 @@ def why(name: str, kind: str, error: OSError) -> str:
 
 
 def read(name: str, kind: str, status: int = program.WRONG_WORDS) -> bytes:
-    """The bytes of an input, `-` being standard input: at most one more than its kind may have. Refused with a status
-    where it can't be read."""
+    """The bytes of an input (`-` is standard input): at most one more than its kind may have. Raises Refused with this
+    status if it can't be read."""
     room = LIMITS[kind] + 1
     found = []
     try:
@@ -46,14 +45,14 @@ def read(name: str, kind: str, status: int = program.WRONG_WORDS) -> bytes:
     except OSError as error:
         raise program.Refused(why(name, kind, error), status) from error
     except UnicodeEncodeError as error:
-        # half a pair of surrogates, which no name of a file has
+        # an unpaired surrogate, which no file name has
         raise program.Refused(f"there is no file '{output.escaped(name)}'", status) from error
     return b"".join(found)
 
 
 def read_profile(name: str, is_runtimes: bool = False) -> bytes:
-    """The bytes of a profile that scf takes; refused where it has what podman reads otherwise than scf, or, of one that
-    a runtime is said to apply, what any program in Go does. What else only engines read scf refuses itself."""
+    """The bytes of a profile that scf takes. Refuses one with members that only podman reads otherwise than scf, or, if a
+    runtime is said to apply it, that any program in Go does; scf itself refuses the other members of engines."""
     from . import profiles  # pylint: disable=import-outside-toplevel
 
     data = read(name, "profile")
@@ -72,7 +71,7 @@ def is_too_long(data: bytes, kind: str) -> bool:
 
 
 def read_whole(name: str, kind: str) -> bytes:
-    """The bytes of an input that scf doesn't see; refused where they are too many."""
+    """The bytes of an input that scf doesn't see; raises Refused if there are too many."""
     data = read(name, kind)
     if is_too_long(data, kind):
         shown = "standard input" if name == "-" else f"'{output.escaped(name)}'"

@@ -1,4 +1,4 @@
-"""A filter with the places of its instructions, where its jumps go, and the names of calls and answers."""
+"""A listing of a filter: instruction indexes, jump targets, and names of syscalls and answers."""
 from __future__ import annotations
 
 from collections.abc import Iterable, Iterator, Sequence
@@ -9,11 +9,11 @@ from .calls import number_text
 from .filters import BY_X, INSTRUCTION, JEQ, JGE, JGT, JSET, JUMP, LOAD_WORD, RETURN_CONSTANT
 from .tables import Table
 
-# The words of a call, by their place in it (struct seccomp_data in linux/seccomp.h).
+# The 32-bit words of a record, by their index (struct seccomp_data in linux/seccomp.h).
 NUMBER, ARCHITECTURE, ARGUMENTS, END = 0, 1, 4, 16
 WORDS = {NUMBER: "the syscall number", ARCHITECTURE: "the architecture", 2: "the instruction pointer, low half",
          3: "the instruction pointer, high half"}
-# linux/bpf_common.h: classes of codes, and the one miscellaneous code that changes the accumulator.
+# linux/bpf_common.h: instruction classes, and the one BPF_MISC code that changes the accumulator.
 LOADS, ALU, JUMPS, RETURNS, TXA = 0, 4, 5, 6, 0x87
 
 
@@ -31,7 +31,7 @@ class Instruction(NamedTuple):
 
     @property
     def word(self) -> int | None:
-        """The word of a call that it loads, or None."""
+        """The index of the word that it loads, or None."""
         return self.k // 4 if self.code == LOAD_WORD and self.k < 4 * END and self.k % 4 == 0 else None
 
     @property
@@ -43,7 +43,7 @@ class Instruction(NamedTuple):
         return self.kind in (LOADS, ALU) or self.code == TXA
 
     def targets(self, place: int) -> list[int]:
-        """The places that it goes on to from its own."""
+        """The indexes of its successors, given its own."""
         if self.kind == RETURNS:
             return []
         if self.code == JUMP:
@@ -58,30 +58,30 @@ def instructions(data: bytes) -> list[Instruction]:
 
 
 class Known(NamedTuple):
-    """What holds at a place on every way to it: the word of the call that A holds, and the call's architecture."""
+    """What holds at an instruction on every path to it: the word in A, and the record's architecture."""
 
     word: int | None = None
     architecture: int | None = None
 
     def beside(self, other: Known) -> Known:
-        """What holds where two ways meet."""
+        """What holds where two paths meet."""
         return Known(self.word if self.word == other.word else None,
                      self.architecture if self.architecture == other.architecture else None)
 
 
 def _after(insn: Instruction, known: Known) -> Iterator[Known]:
-    """What holds behind an instruction, for each of its targets."""
+    """What holds after an instruction, for each of its targets."""
     if insn.changes_a:
         yield known._replace(word=insn.word)
         return
-    # of a test whose targets are one, neither side knows more
+    # a test whose targets are the same tells neither side anything
     is_test = insn.code == JUMP | JEQ and known.word == ARCHITECTURE and insn.if_true != insn.if_false
     yield known._replace(architecture=insn.k) if is_test else known
     yield known
 
 
 def _held(insns: Sequence[Instruction]) -> list[Known]:
-    """What holds at each place; all jumps go forwards."""
+    """What holds at each instruction; all jumps go forwards."""
     found: dict[int, Known] = {0: Known()}
     for place, insn in enumerate(insns):
         if place in found:
@@ -91,14 +91,14 @@ def _held(insns: Sequence[Instruction]) -> list[Known]:
 
 
 def _name_of(k: int, architecture: int | None, table: Table) -> str:
-    """How a call's number is called where a filter tests it."""
+    """The name of a syscall number that a filter tests."""
     if architecture not in (None, X86_64):
         return f"number {k} of {ARCHITECTURES.get(architecture, hex(architecture))}"
     return " or ".join(table.names_of(k)) or number_text(k)
 
 
 def _tested(insn: Instruction, known: Known, table: Table) -> str | None:
-    """What a test of the call's number, or of its architecture, is about."""
+    """What a test of the syscall number, or of the architecture, compares with."""
     test = insn.code & 0xF0
     if insn.code & BY_X or known.word not in (NUMBER, ARCHITECTURE):
         return None
@@ -111,7 +111,7 @@ def _tested(insn: Instruction, known: Known, table: Table) -> str | None:
 
 
 def _meaning(place: int, insn: Instruction, known: Known, table: Table, count: int) -> str | None:
-    """What stands behind an instruction, or None."""
+    """The comment on an instruction, or None."""
     if insn.word is not None:
         at = insn.word - ARGUMENTS
         return WORDS.get(insn.word) or f"argument {at // 2}, {'high' if at % 2 else 'low'} half"
@@ -126,14 +126,14 @@ def _meaning(place: int, insn: Instruction, known: Known, table: Table, count: i
 
 
 def marked(lines: Iterable[str], places: Iterable[int]) -> Iterator[str]:
-    """The lines of a listing, those of some places marked by `>`."""
+    """The lines of a listing, some instructions marked by `>`."""
     on_path = frozenset(places)
     for place, line in enumerate(lines):
         yield f"{'>' if place in on_path else ' '} {line}"
 
 
 def listed(data: bytes, lines: Sequence[str], table: Table) -> Iterator[str]:
-    """The lines of `scf dis`, each with its place before it and its meaning behind it."""
+    """The lines of `scf dis`, each after its index and before its comment."""
     insns = instructions(data)
     place_width, line_width = len(str(len(lines) - 1)), max(map(len, lines), default=0)
     for place, (line, insn, known) in enumerate(zip(lines, insns, _held(insns))):

@@ -1,4 +1,4 @@
-"""Members of a profile that nothing reads, that only engines or programs in Go read, or that stand in an object twice.
+"""Members of a profile that nothing reads, that only engines or Go programs read, or that are repeated in an object.
 """
 from __future__ import annotations
 
@@ -10,10 +10,10 @@ from . import profiles, tables
 from .entries import Object
 from .findings import MOST, Finding, shown
 
-# How like a member must be to be the nearest.
+# How similar a member must be to be the nearest.
 LIKENESS = 0.7
 COMMENT = "comment"
-# What engines alone read, in profiles of their own (Seccomp and Syscall in containers-common's pkg/seccomp/types.go,
+# What only engines read, in their own profiles (Seccomp and Syscall in containers-common's pkg/seccomp/types.go,
 # and in moby's profiles/seccomp/seccomp.go).
 ENGINES = {"defaultErrno": "only podman reads defaultErrno, an errno's name or its number as a string, and takes it "
                            "for defaultErrnoRet",
@@ -23,12 +23,12 @@ ENGINES = {"defaultErrno": "only podman reads defaultErrno, an errno's name or i
 
 @dataclass
 class Members:
-    """A walk over the members of a profile's objects; how many nearest names are still looked for."""
+    """A walk over the members of a profile's objects; how many nearest names are still to be searched for."""
 
     nearest: int = field(default=MOST)
 
     def _near(self, name: str, known: Sequence[str]) -> str | None:
-        """The member that is most like this one, in whatever case of letters."""
+        """The member most similar to this one, ignoring case."""
         self.nearest -= 1
         if self.nearest < 0 or len(name) > tables.LONGEST:
             return None
@@ -36,7 +36,7 @@ class Members:
         return next((lower[it] for it in difflib.get_close_matches(name.lower(), lower, 1, LIKENESS)), None)
 
     def of_object(self, value: Object, members: dict[str, object], where: str, place: int | None) -> Iterator[Finding]:
-        """The members of an object that aren't read, and those that stand in it twice."""
+        """The members of an object that aren't read, and those that are repeated."""
         at = {} if place is None else {"entry": place}
         known, folded = [it for it in members if it not in ENGINES], {profiles.folded(it) for it in members}
         for name in value:
@@ -72,7 +72,7 @@ class Members:
 
 
 def misread(data: bytes) -> Iterator[Finding]:
-    """Members that runtimes and engines in Go read as others (runc, Docker, podman), and scf and crun don't."""
+    """Members that Go programs (runc, Docker, podman) read as others, and scf and crun don't."""
     for one in profiles.misread_members(data):
         if one.name != one.read_as:
             yield Finding("folded-member", f"{one.told()}; scf and crun don't",

@@ -19,12 +19,12 @@ ARCHITECTURES = tuple(f"SCMP_ARCH_{it}" for it in (
 FLAGS = tuple(f"SECCOMP_FILTER_FLAG_{it}" for it in "TSYNC LOG SPEC_ALLOW WAIT_KILLABLE_RECV".split())
 ACTIONS = tuple(f"SCMP_ACT_{it}" for it in
                 "ALLOW LOG ERRNO TRACE TRAP NOTIFY KILL KILL_THREAD KILL_PROCESS".split())
-# What others call these architectures.
+# Other names for these architectures.
 ALIASES = {"AMD64": "X86_64", "X86-64": "X86_64", "X64": "X86_64", "ARM64": "AARCH64"}
 
 
 def _places(top: Object) -> dict[str, int]:
-    """For each name the first entry that has it."""
+    """The first entry of each name."""
     found: dict[str, int] = {}
     for place, entry in enumerate(top.get("syscalls", [])):
         for name in entry["names"]:
@@ -33,7 +33,7 @@ def _places(top: Object) -> dict[str, int]:
 
 
 def of_names(top: Object, table: Table) -> Iterator[Finding]:
-    """Names that no call has, and names of calls of other architectures, counted."""
+    """Names that no syscall has, and a count of names that only other architectures have."""
     places = _places(top)
     skipped = tables.told_apart([name for name in places if table.number_of(name) is None], table)
     for name, near in skipped.unknown:

@@ -1,9 +1,9 @@
-"""Entries without effect: a profile without them answers each call as before, which is said where `scf compare` says
-so; and entries that give one call two answers, with such a call.
+"""Entries without effect: a profile without them answers every syscall as before, by a verdict of `scf compare`; and
+entries that give one syscall two answers, with an example.
 
-A short search finds calls that an entry alone answers. Where it finds none the entry is doubtful, and scf is asked: of
-the profile without all that is doubtful, and where that isn't the same, without its halves. So all that is told can be
-left out together, and each by itself.
+A short search looks for a syscall that only one entry answers. If it finds none the entry is doubtful, and scf compares
+the profile with itself without all that is doubtful, and if that isn't the same, without its halves. So all reported
+entries can be removed together, and each by itself.
 """
 from __future__ import annotations
 
@@ -16,17 +16,17 @@ from .trials import Trial
 from .verdicts import MORE, SAME, Verdict
 
 REFUSES, ALLOWS = ("SCMP_ACT_ERRNO", 1), ("SCMP_ACT_ALLOW", 0)
-# The most comparisons of one run, pairs of entries that are looked at, and entries that may cover another.
+# The most comparisons of one run, pairs of entries to check, and candidates to cover an entry.
 COMPARISONS, PAIRS, COVERS = 500, 10000, 8
-# The most entries that are held against another in the search for calls that one alone answers.
+# The most entries to consider in the search for a syscall that only one answers.
 LOOKS = 200000
 ONE, BY_DEFAULT, BY_NONE, TOGETHER = "one", "default", "none", "together"
 
 
 @dataclass(frozen=True)
 class Needless:
-    """An entry, or some names of it, without effect, and why: one other entry covers it, the default answers so too, no
-    call meets it, or other entries have all of its calls together."""
+    """An entry, or some of its names, without effect, and why: another entry covers it, the default answers the same,
+    no syscall meets it, or several other entries cover it together."""
 
     place: int
     names: tuple[str, ...]
@@ -37,19 +37,19 @@ class Needless:
 
 @dataclass(frozen=True)
 class Untold:
-    """A name of an entry of which it couldn't be told, and the verdict; without one it wasn't looked at."""
+    """An undecided name of an entry, and the verdict; None if it wasn't checked."""
 
     place: int
     name: str
     verdict: Verdict | None
 
 
-# A name of an entry by its place.
+# A name of an entry, by the entry's index.
 Named = tuple[int, str]
 
 
 class Search:
-    """The entries of a profile, the filter of it, and which names of entries are still there."""
+    """The entries of a profile, its filter, and the names of entries that are still kept."""
 
     def __init__(self, trial: Trial, data: bytes, default: tuple[str, int], entries: Sequence[Entry]):
         self.trial, self.filter, self.default = trial, data, default
@@ -63,15 +63,15 @@ class Search:
                 self._having(name)[entry.place, name] = entry
 
     def _having(self, name: str) -> dict[Named, Entry]:
-        """The entries that have a call."""
+        """The entries that have a syscall."""
         return self._by_number.setdefault(self.trial.table.number_of(name), {})
 
     def _beside(self, entry: Entry, name: str) -> list[Entry]:
-        """The other entries that have the call, without what is gone."""
+        """The other entries that have the syscall, without what is removed."""
         return [it for at, it in self._having(name).items() if at not in self.gone and it.place != entry.place]
 
     def _is_doubtful(self, entry: Entry, name: str) -> bool:
-        """Whether no call is found that an entry alone answers by a name, and otherwise than the default."""
+        """Whether no syscall is found that only this entry answers by this name, and differently than the default."""
         if entry.answer == self.default:
             return True
         others = self._beside(entry, name)
@@ -79,7 +79,7 @@ class Search:
         return self.looks > 0 and record_of([entry.conditions], [it.conditions for it in others]) is None
 
     def _doubtful(self) -> list[Named]:
-        """What may be without effect all together: whole entries first, and then names of others, from the last on."""
+        """What may be without effect together: whole entries first, then names of others, from the last on."""
         found: list[Named] = []
         for is_whole in (True, False):
             for entry in reversed(self.entries.values()):
@@ -92,12 +92,12 @@ class Search:
         return found
 
     def _kept(self, gone: set[Named]) -> Iterator[Entry]:
-        """The entries without some names."""
+        """The entries without these names."""
         for entry in self.entries.values():
             yield entry._replace(names=tuple(it for it in entry.names if (entry.place, it) not in gone))
 
     def _settle(self, doubtful: Sequence[Named]) -> None:
-        """Adds to what is gone what scf says is without effect: all of it, or else what is of its halves."""
+        """Removes what scf proves to be without effect: all of it, or else the same for its halves."""
         if self.trial.count >= COMPARISONS:
             self.untold += [Untold(*it, None) for it in doubtful]
             return
@@ -112,7 +112,7 @@ class Search:
             self.untold.append(Untold(*doubtful[0], verdict))
 
     def _is_within(self, entry: Entry, names: Sequence[str], others: Sequence[Entry]) -> bool:
-        """Whether each call of an entry is one of others, by scf."""
+        """Whether scf proves that others cover an entry."""
         wider = [other.allowing(names) for other in others]
         beside = profile_of(REFUSES, [*wider, entry.allowing(names)])
         return self.trial.verdict([self.trial.filter_of(profile_of(REFUSES, wider))], beside).word == SAME
@@ -133,7 +133,7 @@ class Search:
         return TOGETHER, tuple(sorted(set.union(*having)))
 
     def run(self) -> Iterator[Needless]:
-        """What is without effect, all together, by the entries; what couldn't be told is in `untold` then."""
+        """What is without effect, all together, by entry; afterwards `untold` has what is undecided."""
         doubtful = self._doubtful()
         if doubtful:
             self._settle(doubtful)
@@ -146,7 +146,7 @@ class Search:
 
 @dataclass(frozen=True)
 class Conflict:
-    """Two entries that give a call two answers, and such a call, where scf shows one."""
+    """Two entries that give a syscall two answers, and an example, if scf gives one."""
 
     first: Entry
     second: Entry
@@ -155,14 +155,14 @@ class Conflict:
 
 
 def _call_of_both(trial: Trial, first: Entry, second: Entry, name: str) -> Call | None:
-    """A call that two entries have: one that filters of both let through."""
+    """A syscall that two entries have: one that filters of both allow."""
     filters = [trial.filter_of(profile_of(REFUSES, [it.allowing([name])])) for it in (first, second)]
     verdict = trial.verdict(filters, profile_of(REFUSES, []), "--no-more")
     return verdict.call if verdict.word == MORE else None
 
 
 def _pairs(entries: Sequence[Entry], number_of: Callable[[str], int | None]) -> Iterator[tuple[Entry, Entry, str]]:
-    """Pairs of entries with different answers to one call by its number, in the order of the second."""
+    """Pairs of entries with different answers to one syscall number, in the order of the second."""
     by_number: dict[int | None, list[Entry]] = {}
     for entry in entries:
         for name in entry.names:

@@ -1,8 +1,8 @@
-"""Calls with greater numbers than all that a profile names, where the filters refuse them otherwise than the profile.
+"""Syscalls with numbers above all that a profile names, which the filters deny with another answer than the profile.
 
-runc gives filters such answers, by ENOSYS, so that programs fall back on older calls (libcontainer/seccomp/patchbpf of
-runc). What is said of them is said of every native call, since it stands on comparisons of scf: of the same filters
-with a few instructions before each that answer the calls on one side of a number.
+runc makes its filters answer them with ENOSYS, so that programs fall back on older syscalls
+(libcontainer/seccomp/patchbpf of runc). The results hold for every x86-64 syscall, since they are comparisons of scf:
+of the same filters with a few instructions before each that answer the numbers on one side of a bound.
 """
 from __future__ import annotations
 
@@ -23,7 +23,7 @@ if TYPE_CHECKING:
     from .comparing import Comparison
 
 
-# What runc's stub answers, as the profile of one that answers nothing else, and as the kernel's word: ENOSYS.
+# The answer of runc's stub, ENOSYS: as a profile that answers nothing else, and as the filter's return value.
 ENOSYS_PROFILE, ENOSYS = b'{"defaultAction": "SCMP_ACT_ERRNO", "defaultErrnoRet": 38}', 0x00050000 | 38
 
 
@@ -47,11 +47,11 @@ def expecting_stub(comparison: Comparison, first: int | None) -> Comparison:
 
 
 def compared_with_stub(comparison: Comparison, scope: str, first: int | None) -> tuple[int, Report, bool]:
-    """What scf says of filters beside a profile, before which runc may have put its stub: from this number on each call
-    gets ENOSYS. Whether the stub is there comes with it.
+    """scf's status and report on filters that may begin with runc's stub, which answers ENOSYS from this number on; and
+    whether the stub is there.
 
-    Where the filters aren't the same without a stub, they are the same with one where scf says it twice: of the calls
-    below the number beside the profile, and of those from there on beside one that answers ENOSYS alone.
+    If the filters aren't the same without a stub, they are the same with one if scf proves two things: that the numbers
+    below are answered as the profile says, and that those from there on all get ENOSYS.
     """
     status, report = comparison.run(scope)
     default = default_of(comparison) if first is not None and comparison.relation == SAME else None
@@ -74,7 +74,7 @@ def _told(calls: str, are_all: bool, first: int, table: Table) -> str:
 
 
 def greatest_named(comparison: Comparison) -> int | None:
-    """The greatest number that the profile names, as the table has it."""
+    """The greatest number in the table that the profile names."""
     names = comparison.facts.names if comparison.facts else []
     numbers = [comparison.table.number_of(name) for name in names]
     return max((number for number in numbers if number is not None), default=None)
@@ -82,7 +82,7 @@ def greatest_named(comparison: Comparison) -> int | None:
 
 @dataclass(frozen=True)
 class Newer:
-    """Every native call from a number on, all of them greater than those that a profile names, and both answers."""
+    """Every x86-64 syscall from a number on, all above those that a profile names, and both answers."""
 
     first: int
     filters: Answer
@@ -97,7 +97,7 @@ class Newer:
 
 
 def default_of(comparison: Comparison) -> tuple[bytes, Answer] | None:
-    """The profile without its entries, and the answer that it gives to each native call."""
+    """The profile without its entries, and the answer that it gives to every x86-64 syscall."""
     if comparison.facts is None:
         return None
     alone = comparison.facts.default_alone()
@@ -107,7 +107,7 @@ def default_of(comparison: Comparison) -> tuple[bytes, Answer] | None:
 
 
 def calls_of(comparison: Comparison) -> Newer | None:
-    """The calls above all that the profile names, from the first on that differs, where both sides refuse them all."""
+    """The syscalls above all that the profile names, from the first that differs on, if both sides deny them all."""
     greatest, default = greatest_named(comparison), default_of(comparison)
     if greatest is None or default is None or not default[1].refuses:
         return None
@@ -123,21 +123,21 @@ def calls_of(comparison: Comparison) -> Newer | None:
             least = middle
         else:
             most = middle - 1
-    # whatever the search found: from there on each call has this one answer, which isn't the profile's
+    # whatever the search found: from there on every syscall has this one answer, which isn't the profile's
     answer = verdict.filters.as_profile()
     others = [answering_below(one.data, least, verdict.filters.word) for one in comparison.filters]
     return Newer(least, verdict.filters, refused) if answer and comparison.is_same(others, answer) else None
 
 
 def another_call(comparison: Comparison, found: Newer) -> Verdict | None:
-    """What is said of the native calls that aren't among these, or None where they are all answered alike."""
+    """The verdict on the x86-64 syscalls that aren't among these, or None if they are the same."""
     filters = [answering_from(one.data, found.first, found.profile.word) for one in comparison.filters]
     verdict = comparison.native(filters).verdict or Verdict(DIFFERS)
     return None if verdict.word == SAME else verdict
 
 
 def of_named_calls(comparison: Comparison, calls: Sequence[NamedCall]) -> Iterator[str]:
-    """What is added to calls by name that aren't alike: those above all that the profile names apart, if refused."""
+    """The lines about syscalls of the table that differ: those above all that the profile names apart, if denied."""
     greatest = greatest_named(comparison)
     if greatest is None:
         return

@@ -1,4 +1,4 @@
-"""What numbers the calls of x86-64: a header of the kernel, its source's own table, and the installed libseccomp."""
+"""Sources of x86-64 syscall numbers: a kernel header, the kernel's syscall_64.tbl, and the installed libseccomp."""
 from __future__ import annotations
 
 import os
@@ -7,7 +7,7 @@ from collections.abc import Callable
 
 from . import program
 
-# The first number of an x32 call (__X32_SYSCALL_BIT); scf takes smaller ones.
+# The first x32 syscall number (__X32_SYSCALL_BIT); scf takes smaller ones.
 X32 = 0x40000000
 DEFINE = re.compile(r"^[ \t]*#[ \t]*define[ \t]+__NR_([A-Za-z_]\w*)[ \t]+([0-9]+)[ \t\r\f\v]*$", re.M | re.A)
 COMMENT = re.compile(r"/\*.*?(?:\*/|\Z)|//[^\n]*", re.S)
@@ -15,7 +15,7 @@ NAME = re.compile(r"[A-Za-z_]\w*", re.A)
 ROW = re.compile(r"[^\n]+")
 # The first row that isn't empty and no comment.
 FIRST = re.compile(r"^[ \t\r]*([^ \t\r\n#][^\n]*)", re.M)
-# A count, and no call.
+# A count, not a syscall.
 COUNT = "syscalls"
 # SCMP_ARCH_X86_64 (seccomp.h of libseccomp); its numbers end far below this.
 ARCHITECTURE, NUMBERS = 0xC000003E, 4096
@@ -34,7 +34,7 @@ def _add(calls: dict[str, int], name: str, digits: str, line: int | None = None)
 
 
 def of_header(text: str) -> dict[str, int]:
-    """The calls of a header such as asm/unistd_64.h: its lines `#define __NR_NAME NUMBER`."""
+    """The syscalls of a header such as asm/unistd_64.h: its lines `#define __NR_NAME NUMBER`."""
     bare = COMMENT.sub(lambda found: "\n" if "\n" in found[0] else " ", text)
     calls: dict[str, int] = {}
     for found in DEFINE.finditer(bare):
@@ -44,7 +44,7 @@ def of_header(text: str) -> dict[str, int]:
 
 
 def of_source_table(text: str) -> dict[str, int]:
-    """The calls of syscall_64.tbl: its rows of a number, `common` or `64`, a name and entries, without those of x32."""
+    """The syscalls of syscall_64.tbl: its rows of a number, `common` or `64`, a name and entry points, without x32."""
     calls: dict[str, int] = {}
     line, begun = 1, 0
     for found in ROW.finditer(text):
@@ -65,7 +65,7 @@ def of_source_table(text: str) -> dict[str, int]:
 
 
 def calls_of(data: bytes) -> dict[str, int]:
-    """The calls of a header, or of a table where no line of it defines anything."""
+    """The syscalls of a header, or of a table if no line defines anything."""
     text = data.decode("utf-8", "surrogateescape")
     calls = of_header(text)
     first = FIRST.search(text)
@@ -125,7 +125,7 @@ def version_of_libseccomp(library) -> str:
 
 
 def of_libseccomp() -> tuple[str, dict[str, int]]:
-    """The version of the installed libseccomp, and the calls that it knows."""
+    """The version of the installed libseccomp, and the syscalls that it knows."""
     library, name_of = _libseccomp()
     named = ((name_of(number), number) for number in range(NUMBERS))
     return version_of_libseccomp(library), {name: number for name, number in named if name}

@@ -1,6 +1,6 @@
-"""What is printed: safe for a terminal, and whole or said to have failed.
+"""Output that is safe for a terminal, and complete or reported as failed.
 
-What isn't a tool's own text (a name of a profile, of a file, of a process) is printed by `escaped`, whether or not a
+Text that isn't a tool's own (a name in a profile, of a file, of a process) is printed by `escaped`, whether or not a
 terminal reads it.
 """
 from __future__ import annotations
@@ -11,8 +11,8 @@ import os
 import re
 import sys
 
-# C0, DEL and C1; beside these the marks that turn the direction of a text or end a line of it (Unicode's Bidi_Control,
-# LINE SEPARATOR and PARAGRAPH SEPARATOR), which show a text otherwise than it is.
+# C0, DEL and C1; and the characters that change the direction of text or end a line (Unicode's Bidi_Control, LINE
+# SEPARATOR and PARAGRAPH SEPARATOR), which make text look different than it is.
 CONTROL = re.compile("[\x00-\x1f\x7f-\x9f\u061c\u200e\u200f\u2028-\u202e\u2066-\u2069]")
 
 
@@ -21,7 +21,7 @@ def _bytes_of(found: re.Match[str]) -> str:
 
 
 def _of_surrogates(error: UnicodeError) -> tuple[bytes, int]:
-    """The byte that isn't UTF-8 for which Python keeps a surrogate, and of any other surrogate its own three bytes."""
+    """The byte that a surrogate escape stands for, or the three bytes of any other surrogate."""
     assert isinstance(error, UnicodeEncodeError)
     found = error.object[error.start:error.end]
     return b"".join(bytes([ord(it) - 0xDC00]) if "\udc80" <= it <= "\udcff" else it.encode("utf-8", "surrogatepass")
@@ -32,17 +32,17 @@ codecs.register_error("surrogates", _of_surrogates)
 
 
 def escaped(text: str | bytes) -> str:
-    """A text of one line: each byte of a control character, and each that isn't UTF-8, as `\\xNN`."""
+    """The text as one line: control characters and bytes that aren't UTF-8 become `\\xNN`."""
     data = text.encode("utf-8", "surrogates") if isinstance(text, str) else text
     return CONTROL.sub(_bytes_of, data.decode("utf-8", "backslashreplace"))
 
 
 class Failed(OSError):
-    """What is printed can't be written."""
+    """Output can't be written."""
 
 
 def put(text: str | bytes) -> None:
-    """Prints a text that is safe, or bytes as they are."""
+    """Prints safe text, or bytes unchanged."""
     if sys.stdout is None:
         raise Failed(errno.EBADF, os.strerror(errno.EBADF))
     try:
@@ -57,7 +57,7 @@ def put_line(text: str) -> None:
 
 
 def say(name: str, text: str) -> None:
-    """A line on standard error, behind the name of the tool; none where that is closed."""
+    """Prints a line on standard error, after the tool's name; nothing if that is closed."""
     if sys.stderr is None:
         return
     try:
@@ -67,7 +67,7 @@ def say(name: str, text: str) -> None:
 
 
 def flush() -> None:
-    """Everything printed goes out."""
+    """Flushes the output."""
     try:
         if sys.stdout is not None:
             sys.stdout.flush()

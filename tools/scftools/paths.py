@@ -1,4 +1,4 @@
-"""Paths: which instructions of a filter run on a call, by `scf run --path`, and the last tests among them."""
+"""Paths: which instructions of a filter run on a syscall, by `scf run --path`, and the last tests among them."""
 from __future__ import annotations
 
 import re
@@ -14,13 +14,13 @@ from .tables import Table
 from .verdicts import Decision
 
 PRINTED = re.compile(r"path((?: [0-9]+)+)")
-# So many lines of the last tests are shown.
+# At most so many of the last tests are printed.
 MOST = 12
 
 
 @dataclass(frozen=True)
 class Path:
-    """What a filter answers to a call, and the places of the instructions that run, in their order; none at a fault."""
+    """What a filter answers to a syscall, and the indexes of the instructions that run; none after a fault."""
 
     status: int
     lines: tuple[str, ...]
@@ -28,7 +28,7 @@ class Path:
     places: tuple[int, ...] = ()
 
     def told(self) -> str:
-        """The places; three and more that follow one another as the first and the last of them."""
+        """The indexes; three or more consecutive ones as a range."""
         return " ".join(f"{first}-{last}" if last - first > 1 else " ".join(map(str, range(first, last + 1)))
                         for first, last in _stretches(self.places))
 
@@ -44,7 +44,7 @@ def _stretches(places: Sequence[int]) -> list[tuple[int, int]]:
 
 
 def of(data: bytes, words: Sequence[str], with_path: bool = True) -> Path:
-    """The answer of a filter to the call that scf's options give, and the path to it, where it is asked for."""
+    """A filter's answer to the record that scf's options give, and on request the path to it."""
     done = program.scf(["run", *["--path"] * with_path, *words], data)
     found = PRINTED.fullmatch("".join(done.lines[1:2]))
     return Path(done.status, tuple(done.lines), verdicts.decision(done.text),
@@ -53,7 +53,7 @@ def of(data: bytes, words: Sequence[str], with_path: bool = True) -> Path:
 
 @dataclass(frozen=True)
 class Giver:
-    """A filter that gives the answer of its stack, and its path; and whether it is the only one of the stack."""
+    """A filter that gives its stack's answer, with its path, and whether it is the only filter."""
 
     filter: Filter
     is_alone: bool
@@ -76,10 +76,10 @@ def givers(filters: Sequence[Filter], words: Sequence[str], answer: Answer) -> l
 
 
 def shown(found: Sequence[Giver]) -> Giver | None:
-    """The one of the filters that give an answer whose path is shown: the last, from which the kernel takes it.
+    """Of the filters with the same answer, the one whose path is shown: the newest, whose answer the kernel takes.
 
-    ALLOW it takes from none, since that is what it begins with: then the one that runs the most instructions, where
-    others may not even look at the call.
+    The kernel begins with ALLOW and takes it from no filter: then it is the one that runs the most instructions, since
+    others may not even load the syscall number.
     """
     if not found:
         return None
@@ -89,13 +89,13 @@ def shown(found: Sequence[Giver]) -> Giver | None:
 
 
 def _words_of(call: Call) -> list[int]:
-    """The words of a call record, in their order (struct seccomp_data in linux/seccomp.h)."""
+    """The 32-bit words of a record, in order (struct seccomp_data in linux/seccomp.h)."""
     halves = (half for it in (call.pointer or 0, *call.arguments) for half in (it & 0xFFFFFFFF, it >> 32))
     return [call.number, call.architecture, *halves]
 
 
 def _tests(insns: Sequence[Instruction], places: Sequence[int], call: Call) -> Iterator[tuple[int, str]]:
-    """The places of the tests on a path and of its end, each with what was loaded and which way it went."""
+    """The indexes of the tests on a path and of its end, each with the value loaded and the branch taken."""
     words, loaded = _words_of(call), ""
     for at, place in enumerate(places):
         insn = insns[place]
@@ -112,7 +112,7 @@ def _tests(insns: Sequence[Instruction], places: Sequence[int], call: Call) -> I
 
 
 def last_tests(data: bytes, path: Path, call: Call, table: Table) -> tuple[int, list[str]]:
-    """The last tests on a path and its end, as lines of the listing; and how many tests stand before them."""
+    """The last tests on a path and its end, as lines of the listing; and the number of tests before them."""
     insns = listing.instructions(data)
     lines = list(listing.listed(data, program.scf(["dis"], data).lines, table))
     found = [f"{lines[place]}{way}" for place, way in _tests(insns, path.places, call)]

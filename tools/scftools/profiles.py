@@ -1,6 +1,6 @@
-"""What the tools look at in a profile beside scf, which alone judges it: its default, its names, an entry by its index,
-the members that a runtime reads otherwise than they are spelled, and where a text stops being JSON. Everything here may
-fail to be known; then it isn't said.
+"""What the tools read of a profile themselves: its default, its names, an entry by its index, the members that a
+runtime reads as others, and where JSON is malformed. Only scf judges the profile; if something can't be read here, the
+tools say nothing about it.
 """
 from __future__ import annotations
 
@@ -17,7 +17,7 @@ if TYPE_CHECKING:
 DEEPEST = 127
 # No number that scf takes has more digits.
 LONGEST_NUMBER = 40
-# What lets a call through that no rule names.
+# The default actions that allow what no rule names.
 LETS_THROUGH = ("SCMP_ACT_ALLOW", "SCMP_ACT_LOG")
 
 # The members of a profile, in the form of the OCI runtime specification (config-linux.md: Seccomp) and in those of the
@@ -40,10 +40,10 @@ _FOLD = {**{upper: upper + 32 for upper in range(ord("A"), ord("Z") + 1)}, 0x17F
 
 @dataclass(frozen=True)
 class Profile:
-    """A profile's default action, and the names of its entries in their order, each occurrence once."""
+    """A profile's default action, and the names of its entries in order, with repetitions."""
 
     default: str
-    # `defaultErrnoRet` as it stands there, or None
+    # `defaultErrnoRet` as in the file, or None
     default_errno: str | None
     names: list[str]
 
@@ -67,7 +67,7 @@ def _top(data: bytes, parse_int: Callable[[str], object]) -> dict[str, Any]:
 
 @functools.lru_cache(2)
 def _entries(data: bytes) -> list[object] | None:
-    """The entries of a profile, read once for both that may be beside each other."""
+    """The entries of a profile, parsed once even if two are compared."""
     try:
         found = _top(data, lambda text: int(text) if len(text) <= LONGEST_NUMBER else text)["syscalls"]
     except (ValueError, LookupError, TypeError, AttributeError, RecursionError):
@@ -76,18 +76,18 @@ def _entries(data: bytes) -> list[object] | None:
 
 
 def entry_at(data: bytes, place: int) -> object:
-    """The entry at a place of `syscalls`, from 0 on, or None where it can't be told.
+    """The entry at an index of `syscalls`, from 0 on, or None if it can't be read.
 
-    A number past all that scf takes stays a text, as a fraction does.
+    A number larger than any that scf takes stays a string, and so does a fraction.
     """
     entries = _entries(data)
     return entries[place] if entries is not None and place < len(entries) else None
 
 
 def read(data: bytes) -> Profile | None:
-    """What of a profile is looked at, or None where it can't be told."""
+    """What the tools need of a profile, or None if it can't be read."""
     try:
-        # numbers stay texts: none is looked at, and a long one would take long
+        # numbers stay strings: none is needed, and a long one would take long
         top = _top(data, str)
         default, entries = top["defaultAction"], top.get("syscalls") or []
         names = [name for entry in entries for name in entry["names"]]
@@ -101,18 +101,18 @@ def read(data: bytes) -> Profile | None:
 
 @functools.lru_cache(1024)
 def folded(name: str) -> str:
-    """A member's name as a program in Go compares it; two names that are one by this are one member to it."""
+    """A member's name as a Go program compares it; two names that fold to the same are one member to it."""
     return name.translate(_FOLD)
 
 
 @dataclass(frozen=True)
 class Misread:
-    """A member that a runtime or engine in Go reads as another one: one that is spelled otherwise, or stands twice in
-    one object, of which the last counts."""
+    """A member that a runtime or engine in Go reads as another one: one in another spelling, or one that is repeated in
+    an object, of which the last counts."""
 
-    # the object that it stands in, as "entry 3: args 0"; "the profile" at the top
+    # the object that has it, as "entry 3: args 0"; "the profile" at the top
     where: str
-    # as it is spelled, and the member that it is read as
+    # its spelling, and the member that it is read as
     name: str
     read_as: str
 
@@ -124,11 +124,11 @@ class Misread:
 
 
 class Pairs(list):
-    """The members of an object in their order, as pairs of a name and a value, those that stand twice among them."""
+    """The members of an object in order, as pairs of a name and a value, with repeated ones."""
 
 
 def where_in(where: str, name: str, index: int | None = None) -> str:
-    """How a value is called that stands in another one, as "entry 3: args 0"."""
+    """The name of a nested value, such as "entry 3: args 0"."""
     if name == "syscalls":
         return "syscalls" if index is None else f"entry {index}"
     told = name if index is None else f"{name} {index}"
@@ -136,7 +136,7 @@ def where_in(where: str, name: str, index: int | None = None) -> str:
 
 
 def _misread_in(value: object, members: object, where: str) -> Iterator[Misread]:
-    """The misread members of an object, and of those that stand in it."""
+    """The misread members of an object, and of objects in it."""
     if not isinstance(value, Pairs) or not isinstance(members, dict):
         return
     known, seen = {folded(name): name for name in members}, set()
@@ -156,9 +156,9 @@ def _misread_in(value: object, members: object, where: str) -> Iterator[Misread]
 
 
 def misread_members(data: bytes) -> list[Misread]:
-    """The members of a profile, or of a whole config.json, that a program in Go reads otherwise than scf does: those
-    that are spelled otherwise than they are called, by letters of another case, U+017F or U+212A, and those that stand
-    more than once in an object. None are found where the profile can't be read."""
+    """The members of a profile, or of a whole config.json, that a Go program reads differently than scf: those in
+    another spelling, by letters of another case, U+017F or U+212A, and those that are repeated in an object. None are
+    found if the profile can't be read."""
     try:
         top = json.loads(data.decode("utf-8"), object_pairs_hook=Pairs, parse_int=str, parse_float=str)
         return list(_misread_in(top, CONFIG, "the profile"))
@@ -167,7 +167,7 @@ def misread_members(data: bytes) -> list[Misread]:
 
 
 def errno_by_name(data: bytes) -> str | None:
-    """Where a profile has an errno by its name, which podman alone reads and scf doesn't, or None where it has none."""
+    """Where a profile has an errno by name, which only podman reads, or None if it has none."""
     if not any(it in data for it in (b'errno"', b'defaultErrno"', b"\\u")):
         return None
     try:
@@ -186,7 +186,7 @@ def _place(text: str, at: int) -> str:
 
 
 def _too_deep(text: str) -> int | None:
-    """Where a JSON text nests deeper than scf's reader goes."""
+    """Where JSON nests deeper than scf's parser allows."""
     depth, is_text, escaped = 0, False, -1
     for found in re.finditer(r'["\\\[\]{}]', text):
         at, letter = found.start(), found[0]
@@ -211,7 +211,7 @@ def _refuse(number: str) -> None:
 
 
 def where_json_ends(data: bytes) -> str:
-    """Where a JSON reader stops in a profile that scf refuses as `Json`, and why."""
+    """Where and why a profile is malformed that scf refuses as `Json`."""
     try:
         text = data.decode("utf-8")
     except UnicodeDecodeError as error:

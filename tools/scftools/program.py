@@ -1,4 +1,4 @@
-"""How a tool begins and ends, where scf is, and how it is run."""
+"""How a tool starts and exits, where scf is, and how it is run."""
 from __future__ import annotations
 
 import os
@@ -22,14 +22,14 @@ FAULTS = os.path.join(TOP, "docs", "FAULTS.md")
 
 # The statuses of scf and of its tools.
 WELL, REFUSED, WRONG_WORDS, FAILED, UNKNOWN, NO_PROGRAM = 0, 1, 2, 3, 4, 125
-# SIGKILL (signal(7)), by which a process ends that takes more of a processor than it may.
+# SIGKILL (signal(7)), which ends a process that exceeds its limit of CPU time.
 KILLED = 9
 # The most bytes of address space that the tools give scf. Real inputs take a tenth; 4 MiB of `{"":0}` would take 520 MB.
 MAX_MEMORY = 350 << 20
 
 
 def name() -> str:
-    """The tool as it was called: `compare`, or `scf-compare` where it is installed."""
+    """The tool as it was called: `compare`, or `scf-compare` if it is installed."""
     return os.path.basename(sys.argv[0])
 
 
@@ -41,20 +41,20 @@ class Refused(Exception):
         self.status = status
 
 
-# Whether this process is a tool, and not a program that imports these modules.
+# Whether this process is a tool, not a program that imports these modules.
 is_tool = False
 
 
 def start(main: Callable[[], int]) -> NoReturn:
-    """Runs a tool to its end, whose status is the process's."""
+    """Runs a tool, and exits with its status."""
     global is_tool  # pylint: disable=global-statement
     import signal  # pylint: disable=import-outside-toplevel
 
     is_tool = True
-    # A reader that goes away ends the tool as it ends any other, and so does the user.
+    # SIGPIPE and SIGINT end the tool as they end any other.
     signal.signal(signal.SIGPIPE, signal.SIG_DFL)
     signal.signal(signal.SIGINT, signal.SIG_DFL)
-    # Where it is ignored, which a program inherits, the kernel tells nobody how a child ended.
+    # If SIGCHLD is ignored, which a program inherits, the kernel tells nobody how a child ended.
     signal.signal(signal.SIGCHLD, signal.SIG_DFL)
     try:
         status = main()
@@ -76,25 +76,25 @@ def start(main: Callable[[], int]) -> NoReturn:
 
 
 def finish(status: int) -> NoReturn:
-    """Ends the process once what was printed went out."""
+    """Flushes the output and exits."""
     try:
         output.flush()
     except OSError as error:
         output.say(name(), f"the output failed: {error.strerror}")
         status = FAILED
-    # without the interpreter's end, which would try to print the rest again
+    # without the interpreter's exit, which would try to print the rest again
     os._exit(status)
 
 
 def lines_of(text: str) -> list[str]:
-    """The lines of a text, of which the last may lack its end."""
+    """The lines of a text; the last may lack its newline."""
     lines = text.split("\n")
     return lines if lines[-1] else lines[:-1]
 
 
 @dataclass(frozen=True)
 class Done:
-    """How a run of scf ended, and what it printed; nothing where it took more time than it may."""
+    """How a run of scf ended, and what it printed; nothing if it exceeded its time."""
 
     status: int
     out: bytes
@@ -105,17 +105,17 @@ class Done:
 
     @property
     def lines(self) -> list[str]:
-        """The lines printed; names among them hold what a stranger wrote."""
+        """The lines printed; names in them are untrusted."""
         return lines_of(self.text)
 
 
 def _program() -> str:
-    """scf as it was built, or its launcher where it wasn't yet."""
+    """scf as it was built, or its launcher if it isn't built yet."""
     return BUILT if os.access(BUILT, os.X_OK) else SCF
 
 
 def built() -> str | None:
-    """The program, where it is there without a build."""
+    """The program, if it exists without a build."""
     if os.access(BUILT, os.X_OK):
         return BUILT
     try:
@@ -126,7 +126,7 @@ def built() -> str | None:
 
 
 def _holding(data: bytes) -> int:
-    """A descriptor from which these bytes are read."""
+    """A file descriptor with these bytes."""
     try:
         file = os.memfd_create("scf")
     except (AttributeError, OSError):
@@ -151,8 +151,8 @@ def _all_of(file: int) -> bytes:
 
 
 def _limit(child: int, seconds: float | None) -> None:
-    """Limits the memory of scf, so that it reports `Memory` instead of taking more, and the seconds of a processor, behind
-    which it is killed without a core."""
+    """Limits scf's memory, so that it reports `Memory` instead of taking more, and its CPU time, after which it is killed
+    without a core dump."""
     import resource  # pylint: disable=import-outside-toplevel
 
     limits = [(resource.RLIMIT_AS, MAX_MEMORY)]
@@ -169,17 +169,16 @@ def _limit(child: int, seconds: float | None) -> None:
 
 
 def scf(words: Sequence[str], given: bytes | None = b"", seconds: float | None = None) -> Done:
-    """Runs scf on these bytes; where they are None, on this process's standard input. With seconds it may take so many
-    of a processor."""
+    """Runs scf on these bytes, or if they are None on this process's standard input; `seconds` limits its CPU time."""
     done = run(_program(), words, given, seconds)
     if done.status == NO_PROGRAM:
-        # its launcher has said why
+        # the launcher has printed why
         finish(done.status)
     return done
 
 
 def run(path: str, words: Sequence[str], given: bytes | None = b"", seconds: float | None = None) -> Done:
-    """Runs this program as scf. It is killed once it took so many seconds of a processor, and then nothing is known."""
+    """Runs this program as scf. After so many seconds of CPU time it is killed, and the result is empty."""
     ends = os.pipe()
     actions: list[tuple] = [(os.POSIX_SPAWN_DUP2, ends[1], 1)]
     source = None if given is None else _holding(given)
@@ -205,7 +204,7 @@ def run(path: str, words: Sequence[str], given: bytes | None = b"", seconds: flo
 
 
 def print_version() -> int:
-    """What `--version` of a tool prints: its version is scf's."""
+    """Prints what `--version` of a tool prints: its version is scf's."""
     done = scf(["--version"])
     output.put_line(f"{name()} of {done.text.rstrip()}")
     return done.status

@@ -1,10 +1,10 @@
-"""Questions: whether filters refuse or make each call of a number, by comparison with profiles of a single answer.
+"""Questions: whether filters always deny or allow a syscall number, by comparison with profiles of a single answer.
 
-A call is refused always where no more of it is let through than by a profile that refuses everything, and made always
-where no less is than by one that allows everything. Beside a profile that refers everything to a tracer, no more says
-that it is never made, and no less that it is never refused. Where a relation fails, scf shows a call.
+A syscall is always denied if the filters are no more permissive than a profile that denies everything, and always
+allowed if they are no stricter than one that allows everything. Compared with a profile that delegates everything to a
+tracer, no more means never allowed, and no less never denied. If a relation fails, scf gives an example.
 
-What a profile answers to foreign calls is scf's own choice, so that nothing is asked of these here.
+What a profile answers to foreign syscalls is scf's own choice, so no question here is about them.
 """
 from __future__ import annotations
 
@@ -24,19 +24,19 @@ NOTHING, EVERYTHING = Answer("KILL_PROCESS", 0), Answer("ALLOW", 0)
 
 @dataclass(frozen=True)
 class Question:
-    """A relation to a profile that gives each call that is asked of this answer."""
+    """A relation to a profile that gives this answer to every syscall in question."""
 
     relation: str
     action: str
 
     @property
     def profile_elsewhere(self) -> Answer:
-        """What a profile answers to a call that isn't asked of, so that none fails the relation."""
+        """What the profile answers to syscalls not in question, so that none fails the relation."""
         return EVERYTHING if self.relation == NO_MORE else NOTHING
 
     @property
     def filters_elsewhere(self) -> Answer:
-        """What filters answer to it to the same end."""
+        """What the filters answer to them, to the same end."""
         return NOTHING if self.relation == NO_MORE else EVERYTHING
 
 
@@ -45,7 +45,7 @@ IS_NEVER_MADE, IS_NEVER_REFUSED = Question(NO_MORE, "TRACE"), Question(NO_LESS, 
 
 
 class Faulty(Exception):
-    """scf refuses the filters or the table: its status, and what it printed."""
+    """scf refuses the filters or the table: its exit status and report."""
 
     def __init__(self, status: int, report: Report):
         super().__init__(status)
@@ -53,7 +53,7 @@ class Faulty(Exception):
 
 
 def checked(status: int, report: Report, scope: str) -> Report:
-    """A report that was understood whole, since of a call that has no line the relation is taken to hold."""
+    """Checks that a report was parsed completely, since the relation is taken to hold for a syscall without a line."""
     verdict = report.verdict
     expected = None if verdict is None else 0 if verdict.holds else 1 if verdict.fails else program.UNKNOWN
     if status != expected or (scope == CALLS and len(report.calls) != len(report.lines) - 1):
@@ -62,14 +62,14 @@ def checked(status: int, report: Report, scope: str) -> Report:
 
 
 def profile_of(action: str, names: Sequence[str] = (), others: str = "") -> bytes:
-    """The profile that gives everything this answer, but for calls of some names."""
+    """A profile that gives everything this answer, except syscalls of some names."""
     entries = [{"names": names, "action": f"SCMP_ACT_{others}"}] if names else []
     return json.dumps({"defaultAction": f"SCMP_ACT_{action}", "syscalls": entries}).encode()
 
 
 @dataclass(frozen=True)
 class Asker:
-    """Filters, oldest first, of which questions are asked, and the most steps, as a text, where they aren't scf's."""
+    """Filters, oldest first, and the step limit as a text, or None for scf's."""
 
     filters: Sequence[bytes]
     limit: str | None = None
@@ -84,24 +84,24 @@ class Asker:
         return checked(done.status, report, scope)
 
     def of_named(self, question: Question, table: bytes) -> Report:
-        """What is said of each call that a table names."""
+        """The report on each syscall in a table."""
         return self._compared(CALLS, question, profile_of(question.action), table)
 
     def of_number(self, question: Question, number: int) -> Verdict | None:
-        """What is said of all calls of a number, with a call whole where one is shown."""
+        """The verdict on all syscalls of a number, with a complete record as example."""
         profile = profile_of(question.profile_elsewhere.action, ["call"], question.action)
         return self._compared(NATIVE, question, profile, b"call %d\n" % number).verdict
 
     def of_others(self, question: Question, table: Table) -> Verdict | None:
-        """What is said of all native calls whose numbers a table doesn't name."""
+        """The verdict on all x86-64 syscalls whose numbers a table doesn't name."""
         profile = profile_of(question.action, list(table.names()), question.profile_elsewhere.action)
         return self._compared(NATIVE, question, profile, table.data).verdict
 
     def of_stretch(self, question: Question, filters: Sequence[bytes]) -> Verdict | None:
-        """What is said of all native calls, by filters that answer so as these do in a stretch of numbers alone."""
+        """The verdict on all x86-64 syscalls for filters that answer as these do only in a range of numbers."""
         return self._compared(NATIVE, question, profile_of(question.action), b"", filters).verdict
 
     def decided(self, call: Call) -> Answer | None:
-        """What the filters answer to a call."""
+        """What the filters answer to a record."""
         done = program.scf(["decide", *call.words()], bundles.of_stack(self.filters))
         return verdicts.decision(done.text).answer

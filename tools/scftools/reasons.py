@@ -1,5 +1,5 @@
-"""Reasons: why a profile answers a call as it does, by `scf ask`, with the entry that says so and its conditions; and
-why filters and a profile differ on a call."""
+"""Reasons: why a profile answers a syscall as it does, by `scf ask`, with the entry that decides and its conditions;
+and why filters and a profile differ on a syscall."""
 from __future__ import annotations
 
 import json
@@ -22,9 +22,9 @@ if TYPE_CHECKING:
 
 PRINTED = re.compile(r"(\w+ \w+) (?:entry ([0-9]+)|(default)|(foreign))")
 BY_STUB = "by the ENOSYS that runc puts before the filter"
-# So many characters of an entry are shown.
+# At most so many characters of an entry are printed.
 LONGEST = 400
-# What a condition says of an argument and its value; of masks, the value is the mask.
+# What each comparison tests of an argument and its value; for masks the value is the mask.
 HOLDS = {
     "SCMP_CMP_NE": lambda it, value, two: it != value, "SCMP_CMP_LT": lambda it, value, two: it < value,
     "SCMP_CMP_LE": lambda it, value, two: it <= value, "SCMP_CMP_EQ": lambda it, value, two: it == value,
@@ -35,9 +35,9 @@ HOLDS = {
 
 @dataclass(frozen=True)
 class Reason:
-    """What a profile answers to a call, and the place of the entry that says so; or a fault.
+    """What a profile answers to a syscall, and the index of the entry that decides; or a fault.
 
-    Without a place it is the default's, or that of a foreign call, for which no entry is.
+    Without an index the answer is the default's, or that for a foreign syscall, which no entry covers.
     """
 
     status: int
@@ -49,7 +49,7 @@ class Reason:
 
 
 def of(profile: bytes, table: Table, words: Sequence[str]) -> Reason:
-    """The reason of a profile for the call that scf's options give."""
+    """A profile's reason for the record that scf's options give."""
     done = program.scf(["ask", *words], bundles.of_compilation(profile, table.data))
     return _read(done.status, done.text)
 
@@ -63,7 +63,7 @@ def _read(status: int, text: str) -> Reason:
 
 
 def meaning(text: str, call: Call | None, table: Table) -> Iterator[str]:
-    """What a text of `scf ask` means where the profile isn't at hand."""
+    """What output of `scf ask` means without the profile."""
     reason = _read(program.WELL, text)
     if reason.answer:
         if call is not None:
@@ -72,7 +72,7 @@ def meaning(text: str, call: Call | None, table: Table) -> Iterator[str]:
 
 
 def _shown(entry: object) -> str:
-    """An entry as JSON on one line, which is cut where it is long."""
+    """An entry as JSON on one line, truncated if it is long."""
     text = json.dumps(entry)
     more = len(text) - LONGEST
     return text if more <= 0 else f"{text[:LONGEST]}.. ({more} more characters)"
@@ -84,7 +84,7 @@ def _conditions(entry: object) -> list[dict[str, object]]:
 
 
 def _held(condition: dict[str, object], call: Call) -> str | None:
-    """A condition that the call meets, with the argument's value; None where it doesn't or that can't be told."""
+    """A condition that the record meets, with the argument's value; None if it doesn't, or that is unknown."""
     index, value, two = condition.get("index"), condition.get("value"), condition.get("valueTwo") or 0
     op = condition.get("op")
     if not (isinstance(index, int) and isinstance(value, int) and isinstance(two, int) and 0 <= index < 6):
@@ -102,7 +102,7 @@ def index_of(reason: Reason, origins: Sequence[Origin] | None) -> int | None:
 
 
 def told(reason: Reason, profile: bytes, call: Call | None, origins: Sequence[Origin] | None = None) -> Iterator[str]:
-    """What gives the answer; of an entry also which conditions hold."""
+    """What gives the answer; for an entry also which conditions hold."""
     if reason.answer is None:
         return
     if reason.is_foreign:
@@ -122,7 +122,7 @@ def told(reason: Reason, profile: bytes, call: Call | None, origins: Sequence[Or
 
 
 def _added(reason: Reason, profile: bytes, call: Call | None, table: Table) -> Iterator[str]:
-    """What is said behind scf's line."""
+    """The lines behind scf's."""
     if reason.fault:
         yield from comparing.of_fault(reason.fault, profile, table)
     elif reason.answer:
@@ -160,13 +160,13 @@ def _json_of(reason: Reason, profile: bytes, call: Call | None, table: Table) ->
 
 
 def _architectures(profile: bytes, table: Table) -> tuple[str, ...]:
-    """The architectures of a profile beside x86-64, which a comparison without a step says."""
+    """The architectures of a profile beside x86-64, which a comparison without a step reports."""
     allows = instruction(RETURN_CONSTANT, Answer("ALLOW", 0).word)
     return Comparison([Filter("", allows)], profile, table, "0").run(comparing.NATIVE)[1].architectures
 
 
 def ask(profile: bytes, one: Asked, table: Table) -> Told:
-    """What a profile answers to a call, and why."""
+    """What a profile answers to a syscall, and why."""
     reason = of(profile, table, one.words())
     if reason.is_foreign and one.call is not None and one.call.other_abi in _architectures(profile, table):
         call = one.call
@@ -177,7 +177,7 @@ def ask(profile: bytes, one: Asked, table: Table) -> Told:
 
 
 def of_difference(comparison: Comparison, verdict: Verdict) -> Iterator[str]:
-    """Behind a call that is answered otherwise: by what of the profile, and the last tests on the way in the filter."""
+    """The lines after a syscall that differs: what decides in the profile, and the last tests on the filter's path."""
     if verdict.call is None or verdict.filters is None or verdict.profile is None:
         return
     words = verdict.call.words()
@@ -194,7 +194,7 @@ def of_difference(comparison: Comparison, verdict: Verdict) -> Iterator[str]:
 
 
 def difference_as_json(comparison: Comparison, verdict: Verdict) -> dict[str, object]:
-    """What gives the answers to a call that is answered otherwise, as members of an object."""
+    """The same as members of an object."""
     if verdict.call is None or verdict.filters is None or verdict.profile is None:
         return {}
     words = verdict.call.words()

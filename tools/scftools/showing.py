@@ -1,4 +1,4 @@
-"""How surfaces are shown: a table as wide as the terminal, or where none reads it a line for each call; and as JSON."""
+"""Surfaces as a table as wide as the terminal, or without one as a line for each syscall; and as JSON."""
 from __future__ import annotations
 
 import os
@@ -8,12 +8,12 @@ from . import foreign
 from .groups import Groups
 from .surfaces import DEPENDS, MADE, REFUSED, SAID, Row, Surface, word_of
 
-# What a terminal has that doesn't say its width, and the least width that a cell of names is given beside others.
+# The width of a terminal that doesn't report one, and the least width of a column of names beside others.
 USUAL, LEAST = 80, 24
 
 
 def width_of_terminal() -> int | None:
-    """How many columns the terminal has that reads the output, or None where none does."""
+    """The width of the terminal that shows the output, or None if there is none."""
     try:
         return os.get_terminal_size(1).columns or USUAL
     except OSError:
@@ -21,7 +21,7 @@ def width_of_terminal() -> int | None:
 
 
 def wrapped(words: Iterable[str], width: int) -> list[str]:
-    """Words in lines of a width; a longer one has a line of its own."""
+    """Words wrapped to a width; a longer word has a line of its own."""
     lines: list[str] = []
     for word in words:
         if lines and len(lines[-1]) + 1 + len(word) <= width:
@@ -32,7 +32,7 @@ def wrapped(words: Iterable[str], width: int) -> list[str]:
 
 
 def fitted(told: Iterable[str], width: int | None) -> Iterator[str]:
-    """Lines as a terminal of a width shows them: what goes on in another line is set in."""
+    """Lines wrapped to a width; continuation lines are indented."""
     for line in told:
         for at, part in enumerate(wrapped(line.split(), width - 2) if width is not None else [line]):
             yield f"{'  ' * (at > 0)}{part}"
@@ -49,26 +49,26 @@ def _foreign(surface: Surface) -> str:
 
 
 def of_whole(surface: Surface) -> list[str]:
-    """How many calls are made, refused and so on; foreign calls; numbers without a name."""
+    """How many syscalls are allowed, denied and so on; those of other ABIs; numbers without a name."""
     return [_summary(surface), _foreign(surface), f"numbers without a name: {surface.unnamed.told()}"]
 
 
 def details(row: Row) -> list[str]:
-    """Behind what is said of all calls of a number: some of them by their fates, or else an answer of one."""
+    """The examples of a number, by disposition, or else one answer."""
     if row.shown:
         return [f"{word_of(fate)} {shown.told()}" for fate, shown in row.shown.items()]
     return [str(row.answer)] if row.answer else []
 
 
 def plain(rows: Iterable[Row], groups: Groups) -> Iterator[str]:
-    """A line for each call, group by group."""
+    """A line for each syscall, group by group."""
     for group, members in grouped(rows, groups):
         for row in members:
             yield " ".join([group, word_of(row.said), str(row.number), ",".join(row.names), *details(row)])
 
 
 def grouped(rows: Iterable[Row], groups: Groups) -> list[tuple[str, list[Row]]]:
-    """The rows of each group, in the order of the groups; those without rows are left out."""
+    """The rows of each group, in the order of the groups; empty groups are left out."""
     found: dict[str, list[Row]] = {group: [] for group in groups.order}
     for row in rows:
         found[groups.of_call(row.names)].append(row)
@@ -76,7 +76,7 @@ def grouped(rows: Iterable[Row], groups: Groups) -> list[tuple[str, list[Row]]]:
 
 
 def _cell(said: str, rows: Sequence[Row], width: int) -> list[str]:
-    """The calls of a group of which the same is said: their names, or where a call shows more, a line or more each."""
+    """A group's syscalls with the same disposition: their names, or with examples a line or more each."""
     if not any(row.shown for row in rows):
         names = [" or ".join(row.names) for row in rows]
         return wrapped([f"{name}," for name in names[:-1]] + names[-1:], width)
@@ -89,7 +89,7 @@ def _cell(said: str, rows: Sequence[Row], width: int) -> list[str]:
 
 
 def as_table(rows: Iterable[Row], groups: Groups, width: int) -> Iterator[str]:
-    """The calls of each group, by what is said of them."""
+    """The syscalls of each group, by disposition."""
     found = grouped(rows, groups)
     before, next_to = max((len(group) for group, _ in found), default=0) + 2, max(map(len, map(word_of, SAID))) + 2
     is_narrow = width - before - next_to < LEAST
@@ -109,7 +109,7 @@ def as_table(rows: Iterable[Row], groups: Groups, width: int) -> Iterator[str]:
 
 
 def lines(surface: Surface, groups: Groups, width: int | None) -> Iterator[str]:
-    """All that is said of filters."""
+    """The text output for a surface."""
     yield from fitted(of_whole(surface), width)
     yield from plain(surface.rows, groups) if width is None else as_table(surface.rows, groups, width)
 

@@ -1,4 +1,4 @@
-"""Surfaces: what filters let through of each call that a table names, by verdicts of scf over all calls of a number."""
+"""Surfaces: what filters allow of each syscall in a table, by verdicts of scf over all syscalls of a number."""
 from __future__ import annotations
 
 from collections import Counter
@@ -32,7 +32,7 @@ def fate_of(answer: Answer) -> str:
 
 @dataclass(frozen=True)
 class Shown:
-    """A call, and what it is answered; where it isn't whole, that is so at some other instruction pointer."""
+    """An example and its answer; if it isn't whole, the answer is that at some other instruction pointer."""
 
     call: Call
     answer: Answer
@@ -50,12 +50,12 @@ class Shown:
 
 @dataclass
 class Row:
-    """A number that the table names: the line of scf to each question, or None where the relation holds."""
+    """A number in the table: scf's line for each question, or None if the relation holds."""
 
     number: int
     names: list[str]
     lines: dict[Question, NamedCall | None]
-    # a call for each fate that some call has, where it depends or couldn't be told
+    # an example for each disposition that occurs, if it depends or is undecided
     shown: dict[str, Shown] = field(default_factory=dict)
 
     def holds(self, question: Question) -> bool:
@@ -63,7 +63,7 @@ class Row:
 
     @property
     def failed(self) -> dict[str, tuple[Question, NamedCall]]:
-        """For each fate that some call has the first question that shows one."""
+        """For each disposition that occurs, the first question with an example."""
         found: dict[str, tuple[Question, NamedCall]] = {}
         for question, line in self.lines.items():
             if line is not None and line.verdict.filters is not None:
@@ -72,7 +72,7 @@ class Row:
 
     @property
     def said(self) -> str:
-        """What all calls of the number have in common: a fate, that they have several, or that it couldn't be told."""
+        """The disposition of all syscalls of the number, or that it depends or is undecided."""
         if self.holds(IS_REFUSED):
             return REFUSED
         if self.holds(IS_MADE):
@@ -90,18 +90,18 @@ class Row:
 
     @property
     def never(self) -> list[str]:
-        """The fates of which it is proved that no call has them, where that isn't said by one that all have."""
+        """The dispositions that are proved not to occur."""
         return [fate for fate, question in ((MADE, IS_NEVER_MADE), (REFUSED, IS_NEVER_REFUSED)) if self.holds(question)]
 
     @property
     def answer(self) -> Answer | None:
-        """An answer of some call."""
+        """The answer to some syscall of the number."""
         return next((line.verdict.filters for _, line in self.failed.values()), None)
 
 
 @dataclass
 class Surface:
-    """What filters let through."""
+    """What filters allow."""
 
     asker: Asker
     table: Table
@@ -115,13 +115,13 @@ class Surface:
 
     @property
     def is_told(self) -> bool:
-        """Whether scf could tell everything."""
+        """Whether scf decided everything."""
         return (all(row.is_told for row in self.rows) and not self.unnamed.untold
                 and all(isinstance(one, foreign.Proved) for one in self.foreign))
 
 
 def _asked(asker: Asker, question: Question, rows: Iterable[Row]) -> None:
-    """Asks of the calls of some rows alone."""
+    """Asks a question only for some rows."""
     asked = list(rows)
     table = b"".join(b"%s %d\n" % (name.encode(), row.number) for row in asked for name in row.names)
     lines = {line.number: line for line in asker.of_named(question, table).calls} if table else {}
@@ -130,7 +130,7 @@ def _asked(asker: Asker, question: Question, rows: Iterable[Row]) -> None:
 
 
 def _shown(asker: Asker, question: Question, line: NamedCall) -> Shown:
-    """The call of a line, which lacks its instruction pointer: that, or one that scf shows whole, if it was run so."""
+    """The example of a line, which lacks its instruction pointer, or a complete one, if a run confirms it."""
     call, answer = line.verdict.call, line.verdict.filters
     assert call is not None and answer is not None
     if asker.decided(call) == answer:
@@ -143,7 +143,7 @@ def _shown(asker: Asker, question: Question, line: NamedCall) -> Shown:
 
 
 def rows_of(asker: Asker, table: Table) -> list[Row]:
-    """What is said of each call that the table names. The last two questions are asked only where they say more."""
+    """A row for each number in the table. The last two questions are asked only if they add something."""
     first = asker.of_named(IS_REFUSED, table.data)
     lines = {line.number: line for line in first.calls}
     rows = [Row(number, table.names_of(number), {IS_REFUSED: lines.get(number)}) for number in sorted(table.numbers())]

@@ -1,4 +1,4 @@
-"""The surfaces of a stack of files or of a process's stacks, each with a status, and what is printed of them."""
+"""The surfaces of a stack of files or of a process's stacks, each with a status, and their output."""
 from __future__ import annotations
 
 from collections.abc import Iterator, Sequence
@@ -18,7 +18,7 @@ from .verdicts import Report
 
 @dataclass(frozen=True)
 class Asked:
-    """What is asked of each stack, and the filters that are held beside it, if any."""
+    """The settings for each stack, and the filters to compare it with, if any."""
 
     table: Table
     limit: str | None
@@ -27,7 +27,7 @@ class Asked:
 
 @dataclass(frozen=True)
 class Block:
-    """A stack, and what is said of it: a surface, or what scf printed that refuses it, or nothing without a filter."""
+    """A stack with its surface, or scf's report if it refuses the stack, or neither without a filter."""
 
     status: int
     filters: Sequence[Filter] = ()
@@ -38,7 +38,7 @@ class Block:
 
     @property
     def is_of_all(self) -> bool:
-        """Whether it is a fault that each stack would have."""
+        """Whether every stack would have this fault."""
         fault = self.refusal.fault if self.refusal is not None else None
         return fault is not None and fault.source in verifying.OF_ALL
 
@@ -48,7 +48,7 @@ def _surface(filters: Sequence[Filter], asked: Asked) -> Surface:
 
 
 def of_stack(filters: Sequence[Filter], asked: Asked, threads: Stack | None = None) -> Block:
-    """What is said of filters, oldest first, and beside others."""
+    """The surface of filters, oldest first, and its comparison with others."""
     refused = filters
     try:
         one = _surface(filters, asked)
@@ -62,7 +62,7 @@ def of_stack(filters: Sequence[Filter], asked: Asked, threads: Stack | None = No
 
 
 def of_process(found: Found, asked: Asked) -> list[Block]:
-    """A block for each distinct stack of a process, the worst first; a fault that each would have is said once."""
+    """A block for each distinct stack of a process, the worst first; a fault of all stacks is reported once."""
     blocks = []
     for stack in found.stacks:
         if stack.filters:
@@ -70,7 +70,7 @@ def of_process(found: Found, asked: Asked) -> list[Block]:
             if blocks[-1].is_of_all:
                 break
         else:
-            # the strict mode allows four calls, and is no filter
+            # strict mode allows four syscalls, and isn't a filter
             blocks.append(Block(program.UNKNOWN if stack.is_strict else program.REFUSED, threads=stack))
     return sorted(blocks, key=lambda it: verifying.WORST_FIRST.index(it.status))
 
@@ -80,7 +80,7 @@ def worst(blocks: Sequence[Block]) -> int:
 
 
 def _of_refusal(block: Block) -> Iterator[str]:
-    """scf's lines, and behind them what they mean."""
+    """scf's lines, followed by what they mean."""
     if block.refusal is None or block.refusal.fault is None:
         return
     yield from block.refusal.printed
@@ -92,7 +92,7 @@ def _of_refusal(block: Block) -> Iterator[str]:
 
 
 def lines(blocks: Sequence[Block], found: Found | None, width: int | None) -> Iterator[str]:
-    """What is printed; behind a stack of a process the threads that have it, in lines marked by `# `."""
+    """The text output; after a process's stack the threads that have it, in lines marked by `# `."""
     groups = Groups()
     for at, block in enumerate(blocks):
         if at:
@@ -127,7 +127,7 @@ def _json_of(block: Block, found: Found | None, groups: Groups) -> dict[str, obj
 
 
 def as_json(blocks: Sequence[Block], found: Found | None) -> dict[str, object]:
-    """All that `lines` says, as one object."""
+    """The same as `lines`, as one object."""
     groups = Groups()
     if found is None:
         return _json_of(blocks[0], None, groups)

@@ -1,4 +1,4 @@
-"""Call tables: the names of numbers; and names that no call of a table has, told apart."""
+"""Syscall tables: the names of numbers; and what names are that a table doesn't have."""
 from __future__ import annotations
 
 import re
@@ -8,16 +8,16 @@ from dataclasses import dataclass
 from . import inputs, program
 
 LINE = re.compile(rb"[ \t]*([A-Za-z_][A-Za-z0-9_]*)[ \t]+0*([0-9]{1,10})[ \t]*\r?")
-# So many names that no call has are told one by one, and so long ones have no nearest name.
+# At most so many unknown names are listed, and longer ones get no nearest name.
 TOLD, LONGEST = 20, 64
-# How alike a nearest name is at least (difflib's ratio): two letters that are exchanged in a name of four.
+# The least similarity of a nearest name (difflib's ratio): two swapped letters in a name of four.
 NEAR = 0.75
 
 
 class Table:
-    """A call table: its bytes as scf takes them, and its names, which are read where they are needed.
+    """A syscall table: its bytes as scf takes them, and its names, which are parsed when they are needed.
 
-    scf judges the table; here what is no line of one is passed over.
+    scf judges the table; malformed lines are skipped here.
     """
 
     def __init__(self, data: bytes):
@@ -37,7 +37,7 @@ class Table:
         return self._names
 
     def names_of(self, number: int) -> list[str]:
-        """The names that a number has, in the table's order."""
+        """The names of a number, in the table's order."""
         return self._read().get(number, [])
 
     def number_of(self, name: str) -> int | None:
@@ -53,12 +53,12 @@ class Table:
 
 
 def read(name: str | None) -> Table:
-    """The table of a file, or where none is named the one that comes with scf."""
+    """The table in a file, or by default the one that comes with scf."""
     return Table(inputs.read_whole(program.TABLE if name is None else name, "table"))
 
 
 def names_elsewhere() -> set[str]:
-    """The names of calls that Linux has on other architectures alone."""
+    """The names of syscalls that Linux has only on other architectures."""
     try:
         with open(program.OTHER_NAMES, encoding="ascii", errors="replace") as file:
             return {line.strip() for line in file if line.strip() and not line.startswith("#")}
@@ -68,13 +68,13 @@ def names_elsewhere() -> set[str]:
 
 @dataclass(frozen=True)
 class Skipped:
-    """The names of a profile that a table doesn't name, told apart."""
+    """The names in a profile that a table doesn't have, by what they are."""
 
-    # Linux has them on other architectures alone
+    # Linux has them only on other architectures
     elsewhere: list[str]
-    # calls of x86-64 in the table that comes with scf, which this table leaves out
+    # x86-64 syscalls in the table that comes with scf, which this table leaves out
     left_out: list[str]
-    # no call that is known here; each with the nearest name of the table
+    # unknown names, each with the nearest name in the table
     unknown: list[tuple[str, str | None]]
 
     def __bool__(self) -> bool:
@@ -82,7 +82,7 @@ class Skipped:
 
 
 def nearest(name: str, table: Table) -> str | None:
-    """The name of the table that is most like this one, or None where none is much like it."""
+    """The name in the table most similar to this one, or None if none is similar."""
     if len(name) > LONGEST:
         return None
     from difflib import get_close_matches  # pylint: disable=import-outside-toplevel
@@ -91,7 +91,7 @@ def nearest(name: str, table: Table) -> str | None:
 
 
 def told_apart(names: Sequence[str], table: Table) -> Skipped:
-    """What the names are that a table doesn't have; each once, in their order."""
+    """What the names are that a table doesn't have; each once, in order."""
     elsewhere, known = names_elsewhere(), read(None)
     found = Skipped([], [], [])
     for name in dict.fromkeys(names):

@@ -1,4 +1,4 @@
-"""Many runs of scf for one answer of a tool, each of which may be refused."""
+"""Many runs of scf for one result of a tool, each of which may be refused."""
 from __future__ import annotations
 
 from collections.abc import Sequence
@@ -10,7 +10,7 @@ from .verdicts import UNFINISHED, Report, Verdict
 
 
 class Unanswered(Exception):
-    """scf refuses a profile or a comparison: the line of its fault, and its status."""
+    """scf refuses a profile or a comparison: the line of its fault, and its exit status."""
 
     def __init__(self, line: str, status: int):
         super().__init__(line)
@@ -19,7 +19,7 @@ class Unanswered(Exception):
 
 @dataclass
 class Trial:
-    """Runs of scf's compiler and its comparison, by a table and so many steps; how many comparisons there were."""
+    """Runs of scf's compiler and comparison with a table and a step limit; counts the comparisons."""
 
     table: Table
     limit: str | None = None
@@ -33,7 +33,7 @@ class Trial:
         return done.out
 
     def report(self, filters: Sequence[bytes], profile: bytes, table: bytes, *words: str) -> Report:
-        """What scf says of filters beside a profile, by a table."""
+        """scf's report on filters compared with a profile, by a table."""
         self.count += 1
         done = effort.compare(words, bundles.of_comparison(filters, profile, table), self.limit)
         report = verdicts.report(done.text)

@@ -1,4 +1,4 @@
-"""Native calls whose numbers a table doesn't name: of how many numbers filters let calls through."""
+"""x86-64 syscall numbers that a table doesn't name: how many of them filters don't always deny."""
 from __future__ import annotations
 
 from collections.abc import Iterator, Sequence
@@ -10,20 +10,20 @@ from .questions import IS_MADE, IS_NEVER_REFUSED, IS_REFUSED, Asker, Faulty, Que
 from .tables import Table
 from .verdicts import Verdict
 
-# The most stretches of numbers that are looked at.
+# The most ranges of numbers to check.
 MOST = 256
 
 
 @dataclass
 class Unnamed:
-    """How many numbers have no name, of how many of them some call is let through, and of how many it isn't known."""
+    """How many numbers have no name, how many of them aren't always denied, and how many are undecided."""
 
     count: int
     let_through: int = 0
     untold: int = 0
-    # whether each call of them is made, which is more than that some are let through
+    # whether all of them are always allowed
     are_made: bool = False
-    # one that is let through
+    # an example that isn't denied
     shown: Verdict | None = None
 
     @property
@@ -53,7 +53,7 @@ class Unnamed:
 
 
 def gaps(table: Table) -> Iterator[tuple[int, int]]:
-    """The stretches of native numbers that a table doesn't name: of each the first, and the one behind the last."""
+    """The ranges of x86-64 numbers that a table doesn't name: the first of each, and the one after the last."""
     before = 0
     for number in [*sorted(table.numbers()), X32]:
         if before < number:
@@ -62,7 +62,7 @@ def gaps(table: Table) -> Iterator[tuple[int, int]]:
 
 
 def tested(filters: Sequence[bytes]) -> set[int]:
-    """The numbers at which the tests of filters turn."""
+    """The numbers at which tests of the filters change."""
     found: set[int] = set()
     for data in filters:
         for code, _, _, k in INSTRUCTION.iter_unpack(data):
@@ -72,14 +72,14 @@ def tested(filters: Sequence[bytes]) -> set[int]:
 
 
 class _Counting:
-    """Counts of stretches, each divided where scf says neither that all of it is let through nor that none is."""
+    """Counts ranges; one that scf proves neither all denied nor never denied is divided."""
 
     def __init__(self, asker: Asker, found: Unnamed):
         self.asker, self.found, self.left = asker, found, MOST
         self.turns = sorted(tested(asker.filters))
 
     def said(self, question: Question, first: int, end: int) -> Verdict | None:
-        """What scf says of the numbers from the first on and below the end; None where it can't be asked."""
+        """The verdict on the numbers from `first` on and below `end`; None if scf can't be asked."""
         word = question.filters_elsewhere.word
         filters = [answering_below(answering_from(data, end, word), first, word) for data in self.asker.filters]
         if any(len(data) > LONGEST * INSTRUCTION.size for data in filters):
@@ -87,11 +87,11 @@ class _Counting:
         try:
             return self.asker.of_stretch(question, filters)
         except Faulty:
-            # the stack grew too long
+            # the stack is too long
             return None
 
     def divided(self, first: int, end: int) -> list[tuple[int, int]]:
-        """A stretch in pieces, where the filters' tests turn, and else in two."""
+        """A range in pieces, split where the filters' tests change, else in half."""
         turns = [turn for turn in self.turns if first < turn < end] or [(first + end) // 2]
         return list(zip([first, *turns], [*turns, end]))
 
@@ -115,7 +115,7 @@ class _Counting:
 
 
 def of_filters(asker: Asker, table: Table) -> Unnamed:
-    """What filters let through of the numbers that a table doesn't name."""
+    """What filters allow of the numbers that a table doesn't name."""
     stretches = list(gaps(table))
     found = Unnamed(sum(end - first for first, end in stretches))
     try:
@@ -128,7 +128,7 @@ def of_filters(asker: Asker, table: Table) -> Unnamed:
             found.let_through, found.are_made = found.count, True
             return found
     except Faulty:
-        # more names than a profile may have; the stretches are asked of one by one
+        # more names than a profile may have; the ranges are checked one by one
         pass
     _Counting(asker, found).count(stretches[::-1])
     return found

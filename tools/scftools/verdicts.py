@@ -1,8 +1,8 @@
 """What scf prints, as values.
 
-Lines are read by their order, since the names in them are a stranger's: the first line is the verdict or a fault, the
-next ones are what the verdict needs, or calls by name; and behind the first `skipped` or `other` line nothing is a call
-or a verdict, whatever it looks like.
+Lines are parsed by their order, since the names in them are untrusted: the first line is the verdict or a fault, the
+next ones are its example, or syscalls by name; and after the first `skipped` or `other` line nothing is a syscall or a
+verdict, whatever it looks like.
 """
 from __future__ import annotations
 
@@ -16,10 +16,11 @@ from .calls import Call
 from .tables import Table
 
 SAME, DIFFERS, UNDECIDED, UNFINISHED = "same", "differs", "undecided", "unfinished"
-# Of the tools alone: what decides is a call of an architecture that the profile names, too, and scf doesn't judge.
+# Only from the tools: the syscall that decides is of an architecture that the profile also names, which scf doesn't
+# judge.
 UNDETERMINED = "undetermined"
 FOR_OTHER_ABI = f"{UNDETERMINED}: the profile is for this architecture, too"
-# Of --no-more and --no-less, in place of the first two.
+# The first two with --no-more and --no-less.
 NO_MORE, MORE, NO_LESS, LESS = "no more", "more", "no less", "less"
 HOLDS, FAILS = (SAME, NO_MORE, NO_LESS), (DIFFERS, MORE, LESS)
 FAULT = re.compile(r"fault ([a-z]+) ([A-Za-z0-9]+)((?: [a-z]+ [0-9]+)*)")
@@ -30,7 +31,7 @@ LEFT_OUT = ("skipped ", "other ")
 
 @dataclass(frozen=True)
 class Fault:
-    """A refusal: `fault SOURCE KIND` and the kind's numbers by name."""
+    """A fault: `fault SOURCE KIND` and the kind's numbers by name."""
 
     line: str
     source: str
@@ -51,7 +52,7 @@ class Fault:
 
 @dataclass(frozen=True)
 class Verdict:
-    """A verdict, with what it shows: the call and both answers where it is `differs`, `more` or `less`, a place where
+    """A verdict, with its example and both answers if it is `differs`, `more` or `less`, and an instruction index if
     `undecided`."""
 
     word: str
@@ -75,7 +76,7 @@ class Verdict:
 
 @dataclass(frozen=True)
 class NamedCall:
-    """A line of `scf compare --calls`: a call that the table names and of which the relation isn't known to hold."""
+    """A line of `scf compare --calls`: a syscall in the table for which the relation isn't proved."""
 
     line: str
     number: int
@@ -85,9 +86,9 @@ class NamedCall:
 
 @dataclass(frozen=True)
 class Report:
-    """What `scf compare` printed: a verdict or a fault, and what of the profile was left out.
+    """What `scf compare` printed: a verdict or a fault, and what was left out of the profile.
 
-    `lines` are those of the verdict and the calls. Names and architectures hold what the profile's author wrote.
+    `lines` are those of the verdict and the syscalls. Names and architectures are untrusted.
     """
 
     lines: tuple[str, ...]
@@ -99,13 +100,13 @@ class Report:
 
     @property
     def printed(self) -> list[str]:
-        """scf's lines again, a name with line ends in it as the one line that it belongs to."""
+        """scf's lines, where a name with newlines in it is one line."""
         return [*self.lines, *(f"skipped {name}" for name in self.skipped),
                 *(f"other {name}" for name in self.architectures)]
 
     @property
     def brief(self) -> list[str]:
-        """scf's lines without those of skipped names, of which there are often many."""
+        """scf's lines without skipped names, which are often many."""
         return replace(self, skipped=()).printed
 
 
@@ -128,7 +129,7 @@ def _verdict(lines: Sequence[str]) -> Verdict | None:
 
 
 def named_call(line: str, pointer: int | None = 0) -> NamedCall | None:
-    """The call of a line of `--calls`, which lacks the instruction pointer."""
+    """Parses a line of `--calls`, which lacks the instruction pointer."""
     found = NAMED.fullmatch(line)
     if not found:
         return None
@@ -141,9 +142,9 @@ def named_call(line: str, pointer: int | None = 0) -> NamedCall | None:
 
 
 def _names(lines: Sequence[str]) -> tuple[list[str], list[str]]:
-    """The skipped names and the architectures of the lines from the first of them on.
+    """The skipped names and the architectures in these lines.
 
-    A line that begins as neither belongs to the name before it, which has a line end in it.
+    A line that begins as neither belongs to the name before it, which has a newline in it.
     """
     # the lines of each name: they are joined once, since a name may have millions of them
     found: dict[str, list[list[str]]] = {word: [] for word in LEFT_OUT}
@@ -161,10 +162,10 @@ def _names(lines: Sequence[str]) -> tuple[list[str], list[str]]:
 
 def report(text: str, profile_names: Sequence[str] | None = None, table: Table | None = None,
            pointer: int | None = 0) -> Report:
-    """What a text says that `scf compare` printed.
+    """Parses the output of `scf compare`.
 
-    Where the names of the profile are known, a name in which further lines `skipped ..` or `other ..` stand is told
-    from several names. The calls of lines get this instruction pointer, None where it matters and isn't known.
+    If the names of the profile are known, a name that contains lines `skipped ..` or `other ..` is distinguished from
+    several names. The records of lines get this instruction pointer, None if it matters and is unknown.
     """
     lines = program.lines_of(text)
     count = next((at for at, line in enumerate(lines) if line.startswith(LEFT_OUT)), len(lines))
@@ -182,7 +183,7 @@ def report(text: str, profile_names: Sequence[str] | None = None, table: Table |
 
 @dataclass(frozen=True)
 class Decision:
-    """What `scf run` or `scf decide` printed of a call: an answer and how many instructions ran, or a fault."""
+    """What `scf run` or `scf decide` printed for a record: an answer and how many instructions ran, or a fault."""
 
     line: str
     answer: Answer | None = None

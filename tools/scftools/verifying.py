@@ -1,4 +1,4 @@
-"""The filters of processes beside a profile: a verdict for each distinct stack, and the threads that have it."""
+"""The filters of processes compared with a profile: a verdict for each distinct stack, and the threads that have it."""
 from __future__ import annotations
 
 from collections.abc import Iterator, Sequence
@@ -11,33 +11,32 @@ from .runtimes import Applied
 from .tables import Table
 from .verdicts import Report
 
-# The statuses of the blocks, the worst first: a call that differs or a thread without a filter before what failed,
-# before what couldn't be told.
+# The statuses of the blocks, the worst first: a difference or a thread without a filter, a failure, undecided, well.
 WORST_FIRST = (program.REFUSED, program.WRONG_WORDS, program.FAILED, program.UNKNOWN, program.WELL)
-# What faults are of that no stack is the cause of.
+# The sources of faults that no stack causes.
 OF_ALL = ("profile", "table", "number", "command", "input")
 
 
 @dataclass
 class Block:
-    """A distinct stack, and what is said of it. Without filters there is nothing to compare."""
+    """A distinct stack and its report; without filters there is nothing to compare."""
 
     stack: Stack
     status: int
     comparison: Comparison | None = None
     report: Report | None = None
-    # the least number of those that runc answers by ENOSYS, where it does so here
+    # the least number that runc answers with ENOSYS, if it does so here
     stub: int | None = None
 
     @property
     def is_of_all(self) -> bool:
-        """Whether it is a fault that each stack would have."""
+        """Whether every stack would have this fault."""
         return bool(self.report and self.report.fault and self.report.fault.source in OF_ALL)
 
 
 @dataclass(frozen=True)
 class Asked:
-    """What is asked of each stack; of a profile that a runtime applies, also what that makes of it."""
+    """The settings for each stack; with a runtime also what that makes of the profile."""
 
     profile: bytes
     table: Table
@@ -48,18 +47,18 @@ class Asked:
 
     @classmethod
     def of_runtime(cls, applied: Applied, table: Table, limit: str | None, scope: str, relation: str) -> Asked:
-        """What is asked beside a profile as a runtime applies it."""
+        """The settings for a profile as a runtime applies it."""
         return cls(applied.data, table, limit, scope, relation, applied)
 
     @property
     def remarks(self) -> list[str]:
-        """What is to be known of the profile as its runtime applies it."""
+        """Notes on the profile as its runtime applies it."""
         return list(self.applied.remarks) if self.applied is not None else []
 
 
 def judged(stack: Stack, asked: Asked) -> Block:
     if not stack.filters:
-        # the strict mode allows four calls, which no profile says
+        # strict mode allows four syscalls, which no profile can express
         return Block(stack, program.UNKNOWN if stack.is_strict else program.REFUSED)
     comparison = Comparison(stack.named, asked.profile, asked.table, asked.limit, asked.relation)
     if asked.applied is None:
@@ -72,7 +71,7 @@ def judged(stack: Stack, asked: Asked) -> Block:
 
 
 def blocks(found: Found, asked: Asked) -> list[Block]:
-    """A block for each distinct stack, the worst first; a fault that each would have is said once."""
+    """A block for each distinct stack, the worst first; a fault of all stacks is reported once."""
     made: list[Block] = []
     for stack in found.stacks:
         if stack.filters and any(block.is_of_all for block in made):
@@ -104,7 +103,7 @@ def of_threads(stack: Stack, found: Found) -> Iterator[str]:
 
 
 def lines(made: Sequence[Block], found: Found, scope: str, is_verbose: bool = False) -> Iterator[str]:
-    """What is printed: scf's lines of each block, if verbose also of skipped names; and behind them what is added,
+    """The text output: scf's lines for each block, with --verbose also the skipped names, and then added lines,
     marked by `# `."""
     is_told = False
     for at, block in enumerate(made):
@@ -142,7 +141,7 @@ def _block_json(block: Block, found: Found, scope: str) -> dict[str, object]:
 
 
 def as_json(made: Sequence[Block], found: Found, scope: str, container: str | None) -> dict[str, object]:
-    """All that `lines` says, as one object, and the container: the verdict is that of the worst stack."""
+    """The same as `lines`, as one object, with the container: the verdict is that of the worst stack."""
     stacks = [_block_json(block, found, scope) for block in made]
     return {"status": worst(made), "scope": scope, "verdict": stacks[0].get("verdict"), "container": container,
             "stacks": stacks,

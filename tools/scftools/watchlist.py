@@ -1,8 +1,8 @@
 """Syscalls that `lint` looks for in what a profile allows: those that make a sandbox useless (tables/dangerous.calls),
-those that need another one, as sleeps need restart_syscall, and those that libc replaces only where they are ENOSYS.
+those that need another one, as sleeps need restart_syscall, and those that libc replaces only if they are ENOSYS.
 
-A profile of them is compiled into a filter that allows nothing else, and a bit of an argument can be asked for there.
-Behind that filter scf compares the profile's own: what both allow is found over all arguments.
+A profile of them is compiled into a filter that allows nothing else, and which can test a bit of an argument. scf
+compares the stack of that filter and the profile's own, which finds what both allow, over all arguments.
 """
 from __future__ import annotations
 
@@ -23,7 +23,7 @@ from .verdicts import NamedCall
 FILE = os.path.join(program.TOP, "tables", "dangerous.calls")
 LINE = re.compile(r"(\w+) (?:\[(\d) has (0x[0-9a-f]+)\] )?(\S.*)")
 DENIES, ALLOWS = ("SCMP_ACT_ERRNO", 1), ("SCMP_ACT_ALLOW", 0)
-# What a syscall is more permissive than, and less permissive than, where it is allowed: one by one.
+# A profile that delegates everything, and one that allows everything, to compare with.
 DELEGATES, ALLOWS_ALL = b'{"defaultAction": "SCMP_ACT_TRACE"}', b'{"defaultAction": "SCMP_ACT_ALLOW"}'
 
 
@@ -42,8 +42,8 @@ RESTARTED: tuple[tuple[str, tuple[Condition, ...]], ...] = (
 
 @dataclass(frozen=True)
 class Needed:
-    """A syscall that must be allowed, whatever its arguments are, where one of others is; the kind of finding that it
-    isn't, and who makes it."""
+    """A syscall that must be allowed with any arguments if one of its users is; the kind of finding if it isn't, and
+    why it is called."""
 
     kind: str
     name: str
@@ -51,12 +51,12 @@ class Needed:
     why: str
 
 
-# It isn't the program that makes these (arch/x86/kernel/signal.c; vdso and libc return from a handler by sigreturn(2)).
+# The program itself doesn't call these (arch/x86/kernel/signal.c; vdso and libc return from a handler by sigreturn(2)).
 NEEDED = (
     Needed("no-restart", "restart_syscall", RESTARTED, "a thread stopped in such a syscall, by SIGSTOP or a "
            "debugger, calls it to continue, and"),
     Needed("no-return", "rt_sigreturn", (("rt_sigaction", ()),), "each signal handler ends with it, and it"))
-# Of newer syscalls what libc makes in their place, if they are ENOSYS and not if they are any other errno (glibc's
+# What libc calls instead of newer syscalls if they fail with ENOSYS, and not with any other errno (glibc's
 # __clone_internal and faccessat); with arguments of a thread and of a fork, by linux/sched.h.
 FALLBACKS = (("clone3", "clone", (0x3D0F00, 0x1200011)), ("faccessat2", "faccessat", (0,)))
 ENOSYS = 38
@@ -64,14 +64,14 @@ ENOSYS = 38
 
 @dataclass(frozen=True)
 class Dangerous:
-    """Why a syscall is dangerous, and what has to be in its arguments for that."""
+    """Why a syscall is dangerous, and which argument bits make it so."""
 
     reason: str
     conditions: tuple[Condition, ...] = ()
 
 
 def dangerous() -> dict[str, Dangerous]:
-    """The syscalls that make a sandbox useless."""
+    """The syscalls that make a sandbox useless, from the list."""
     found: dict[str, Dangerous] = {}
     with open(FILE, encoding="ascii") as file:
         for line in file:
@@ -84,7 +84,7 @@ def dangerous() -> dict[str, Dangerous]:
 
 
 class Watch:
-    """What a profile allows of the list, over all arguments, and what of it always; by the syscalls' numbers."""
+    """What a profile allows of the list, with some or with all arguments, by syscall number."""
 
     def __init__(self, trial: Trial, ask: Callable[[Call], Reason], data: bytes):
         self.trial, self.ask = trial, ask
@@ -99,7 +99,7 @@ class Watch:
         self.not_always = self._compare([data], ALLOWS_ALL, calls, "--no-less")
 
     def _compare(self, filters: Sequence[bytes], profile: bytes, calls: bytes, relation: str) -> dict[int, NamedCall]:
-        """The named calls that fail a relation, or of which it couldn't be told, by their numbers."""
+        """The syscalls that fail a relation or are undecided, by number."""
         return {it.number: it for it in self.trial.report(filters, profile, calls, "--calls", relation).calls}
 
     def _found(self, name: str) -> NamedCall | None:
@@ -111,12 +111,12 @@ class Watch:
         return number is not None and number in self.allowed and number not in self.not_always
 
     def _answer(self, call: Call) -> tuple[Answer | None, str, int | None]:
-        """What the profile answers to a call, and by what of it."""
+        """What the profile answers to a record, and which entry or default decides."""
         reason = self.ask(call)
         return reason.answer, "by the default" if reason.entry is None else f"by entry {reason.entry}", reason.entry
 
     def of_dangerous(self) -> Iterator[tuple[bool, Finding]]:
-        """The dangerous syscalls that are allowed, always or with some arguments; and whether it could be told."""
+        """The dangerous syscalls that are allowed, always or with some arguments; and whether that is decided."""
         for name, danger in self.dangerous.items():
             found = self._found(name)
             if found is None:
@@ -136,7 +136,7 @@ class Watch:
                        {**more, "is_always": is_always, "arguments": arguments, "entry": entry})
 
     def of_needed(self) -> Iterator[tuple[bool, Finding]]:
-        """That a syscall isn't always allowed where others are that need it; and whether it could be told."""
+        """A finding if a syscall isn't always allowed, but others that need it are; and whether that is decided."""
         for one in NEEDED:
             users = [name for name in dict.fromkeys(name for name, _ in one.users) if self._found(name)]
             number = self.numbers[one.name]
@@ -154,7 +154,7 @@ class Watch:
                              {**more, "entry": entry})
 
     def of_fallbacks(self) -> Iterator[Finding]:
-        """That a newer syscall is denied in a way that keeps libc from making the older one, which is allowed."""
+        """A finding if a newer syscall is denied so that libc doesn't call the older one, which is allowed."""
         for newer, older, first_arguments in FALLBACKS:
             numbers = [self.trial.table.number_of(name) for name in (newer, older)]
             if None in numbers:

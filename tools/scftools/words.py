@@ -1,4 +1,4 @@
-"""The command line of a tool: what is wrong with it is said safely, under the name by which the tool was called."""
+"""The command line of a tool. Usage errors are printed safely, under the name by which the tool was called."""
 from __future__ import annotations
 
 import argparse
@@ -25,14 +25,14 @@ class Version(argparse.Action):
 
 
 class Formatter(argparse.HelpFormatter):
-    """Lines of one width, which needn't be asked of the terminal at the start of each tool."""
+    """Help of a fixed width, so that no tool asks the terminal for it at the start."""
 
     def __init__(self, prog: str):
         super().__init__(prog, width=100)
 
 
 class Parser(argparse.ArgumentParser):
-    """The words of a tool, whose docstring's first line says what it does."""
+    """The command line of a tool; the first line of its docstring is the description."""
 
     def __init__(self, doc: str, epilog: str = EPILOG, **settings: Any):
         super().__init__(prog=output.escaped(program.name()), description=doc.split("\n", 1)[0], epilog=epilog,
@@ -48,7 +48,7 @@ class Parser(argparse.ArgumentParser):
         raise program.Refused(message)
 
     def print_help(self, file: Any = None) -> None:
-        """The help, which is an output like any other."""
+        """Prints the help like any other output."""
         output.put(self.format_help())
 
     def table(self, dash: str = "; - is standard input") -> None:
@@ -65,7 +65,7 @@ class Parser(argparse.ArgumentParser):
                           help="list the names in the profile that were skipped, not only their count")
 
     def relation(self) -> None:
-        """Adds `--no-more` and `--no-less`, of which one may be given."""
+        """Adds `--no-more` and `--no-less`, which exclude each other."""
         group = self.add_mutually_exclusive_group()
         group.add_argument("--no-more", dest="relation", action="store_const", const=verdicts.NO_MORE,
                            default=verdicts.SAME, help="whether nothing is more permissive than the profile")
@@ -73,6 +73,6 @@ class Parser(argparse.ArgumentParser):
                            default=verdicts.SAME, help="whether nothing is stricter than the profile")
 
     def one_standard_input(self, names: Iterable[str | None]) -> None:
-        """Refuses words that name standard input twice."""
+        """Rejects a command line that names standard input twice."""
         if list(names).count("-") > 1:
             self.error("only one input can be '-', standard input")
