@@ -54,8 +54,8 @@ class Numbers(unittest.TestCase):
             self.assertEqual(int(architectures.number_in(text), 0), number, text)
 
     def test_what_is_ambiguous_or_unknown(self):
-        for text, says in (("40000003", "write 0x40000003 for SCMP_ARCH_X86, as audit's log has it, or 0x2625a03 for "
-                                        "the decimal number"),
+        for text, says in (("40000003", "write 0x40000003 for SCMP_ARCH_X86, as the audit log has it, or 0x2625a03 "
+                                        "for the decimal number"),
                            ("40000028", "0x40000028 for SCMP_ARCH_ARM"), ("80000016", "0x80000016 for SCMP_ARCH_S390X"),
                            ("i387", "unknown architecture 'i387'"), ("SCMP_ARCH_", "unknown architecture")):
             with self.assertRaises(program.Refused) as caught:

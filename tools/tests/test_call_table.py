@@ -143,7 +143,7 @@ class CallTable(Case):
         status, out, err = self.run_tool("call-table", "--libseccomp")
         self.assertEqual((status, err), (0, ""))
         lines = out.splitlines()
-        self.assertRegex(lines[0], r"^# The calls of x86-64 that libseccomp [0-9]+\.[0-9]+\.[0-9]+ knows\.$")
+        self.assertRegex(lines[0], r"^# The x86-64 syscalls that libseccomp [0-9]+\.[0-9]+\.[0-9]+ knows\.$")
         with open(TABLE, encoding="ascii") as file:
             known = {line.split(" ")[0]: line.rstrip("\n") for line in file}
         rows = lines[1:]

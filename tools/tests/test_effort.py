@@ -32,7 +32,7 @@ class Slow(Case):
 
     def test_compare(self):
         allows, fails = self.file("a.json", b'{"defaultAction":"SCMP_ACT_ALLOW"}'), self.file("e.json", profile_of())
-        # scf's own limit of steps for all calls together comes first
+        # scf's own limit of steps for all syscalls together comes first
         status, out, err = self.ends("compare", "--calls", self.file("f.bpf", BITS), allows)
         self.assertEqual((status, out.split("\n")[0], err), (4, "unfinished", ""))
         # the verdict over all of them is known soon
@@ -68,7 +68,7 @@ class Slow(Case):
         self.assertIn("# syscalls in the table without a verdict: 29", lines)
         self.assertEqual([line for line in lines if line.endswith(" unfinished")],
                          [f"# {number} c{number} unfinished" for number in range(1, 21)])
-        self.assertIn("# more such calls: 9", lines)
+        self.assertIn("# more such syscalls: 9", lines)
 
 
 class Limits(Case):

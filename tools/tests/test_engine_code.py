@@ -202,7 +202,7 @@ class Drawn(Case):
         """Whether we refuse on purpose what the engines take: a null in a list, which is an empty text to Go, or which
         they look at in no entry that is left out; numbers that no member has, where nothing reads them; and members
         that may be conditions."""
-        is_null = "list of texts" in why or "isn't an object" in why
+        is_null = "list of strings" in why or "isn't an object" in why
         return (is_null and "null" in text) or why.startswith("the number ") or "may be a condition" in why
 
     def alike(self, engine, given):

@@ -210,7 +210,7 @@ class FiltersOf(Confined):
         self.assertEqual(self.filters_of(child), (
             3, "", f"filters-of: the threads of process {main} don't have the same filters; thread {main}: 2 filters, "
                    f"of 1, 4 instructions; thread {other}: 2 filters, of 1, 4 instructions; thread {free}: no filter; "
-                   f"--thread takes those of one\n"))
+                   f"--thread takes those of one thread\n"))
         self.assertFalse(os.path.exists(os.path.join(self.folder, "out")))
         self.assertEqual(self.filters_of(child, "--thread", str(other)), (0, "out/0.bpf\nout/1.bpf\n", ""))
         self.assertEqual(self.read("out/1.bpf"), OTHER)
@@ -378,7 +378,7 @@ class VerifyProcess(Confined):
                     + ret(EPERM))
         said = comments(self.verify(self.child([logs_one]), ALLOWS_ALL)[1])
         self.assertIn("i386: some syscalls are allowed, such as read (3): LOG", said)
-        self.assertIn("other architectures' calls: none that this kernel makes", said)
+        self.assertIn("other ABIs: the kernel has no others", said)
 
     @here
     def test_named_calls_alone(self):
@@ -631,8 +631,8 @@ class Containers(Confined):
                           "filter ERRNO 38", "profile ERRNO 1"])
         fates, first = comments(out)[:2]
         self.assertEqual(fates, "it is neither more permissive nor stricter than the profile: only the answers differ")
-        self.assertTrue(first.startswith("only calls with greater numbers than all that the profile names are answered "
-                                         "otherwise, the first is process_madvise (440)"), first)
+        self.assertTrue(first.startswith("only syscalls with numbers above all that the profile names differ, the first is "
+                                         "process_madvise (440)"), first)
         self.assertIn("# other ABIs: every i386 and x32 syscall is denied; ", out)
         self.assertIn(f"# process {pid} (busybox) has 1 filter, of ", out)
         profile["syscalls"][0]["names"] = [name for name in allowed if name != "chroot"] + ["mount"]

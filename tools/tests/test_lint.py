@@ -340,7 +340,7 @@ class Dangerous(Linted):
         arguments = [int(it, 16) for it in found["arguments"]]
         self.assertEqual(arguments[0], 7)
         self.assertGreater(arguments[3], 9)
-        self.assertIn("ptrace (101) is allowed with some arguments, as 0x7 ", found["text"])
+        self.assertIn("ptrace (101) is allowed with some arguments, such as 0x7 ", found["text"])
         both = profile(entry("ptrace", args=[(0, "LT", 7)]), entry("ptrace", args=[(0, "GE", 7)]))
         self.assertEqual([it[:2] for it in self.made(both)], [("ptrace", True)])
         referred = profile(entry("ptrace", args=[(0, "LT", 7)]),

@@ -187,10 +187,10 @@ class ResolveProfile(Case):
                             (engine(None), "entry 0 isn't an object"), (engine("x"), "entry 0 isn't an object"),
                             ({"defaultAction": "A", "syscalls": {}}, "syscalls isn't a list"),
                             (engine(entry("a", includes=[1])), "includes isn't an object"),
-                            (engine(entry("a", includes={"caps": "CAP_KILL"})), "caps isn't a list of texts"),
+                            (engine(entry("a", includes={"caps": "CAP_KILL"})), "caps isn't a list of strings"),
                             (engine(entry("a", args={})), "args isn't a list"),
                             (engine(entry("a", args=[1])), "args 0 isn't an object"),
-                            (engine(entry(1)), "names isn't a list of texts"),
+                            (engine(entry(1)), "names isn't a list of strings"),
                             (engine(archMap={"a": 1}), "archMap isn't a list"),
                             ({"linux": {}}, "linux.seccomp isn't an object"),
                             ({"defaultAction": "A", "Syscalls": []}, "'Syscalls'"),
@@ -273,7 +273,7 @@ class ResolveProfile(Case):
 
 
 class ErrnoByName(Case):
-    """What podman alone reads is refused by every tool that takes a profile, with a hint, as `includes` is."""
+    """What only podman reads is refused, as `includes` is, by every tool but lint, which reports it."""
 
     def test_every_tool_refuses_it(self):
         self.file("f.bpf", b"\x06\0\0\0\0\0\xff\x7f")
