@@ -1,4 +1,4 @@
-"""Changes: two profiles beside each other, call by call, by verdicts of scf on the filter of one and the other."""
+"""Changes: two profiles compared syscall by syscall, by verdicts of scf on the filter of each and the other."""
 from __future__ import annotations
 
 import json
@@ -18,15 +18,15 @@ from .verdicts import (DIFFERS, LESS, MORE, NO_LESS, NO_MORE, SAME, UNDECIDED, U
                        Verdict)
 
 OLD, NEW = "old", "new"
-# By the new profile more of a call is let through, less, or as much by another answer; or scf couldn't tell.
+# The new profile is more permissive, stricter, or only gives another answer; or scf can't decide.
 OTHERWISE = "otherwise"
 KINDS = (MORE, LESS, OTHERWISE, UNDECIDED, UNFINISHED)
-# The word of each relation where it doesn't hold.
+# The word of each relation if it fails.
 FAILED = {SAME: DIFFERS, NO_MORE: MORE, NO_LESS: LESS}
 
 
 class Faulty(Exception):
-    """scf refuses a profile or the table: its status, the fault, and the side that it is of."""
+    """scf refuses a profile or the table: its exit status, the fault, and the side."""
 
     def __init__(self, status: int, fault: Fault, word: str, data: bytes):
         super().__init__(status)
@@ -55,7 +55,7 @@ def _some(holder: dict[str, object], *names: str) -> dict[str, object]:
 
 
 class Part:
-    """A profile by its syscalls, so that what it answers to one can be asked without its other entries."""
+    """A profile by its syscalls, so that scf can be asked about one without the other entries."""
 
     def __init__(self, data: bytes, table: Table) -> None:
         self.data, self.table = data, table
@@ -66,7 +66,7 @@ class Part:
                 self.indices.setdefault(table.number_of(name), {}).setdefault(index, name)
 
     def reason(self, call: Call) -> Reason:
-        """What the profile answers to a call and why, by scf on the entries that have its number."""
+        """What the profile answers to a syscall and why, by scf on the entries that have its number."""
         if self.top is None:
             return reasons.of(self.data, self.table, call.words())
         own = self.indices.get(call.number, {})
@@ -107,7 +107,7 @@ class Given:
     parts: dict[str, Part] = field(default_factory=dict)
 
     def compared(self, one: Side, other: Side, scope: str, relation: str) -> Report:
-        """What scf says of the filter of one side beside the profile of the other."""
+        """scf's report on the filter of one side compared with the profile of the other."""
         comparison = Comparison([one.filter], other.data, self.table, self.limit, relation)
         default = newer.default_of(comparison) if self.end is not None else None
         if self.end is not None and default is not None:
@@ -119,7 +119,7 @@ class Given:
         return checked(status, report, scope)
 
     def asked(self, call: Call) -> dict[str, Reason]:
-        """What each profile answers to a call, and why."""
+        """What each profile answers to a syscall, and why."""
         if not self.parts:
             self.parts.update({side.word: Part(side.data, self.table) for side in (self.old, self.new)})
         return {side.word: self.parts[side.word].reason(call) for side in (self.old, self.new)}
@@ -127,9 +127,9 @@ class Given:
 
 @dataclass
 class Change:
-    """A number whose calls aren't all answered alike, of what kind that is, and one with both answers, if it is shown.
+    """A syscall number that differs, the kind of change, and an example with both answers, if there is one.
 
-    Where the two profiles couldn't be held beside each other, the kind is the word of scf.
+    If scf can't decide, the kind is scf's word.
     """
 
     number: int
@@ -144,7 +144,7 @@ class Changes:
     """What changes from the old profile to the new one."""
 
     relation: str
-    # what is said of all native calls
+    # the verdict over all x86-64 syscalls
     whole: Verdict
     calls: Sequence[Change]
     # the least number without a name, where the defaults differ, which answer all such numbers
@@ -156,7 +156,7 @@ class Changes:
 
     @property
     def fails(self) -> bool:
-        """Whether some call shows that the relation doesn't hold."""
+        """Whether some syscall fails the relation."""
         changes = [*self.calls, *([self.unnamed] if self.unnamed is not None else [])]
         shown = [change.kind for change in changes if change.call is not None]
         return self.whole.fails or (bool(shown) if self.relation == SAME else FAILED[self.relation] in shown)
@@ -176,7 +176,7 @@ class Changes:
 
 
 def _kinds(same: NamedCall | None, more: NamedCall | None, less: NamedCall | None) -> Iterator[tuple[str, NamedCall]]:
-    """What is to be said of a number's calls, each with the line of scf that shows a call, or that couldn't tell."""
+    """The kinds of change of a number, each with scf's line for it."""
     found = [(kind, line) for kind, line in ((MORE, more), (LESS, less)) if line is not None and line.verdict.fails]
     untold = [line for line in (more, less) if line is not None and not line.verdict.fails]
     yield from found
@@ -187,7 +187,7 @@ def _kinds(same: NamedCall | None, more: NamedCall | None, less: NamedCall | Non
 
 
 def _of_calls(given: Given) -> list[Change]:
-    """The calls that aren't answered alike, those of which more is let through first, then less."""
+    """The syscalls that differ: first more permissive, then stricter, then others."""
     lists = [{line.number: line for line in given.compared(one, other, CALLS, relation).calls}
              for one, other, relation in ((given.old, given.new, SAME), (given.new, given.old, NO_MORE),
                                           (given.old, given.new, NO_MORE))]

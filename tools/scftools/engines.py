@@ -61,7 +61,7 @@ MAX_DIGITS, MAX_TOLD, MAX_LISTED, MAX_NOTES = 20, 64, 3, 1000
 
 
 class Refused(Exception):
-    """The engines refuse the profile, or what it says isn't one thing."""
+    """The engines refuse the profile, or it is ambiguous."""
 
 
 @dataclass(frozen=True)
@@ -85,7 +85,7 @@ class Setting:
 
 
 def told(value: Any) -> str:
-    """A stranger's text or other value in a note, which stays short."""
+    """Untrusted text or another value in a note, truncated."""
     if isinstance(value, (list, dict)):
         return "a list" if isinstance(value, list) else "an object"
     text = value if isinstance(value, str) else json.dumps(value)
@@ -245,7 +245,7 @@ def why_left_out(entry: dict[str, Any], setting: Setting, where: str) -> str | N
 
 
 def at_most(notes: Sequence[str]) -> Iterator[str]:
-    """Notes, of which there may be too many to tell."""
+    """Notes, of which there may be too many to print."""
     yield from notes[:MAX_NOTES]
     if len(notes) > MAX_NOTES:
         yield f"{len(notes) - MAX_NOTES} more such lines"
@@ -275,7 +275,7 @@ def as_given(numbers: dict[str, int], origins: Sequence[Origin]) -> Iterator[str
 
 
 class Resolver:
-    """Makes a resolved profile, and tells what is left out and why."""
+    """Makes a resolved profile, and reports what is left out and why."""
 
     def __init__(self, setting: Setting, tell: Callable[[str], None]):
         self.setting = setting
@@ -290,7 +290,7 @@ class Resolver:
             self.tell(text)
 
     def tell_more(self) -> None:
-        """Says at the end how much wasn't told."""
+        """Reports at the end how many notes weren't printed."""
         if self.notes > MAX_NOTES:
             self.tell(f"{self.notes - MAX_NOTES} more such lines")
 
@@ -325,7 +325,7 @@ class Resolver:
         return names
 
     def entry_of(self, entry: dict[str, Any], where: str) -> dict[str, Any] | None:
-        """The resolved form of an entry, or None where it names no call."""
+        """The resolved form of an entry, or None if it has no name."""
         if entry.get("name") and entry.get("names"):
             raise Refused(f"{where} has both name and names, and the engines take one")
         names = [entry["name"]] if entry.get("name") else entry.get("names", [])
@@ -346,7 +346,7 @@ class Resolver:
         return value
 
     def tell_unread(self, top: dict[str, Any]) -> None:
-        """Tells the members that nothing reads, and refuses those that may be conditions."""
+        """Reports the members that nothing reads, and refuses those that may be conditions."""
         for where, name in unknown_members(top, SECCOMP, "the profile"):
             is_ignored = self.setting.ignored is None or name in self.setting.ignored
             if where.startswith("entry ") and not is_ignored:

@@ -1,7 +1,7 @@
-"""Threads that are held still by ptrace(2) while their filters are read.
+"""Threads that are stopped by ptrace(2) while their filters are read.
 
 Threads are stopped one by one (PTRACE_SEIZE, PTRACE_INTERRUPT) and listed again and again until all that are listed are
-stopped, so that none comes unseen. All run on (PTRACE_DETACH), whatever happens meanwhile.
+stopped, so that no new one is missed. All continue (PTRACE_DETACH), whatever happens meanwhile.
 """
 from __future__ import annotations
 
@@ -40,7 +40,7 @@ STOPPED = 0x7F
 
 
 class Unreadable(Exception):
-    """The filters can't be had, and why."""
+    """The filters can't be read, and why."""
 
 
 class Waiting(Unreadable):
@@ -56,7 +56,7 @@ def called(thread: int, process: int) -> str:
 
 
 def require_rights(kernel: Kernel) -> None:
-    """Says why no filters can be had by this tool, before any process is stopped."""
+    """Raises Unreadable if this tool can't read filters, before any process is stopped."""
     if os.uname().machine != "x86_64" or struct.calcsize("P") != 8:
         raise Unreadable("processes can only be inspected on x86-64, and with a 64-bit Python")
     if not kernel.is_proc_ours():

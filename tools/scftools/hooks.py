@@ -1,11 +1,11 @@
-"""Hooks of container runtimes: what a runtime says of a container, and whether its process is confined as configured.
+"""Hooks of container runtimes: a container's state, and whether its process is confined as configured.
 
 A runtime starts a hook with the container's state on standard input (OCI runtime specification, runtime.md: State, and
-config.md: POSIX-platform Hooks). The process is known by a pidfd (pidfd_open(2)) as soon as its number is, so that no
-other process that comes to that number is taken for it, or ended in its place.
+config.md: POSIX-platform Hooks). The process is held by a pidfd (pidfd_open(2)) as soon as its ID is known, so that no
+other process with that ID later is taken for it, or killed in its place.
 
-The look and the comparison are done by a worker, and the hook itself only waits for what it reports, so that a deadline
-holds whatever the worker hangs in. A watchdog kills where the hook is stopped or ended before it has come to that.
+A worker reads the filters and compares them, and the hook itself only waits for its report, so that the deadline holds
+whatever the worker hangs in. A watchdog kills the container if the hook is stopped or ended before that.
 """
 from __future__ import annotations
 
@@ -51,7 +51,7 @@ STARTUP = 10
 
 
 class Failed(Exception):
-    """Why it can't be told whether the container is confined."""
+    """Why it is unknown whether the container is confined."""
 
 
 @dataclass(frozen=True)
@@ -94,7 +94,7 @@ def container_of(data: bytes) -> Container:
 
 
 def state(seconds: float) -> bytes:
-    """What the runtime writes to standard input, which it closes then, within so many seconds."""
+    """What the runtime writes to standard input before it closes it, within so many seconds."""
     until, found = time.monotonic() + seconds, b""
     while len(found) <= inputs.LIMITS["state"]:
         try:
@@ -110,7 +110,7 @@ def state(seconds: float) -> bytes:
 
 
 def contents(name: str) -> bytes:
-    """What a configuration holds. A pipe or a device isn't opened: it may never end."""
+    """The bytes of a configuration. A pipe or a device isn't opened: it may never end."""
     try:
         is_other = not stat.S_ISREG(os.stat(name).st_mode)
     except (OSError, ValueError):
@@ -121,8 +121,8 @@ def contents(name: str) -> bytes:
 
 
 def configured(container: Container) -> dict[str, Any] | None:
-    """What the container's config.json says of seccomp, as a config.json with nothing else in it, or None where it says
-    nothing. Runtimes read `linux.seccomp` alone, whatever else stands there."""
+    """What the container's config.json says about seccomp, as a config.json with nothing else in it, or None if it says
+    nothing. Runtimes read only `linux.seccomp`, whatever else is in it."""
     name = os.path.join(container.bundle, CONFIG)
     try:
         value = engines.read(contents(name))
@@ -219,7 +219,7 @@ def held_by(pid: int) -> Iterator[int]:
 
 
 class Process:
-    """The container's first process, the same one whatever becomes of its number, and the others of the container."""
+    """The container's first process, the same one even if its ID is reused, and the others of the container."""
 
     def __init__(self, container: Container) -> None:
         self.container = container
@@ -329,7 +329,7 @@ class Finding:
 
 @dataclass
 class Result:
-    """What was found: a status, a verdict, lines, and the same as an object."""
+    """The result: a status, a verdict, lines, and the same as an object."""
 
     status: int
     verdict: str | None
@@ -374,7 +374,7 @@ def result(finding: Finding) -> Result:
 
 
 def unstated(is_allowed: bool) -> Finding:
-    """The configuration states no profile."""
+    """The configuration has no profile."""
     return stated(program.WELL if is_allowed else program.REFUSED, "unstated",
                   "the configuration has no seccomp profile: the container isn't confined")
 

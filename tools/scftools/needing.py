@@ -1,7 +1,7 @@
-"""What a program needs of a profile: the calls of a log of strace, each judged by scf.
+"""What a program needs of a profile: the syscalls in a strace log, each judged by scf.
 
-A call whose arguments are known, as far as a condition looks at them, is asked for by `scf ask`. Where such an argument
-isn't known, scf compares: whether the profile's filter makes all calls with the arguments that are known, or none.
+If the arguments that conditions test are known, `scf ask` answers. If one is unknown, scf compares: whether the
+profile's filter allows all syscalls with the known arguments, or none.
 """
 from __future__ import annotations
 
@@ -23,13 +23,13 @@ from .verdicts import UNFINISHED, Fault, Verdict
 
 TYPE_CHECKING = False
 if TYPE_CHECKING:
-    # a call that is made, and one that isn't, with its answer
+    # an example that is allowed, and one that isn't, with its answer
     Answers = tuple[Call | None, tuple[Call, Answer] | None]
 
 IS_MADE, ISNT_MADE, DEPENDS, UNTOLD = "made", "not made", "depends", "untold"
 # The words of text output; JSON has those above.
 WORDS = {IS_MADE: "allowed", ISNT_MADE: "not allowed", DEPENDS: DEPENDS, UNTOLD: "undecided"}
-# The most entries with conditions for one name, and the most calls that are judged, each with each of its values.
+# The most entries with conditions for one name, and the most syscalls to judge, each with each of its values.
 CONDITIONS, WAYS = 64, 2000
 REFERRED, EQUAL = ("SCMP_ACT_TRACE", 1), "SCMP_CMP_EQ"
 # What a least profile has of the one that is given, beside its default.
@@ -73,7 +73,7 @@ class Traced:
 
 @dataclass(frozen=True)
 class Judged:
-    """What becomes of a call: made, not made, or it depends; calls that show it, with their answers."""
+    """The result for a syscall: allowed, not allowed, or it depends; with examples and their answers."""
 
     traced: Traced
     fate: str
@@ -84,7 +84,7 @@ class Judged:
 
 @dataclass
 class Needs:
-    """What was found: the calls that were judged, and what wasn't."""
+    """The result: the syscalls that were judged, and what wasn't."""
 
     judged: list[Judged]
     unnamed: dict[str, int] = field(default_factory=dict)
@@ -200,7 +200,7 @@ def find(log: Log, judge: Judge) -> Needs:
 
 
 def _of_judged(one: Judged) -> Iterator[str]:
-    """The lines of a call that isn't made, or not always."""
+    """The lines of a syscall that isn't allowed, or not always."""
     if one.fate == ISNT_MADE:
         yield f"{one.traced.told()} {one.line}"
     elif one.fate == DEPENDS:
@@ -240,7 +240,7 @@ def _of_unjudged(needs: Needs) -> Iterator[str]:
 
 
 def lines(needs: Needs) -> Iterator[str]:
-    """The report: what the profile doesn't make, what depends, and how much was looked at."""
+    """The text output: what isn't allowed, what depends, and counts."""
     for fate in (ISNT_MADE, DEPENDS, UNTOLD):
         for one in needs.of(fate):
             yield from _of_judged(one)
@@ -273,7 +273,7 @@ def as_json(needs: Needs, table: Table) -> dict[str, object]:
 
 
 def _entries(needs: Needs, always: Iterable[str]) -> Iterator[dict[str, object]]:
-    """The entries that let the calls through, each argument that is known and looked at with its value."""
+    """The entries that allow the syscalls, with the values of known arguments that conditions test."""
     plain: dict[str, None] = {}
     ruled: dict[str, dict[tuple[tuple[int, int], ...], None]] = {}
     for one in needs.judged:
@@ -292,7 +292,7 @@ def _entries(needs: Needs, always: Iterable[str]) -> Iterator[dict[str, object]]
 
 
 def least_profile(needs: Needs, judge: Judge) -> tuple[str, list[str]]:
-    """The least profile that lets the calls of the log through, as JSON, and what isn't in it."""
+    """The smallest profile that allows the syscalls of the log, as JSON, and what isn't in it."""
     top, default = judge.top, judge.top["defaultAction"]
     found: dict[str, object] = {"defaultAction": default}
     if default in LETS_THROUGH:

@@ -1,9 +1,9 @@
 """Processes, and the filters that the kernel keeps of their threads.
 
 Filters belong to threads (seccomp(2)), so two threads of one process may have different ones, or none: each thread is
-looked at. A child process does it (`child`): all threads are held still (`hold`), the filters of each are copied
-(PTRACE_SECCOMP_GET_FILTER), and all run on. What a process is called (its `comm`) is read while it is held, since its
-number may be another's later.
+inspected. A child process does it (`child`): all threads are stopped (`hold`), the filters of each are copied
+(PTRACE_SECCOMP_GET_FILTER), and all continue. A process's name (its `comm`) is read while it is stopped, since its ID
+may be reused later.
 """
 from __future__ import annotations
 
@@ -29,9 +29,9 @@ if TYPE_CHECKING:
 
 __all__ = ("Container", "Found", "Interrupted", "Kernel", "Stack", "Unreadable", "called", "container_of")
 
-# How long a look may last, in seconds, and the part of it in which all threads are to stop.
+# How long an inspection may last, in seconds, and how much of it all threads have to stop.
 PATIENCE, TO_STOP = 10.0, 0.9
-# What is said of it by --help.
+# The paragraph in --help.
 NEEDS = (f"This needs CAP_SYS_ADMIN and CAP_SYS_PTRACE, which root has outside of containers, and a kernel with "
          f"CONFIG_CHECKPOINT_RESTORE. The threads are stopped for a moment with ptrace(2), and continue within "
          f"{PATIENCE:g} seconds, whatever happens. A few blocking syscalls then return early with EINTR, as after "
@@ -60,7 +60,7 @@ class Stack:
 
     @property
     def told(self) -> str:
-        """How many filters there are, and how long."""
+        """The number of filters, and their lengths."""
         if self.is_strict:
             return "no filter, but seccomp's strict mode"
         if not self.filters:
@@ -71,7 +71,7 @@ class Stack:
 
 @dataclass
 class Found:
-    """What was read while all threads were held."""
+    """What was read while all threads were stopped."""
 
     # The distinct stacks, in the order of their first threads.
     stacks: list[Stack]
@@ -84,7 +84,7 @@ class Found:
 
     @property
     def notes(self) -> list[str]:
-        """What is said of the look itself."""
+        """Notes on the inspection itself."""
         return [*(f"process {process} is skipped: it {why}" for process, why in self.passed_over.items()),
                 *(f"the syscall of {called(thread, process)} restarts, and its seccomp supervisor gets it a second "
                   f"time" for process, thread in self.asked_again)]

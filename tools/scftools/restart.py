@@ -1,4 +1,4 @@
-"""System calls that a stop interrupts, and how they go on when the thread runs on.
+"""Syscalls that a stop interrupts, and how they continue with the thread.
 
 A call that waits returns one of the numbers below when its thread is stopped, and the kernel makes the call again
 behind the stop (handle_signal and arch_do_signal_or_restart in arch/x86/kernel/signal.c). Where it waits for so long and

@@ -1,4 +1,4 @@
-"""Logs of strace: which calls stand in one, and what is known of their arguments.
+"""strace logs: their syscalls, and what is known of the arguments.
 
 Of an argument a number is known, and the names of tables/arguments.symbols, each alone or joined by `|`. Where strace
 prints a text, a structure, another name or nothing at all, the argument isn't known.

@@ -1,4 +1,4 @@
-"""Units of systemd: the profile that their settings of system calls state.
+"""systemd units: the profile that their syscall settings describe.
 
 The rules are those of systemd.exec(5). SystemCallFilter= is a list of what is allowed, or behind `~` of what is denied,
 by SystemCallErrorNumber= or by an errno of its own. SystemCallLog= is a list of what is logged, or behind `~` of what
@@ -29,7 +29,7 @@ MOST_ERRNO = 4095
 ERRNOS = {**{name: number for number, name in errno.errorcode.items()}, "EHWPOISON": 133}
 # An errno as safe_atoi of systemd's basic/parse-util.c reads it: in C's notation, also with the prefixes 0b and 0o.
 NUMBER = re.compile(r"\+?(?:0[xX][0-9a-fA-F]+|0[bB][01]+|0[oO][0-7]+|0[0-7]*|[1-9][0-9]*)|-0", re.A)
-# What each list of allowed calls has beside those that it names.
+# What each allow-list has beside what it names.
 IMPLIED = "@default"
 # The names of ConditionArchitecture= and SystemCallArchitectures=, and those of the OCI specification.
 ARCHITECTURES = {name: f"SCMP_ARCH_{oci}" for name, oci in (
@@ -56,7 +56,7 @@ class Unknown(Exception):
 
 @dataclass(frozen=True)
 class Answer:
-    """What a call is answered: an action of the OCI specification, and its errno where it has one."""
+    """An answer: an action of the OCI specification, and its errno if it has one."""
 
     action: str
     errno: int | None = None
@@ -78,7 +78,7 @@ class CallList:
 
 @dataclass
 class Settings:
-    """What a unit states; lists that aren't set are None."""
+    """A unit's settings; lists that aren't set are None."""
 
     filter: CallList | None
     refusal: Answer = KILL
@@ -304,7 +304,7 @@ def denied_by(shown: dict[str, str], allowed: CallList, reader: Reader) -> dict[
 
 
 def of_unit(unit: str, reader: Reader) -> Settings:
-    """What a unit states, as its manager shows it."""
+    """A unit's settings, as systemctl shows them."""
     text = printed_by(["systemctl", "--no-pager", "show", *(f"--property={name}" for name in PROPERTIES), "--", unit])
     shown = {name: value for name, equals, value in (line.partition("=") for line in text.split("\n")) if equals}
     if shown.get("LoadState", "loaded") != "loaded":
@@ -325,7 +325,7 @@ def of_unit(unit: str, reader: Reader) -> Settings:
 
 
 def profile_of(settings: Settings) -> str:
-    """The text of the profile that the settings state."""
+    """The text of the profile that the settings describe."""
     default = settings.answer_of(None)
     named: dict[Answer, list[str]] = {}
     for name in settings.names():
