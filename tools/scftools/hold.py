@@ -325,7 +325,7 @@ class Hold:
                            f"seccomp supervisor, which would get its syscall twice if it were stopped")
         for thread in sorted(self.stopping):
             state = self.kernel.status_of(thread).get("State", "none")
-            return Unreadable(f"{called(thread, self.process_of[thread])} didn't stop within {self.patience:g} seconds; "
+            return Unreadable(f"{called(thread, self.process_of[thread])} didn't stop within {self.patience:g} seconds: "
                               f"its state is {state}")
         return Unreadable(f"threads came and went for {self.patience:g} seconds, faster than they can be stopped")
 

@@ -641,7 +641,7 @@ class Containers(Confined):
         said = comments(out)
         self.assertEqual(said[0], "syscalls in the table that differ: 2")
         self.assertEqual([line.split()[:2] for line in said[1:3]], [["161", "chroot"], ["165", "mount"]])
-        self.assertTrue(said[3].startswith("calls with greater numbers than all that the profile names"), said)
+        self.assertTrue(said[3].startswith("syscalls with numbers above all that the profile names"), said)
         status, out, err = self.verify(pid, json.dumps(profile), "--all")
         self.assertEqual((status, err), (1, ""))
         self.assertIn("its processes: 1", out)

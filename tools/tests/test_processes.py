@@ -130,7 +130,7 @@ class Asked(Case):
 
     def test_the_process_can_not_be_stopped(self):
         for fails, status, says in (
-                (errno.EPERM, {"TracerPid": "12"}, "process 7 is traced by process 12 already"),
+                (errno.EPERM, {"TracerPid": "12"}, "process 7 is already traced by process 12"),
                 (errno.EPERM, {"TracerPid": "0"}, "process 7 can't be stopped (Operation not permitted): run this as"),
                 (errno.EACCES, {}, "run this as root"),
                 (errno.EPERM, {"State": "Z (zombie)"}, "process 7 is a zombie: it has ended, and waits for its parent"),
@@ -415,7 +415,7 @@ class Real(Confined):
         kernel.ptrace(SEIZE, child.pid, None, None)
         said = subprocess.run([sys.executable, "-c", TRY, os.path.dirname(os.path.dirname(processes.__file__)),
                                str(child.pid)], stdout=subprocess.PIPE, text=True, check=True).stdout
-        self.assertIn(f"process {child.pid} is traced by process {os.getpid()} already", said)
+        self.assertIn(f"process {child.pid} is already traced by process {os.getpid()}", said)
         kernel.ptrace(INTERRUPT, child.pid, None, None)
         os.waitpid(child.pid, ptrace.WALL)
         kernel.ptrace(DETACH, child.pid, None, None)
