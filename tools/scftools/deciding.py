@@ -21,6 +21,7 @@ if TYPE_CHECKING:
 
 # No name of a syscall and no number is longer.
 LONGEST_WORD = 256
+HELP = {"ip": "the instruction pointer", **{f"a{index}": f"argument {index}" for index in range(6)}}
 
 
 @dataclass(frozen=True)
@@ -53,10 +54,10 @@ def of_words(words: Sequence[str]) -> Asked:
 
 def _add_numbers(parser: Parser) -> None:
     """Adds the options for a record's fields beside its number."""
-    parser.add_argument("--arch", metavar="ARCH", help="by name (i386, x32, aarch64, SCMP_ARCH_..) or by number, also "
-                                                       "as audit's log has it (c000003e) [default: x86_64]")
+    parser.add_argument("--arch", metavar="ARCH", help="the architecture, by name (i386, x32, SCMP_ARCH_AARCH64 ..) or "
+                                                       "number, also as in the audit log (c000003e) [default: x86_64]")
     for name in OPTIONS[2:]:
-        parser.add_argument(f"--{name}", metavar="N", help="[default: 0]")
+        parser.add_argument(f"--{name}", metavar="N", help=f"{HELP[name]} [default: 0]")
 
 
 def add_one_call(parser: Parser, what: str) -> None:

@@ -10,7 +10,7 @@ from .program import Done
 # Without --limit: seconds of CPU time for a tool and all that it runs; after the first limit comparisons have few
 # steps, after the second none.
 SECONDS, ALL_SECONDS, FEW_STEPS = 6, 8, "1000"
-HELP = f"steps at most for each comparison [default: 1000000, and {SECONDS} s of CPU time for all together]"
+HELP = f"at most N steps for each comparison [default: 1000000, and {SECONDS} s of CPU time for all together]"
 SPENT = (f"all comparisons together took {SECONDS} s of CPU time, the most without --limit: what {FEW_STEPS} steps "
          f"don't decide is unfinished")
 _is_told = False

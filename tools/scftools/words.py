@@ -12,6 +12,8 @@ if TYPE_CHECKING:
     from typing import Any, NoReturn
 
 EPILOG = "Exit status: 0 success, 1 refused or differs, 2 usage error, 3 I/O error, 4 undecided or unfinished."
+# Of tools that compare nothing.
+OF_RUNS = "Exit status: 0 success, 1 refused, 2 usage error, 3 I/O error."
 
 
 class Version(argparse.Action):
@@ -68,9 +70,9 @@ class Parser(argparse.ArgumentParser):
         """Adds `--no-more` and `--no-less`, which exclude each other."""
         group = self.add_mutually_exclusive_group()
         group.add_argument("--no-more", dest="relation", action="store_const", const=verdicts.NO_MORE,
-                           default=verdicts.SAME, help="whether nothing is more permissive than the profile")
+                           default=verdicts.SAME, help="only check that nothing is more permissive than the profile")
         group.add_argument("--no-less", dest="relation", action="store_const", const=verdicts.NO_LESS,
-                           default=verdicts.SAME, help="whether nothing is stricter than the profile")
+                           default=verdicts.SAME, help="only check that nothing is stricter than the profile")
 
     def one_standard_input(self, names: Iterable[str | None]) -> None:
         """Rejects a command line that names standard input twice."""

@@ -167,7 +167,7 @@ class Runtimes(Case):
         for runtime in ("runc", "crun"):
             found = self.same(runtime, entry("mkdir"), architectures=[X86])
             self.assertEqual((found.profile["architectures"], found.stub), ([X86_64, X86], None))
-            self.assertIn(f"hasn't {X86_64}", found.remarks[0])
+            self.assertIn(f"lacks {X86_64}", found.remarks[0])
             found = self.same(runtime, entry("mkdir"), architectures=[])
             self.assertNotIn("architectures", " ".join(found.remarks))
         self.assertEqual(self.same("crun", architectures=["x86_64"]).profile["architectures"], [X86_64])
@@ -213,7 +213,7 @@ class Runtimes(Case):
                 ("runc", profile(entry("")), "a name of entry 1 is empty"),
                 ("runc", profile(entry("write", action="SCMP_ACT_NOTIFY"), listenerPath="/x"), "entry 1 has write"),
                 ("runc", profile(entry("mkdir", action="SCMP_ACT_NOTIFY")), "no listenerPath"),
-                ("runc", profile(default="SCMP_ACT_NOTIFY", listenerPath="/x"), "no default action")):
+                ("runc", profile(default="SCMP_ACT_NOTIFY", listenerPath="/x"), "can't be the default action")):
             with self.assertRaisesRegex(engines.Refused, f"{runtime} refuses the profile: .*{says}"):
                 runtimes.applied(given, runtime)
             self.assertIsNone(filters_of(runtime, given)[0], given)
