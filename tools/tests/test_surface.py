@@ -442,8 +442,8 @@ class Program(Case):
                                 ("more\\nwhat", 1), ("undecided at 1", 0)):
             tree = self.made_tree(f"#!/bin/sh\ncat >/dev/null\nprintf '{printed}\\n'\nexit {status}\n")
             done = self.run_words([os.path.join(tree, "tools", "surface"), self.file("f", ret(ALLOW))])
-            self.assertEqual(done, (3, "", f"surface: scf ended with status {status} and lines that aren't "
-                                           "understood\n"), printed)
+            self.assertEqual(done, (3, "", f"surface: scf ended with status {status} and unexpected "
+                                           "output\n"), printed)
 
     def test_standard_input(self):
         expected = self.said([filter_of([READ])])
@@ -641,7 +641,7 @@ class Process(Confined):
     def test_strict_mode_and_no_filter(self):
         """Without a filter there is nothing to compare; the threads are told."""
         asked = surfacing.Asked(tables.Table(OWN), None, [])
-        for is_strict, status, says in ((True, 4, "has no filter, but the strict mode of seccomp(2)"),
+        for is_strict, status, says in ((True, 4, "has no filter, but seccomp's strict mode"),
                                         (False, 1, "has no filter: it isn't confined, and every syscall is allowed")):
             found = processes.Found([processes.Stack((), is_strict, {7: [7]})], {7: b"x"}, {})
             blocks = surfacing.of_process(found, asked)
