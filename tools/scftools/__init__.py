@@ -10,7 +10,7 @@ folders or site packages. So it adds its own folder, by its real name, to the im
     inputs      files, pipes and standard input, each read up to its limit
     bundles     several inputs as one, which is how scf reads them
     tables      syscall tables; names in them, and names that no syscall has
-    numbering   sources of syscall numbers: kernel headers, syscall_64.tbl, libseccomp
+    number_sources  sources of syscall numbers: kernel headers, syscall_64.tbl, libseccomp
     answers     actions, errnos, architectures, and what an answer does
     architectures  architectures by their names and numbers
     calls       syscall records: how one is given, and how one is printed
@@ -18,10 +18,10 @@ folders or site packages. So it adds its own folder, by its real name, to the im
     profiles    what the tools read of a profile beside scf: its default, names and entries, where its JSON breaks
     faults      the rows of docs/FAULTS.md
     verdicts    what scf prints of a comparison, a decision or a run, as values
-    explaining  what an answer, a verdict or a fault of scf means
+    explanation what an answer, a verdict or a fault of scf means
     comparing   comparisons of filters with a profile
     newer       syscalls above all that a profile names, where both sides deny them
-    deciding    what filters answer to syscalls
+    decisions   what filters answer to syscalls
     paths       which instructions of a filter run on a syscall, and the last tests on the path
     reasons     why a profile answers a syscall so: the entry that decides, and its conditions
     listing     a filter with the targets of its jumps and the names of syscalls
@@ -48,14 +48,14 @@ folders or site packages. So it adds its own folder, by its real name, to the im
     hold        threads stopped while their filters are read
     containers  which processes belong to one container
     processes   processes, and the filters that the kernel keeps for their threads
-    foreign     syscalls of other ABIs: whether any is allowed
+    other_abis  syscalls of other ABIs: whether any is allowed
     questions   whether filters always allow or deny a number, by comparison with profiles of one answer
     unnamed     numbers that a table doesn't name: how many of them filters allow
     surfaces    surfaces: what filters allow of each syscall in a table
     groups      what syscalls are for
-    showing     surfaces as a table, in lines, as JSON
+    surface_output  surfaces as a table, in lines, as JSON
     beside      two surfaces compared
-    surfacing   the surfaces of files or of a process, each with a status
+    stack_surfaces  the surfaces of files or of a process, each with a status
     verifying   the filters of processes compared with a profile, each distinct stack by itself
     hooks       hooks of container runtimes: whether a container's process is confined as configured
     units       the profile that a systemd unit's syscall settings describe

@@ -4,9 +4,9 @@ from __future__ import annotations
 from collections.abc import Iterator
 from dataclasses import dataclass
 
-from . import foreign, program
+from . import other_abis, program
 from .groups import Groups
-from .showing import LEAST, details, fitted, grouped, of_whole, row_json, wrapped
+from .surface_output import LEAST, details, fitted, grouped, of_whole, row_json, wrapped
 from .surfaces import DEPENDS, Row, Surface, fate_of, word_of
 
 BESIDE = "beside"
@@ -48,7 +48,7 @@ class Beside:
         """Whether only one side allows some syscall of another ABI, as far as that is proved."""
         both = zip(self.one.foreign, self.other.foreign)
         return any(one.lets_none_through != other.lets_none_through for one, other in both
-                   if isinstance(one, foreign.Proved) and isinstance(other, foreign.Proved))
+                   if isinstance(one, other_abis.Proved) and isinstance(other, other_abis.Proved))
 
     @property
     def unnamed_differ(self) -> bool:

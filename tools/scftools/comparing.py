@@ -4,7 +4,7 @@ from __future__ import annotations
 from collections.abc import Iterator, Sequence
 from dataclasses import dataclass, field, replace
 
-from . import bundles, effort, explaining, foreign, program, verdicts
+from . import bundles, effort, explanation, other_abis, program, verdicts
 from .answers import REFUSED
 from .filters import LONGEST_STACK, MORE_OF_OLDER, Filter, looks_at_pointer
 from .tables import Table
@@ -72,7 +72,7 @@ class Comparison:
             return status, report
         # whether anything else decides, and if nothing does, whether a syscall does or only numbers that none has
         for names in (report.architectures, ()):
-            ended, others = self._run(scope, [*foreign.denial_filters(names), *filters], None, relation)
+            ended, others = self._run(scope, [*other_abis.denial_filters(names), *filters], None, relation)
             if others.verdict is None or names == () and others.verdict.fails:
                 return program.UNKNOWN, as_undetermined(report if others.verdict is None else others)
             if not others.verdict.holds:
@@ -187,7 +187,7 @@ def of_native_calls(comparison: Comparison, report: Report) -> tuple[list[str], 
     if others_differ is None:
         return told, [] if count else all_named
     lines = list(_counted(others)) or list(
-        explaining.of_differing(others_differ, comparison.table, True, len(comparison.filters)))
+        explanation.of_differing(others_differ, comparison.table, True, len(comparison.filters)))
     return (lines + told, []) if report.verdict.call.number >= found.first else ([], lines + told)
 
 
@@ -215,7 +215,7 @@ def of_refusing_more(comparison: Comparison, scope: str) -> Iterator[str]:
 
 def of_fault(fault: verdicts.Fault, profile: bytes, table: Table) -> Iterator[str]:
     """What a fault is and what to do; if the profile isn't JSON, where the error is."""
-    yield from explaining.of_fault(fault, table)
+    yield from explanation.of_fault(fault, table)
     if (fault.source, fault.kind) == ("profile", "Json"):
         from . import profiles  # pylint: disable=import-outside-toplevel
 
@@ -235,18 +235,18 @@ def of_left_out(comparison: Comparison, report: Report) -> Iterator[str]:
     """What was left out of the profile: skipped names, and other architectures."""
     if report.skipped:
         facts = comparison.facts
-        yield from explaining.of_skipped(report, comparison.table, bool(facts and facts.lets_through_by_default))
-    yield from explaining.of_architectures(report)
+        yield from explanation.of_skipped(report, comparison.table, bool(facts and facts.lets_through_by_default))
+    yield from explanation.of_architectures(report)
 
 
 def of_foreign(comparison: Comparison, report: Report, scope: str, is_quiet: bool = False) -> Iterator[str]:
     """Whether syscalls of other ABIs are allowed, which a scope doesn't cover; if quiet, only if some may be."""
     if scope not in LOOKED_AT or report.verdict is None:
         return
-    found = foreign.let_through([one.data for one in comparison.filters], comparison.limit)
-    if found and not (is_quiet and foreign.are_none(found)):
+    found = other_abis.let_through([one.data for one in comparison.filters], comparison.limit)
+    if found and not (is_quiet and other_abis.are_none(found)):
         yield LOOKED_AT[scope]
-        yield from foreign.told(found, report.architectures)
+        yield from other_abis.told(found, report.architectures)
 
 
 def added(comparison: Comparison, report: Report, scope: str) -> Iterator[str]:
@@ -267,7 +267,7 @@ def added(comparison: Comparison, report: Report, scope: str) -> Iterator[str]:
             before = list(newer.of_named_calls(comparison, report.calls))
     yield from before
     if report.verdict:
-        yield from explaining.of_verdict(report, table, scope == NATIVE, count)
+        yield from explanation.of_verdict(report, table, scope == NATIVE, count)
         if report.verdict.call:
             from . import reasons  # pylint: disable=import-outside-toplevel
 
@@ -287,8 +287,8 @@ def compiled(profile: bytes, table: Table) -> tuple[int, bytes, list[str]]:
     comparison = Comparison([Filter("the compiled one", done.out)], profile, table, "0")
     report = comparison.run(NATIVE)[1]
     facts = comparison.facts if report.skipped else None
-    return done.status, done.out, [*explaining.of_skipped(report, table, bool(facts and facts.lets_through_by_default)),
-                                   *explaining.of_killed_architectures(report)]
+    return done.status, done.out, [*explanation.of_skipped(report, table, bool(facts and facts.lets_through_by_default)),
+                                   *explanation.of_killed_architectures(report)]
 
 
 def _side_json(verdict: Verdict, table: Table) -> dict[str, object]:
@@ -341,7 +341,7 @@ def as_json(comparison: Comparison, report: Report, scope: str, status: int) -> 
                             for name, near in tables.told_apart(report.skipped, table).unknown]
     if scope in LOOKED_AT and report.verdict is not None:
         filters = [one.data for one in comparison.filters]
-        found["foreign"] = [one.as_json() for one in foreign.let_through(filters, comparison.limit)]
+        found["foreign"] = [one.as_json() for one in other_abis.let_through(filters, comparison.limit)]
     whose_it_is = list(whose_files(comparison, report, scope))
     if whose_it_is:
         found["files"] = whose_it_is

@@ -7,11 +7,11 @@ import re
 from collections.abc import Iterator, Sequence
 from dataclasses import dataclass
 
-from . import bundles, comparing, explaining, paths, profiles, program
+from . import bundles, comparing, explanation, paths, profiles, program
 from .answers import Answer
 from .calls import Call
 from .comparing import Comparison
-from .deciding import Asked, Told
+from .decisions import Asked, Told
 from .filters import RETURN_CONSTANT, Filter, instruction
 from .tables import Table
 from .verdicts import FOR_OTHER_ABI, UNDETERMINED, Fault, Verdict
@@ -67,8 +67,8 @@ def meaning(text: str, call: Call | None, table: Table) -> Iterator[str]:
     reason = _read(program.WELL, text)
     if reason.answer:
         if call is not None:
-            yield from explaining.of_call(call, table)
-        yield explaining.of_answer(reason.answer)
+            yield from explanation.of_call(call, table)
+        yield explanation.of_answer(reason.answer)
 
 
 def _shown(entry: object) -> str:
@@ -127,8 +127,8 @@ def _added(reason: Reason, profile: bytes, call: Call | None, table: Table) -> I
         yield from comparing.of_fault(reason.fault, profile, table)
     elif reason.answer:
         if call is not None:
-            yield from explaining.of_call(call, table)
-        yield explaining.of_answer(reason.answer)
+            yield from explanation.of_call(call, table)
+        yield explanation.of_answer(reason.answer)
         yield from told(reason, profile, call)
 
 
@@ -170,7 +170,7 @@ def ask(profile: bytes, one: Asked, table: Table) -> Told:
     reason = of(profile, table, one.words())
     if reason.is_foreign and one.call is not None and one.call.other_abi in _architectures(profile, table):
         call = one.call
-        return Told(program.UNKNOWN, [FOR_OTHER_ABI], lambda: explaining.of_call(call, table),
+        return Told(program.UNKNOWN, [FOR_OTHER_ABI], lambda: explanation.of_call(call, table),
                     lambda: {"call": call.as_json(table), "reason": UNDETERMINED})
     return Told(reason.status, [reason.line] if reason.line else [], lambda: _added(reason, profile, one.call, table),
                 lambda: _json_of(reason, profile, one.call, table))

@@ -5,7 +5,7 @@ from collections import Counter
 from collections.abc import Iterable, Sequence
 from dataclasses import dataclass, field
 
-from . import answers, foreign, unnamed
+from . import answers, other_abis, unnamed
 from .answers import Answer
 from .calls import Call
 from .questions import IS_MADE, IS_NEVER_MADE, IS_NEVER_REFUSED, IS_REFUSED, Asker, Question
@@ -106,7 +106,7 @@ class Surface:
     asker: Asker
     table: Table
     rows: list[Row]
-    foreign: list[foreign.Proved | foreign.Tried]
+    foreign: list[other_abis.Proved | other_abis.Tried]
     unnamed: Unnamed
 
     @property
@@ -117,7 +117,7 @@ class Surface:
     def is_told(self) -> bool:
         """Whether scf decided everything."""
         return (all(row.is_told for row in self.rows) and not self.unnamed.untold
-                and all(isinstance(one, foreign.Proved) for one in self.foreign))
+                and all(isinstance(one, other_abis.Proved) for one in self.foreign))
 
 
 def _asked(asker: Asker, question: Question, rows: Iterable[Row]) -> None:
@@ -160,4 +160,4 @@ def of_filters(filters: Sequence[bytes], table: Table, limit: str | None) -> Sur
     """The surface of filters, oldest first."""
     asker = Asker(filters, limit)
     rows = rows_of(asker, table)
-    return Surface(asker, table, rows, foreign.let_through(filters, limit), unnamed.of_filters(asker, table))
+    return Surface(asker, table, rows, other_abis.let_through(filters, limit), unnamed.of_filters(asker, table))

@@ -14,7 +14,7 @@ from stand_in import StandIn
 sys.path.append(os.path.join(TOP, "tools"))
 
 import kernel_profiles  # noqa: E402
-from scftools import answers, calls, foreign, tables  # noqa: E402
+from scftools import answers, calls, other_abis, tables  # noqa: E402
 
 READ, WRITE, SOCKET, GETPID, EXIT_GROUP = 0, 1, 41, 39, 231
 ENOSYS, TRAP, USER_NOTIF, TRACE, LOG = 0x00050026, 0x00030000, 0x7FC00000, 0x7FF00000, 0x7FFC0000
@@ -317,13 +317,13 @@ class Foreign(Case):
     def test_each_kind(self):
         """The filters of the pairs and some more: a call of the kind is shown exactly where one isn't refused."""
         given = [filters for filters, _, _ in PAIRS.values()]
-        for kind in foreign.KINDS:
+        for kind in other_abis.KINDS:
             given.append([kind.alone])
             given.append([load(0) + jeq(43, 0, 1) + ret(LOG) + ret(EPERM), kind.alone])
         given += [[filter_of([READ], foreign=answer)] for answer in EACH]
         for filters in given:
-            for kind, found in zip(foreign.KINDS, foreign.let_through(filters)):
-                self.assertIsInstance(found, foreign.Proved)
+            for kind, found in zip(other_abis.KINDS, other_abis.let_through(filters)):
+                self.assertIsInstance(found, other_abis.Proved)
                 through = [call for call in CORNERS if self.is_of(kind, call)
                            and degree(word(StandIn().decide(filters, call)))]
                 self.assertEqual(found.lets_none_through, not through, (kind.name, filters))
@@ -338,7 +338,7 @@ class Foreign(Case):
         return kind.name == "i386" and call.architecture == I386 and call.number < 2 * X32
 
     def test_told(self):
-        told = [one.told() for one in foreign.let_through([ret(TRACE)])]
+        told = [one.told() for one in other_abis.let_through([ret(TRACE)])]
         self.assertEqual(told, ["i386: not every syscall is denied, such as number 0: TRACE 0",
                                 "x32: not every syscall is denied, such as read (0x40000000 + 0): TRACE 0"])
 
@@ -346,18 +346,18 @@ class Foreign(Case):
         """Some calls are tried, and it is said that it wasn't decided."""
         squares = load(4) + jeq(X86_64, 1, 0) + load(0) + insn(0x07, 0) + insn(0x2C, 0) + jeq(9, 0, 1) + ret(LOG) + \
             ret(EPERM)
-        found = foreign.let_through([squares])
+        found = other_abis.let_through([squares])
         self.assertEqual(found[0].told(), "i386: undecided whether any syscall is allowed; of 12 tried, 1 is, "
                                           "such as read (3): LOG")
         self.assertEqual(found[0].as_json(), {
             "kind": "i386", "is_decided": False, "tried": 12,
             "let_through": [{"name": "read", "number": 3, "answer": {"action": "LOG", "data": 0}}]})
-        self.assertEqual([one.told() for one in foreign.let_through([filter_of([READ])], "0")], [
+        self.assertEqual([one.told() for one in other_abis.let_through([filter_of([READ])], "0")], [
             f"{kind}: undecided whether any syscall is allowed; of {count} tried, none is"
             for kind, count in (("i386", 12), ("x32", 11))])
 
     def test_refused_filters(self):
-        self.assertEqual(foreign.let_through([b""]), [])
+        self.assertEqual(other_abis.let_through([b""]), [])
 
 
 class VerifyProcess(Confined):
@@ -371,7 +371,8 @@ class VerifyProcess(Confined):
                          (1, "differs", "# it is stricter, and never more permissive than the profile"))
         status, out, _ = self.run_tool("verify-process", "--no-more", str(child.pid), given)
         self.assertEqual((status, out.split("\n")[:3]), (0, [
-            "no more", "# compared: x86-64 syscalls; other ABIs are only checked for any allowed syscall:", f"# {foreign.NONE}"]))
+            "no more", "# compared: x86-64 syscalls; other ABIs are only checked for any allowed syscall:",
+            f"# {other_abis.NONE}"]))
         status, out, _ = self.run_tool("verify-process", "--no-less", str(child.pid), given)
         self.assertEqual((status, out.split("\n")[0]), (1, "less"))
         self.assertIn("\n# the syscall is denied by the filter, and allowed by the profile\n", out)
@@ -379,7 +380,7 @@ class VerifyProcess(Confined):
         stack = found["stacks"][0]
         self.assertEqual((found["verdict"], stack["relation"]), ("no more", "no more"))
         self.assertEqual(stack["foreign"], [{"kind": kind.name, "is_decided": True, "let_through": []}
-                                            for kind in foreign.KINDS])
+                                            for kind in other_abis.KINDS])
 
 
 class TheTable(Case):

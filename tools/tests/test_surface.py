@@ -23,7 +23,7 @@ from test_why import random_filter
 
 sys.path.append(os.path.join(TOP, "tools"))
 
-from scftools import (answers, beside, groups, processes, questions, showing, surfaces, surfacing,  # noqa: E402
+from scftools import (answers, beside, groups, processes, questions, stack_surfaces, surface_output, surfaces,  # noqa: E402
                       tables, unnamed)
 from scftools.calls import Call  # noqa: E402
 
@@ -94,6 +94,8 @@ KNOWN = {
     "an action without a name, between LOG and ALLOW": ([ret(NEARLY)], [R] * 5),
     "an action without a name, and one before it": ([ret(NEARLY), ret(LOG)], [M] * 5),
 }
+# Of numbers that aren't always denied.
+SOME = "are allowed or delegated with some arguments, such as"
 NO_FOREIGN = "other ABIs: every i386 and x32 syscall is denied; the kernel has no others"
 ARGUMENTS = (0, 1, 2, 3, 4, 5, 8, 39, 40, 41, 42, 40 * HIGH, 40 * HIGH + 40, 41 * HIGH, (1 << 64) - 1)
 POINTERS = (0, 0x1234, 0x1235)
@@ -231,7 +233,7 @@ class Rows(Case):
 
     def test_a_table_without_names(self):
         surface = of([ret(ALLOW)], table=b"# none\n")
-        self.assertEqual((surface.rows, showing.of_whole(surface)[0]), ([], "allowed 0, depends 0, denied 0"))
+        self.assertEqual((surface.rows, surface_output.of_whole(surface)[0]), ([], "allowed 0, depends 0, denied 0"))
         self.assertEqual(surface.unnamed.told(), f"all {X32} are always allowed")
 
 
@@ -245,36 +247,36 @@ class Unnamed(unittest.TestCase):
         self.assertEqual(self.told(filter_of([READ, EXIT_GROUP])), f"all {OTHERS} are always denied")
         self.assertEqual(self.told(ret(ALLOW)), f"all {OTHERS} are always allowed")
         self.assertEqual(self.told(of_number(READ, EPERM, LOG)), f"all {OTHERS} are always allowed")
-        self.assertEqual(self.told(ret(USER_NOTIF)), f"all {OTHERS} are allowed or delegated with some arguments, such as 2: USER_NOTIF")
+        self.assertEqual(self.told(ret(USER_NOTIF)), f"all {OTHERS} {SOME} 2: USER_NOTIF")
 
     def test_some(self):
         """Counted on both sides of each test, and over what the table names."""
         some = gate(jge(400, 0, 2) + jge(410, 1, 0) + ret(ALLOW) + ret(EPERM))
-        self.assertEqual(self.told(some), f"10 of {OTHERS} are allowed or delegated with some arguments, such as 400: ALLOW")
-        self.assertEqual(self.told(filter_of([READ, 400])), f"1 of {OTHERS} are allowed or delegated with some arguments, such as 400: ALLOW")
+        self.assertEqual(self.told(some), f"10 of {OTHERS} {SOME} 400: ALLOW")
+        self.assertEqual(self.told(filter_of([READ, 400])), f"1 of {OTHERS} {SOME} 400: ALLOW")
         self.assertEqual(self.told(gate(jgt(X32 - 3, 0, 1) + ret(ALLOW) + ret(EPERM))),
-                         f"2 of {OTHERS} are allowed or delegated with some arguments, such as {X32 - 2}: ALLOW")
+                         f"2 of {OTHERS} {SOME} {X32 - 2}: ALLOW")
         below = gate(jge(42, 1, 0) + ret(ALLOW) + ret(EPERM))
-        self.assertEqual(self.told(below), f"{42 - 4} of {OTHERS} are allowed or delegated with some arguments, such as 2: ALLOW")
+        self.assertEqual(self.told(below), f"{42 - 4} of {OTHERS} {SOME} 2: ALLOW")
         self.assertEqual(self.told(filter_of([*range(0, 80, 2)])),
-                         f"{40 - 1} of {OTHERS} are allowed or delegated with some arguments, such as 2: ALLOW")
+                         f"{40 - 1} of {OTHERS} {SOME} 2: ALLOW")
         all_but = of_number(300, EPERM, ALLOW)
-        self.assertEqual(self.told(all_but), f"{OTHERS - 1} of {OTHERS} are allowed or delegated with some arguments, such as 2: ALLOW")
+        self.assertEqual(self.told(all_but), f"{OTHERS - 1} of {OTHERS} {SOME} 2: ALLOW")
 
     def test_where_no_test_of_the_number_turns(self):
         """The odd ones below 64, but for those that have a name."""
         odd = gate(jge(64, 3, 0) + insn(0x45, 1, 0, 2) + ret(ALLOW) * 2 + ret(EPERM))
         self.assertEqual(StandIn().decide([odd], Call(63)), "ALLOW 0")
         self.assertEqual({StandIn().decide([odd], Call(number)) for number in (62, 64, 65)}, {"ERRNO 1"})
-        self.assertEqual(self.told(odd), f"{32 - 3} of {OTHERS} are allowed or delegated with some arguments, such as 3: ALLOW")
+        self.assertEqual(self.told(odd), f"{32 - 3} of {OTHERS} {SOME} 3: ALLOW")
 
     def test_by_an_argument(self):
         self.assertEqual(self.told(of_number(400, by_argument(7, ALLOW, EPERM), EPERM)),
-                         f"1 of {OTHERS} are allowed or delegated with some arguments, such as 400: ALLOW")
+                         f"1 of {OTHERS} {SOME} 400: ALLOW")
 
     def test_a_stack(self):
         self.assertEqual(self.told(filter_of([400, 401]), filter_of([401, 402])),
-                         f"1 of {OTHERS} are allowed or delegated with some arguments, such as 401: ALLOW")
+                         f"1 of {OTHERS} {SOME} 401: ALLOW")
 
     def test_what_could_not_be_told(self):
         """A filter that isn't followed; more stretches than are looked at; a filter that is too long to be asked."""
@@ -286,7 +288,7 @@ class Unnamed(unittest.TestCase):
         self.assertGreater(found.untold, 0)
         self.assertLessEqual(found.let_through, 500)
         self.assertGreaterEqual(found.let_through + found.untold, 500)
-        self.assertRegex(found.told(), r"\Aat least [0-9]+ of [0-9]+ are allowed or delegated with some arguments, such as 300: ALLOW; [0-9]+ are undecided\Z")
+        self.assertRegex(found.told(), r"\Aat least [0-9]+ of [0-9]+ " + SOME + r" 300: ALLOW; [0-9]+ are undecided\Z")
         long = gate(jeq(400, 0, 1) + ret(ALLOW) + jeq(0, 0, 0) * 4087 + ret(EPERM))
         self.assertEqual(StandIn().check(long), "accepted 4096")
         self.assertEqual(self.told(long), f"{OTHERS} are undecided")
@@ -338,8 +340,8 @@ class Program(Case):
 
     def test_foreign_calls(self):
         for name, says in (("all is made", "i386: some syscalls are allowed, such as number 0: ALLOW; x32: some "
-                                           "syscalls are allowed, such as read (0x40000000 + 0): ALLOW; other ABIs: the "
-                                           "kernel has no others"),
+                                           "syscalls are allowed, such as read (0x40000000 + 0): ALLOW; other ABIs: "
+                                           "the kernel has no others"),
                            ("some are made", NO_FOREIGN)):
             self.assertEqual(self.said(KNOWN[name][0])[1][1], says)
         gone = load(4) + jeq(I386, 0, 1) + ret(ALLOW) + ret(KILL_PROCESS)
@@ -514,8 +516,8 @@ class Terminal(Case):
                                           "beside: allowed ALLOW"), told)
 
     def test_wrapped(self):
-        self.assertEqual(showing.wrapped(["aa", "b", "cccc", "d"], 4), ["aa b", "cccc", "d"])
-        self.assertEqual(showing.wrapped([], 4), [])
+        self.assertEqual(surface_output.wrapped(["aa", "b", "cccc", "d"], 4), ["aa b", "cccc", "d"])
+        self.assertEqual(surface_output.wrapped([], 4), [])
 
 
 class Beside(Case):
@@ -575,7 +577,7 @@ class Beside(Case):
         self.assertEqual(self.run_tool("surface", *words), (1, (
             "allowed 1, depends 0, denied 4\nbeside: allowed 1, depends 0, denied 4\n"
             f"{NO_FOREIGN}\n"
-            f"numbers without a name: 1 of {OTHERS} are allowed or delegated with some arguments, such as 400: ALLOW\n"
+            f"numbers without a name: 1 of {OTHERS} {SOME} 400: ALLOW\n"
             f"beside: numbers without a name: all {OTHERS} are always denied\n"
             "syscalls that differ: 2\n"
             "files 0 read,too allowed ALLOW beside denied ERRNO 1\nfiles 1 write denied ERRNO 1 beside allowed ALLOW\n"),
@@ -600,8 +602,7 @@ class Process(Confined):
         child = self.child([OLDEST, refuses])
         status, lines = self.surface("--pid", str(child.pid))
         self.assertEqual((status, lines[0]), (0, "allowed 5, depends 0, denied 0"))
-        self.assertEqual(lines[2], f"numbers without a name: {OTHERS - 1} of {OTHERS} are allowed or delegated with some "
-                                   "arguments, such as 2: ALLOW")
+        self.assertEqual(lines[2], f"numbers without a name: {OTHERS - 1} of {OTHERS} {SOME} 2: ALLOW")
         self.assertRegex(lines[-1], rf"\A# process {child.pid} \(.*\) has 2 filters, of 1, 9 instructions\Z")
         found = json.loads(self.surface("--json", "--pid", str(child.pid))[1][0])
         stack = found["stacks"][0]
@@ -640,14 +641,14 @@ class Process(Confined):
 
     def test_strict_mode_and_no_filter(self):
         """Without a filter there is nothing to compare; the threads are told."""
-        asked = surfacing.Asked(tables.Table(OWN), None, [])
+        asked = stack_surfaces.Asked(tables.Table(OWN), None, [])
         for is_strict, status, says in ((True, 4, "has no filter, but seccomp's strict mode"),
                                         (False, 1, "has no filter: it isn't confined, and every syscall is allowed")):
             found = processes.Found([processes.Stack((), is_strict, {7: [7]})], {7: b"x"}, {})
-            blocks = surfacing.of_process(found, asked)
-            self.assertEqual((surfacing.worst(blocks), list(surfacing.lines(blocks, found, None))),
+            blocks = stack_surfaces.of_process(found, asked)
+            self.assertEqual((stack_surfaces.worst(blocks), list(stack_surfaces.lines(blocks, found, None))),
                              (status, [f"# process 7 (x) {says}"]))
-            told = surfacing.as_json(blocks, found)["stacks"][0]
+            told = stack_surfaces.as_json(blocks, found)["stacks"][0]
             self.assertEqual((told["confined"], "counts" in told), ("strict" if is_strict else "not", False))
 
     @here

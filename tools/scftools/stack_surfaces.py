@@ -4,7 +4,7 @@ from __future__ import annotations
 from collections.abc import Iterator, Sequence
 from dataclasses import dataclass
 
-from . import beside, explaining, output, program, showing, surfaces, verifying
+from . import beside, explanation, output, program, surface_output, surfaces, verifying
 from .beside import Beside
 from .comparing import fault_of_one, named
 from .filters import Filter
@@ -85,7 +85,7 @@ def _of_refusal(block: Block) -> Iterator[str]:
         return
     yield from block.refusal.printed
     fault = block.refusal.fault
-    yield from (f"# {line}" for line in explaining.of_fault(fault, None))
+    yield from (f"# {line}" for line in explanation.of_fault(fault, None))
     those = fault_of_one(block.filters, fault) if len(block.filters) > 1 else []
     if those:
         yield f"# the filter is {named(those)}"
@@ -101,7 +101,7 @@ def lines(blocks: Sequence[Block], found: Found | None, width: int | None) -> It
         if block.beside is not None:
             yield from beside.lines(block.beside, groups, width)
         elif block.surface is not None:
-            yield from showing.lines(block.surface, groups, width)
+            yield from surface_output.lines(block.surface, groups, width)
         if block.threads is not None and found is not None and not block.is_of_all:
             yield from (f"# {line}" for line in verifying.of_threads(block.threads, found))
     if found is not None:
@@ -112,12 +112,12 @@ def _json_of(block: Block, found: Found | None, groups: Groups) -> dict[str, obj
     said: dict[str, object] = {"status": block.status}
     if block.refusal is not None and block.refusal.fault is not None:
         fault = block.refusal.fault
-        said["fault"] = {**fault.as_json(), "sentences": list(explaining.of_fault(fault, None))}
+        said["fault"] = {**fault.as_json(), "sentences": list(explanation.of_fault(fault, None))}
         said["files"] = fault_of_one(block.filters, fault)
     if block.surface is not None:
-        said.update(showing.as_json(block.surface, groups))
+        said.update(surface_output.as_json(block.surface, groups))
     if block.beside is not None:
-        said["beside"] = {**showing.as_json(block.beside.other, groups), **beside.as_json(block.beside, groups)}
+        said["beside"] = {**surface_output.as_json(block.beside.other, groups), **beside.as_json(block.beside, groups)}
     if block.threads is not None and found is not None:
         said["confined"] = "by filters" if block.filters else "strict" if block.threads.is_strict else "not"
         said["filters"] = [len(data) // 8 for data in block.threads.filters]

@@ -5,7 +5,7 @@ import re
 from collections.abc import Callable, Iterable, Iterator, Sequence
 from dataclasses import dataclass
 
-from . import architectures, bundles, explaining, inputs, output, paths, program, verdicts
+from . import architectures, bundles, explanation, inputs, output, paths, program, verdicts
 from .answers import X32, X86_64
 from .calls import OPTIONS, SKIPPED, Call, number_in
 from .comparing import fault_of_one, named
@@ -180,7 +180,7 @@ def of_givers(filters: Sequence[Filter], givers: Sequence[Giver]) -> Iterator[st
 
 def added(filters: Sequence[Filter], one: Asked, decision: Decision, table: Table) -> Iterator[str]:
     """The lines behind scf's for a stack."""
-    yield from explaining.of_decision(one.call, decision, table)
+    yield from explanation.of_decision(one.call, decision, table)
     yield from of_fault(filters, decision)
     if decision.answer:
         givers = paths.givers(filters, one.words(), decision.answer)
@@ -211,7 +211,7 @@ def _json_of(filters: Sequence[Filter], one: Asked, decision: Decision, table: T
         if decision.steps is not None:
             found["steps"] = decision.steps
     if decision.fault:
-        found["fault"] = {**decision.fault.as_json(), "sentences": list(explaining.of_fault(decision.fault, table))}
+        found["fault"] = {**decision.fault.as_json(), "sentences": list(explanation.of_fault(decision.fault, table))}
         if len(filters) > 1:
             found["filters"] = fault_of_one(filters, decision.fault)
     return found
@@ -252,7 +252,7 @@ def of_run(one_filter: Filter, one: Asked, table: Table, with_path: bool) -> Tol
         found = _json_of([one_filter], one, path.decision, table)
         return {**found, "path": list(path.places)} if path.places else found
 
-    return Told(path.status, path.lines, lambda: explaining.of_decision(one.call, path.decision, table), as_json)
+    return Told(path.status, path.lines, lambda: explanation.of_decision(one.call, path.decision, table), as_json)
 
 
 def tell(calls: Sequence[Asked], answer: Callable[[Asked], Told], is_json: bool) -> int:

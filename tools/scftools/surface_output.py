@@ -4,7 +4,7 @@ from __future__ import annotations
 import os
 from collections.abc import Iterable, Iterator, Sequence
 
-from . import foreign
+from . import other_abis
 from .groups import Groups
 from .surfaces import DEPENDS, MADE, REFUSED, SAID, Row, Surface, word_of
 
@@ -45,7 +45,7 @@ def _summary(surface: Surface) -> str:
 
 
 def _foreign(surface: Surface) -> str:
-    return "; ".join(foreign.told(surface.foreign))
+    return "; ".join(other_abis.told(surface.foreign))
 
 
 def of_whole(surface: Surface) -> list[str]:
